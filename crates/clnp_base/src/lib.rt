@@ -1,8 +1,8 @@
 #![tactic(auto)]
 
-/// Memory was refused.
-#[derive(Clone, Copy, Debug, PartialEq, Eq)]
-pub struct NoMemory;
+mod octets;
+
+pub use octets::{NoMemory, Octets};
 
 /// A source or a sink failed.
 #[derive(Clone, Copy, Debug, PartialEq, Eq)]

@@ -1,0 +1,87 @@
+-- Units, and the packets that travel: a packet is a labelled range of a unit, and has no octets of its own.
+use Rattle.std.specs.Prelude.{ℕ, ◌+◌, ◌-◌, nat_lt, Bool, false, if◌then◌else◌, List, [], ◌∷◌, length, take, drop, Option, None, Some, option_map}
+use Rattle.pdu_header.specs.declared.kind.Kind.{Kind}
+use Rattle.pdu_header.specs.Value.{SegmentationPart, OptionField, PduValue}
+use Rattle.pdu_header.specs.Spelling.{spelling, header_length}
+
+-- who made a unit: the system declared at a place, from 0, or somebody outside
+pub data Maker : Type 0 where
+  DeclaredAt : (place : ℕ) → Maker
+  Outside : Maker
+
+-- a data unit as its maker made it (ISO 8473, sections 6.1 and 6.7)
+pub record Unit : Type 0 where
+  pub maker : Maker
+  -- among its maker's units, from 1
+  pub number : ℕ
+  -- the moment of its making
+  pub made : ℕ
+  pub kind : Kind
+  -- an error report is wanted where it is discarded
+  pub report : Bool
+  -- its headers have a checksum
+  pub sealed : Bool
+  pub source : List ℕ
+  pub destination : List ℕ
+  -- the data unit identifier, where its PDUs have a segmentation part
+  pub identifier : Option ℕ
+  pub options : List OptionField
+  pub lifetime : ℕ
+  -- where its data begins in the initial PDU's data
+  pub first_position : ℕ
+  -- header and data of the initial PDU
+  pub total : ℕ
+  pub octets : List ℕ
+
+-- a range of a unit's positions, on its way
+pub record Packet : Type 0 where
+  pub unit : Unit
+  pub offset : ℕ
+  pub length : ℕ
+  pub lifetime : ℕ
+  pub options : List OptionField
+  -- how often it was forwarded
+  pub hops : ℕ
+
+-- the segmentation part of a packet's PDU
+abbrev pub segmentation_of : Packet → Option SegmentationPart
+segmentation_of p = option_map (λ i. record { identifier = i; offset = p.offset; total = p.unit.total }) p.unit.identifier
+
+-- a packet's PDU, where more of the unit follows or not
+abbrev pub value_with : Packet → Bool → PduValue
+value_with p more =
+    record {
+      kind = p.unit.kind;
+      lifetime = p.lifetime;
+      report = p.unit.report;
+      sealed = p.unit.sealed;
+      more = more;
+      destination = p.unit.destination;
+      source = p.unit.source;
+      segmentation = segmentation_of p;
+      options = p.options;
+      body = take p.length (drop (p.offset - p.unit.first_position) p.unit.octets);
+    }
+
+-- Whether data of the unit follows behind the packet's range.
+abbrev pub more_follows : Packet → Option ℕ → Bool
+more_follows p None = false
+more_follows p (Some identifier) = nat_lt (p.offset + p.length) (p.unit.total - header_length (value_with p false))
+
+-- the value of a packet's PDU
+abbrev pub value_of : Packet → PduValue
+value_of p = value_with p (more_follows p p.unit.identifier)
+
+-- the octets of a packet's PDU
+abbrev pub wire : Packet → List ℕ
+wire p = spelling (value_of p)
+
+-- the whole of a unit, as its maker sends it
+abbrev pub whole_packet : Unit → Packet
+whole_packet u =
+    record { unit = u; offset = 0; length = length u.octets; lifetime = u.lifetime; options = u.options; hops = 0 }
+
+-- The packets into which one is cut for an MTU: it alone where it fits; none where it may not be
+-- segmented (ISO 8473, section 6.7).
+abbrev pub cut : Packet → ℕ → Option (List Packet)
+cut p mtu = if nat_lt mtu (length (wire p)) then None else Some (p ∷ [])

@@ -1,0 +1,46 @@
+-- A run: the moves of a scenario, one after another, and its journal.
+use Rattle.std.specs.Prelude.{ℕ, List, [], ◌∷◌, ◌++◌, length}
+use Rattle.std.specs.List.{flat_map}
+use Rattle.clnp_plan.specs.Journal.{Line, line_text, end_text}
+use Rattle.scenario.specs.Scenario.{Plan, moves_from}
+use Rattle.scenario.specs.declared.event.Move.{Move}
+use Rattle.clnp_network.specs.World.{World, after, first_world}
+
+-- a move, and the lines that it wrote
+pub record Entry : Type 0 where
+  pub move : Move
+  pub lines : List Line
+
+abbrev pub world_after : Plan → World → List Move → World
+world_after plan w [] = w
+world_after plan w (move ∷ moves) = world_after plan (after plan w move).world moves
+
+abbrev pub entries_of : Plan → World → List Move → List Entry
+entries_of plan w [] = []
+entries_of plan w (move ∷ moves) =
+    record { move = move; lines = (after plan w move).lines } ∷ entries_of plan (after plan w move).world moves
+
+abbrev pub lines_text : List Line → List ℕ
+lines_text lines = flat_map line_text lines
+
+-- the text that moves write
+abbrev pub text_of : Plan → World → List Move → List ℕ
+text_of plan w [] = []
+text_of plan w (move ∷ moves) = lines_text (after plan w move).lines ++ text_of plan (after plan w move).world moves
+
+abbrev pub moves_of_plan : Plan → List Move
+moves_of_plan plan = moves_from 0 plan.events
+
+-- the run of a scenario
+abbrev pub run : Plan → List Entry
+run plan = entries_of plan (first_world plan) (moves_of_plan plan)
+
+abbrev pub last_world : Plan → World
+last_world plan = world_after plan (first_world plan) (moves_of_plan plan)
+
+abbrev pub world_end : World → List ℕ
+world_end w = end_text w.clock (length w.copies)
+
+-- the journal of a scenario
+abbrev pub journal : Plan → List ℕ
+journal plan = text_of plan (first_world plan) (moves_of_plan plan) ++ world_end (last_world plan)

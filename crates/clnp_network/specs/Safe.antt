@@ -1,0 +1,51 @@
+-- Each data unit handed up is one that was sent before.
+use Rattle.std.specs.Prelude.{◌≡◌, ℕ, ◌⊎◌, List, [], ◌∷◌, ◌++◌, slice_get, Option, Some}
+use Rattle.clnp_plan.specs.Journal.{Line, Noted}
+use Rattle.clnp_plan.specs.declared.note.Note.TheVariants.{Refused, Got}
+use Rattle.scenario.specs.Scenario.{Plan}
+use Rattle.scenario.specs.declared.event.Event.{Event}
+use Rattle.scenario.specs.declared.event.Event.TheVariants.{Send}
+use Rattle.scenario.specs.declared.event.Move.{Move}
+use Rattle.scenario.specs.declared.event.Move.TheVariants.{One, SettleOne}
+use Rattle.clnp_network.specs.Run.{Entry}
+
+-- some line says that a unit from here to there was handed up with these octets
+abbrev pub HandsUp : List Line → List ℕ → List ℕ → List ℕ → Type 0
+HandsUp [] from to octets = ⊥
+HandsUp (Noted now name (Got source destination handed) ∷ lines) from to octets =
+    ((source ≡ from) × (destination ≡ to) × (handed ≡ octets)) ⊎ HandsUp lines from to octets
+HandsUp (_ ∷ lines) from to octets = HandsUp lines from to octets
+
+-- no line says that a unit wasn't made
+abbrev pub NoRefusal : List Line → Type 0
+NoRefusal [] = Unit {0}
+NoRefusal (Noted now name (Refused why value) ∷ lines) = ⊥
+NoRefusal (_ ∷ lines) = NoRefusal lines
+
+-- the event asks for these octets to be sent from here to there
+abbrev pub AsksFor : Option Event → List ℕ → List ℕ → List ℕ → Type 0
+AsksFor (Some (Send system source destination body life)) from to octets =
+    (source ≡ from) × (destination ≡ to) × (body ≡ octets)
+AsksFor _ from to octets = ⊥
+
+-- the move is the event that asks for these octets to be sent
+abbrev pub IsSend : Plan → Move → List ℕ → List ℕ → List ℕ → Type 0
+IsSend plan (One place) from to octets = AsksFor (slice_get plan.events place) from to octets
+IsSend plan SettleOne from to octets = ⊥
+
+-- one of the entries sent these octets from here to there, and wasn't refused
+abbrev pub WasSent : Plan → List Entry → List ℕ → List ℕ → List ℕ → Type 0
+WasSent plan [] from to octets = ⊥
+WasSent plan (entry ∷ entries) from to octets =
+    (IsSend plan entry.move from to octets × NoRefusal entry.lines) ⊎ WasSent plan entries from to octets
+
+-- whatever one of the later entries hands up was sent by an entry before it
+abbrev pub EachWasSent : Plan → List Entry → List Entry → Type 0
+EachWasSent plan past [] = Unit {0}
+EachWasSent plan past (entry ∷ later) =
+    ((from to octets : List ℕ) → HandsUp entry.lines from to octets → WasSent plan past from to octets)
+    × EachWasSent plan (past ++ entry ∷ []) later
+
+-- the run hands up only what it sent before
+abbrev pub IsHonest : Plan → List Entry → Type 0
+IsHonest plan entries = EachWasSent plan [] entries

@@ -1,0 +1,4 @@
+pub mod ChecksumLaws
+pub mod Numbers
+pub mod SumLemmas
+pub mod Writes

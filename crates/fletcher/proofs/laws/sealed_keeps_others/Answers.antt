@@ -1,0 +1,11 @@
+use Rattle.fletcher.proofs.ChecksumLaws.{sealed_shares, length-sealed, sealed-with_checksum}
+use Rattle.fletcher.proofs.laws.sealed_keeps_others.Goals as goal
+
+pub returns-clause-shape : goal.returns-clause-shape
+returns-clause-shape c = sealed_shares
+
+pub returns-clause-length : goal.returns-clause-length
+returns-clause-length c = length-sealed
+
+pub returns-clause-free : goal.returns-clause-free
+returns-clause-free c = sealed-with_checksum

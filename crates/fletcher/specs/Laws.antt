@@ -1,0 +1,12 @@
+-- What holds of the definitions of the checksum for all headers.
+use Rattle.std.specs.Prelude.{◌≡◌, ℕ, ◌<◌, List}
+use Rattle.fletcher.specs.Checksum.{octet, IsSealed, with_checksum, sealed}
+
+-- For given other octets exactly one pair of octets 8 and 9 seals a header: the pair that `sealed` writes.
+pub record IsSealedOnce (head : List ℕ) : Type 0 where
+  pub exists : IsSealed (sealed head)
+  pub unique : (x y : ℕ) → x < 256 → y < 256 → IsSealed (with_checksum head x y) → with_checksum head x y ≡ sealed head
+
+-- `other` is the same header but for octets 8 and 9
+abbrev pub SharesOthers : List ℕ → List ℕ → Type 0
+SharesOthers head other = other ≡ with_checksum head (octet other 8) (octet other 9)

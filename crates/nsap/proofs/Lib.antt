@@ -1,0 +1,3 @@
+pub mod CellsFacts
+pub mod HexTextFacts
+pub mod TextFacts

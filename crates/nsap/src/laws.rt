@@ -1,0 +1,22 @@
+//! Laws of the definitions that the contracts cite. The functions do nothing.
+ghost use Rattle.std.specs.Prelude.{◌≡◌, ◌*◌, ℕ, List, Ok, length};
+ghost use Rattle.std.specs.List.{AllPass};
+ghost use Rattle.hex.specs.Hex.{is_hex_digit};
+ghost use Rattle.nsap.specs.Address.{IsAddress};
+ghost use Rattle.nsap.specs.Text.{hex_text, octets_of};
+
+/// What `push_text` writes of an address is read as the same address.
+pub fn text_reads_back()
+    ensures { (octets : List ℕ) → IsAddress octets → octets_of (hex_text octets) ≡ Ok octets }
+{}
+
+/// What a text is read as is an address.
+pub fn read_is_address()
+    ensures { (text octets : List ℕ) → octets_of text ≡ Ok octets → IsAddress octets }
+{}
+
+/// What `push_text` writes of an address is two hexadecimal digits an octet, and nothing else.
+pub fn text_is_digits()
+    ensures digits { (octets : List ℕ) → IsAddress octets → AllPass is_hex_digit (hex_text octets) }
+    ensures two { (octets : List ℕ) → length (hex_text octets) ≡ 2 * length octets }
+{}

@@ -1,0 +1,103 @@
+use super::*;
+use std::cmp::Ordering;
+use std::test::Fail;
+
+const TWENTY: &[u8] = b"0102030405060708090a0b0c0d0e0f1011121314";
+
+#[test]
+fn reads_texts(rt: HostRuntime) -> Result<(), Fail> {
+    let four = [0x47, 0x00, 0x27, 0x02];
+    for text in ["47002702", "47.0027.02", ".47..002702.", "4.7002702"] {
+        assert_eq!(rt;
+            Address::from_text(text.as_bytes())?.as_bytes(),
+            four.as_slice()
+        );
+        assert_eq!(rt;
+            Snpa::from_text(text.as_bytes())?.as_bytes(),
+            four.as_slice()
+        );
+    }
+    let mixed = Address::from_text(b"aBCdeF")?;
+    assert_eq!(rt; mixed.as_bytes(), [0xab, 0xcd, 0xef].as_slice());
+    let twenty = Address::from_text(TWENTY)?;
+    assert_eq!(rt; twenty.as_bytes().len(), 20);
+    assert_eq!(rt; Address::from_bytes(twenty.as_bytes()), Ok(twenty));
+    Ok(())
+}
+
+#[test]
+fn refuses_texts(rt: HostRuntime) {
+    let digit = |place: usize| NsapFault::BadDigit { place };
+    let cases = [
+        ("", NsapFault::Length),
+        ("...", NsapFault::Length),
+        ("470", NsapFault::Length),
+        ("4.7.0", NsapFault::Length),
+        (
+            "0102030405060708090a0b0c0d0e0f101112131415",
+            NsapFault::Length,
+        ),
+        ("0102030405060708090a0b0c0d0e0f1011121314g", digit(40)),
+        ("g", digit(0)),
+        ("47.0:27", digit(4)),
+        ("47 00", digit(2)),
+        ("4g:", digit(1)),
+    ];
+    for (text, fault) in cases {
+        assert_eq!(rt;
+            Address::from_text(text.as_bytes()),
+            Err(fault),
+            "at {text}"
+        );
+        assert_eq!(rt; Snpa::from_text(text.as_bytes()), Err(fault), "at {text}");
+    }
+}
+
+#[test]
+fn counts_octets(rt: HostRuntime) -> Result<(), Fail> {
+    let octets = [0xff; 21];
+    assert_eq!(rt; Address::from_bytes(&[]), Err(NsapFault::Length));
+    assert_eq!(rt; Snpa::from_bytes(&[]), Err(NsapFault::Length));
+    assert_eq!(rt; Address::from_bytes(&octets), Err(NsapFault::Length));
+    assert_eq!(rt; Snpa::from_bytes(&octets), Err(NsapFault::Length));
+    assert_eq!(rt;
+        Address::from_bytes(&octets[..20])?.as_bytes(),
+        &octets[..20]
+    );
+    assert_eq!(rt; Snpa::from_bytes(&octets[..1])?.as_bytes(), &octets[..1]);
+    Ok(())
+}
+
+#[test]
+fn writes_texts(rt: HostRuntime) -> Result<(), Fail> {
+    let alloc = rt.alloc();
+    let mut out = Vec::new(alloc);
+    Address::from_text(b"47.00.FF")?.push_text(alloc, &mut out)?;
+    out.push(b' ')?;
+    Snpa::from_bytes(&[0x02, 0xab])?.push_text(alloc, &mut out)?;
+    assert_eq!(rt; out.as_slice(), b"4700ff 02ab".as_slice());
+    Ok(())
+}
+
+#[test]
+fn compares_octets(rt: HostRuntime) -> Result<(), Fail> {
+    let short = Address::from_bytes(&[0x47])?;
+    let long = Address::from_bytes(&[0x47, 0x00])?;
+    let other = Address::from_bytes(&[0x46, 0xff])?;
+    assert_eq!(rt; short.cmp(&long), Ordering::Less);
+    assert_eq!(rt; short.cmp(&other), Ordering::Greater);
+    assert!(rt; short < long && other < short && long == long && short != long);
+    let snpa = Snpa::from_bytes(&[1])?;
+    assert!(rt; snpa < Snpa::from_bytes(&[1, 0])? && snpa <= snpa);
+    let target = Target::System(snpa);
+    assert!(rt; target == target && target != Target::EndSystems);
+    assert!(rt; Target::Routers != Target::EndSystems);
+    Ok(())
+}
+
+#[test]
+fn laws_can_be_called() {
+    laws::text_reads_back();
+    laws::read_is_address();
+    laws::text_is_digits();
+}

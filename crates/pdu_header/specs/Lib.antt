@@ -1,0 +1,3 @@
+pub mod Value
+pub mod Spelling
+pub mod Plain

@@ -1,0 +1,29 @@
+-- The value that a CLNP PDU carries (ISO 8473, section 7).
+use Rattle.std.specs.Prelude.{ℕ, Bool, List, Option}
+use Rattle.pdu_header.specs.declared.kind.Kind.{Kind}
+
+-- the segmentation part (section 7.4)
+pub record SegmentationPart : Type 0 where
+  pub identifier : ℕ
+  pub offset : ℕ
+  pub total : ℕ
+
+-- an option (section 7.5): its code and its value's octets
+pub record OptionField : Type 0 where
+  pub code : ℕ
+  pub octets : List ℕ
+
+pub record PduValue : Type 0 where
+  pub kind : Kind
+  pub lifetime : ℕ
+  -- an error report is wanted where the PDU is discarded
+  pub report : Bool
+  -- its header has a checksum
+  pub sealed : Bool
+  -- data of the same unit follows behind this PDU's
+  pub more : Bool
+  pub destination : List ℕ
+  pub source : List ℕ
+  pub segmentation : Option SegmentationPart
+  pub options : List OptionField
+  pub body : List ℕ

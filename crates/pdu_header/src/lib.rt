@@ -1,0 +1,6 @@
+//! CLNP PDUs: their octets and their values.
+#![tactic(auto)]
+
+mod kind;
+
+pub use kind::Kind;

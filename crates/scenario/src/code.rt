@@ -1,0 +1,21 @@
+//! The codes of what a line of a scenario text breaks.
+
+/// The first line isn't the header.
+pub const HEADER: u8 = 1;
+/// An unknown first word, a wrong number of words, a word of another form, or a line that is
+/// missing or too many.
+pub const SYNTAX: u8 = 2;
+/// A word that isn't decimal, or a number out of its range.
+pub const NUMBER: u8 = 3;
+/// An address or hexadecimal text that isn't one.
+pub const ADDRESS: u8 = 4;
+/// A system or subnetwork that isn't declared.
+pub const UNKNOWN_NAME: u8 = 5;
+/// A name that is declared already.
+pub const DUP_NAME: u8 = 6;
+/// An address that another system has.
+pub const DUP_ADDRESS: u8 = 7;
+/// An MTU that is decimal and out of its range.
+pub const MTU: u8 = 9;
+/// Too many events or settles.
+pub const COUNT: u8 = 10;
