@@ -3,5 +3,6 @@
 
 mod code;
 mod event;
+mod scenario_value;
 
 pub use event::{Event, Move};
