@@ -1,1 +1,5 @@
+pub mod Cuts
+pub mod Left
+pub mod Memory
+pub mod Streams
 pub mod Text

@@ -1,9 +1,17 @@
+//! Octets, their sources and sinks, and the lines, words and decimals of a text.
 #![tactic(auto)]
 
+mod memory;
 mod octets;
+mod standard;
+mod streams;
+mod text;
 
+#[cfg(test)]
+mod tests;
+
+pub use memory::{MemSink, MemSource};
 pub use octets::{NoMemory, Octets};
-
-/// A source or a sink failed.
-#[derive(Clone, Copy, Debug, PartialEq, Eq)]
-pub struct Failed;
+pub use standard::{StdSink, StdSource};
+pub use streams::{Failed, ReadStop, Sink, Source, read_all, write_all};
+pub use text::{LineIter, WordIter, decimal, lines, next_line, next_word, words};

@@ -1,5 +1,5 @@
 -- Octets laid at the front of twenty zeros.
-use Rattle.std.proofs.Common.{◌≡◌, ℕ, ◌-◌, ◌≤◌, ◌++◌, List, length, take, drop, replicate, arith, refl, ap, ◌∙◌, subst, sym}
+use Rattle.std.proofs.Common.{ℕ, ◌≤◌, ◌++◌, List, length, drop, replicate, arith, ◌∙◌}
 use Rattle.std.proofs.Math.Seq.{drop-append_seam, take-append_seam}
 use Rattle.std.proofs.lemmas.List.{drop-replicate, length-append, length-drop, length-replicate}
 use Rattle.hex.specs.Hex.{IsBytes}

@@ -1,17 +1,15 @@
 -- Facts on the digits of a text that the reader meets one by one.
-use Rattle.std.proofs.Common.{◌≡◌, ℕ, ◌+◌, ◌<◌, ◌≤◌, ◌++◌, List, [], ◌∷◌, length, take, drop, get_or, set, arith, ap, ◌∙◌, sym, refl, not, true, false, cond, ◌*◌, ◌%◌, inl, inr, length-take-le}
-use Rattle.std.proofs.lemmas.Grind.{common_steps}
+use Rattle.std.proofs.Common.{◌≡◌, ℕ, ◌+◌, ◌<◌, ◌≤◌, List, length, take, drop, get_or, set, arith, ap, ◌∙◌, sym, refl, not, true, false, ◌%◌, inl, inr, length-take-le}
 use Rattle.std.proofs.lemmas.List.{append-nil, length-append, take-append-drop, take_more_set}
 use Rattle.std.proofs.lemmas.List.Elements.{filter-append, filter_more}
 use Rattle.std.proofs.lemmas.List.Filters.{length-filter_more}
 use Rattle.std.specs.Prelude.{◌/◌, Option, Some, None, Result, Ok, Err, MatchResult, is_err}
 use Rattle.std.proofs.lemmas.Bool.{cases_eq, eq-eqb, ne_eqb}
-use Rattle.hex.specs.Hex.{decode_of, decode_sized, decode_pairs}
+use Rattle.hex.specs.Hex.{decode_of, decode_sized}
 use Rattle.hex.specs.declared.error.FromHexError.{FromHexError}
-use Rattle.hex.proofs.HexLemmas.{decode_of-even, decode_of-odd, decode_of-ok, decode_sized-odd, decode_sized-twice}
+use Rattle.hex.proofs.HexLemmas.{decode_of-odd, decode_of-ok, decode_sized-odd, decode_sized-twice}
 use Rattle.nsap.specs.Address.{address_of}
 use Rattle.nsap.specs.Text.{address_spelled, bad_digit, is_dot, octets_of, octets_or_fault, without_dots}
-use Rattle.nsap.specs.declared.fault.NsapFault.{NsapFault}
 use Rattle.nsap.specs.declared.fault.NsapFault.TheVariants.{Length, BadDigit}
 
 -- a further digit

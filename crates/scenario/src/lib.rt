@@ -3,6 +3,7 @@
 
 mod code;
 mod event;
-mod scenario_value;
+mod plan;
 
 pub use event::{Event, Move};
+pub use plan::{Scenario, Subnet};

@@ -1,4 +1,4 @@
-use Rattle.std.proofs.Common.{sym, refl, ◌∙◌, arith, replicate, take, length-take-le}
+use Rattle.std.proofs.Common.{sym, refl, ◌∙◌, replicate, take}
 use Rattle.nsap.proofs.TextFacts.{halves, read_bad, read_many, read_refused, read_whole}
 use Rattle.nsap.proofs.octets.Octets.from_text.Goals as goal
 

@@ -1,0 +1,4 @@
+pub mod Decimals
+pub mod Pouring
+pub mod Reading
+pub mod Supplying
