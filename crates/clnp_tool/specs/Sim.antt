@@ -1,0 +1,24 @@
+-- What a call reads and writes.
+use Rattle.std.specs.Prelude.{◌≡◌, ℕ, ◌≤◌, List, ◌++◌, length, Option}
+use Rattle.std.specs.Io.KnownBytes.{Consumes, IsAtEnd, Appends}
+use Rattle.clnp_base.specs.Streams.{AppendsFront}
+use Rattle.scenario.specs.Scenario.{Plan}
+use Rattle.scenario.specs.declared.event.Move.{Move}
+use Rattle.clnp_network.specs.World.{World, first_world}
+use Rattle.clnp_network.specs.Run.{text_of, moves_of_plan}
+
+-- the text is all that was left in the source, and was read to its end
+pub record ReadsWhole (before after : Option (List ℕ)) (text : List ℕ) : Type 0 where
+  pub consumed : Consumes before after text
+  pub at_end : IsAtEnd after
+
+-- the lines of some of the moves, from the first on, and of no part of a move, were written
+pub record AppendsMoves (plan : Plan) (model : World) (moves : List Move) (before after : Option (List ℕ)) : Type 0 where
+  pub made : List Move
+  pub later : List Move
+  pub all : moves ≡ made ++ later
+  pub appended : Appends before after (text_of plan model made)
+
+-- the journal of some of a scenario's moves, from the first on, was written
+abbrev pub AppendsWholeMoves : Plan → Option (List ℕ) → Option (List ℕ) → Type 0
+AppendsWholeMoves plan before after = AppendsMoves plan (first_world plan) (moves_of_plan plan) before after

@@ -1,0 +1,172 @@
+//! The top call: words and input in, output and a status out.
+ghost use Rattle.std.specs.Prelude.{◌≡◌, ◌≢◌, ◌+◌, ◌<◌, ◌≤◌, ◌⊎◌, ◌×◌, ◌↔◌, ℕ, List, [], ◌++◌, length, map, None, Some, Ok, IfSome, IfOk, OnOk, string_bytes};
+ghost use Rattle.std.specs.Io.KnownBytes.{Appends, Consumes, Keeps};
+ghost use Rattle.clnp_base.specs.Streams.{AppendsFront, Rose};
+ghost use Rattle.scenario.specs.Scenario.{Plan};
+ghost use Rattle.scenario.specs.Grammar.{plan_of};
+ghost use Rattle.clnp_network.specs.Run.{journal, run};
+ghost use Rattle.clnp_network.specs.Safe.{IsHonest};
+ghost use Rattle.clnp_tool.specs.Words.{bad_place, most_input, called, called_by, output_of, Excuses};
+ghost use Rattle.clnp_tool.specs.Sim.{ReadsWhole, AppendsWholeMoves};
+
+use crate::status::Status;
+use clnp_base::{ReadStop, Sink, Source, read_all, write_all};
+use clnp_world::World;
+use scenario::{Event, Move, Scenario, ScenarioRefusal};
+use std::alloc::Global;
+
+/// The most octets of an input.
+const MOST_INPUT: usize = 16_777_216;
+
+/// Runs the command that the words name, on what the source gives, and writes to the sink.
+///
+/// `sim` reads a scenario text and writes its journal. Nothing is written before the whole text
+/// was accepted.
+pub fn clnp_main<S: Source, K: Sink>(
+    alloc: Global,
+    words: &[String],
+    source: &mut S,
+    sink: &mut K,
+) -> Status
+    // The counts of faults never fall.
+    ensures later { (S.faults source.old ≤ S.faults source.new) × (K.faults sink.old ≤ K.faults sink.new) }
+
+    // Where the source tells its octets, the answer is the one that words and octets call for,
+    // but for want of memory and for faults that came in this call.
+    ensures answer { IfSome (S.left source.old) (λ text.
+        (result ≡ called (bad_place (map string_bytes words.now)) text)
+        ⊎ Excuses (Rose (S.faults source.old) (S.faults source.new)) (Rose (K.faults sink.old) (K.faults sink.new)) result) }
+
+    // Bad words are answered exactly where they are no command; then nothing is read or written.
+    ensures bad_words { (at : ℕ) → (result ≡ Status.BadWords at) ↔ (bad_place (map string_bytes words.now) ≡ Some at) }
+    ensures untouched { (at : ℕ) → result ≡ Status.BadWords at
+        → Keeps (S.left source.old) (S.left source.new) × Keeps (K.written sink.old) (K.written sink.new) }
+
+    // Done: all was read, and the journal of the run of the scenario that it is was written.
+    ensures done { result ≡ Status.Done → (text : List ℕ) × ReadsWhole (S.left source.old) (S.left source.new) text
+        × (called_by text ≡ Status.Done) × Appends (K.written sink.old) (K.written sink.new) (output_of text) }
+
+    // Too long: more octets came, and nothing was written.
+    ensures too_long { result ≡ Status.TooLong → (text : List ℕ) × Consumes (S.left source.old) (S.left source.new) text
+        × (most_input < length text) × Keeps (K.written sink.old) (K.written sink.new) }
+
+    // Bad input: all was read, it isn't of the grammar, and nothing was written.
+    ensures bad_input { (line code : ℕ) → result ≡ Status.BadInput line code
+        → (text : List ℕ) × ReadsWhole (S.left source.old) (S.left source.new) text
+        × (called_by text ≡ Status.BadInput line code) × Keeps (K.written sink.old) (K.written sink.new) }
+
+    // Read fault: the source failed in this call, and nothing was written.
+    ensures read_fault { result ≡ Status.ReadFault
+        → Rose (S.faults source.old) (S.faults source.new) × Keeps (K.written sink.old) (K.written sink.new) }
+
+    // Write fault: the sink failed in this call, and has a front of what would have been written.
+    ensures write_fault { result ≡ Status.WriteFault → Rose (K.faults sink.old) (K.faults sink.new)
+        × ((text : List ℕ) × ReadsWhole (S.left source.old) (S.left source.new) text
+        × (called_by text ≡ Status.Done) × AppendsFront (K.written sink.old) (K.written sink.new) (output_of text)) }
+
+    // No memory: nothing was written, or the journal of some of the moves.
+    ensures no_memory { result ≡ Status.NoMemory → Keeps (K.written sink.old) (K.written sink.new)
+        ⊎ ((text : List ℕ) × ReadsWhole (S.left source.old) (S.left source.new) text
+        × (called_by text ≡ Status.Done)
+        × IfOk (plan_of text) (λ plan. AppendsWholeMoves plan (K.written sink.old) (K.written sink.new))) }
+
+    // Each data unit that the run of a scenario hands up is one that was sent before in that run.
+    ensures safe { (text : List ℕ) → IfOk (plan_of text) (λ plan. IsHonest plan (run plan)) }
+{
+    if let Some(at) = bad_words(words) {
+        return Status::BadWords { at };
+    }
+    let mut text = Vec::new(alloc);
+    match read_all(alloc, source, MOST_INPUT, &mut text) {
+        Ok(()) => sim(alloc, text.as_slice(), sink),
+        Err(ReadStop::Failed) => Status::ReadFault,
+        Err(ReadStop::TooLong) => Status::TooLong,
+        Err(ReadStop::NoMemory) => Status::NoMemory,
+    }
+}
+
+/// The first place at which the words are no command.
+fn bad_words(words: &[String]) -> Option<usize>
+    ensures { result ≡ bad_place (map string_bytes words.now) }
+{
+    match words {
+        [] => Some(0),
+        [word] => if word.as_str() == "sim" { None } else { Some(0) },
+        [word, ..] => if word.as_str() == "sim" { Some(1) } else { Some(0) },
+    }
+}
+
+/// Writes the journal of the scenario that a text is.
+fn sim<K: Sink>(alloc: Global, text: &[u8], sink: &mut K) -> Status
+    requires { length text.now ≤ most_input }
+{
+    match scenario::read(alloc, text) {
+        Ok(scenario) => match play(alloc, &scenario, sink) {
+            Ok(()) => Status::Done,
+            Err(Stop::WriteFault) => Status::WriteFault,
+            Err(Stop::NoMemory) => Status::NoMemory,
+        },
+        Err(ScenarioRefusal::BadLine { line, code }) => Status::BadInput { line, code },
+        Err(ScenarioRefusal::NoMemory) => Status::NoMemory,
+    }
+}
+
+/// Why the writing of a journal stopped.
+#[derive(Clone, Copy, Debug, PartialEq, Eq)]
+enum Stop {
+    WriteFault,
+    NoMemory,
+}
+
+/// Makes the moves of a scenario and writes their lines, and then the journal's last line.
+fn play<K: Sink>(alloc: Global, scenario: &Scenario, sink: &mut K) -> Result<(), Stop> {
+    let Ok(mut world) = World::new(alloc, scenario) else {
+        return Err(Stop::NoMemory);
+    };
+    for (place, event) in scenario.events().iter().enumerate() {
+        match event {
+            Event::Settle { count } => play_settles(alloc, scenario, *count, &mut world, sink)?,
+            Event::Send { .. } => play_move(alloc, scenario, &Move::One(place), &mut world, sink)?,
+        }
+    }
+    let mut journal = Vec::new(alloc);
+    if world.finish(alloc, &mut journal).is_err() {
+        return Err(Stop::NoMemory);
+    }
+    write(sink, journal.as_slice())
+}
+
+fn play_settles<K: Sink>(
+    alloc: Global,
+    scenario: &Scenario,
+    count: u32,
+    world: &mut World,
+    sink: &mut K,
+) -> Result<(), Stop> {
+    for _ in 0..count {
+        play_move(alloc, scenario, &Move::SettleOne, world, sink)?;
+    }
+    Ok(())
+}
+
+/// Makes one move and writes its lines.
+fn play_move<K: Sink>(
+    alloc: Global,
+    scenario: &Scenario,
+    mv: &Move,
+    world: &mut World,
+    sink: &mut K,
+) -> Result<(), Stop> {
+    let mut journal = Vec::new(alloc);
+    if world.step(alloc, scenario, mv, &mut journal).is_err() {
+        return Err(Stop::NoMemory);
+    }
+    write(sink, journal.as_slice())
+}
+
+fn write<K: Sink>(sink: &mut K, piece: &[u8]) -> Result<(), Stop> {
+    match write_all(sink, piece) {
+        Ok(()) => Ok(()),
+        Err(_) => Err(Stop::WriteFault),
+    }
+}
