@@ -2,7 +2,11 @@
 #![tactic(auto)]
 
 mod config;
+mod journal;
 mod note;
+#[cfg(test)]
+mod tests;
 
-pub use config::{PortConfig, Role, Settings};
+pub use config::{PortConfig, Role, Settings, SystemConfig};
+pub use journal::{journal_text, push_end, transmission_text};
 pub use note::{Note, Why};

@@ -14,7 +14,7 @@ const MOST: usize = 20;
 /// One to twenty octets. The cells past them are 0, so that one list of octets is one value.
 #[derive(Clone, Copy, Debug)]
 pub struct Octets {
-    cells: [u8; 20],
+    cells: [u8; MOST],
     len: usize,
 }
 
@@ -45,7 +45,7 @@ impl Octets {
         if octets.is_empty() || octets.len() > MOST {
             return Err(NsapFault::Length);
         }
-        let mut cells = [0; 20];
+        let mut cells = [0; MOST];
         cells[..octets.len()].copy_from_slice(octets);
         Ok(Octets {
             cells,
@@ -78,8 +78,7 @@ impl Octets {
         ensures octets { result.now ≡ self.now }
         ensures bounds { IsAddress self.now }
     {
-        let octets = &self.cells[..self.len];
-        octets
+        &self.cells[..self.len]
     }
 
     /// Appends the octets as hexadecimal digits.

@@ -14,7 +14,7 @@ use std::cmp::Ordering;
 use std::marker::Model;
 
 /// The address of a system's point of attachment to a subnetwork, its SNPA: 1 to 20 octets (ISO
-/// 9542, section 5.3).
+/// 9542).
 ///
 /// A contract sees it as the list of its octets, and it is ordered as they are: the first octets
 /// that differ decide, and a beginning of an address comes before it.

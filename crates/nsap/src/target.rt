@@ -1,7 +1,7 @@
 //! Whom a PDU is given to on a subnetwork.
 use crate::snpa::Snpa;
 
-/// Whom a PDU is given to on a subnetwork (ISO 9542, section 5.3).
+/// Whom a PDU is given to on a subnetwork (ISO 9542).
 #[derive(Clone, Copy, Debug, PartialEq, Eq)]
 pub enum Target {
     /// One system, at its point of attachment.

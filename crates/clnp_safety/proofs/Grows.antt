@@ -1,0 +1,99 @@
+-- The copies of a world stay as a front of those after each move, and the cursor stays within them.
+use Rattle.std.proofs.Common.{◌≡◌, ◌≤◌, ℕ, List, [], ◌∷◌, ◌++◌, ◌+◌, length, refl, sym, ap, ◌∙◌, arith, length-append, append_assoc}
+use Rattle.std.specs.Prelude.{true, slice_get, slice_set, Option, None, Some}
+use Rattle.std.proofs.lemmas.Option.{slice_get_within}
+use Rattle.std.proofs.lemmas.List.{append-nil}
+use Rattle.clnp_plan.specs.Configuration.{SystemConfiguration}
+use Rattle.scenario.specs.Scenario.{Plan}
+use Rattle.scenario.specs.declared.event.Event.{Event}
+use Rattle.scenario.specs.declared.event.Event.TheVariants.{Send, Settle}
+use Rattle.scenario.specs.declared.event.Move.{Move}
+use Rattle.scenario.specs.declared.event.Move.TheVariants.{One, SettleOne}
+use Rattle.clnp_machine.specs.System.{SystemState, Output, Transmits, Notes, Effect}
+use Rattle.clnp_machine.specs.Host.{send, arrive}
+use Rattle.clnp_network.specs.World.{World, Copy, copy_from, put_out, takes_effect, system_does, addressees_from, settle_copy, event_happens, after, first_world}
+use Rattle.clnp_network.specs.Run.{world_after}
+use Rattle.clnp_safety.specs.Growth.{IsFront, IsWithinCopies}
+use Rattle.clnp_safety.proofs.Lists.{AllByRecursion-any}
+use Rattle.clnp_safety.proofs.Steps.{Keeps, keeps-put_all_out, keeps-at_system, keeps-give_each}
+use Rattle.clnp_safety.proofs.Outputs.{AnyLine}
+
+-- a world with more copies behind these, and this cursor
+pub record Grown (copies : List Copy) (cursor : ℕ) (w : World) : Type 0 where
+  pub front : IsFront copies w.copies
+  pub at : w.cursor ≡ cursor
+
+front-more : {A : Type 0} (xs ys zs : List A) → IsFront xs ys → IsFront xs (ys ++ zs)
+front-more xs ys zs h = (h.0 ++ zs, ap (λ l. l ++ zs) h.1 ∙ append_assoc xs h.0 zs)
+
+module _ (copies : List Copy) (cursor : ℕ) where
+  put_out_grows : (system : SystemConfiguration) (output : Output) (v : World) → Grown copies cursor v → Keeps (Grown copies cursor) AnyLine (put_out system v output)
+  put_out_grows system (Notes note) v k = record { world = k; lines = (tt, tt) }
+  put_out_grows system (Transmits port target packet) v k = record {
+    world = record { front = front-more copies v.copies (copy_from (slice_get system.ports port) target packet) k.front; at = k.at };
+    lines = (tt, tt);
+  }
+
+  takes_effect_grows : (w : World) (place : ℕ) (effect : Effect) → Grown copies cursor w → Keeps (Grown copies cursor) AnyLine (takes_effect w place effect)
+  takes_effect_grows w place effect k =
+      keeps-put_all_out (Grown copies cursor) AnyLine effect.after.configuration effect.outputs
+      (AllByRecursion-any (λ output. (v : World) → Grown copies cursor v → Keeps (Grown copies cursor) AnyLine (put_out effect.after.configuration v output))
+      (put_out_grows effect.after.configuration) effect.outputs)
+      (record w { systems = slice_set w.systems place effect.after }) (record { front = k.front; at = k.at })
+
+  system_does_grows : (w : World) (place : ℕ) (does : SystemState → Effect) → Grown copies cursor w → Keeps (Grown copies cursor) AnyLine (system_does w place does)
+  system_does_grows w place does k =
+      keeps-at_system (Grown copies cursor) AnyLine w place does (slice_get w.systems place) k (λ s. takes_effect_grows w place (does s) k)
+
+-- the world after a move, with the copies before it as a front, and the cursor within them
+pub record GrowsFrom (w v : World) : Type 0 where
+  pub front : IsFront w.copies v.copies
+  pub within : IsWithinCopies w → IsWithinCopies v
+
+grows_to : (w v : World) (cursor : ℕ) → (IsWithinCopies w → cursor ≤ length w.copies) → Grown w.copies cursor v → GrowsFrom w v
+grows_to w v cursor bound h = record {
+  front = h.front;
+  within = λ k.
+      let e : length v.copies ≡ length w.copies + length h.front.0 = ap length h.front.1 ∙ length-append w.copies h.front.0 in
+      let at : v.cursor ≡ cursor = h.at in
+      let below : cursor ≤ length w.copies = bound k in
+      omega arith;
+}
+
+stays : (w : World) → Grown w.copies w.cursor w
+stays w = record { front = ([], sym (append-nil w.copies)); at = refl }
+
+nothing_grows : (w : World) → GrowsFrom w w
+nothing_grows w = grows_to w w w.cursor (λ k. k) (stays w)
+
+event_grows : (w : World) (asked : Option Event) → GrowsFrom w (event_happens w asked).world
+event_grows w None = nothing_grows w
+event_grows w (Some (Settle count)) = nothing_grows w
+event_grows w (Some (Send system from to body life)) =
+    grows_to w (event_happens w (Some (Send system from to body life))).world w.cursor (λ k. k)
+    (system_does_grows w.copies w.cursor w system (λ s. send s from to body (record { lifetime = life; report = true; options = [] })) (stays w)).world
+
+settle_copy_grows : (w : World) (found : Option Copy) → ((copy : Copy) → found ≡ Some copy → w.cursor + 1 ≤ length w.copies) → GrowsFrom w (settle_copy w found).world
+settle_copy_grows w None bound = nothing_grows w
+settle_copy_grows w (Some copy) bound =
+    grows_to w (settle_copy w (Some copy)).world (w.cursor + 1) (λ k. bound copy refl)
+    (keeps-give_each (Grown w.copies (w.cursor + 1)) AnyLine copy (addressees_from 0 copy w.systems)
+    (λ v place k. system_does_grows w.copies (w.cursor + 1) v place (λ system. arrive system copy.content) k)
+    (record w { cursor = w.cursor + 1 }) (record { front = ([], sym (append-nil w.copies)); at = refl })).world
+
+pub move_grows : (plan : Plan) (w : World) (move : Move) → GrowsFrom w (after plan w move).world
+move_grows plan w (One place) = event_grows w (slice_get plan.events place)
+move_grows plan w SettleOne =
+    settle_copy_grows w (slice_get w.copies w.cursor)
+    (λ copy e. let l = slice_get_within w.copies w.cursor copy e in omega arith)
+
+pub copies_stay : (plan : Plan) (w : World) (move : Move) → IsFront w.copies (after plan w move).world.copies
+copies_stay plan w move = (move_grows plan w move).front
+
+within_copies_after : (plan : Plan) (moves : List Move) (w : World) → IsWithinCopies w → IsWithinCopies (world_after plan w moves)
+within_copies_after plan [] w h = h
+within_copies_after plan (move ∷ moves) w h =
+    within_copies_after plan moves (after plan w move).world ((move_grows plan w move).within h)
+
+pub cursor_within : (plan : Plan) (moves : List Move) → IsWithinCopies (world_after plan (first_world plan) moves)
+cursor_within plan moves = within_copies_after plan moves (first_world plan) (omega arith)

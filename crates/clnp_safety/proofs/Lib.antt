@@ -1,0 +1,11 @@
+pub mod Lists
+pub mod Past
+pub mod Lines
+pub mod Steps
+pub mod Outputs
+pub mod Moves
+pub mod Settles
+pub mod Sends
+pub mod Runs
+pub mod Grows
+pub mod Refusals

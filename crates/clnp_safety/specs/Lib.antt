@@ -1,0 +1,3 @@
+pub mod Invariant
+pub mod Growth
+pub mod Refusal
