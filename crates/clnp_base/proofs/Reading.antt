@@ -1,7 +1,7 @@
 -- Lines and words, cut where the reader cuts them.
-use Rattle.std.proofs.Common.{◌≡◌, ◌≢◌, ℕ, ◌+◌, ◌-◌, ◌<◌, ◌≤◌, ◌==◌, ◌&&◌, ◌⊎◌, inl, inr, List, [], ◌∷◌, ◌++◌, length, arith, take, drop, sym, ap, ◌∙◌, refl, rules, Bool, true, false, add-one, zero, suc}
+use Rattle.std.proofs.Common.{◌≡◌, ◌≢◌, ℕ, ◌+◌, ◌<◌, ◌≤◌, ◌==◌, ◌⊎◌, inl, inr, List, [], ◌∷◌, ◌++◌, length, arith, take, drop, sym, ap, ◌∙◌, refl, Bool, true, false, add-one, zero, suc}
 use Rattle.std.proofs.lemmas.Grind.{common_steps}
-use Rattle.clnp_base.specs.Text.{lines_of, words_of, onto_first, begins_with, ends_word}
+use Rattle.clnp_base.specs.Text.{lines_of, words_of, onto_first, begins_with}
 use Rattle.clnp_base.specs.Cuts.{index_of, without_return}
 
 either : (b : Bool) → (b ≡ true) ⊎ (b ≡ false)
@@ -49,18 +49,18 @@ pub lines_of-at : (xs : List ℕ) (n : ℕ) → index_of 10 xs ≡ n → n < len
 lines_of-at [] n e h = absurd (omega arith)
 lines_of-at (c ∷ []) n e h =
     elim (either (c == 10)) [
-      inl t ↦ lines_of-here c [] n t (sym e ∙ index_of-here 10 c [] t)
-    | inr f ↦ let z = index_of-next 10 c [] f in absurd (omega (arith, e, z, h))
+      | inl t ↦ lines_of-here c [] n t (sym e ∙ index_of-here 10 c [] t)
+      | inr f ↦ let z = index_of-next 10 c [] f in absurd (omega (arith, e, z, h))
     ]
 lines_of-at (c ∷ (d ∷ ds)) n e h =
     elim (either (c == 10)) [
-      inl t ↦ lines_of-here c (d ∷ ds) n t (sym e ∙ index_of-here 10 c (d ∷ ds) t)
-    | inr f ↦ elim (either (d == 10)) [
-        inl t ↦ lines_of-before c d ds n f t (sym e ∙ (index_of-next 10 c (d ∷ ds) f ∙ ap (λ (i : ℕ). i + 1) (index_of-here 10 d ds t)))
-      | inr g ↦
-          lines_of-inside c d ds n (index_of 10 (d ∷ ds)) f g (omega (arith, index_of-next 10 d ds g))
-          (sym e ∙ index_of-next 10 c (d ∷ ds) f)
-          (lines_of-at (d ∷ ds) (index_of 10 (d ∷ ds)) refl (omega (arith, e, h, index_of-next 10 c (d ∷ ds) f)))
+      | inl t ↦ lines_of-here c (d ∷ ds) n t (sym e ∙ index_of-here 10 c (d ∷ ds) t)
+      | inr f ↦ elim (either (d == 10)) [
+        | inl t ↦ lines_of-before c d ds n f t (sym e ∙ (index_of-next 10 c (d ∷ ds) f ∙ ap (λ (i : ℕ). i + 1) (index_of-here 10 d ds t)))
+        | inr g ↦
+            lines_of-inside c d ds n (index_of 10 (d ∷ ds)) f g (omega (arith, index_of-next 10 d ds g))
+            (sym e ∙ index_of-next 10 c (d ∷ ds) f)
+            (lines_of-at (d ∷ ds) (index_of 10 (d ∷ ds)) refl (omega (arith, e, h, index_of-next 10 c (d ∷ ds) f)))
       ]
     ]
 
@@ -95,10 +95,10 @@ pub words_of-at : (c : ℕ) (cs : List ℕ) (n : ℕ) → (c == 32) ≡ false �
 words_of-at c [] n f e = let z : n ≡ 1 = sym e ∙ index_of-next 32 c [] f in rw z (rw f refl)
 words_of-at c (d ∷ ds) n f e =
     elim (either (d == 32)) [
-      inl t ↦ words_of-end c d ds n f t (sym e ∙ (index_of-next 32 c (d ∷ ds) f ∙ ap (λ (i : ℕ). i + 1) (index_of-here 32 d ds t)))
-    | inr g ↦
-        words_of-inside c d ds n (index_of 32 (d ∷ ds)) f g (sym e ∙ index_of-next 32 c (d ∷ ds) f)
-        (words_of-at d ds (index_of 32 (d ∷ ds)) g refl)
+      | inl t ↦ words_of-end c d ds n f t (sym e ∙ (index_of-next 32 c (d ∷ ds) f ∙ ap (λ (i : ℕ). i + 1) (index_of-here 32 d ds t)))
+      | inr g ↦
+          words_of-inside c d ds n (index_of 32 (d ∷ ds)) f g (sym e ∙ index_of-next 32 c (d ∷ ds) f)
+          (words_of-at d ds (index_of 32 (d ∷ ds)) g refl)
     ]
 
 -- a text that isn't empty and has no `\n` is one line

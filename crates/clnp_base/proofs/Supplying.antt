@@ -1,5 +1,5 @@
 -- One read from a source in memory.
-use Rattle.std.proofs.Common.{◌≡◌, ℕ, ◌+◌, ◌-◌, ◌<◌, ◌≤◌, min, List, [], ◌++◌, length, take, drop, arith, sym, ap, ◌∙◌, refl, length-append, length-drop, take-append-drop, add-zero}
+use Rattle.std.proofs.Common.{◌≡◌, ℕ, ◌+◌, ◌-◌, ◌<◌, ◌≤◌, min, List, [], ◌++◌, length, take, drop, arith, sym, ap, ◌∙◌, length-append, length-drop, take-append-drop}
 use Rattle.std.proofs.Math.Seq.{take-append_seam}
 use Rattle.std.proofs.lemmas.List.{take_all, length-take-le, nil_from_length, drop-drop}
 
@@ -18,8 +18,7 @@ pub supplied : (left octets buf copied : List ℕ) (at came most : ℕ) → drop
 supplied left octets buf copied at came most l c n m =
     let c' : copied ≡ take came (drop at octets) = rw (rest_of octets at) at c in
     let n' : came ≡ min (min most (length buf)) (length (drop at octets)) = rw (rest_of octets at) at n in
-    let len : length copied ≡ came = ap length c' ∙ length-take-le came (drop at octets) (omega (arith, n')) in
-    (
+    let len : length copied ≡ came = ap length c' ∙ length-take-le came (drop at octets) (omega (arith, n')) in (
       rw (take_exact copied (drop came buf) came len, ← drop-drop came at octets, c', ← l) (sym (take-append-drop came (drop at octets))),
-      λ z h. nil_from_length (drop (at + came) octets) (omega (arith, n', z, h, len, length-drop (at + came) octets, length-drop at octets, length-drop came buf, length-append copied (drop came buf)))
+      λ z h. nil_from_length (drop (at + came) octets) (omega (arith, n', z, h, len, length-drop (at + came) octets, length-drop at octets, length-drop came buf, length-append copied (drop came buf))),
     )

@@ -1,5 +1,5 @@
 -- What is seen of a source and a sink in memory, and what a call of theirs does.
-use Rattle.std.specs.Prelude.{◌≡◌, ℕ, ◌+◌, ◌-◌, ◌==◌, ◌&&◌, ◌||◌, nat_le, nat_lt, min, Bool, if◌then◌else◌, List, ◌++◌, length, take, drop, Option, Some, None}
+use Rattle.std.specs.Prelude.{ℕ, ◌-◌, ◌==◌, ◌&&◌, ◌||◌, nat_le, nat_lt, min, Bool, List, ◌++◌, length, drop}
 use Rattle.std.specs.List.{list_any}
 use Rattle.clnp_base.specs.Streams.{count_up}
 

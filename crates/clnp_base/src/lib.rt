@@ -5,10 +5,9 @@ mod memory;
 mod octets;
 mod standard;
 mod streams;
-mod text;
-
 #[cfg(test)]
 mod tests;
+mod text;
 
 pub use memory::{MemSink, MemSource};
 pub use octets::{NoMemory, Octets};

@@ -4,11 +4,10 @@ ghost use Rattle.std.specs.Io.KnownBytes.{ReadConsumes, WriteAppends};
 ghost use Rattle.clnp_base.specs.Streams.{Rose};
 ghost use Rattle.clnp_base.specs.Memory.{read_fails, read_amount, after_read, after_failed_read, write_fails, write_amount, after_write, after_failed_write};
 
-use std::alloc::Global;
-use std::marker::Model;
-
 use crate::octets::NoMemory;
 use crate::streams::{Failed, Sink, Source};
+use std::alloc::Global;
+use std::marker::Model;
 
 /// A source in memory: it gives at most so many octets a call, and fails at given calls.
 #[derive(Debug, Drop)]
@@ -109,7 +108,12 @@ impl Model for MemSink {
 impl MemSink {
     /// A sink with room for `room` octets, which it reserves. It takes at most `most` a call,
     /// and fails at the calls whose numbers, counted from 1, are in `fails`.
-    pub fn new(alloc: Global, room: usize, most: usize, fails: Vec<u64>) -> Result<MemSink, NoMemory>
+    pub fn new(
+        alloc: Global,
+        room: usize,
+        most: usize,
+        fails: Vec<u64>,
+    ) -> Result<MemSink, NoMemory>
         requires { 1 ≤ most }
         ensures { IfOk result (λ sink. sink ≡ record { written = []; room = room; most = most; fails = fails.items; calls = 0; faults = 0 }) }
     {

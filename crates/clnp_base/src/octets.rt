@@ -7,7 +7,6 @@ use std::marker::Model;
 #[derive(Clone, Copy, Debug, PartialEq, Eq)]
 pub struct NoMemory;
 
-
 impl From<AllocError> for NoMemory {
     fn from(_refused: AllocError) -> NoMemory {
         NoMemory

@@ -1,6 +1,5 @@
-use std::io::{Read, Write};
-
 use crate::streams::{Failed, Sink, Source};
+use std::io::{Read, Write};
 
 /// A source over a reader of the machine's. It tells what the reader tells, and counts its
 /// errors, an interruption too.

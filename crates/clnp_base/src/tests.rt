@@ -1,15 +1,14 @@
 ghost use Rattle.std.specs.Prelude.{◌≡◌, length};
 ghost use Rattle.clnp_base.specs.Text.{lines_of};
 
-use std::alloc::Global;
-use std::io;
-use std::io::{ErrorKind, Read, Write};
-use std::test::Fail;
-
 use crate::{
     Failed, MemSink, MemSource, NoMemory, Octets, ReadStop, Sink, Source, StdSink, StdSource,
     decimal, lines, next_line, next_word, read_all, words, write_all,
 };
+use std::alloc::Global;
+use std::io;
+use std::io::{ErrorKind, Read, Write};
+use std::test::Fail;
 
 /// A source of `abcdefgh`, three octets a call.
 fn letters(alloc: Global, fails: &[u64]) -> Result<MemSource, NoMemory> {
@@ -124,7 +123,7 @@ fn line_count(text: &[u8]) -> usize
     ensures { result ≡ length (lines_of text.now) }
 {
     let mut count = 0;
-    for _ in lines(text) {
+    for _line in lines(text) {
         count += 1;
     }
     count

@@ -1,10 +1,10 @@
 -- For given other octets exactly one pair of octets 8 and 9 seals a header.
-use Rattle.std.proofs.Common.{◌≡◌, ◌≢◌, ℕ, ◌+◌, ◌-◌, ◌*◌, ◌%◌, ◌<◌, ◌≤◌, List, length, get_or, refl, sym, ◌∙◌, ap, subst, arith}
+use Rattle.std.proofs.Common.{◌≡◌, ◌≢◌, ℕ, ◌+◌, ◌-◌, ◌*◌, ◌%◌, ◌<◌, ◌≤◌, List, length, get_or, sym, ◌∙◌, ap, subst, arith}
 use Rattle.std.proofs.Math.ListN.{set}
 use Rattle.std.specs.List.{sum}
 use Rattle.std.proofs.lemmas.List.{length-set, get_or-set_same, get_or-set_other, set-set, set_comm, set-get_or}
 use Rattle.std.proofs.lemmas.List.Sums.{sum_by-set}
-use Rattle.fletcher.specs.Checksum.{octet, weighted_sum, IsSealed, with_checksum, without_checksum, checksum_octet, checksum_x, checksum_y, sealed}
+use Rattle.fletcher.specs.Checksum.{octet, weighted_sum, IsSealed, with_checksum, without_checksum, checksum_x, checksum_y, sealed}
 use Rattle.fletcher.specs.Laws.{IsSealedOnce, SharesOthers}
 use Rattle.fletcher.proofs.Numbers.{IsOctetOf, checksum_octet_is, checksum_octet_unique, Solves, solves, solution_x, solution_y}
 use Rattle.fletcher.proofs.SumLemmas.{weighted_sum-set}
@@ -119,9 +119,22 @@ sealed_unique head x y long x_small y_small is =
     let y_used : y ≢ 0 = λ e. is.octet_9 (octet_9_is head x y long ∙ e) in
     ap (λ t. with_checksum head t y) (x_unique head x y x_used x_small solved) ∙ ap (λ t. with_checksum head (checksum_x head) t) (y_unique head x y long y_used y_small solved)
 
+pub sealed_octet_8 : (head : List ℕ) → 9 ≤ length head → octet (sealed head) 8 ≡ checksum_x head
+unfolding sealed
+sealed_octet_8 head long = octet_8_is head (checksum_x head) (checksum_y head) long
+
+pub sealed_octet_9 : (head : List ℕ) → 9 ≤ length head → octet (sealed head) 9 ≡ checksum_y head
+unfolding sealed
+sealed_octet_9 head long = octet_9_is head (checksum_x head) (checksum_y head) long
+
 pub sealed_once : (head : List ℕ) → 9 ≤ length head → IsSealedOnce head
 sealed_once head long =
-    record { exists = sealed_is head long; unique = λ x y x_small y_small is. sealed_unique head x y long x_small y_small is }
+    record {
+      exists = sealed_is head long;
+      octet_8 = omega (arith, sealed_octet_8 head long, (checksum_x_is head).small);
+      octet_9 = omega (arith, sealed_octet_9 head long, (checksum_y_is head).small);
+      unique = λ x y x_small y_small is. sealed_unique head x y long x_small y_small is;
+    }
 
 pub sealed_is_unique : (head other : List ℕ) → 9 ≤ length head → SharesOthers head other → octet other 8 < 256 → octet other 9 < 256 → IsSealed other → other ≡ sealed head
 sealed_is_unique head other long shares x_small y_small is =
@@ -130,7 +143,7 @@ sealed_is_unique head other long shares x_small y_small is =
 pub sealed_shares : (head : List ℕ) → 9 ≤ length head → SharesOthers head (sealed head)
 unfolding sealed
 sealed_shares head long =
-    sym (ap (λ t. with_checksum head t (octet (sealed head) 9)) (octet_8_is head (checksum_x head) (checksum_y head) long) ∙ ap (λ t. with_checksum head (checksum_x head) t) (octet_9_is head (checksum_x head) (checksum_y head) long))
+    sym (ap (λ t. with_checksum head t (octet (sealed head) 9)) (sealed_octet_8 head long) ∙ ap (λ t. with_checksum head (checksum_x head) t) (sealed_octet_9 head long))
 
 pub length-sealed : (head : List ℕ) → length (sealed head) ≡ length head
 unfolding sealed
@@ -140,3 +153,16 @@ length-sealed head = length-with_checksum head (checksum_x head) (checksum_y hea
 pub sealed-with_checksum : (head : List ℕ) (x y : ℕ) → sealed (with_checksum head x y) ≡ sealed head
 unfolding sealed checksum_x checksum_y
 sealed-with_checksum head x y = simp (with_checksum-with_checksum, length-with_checksum)
+
+pub without_checksum-sealed : (head : List ℕ) → without_checksum (sealed head) ≡ without_checksum head
+unfolding sealed
+without_checksum-sealed head = with_checksum-with_checksum head (checksum_x head) (checksum_y head) 0 0
+
+pub sealed_other : (head : List ℕ) (i : ℕ) → i ≢ 7 → i ≢ 8 → get_or (sealed head) i 0 ≡ get_or head i 0
+unfolding sealed
+sealed_other head i not_7 not_8 =
+    get_or-set_other (set head 7 (checksum_x head)) 8 i (checksum_y head) 0 not_8 ∙ get_or-set_other head 7 i (checksum_x head) 0 not_7
+
+pub sealed_of_bare : (head : List ℕ) → 9 ≤ length head → octet head 8 < 256 → octet head 9 < 256 → IsSealed head → head ≡ sealed (without_checksum head)
+sealed_of_bare head long x_small y_small is =
+    sealed_is_unique head head long (sym (with_checksum_same head)) x_small y_small is ∙ sym (sealed-with_checksum head 0 0)

@@ -1,4 +1,5 @@
 pub mod ChecksumLaws
 pub mod Numbers
 pub mod SumLemmas
+mod Worked
 pub mod Writes

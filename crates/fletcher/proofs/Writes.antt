@@ -1,12 +1,11 @@
 -- What `seal` and `adjust` write, over plain lists.
-use Rattle.std.proofs.Common.{◌≡◌, ◌≢◌, ℕ, ◌+◌, ◌-◌, ◌*◌, ◌%◌, ◌<◌, ◌≤◌, ◌⊎◌, inl, inr, List, length, get_or, refl, sym, ◌∙◌, ap, subst, arith}
+use Rattle.std.proofs.Common.{◌≡◌, ◌≢◌, ℕ, ◌+◌, ◌-◌, ◌*◌, ◌%◌, ◌<◌, ◌≤◌, inl, inr, List, length, get_or, refl, sym, ◌∙◌, ap, subst, arith}
 use Rattle.std.proofs.Math.ListN.{set}
 use Rattle.std.specs.List.{sum}
-use Rattle.std.proofs.lemmas.List.{length-set, get_or-set_same, get_or-set_other, set-set, set_comm}
+use Rattle.std.proofs.lemmas.List.{length-set, get_or-set_other, set_comm}
 use Rattle.std.proofs.lemmas.List.Sums.{sum_by-set}
-use Rattle.std.proofs.lemmas.Nat.{mul-mod_second}
 use Rattle.fletcher.specs.Checksum.{octet, weighted_sum, IsSealed, IsRight, KeepsSums, with_checksum, without_checksum, checksum_octet, checksum_x, checksum_y, sealed}
-use Rattle.fletcher.proofs.Numbers.{checksum_octet_is, checksum_octet_congruent, scaled, Adjusts, balances}
+use Rattle.fletcher.proofs.Numbers.{checksum_octet_is, checksum_octet_congruent, scaled, balances}
 use Rattle.fletcher.proofs.SumLemmas.{weighted_sum-set}
 use Rattle.fletcher.proofs.ChecksumLaws.{pair_sum, pair_weighted_sum, with_checksum-with_checksum, length-with_checksum, octet_8_is, octet_9_is, sealed_is, length-sealed, sealed_unique}
 
@@ -16,7 +15,7 @@ use Rattle.fletcher.proofs.ChecksumLaws.{pair_sum, pair_weighted_sum, with_check
 reduced : (n : ℕ) → (n % 255) % 255 ≡ n % 255
 reduced n = omega arith
 
-pub seal_writes : (head : List ℕ) (plain weighted x y : ℕ) → plain ≡ sum (without_checksum head) % 255 → weighted ≡ weighted_sum (without_checksum head) % 255 → x ≡ checksum_octet ((length (without_checksum head) - 8) * plain + 254 * weighted) → y ≡ checksum_octet (weighted + 254 * ((length (without_checksum head) - 7) * plain)) → with_checksum (without_checksum head) x y ≡ sealed head
+seal_writes : (head : List ℕ) (plain weighted x y : ℕ) → plain ≡ sum (without_checksum head) % 255 → weighted ≡ weighted_sum (without_checksum head) % 255 → x ≡ checksum_octet ((length (without_checksum head) - 8) * plain + 254 * weighted) → y ≡ checksum_octet (weighted + 254 * ((length (without_checksum head) - 7) * plain)) → with_checksum (without_checksum head) x y ≡ sealed head
 unfolding sealed checksum_x checksum_y
 seal_writes head plain weighted x y plain_is weighted_is x_is y_is =
     let c0 = sum (without_checksum head) in
@@ -29,10 +28,24 @@ seal_writes head plain weighted x y plain_is weighted_is x_is y_is =
     let y_value : y ≡ checksum_octet (c1 + 254 * ((length head - 7) * c0)) = y_is ∙ ap (λ t. checksum_octet (weighted + 254 * ((t - 7) * plain))) len ∙ checksum_octet_congruent _ _ (omega arith) in
     with_checksum-with_checksum head 0 0 x y ∙ ap (λ t. with_checksum head t y) x_value ∙ ap (λ t. with_checksum head (checksum_x head) t) y_value
 
+pub seal_value : (head : List ℕ) (x y : ℕ) → x ≡ checksum_octet ((length (without_checksum head) - 8) * (sum (without_checksum head) % 255) + 254 * (weighted_sum (without_checksum head) % 255)) → y ≡ checksum_octet (weighted_sum (without_checksum head) % 255 + 254 * ((length (without_checksum head) - 7) * (sum (without_checksum head) % 255))) → with_checksum (without_checksum head) x y ≡ sealed head
+seal_value head x y x_is y_is = seal_writes head _ _ x y refl refl x_is y_is
+
+pub seal_is : (head : List ℕ) (x y : ℕ) → 9 ≤ length head → x ≡ checksum_octet ((length (without_checksum head) - 8) * (sum (without_checksum head) % 255) + 254 * (weighted_sum (without_checksum head) % 255)) → y ≡ checksum_octet (weighted_sum (without_checksum head) % 255 + 254 * ((length (without_checksum head) - 7) * (sum (without_checksum head) % 255))) → IsSealed (with_checksum (without_checksum head) x y)
+seal_is head x y long x_is y_is =
+    let P : List ℕ → Type 0 = λ t. IsSealed t in subst P (sym (seal_value head x y x_is y_is)) (sealed_is head long)
+
+pub written_others : (head : List ℕ) (x y : ℕ) → 9 ≤ length head → with_checksum (without_checksum head) x y ≡ with_checksum head (octet (with_checksum (without_checksum head) x y) 8) (octet (with_checksum (without_checksum head) x y) 9)
+written_others head x y long =
+    with_checksum-with_checksum head 0 0 x y ∙ sym (ap (λ t. with_checksum head t (octet (with_checksum (without_checksum head) x y) 9)) (octet_8_is (without_checksum head) x y (omega (arith, length-with_checksum head 0 0))) ∙ ap (λ t. with_checksum head x t) (octet_9_is (without_checksum head) x y (omega (arith, length-with_checksum head 0 0))))
+
+-- for the goals of `seal`
+pub ruleset sealing = (seal_value, seal_is, written_others)
+
 -- ---- adjust
 
 -- `new` is written at a place that is not of the checksum, and x2 and y2 are what the formulas make of the change
-pub record Changes (head : List ℕ) (place new x2 y2 : ℕ) : Type 0 where
+record Changes (head : List ℕ) (place new x2 y2 : ℕ) : Type 0 where
   pub at_least : 9 ≤ length head
   pub at_most : length head ≤ 254
   pub first : 1 ≤ place
@@ -43,10 +56,10 @@ pub record Changes (head : List ℕ) (place new x2 y2 : ℕ) : Type 0 where
   pub octet_8 : x2 ≡ checksum_octet (octet head 8 + (255 + place - 9) * (255 + new - octet head place))
   pub octet_9 : y2 ≡ checksum_octet (octet head 9 + (255 + 8 - place) * (255 + new - octet head place))
 
-pub changed : List ℕ → ℕ → ℕ → ℕ → ℕ → List ℕ
+changed : List ℕ → ℕ → ℕ → ℕ → ℕ → List ℕ
 changed head place new x2 y2 = with_checksum (set head (place - 1) new) x2 y2
 
-pub adjust_keeps : (head : List ℕ) (place new x2 y2 : ℕ) → Changes head place new x2 y2 → KeepsSums head (changed head place new x2 y2)
+adjust_keeps : (head : List ℕ) (place new x2 y2 : ℕ) → Changes head place new x2 y2 → KeepsSums head (changed head place new x2 y2)
 unfolding changed
 adjust_keeps head place new x2 y2 h =
     let at_least : 9 ≤ length head = h.at_least in
@@ -86,16 +99,17 @@ adjust_keeps head place new x2 y2 h =
     }
 
 -- a checksum in use that keeps its sums is right exactly where it was
-pub right_kept : (old new : List ℕ) → octet old 8 ≢ 0 → octet old 9 ≢ 0 → KeepsSums old new → (IsRight new → IsRight old) × (IsRight old → IsRight new)
-right_kept old new used_8 used_9 keeps =
-    (λ right. elim right [
-        inl unused ↦ absurd (keeps.octet_8 unused.0)
-      | inr is ↦ inr (record { octet_8 = used_8; octet_9 = used_9; sum = sym keeps.sum ∙ is.sum; weighted_sum = sym keeps.weighted_sum ∙ is.weighted_sum })
-      ],
-     λ right. elim right [
-        inl unused ↦ absurd (used_8 unused.0)
-      | inr is ↦ inr (record { octet_8 = keeps.octet_8; octet_9 = keeps.octet_9; sum = keeps.sum ∙ is.sum; weighted_sum = keeps.weighted_sum ∙ is.weighted_sum })
-      ])
+right_kept : (old new : List ℕ) → octet old 8 ≢ 0 → octet old 9 ≢ 0 → KeepsSums old new → (IsRight new → IsRight old) × (IsRight old → IsRight new)
+right_kept old new used_8 used_9 keeps = (
+  λ right. elim right [
+    | inl unused ↦ absurd (keeps.octet_8 unused.0)
+    | inr is ↦ inr (record { octet_8 = used_8; octet_9 = used_9; sum = sym keeps.sum ∙ is.sum; weighted_sum = sym keeps.weighted_sum ∙ is.weighted_sum })
+  ],
+  λ right. elim right [
+    | inl unused ↦ absurd (used_8 unused.0)
+    | inr is ↦ inr (record { octet_8 = keeps.octet_8; octet_9 = keeps.octet_9; sum = keeps.sum ∙ is.sum; weighted_sum = keeps.weighted_sum ∙ is.weighted_sum })
+  ],
+)
 
 set-with_checksum : (head : List ℕ) (i v x y : ℕ) → i ≢ 7 → i ≢ 8 → set (with_checksum head x y) i v ≡ with_checksum (set head i v) x y
 set-with_checksum head i v x y not_7 not_8 =
@@ -106,7 +120,7 @@ unfolding changed sealed
 changed-sealed plain place new x2 y2 first not_8 not_9 =
     ap (λ t. with_checksum t x2 y2) (set-with_checksum plain (place - 1) new (checksum_x plain) (checksum_y plain) (omega arith) (omega arith)) ∙ with_checksum-with_checksum (set plain (place - 1) new) (checksum_x plain) (checksum_y plain) x2 y2
 
-pub resealed : (head plain : List ℕ) (place new x2 y2 : ℕ) → Changes head place new x2 y2 → head ≡ sealed plain → changed head place new x2 y2 ≡ sealed (set plain (place - 1) new)
+resealed : (head plain : List ℕ) (place new x2 y2 : ℕ) → Changes head place new x2 y2 → head ≡ sealed plain → changed head place new x2 y2 ≡ sealed (set plain (place - 1) new)
 resealed head plain place new x2 y2 h is =
     let len : length head ≡ length plain = ap length is ∙ length-sealed plain in
     let at_least : 9 ≤ length head = h.at_least in
@@ -123,9 +137,35 @@ resealed head plain place new x2 y2 h is =
     form ∙ sealed_unique (set plain (place - 1) new) x2 y2 long x2_small y2_small (subst P form now)
 
 -- a header that is sealed has a checksum in use
-pub sealed_in_use : (head plain : List ℕ) → 9 ≤ length head → head ≡ sealed plain → (octet head 8 ≢ 0) × (octet head 9 ≢ 0)
+sealed_in_use : (head plain : List ℕ) → 9 ≤ length head → head ≡ sealed plain → (octet head 8 ≢ 0) × (octet head 9 ≢ 0)
 sealed_in_use head plain long is =
     let len : length head ≡ length plain = ap length is ∙ length-sealed plain in
     let P : List ℕ → Type 0 = λ t. IsSealed t in
     let was : IsSealed head = subst P (sym is) (sealed_is plain (omega arith)) in
     (was.octet_8, was.octet_9)
+
+-- the same with each premise by itself, as the goals of `adjust` have them
+adjust_in_use : (head : List ℕ) (place new x2 y2 : ℕ) → 9 ≤ length head → length head ≤ 254 → 1 ≤ place → place ≤ length head → place ≢ 8 → place ≢ 9 → octet head place < 256 → x2 ≡ checksum_octet (octet head 8 + (255 + place - 9) * (255 + new - octet head place)) → y2 ≡ checksum_octet (octet head 9 + (255 + 8 - place) * (255 + new - octet head place)) → KeepsSums head (with_checksum (set head (place - 1) new) x2 y2)
+unfolding changed
+adjust_in_use head place new x2 y2 at_least at_most first last not_8 not_9 known x2_is y2_is =
+    adjust_keeps head place new x2 y2 (record { at_least = at_least; at_most = at_most; first = first; last = last; not_octet_8 = not_8; not_octet_9 = not_9; known = known; octet_8 = x2_is; octet_9 = y2_is })
+
+pub adjust_right : (head : List ℕ) (place new x2 y2 : ℕ) → 9 ≤ length head → length head ≤ 254 → 1 ≤ place → place ≤ length head → place ≢ 8 → place ≢ 9 → octet head place < 256 → octet head 8 ≢ 0 → octet head 9 ≢ 0 → x2 ≡ checksum_octet (octet head 8 + (255 + place - 9) * (255 + new - octet head place)) → y2 ≡ checksum_octet (octet head 9 + (255 + 8 - place) * (255 + new - octet head place)) → (IsRight (with_checksum (set head (place - 1) new) x2 y2) → IsRight head) × (IsRight head → IsRight (with_checksum (set head (place - 1) new) x2 y2))
+adjust_right head place new x2 y2 at_least at_most first last not_8 not_9 known used_8 used_9 x2_is y2_is =
+    right_kept head (with_checksum (set head (place - 1) new) x2 y2) used_8 used_9 (adjust_in_use head place new x2 y2 at_least at_most first last not_8 not_9 known x2_is y2_is)
+
+pub adjust_resealed : (head plain : List ℕ) (place new x2 y2 : ℕ) → 9 ≤ length head → length head ≤ 254 → 1 ≤ place → place ≤ length head → place ≢ 8 → place ≢ 9 → octet head place < 256 → x2 ≡ checksum_octet (octet head 8 + (255 + place - 9) * (255 + new - octet head place)) → y2 ≡ checksum_octet (octet head 9 + (255 + 8 - place) * (255 + new - octet head place)) → head ≡ sealed plain → with_checksum (set head (place - 1) new) x2 y2 ≡ sealed (set plain (place - 1) new)
+unfolding changed
+adjust_resealed head plain place new x2 y2 at_least at_most first last not_8 not_9 known x2_is y2_is is =
+    resealed head plain place new x2 y2 (record { at_least = at_least; at_most = at_most; first = first; last = last; not_octet_8 = not_8; not_octet_9 = not_9; known = known; octet_8 = x2_is; octet_9 = y2_is }) is
+
+-- what `adjust_in_use` says, in the form that `grind` finds: the equation says nothing, and shows it the header
+pub adjust_keeps_sums : (head : List ℕ) (place new x2 y2 : ℕ) → 9 ≤ length head → length head ≤ 254 → 1 ≤ place → place ≤ length head → place ≢ 8 → place ≢ 9 → octet head place < 256 → x2 ≡ checksum_octet (octet head 8 + (255 + place - 9) * (255 + new - octet head place)) → y2 ≡ checksum_octet (octet head 9 + (255 + 8 - place) * (255 + new - octet head place)) → (with_checksum (set head (place - 1) new) x2 y2 ≡ with_checksum (set head (place - 1) new) x2 y2) × KeepsSums head (with_checksum (set head (place - 1) new) x2 y2)
+adjust_keeps_sums head place new x2 y2 at_least at_most first last not_8 not_9 known x2_is y2_is =
+    (refl, adjust_in_use head place new x2 y2 at_least at_most first last not_8 not_9 known x2_is y2_is)
+
+pub sealed_used : (plain : List ℕ) → 9 ≤ length (sealed plain) → (get_or (sealed plain) 7 0 ≢ 0) × (get_or (sealed plain) 8 0 ≢ 0)
+sealed_used plain long = sealed_in_use (sealed plain) plain long refl
+
+-- for the goals of `adjust`
+pub ruleset adjusting = (adjust_keeps_sums, adjust_right, adjust_resealed, sealed_used)

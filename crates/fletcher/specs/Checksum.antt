@@ -1,4 +1,4 @@
--- The checksum of a header (ISO/IEC 8473, RFC 994 section 6.11 and annex C; ISO 9542 makes it alike).
+-- The checksum of a header (ISO/IEC 8473, RFC 994, section 6.11 and its annex on the algorithms; ISO 9542 makes it alike).
 -- A header is the list of its octets. As the standard does, places are counted from 1; the checksum stands in octets 8 and 9.
 use Rattle.std.specs.Prelude.{◌≡◌, ◌≢◌, ℕ, ◌+◌, ◌-◌, ◌*◌, ◌%◌, ◌==◌, if◌then◌else◌, ◌⊎◌, List, [], ◌∷◌, length, sum, slice_index}
 use Rattle.std.specs.List.{slice_set}

@@ -5,6 +5,8 @@ use Rattle.fletcher.specs.Checksum.{octet, IsSealed, with_checksum, sealed}
 -- For given other octets exactly one pair of octets 8 and 9 seals a header: the pair that `sealed` writes.
 pub record IsSealedOnce (head : List ℕ) : Type 0 where
   pub exists : IsSealed (sealed head)
+  pub octet_8 : octet (sealed head) 8 < 256
+  pub octet_9 : octet (sealed head) 9 < 256
   pub unique : (x y : ℕ) → x < 256 → y < 256 → IsSealed (with_checksum head x y) → with_checksum head x y ≡ sealed head
 
 -- `other` is the same header but for octets 8 and 9

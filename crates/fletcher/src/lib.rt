@@ -1,4 +1,4 @@
-//! The header checksum of ISO/IEC 8473 (RFC 994, section 6.11): tested, made and adjusted.
+//! The header checksum of ISO/IEC 8473 (RFC 994, section 6.11 and its annex on the algorithms): tested, made and adjusted.
 //!
 //! A header is its octets, 9 to 254 of them. As the standard does, places are counted from 1;
 //! the checksum stands in octets 8 and 9. ISO 9542 (RFC 995) makes it alike.
@@ -17,17 +17,18 @@ pub fn is_right(head: &[u8]) -> bool
     requires at_most { length head.now ≤ 254 }
     ensures { IsTrue result ↔ IsRight head.now }
 {
-    if head[7] == 0 {
-        return head[8] == 0;
-    }
-    if head[8] == 0 {
-        return false;
+    if head[7] == 0 || head[8] == 0 {
+        return head[7] == head[8];
     }
     let sums = sums_of(head);
     sums.plain == 0 && sums.weighted == 0
 }
 
-/// Writes the checksum that the other octets call for into octets 8 and 9.
+/// Writes the checksum that the other octets call for into octets 8 and 9, and nothing else.
+///
+/// With C0 and C1 the sum and the weighted sum of the L octets while octets 8 and 9 are 0, octet 8 is
+/// (L - 8) * C0 - C1 and octet 9 is C1 - (L - 7) * C0, both modulo 255, where a 0 is written as 255.
+#[tactic(auto, using(crate::proofs::Writes::sealing))]
 pub fn seal(head: &mut [u8])
     requires at_least { 9 ≤ length head.old }
     requires at_most { length head.old ≤ 254 }
@@ -39,13 +40,18 @@ pub fn seal(head: &mut [u8])
     head[8] = 0;
     let sums = sums_of(head);
     let length = head.len();
+    // To take n away modulo 255 is to add 254 * n.
     head[7] = octet_of((length - 8) * sums.plain + 254 * sums.weighted);
     head[8] = octet_of(sums.weighted + 254 * ((length - 7) * sums.plain));
 }
 
 /// Writes `new` as the octet at `place`, counted from 1, and adjusts the checksum by the change
-/// alone, so that the header is right exactly where it was right before. A checksum of which an
-/// octet is 0 stays as it is.
+/// alone, so that the header is right exactly where it was right before, also where it is damaged.
+/// A checksum of which an octet is 0 stays as it is.
+///
+/// Where the octet changes by Z, octet 8 changes by (place - 9) * Z and octet 9 by (8 - place) * Z,
+/// both modulo 255, where a 0 is written as 255.
+#[tactic(auto, using(crate::proofs::Writes::adjusting))]
 pub fn adjust(head: &mut [u8], place: usize, new: u8)
     requires at_least { 9 ≤ length head.old }
     requires at_most { length head.old ≤ 254 }
@@ -67,15 +73,13 @@ pub fn adjust(head: &mut [u8], place: usize, new: u8)
     ensures resealed { (plain : List ℕ) → head.old ≡ sealed plain → head.new ≡ sealed (slice_set plain (place - 1) new) }
 {
     let old = head[place - 1];
-    head[place - 1] = new;
     let octet_8 = head[7];
     let octet_9 = head[8];
-    if octet_8 == 0 {
+    head[place - 1] = new;
+    if octet_8 == 0 || octet_9 == 0 {
         return;
     }
-    if octet_9 == 0 {
-        return;
-    }
+    // Each factor and the change have 255 added, so that none is below 0.
     let change = 255 + usize::from(new) - usize::from(old);
     head[7] = octet_of(usize::from(octet_8) + (255 + place - 9) * change);
     head[8] = octet_of(usize::from(octet_9) + (255 + 8 - place) * change);
@@ -99,7 +103,10 @@ fn sums_of(head: &[u8]) -> Sums
         plain += usize::from(*octet);
         weighted += plain;
     }
-    Sums { plain: plain % 255, weighted: weighted % 255 }
+    Sums {
+        plain: plain % 255,
+        weighted: weighted % 255,
+    }
 }
 
 /// A number modulo 255 as an octet of the checksum: 0 is written as 255.
@@ -111,3 +118,6 @@ fn octet_of(number: usize) -> u8
         residue => residue as u8,
     }
 }
+
+#[cfg(test)]
+mod tests;

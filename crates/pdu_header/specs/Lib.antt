@@ -1,3 +1,4 @@
 pub mod Value
 pub mod Spelling
 pub mod Plain
+pub mod Reading

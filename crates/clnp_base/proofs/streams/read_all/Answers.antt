@@ -1,5 +1,4 @@
 use Rattle.std.proofs.Common.{arith, length-take, refl}
-use Rattle.clnp_base.specs.Streams.{Pours, PoursAll, PoursMore}
 use Rattle.clnp_base.proofs.Pouring.{Poured-none, Poured-more, Poured-all, Poured-beyond, Poured-kept}
 use Rattle.clnp_base.proofs.streams.read_all.Goals as goal
 
@@ -32,8 +31,9 @@ pub returns-then-came-room-clause-pours : goal.returns-then-came-room-clause-pou
 returns-then-came-room-clause-pours g c = (returns-then-came-room-clause-too_long g c refl).pours
 
 pub loop-chunk-preserved : goal.loop-chunk-preserved
-loop-chunk-preserved g c =
-    (Poured-more c.loop-chunk.room c.args.limit c.in_ok-came.came c.args.into.now.items c.loop-chunk.into.items c.read_chunk.new.into.items
-     (g.S.Source.left c.args.source.now) (g.S.Source.left c.loop-chunk.source) (g.S.Source.left c.read_chunk.new.source)
-     c.loop-chunk.invariant.0 c.in_ok-came.ensures.pours c.if-came-room.false,
-     omega (arith, c.loop-chunk.invariant.1, c.in_ok-came.ensures.later))
+loop-chunk-preserved g c = (
+  Poured-more c.loop-chunk.room c.args.limit c.in_ok-came.came c.args.into.now.items c.loop-chunk.into.items c.read_chunk.new.into.items
+      (g.S.Source.left c.args.source.now) (g.S.Source.left c.loop-chunk.source) (g.S.Source.left c.read_chunk.new.source)
+      c.loop-chunk.invariant.0 c.in_ok-came.ensures.pours c.if-came-room.false,
+  omega (arith, c.loop-chunk.invariant.1, c.in_ok-came.ensures.later),
+)

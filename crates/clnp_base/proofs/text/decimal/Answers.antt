@@ -1,4 +1,4 @@
-use Rattle.std.proofs.Common.{◌≡◌, [], sym, ◌∙◌, length, ◌<◌, arith, drop}
+use Rattle.std.proofs.Common.{◌≡◌, [], sym, ◌∙◌, arith, drop}
 use Rattle.std.proofs.Math.ListN.{drop_of_length-le}
 use Rattle.std.proofs.lemmas.Bool.Decides.{nat_tests}
 use Rattle.clnp_base.proofs.Decimals.{decimal_of-stopped, decimal_of-read}

@@ -1,4 +1,4 @@
-use Rattle.std.proofs.Common.{sym, ◌∙◌, ◌<◌, length, arith, rules, ◌==◌}
+use Rattle.std.proofs.Common.{sym, ◌∙◌, arith}
 use Rattle.clnp_base.proofs.Reading.{lines_of-at, lines_of-one}
 use Rattle.std.proofs.lemmas.Bool.Decides.{nat_tests}
 use Rattle.clnp_base.proofs.text.next_line.Goals as goal

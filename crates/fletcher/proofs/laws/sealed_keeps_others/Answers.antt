@@ -1,4 +1,4 @@
-use Rattle.fletcher.proofs.ChecksumLaws.{sealed_shares, length-sealed, sealed-with_checksum}
+use Rattle.fletcher.proofs.ChecksumLaws.{sealed_shares, length-sealed, sealed_other, without_checksum-sealed, sealed-with_checksum}
 use Rattle.fletcher.proofs.laws.sealed_keeps_others.Goals as goal
 
 pub returns-clause-shape : goal.returns-clause-shape
@@ -6,6 +6,12 @@ returns-clause-shape c = sealed_shares
 
 pub returns-clause-length : goal.returns-clause-length
 returns-clause-length c = length-sealed
+
+pub returns-clause-others : goal.returns-clause-others
+returns-clause-others c = sealed_other
+
+pub returns-clause-bare : goal.returns-clause-bare
+returns-clause-bare c = without_checksum-sealed
 
 pub returns-clause-free : goal.returns-clause-free
 returns-clause-free c = sealed-with_checksum
