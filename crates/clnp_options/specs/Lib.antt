@@ -1,0 +1,9 @@
+pub mod Parameter
+pub mod Grammar
+pub mod Rules
+pub mod Edits
+pub mod View
+pub mod Tests
+pub mod Reading
+pub mod Located
+pub mod Filled

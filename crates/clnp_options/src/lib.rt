@@ -1,1 +1,19 @@
+//! The options part of a CLNP header: checked by rules with a reason and a place, read option by
+//! option, edited in place as a router does, and built (ISO/IEC 8473, sections 7.5 and 7.9.5).
 #![tactic(auto)]
+
+mod codes;
+mod edit;
+mod form;
+mod judge;
+mod kinds;
+pub mod laws;
+mod list;
+mod read;
+#[cfg(test)]
+mod tests;
+
+pub use edit::{advance_route, level, mark_congestion, record_title, route_target};
+pub use judge::{OptionRefusal, check};
+pub use kinds::{OptionRef, Options, walk};
+pub use list::{OptionList, OptionTooLong};

@@ -1,0 +1,10 @@
+pub mod Parts
+pub mod Places
+pub mod Titles
+pub mod Located
+pub mod Least
+pub mod Forms
+pub mod Agree
+pub mod Holds
+pub mod Edited
+pub mod Values

@@ -1,0 +1,80 @@
+-- Where an option's value stands in a part.
+use Rattle.std.proofs.Common.{◌≡◌, ◌∙◌, sym, ap, refl, ℕ, ◌+◌, ◌-◌, ◌≤◌, ◌<◌, ◌≢◌, List, [], ◌∷◌, ◌++◌, length, take, drop, arith, length-append, append_assoc, Option, Some, None}
+use Rattle.std.specs.Prelude.{eqb}
+use Rattle.std.proofs.Common.{inl, inr}
+use Rattle.std.proofs.lemmas.Bool.{cond-true, cond-false, cases_Bool, ne_eqb, eq-eqb, eqb-true, eqb-false}
+use Rattle.std.proofs.lemmas.List.{append-nil}
+use Rattle.clnp_options.specs.Parameter.{Parameter, spelling, spelled, parameters}
+use Rattle.clnp_options.specs.Edits.{value_of}
+use Rattle.clnp_options.specs.Located.{StandsAt}
+use Rattle.clnp_options.proofs.Parts.{spelled-append, spelled-cons, spelled-nil}
+
+-- the options before `rest` have another code
+pub record SoFar (part : List ℕ) (code : ℕ) (rest : List ℕ) : Type 0 where
+  pub before : List Parameter
+  pub octets : part ≡ spelled before ++ rest
+  pub options : parameters part ≡ before ++ parameters rest
+  pub none_before : value_of code before ≡ None
+
+pub SoFar-start : (part : List ℕ) (code : ℕ) → SoFar part code part
+unfolding spelled value_of
+SoFar-start part code = record { before = []; octets = refl; options = refl; none_before = refl }
+
+pub value_of-append : (code : ℕ) (os ps : List Parameter) → value_of code os ≡ None → value_of code (os ++ ps) ≡ value_of code ps
+unfolding value_of
+value_of-append code [] ps h = refl
+value_of-append code (o ∷ os) ps h =
+    elim (cases_Bool (eqb o.code code)) [
+      inl t ↦ absurd (some_none o.value (sym (rw t refl) ∙ h))
+    | inr f ↦ rw f (value_of-append code os ps (rw f at h))
+    ]
+  where
+    some_none : (v : List ℕ) → Some v ≡ None → ⊥
+    some_none v e = cc
+
+pub value_of-other : (code : ℕ) (o : Parameter) (os : List Parameter) → o.code ≢ code → value_of code (o ∷ os) ≡ value_of code os
+unfolding value_of
+value_of-other code o os n = cond-false _ _ _ (ne_eqb o.code code n)
+
+pub value_of-same : (code : ℕ) (o : Parameter) (os : List Parameter) → o.code ≡ code → value_of code (o ∷ os) ≡ Some o.value
+unfolding value_of
+value_of-same code o os e = cond-true _ _ _ (eq-eqb o.code code e)
+
+pub value_of-nil : (code : ℕ) → value_of code [] ≡ None
+unfolding value_of
+value_of-nil code = refl
+
+spelled_push : (before : List Parameter) (o : Parameter) (others : List ℕ) → spelled before ++ (spelling o ++ others) ≡ spelled (before ++ o ∷ []) ++ others
+spelled_push before o others =
+    sym (append_assoc (spelled before) (spelling o) others)
+    ∙ ap (λ t. t ++ others) (sym (spelled-append before (o ∷ []) ∙ ap (λ t. spelled before ++ t) (spelled-cons o [] ∙ ap (λ t. spelling o ++ t) spelled-nil ∙ append-nil (spelling o))))
+
+pub SoFar-more : (part rest others value : List ℕ) (code found : ℕ) → SoFar part code rest → rest ≡ found ∷ length value ∷ (value ++ others) → parameters rest ≡ record { code = found; value = value } ∷ parameters others → found ≢ code → SoFar part code others
+SoFar-more part rest others value code found s e o n =
+    let option : Parameter = record { code = found; value = value } in
+    record {
+      before = s.before ++ option ∷ [];
+      octets = s.octets ∙ ap (λ t. spelled s.before ++ t) e ∙ spelled_push s.before option others;
+      options = s.options ∙ ap (λ t. s.before ++ t) o ∙ sym (append_assoc s.before (option ∷ []) (parameters others));
+      none_before = value_of-append code s.before (option ∷ []) s.none_before ∙ value_of-other code option [] n ∙ value_of-nil code;
+    }
+
+pub StandsAt-found : (part rest others value : List ℕ) (code start end : ℕ) → SoFar part code rest → rest ≡ code ∷ length value ∷ (value ++ others) → parameters rest ≡ record { code = code; value = value } ∷ parameters others → end ≡ length part - length others → start ≡ end - length value → StandsAt part code start end
+StandsAt-found part rest others value code start end s e o is_end is_start =
+    let l1 = ap length s.octets in
+    let l2 = ap length e in
+    let l3 : length (value ++ others) ≡ length value + length others = length-append value others in
+    record {
+      before = s.before;
+      value = value;
+      after = others;
+      octets = s.octets ∙ ap (λ t. spelled s.before ++ t) e;
+      options = s.options ∙ ap (λ t. s.before ++ t) o;
+      none_before = s.none_before;
+      starts = omega (arith, length-append (spelled s.before) rest);
+      ends = omega (arith, length-append (spelled s.before) rest);
+    }
+
+pub SoFar-none : (part rest : List ℕ) (code : ℕ) → SoFar part code rest → parameters rest ≡ [] → value_of code (parameters part) ≡ None
+SoFar-none part rest code s e =
+    ap (value_of code) (s.options ∙ ap (λ t. s.before ++ t) e) ∙ value_of-append code s.before [] s.none_before ∙ value_of-nil code
