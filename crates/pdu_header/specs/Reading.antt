@@ -43,7 +43,7 @@ address_reading [] = None
 address_reading (n ∷ part) =
     if nat_le 1 n && nat_le n 20 && nat_le n (length part) then Some (take n part, drop n part) else None
 
--- what a plain PDU carries, and what follows it
+-- what a plain PDU carries
 pub record Parts : Type 0 where
   pub lifetime : ℕ
   pub to : List ℕ

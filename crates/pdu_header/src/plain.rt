@@ -73,11 +73,11 @@ pub fn plain_encode(
 fn fixed_part(
     alloc: Global,
     header_length: u8,
-    life: u8,
+    lifetime: u8,
     segment_length: u16,
 ) -> Result<Vec<u8>, NoMemory>
-    ensures octets { IfOk result (λ part. part.items ≡ plain_fixed_part header_length life segment_length) }
-    ensures lifetime { life < 256 }
+    ensures octets { IfOk result (λ part. part.items ≡ plain_fixed_part header_length lifetime segment_length) }
+    ensures fits { lifetime < 256 }
 {
     let mut segment_octets = [0; 2];
     BigEndian::write_u16(&mut segment_octets, segment_length);
@@ -86,7 +86,7 @@ fn fixed_part(
         PROTOCOL,
         header_length,
         VERSION,
-        life,
+        lifetime,
         PLAIN_DATA,
         high,
         low,
@@ -186,13 +186,16 @@ fn read_fixed_part(frame: &[u8]) -> Option<(FixedPart, &[u8])>
         PLAIN_DATA,
         high,
         low,
-        0,
-        0,
+        octet_8,
+        octet_9,
         part @ ..,
     ] = frame
     else {
         return None;
     };
+    if *octet_8 != 0 || *octet_9 != 0 {
+        return None;
+    }
     let fixed = FixedPart {
         header_length: *length,
         life: *life,
