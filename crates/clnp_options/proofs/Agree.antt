@@ -1,9 +1,9 @@
 -- The rules and the grammar agree on lists of options and on parts.
-use Rattle.std.proofs.Common.{◌≡◌, ◌∙◌, sym, ap, refl, ℕ, zero, suc, ◌+◌, ◌≤◌, ◌<◌, ◌↔◌, inl, inr, Bool, true, false, not, ◌&&◌, ◌||◌, ◌==◌, List, [], ◌∷◌, ◌++◌, length, get_or, arith, length-append, Option, Some, None, is_some, IsNone, IsTrue}
+use Rattle.std.proofs.Common.{◌≡◌, ◌∙◌, sym, ap, refl, ℕ, zero, suc, ◌+◌, ◌↔◌, inl, inr, Bool, true, false, not, ◌&&◌, ◌||◌, ◌==◌, List, [], ◌∷◌, ◌++◌, length, get_or, arith, length-append, Option, Some, None, is_some, IsNone, IsTrue}
 use Rattle.std.specs.Prelude.{All, Any, AllPairs}
 use Rattle.std.specs.List.{list_any, list_all}
 use Rattle.std.specs.Option.{option_or}
-use Rattle.std.proofs.lemmas.Bool.{eqb-true, eqb-false, eq-eqb, ne_eqb, and_parts, and_from, and_cases, and_left, and_right, or_cases, or_parts, or_from, or_left, or_right, not-true, not-false, not_from_true, not_from_false, cases_Bool, false≢true, true≢false, false_from_ne_true}
+use Rattle.std.proofs.lemmas.Bool.{eqb-true, eq-eqb, and_parts, and_from, and_cases, and_left, and_right, or_cases, or_parts, or_from, or_left, or_right, not-true, not-false, not_from_true, not_from_false, cases_Bool, false≢true, true≢false, false_from_ne_true}
 use Rattle.std.proofs.lemmas.List.{append-nil, nil_from_length}
 use Rattle.std.proofs.lemmas.List.Elements.{All-nil, All-cons, All-head, All-tail, All-weaker}
 use Rattle.std.proofs.lemmas.List.Folds.{Any-from_list_any, list_any-from_Any, list_any_none, list_any_at}
@@ -11,11 +11,10 @@ use Rattle.clnp_options.specs.Parameter.{Parameter, padding, reason, spelled, si
 use Rattle.clnp_options.specs.Grammar.{HasForm, AreFormed, Forms, FitsKind, Spells}
 use Rattle.clnp_options.specs.Rules.{place_of, place_of_repeat, place_of_unfit, place_of_reason, contains_code, is_unknown, has_bad_security, has_bad_route, has_bad_form, is_reason, at_rule, list_refusal, form_refusal, refusal, Accepts, IsWellFormed, AreWellFormed}
 use Rattle.clnp_options.specs.Reading.{is_readable, are_readable}
-use Rattle.clnp_options.specs.declared.judge.OptionRefusal.{OptionRefusal}
 use Rattle.clnp_options.proofs.Parts.{split_of, parameters-of_spelled}
 use Rattle.clnp_options.proofs.Places.{is_some-place_of}
-use Rattle.clnp_options.proofs.Least.{option_or-none_left, option_or-none_right, same-refusal, same-form_refusal, same-list_refusal}
-use Rattle.clnp_options.proofs.Forms.{Passes, has_form, passes}
+use Rattle.clnp_options.proofs.Least.{option_or-none_left, option_or-none_right, same-refusal, same-form_refusal}
+use Rattle.clnp_options.proofs.Forms.{has_form, passes}
 
 -- no code but padding comes twice
 abbrev pub Differs : Parameter → Parameter → Type 0
@@ -43,13 +42,14 @@ unfolding place_of_repeat
 distinct_of seen place [] h = ((λ i j d lt within. absurd (omega arith)), All-nil (IsFresh seen))
 distinct_of seen place (o ∷ os) h =
     elim (cases_Bool (not (o.code == padding) && contains_code seen o.code)) [
-      inl t ↦ absurd (true≢false (sym (rw t refl) ∙ h))
-    | inr f ↦
-        let r = distinct_of (o.code ∷ seen) (place + size_of o) os (rw f at h) in
-        (AllPairs-cons o os (All-weaker (IsFresh (o.code ∷ seen)) (Differs o) (λ q fresh e. e ∙ fresh (or_left _ _ (eq-eqb o.code q.code e))) os r.1) r.0,
-         All-cons (IsFresh seen) o os
-           (λ c. eqb-true o.code padding (elim (and_cases (not (o.code == padding)) (contains_code seen o.code) f) [ inl n ↦ not-false _ n | inr n ↦ absurd (false≢true (sym n ∙ c)) ]))
-           (All-weaker (IsFresh (o.code ∷ seen)) (IsFresh seen) (λ q fresh c. fresh (or_right _ _ c)) os r.1))
+      | inl t ↦ absurd (true≢false (sym (rw t refl) ∙ h))
+      | inr f ↦
+          let r = distinct_of (o.code ∷ seen) (place + size_of o) os (rw f at h) in (
+            AllPairs-cons o os (All-weaker (IsFresh (o.code ∷ seen)) (Differs o) (λ q fresh e. e ∙ fresh (or_left _ _ (eq-eqb o.code q.code e))) os r.1) r.0,
+            All-cons (IsFresh seen) o os
+                (λ c. eqb-true o.code padding (elim (and_cases (not (o.code == padding)) (contains_code seen o.code) f) [ inl n ↦ not-false _ n | inr n ↦ absurd (false≢true (sym n ∙ c)) ]))
+                (All-weaker (IsFresh (o.code ∷ seen)) (IsFresh seen) (λ q fresh c. fresh (or_right _ _ c)) os r.1),
+          )
     ]
 
 pub no_repeat : (seen : List ℕ) (place : ℕ) (os : List Parameter) → AllPairs Differs os → All (IsFresh seen) os → IsNone (place_of_repeat seen place os)
@@ -58,17 +58,17 @@ no_repeat seen place [] pairs fresh = refl
 no_repeat seen place (o ∷ os) pairs fresh =
     let first = All-head (IsFresh seen) o os fresh in
     let f : (not (o.code == padding) && contains_code seen o.code) ≡ false =
-      elim (cases_Bool (contains_code seen o.code)) [
-        inl c ↦ and_left _ _ (not_from_true _ (eq-eqb o.code padding (first c)))
+    elim (cases_Bool (contains_code seen o.code)) [
+      | inl c ↦ and_left _ _ (not_from_true _ (eq-eqb o.code padding (first c)))
       | inr c ↦ and_right _ _ c
-      ] in
+    ] in
     rw f (no_repeat (o.code ∷ seen) (place + size_of o) os (AllPairs-others o os pairs) (fresh_after seen o os pairs fresh))
   where
     fresh_after : (seen : List ℕ) (o : Parameter) (os : List Parameter) → AllPairs Differs (o ∷ os) → All (IsFresh seen) (o ∷ os) → All (IsFresh (o.code ∷ seen)) os
     fresh_after seen o os pairs fresh k d within c =
         elim (or_cases (o.code == (get_or os k d).code) (contains_code seen (get_or os k d).code) c) [
-          inl e ↦ let same = eqb-true o.code (get_or os k d).code e in sym same ∙ AllPairs-first o os pairs k d within same
-        | inr s ↦ All-tail (IsFresh seen) o os fresh k d within s
+          | inl e ↦ let same = eqb-true o.code (get_or os k d).code e in sym same ∙ AllPairs-first o os pairs k d within same
+          | inr s ↦ All-tail (IsFresh seen) o os fresh k d within s
         ]
 
 pub fresh_of_none : (os : List Parameter) → All (IsFresh []) os
@@ -127,17 +127,17 @@ are_well_formed os h =
     (option_or-is_none _ _ (none_at 16 0xb0 1 is_unknown os (All-weaker HasForm _ (λ o f. (passes o f).known) os h.formed))
     (option_or-is_none _ _ (none_at 17 0xb2 1 has_bad_security os (All-weaker HasForm _ (λ o f. (passes o f).security_form) os h.formed))
     (option_or-is_none _ _ (none_at 18 0x91 1 has_bad_route os (All-weaker HasForm _ (λ o f. (passes o f).route_form) os h.formed))
-                           (none_at 19 0x04 1 has_bad_form os (All-weaker HasForm _ (λ o f. (passes o f).other_forms) os h.formed)))))
+    (none_at 19 0x04 1 has_bad_form os (All-weaker HasForm _ (λ o f. (passes o f).other_forms) os h.formed)))))
 
 -- where all octets are of whole options, the part is what they spell
 pub spelled_of : (first : ℕ) (part : List ℕ) → IsNone (place_of_unfit first part) → part ≡ spelled (parameters part)
 spelled_of first part h =
     elim (cases_Bool (length (spelled (parameters part)) == length part)) [
-      inl t ↦
-        let s = split_of part in
-        let l : length s.rest ≡ 0 = omega (arith, eqb-true _ _ t, ap length s.octets_are, length-append (spelled (parameters part)) s.rest) in
-        s.octets_are ∙ ap (λ r. spelled (parameters part) ++ r) (nil_from_length s.rest l) ∙ append-nil (spelled (parameters part))
-    | inr f ↦ absurd (true≢false (sym (rw f refl) ∙ h))
+      | inl t ↦
+          let s = split_of part in
+          let l : length s.rest ≡ 0 = omega (arith, eqb-true _ _ t, ap length s.octets_are, length-append (spelled (parameters part)) s.rest) in
+          s.octets_are ∙ ap (λ r. spelled (parameters part) ++ r) (nil_from_length s.rest l) ∙ append-nil (spelled (parameters part))
+      | inr f ↦ absurd (true≢false (sym (rw f refl) ∙ h))
     ]
 
 pub fits : (first : ℕ) (part : List ℕ) → part ≡ spelled (parameters part) → IsNone (place_of_unfit first part)
@@ -158,8 +158,8 @@ unfolding form_refusal
 well_formed_from os part h =
     let e = parameters-Forms os part h.octets in
     option_or-is_none _ _
-      (at_rule-is_none 14 0x04 (place_of_unfit 1 part) (fits 1 part (h.octets ∙ ap spelled (sym e))))
-      (rw e (are_well_formed os h.formed))
+    (at_rule-is_none 14 0x04 (place_of_unfit 1 part) (fits 1 part (h.octets ∙ ap spelled (sym e))))
+    (rw e (are_well_formed os h.formed))
 
 -- a reason for discard in a report and in no other PDU
 pub fits_kind_of : (is_report : Bool) (os : List Parameter) → IsNone (place_of_reason is_report 1 os) → FitsKind is_report os
@@ -167,6 +167,7 @@ fits_kind_of true os h = ((λ _. any_reason os (some_reason os h)), (λ _. refl)
   where
     some_reason : (os : List Parameter) → IsNone (place_of_reason true 1 os) → list_any is_reason os ≡ true
     some_reason os h = elim (cases_Bool (list_any is_reason os)) [ inl t ↦ t | inr f ↦ absurd (true≢false (sym (rw f refl) ∙ h)) ]
+
     any_reason : (os : List Parameter) → list_any is_reason os ≡ true → Any (λ o. o.code ≡ reason) os
     any_reason os t = let a = Any-from_list_any is_reason os t in (a.0, a.1, a.2, a.3, eqb-true _ reason a.4)
 fits_kind_of false os h =
@@ -194,8 +195,8 @@ pub accepts_from : (is_report : Bool) (os : List Parameter) (part : List ℕ) �
 unfolding refusal
 accepts_from is_report os part h =
     option_or-is_none _ _
-      (well_formed_from os part (record { octets = h.octets; formed = h.formed }))
-      (at_rule-is_none 20 0x04 (place_of_reason is_report 1 (parameters part)) (rw (parameters-Forms os part h.octets) (reason_fits is_report os h.kind)))
+    (well_formed_from os part (record { octets = h.octets; formed = h.formed }))
+    (at_rule-is_none 20 0x04 (place_of_reason is_report 1 (parameters part)) (rw (parameters-Forms os part h.octets) (reason_fits is_report os h.kind)))
 
 pub accepted_anywhere : (is_report : Bool) (part : List ℕ) (first : ℕ) → (refusal part first is_report ≡ None) ↔ Accepts is_report part
 accepted_anywhere is_report part first =

@@ -1,15 +1,15 @@
 -- A part in which the value of one option was changed.
-use Rattle.std.proofs.Common.{◌≡◌, ◌∙◌, sym, ap, subst, refl, ℕ, zero, suc, ◌+◌, ◌-◌, ◌≤◌, ◌<◌, ◌≢◌, inl, inr, Bool, true, false, ◌||◌, List, [], ◌∷◌, ◌++◌, map, length, take, drop, get_or, arith, length-append, append_assoc, Option, Some, None, is_some, IsNone, IsSome}
+use Rattle.std.proofs.Common.{◌≡◌, ◌∙◌, sym, ap, subst, refl, ℕ, ◌+◌, ◌-◌, ◌≤◌, ◌≢◌, inl, inr, Bool, true, false, ◌||◌, List, [], ◌∷◌, ◌++◌, map, length, take, drop, get_or, arith, length-append, append_assoc, Some, None, is_some, IsNone, IsSome}
 use Rattle.std.specs.Option.{option_and_then}
 use Rattle.std.specs.Prelude.{All, AllPairs, eqb}
 use Rattle.std.specs.List.{list_any}
-use Rattle.std.proofs.lemmas.Bool.{cond-true, cond-false, cases_Bool, true≢false, eq-eqb, ne_eqb, eqb-true, eqb-false}
+use Rattle.std.proofs.lemmas.Bool.{cases_Bool, true≢false, eq-eqb, eqb-true}
 use Rattle.std.proofs.lemmas.List.{map-append, length-map, get_or_append_left, get_or-append-add, append_cancel_left, take_at, drop_at}
 use Rattle.std.proofs.lemmas.List.Elements.{All-append, All-cons, All-head, All-tail}
 use Rattle.std.proofs.Math.ListN.{get_or-map}
-use borrow.Rule.Slice.PartMut.{put_mid, mid_of}
+use borrow.Rule.Slice.PartMut.{put_mid}
 use Rattle.clnp_options.specs.Parameter.{Parameter, padding, source_route, recording, quality, reason, spelling, spelled, parameters}
-use Rattle.clnp_options.specs.Grammar.{IsTitle, IsSourceRoute, IsRecording, HasForm, AreFormed, Forms, FitsKind, Spells}
+use Rattle.clnp_options.specs.Grammar.{IsTitle, IsSourceRoute, IsRecording, HasForm, AreFormed}
 use Rattle.clnp_options.specs.Rules.{place_of_reason, is_reason, Accepts, IsWellFormed}
 use Rattle.clnp_options.specs.Edits.{edited, value_of, pointer_of, title_at, target_of, advanced, recorded, marked}
 use Rattle.clnp_options.specs.Located.{StandsAt}
@@ -28,8 +28,8 @@ unfolding edited value_of
 edited-none code change [] h = refl
 edited-none code change (o ∷ os) h =
     elim (cases_Bool (eqb o.code code)) [
-      inl t ↦ absurd (some_none o.value (sym (rw t refl) ∙ h))
-    | inr f ↦ rw f (ap (λ t. o ∷ t) (edited-none code change os (rw f at h)))
+      | inl t ↦ absurd (some_none o.value (sym (rw t refl) ∙ h))
+      | inr f ↦ rw f (ap (λ t. o ∷ t) (edited-none code change os (rw f at h)))
     ]
 
 edited-append : (code : ℕ) (change : List ℕ → List ℕ) (os ps : List Parameter) → edited code change (os ++ ps) ≡ edited code change os ++ edited code change ps
@@ -65,7 +65,7 @@ pub none_after : (part : List ℕ) (code start end : ℕ) (s : StandsAt part cod
 none_after part code start end s w n =
     let option : Parameter = record { code = code; value = s.value } in
     let pairs : AllPairs Differs (s.before ++ option ∷ parameters s.after) =
-      let P : List Parameter → Type 0 = AllPairs Differs in subst P s.options (forms_of part w).formed.distinct in
+    let P : List Parameter → Type 0 = AllPairs Differs in subst P s.options (forms_of part w).formed.distinct in
     let first = AllPairs-first option (parameters s.after) (pairs_behind s.before (option ∷ parameters s.after) pairs) in
     value_of-none code (parameters s.after) (λ k d within e. n (first k d within (sym e)))
 
@@ -73,7 +73,7 @@ pub form_at : (part : List ℕ) (code start end : ℕ) (s : StandsAt part code s
 form_at part code start end s w =
     let option : Parameter = record { code = code; value = s.value } in
     let all : All HasForm (s.before ++ option ∷ parameters s.after) =
-      let P : List Parameter → Type 0 = All HasForm in subst P s.options (forms_of part w).formed.formed in
+    let P : List Parameter → Type 0 = All HasForm in subst P s.options (forms_of part w).formed.formed in
     All-head HasForm option (parameters s.after) (all_behind HasForm s.before (option ∷ parameters s.after) all)
 
 pub value_of-at : (part : List ℕ) (code start end : ℕ) (s : StandsAt part code start end) → value_of code (parameters part) ≡ Some s.value
@@ -119,16 +119,16 @@ pub octets-edited : (part : List ℕ) (code start end : ℕ) (s : StandsAt part 
 octets-edited part code start end s change value w n e l =
     let option : Parameter = record { code = code; value = change s.value } in
     let front : take start part ≡ spelled s.before ++ (code ∷ length s.value ∷ []) =
-      ap (take start) (front_of part code start end s) ∙ take_at (spelled s.before ++ (code ∷ length s.value ∷ [])) (s.value ++ s.after) start (front_length part code start end s) in
+    ap (take start) (front_of part code start end s) ∙ take_at (spelled s.before ++ (code ∷ length s.value ∷ [])) (s.value ++ s.after) start (front_length part code start end s) in
     let size : end - start ≡ length s.value = let ends = s.ends in omega arith in
     let back : drop (end - start) (drop start part) ≡ s.after =
-      ap (λ t. drop (end - start) (drop start t)) (front_of part code start end s)
-      ∙ ap (drop (end - start)) (drop_at (spelled s.before ++ (code ∷ length s.value ∷ [])) (s.value ++ s.after) start (front_length part code start end s))
-      ∙ drop_at s.value s.after (end - start) (sym size) in
+    ap (λ t. drop (end - start) (drop start t)) (front_of part code start end s)
+    ∙ ap (drop (end - start)) (drop_at (spelled s.before ++ (code ∷ length s.value ∷ [])) (s.value ++ s.after) start (front_length part code start end s))
+    ∙ drop_at s.value s.after (end - start) (sym size) in
     let whole : spelled (edited code change (parameters part)) ≡ spelled s.before ++ (spelling option ++ s.after) =
-      ap spelled (edited-at part code start end s change w n)
-      ∙ spelled-append s.before (option ∷ parameters s.after)
-      ∙ ap (λ t. spelled s.before ++ t) (spelled-cons option (parameters s.after) ∙ ap (λ t. spelling option ++ t) (sym (after_spelled part code start end s w))) in
+    ap spelled (edited-at part code start end s change w n)
+    ∙ spelled-append s.before (option ∷ parameters s.after)
+    ∙ ap (λ t. spelled s.before ++ t) (spelled-cons option (parameters s.after) ∙ ap (λ t. spelling option ++ t) (sym (after_spelled part code start end s w))) in
     rw (front, back, e, ← l) (append_assoc (spelled s.before) (code ∷ length (change s.value) ∷ []) (change s.value ++ s.after)) ∙ sym whole
 
 codes_of : List Parameter → List ℕ
@@ -158,15 +158,15 @@ unfolding codes_of edited
 codes_of-edited code change [] = refl
 codes_of-edited code change (o ∷ os) =
     elim (cases_Bool (eqb o.code code)) [
-      inl t ↦ rw t (ap (λ c. c ∷ codes_of (edited code change os)) (sym (eqb-true o.code code t)) ∙ ap (λ cs. o.code ∷ cs) (codes_of-edited code change os))
-    | inr f ↦ rw f (ap (λ t. o.code ∷ t) (codes_of-edited code change os))
+      | inl t ↦ rw t (ap (λ c. c ∷ codes_of (edited code change os)) (sym (eqb-true o.code code t)) ∙ ap (λ cs. o.code ∷ cs) (codes_of-edited code change os))
+      | inr f ↦ rw f (ap (λ t. o.code ∷ t) (codes_of-edited code change os))
     ]
 
 kind_by_codes : (is_report : Bool) (os ps : List Parameter) → list_any is_reason os ≡ list_any is_reason ps → IsNone (place_of_reason is_report 1 os) → IsNone (place_of_reason is_report 1 ps)
 kind_by_codes true os ps e h =
     elim (cases_Bool (list_any is_reason ps)) [
-      inl t ↦ rw t refl
-    | inr f ↦ absurd (true≢false (sym (rw (e, f) refl) ∙ h))
+      | inl t ↦ rw t refl
+      | inr f ↦ absurd (true≢false (sym (rw (e, f) refl) ∙ h))
     ]
 kind_by_codes false os ps e h = is_some-place_of is_reason 1 ps ∙ sym e ∙ sym (is_some-place_of is_reason 1 os) ∙ h
 
@@ -183,12 +183,12 @@ IsEdited-from old new code change e formed = record {
   options = ap parameters e ∙ parameters-of_spelled (edited code change (parameters old));
   well_formed = well_formed_from (edited code change (parameters old)) new (record { octets = e; formed = formed });
   accepted = λ is_report h.
-    accepts_from is_report (edited code change (parameters old)) new
+      accepts_from is_report (edited code change (parameters old)) new
       (record {
         octets = e;
         formed = formed;
         kind = fits_kind_of is_report (edited code change (parameters old))
-          (kind_by_codes is_report (parameters old) (edited code change (parameters old))
+            (kind_by_codes is_report (parameters old) (edited code change (parameters old))
             (sym (reason_by_codes (edited code change (parameters old)) (parameters old) (codes_of-edited code change (parameters old))))
             (reason_fits is_report (parameters old) (spells_of is_report old h).kind));
       });
@@ -212,13 +212,13 @@ IsEdited-at part code start end s change value w n e l form =
     let all : All HasForm (s.before ++ old ∷ parameters s.after) = let P : List Parameter → Type 0 = All HasForm in subst P s.options f.formed in
     let others : All HasForm (parameters s.after) = All-tail HasForm old (parameters s.after) (all_behind HasForm s.before (old ∷ parameters s.after) all) in
     let formed : All HasForm (s.before ++ new ∷ parameters s.after) =
-      All-append HasForm s.before (new ∷ parameters s.after) (all_front HasForm s.before (old ∷ parameters s.after) all) (All-cons HasForm new (parameters s.after) form others) in
+    All-append HasForm s.before (new ∷ parameters s.after) (all_front HasForm s.before (old ∷ parameters s.after) all) (All-cons HasForm new (parameters s.after) form others) in
     IsEdited-from part (put_mid start (end - start) part value) code change
-      (octets-edited part code start end s change value w n e l)
-      (record {
-        formed = let P : List Parameter → Type 0 = All HasForm in subst P (sym is) formed;
-        distinct = pairs_by_codes (parameters part) (edited code change (parameters part)) (sym (codes_of-edited code change (parameters part))) f.distinct;
-      })
+    (octets-edited part code start end s change value w n e l)
+    (record {
+      formed = let P : List Parameter → Type 0 = All HasForm in subst P (sym is) formed;
+      distinct = pairs_by_codes (parameters part) (edited code change (parameters part)) (sym (codes_of-edited code change (parameters part))) f.distinct;
+    })
 
 -- the three edits
 pub marked_part : (part : List ℕ) (start end : ℕ) (value : List ℕ) → StandsAt part quality start end → IsWellFormed part → value ≡ marked (take (end - start) (drop start part)) → IsEdited part (put_mid start (end - start) part value) quality marked
@@ -257,7 +257,7 @@ advanced_part part start end value s w target e =
     let here = value_at part source_route start end s in
     let within : pointer_of s.value ≤ length s.value = let P : List ℕ → Type 0 = λ v. pointer_of v ≤ length v in subst P here (target_leads part start end s target) in
     IsEdited-at part source_route start end s advanced value w n (e ∙ ap advanced here) (length-advanced s.value)
-      (route_form_of (advanced s.value) (advanced_form s.value ((form_at part source_route start end s w).source_route_form refl) within))
+    (route_form_of (advanced s.value) (advanced_form s.value ((form_at part source_route start end s w).source_route_form refl) within))
 
 pub recorded_part : (part : List ℕ) (start end : ℕ) (title value : List ℕ) → StandsAt part recording start end → IsWellFormed part → IsTitle title → value ≡ recorded title (take (end - start) (drop start part)) → IsEdited part (put_mid start (end - start) part value) recording (recorded title)
 recorded_part part start end title value s w it e =

@@ -1,12 +1,11 @@
 -- The forms of values: the tests of the rules and the relations of the grammar agree.
-use Rattle.std.proofs.Common.{◌≡◌, ◌∙◌, sym, ap, refl, ℕ, zero, suc, ◌+◌, ◌-◌, ◌≤◌, ◌<◌, ◌⊎◌, ◌↔◌, inl, inr, Bool, true, false, not, ◌&&◌, ◌||◌, ◌==◌, List, [], ◌∷◌, ◌++◌, length, take, drop, get_or, arith, length-append}
+use Rattle.std.proofs.Common.{◌≡◌, ◌∙◌, sym, ap, refl, ℕ, ◌+◌, ◌-◌, ◌≤◌, ◌<◌, ◌⊎◌, inl, inr, Bool, true, false, not, ◌&&◌, ◌||◌, ◌==◌, List, ◌++◌, length, take, drop, get_or, arith, length-append}
 use Rattle.std.specs.Prelude.{All, Contains, nat_le, nat_lt}
-use Rattle.std.specs.List.{list_any}
-use Rattle.std.proofs.lemmas.Bool.{leb-true, leb-false, ltb-true, ltb-false, eqb-true, eqb-false, le-leb, lt-ltb, le-ltb, eq-eqb, ne_eqb, and_parts, and_from, and_cases, and_left, and_right, or_cases, or_parts, or_from, or_left, or_right, not-true, not-false, not_from_true, not_from_false, cases_Bool, false≢true, true≢false}
-use Rattle.std.proofs.lemmas.List.{take_all, length-take, length-take-le, length-drop, take-append-drop, take_at, get_or_default}
+use Rattle.std.proofs.lemmas.Bool.{leb-true, ltb-true, ltb-false, eqb-true, eqb-false, le-leb, lt-ltb, le-ltb, eq-eqb, ne_eqb, and_parts, and_from, and_cases, and_left, and_right, or_cases, or_parts, or_from, or_left, or_right, not-false, not_from_true, cases_Bool, false≢true}
+use Rattle.std.proofs.lemmas.List.{length-take-le, length-drop, take-append-drop, take_at, get_or_default}
 use Rattle.std.proofs.lemmas.List.Elements.{All-take}
 use Rattle.std.proofs.lemmas.List.Folds.{Any-from_list_any, list_any-from_Any}
-use Rattle.clnp_options.specs.Parameter.{Parameter, padding, security, source_route, recording, quality, priority, reason, known_codes}
+use Rattle.clnp_options.specs.Parameter.{Parameter, security, source_route, recording, quality, priority, reason, known_codes}
 use Rattle.clnp_options.specs.Grammar.{IsTitle, joined, IsPlaceOfTitle, HasFormat, IsSourceRoute, IsRecorded, IsRecording, HasForm}
 use Rattle.clnp_options.specs.Rules.{are_titles, has_kind, is_after_titles, is_source_route, is_recording, lacks_format, contains_code, is_unknown, has_bad_security, has_bad_route, has_bad_form}
 use Rattle.clnp_options.proofs.Titles.{are_titles-joined, joined_of, front_of_titles, joined-take}
@@ -19,8 +18,8 @@ bad_only_at code rule_code bad h e =
 pub good_at : (code rule_code : ℕ) (bad : Bool) → (code ≡ rule_code → bad ≡ false) → (code == rule_code && bad) ≡ false
 good_at code rule_code bad h =
     elim (cases_Bool (code == rule_code)) [
-      inl k ↦ and_right (code == rule_code) bad (h (eqb-true code rule_code k))
-    | inr k ↦ and_left (code == rule_code) bad k
+      | inl k ↦ and_right (code == rule_code) bad (h (eqb-true code rule_code k))
+      | inr k ↦ and_left (code == rule_code) bad k
     ]
 
 pub has_format : (value : List ℕ) → lacks_format value ≡ false → HasFormat value
@@ -75,25 +74,25 @@ source_route_of value h =
     pointer_of_route : (value : List ℕ) (titles : List (List ℕ)) → All IsTitle titles → drop 2 value ≡ joined titles → 2 ≤ length value → (nat_lt (length value) (get_or value 1 0) || is_after_titles value (get_or value 1 0)) ≡ true → (length value < get_or value 1 0) ⊎ IsPlaceOfTitle titles (get_or value 1 0)
     pointer_of_route value titles each filled long h =
         elim (cases_Bool (nat_lt (length value) (get_or value 1 0))) [
-          inl k ↦ inl (ltb-true (length value) (get_or value 1 0) k)
-        | inr k ↦
-            let within = ltb-false (length value) (get_or value 1 0) k in
-            let after = elim (or_cases (nat_lt (length value) (get_or value 1 0)) (is_after_titles value (get_or value 1 0)) h) as (λ _. is_after_titles value (get_or value 1 0) ≡ true) [ inl m ↦ absurd (false≢true (sym k ∙ m)) | inr m ↦ m ] in
-            let a = after_titles_parts value (get_or value 1 0) after in
-            let below : get_or value 1 0 - 3 < length (joined titles) = omega (arith, ap length filled, length-drop 2 value, a.0) in
-            let r = front_of_titles titles (get_or value 1 0 - 3) each below (ap (λ t. are_titles (take (get_or value 1 0 - 3) t)) (sym filled) ∙ a.1) in
-            inr (r.0, r.1, omega (arith, r.2, a.0))
+          | inl k ↦ inl (ltb-true (length value) (get_or value 1 0) k)
+          | inr k ↦
+              let within = ltb-false (length value) (get_or value 1 0) k in
+              let after = elim (or_cases (nat_lt (length value) (get_or value 1 0)) (is_after_titles value (get_or value 1 0)) h) as (λ _. is_after_titles value (get_or value 1 0) ≡ true) [ inl m ↦ absurd (false≢true (sym k ∙ m)) | inr m ↦ m ] in
+              let a = after_titles_parts value (get_or value 1 0) after in
+              let below : get_or value 1 0 - 3 < length (joined titles) = omega (arith, ap length filled, length-drop 2 value, a.0) in
+              let r = front_of_titles titles (get_or value 1 0 - 3) each below (ap (λ t. are_titles (take (get_or value 1 0 - 3) t)) (sym filled) ∙ a.1) in
+              inr (r.0, r.1, omega (arith, r.2, a.0))
         ]
 
 pub source_route_from : (value : List ℕ) → IsSourceRoute value → is_source_route value ≡ true
 source_route_from value h =
     and_from _ _
-      (and_from _ _ (kind_from value h.long h.kind) (ap are_titles h.filled ∙ are_titles-joined h.titles h.each))
-      (elim h.pointer [
-        inl k ↦ or_left _ _ (lt-ltb (length value) (get_or value 1 0) k)
+    (and_from _ _ (kind_from value h.long h.kind) (ap are_titles h.filled ∙ are_titles-joined h.titles h.each))
+    (elim h.pointer [
+      | inl k ↦ or_left _ _ (lt-ltb (length value) (get_or value 1 0) k)
       | inr k ↦ or_right _ _
           (after_titles_from value (get_or value 1 0) (take k.0 h.titles) (joined (drop k.0 h.titles)) (All-take IsTitle k.0 h.titles h.each) (h.filled ∙ joined-take k.0 h.titles) k.2)
-      ])
+    ])
 
 pub recorded_of : (value : List ℕ) → 2 ≤ length value → get_or value 1 0 ≤ length value + 1 → is_after_titles value (get_or value 1 0) ≡ true → IsRecorded value
 recorded_of value long within h =
@@ -116,25 +115,25 @@ recording_of value h =
       long = kind.0;
       kind = kind.1;
       pointer =
-        elim (or_cases (get_or value 1 0 == 255) (nat_le (get_or value 1 0) (length value + 1) && is_after_titles value (get_or value 1 0)) p.1) [
-          inl k ↦ inl (eqb-true (get_or value 1 0) 255 k)
-        | inr k ↦ let q = and_parts (nat_le (get_or value 1 0) (length value + 1)) (is_after_titles value (get_or value 1 0)) k in inr (recorded_of value kind.0 (leb-true _ _ q.0) q.1)
-        ];
+          elim (or_cases (get_or value 1 0 == 255) (nat_le (get_or value 1 0) (length value + 1) && is_after_titles value (get_or value 1 0)) p.1) [
+            | inl k ↦ inl (eqb-true (get_or value 1 0) 255 k)
+            | inr k ↦ let q = and_parts (nat_le (get_or value 1 0) (length value + 1)) (is_after_titles value (get_or value 1 0)) k in inr (recorded_of value kind.0 (leb-true _ _ q.0) q.1)
+          ];
     }
 
 pub recording_from : (value : List ℕ) → IsRecording value → is_recording value ≡ true
 recording_from value h =
     and_from _ _ (kind_from value h.long h.kind)
-      (elim h.pointer [
-        inl k ↦ or_left _ _ (eq-eqb (get_or value 1 0) 255 k)
+    (elim h.pointer [
+      | inl k ↦ or_left _ _ (eq-eqb (get_or value 1 0) 255 k)
       | inr k ↦
           let long = h.long in
           let at = k.pointer in
           or_right _ _
           (and_from _ _
-            (le-leb (get_or value 1 0) (length value + 1) (omega (arith, ap length k.filled, length-append (joined k.titles) k.room, length-drop 2 value)))
-            (after_titles_from value (get_or value 1 0) k.titles k.room k.each k.filled k.pointer))
-      ])
+          (le-leb (get_or value 1 0) (length value + 1) (omega (arith, ap length k.filled, length-append (joined k.titles) k.room, length-drop 2 value)))
+          (after_titles_from value (get_or value 1 0) k.titles k.room k.each k.filled k.pointer))
+    ])
 
 -- an option that no rule for one option picks
 pub record Passes (option : Parameter) : Type 0 where
@@ -181,11 +180,11 @@ passes option h = record {
   security_form = good_at option.code security _ (λ e. format_kept option.value (h.security_form e));
   route_form = good_at option.code source_route _ (λ e. not_from_true _ (source_route_from option.value (h.source_route_form e)));
   other_forms =
-    or_from _ _
+      or_from _ _
       (or_from _ _
-        (or_from _ _
-          (good_at option.code recording _ (λ e. not_from_true _ (recording_from option.value (h.recording_form e))))
-          (good_at option.code quality _ (λ e. format_kept option.value (h.quality_form e))))
-        (good_at option.code priority _ (λ e. not_from_true _ (eq-eqb (length option.value) 1 (h.priority_form e)))))
+      (or_from _ _
+      (good_at option.code recording _ (λ e. not_from_true _ (recording_from option.value (h.recording_form e))))
+      (good_at option.code quality _ (λ e. format_kept option.value (h.quality_form e))))
+      (good_at option.code priority _ (λ e. not_from_true _ (eq-eqb (length option.value) 1 (h.priority_form e)))))
       (good_at option.code reason _ (λ e. not_from_true _ (eq-eqb (length option.value) 2 (h.reason_form e))));
 }

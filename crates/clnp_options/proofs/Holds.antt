@@ -1,13 +1,13 @@
 -- The octets of a list of options, with zeros behind them.
 use Rattle.std.proofs.Common.{◌≡◌, ◌∙◌, sym, ap, subst, refl, ℕ, ◌+◌, ◌-◌, ◌≤◌, List, [], ◌∷◌, ◌++◌, length, take, drop, replicate, arith, length-append, append_assoc}
-use Rattle.std.proofs.lemmas.List.{append-nil, length-take-le, take-append-drop, take_at, drop_at, length-replicate, drop-replicate}
+use Rattle.std.proofs.lemmas.List.{append-nil, take_at, drop_at, length-replicate, drop-replicate}
 use Rattle.std.proofs.Math.Seq.{drop-append-add}
 use Rattle.clnp_options.specs.Parameter.{Parameter, spelling, spelled, parameters}
 use Rattle.clnp_options.specs.Grammar.{Forms}
 use Rattle.clnp_options.specs.Rules.{IsWellFormed, AreWellFormed}
 use Rattle.clnp_options.specs.Filled.{IsFilled, length-front, octets_again}
-use Rattle.clnp_options.proofs.Parts.{spelled-append, spelled-cons, spelled-nil, parameters-nil, parameters-of_spelled}
-use Rattle.clnp_options.proofs.Agree.{forms_of, well_formed_from, are_formed, well_formed_anywhere}
+use Rattle.clnp_options.proofs.Parts.{spelled-append, spelled-cons, spelled-nil, parameters-of_spelled}
+use Rattle.clnp_options.proofs.Agree.{forms_of, well_formed_from, are_formed}
 
 pub record Holds (xs octets : List ℕ) : Type 0 where
   pub within : length xs ≤ 254
@@ -37,10 +37,10 @@ pub Holds-write : (xs old piece new : List ℕ) (at : ℕ) → Holds xs old → 
 Holds-write xs old piece new at h e room n =
     let front : take at old ≡ xs = ap (take at) h.octets_are ∙ take_at xs (replicate (254 - length xs) 0) at (sym e) in
     let back : drop (at + length piece) old ≡ replicate (254 - length xs - length piece) 0 =
-      ap (drop (at + length piece)) h.octets_are
-      ∙ ap (λ k. drop (k + length piece) (xs ++ replicate (254 - length xs) 0)) e
-      ∙ drop-append-add xs (replicate (254 - length xs) 0) (length piece)
-      ∙ drop-replicate (length piece) (254 - length xs) 0 in
+    ap (drop (at + length piece)) h.octets_are
+    ∙ ap (λ k. drop (k + length piece) (xs ++ replicate (254 - length xs) 0)) e
+    ∙ drop-append-add xs (replicate (254 - length xs) 0) (length piece)
+    ∙ drop-replicate (length piece) (254 - length xs) 0 in
     let left : 254 - length xs - length piece ≡ 254 - length (xs ++ piece) = omega (arith, length-append xs piece) in
     record {
       within = omega (arith, length-append xs piece);
@@ -98,12 +98,12 @@ three_writes len code list octets front back one two three filled view room soun
     let l2 : len + 2 + length front ≡ length (take len octets ++ (code ∷ (length front + length back) ∷ []) ++ front) = omega (arith, l1, length-append (take len octets ++ (code ∷ (length front + length back) ∷ [])) front) in
     let h3 = Holds-write (take len octets ++ (code ∷ (length front + length back) ∷ []) ++ front) two back three (len + 2 + length front) h2 l2 (omega arith) e3 in
     let whole : take len octets ++ (code ∷ (length front + length back) ∷ []) ++ front ++ back ≡ list ++ spelling option =
-      append_assoc (take len octets ++ (code ∷ (length front + length back) ∷ [])) front back
-      ∙ append_assoc (take len octets) (code ∷ (length front + length back) ∷ []) (front ++ back)
-      ∙ rw (view, size) refl in
+    append_assoc (take len octets ++ (code ∷ (length front + length back) ∷ [])) front back
+    ∙ append_assoc (take len octets) (code ∷ (length front + length back) ∷ []) (front ++ back)
+    ∙ rw (view, size) refl in
     let held : Holds (list ++ spelling option) three = let P : List ℕ → Type 0 = λ xs. Holds xs three in subst P whole h3 in
     let l3 : len + 2 + (length front + length back) ≡ length (list ++ spelling option) =
-      omega (arith, l2, length-append (take len octets ++ (code ∷ (length front + length back) ∷ []) ++ front) back) ∙ ap length whole in
+    omega (arith, l2, length-append (take len octets ++ (code ∷ (length front + length back) ∷ []) ++ front) back) ∙ ap length whole in
     let w : IsWellFormed list = let P : List ℕ → Type 0 = IsWellFormed in subst P view filled.well_formed in
     let seen : take (len + 2 + (length front + length back)) three ≡ list ++ spelling option = ap (λ n. take n three) l3 ∙ Holds-front (list ++ spelling option) three held in
     record {

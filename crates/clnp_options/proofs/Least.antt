@@ -1,7 +1,6 @@
 -- The least broken rule, and that whether one is broken does not depend on where the part begins.
 use Rattle.std.proofs.Common.{◌≡◌, ◌∙◌, sym, ap, refl, ℕ, ◌+◌, Bool, true, false, not, ◌&&◌, ◌==◌, inl, inr, List, [], ◌∷◌, length, Option, Some, None, is_some, IsNone, Result, Ok, Err, IsOk, OnOk, ◌↔◌}
 use Rattle.std.specs.Option.{option_or}
-use Rattle.std.specs.List.{list_any}
 use Rattle.std.proofs.lemmas.Bool.{cases_Bool, true≢false, false≢true}
 use Rattle.clnp_options.specs.Parameter.{Parameter, padding, spelled, size_of, parameters}
 use Rattle.clnp_options.specs.Rules.{place_of, place_of_repeat, place_of_unfit, place_of_reason, is_unknown, has_bad_security, has_bad_route, has_bad_form, is_reason, at_rule, list_refusal, form_refusal, refusal, contains_code, Gives, Accepts, IsWellFormed}
@@ -38,15 +37,15 @@ unfolding place_of_repeat
 same-place_of_repeat seen p q [] = refl
 same-place_of_repeat seen p q (o ∷ os) =
     elim (cases_Bool (not (o.code == padding) && contains_code seen o.code)) [
-      inl h ↦ rw (h) refl
-    | inr h ↦ rw (h) (same-place_of_repeat (o.code ∷ seen) (p + size_of o) (q + size_of o) os)
+      | inl h ↦ rw (h) refl
+      | inr h ↦ rw (h) (same-place_of_repeat (o.code ∷ seen) (p + size_of o) (q + size_of o) os)
     ]
 
 pub same-place_of_unfit : (p q : ℕ) (part : List ℕ) → is_some (place_of_unfit p part) ≡ is_some (place_of_unfit q part)
 same-place_of_unfit p q part =
     elim (cases_Bool (length (spelled (parameters part)) == length part)) [
-      inl h ↦ rw (h) refl
-    | inr h ↦ rw (h) refl
+      | inl h ↦ rw (h) refl
+      | inr h ↦ rw (h) refl
     ]
 
 pub same-place_of_reason : (is_report : Bool) (p q : ℕ) (os : List Parameter) → is_some (place_of_reason is_report p os) ≡ is_some (place_of_reason is_report q os)
@@ -60,7 +59,7 @@ same-list_refusal p q os =
     (is_some-option_or _ _ _ _ (is_some-at_rule 16 0xb0 _ _ (same-place_of is_unknown p q os))
     (is_some-option_or _ _ _ _ (is_some-at_rule 17 0xb2 _ _ (same-place_of has_bad_security p q os))
     (is_some-option_or _ _ _ _ (is_some-at_rule 18 0x91 _ _ (same-place_of has_bad_route p q os))
-                               (is_some-at_rule 19 0x04 _ _ (same-place_of has_bad_form p q os)))))
+    (is_some-at_rule 19 0x04 _ _ (same-place_of has_bad_form p q os)))))
 
 pub same-form_refusal : (p q : ℕ) (part : List ℕ) → is_some (form_refusal p part) ≡ is_some (form_refusal q part)
 unfolding form_refusal

@@ -1,8 +1,8 @@
 -- Where an option's value stands in a part.
-use Rattle.std.proofs.Common.{◌≡◌, ◌∙◌, sym, ap, refl, ℕ, ◌+◌, ◌-◌, ◌≤◌, ◌<◌, ◌≢◌, List, [], ◌∷◌, ◌++◌, length, take, drop, arith, length-append, append_assoc, Option, Some, None}
+use Rattle.std.proofs.Common.{◌≡◌, ◌∙◌, sym, ap, refl, ℕ, ◌+◌, ◌-◌, ◌≢◌, List, [], ◌∷◌, ◌++◌, length, arith, length-append, append_assoc, Some, None}
 use Rattle.std.specs.Prelude.{eqb}
 use Rattle.std.proofs.Common.{inl, inr}
-use Rattle.std.proofs.lemmas.Bool.{cond-true, cond-false, cases_Bool, ne_eqb, eq-eqb, eqb-true, eqb-false}
+use Rattle.std.proofs.lemmas.Bool.{cond-true, cond-false, cases_Bool, ne_eqb, eq-eqb}
 use Rattle.std.proofs.lemmas.List.{append-nil}
 use Rattle.clnp_options.specs.Parameter.{Parameter, spelling, spelled, parameters}
 use Rattle.clnp_options.specs.Edits.{value_of}
@@ -25,8 +25,8 @@ unfolding value_of
 value_of-append code [] ps h = refl
 value_of-append code (o ∷ os) ps h =
     elim (cases_Bool (eqb o.code code)) [
-      inl t ↦ absurd (some_none o.value (sym (rw t refl) ∙ h))
-    | inr f ↦ rw f (value_of-append code os ps (rw f at h))
+      | inl t ↦ absurd (some_none o.value (sym (rw t refl) ∙ h))
+      | inr f ↦ rw f (value_of-append code os ps (rw f at h))
     ]
   where
     some_none : (v : List ℕ) → Some v ≡ None → ⊥

@@ -1,9 +1,9 @@
 -- What the options of a part are.
-use Rattle.std.proofs.Common.{◌≡◌, ◌∙◌, sym, ap, refl, ℕ, zero, suc, ◌+◌, ◌-◌, ◌≤◌, ◌<◌, ◌⊎◌, inl, inr, List, [], ◌∷◌, ◌++◌, length, take, drop, get_or, arith, length-append, append_assoc}
+use Rattle.std.proofs.Common.{◌≡◌, ◌∙◌, sym, ap, refl, ℕ, zero, suc, ◌+◌, ◌-◌, ◌≤◌, ◌<◌, inl, inr, List, [], ◌∷◌, ◌++◌, length, take, drop, get_or, arith, length-append, append_assoc}
 use Rattle.std.proofs.lemmas.Bool.{cond-true, cond-false, le-leb, lt-leb, cases_lt}
 use Rattle.std.proofs.lemmas.List.{length-take-le, take-append-drop, append-nil, take_all}
 use Rattle.std.proofs.Math.Seq.{take-append_seam, drop-append_seam}
-use Rattle.clnp_options.specs.Parameter.{Parameter, spelling, spelled, size_of, parameters_after, parameters}
+use Rattle.clnp_options.specs.Parameter.{Parameter, spelling, spelled, parameters_after, parameters}
 
 -- what is left out is dropped
 pub parameters_after-drop : (skipped : ℕ) (xs : List ℕ) → parameters_after skipped xs ≡ parameters (drop skipped xs)
@@ -72,7 +72,7 @@ split_cons : (code size : ℕ) (rest : List ℕ) → size ≤ length rest → Sp
 split_cons code size rest h s = record {
   rest = s.rest;
   octets_are =
-    rw (parameters-cons code size rest h, spelled-cons, length-take-le size rest h, append_assoc (take size rest) (spelled (parameters (drop size rest))) s.rest, ← s.octets_are, take-append-drop size rest) refl;
+      rw (parameters-cons code size rest h, spelled-cons, length-take-le size rest h, append_assoc (take size rest) (spelled (parameters (drop size rest))) s.rest, ← s.octets_are, take-append-drop size rest) refl;
   none_left = s.none_left;
 }
 
@@ -82,12 +82,12 @@ split_after (suc k) [] = record { rest = []; octets_are = rw (parameters-nil, sp
 split_after zero (x ∷ []) = record { rest = x ∷ []; octets_are = rw (parameters-one x, spelled-nil) refl; none_left = parameters-one x }
 split_after zero (code ∷ size ∷ rest) =
     elim (cases_lt (length rest) size) [
-      inl h ↦ record {
+      | inl h ↦ record {
         rest = code ∷ size ∷ rest;
         octets_are = rw (parameters-short code size rest h, spelled-nil) refl;
         none_left = parameters-short code size rest h;
       }
-    | inr h ↦ split_cons code size rest h (split_after size rest)
+      | inr h ↦ split_cons code size rest h (split_after size rest)
     ]
 split_after (suc k) (x ∷ xs) = split_after k xs
 

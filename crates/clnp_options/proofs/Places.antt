@@ -1,5 +1,5 @@
 -- The place at which a rule is broken, option by option.
-use Rattle.std.proofs.Common.{◌≡◌, ◌∙◌, sym, ap, refl, ℕ, ◌+◌, ◌≤◌, Bool, true, false, ◌<◌, ◌≢◌, ◌⊎◌, inl, inr, get_or, set, replicate, List, [], ◌∷◌, ◌++◌, length, arith, length-append, Option, Some, None, is_some}
+use Rattle.std.proofs.Common.{◌≡◌, ◌∙◌, sym, ap, refl, ℕ, ◌+◌, Bool, true, false, ◌<◌, ◌≢◌, ◌⊎◌, inl, inr, get_or, set, replicate, List, [], ◌∷◌, length, arith, length-append, Option, Some, None, is_some}
 use Rattle.std.specs.List.{list_any}
 use Rattle.std.proofs.lemmas.Bool.{cond-true, cond-false, eq-eqb, ne_eqb, cases_eq, cases_Bool}
 use Rattle.std.proofs.lemmas.List.{length-replicate, length-set, get_or-replicate, get_or-set_same, get_or-set_other}
@@ -40,8 +40,8 @@ Tells-none c h = get_or-replicate 256 c false false h
 pub Tells-set : (seen : List Bool) (codes : List ℕ) (code : ℕ) → length seen ≡ 256 → code < 256 → Tells seen codes → Tells (set seen code true) (code ∷ codes)
 Tells-set seen codes code room below tells c h =
     elim (cases_eq code c) [
-      inl e ↦ rw (← e, get_or-set_same seen code true false (omega arith), eq-eqb code code refl) refl
-    | inr ne ↦ rw (get_or-set_other seen code c true false (λ q. ne (sym q)), ne_eqb code c ne) (tells c h)
+      | inl e ↦ rw (← e, get_or-set_same seen code true false (omega arith), eq-eqb code code refl) refl
+      | inr ne ↦ rw (get_or-set_other seen code c true false (λ q. ne (sym q)), ne_eqb code c ne) (tells c h)
     ]
 
 pub place_of_repeat-nil : (seen : List ℕ) (place : ℕ) → place_of_repeat seen place [] ≡ None
@@ -72,8 +72,8 @@ unfolding place_of
 is_some-place_of test place [] = refl
 is_some-place_of test place (o ∷ os) =
     elim (cases_Bool (test o)) [
-      inl h ↦ rw (h) refl
-    | inr h ↦ rw (h) (is_some-place_of test (place + size_of o) os)
+      | inl h ↦ rw (h) refl
+      | inr h ↦ rw (h) (is_some-place_of test (place + size_of o) os)
     ]
 
 pub place_of_reason-found : (first : ℕ) (os : List Parameter) (place : ℕ) → Some place ≡ place_of is_reason first os → place_of_reason true first os ≡ None

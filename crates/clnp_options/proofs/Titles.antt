@@ -1,5 +1,5 @@
 -- Titles one after another.
-use Rattle.std.proofs.Common.{◌≡◌, ◌∙◌, sym, ap, refl, ℕ, zero, suc, ◌+◌, ◌-◌, ◌≤◌, ◌<◌, ◌⊎◌, inl, inr, ◌&&◌, Bool, true, false, List, [], ◌∷◌, ◌++◌, length, take, drop, get_or, arith, length-append, append_assoc}
+use Rattle.std.proofs.Common.{◌≡◌, ◌∙◌, sym, ap, refl, ℕ, zero, suc, ◌+◌, ◌-◌, ◌≤◌, ◌<◌, ◌⊎◌, inl, inr, true, false, List, [], ◌∷◌, ◌++◌, length, take, drop, get_or, arith, length-append, append_assoc}
 use Rattle.std.specs.Prelude.{All}
 use Rattle.std.proofs.lemmas.Bool.{le-leb, lt-leb, and_left, and_right, cases_lt, false≢true}
 use Rattle.std.proofs.lemmas.List.{take_all, length-take, length-take-le, length-drop, take-append-drop}
@@ -86,9 +86,10 @@ pub record AreJoined (octets : List ℕ) : Type 0 where
 -- the length of the first title passes its test
 size_of_first : (size : ℕ) (rest : List ℕ) → are_titles (size ∷ rest) ≡ true → (1 ≤ size) × (size ≤ 20) × (size ≤ length rest)
 size_of_first size rest h = (
-    elim (cases_lt size 1) [ inl k ↦ absurd (false≢true (sym (are_titles-size size rest (inl k)) ∙ h)) | inr k ↦ k ],
-    elim (cases_lt 20 size) [ inl k ↦ absurd (false≢true (sym (are_titles-size size rest (inr k)) ∙ h)) | inr k ↦ k ],
-    elim (cases_lt (length rest) size) [ inl k ↦ absurd (false≢true (sym (are_titles-cut_off size rest k) ∙ h)) | inr k ↦ k ])
+  elim (cases_lt size 1) [ inl k ↦ absurd (false≢true (sym (are_titles-size size rest (inl k)) ∙ h)) | inr k ↦ k ],
+  elim (cases_lt 20 size) [ inl k ↦ absurd (false≢true (sym (are_titles-size size rest (inr k)) ∙ h)) | inr k ↦ k ],
+  elim (cases_lt (length rest) size) [ inl k ↦ absurd (false≢true (sym (are_titles-cut_off size rest k) ∙ h)) | inr k ↦ k ],
+)
 
 joined_after : (skipped : ℕ) (xs : List ℕ) → are_titles (drop skipped xs) ≡ true → AreJoined (drop skipped xs)
 unfolding joined
@@ -117,9 +118,9 @@ front_of_titles (t ∷ ts) (suc k) h below f =
     let s = size_of_first (length t) (take k (t ++ joined ts)) f in
     let within : length t ≤ k = omega (arith, s.2, length-take k (t ++ joined ts)) in
     let e : take k (t ++ joined ts) ≡ t ++ take (k - length t) (joined ts) =
-      ap (λ m. take m (t ++ joined ts)) (omega arith) ∙ take-append-add t (joined ts) (k - length t) in
+    ap (λ m. take m (t ++ joined ts)) (omega arith) ∙ take-append-add t (joined ts) (k - length t) in
     let g : are_titles (take (k - length t) (joined ts)) ≡ true =
-      ap are_titles (sym (drop-append_seam t (take (k - length t) (joined ts))) ∙ ap (drop (length t)) (sym e)) ∙ sym (are_titles-cons (length t) (take k (t ++ joined ts)) s.0 s.1 s.2) ∙ f in
+    ap are_titles (sym (drop-append_seam t (take (k - length t) (joined ts))) ∙ ap (drop (length t)) (sym e)) ∙ sym (are_titles-cons (length t) (take k (t ++ joined ts)) s.0 s.1 s.2) ∙ f in
     let r = front_of_titles ts (k - length t) (All-tail IsTitle t ts h) (omega (arith, length-append t (joined ts))) g in
     (suc r.0, omega (arith, r.1), omega (arith, r.2, length-append t (joined (take r.0 ts))))
 

@@ -1,11 +1,10 @@
 -- What the edits make of a value, and that it keeps its form.
-use Rattle.std.proofs.Common.{◌≡◌, ◌∙◌, sym, ap, subst, refl, ℕ, zero, suc, ◌+◌, ◌-◌, ◌≤◌, ◌<◌, ◌≢◌, ◌⊎◌, inl, inr, Bool, true, false, List, [], ◌∷◌, ◌++◌, length, take, drop, get_or, set, arith, length-append, append_assoc, Option, Some, None, is_some, IsSome, bit_or}
-use Rattle.std.specs.Prelude.{All}
-use Rattle.std.proofs.lemmas.Bool.{cond-true, cond-false, cases_lt, cases_eq, le-leb, lt-leb, eq-eqb, ne_eqb, true≢false, false≢true}
+use Rattle.std.proofs.Common.{◌≡◌, ◌∙◌, sym, ap, subst, refl, ℕ, ◌+◌, ◌-◌, ◌≤◌, ◌<◌, ◌≢◌, ◌⊎◌, inl, inr, List, [], ◌∷◌, ◌++◌, length, take, drop, get_or, set, arith, length-append, append_assoc, Some, None, is_some, IsSome, bit_or}
+use Rattle.std.proofs.lemmas.Bool.{cond-true, cond-false, cases_lt, cases_eq, le-leb, lt-leb, eq-eqb, ne_eqb, false≢true}
 use Rattle.std.proofs.lemmas.Nat.{le_or_l}
 use Rattle.std.proofs.lemmas.List.Elements.{All-push}
 use Rattle.std.proofs.lemmas.List.{length-set, length-take-le, length-drop, get_or-set_same, get_or-set_other, get_or-drop, drop-set-lt, take-append-drop, take_at, drop_at, drop-drop, take_more, take_more_set, get_or_append_left, get_or-take, drop_more, take_all, get_or_at, append-nil}
-use Rattle.clnp_options.specs.Parameter.{Parameter, padding, security, source_route, recording, quality, priority, reason, known_codes}
+use Rattle.clnp_options.specs.Parameter.{source_route, recording, quality}
 use Rattle.clnp_options.specs.Grammar.{IsTitle, joined, IsPlaceOfTitle, HasFormat, IsSourceRoute, IsRecorded, IsRecording, HasForm}
 use Rattle.clnp_options.specs.Edits.{pointer_of, title_size, title_at, advanced, with_title, recorded, marked}
 use Rattle.clnp_options.specs.Located.{LeadsOn}
@@ -56,16 +55,16 @@ marked-kept value h = sym (cond-false _ _ _ (lt-leb 192 (get_or value 0 0) h))
 pub length-marked : (value : List ℕ) → length (marked value) ≡ length value
 length-marked value =
     elim (cases_lt (get_or value 0 0) 192) [
-      inl h ↦ ap length (sym (marked-kept value h))
-    | inr h ↦ ap length (sym (marked-set value h)) ∙ length-set value 0 (bit_or (get_or value 0 0) 8)
+      | inl h ↦ ap length (sym (marked-kept value h))
+      | inr h ↦ ap length (sym (marked-set value h)) ∙ length-set value 0 (bit_or (get_or value 0 0) 8)
     ]
 
 pub marked_form : (value : List ℕ) → HasFormat value → HasFormat (marked value)
 marked_form value h =
     let P : List ℕ → Type 0 = HasFormat in
     elim (cases_lt (get_or value 0 0) 192) [
-      inl k ↦ subst P (marked-kept value k) h
-    | inr k ↦ subst P (marked-set value k) (with_bit value h k)
+      | inl k ↦ subst P (marked-kept value k) h
+      | inr k ↦ subst P (marked-set value k) (with_bit value h k)
     ]
   where
     with_bit : (value : List ℕ) → HasFormat value → 192 ≤ get_or value 0 0 → HasFormat (set value 0 (bit_or (get_or value 0 0) 8))
@@ -95,28 +94,28 @@ length-joined-more titles n h =
 first_of_joined : (titles : List (List ℕ)) (n : ℕ) → n < length titles → get_or (joined titles) (length (joined (take n titles))) 0 ≡ length (get_or titles n [])
 first_of_joined titles n h =
     ap (λ t. get_or t (length (joined (take n titles))) 0)
-      (joined-take n titles ∙ ap (λ t. joined (take n titles) ++ t) (ap joined (drop_more titles n [] h) ∙ joined-cons (get_or titles n []) (drop (n + 1) titles)))
+    (joined-take n titles ∙ ap (λ t. joined (take n titles) ++ t) (ap joined (drop_more titles n [] h) ∙ joined-cons (get_or titles n []) (drop (n + 1) titles)))
     ∙ get_or_at (joined (take n titles)) (length (get_or titles n [])) (get_or titles n [] ++ joined (drop (n + 1) titles)) 0 (length (joined (take n titles))) refl
 
 pub title_of_route : (value : List ℕ) (h : IsSourceRoute value) → pointer_of value ≤ length value → TitleAt value h.titles
 title_of_route value h within =
     elim h.pointer as (λ _. TitleAt value h.titles) [
-      inl past ↦ absurd (omega arith)
-    | inr place ↦
-        let at : pointer_of value - 1 ≡ 2 + length (joined (take place.0 h.titles)) = omega (arith, place.2) in
-        let size : title_size value ≡ length (get_or h.titles place.0 []) =
+      | inl past ↦ absurd (omega arith)
+      | inr place ↦
+          let at : pointer_of value - 1 ≡ 2 + length (joined (take place.0 h.titles)) = omega (arith, place.2) in
+          let size : title_size value ≡ length (get_or h.titles place.0 []) =
           ap (λ i. get_or value i 0) at
           ∙ sym (get_or-drop 2 value (length (joined (take place.0 h.titles))) 0)
           ∙ ap (λ t. get_or t (length (joined (take place.0 h.titles))) 0) h.filled
           ∙ first_of_joined h.titles place.0 place.1 in
-        record {
-          n = place.0;
-          within = place.1;
-          pointer = place.2;
-          size = size;
-          next = omega (arith, place.2, size, length-joined-more h.titles place.0 place.1);
-          room = omega (arith, ap length (joined-take (place.0 + 1) h.titles), length-append (joined (take (place.0 + 1) h.titles)) (joined (drop (place.0 + 1) h.titles)));
-        }
+          record {
+            n = place.0;
+            within = place.1;
+            pointer = place.2;
+            size = size;
+            next = omega (arith, place.2, size, length-joined-more h.titles place.0 place.1);
+            room = omega (arith, ap length (joined-take (place.0 + 1) h.titles), length-append (joined (take (place.0 + 1) h.titles)) (joined (drop (place.0 + 1) h.titles)));
+          }
     ]
 
 pub leads_on : (value : List ℕ) → IsSourceRoute value → pointer_of value ≤ length value → LeadsOn value
@@ -159,13 +158,13 @@ advanced_form value h within =
     let next = t.next in
     subst P (sym (advanced-is value))
     (route_moved value (pointer_of value + title_size value + 1) h
-      (elim (cases_lt (t.n + 1) (length h.titles)) [
-        inl more ↦ inr (t.n + 1, more, sym next)
+    (elim (cases_lt (t.n + 1) (length h.titles)) [
+      | inl more ↦ inr (t.n + 1, more, sym next)
       | inr all ↦
           let whole : take (t.n + 1) h.titles ≡ h.titles = take_all (t.n + 1) h.titles all in
           let long = h.long in
           inl (omega (arith, ap (λ ts. length (joined ts)) whole, ap length h.filled, length-drop 2 value))
-      ]))
+    ]))
 
 pub title_at-none : (value : List ℕ) → length value < pointer_of value → None ≡ title_at value
 unfolding title_at
@@ -178,8 +177,8 @@ title_at-some value h = sym (cond-true _ _ _ (le-leb (pointer_of value) (length 
 pub title_at-leads : (value : List ℕ) → IsSome (title_at value) → pointer_of value ≤ length value
 title_at-leads value h =
     elim (cases_lt (length value) (pointer_of value)) [
-      inl past ↦ absurd (false≢true (ap is_some (title_at-none value past) ∙ h))
-    | inr within ↦ within
+      | inl past ↦ absurd (false≢true (ap is_some (title_at-none value past) ∙ h))
+      | inr within ↦ within
     ]
 
 -- a recording
@@ -209,12 +208,12 @@ pub written-by : (title value copied : List ℕ) (n : ℕ) → 1 ≤ pointer_of 
 written-by title value copied n low fits is_n is_copied =
     let one : pointer_of value ≡ pointer_of value - 1 + 1 = omega arith in
     let front : take (pointer_of value) (set value (pointer_of value - 1) (length title)) ≡ take (pointer_of value - 1) value ++ length title ∷ [] =
-      ap (λ k. take k (set value (pointer_of value - 1) (length title))) one ∙ take_more_set value (pointer_of value - 1) (length title) (omega arith) in
+    ap (λ k. take k (set value (pointer_of value - 1) (length title))) one ∙ take_more_set value (pointer_of value - 1) (length title) (omega arith) in
     let back : drop (pointer_of value) (set value (pointer_of value - 1) (length title)) ≡ drop (pointer_of value) value =
-      drop-set-lt (pointer_of value) value (pointer_of value - 1) (length title) (omega arith) in
+    drop-set-lt (pointer_of value) value (pointer_of value - 1) (length title) (omega arith) in
     rw (front, back, is_n, is_copied, drop-drop (length title) (pointer_of value) value)
     (append_assoc (take (pointer_of value - 1) value) (length title ∷ []) (title ++ drop (pointer_of value + length title) value)
-     ∙ sym (append_assoc (take (pointer_of value - 1) value) (length title ∷ title) (drop (pointer_of value + length title) value)))
+    ∙ sym (append_assoc (take (pointer_of value - 1) value) (length title ∷ title) (drop (pointer_of value + length title) value)))
 
 -- the parts of a recording of which the titles end before the pointer
 pub record RecordedAt (title value : List ℕ) (titles : List (List ℕ)) (room : List ℕ) : Type 0 where
@@ -225,15 +224,15 @@ recorded_at : (title value : List ℕ) (titles : List (List ℕ)) (room : List �
 recorded_at title value titles room long filled at =
     let l : length (take 2 value ++ joined titles) ≡ pointer_of value - 1 = omega (arith, length-take-le 2 value long, length-append (take 2 value) (joined titles)) in
     let split : value ≡ (take 2 value ++ joined titles) ++ room =
-      sym (take-append-drop 2 value) ∙ ap (λ t. take 2 value ++ t) filled ∙ sym (append_assoc (take 2 value) (joined titles) room) in
+    sym (take-append-drop 2 value) ∙ ap (λ t. take 2 value ++ t) filled ∙ sym (append_assoc (take 2 value) (joined titles) room) in
     let far : pointer_of value + length title ≡ (pointer_of value - 1) + (length title + 1) = omega arith in
     record {
       front = ap (take (pointer_of value - 1)) split ∙ take_at (take 2 value ++ joined titles) room (pointer_of value - 1) l;
       behind =
-        ap (λ k. drop k value) far
-        ∙ sym (drop-drop (length title + 1) (pointer_of value - 1) value)
-        ∙ ap (λ t. drop (length title + 1) (drop (pointer_of value - 1) t)) split
-        ∙ ap (drop (length title + 1)) (drop_at (take 2 value ++ joined titles) room (pointer_of value - 1) l);
+          ap (λ k. drop k value) far
+          ∙ sym (drop-drop (length title + 1) (pointer_of value - 1) value)
+          ∙ ap (λ t. drop (length title + 1) (drop (pointer_of value - 1) t)) split
+          ∙ ap (drop (length title + 1)) (drop_at (take 2 value ++ joined titles) room (pointer_of value - 1) l);
     }
 
 pub length-written : (title value : List ℕ) → 1 ≤ pointer_of value → pointer_of value + length title ≤ length value → length (written title value) ≡ length value
@@ -249,7 +248,7 @@ titles_behind title value titles room long filled at =
     ∙ ap (drop 2) (ap (λ t. t ++ drop (length title + 1) room) (append_assoc (take 2 value) (joined titles) (length title ∷ title)) ∙ append_assoc (take 2 value) (joined titles ++ (length title ∷ title)) (drop (length title + 1) room))
     ∙ drop_at (take 2 value) (joined titles ++ (length title ∷ title) ++ drop (length title + 1) room) 2 l
     ∙ ap (λ t. t ++ drop (length title + 1) room)
-      (sym (joined-append titles (title ∷ []) ∙ ap (λ t. joined titles ++ t) (joined-cons title [] ∙ ap (λ t. length title ∷ (title ++ t)) joined-nil ∙ ap (λ t. length title ∷ t) (append-nil title))))
+    (sym (joined-append titles (title ∷ []) ∙ ap (λ t. joined titles ++ t) (joined-cons title [] ∙ ap (λ t. length title ∷ (title ++ t)) joined-nil ∙ ap (λ t. length title ∷ t) (append-nil title))))
 
 -- a recording with the title put
 put_form : (title value : List ℕ) (h : IsRecording value) (r : IsRecorded value) → IsTitle title → pointer_of value + length title ≤ length value → IsRecording (with_title title value)
@@ -261,9 +260,9 @@ put_form title value h r it fits =
     let ls : length (set (written title value) 1 x) ≡ length (written title value) = length-set (written title value) 1 x in
     let pointer : get_or (set (written title value) 1 x) 1 0 ≡ x = get_or-set_same (written title value) 1 x 0 (omega arith) in
     let first : get_or (written title value) 0 0 ≡ get_or value 0 0 =
-      get_or_append_left (take (pointer_of value - 1) value ++ (length title ∷ title)) (drop (pointer_of value + length title) value) 0 0 (omega (arith, length-append (take (pointer_of value - 1) value) (length title ∷ title)))
-      ∙ get_or_append_left (take (pointer_of value - 1) value) (length title ∷ title) 0 0 (omega (arith, length-take-le (pointer_of value - 1) value (omega arith)))
-      ∙ get_or-take (pointer_of value - 1) value 0 0 (omega arith) in
+    get_or_append_left (take (pointer_of value - 1) value ++ (length title ∷ title)) (drop (pointer_of value + length title) value) 0 0 (omega (arith, length-append (take (pointer_of value - 1) value) (length title ∷ title)))
+    ∙ get_or_append_left (take (pointer_of value - 1) value) (length title ∷ title) 0 0 (omega (arith, length-take-le (pointer_of value - 1) value (omega arith)))
+    ∙ get_or-take (pointer_of value - 1) value 0 0 (omega arith) in
     let kind : get_or (set (written title value) 1 x) 0 0 ≡ get_or (written title value) 0 0 = get_or-set_other (written title value) 1 0 x 0 (λ e. absurd (omega arith)) in
     record {
       long = omega arith;
@@ -294,21 +293,21 @@ pub recorded_form : (title value : List ℕ) → IsRecording value → IsTitle t
 recorded_form title value h it =
     let P : List ℕ → Type 0 = IsRecording in
     elim (cases_eq (pointer_of value) 255) [
-      inl e ↦ subst P (recorded-ended title value e) h
-    | inr n ↦ elim (cases_lt (length value) (pointer_of value + length title)) [
-        inl full ↦ subst P (recorded-full title value n full) (ended_form value h)
-      | inr fits ↦ subst P (recorded-put title value n fits) (put_form title value h (recorded_before value h n) it fits)
+      | inl e ↦ subst P (recorded-ended title value e) h
+      | inr n ↦ elim (cases_lt (length value) (pointer_of value + length title)) [
+        | inl full ↦ subst P (recorded-full title value n full) (ended_form value h)
+        | inr fits ↦ subst P (recorded-put title value n fits) (put_form title value h (recorded_before value h n) it fits)
       ]
     ]
 
 pub length-recorded : (title value : List ℕ) → IsRecording value → length (recorded title value) ≡ length value
 length-recorded title value h =
     elim (cases_eq (pointer_of value) 255) [
-      inl e ↦ ap length (sym (recorded-ended title value e))
-    | inr n ↦ elim (cases_lt (length value) (pointer_of value + length title)) [
-        inl full ↦ ap length (sym (recorded-full title value n full)) ∙ length-set value 1 255
-      | inr fits ↦
-          let at = (recorded_before value h n).pointer in
-          ap length (sym (recorded-put title value n fits)) ∙ length-set (written title value) 1 (pointer_of value + length title + 1) ∙ length-written title value (omega arith) fits
+      | inl e ↦ ap length (sym (recorded-ended title value e))
+      | inr n ↦ elim (cases_lt (length value) (pointer_of value + length title)) [
+        | inl full ↦ ap length (sym (recorded-full title value n full)) ∙ length-set value 1 255
+        | inr fits ↦
+            let at = (recorded_before value h n).pointer in
+            ap length (sym (recorded-put title value n fits)) ∙ length-set (written title value) 1 (pointer_of value + length title + 1) ∙ length-written title value (omega arith) fits
       ]
     ]

@@ -1,6 +1,6 @@
 -- What a router reads and changes in the options of a PDU that it forwards.
 use Rattle.std.specs.Prelude.{ℕ, ◌+◌, ◌-◌, ◌==◌, nat_le, if◌then◌else◌, List, [], ◌∷◌, ◌++◌, map, length, take, drop, slice_index, slice_set, bit_or, Option, Some, None, option_and_then}
-use Rattle.clnp_options.specs.Parameter.{Parameter, source_route, recording, quality, parameters}
+use Rattle.clnp_options.specs.Parameter.{Parameter, source_route}
 
 -- the options with the value of each one of this code changed
 unfoldable pub edited : ℕ → (List ℕ → List ℕ) → List Parameter → List Parameter

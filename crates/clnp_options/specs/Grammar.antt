@@ -1,5 +1,5 @@
 -- Which lists of options a header may have, and which octets spell them: a relation by parts.
--- (ISO/IEC 8473, sections 7.5.2 to 7.5.8 and 7.9.5.)
+-- (ISO/IEC 8473, sections 7.5.2 to 7.5.7 and 7.9.5.)
 use Rattle.std.specs.Prelude.{◌≡◌, ◌⊎◌, ◌↔◌, ℕ, ◌+◌, ◌<◌, ◌≤◌, Bool, IsTrue, List, [], ◌∷◌, ◌++◌, length, take, drop, slice_index, All, Any, AllPairs, Contains}
 use Rattle.clnp_options.specs.Parameter.{Parameter, padding, security, source_route, recording, quality, priority, reason, known_codes, spelled}
 

@@ -1,5 +1,5 @@
 -- What an option's value must have so that it can be read by its kind.
-use Rattle.std.specs.Prelude.{Bool, ◌&&◌, ◌||◌, not, List}
+use Rattle.std.specs.Prelude.{Bool, ◌||◌, not, List}
 use Rattle.std.specs.List.{list_all}
 use Rattle.clnp_options.specs.Parameter.{Parameter}
 use Rattle.clnp_options.specs.Rules.{is_unknown, has_bad_security, has_bad_route, has_bad_form}

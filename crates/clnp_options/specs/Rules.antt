@@ -88,7 +88,7 @@ place_of_unfit first part =
     let fitting = length (spelled (parameters part)) in
     if fitting == length part then None else Some (first + fitting)
 
--- the place where an option for discard is missing or stands wrongly; a report that lacks it is at fault in octet 5
+-- the place of a reason for discard in a PDU that isn't an error report; a report that has none is at fault in octet 5
 abbrev pub place_of_reason : Bool → ℕ → List Parameter → Option ℕ
 place_of_reason is_report first options =
     if is_report

@@ -1,5 +1,5 @@
 -- An option that the code hands out or takes, as its code and its octets.
-use Rattle.std.specs.Prelude.{ℕ, Bool, if◌then◌else◌, List, [], ◌∷◌}
+use Rattle.std.specs.Prelude.{ℕ, Bool, if◌then◌else◌, [], ◌∷◌}
 use Rattle.clnp_options.specs.Parameter.{Parameter, padding, security, source_route, recording, quality, priority, reason}
 use Rattle.clnp_options.specs.declared.kinds.OptionRef.{OptionRef}
 use Rattle.clnp_options.specs.declared.kinds.OptionRef.TheVariants.{Padding, Security, SourceRoute, RecordRoute, Quality, Priority, Reason}

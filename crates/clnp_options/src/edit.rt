@@ -145,10 +145,10 @@ fn record(value: &mut [u8], title: &[u8])
         value[1] = ENDED;
         return;
     }
-    let size = title.len() as u8;
-    value[place - 1] = size;
-    value[place..place + title.len()].copy_from_slice(title);
-    value[1] = pointer + size + 1;
+    let end = place + title.len();
+    value[place - 1] = title.len() as u8;
+    value[place..end].copy_from_slice(title);
+    value[1] = (end + 1) as u8;
 }
 
 /// Sets the congestion bit where the format is the globally unique one.

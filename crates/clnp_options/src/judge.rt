@@ -25,7 +25,17 @@ pub struct OptionRefusal {
 /// Judges the options part of a header, whose first octet has place `first` in the header, counted
 /// from 1. `is_report` says that the PDU is an error report.
 ///
-/// Refuses by the least broken of the rules G14 to G20 (see `docs/FORMATS.md`).
+/// Refuses by the least of these rules that is broken. Each is read as if those before it held.
+///
+/// | Rule | Broken where | Reason | Place |
+/// |---|---|---|---|
+/// | 14 | the options don't fill the part exactly as code, length, value | 04 | the first octet of the one that doesn't fit |
+/// | 15 | a code other than padding comes twice | 07 | the first code that came before |
+/// | 16 | a code isn't in the table of options | B0 | the first such code |
+/// | 17 | security is empty or has format 00 | B2 | its code |
+/// | 18 | a source route is shorter than 2, its kind isn't 0 or 1, its titles of 1 to 20 octets don't fill it, or its pointer is neither the place of a title nor above its length | 91 | its code |
+/// | 19 | a recording is shorter than 2, its kind isn't 0 or 1, or its pointer isn't 255 and isn't at most its length + 1 with whole titles from place 3 to before it; quality is empty or has format 00; priority isn't one octet; a reason isn't two | 04 | the code of the first such option |
+/// | 20 | a reason stands in a PDU that isn't an error report, or a report has none | 04 | its code, or 5 |
 pub fn check(part: &[u8], first: u8, is_report: bool) -> Result<(), OptionRefusal>
     requires { first + length part.now ≤ 255 }
     ensures judged { MatchResult result (λ _. refusal part.now first is_report ≡ None) (λ r. refusal part.now first is_report ≡ Some r) }

@@ -98,9 +98,7 @@ impl OptionList {
         let size = front.len() + back.len();
         let end = start + 2 + size;
         if end > ROOM {
-            return Err(OptionTooLong {
-                octets: end,
-            });
+            return Err(OptionTooLong { octets: end });
         }
         write(&mut self.octets, start, &[code, size as u8]);
         write(&mut self.octets, start + 2, front);

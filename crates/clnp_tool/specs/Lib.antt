@@ -1,2 +1,4 @@
 pub mod Words
 pub mod Sim
+pub mod Play
+pub mod Exit

@@ -1,6 +1,8 @@
 //! What a call of the program comes to.
+ghost use Rattle.std.specs.Prelude.{◌≡◌};
+ghost use Rattle.clnp_tool.specs.Exit.{exit_number};
 
-/// The answer of the top call; the exit statuses are 0 to 6 and 8, as in `exit_status`.
+/// The answer of the top call.
 #[derive(Clone, Copy, Debug, PartialEq, Eq)]
 pub enum Status {
     /// The source was read to its end and all was written.
@@ -17,4 +19,21 @@ pub enum Status {
     WriteFault,
     /// Memory was refused.
     NoMemory,
+}
+
+impl Status {
+    /// The number with which the program exits.
+    pub fn exit_number(self) -> u8
+        ensures { result ≡ exit_number self }
+    {
+        match self {
+            Status::Done => 0,
+            Status::BadWords { .. } => 1,
+            Status::TooLong => 2,
+            Status::BadInput { .. } => 3,
+            Status::ReadFault => 5,
+            Status::WriteFault => 6,
+            Status::NoMemory => 8,
+        }
+    }
 }

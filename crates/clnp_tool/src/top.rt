@@ -1,16 +1,21 @@
 //! The top call: words and input in, output and a status out.
-ghost use Rattle.std.specs.Prelude.{◌≡◌, ◌≢◌, ◌+◌, ◌<◌, ◌≤◌, ◌⊎◌, ◌×◌, ◌↔◌, ℕ, List, [], ◌++◌, length, map, None, Some, Ok, IfSome, IfOk, OnOk, string_bytes};
+ghost use Rattle.std.specs.Prelude.{◌≡◌, ◌<◌, ◌≤◌, ◌⊎◌, ◌↔◌, ℕ, List, [], ◌∷◌, length, map, replicate, IfSome, IfOk, Err, string_bytes};
 ghost use Rattle.std.specs.Io.KnownBytes.{Appends, Consumes, Keeps};
 ghost use Rattle.clnp_base.specs.Streams.{AppendsFront, Rose};
-ghost use Rattle.scenario.specs.Scenario.{Plan};
+ghost use Rattle.clnp_base.specs.Text.{lines_of};
+ghost use Rattle.scenario.specs.Scenario.{moves_of};
 ghost use Rattle.scenario.specs.Grammar.{plan_of};
-ghost use Rattle.clnp_network.specs.Run.{journal, run};
+ghost use Rattle.clnp_network.specs.World as network;
+ghost use Rattle.clnp_network.specs.Run.{moves_of_plan, run, world_end};
 ghost use Rattle.clnp_network.specs.Safe.{IsHonest};
+ghost use Rattle.clnp_world.specs.Stands.{Stands};
 ghost use Rattle.clnp_tool.specs.Words.{bad_place, most_input, called, called_by, output_of, Excuses};
 ghost use Rattle.clnp_tool.specs.Sim.{ReadsWhole, AppendsWholeMoves};
+ghost use Rattle.clnp_tool.specs.Play.{PieceOf, PlayOf, JournalOf, SimOf};
 
 use crate::status::Status;
 use clnp_base::{ReadStop, Sink, Source, read_all, write_all};
+use clnp_safety::laws;
 use clnp_world::World;
 use scenario::{Event, Move, Scenario, ScenarioRefusal};
 use std::alloc::Global;
@@ -73,6 +78,7 @@ pub fn clnp_main<S: Source, K: Sink>(
     // Each data unit that the run of a scenario hands up is one that was sent before in that run.
     ensures safe { (text : List ℕ) → IfOk (plan_of text) (λ plan. IsHonest plan (run plan)) }
 {
+    every_run_is_honest();
     if let Some(at) = bad_words(words) {
         return Status::BadWords { at };
     }
@@ -85,21 +91,33 @@ pub fn clnp_main<S: Source, K: Sink>(
     }
 }
 
+/// The run of the scenario that a text is hands up only what it sent before.
+fn every_run_is_honest()
+    ensures { (text : List ℕ) → IfOk (plan_of text) (λ plan. IsHonest plan (run plan)) }
+{
+    laws::handed_up_was_sent();
+}
+
 /// The first place at which the words are no command.
 fn bad_words(words: &[String]) -> Option<usize>
     ensures { result ≡ bad_place (map string_bytes words.now) }
 {
     match words {
         [] => Some(0),
-        [word] => if word.as_str() == "sim" { None } else { Some(0) },
-        [word, ..] => if word.as_str() == "sim" { Some(1) } else { Some(0) },
+        [word] if word.as_str() == "sim" => None,
+        [word, ..] if word.as_str() == "sim" => Some(1),
+        _ => Some(0),
     }
 }
 
 /// Writes the journal of the scenario that a text is.
 fn sim<K: Sink>(alloc: Global, text: &[u8], sink: &mut K) -> Status
     requires { length text.now ≤ most_input }
+    ensures later { K.faults sink.old ≤ K.faults sink.new }
+    ensures comes_to { SimOf text.now (K.written sink.old) (K.written sink.new) result }
+    ensures failed { result ≡ Status.WriteFault → Rose (K.faults sink.old) (K.faults sink.new) }
 {
+    few_lines();
     match scenario::read(alloc, text) {
         Ok(scenario) => match play(alloc, &scenario, sink) {
             Ok(()) => Status::Done,
@@ -111,6 +129,11 @@ fn sim<K: Sink>(alloc: Global, text: &[u8], sink: &mut K) -> Status
     }
 }
 
+/// A text has no more lines than octets.
+fn few_lines()
+    ensures { (text : List ℕ) → length (lines_of text) ≤ length text }
+{}
+
 /// Why the writing of a journal stopped.
 #[derive(Clone, Copy, Debug, PartialEq, Eq)]
 enum Stop {
@@ -118,32 +141,73 @@ enum Stop {
     NoMemory,
 }
 
-/// Makes the moves of a scenario and writes their lines, and then the journal's last line.
-fn play<K: Sink>(alloc: Global, scenario: &Scenario, sink: &mut K) -> Result<(), Stop> {
-    let Ok(mut world) = World::new(alloc, scenario) else {
-        return Err(Stop::NoMemory);
-    };
-    for (place, event) in scenario.events().iter().enumerate() {
-        match event {
-            Event::Settle { count } => play_settles(alloc, scenario, *count, &mut world, sink)?,
-            Event::Send { .. } => play_move(alloc, scenario, &Move::One(place), &mut world, sink)?,
+/// Plays a scenario: makes its moves and writes their lines, and then the journal's last line.
+fn play<K: Sink>(alloc: Global, scenario: &Scenario, sink: &mut K) -> Result<(), Stop>
+    ensures later { K.faults sink.old ≤ K.faults sink.new }
+    ensures comes_to { JournalOf scenario.now (K.written sink.old) (K.written sink.new) result }
+    ensures failed { result ≡ Err Stop.WriteFault → Rose (K.faults sink.old) (K.faults sink.new) }
+{
+    match World::new(alloc, scenario) {
+        Ok(mut world) => {
+            play_events(alloc, scenario, &mut world, sink)?;
+            write_end(alloc, &world, sink)
         }
+        Err(_) => Err(Stop::NoMemory),
     }
-    let mut journal = Vec::new(alloc);
-    if world.finish(alloc, &mut journal).is_err() {
-        return Err(Stop::NoMemory);
-    }
-    write(sink, journal.as_slice())
 }
 
+/// Makes the moves of all events and writes their lines.
+fn play_events<K: Sink>(
+    alloc: Global,
+    scenario: &Scenario,
+    world: &mut World,
+    sink: &mut K,
+) -> Result<(), Stop>
+    ensures later { K.faults sink.old ≤ K.faults sink.new }
+    ensures comes_to { (model : network.World) → Stands world.old model
+        → PlayOf scenario.now model (moves_of_plan scenario.now) world.new (K.written sink.old) (K.written sink.new) result }
+    ensures failed { result ≡ Err Stop.WriteFault → Rose (K.faults sink.old) (K.faults sink.new) }
+{
+    for (place, event) in scenario.events().iter().enumerate() {
+        play_event(alloc, scenario, place, event, world, sink)?;
+    }
+    Ok(())
+}
+
+/// Makes the moves of the event at a place and writes their lines.
+fn play_event<K: Sink>(
+    alloc: Global,
+    scenario: &Scenario,
+    place: usize,
+    event: &Event,
+    world: &mut World,
+    sink: &mut K,
+) -> Result<(), Stop>
+    ensures later { K.faults sink.old ≤ K.faults sink.new }
+    ensures comes_to { (model : network.World) → Stands world.old model
+        → PlayOf scenario.now model (moves_of place event.now) world.new (K.written sink.old) (K.written sink.new) result }
+    ensures failed { result ≡ Err Stop.WriteFault → Rose (K.faults sink.old) (K.faults sink.new) }
+{
+    match event {
+        Event::Settle { count } => play_settles(alloc, scenario, *count, world, sink),
+        Event::Send { .. } => play_move(alloc, scenario, &Move::One(place), world, sink),
+    }
+}
+
+/// Settles so many copies, one after another, and writes the lines.
 fn play_settles<K: Sink>(
     alloc: Global,
     scenario: &Scenario,
     count: u32,
     world: &mut World,
     sink: &mut K,
-) -> Result<(), Stop> {
-    for _ in 0..count {
+) -> Result<(), Stop>
+    ensures later { K.faults sink.old ≤ K.faults sink.new }
+    ensures comes_to { (model : network.World) → Stands world.old model
+        → PlayOf scenario.now model (replicate count Move.SettleOne) world.new (K.written sink.old) (K.written sink.new) result }
+    ensures failed { result ≡ Err Stop.WriteFault → Rose (K.faults sink.old) (K.faults sink.new) }
+{
+    for _settled in 0..count {
         play_move(alloc, scenario, &Move::SettleOne, world, sink)?;
     }
     Ok(())
@@ -156,15 +220,39 @@ fn play_move<K: Sink>(
     mv: &Move,
     world: &mut World,
     sink: &mut K,
-) -> Result<(), Stop> {
-    let mut journal = Vec::new(alloc);
-    if world.step(alloc, scenario, mv, &mut journal).is_err() {
+) -> Result<(), Stop>
+    ensures later { K.faults sink.old ≤ K.faults sink.new }
+    ensures comes_to { (model : network.World) → Stands world.old model
+        → PlayOf scenario.now model (mv.now ∷ []) world.new (K.written sink.old) (K.written sink.new) result }
+    ensures failed { result ≡ Err Stop.WriteFault → Rose (K.faults sink.old) (K.faults sink.new) }
+{
+    let mut lines = Vec::new(alloc);
+    if world.step(alloc, scenario, mv, &mut lines).is_err() {
         return Err(Stop::NoMemory);
     }
-    write(sink, journal.as_slice())
+    write(sink, lines.as_slice())
 }
 
-fn write<K: Sink>(sink: &mut K, piece: &[u8]) -> Result<(), Stop> {
+/// Writes the journal's last line.
+fn write_end<K: Sink>(alloc: Global, world: &World, sink: &mut K) -> Result<(), Stop>
+    ensures later { K.faults sink.old ≤ K.faults sink.new }
+    ensures comes_to { (model : network.World) → Stands world.now model
+        → PieceOf (world_end model) (K.written sink.old) (K.written sink.new) result }
+    ensures failed { result ≡ Err Stop.WriteFault → Rose (K.faults sink.old) (K.faults sink.new) }
+{
+    let mut line = Vec::new(alloc);
+    if world.finish(alloc, &mut line).is_err() {
+        return Err(Stop::NoMemory);
+    }
+    write(sink, line.as_slice())
+}
+
+/// Writes a piece whole.
+fn write<K: Sink>(sink: &mut K, piece: &[u8]) -> Result<(), Stop>
+    ensures later { K.faults sink.old ≤ K.faults sink.new }
+    ensures comes_to { PieceOf piece.now (K.written sink.old) (K.written sink.new) result }
+    ensures failed { result ≡ Err Stop.WriteFault → Rose (K.faults sink.old) (K.faults sink.new) }
+{
     match write_all(sink, piece) {
         Ok(()) => Ok(()),
         Err(_) => Err(Stop::WriteFault),

@@ -1,14 +1,10 @@
 -- What a simulated network of the code stands for.
-use Rattle.std.specs.Prelude.{◌≡◌, false, map}
+use Rattle.std.specs.Prelude.{◌≡◌, ℕ, List, ◌++◌, false, map}
 use Rattle.std.specs.List.{AllByRecursion}
-use Rattle.clnp_machine.specs.System.{SystemState}
 use Rattle.clnp_network.specs.World as network
+use Rattle.clnp_network.specs.Run.{lines_text}
 use Rattle.clnp_world.specs.Seen.{frame_copy, IsCarried}
 use Rattle.clnp_world.specs.declared.world.World.{World}
-
--- no checksum is made by this system
-abbrev pub IsUnsealed : SystemState → Type 0
-IsUnsealed system = system.configuration.settings.sealed ≡ false
 
 pub record Stands (code : World) (model : network.World) : Type 0 where
   pub not_spent : code.spent ≡ false
@@ -16,5 +12,9 @@ pub record Stands (code : World) (model : network.World) : Type 0 where
   pub systems : code.hosts.items ≡ model.systems
   pub copies : code.copies.items ≡ map frame_copy model.copies
   pub cursor : code.cursor ≡ model.cursor
-  pub carried : AllByRecursion (λ copy. IsCarried copy.network.Copy.content) model.copies
-  pub unsealed : AllByRecursion IsUnsealed model.systems
+  pub carried : AllByRecursion (λ copy. IsCarried copy.content) model.copies
+
+-- the network and its lines are those after a part of a move
+pub record Follows (code : World) (before after : List ℕ) (part : network.Step) : Type 0 where
+  pub stands : Stands code part.world
+  pub lines : after ≡ before ++ lines_text part.lines

@@ -1,5 +1,10 @@
 //! Copies of frames on a subnetwork.
+ghost use Rattle.std.specs.Prelude.{◌≡◌, ◌==◌, ◌&&◌};
+ghost use Rattle.std.specs.List.{list_any};
+ghost use Rattle.clnp_network.specs.World as network;
+
 use clnp_base::Octets;
+use clnp_plan::{Role, SystemConfig};
 use nsap::{Snpa, Target};
 
 /// A frame that was put on a subnetwork, by its place among the declarations.
@@ -12,4 +17,26 @@ pub(crate) struct FrameCopy {
     /// The moment of its making.
     pub(crate) birth: u64,
     pub(crate) frame: Octets,
+}
+
+/// Whether a copy is for a system: a port of it on the copy's subnetwork is reached.
+pub(crate) fn is_addressee(copy: &FrameCopy, config: &SystemConfig) -> bool
+    ensures { result ≡ list_any (λ port. (port.subnet == copy.now.subnet)
+        && network.reaches config.now.role copy.now.target copy.now.sender port.snpa) config.now.ports }
+{
+    let role = config.role();
+    config.ports().iter().any(|port| port.subnet == copy.subnet
+        && reaches(role, &copy.target, &copy.sender, &port.snpa))
+}
+
+/// Whether a target reaches a port with its own address: a single system by its address, a group by
+/// its role, and never its sender (ISO 9542, section 5.3).
+fn reaches(role: Role, target: &Target, sender: &Snpa, own: &Snpa) -> bool
+    ensures { result ≡ network.reaches role target.now sender.now own.now }
+{
+    match target {
+        Target::System(snpa) => own == snpa,
+        Target::EndSystems => role == Role::Host && own != sender,
+        Target::Routers => role == Role::Router && own != sender,
+    }
 }

@@ -1,14 +1,19 @@
 //! A host: it sends units whole and takes what is for it.
-ghost use Rattle.std.specs.Prelude.{◌≡◌, ◌↔◌, IsTrue, IfOk, OnOk, List, [], true, false, map};
+ghost use Rattle.std.specs.Prelude.{◌≡◌, ◌≤◌, IfOk, OnOk, [], ◌∷◌, false, map, length};
+ghost use Rattle.std.specs.List.{AllByRecursion};
+ghost use Rattle.nsap.specs.declared.target.Target.TheVariants.{EndSystems};
+ghost use Rattle.clnp_plan.specs.declared.note.Note.TheVariants.{Refused};
+ghost use Rattle.clnp_machine.specs.Unit.{cut, whole_packet};
 ghost use Rattle.clnp_machine.specs.System.{Content, frame_of};
-ghost use Rattle.clnp_machine.specs.Host.{is_own, send, arrive};
-ghost use Rattle.clnp_world.specs.Seen.{emitted, IsCarried};
+ghost use Rattle.clnp_machine.specs.Host as machine;
+ghost use Rattle.clnp_world.specs.declared.output.Emitted.TheVariants.{Noted};
+ghost use Rattle.clnp_world.specs.Seen.{IsCarried, IsGood, emitted, plain_asking, plain_note};
 
 use crate::output::Emitted;
 use clnp_base::{NoMemory, Octets};
 use clnp_plan::{Note, SystemConfig, Why};
 use nsap::{Address, Target};
-use pdu_header::{Kind, Plain, plain_decode, plain_encode};
+use pdu_header::{Kind, Plain, laws, plain_decode, plain_encode};
 use std::alloc::Global;
 use std::marker::Model;
 
@@ -21,7 +26,10 @@ const NOT_PERMITTED: u8 = 0x05;
 /// ISO 8473, section 7.9.5: the lifetime expired in transit.
 const LIFETIME_EXPIRED: u8 = 0xA0;
 
-/// A host at its place among the declarations, with the number of units that it made.
+/// ISO 8473, section 7.9.5: the reason isn't specified.
+const NOT_SPECIFIED: u8 = 0x00;
+
+/// A host at its place among the declarations, with the number of the last unit that it made.
 #[derive(Debug, Drop)]
 pub(crate) struct Host {
     place: usize,
@@ -31,16 +39,21 @@ pub(crate) struct Host {
 }
 
 impl Model for Host {
+    ghost use Rattle.std.specs.Prelude.{◌≡◌, false};
     ghost use Rattle.clnp_machine.specs.System.{SystemState};
 
     ghost Value = { SystemState };
 
     ghost view = { λ h. record { place = h.place; configuration = h.config; moment = h.moment; count = h.units } };
+
+    // Its units have no checksum.
+    ghost invariant = { λ h. h.config.settings.sealed ≡ false };
 }
 
 impl Host {
     /// The host of a declaration, at the start.
     pub(crate) fn new(place: usize, config: SystemConfig) -> Host
+        requires { config.settings.sealed ≡ false }
         ensures { result ≡ record { place = place; configuration = config; moment = 0; count = 0 } }
     {
         Host {
@@ -51,6 +64,7 @@ impl Host {
         }
     }
 
+    /// What the scenario says of it.
     pub(crate) fn config(&self) -> &SystemConfig
         ensures { result.now ≡ self.now.configuration }
     {
@@ -59,7 +73,7 @@ impl Host {
 
     /// Whether an address is the host's.
     fn is_own(&self, address: &Address) -> bool
-        ensures { result ≡ is_own self.now address.now }
+        ensures { result ≡ machine.is_own self.now address.now }
     {
         self.config.addresses().iter().any(|own| own == address)
     }
@@ -73,11 +87,11 @@ impl Host {
         body: &[u8],
         life: u8,
     ) -> Result<Vec<Emitted>, NoMemory>
-        requires { self.old.configuration.settings.sealed ≡ false }
-        ensures after { OnOk result (self.new
-            ≡ (send self.old from to body.now (record { lifetime = life; report = true; options = [] })).after) }
+        ensures after { OnOk result (self.new ≡ (machine.send self.old from to body.now (plain_asking life)).after) }
         ensures outputs { IfOk result (λ outputs. outputs.items
-            ≡ map emitted (send self.old from to body.now (record { lifetime = life; report = true; options = [] })).outputs) }
+            ≡ map emitted (machine.send self.old from to body.now (plain_asking life)).outputs) }
+        ensures good { OnOk result (AllByRecursion IsGood
+            (machine.send self.old from to body.now (plain_asking life)).outputs) }
     {
         if !self.is_own(&from) {
             return refused(alloc, Why::NotMine, 0);
@@ -85,8 +99,8 @@ impl Host {
         if body.len() > MOST_OCTETS {
             return refused(alloc, Why::TooLong, body.len() as u64);
         }
+        let transmission = self.transmission(alloc, from, to, body, life)?;
         let unit = self.units.saturating_add(1);
-        let mut outputs = Vec::new(alloc);
         let sent = Note::Sent {
             kind: Kind::Dt,
             unit,
@@ -95,8 +109,7 @@ impl Host {
             to,
             len: body.len() as u32,
         };
-        push(&mut outputs, Emitted::Noted(sent))?;
-        push(&mut outputs, self.transmission(alloc, from, to, body, life)?)?;
+        let outputs = both(alloc, Emitted::Noted(sent), transmission)?;
         self.units = unit;
         Ok(outputs)
     }
@@ -109,7 +122,16 @@ impl Host {
         to: Address,
         body: &[u8],
         life: u8,
-    ) -> Result<Emitted, NoMemory> {
+    ) -> Result<Emitted, NoMemory>
+        requires { length body.now ≤ 64512 }
+        ensures outputs { IfOk result (λ output. output ∷ [] ≡ map emitted (machine.transmissions EndSystems
+            (cut (whole_packet (machine.unit_of self.now from to body.now (plain_asking life)))
+            (machine.port_mtu self.now.configuration.ports)))) }
+        ensures good { OnOk result (AllByRecursion IsGood (machine.transmissions EndSystems
+            (cut (whole_packet (machine.unit_of self.now from to body.now (plain_asking life)))
+            (machine.port_mtu self.now.configuration.ports)))) }
+    {
+        let birth = self.moment;
         let mut frame = Vec::new(alloc);
         plain_encode(alloc, &Plain { life, to, from }, body, &mut frame)?;
         if frame.len() > self.mtu() {
@@ -121,41 +143,50 @@ impl Host {
         Ok(Emitted::Transmit {
             port: 0,
             target: Target::EndSystems,
-            birth: self.moment,
+            birth,
             frame: Octets::from_vec(frame),
         })
     }
 
     /// The MTU at the host's port.
-    fn mtu(&self) -> usize {
-        match self.config.ports().first() {
-            Some(port) => port.mtu as usize,
-            None => 0,
+    fn mtu(&self) -> usize
+        ensures { result ≡ machine.port_mtu self.now.configuration.ports }
+    {
+        match self.config.ports() {
+            [port, ..] => usize::from(port.mtu),
+            [] => 0,
         }
     }
 
-    /// Takes a frame that came.
+    /// Takes a frame that came: it is noted.
     pub(crate) fn arrive(&self, alloc: Global, frame: &[u8]) -> Result<Vec<Emitted>, NoMemory>
         ensures { IfOk result (λ outputs. (content : Content) → IsCarried content → frame_of content ≡ frame.now
-            → outputs.items ≡ map emitted (arrive self.now content).outputs) }
+            → outputs.items ≡ map emitted (machine.arrive self.now content).outputs) }
     {
         let note = self.arrival_note(alloc, frame)?;
-        let mut outputs = Vec::new(alloc);
-        push(&mut outputs, Emitted::Noted(note))?;
-        Ok(outputs)
+        single(alloc, Emitted::Noted(note))
     }
 
     /// What is noted of a frame that came.
-    fn arrival_note(&self, alloc: Global, frame: &[u8]) -> Result<Note, NoMemory> {
-        let (plain, body) = match plain_decode(frame) {
-            Ok(found) => found,
-            Err(_) => {
-                return Ok(Note::Discard {
-                    reason: 0,
-                    place: 0,
-                });
-            }
-        };
+    fn arrival_note(&self, alloc: Global, frame: &[u8]) -> Result<Note, NoMemory>
+        ensures { IfOk result (λ note. (content : Content) → IsCarried content → frame_of content ≡ frame.now
+            → note ≡ machine.arrival_note self.now content) }
+    {
+        laws::one_plain_value();
+        match plain_decode(frame) {
+            Ok((plain, body)) => self.plain_note(alloc, &plain, body),
+            Err(_) => Ok(Note::Discard {
+                reason: NOT_SPECIFIED,
+                place: 0,
+            }),
+        }
+    }
+
+    /// What is noted of a plain PDU that came: its lifetime is over (ISO 8473, section 6.4), or it is
+    /// for the host and handed up (section 6.5), or it is for another address.
+    fn plain_note(&self, alloc: Global, plain: &Plain, body: &[u8]) -> Result<Note, NoMemory>
+        ensures { IfOk result (λ note. note ≡ plain_note self.now plain.now.life plain.now.to plain.now.from body.now) }
+    {
         if plain.life == 0 {
             return Ok(Note::Discard {
                 reason: LIFETIME_EXPIRED,
@@ -165,24 +196,36 @@ impl Host {
         if !self.is_own(&plain.to) {
             return Ok(Note::NotMine { to: plain.to });
         }
+        let octets = Octets::copy(alloc, body)?;
         Ok(Note::Got {
             from: plain.from,
             to: plain.to,
-            octets: Octets::copy(alloc, body)?,
+            octets,
         })
     }
 }
 
 /// The note of a unit that isn't made, alone.
-fn refused(alloc: Global, why: Why, value: u64) -> Result<Vec<Emitted>, NoMemory> {
+fn refused(alloc: Global, why: Why, value: u64) -> Result<Vec<Emitted>, NoMemory>
+    ensures { IfOk result (λ outputs. outputs.items ≡ Noted (Refused why value) ∷ []) }
+{
+    single(alloc, Emitted::Noted(Note::Refused { why, value }))
+}
+
+/// One output alone.
+fn single(alloc: Global, output: Emitted) -> Result<Vec<Emitted>, NoMemory>
+    ensures { IfOk result (λ outputs. outputs.items ≡ output ∷ []) }
+{
     let mut outputs = Vec::new(alloc);
-    push(&mut outputs, Emitted::Noted(Note::Refused { why, value }))?;
+    outputs.push(output)?;
     Ok(outputs)
 }
 
-fn push(outputs: &mut Vec<Emitted>, output: Emitted) -> Result<(), NoMemory> {
-    match outputs.push(output) {
-        Ok(()) => Ok(()),
-        Err(_) => Err(NoMemory),
-    }
+/// Two outputs in order.
+fn both(alloc: Global, first: Emitted, second: Emitted) -> Result<Vec<Emitted>, NoMemory>
+    ensures { IfOk result (λ outputs. outputs.items ≡ first ∷ second ∷ []) }
+{
+    let mut outputs = single(alloc, first)?;
+    outputs.push(second)?;
+    Ok(outputs)
 }

@@ -1,15 +1,19 @@
 //! The network: hosts, the copies of frames on the subnetworks, and the moves.
-ghost use Rattle.std.specs.Prelude.{◌≡◌, ◌++◌, IfOk, OnOk, OnErr, IsErr, true, false};
-ghost use Rattle.clnp_network.specs.World as network;
+ghost use Rattle.std.specs.Prelude.{◌≡◌, ◌+◌, ◌<◌, ◌≤◌, [], ◌∷◌, ◌++◌, List, IfOk, OnOk, OnErr, IsErr, Some, false, length, map, slice_get, true, vec_len};
+ghost use Rattle.std.specs.List.{AllByRecursion};
+ghost use Rattle.clnp_plan.specs.Journal.{Transmitted, line_text};
+ghost use Rattle.clnp_machine.specs.System.{Output, SystemState};
 ghost use Rattle.clnp_network.specs.Run.{lines_text, world_end};
-ghost use Rattle.clnp_world.specs.Stands.{Stands};
+ghost use Rattle.clnp_network.specs.World as network;
+ghost use Rattle.clnp_world.specs.Seen.{IsGood, emitted, frame_copies};
+ghost use Rattle.clnp_world.specs.Stands.{Follows, Stands};
 
-use crate::copy::FrameCopy;
+use crate::copy::{FrameCopy, is_addressee};
 use crate::host::Host;
 use crate::output::Emitted;
-use clnp_base::NoMemory;
-use clnp_plan::{Role, SystemConfig, journal_text, push_end, transmission_text};
-use nsap::{Snpa, Target};
+use clnp_base::{NoMemory, Octets};
+use clnp_plan::{SystemConfig, journal_text, push_end, transmission_text};
+use nsap::Target;
 use scenario::{Event, Move, Scenario};
 use std::alloc::Global;
 
@@ -35,11 +39,9 @@ impl World {
         ensures { IfOk result (λ world. Stands world (network.first_world scenario.now)) }
     {
         let mut hosts = Vec::new(alloc);
-        for (place, system) in scenario.systems().iter().enumerate() {
-            let config = system.copy(alloc)?;
-            if hosts.push(Host::new(place, config)).is_err() {
-                return Err(NoMemory);
-            }
+        let systems = scenario.systems();
+        for (place, system) in systems.iter().enumerate() {
+            push_host(alloc, place, system, &mut hosts)?;
         }
         Ok(World {
             clock: 0,
@@ -74,21 +76,18 @@ impl World {
         if self.spent {
             return Err(NoMemory);
         }
-        let mut lines = Vec::new(alloc);
-        let moved = match mv {
-            Move::One(place) => self.event_happens(alloc, scenario.events().get(*place), &mut lines),
-            Move::SettleOne => self.settle_one(alloc, &mut lines),
-        };
-        if moved.is_err() || journal.extend_from_slice(lines.as_slice()).is_err() {
-            self.spent = true;
-            return Err(NoMemory);
+        match self.write_move(alloc, scenario, mv, journal) {
+            Ok(()) => Ok(()),
+            Err(NoMemory) => {
+                self.spent = true;
+                Err(NoMemory)
+            }
         }
-        Ok(())
     }
 
     /// The clock, in ticks of 500 ms.
     pub fn clock(&self) -> u64
-        ensures { (model : network.World) → Stands self.now model → result ≡ model.network.World.clock }
+        ensures { (model : network.World) → Stands self.now model → result ≡ model.clock }
     {
         self.clock
     }
@@ -106,24 +105,79 @@ impl World {
         push_end(alloc, self.clock, self.copies.len() as u64, journal)
     }
 
-    /// What an event of one move does.
+    /// Makes one move, and appends its lines to the journal, all of them or none.
+    fn write_move(
+        &mut self,
+        alloc: Global,
+        scenario: &Scenario,
+        mv: &Move,
+        journal: &mut Vec<u8>,
+    ) -> Result<(), NoMemory>
+        ensures follows { OnOk result ((model : network.World) → Stands self.old model
+            → Follows self.new journal.old.items journal.new.items (network.after scenario.now model mv.now)) }
+        ensures same { OnErr result (journal.new.items ≡ journal.old.items) }
+    {
+        let mut lines = Vec::new(alloc);
+        self.make_move(alloc, scenario, mv, &mut lines)?;
+        journal.extend_from_slice(lines.as_slice())?;
+        Ok(())
+    }
+
+    /// Makes one move, and appends its lines.
+    fn make_move(
+        &mut self,
+        alloc: Global,
+        scenario: &Scenario,
+        mv: &Move,
+        lines: &mut Vec<u8>,
+    ) -> Result<(), NoMemory>
+        ensures { OnOk result ((model : network.World) → Stands self.old model
+            → Follows self.new lines.old.items lines.new.items (network.after scenario.now model mv.now)) }
+    {
+        match mv {
+            Move::One(place) => self.event_at(alloc, scenario.events(), *place, lines),
+            Move::SettleOne => self.settle_one(alloc, lines),
+        }
+    }
+
+    /// What the event at a place does, where there is one.
+    fn event_at(
+        &mut self,
+        alloc: Global,
+        events: &[Event],
+        place: usize,
+        lines: &mut Vec<u8>,
+    ) -> Result<(), NoMemory>
+        ensures { OnOk result ((model : network.World) → Stands self.old model
+            → Follows self.new lines.old.items lines.new.items (network.event_happens model (slice_get events.now place))) }
+    {
+        if place >= events.len() {
+            return Ok(());
+        }
+        self.event_happens(alloc, &events[place], lines)
+    }
+
+    /// What an event of one move does: a host is asked to send.
     fn event_happens(
         &mut self,
         alloc: Global,
-        event: Option<&Event>,
+        event: &Event,
         lines: &mut Vec<u8>,
-    ) -> Result<(), NoMemory> {
-        let Some(Event::Send {
+    ) -> Result<(), NoMemory>
+        ensures { OnOk result ((model : network.World) → Stands self.old model
+            → Follows self.new lines.old.items lines.new.items (network.event_happens model (Some event.now))) }
+    {
+        let Event::Send {
             system,
             from,
             to,
             body,
             life,
-        }) = event
+        } = event
         else {
             return Ok(());
         };
-        let place = *system as usize;
+        let place = usize::from(*system);
         if place >= self.hosts.len() {
             return Ok(());
         }
@@ -132,18 +186,48 @@ impl World {
     }
 
     /// Gives the copy at the cursor to each of its addressees.
-    fn settle_one(&mut self, alloc: Global, lines: &mut Vec<u8>) -> Result<(), NoMemory> {
+    fn settle_one(&mut self, alloc: Global, lines: &mut Vec<u8>) -> Result<(), NoMemory>
+        ensures { OnOk result ((model : network.World) → Stands self.old model
+            → Follows self.new lines.old.items lines.new.items (network.settle_one model)) }
+    {
         let number = self.cursor;
         if number >= self.copies.len() {
             return Ok(());
         }
         self.cursor += 1;
+        self.give_each(alloc, number, lines)
+    }
+
+    /// Gives a copy to each of its addressees, in the order of the declarations.
+    fn give_each(
+        &mut self,
+        alloc: Global,
+        number: usize,
+        lines: &mut Vec<u8>,
+    ) -> Result<(), NoMemory>
+        requires { number < vec_len self.old.copies }
+        ensures { OnOk result ((model : network.World) (copy : network.Copy) → Stands self.old model
+            → slice_get model.copies number ≡ Some copy
+            → Follows self.new lines.old.items lines.new.items
+            (network.give_each copy model (network.addressees_from 0 copy model.systems))) }
+    {
         for place in 0..self.hosts.len() {
-            if is_addressee(&self.copies[number], self.hosts[place].config()) {
+            if self.is_for(number, place) {
                 self.give(alloc, number, place, lines)?;
             }
         }
         Ok(())
+    }
+
+    /// Whether a copy is for the host at a place.
+    fn is_for(&self, number: usize, place: usize) -> bool
+        requires number_in { number < vec_len self.now.copies }
+        requires place_in { place < vec_len self.now.hosts }
+        ensures { (model : network.World) (copy : network.Copy) (system : SystemState) → Stands self.now model
+            → slice_get model.copies number ≡ Some copy → slice_get model.systems place ≡ Some system
+            → result ≡ network.is_addressee copy system.configuration }
+    {
+        is_addressee(&self.copies[number], self.config_at(place))
     }
 
     /// Gives a copy to the host at a place.
@@ -153,9 +237,157 @@ impl World {
         number: usize,
         place: usize,
         lines: &mut Vec<u8>,
-    ) -> Result<(), NoMemory> {
+    ) -> Result<(), NoMemory>
+        requires number_in { number < vec_len self.old.copies }
+        requires place_in { place < vec_len self.old.hosts }
+        ensures follows { OnOk result ((model : network.World) (copy : network.Copy) → Stands self.old model
+            → slice_get model.copies number ≡ Some copy
+            → Follows self.new lines.old.items lines.new.items (network.give copy model place)) }
+        ensures hosts { self.new.hosts ≡ self.old.hosts }
+        ensures copies { vec_len self.old.copies ≤ vec_len self.new.copies }
+    {
         let frame = self.copies[number].frame.as_bytes();
         let outputs = self.hosts[place].arrive(alloc, frame)?;
         self.put_all_out(alloc, place, outputs, lines)
     }
+
+    /// Puts the outputs of the host at a place on the network, in their order.
+    fn put_all_out(
+        &mut self,
+        alloc: Global,
+        place: usize,
+        outputs: Vec<Emitted>,
+        lines: &mut Vec<u8>,
+    ) -> Result<(), NoMemory>
+        requires { place < vec_len self.old.hosts }
+        ensures follows { OnOk result ((model : network.World) (system : SystemState) (outs : List Output) → Stands self.old model
+            → slice_get self.old.hosts.items place ≡ Some system → outputs.items ≡ map emitted outs → AllByRecursion IsGood outs
+            → Follows self.new lines.old.items lines.new.items (network.put_all_out system.configuration model outs)) }
+        ensures hosts { self.new.hosts ≡ self.old.hosts }
+        ensures copies { vec_len self.old.copies ≤ vec_len self.new.copies }
+    {
+        for output in outputs {
+            self.put_out(alloc, place, output, lines)?;
+        }
+        Ok(())
+    }
+
+    /// Puts an output of the host at a place on the network: its note is written, or its frame put on
+    /// the port's subnetwork.
+    fn put_out(
+        &mut self,
+        alloc: Global,
+        place: usize,
+        output: Emitted,
+        lines: &mut Vec<u8>,
+    ) -> Result<(), NoMemory>
+        requires { place < vec_len self.old.hosts }
+        ensures follows { OnOk result ((model : network.World) (system : SystemState) (out : Output) → Stands self.old model
+            → slice_get self.old.hosts.items place ≡ Some system → output ≡ emitted out → IsGood out
+            → Follows self.new lines.old.items lines.new.items (network.put_out system.configuration model out)) }
+        ensures hosts { self.new.hosts ≡ self.old.hosts }
+        ensures copies { vec_len self.old.copies ≤ vec_len self.new.copies }
+    {
+        match output {
+            Emitted::Noted(note) => {
+                let name = self.config_at(place).name();
+                journal_text(alloc, self.clock, name, &note, lines)
+            }
+            Emitted::Transmit {
+                port,
+                target,
+                birth,
+                frame,
+            } => {
+                self.write_transmission(alloc, place, port, &target, &frame, lines)?;
+                self.put_copy(place, port, target, birth, frame)
+            }
+        }
+    }
+
+    /// Appends the line of a frame that the host at a place transmits as the next copy.
+    fn write_transmission(
+        &self,
+        alloc: Global,
+        place: usize,
+        port: u8,
+        target: &Target,
+        frame: &Octets,
+        lines: &mut Vec<u8>,
+    ) -> Result<(), NoMemory>
+        requires { place < vec_len self.now.hosts }
+        ensures { OnOk result ((system : SystemState) → slice_get self.now.hosts.items place ≡ Some system
+            → lines.new.items ≡ lines.old.items ++ line_text (Transmitted self.now.clock system.configuration.name
+            (length self.now.copies.items + 1) port target.now frame.now)) }
+    {
+        let name = self.config_at(place).name();
+        let number = self.copies.len() as u64 + 1;
+        transmission_text(
+            alloc,
+            self.clock,
+            name,
+            number,
+            port,
+            *target,
+            frame.as_bytes(),
+            lines,
+        )
+    }
+
+    /// Puts a frame of the host at a place on the subnetwork of its port, where it has that port.
+    fn put_copy(
+        &mut self,
+        place: usize,
+        port: u8,
+        target: Target,
+        birth: u64,
+        frame: Octets,
+    ) -> Result<(), NoMemory>
+        requires { place < vec_len self.old.hosts }
+        ensures copies { OnOk result ((system : SystemState) → slice_get self.old.hosts.items place ≡ Some system
+            → self.new.copies.items ≡ self.old.copies.items
+            ++ frame_copies (slice_get system.configuration.ports port) target birth frame) }
+        ensures others { self.new ≡ record self.old { copies = self.new.copies } }
+        ensures more { vec_len self.old.copies ≤ vec_len self.new.copies }
+    {
+        let ports = self.config_at(place).ports();
+        let number = usize::from(port);
+        if number >= ports.len() {
+            return Ok(());
+        }
+        let at = ports[number];
+        let copy = FrameCopy {
+            subnet: at.subnet,
+            sender: at.snpa,
+            target,
+            birth,
+            frame,
+        };
+        self.copies.push(copy)?;
+        Ok(())
+    }
+
+    /// What the scenario says of the host at a place.
+    fn config_at(&self, place: usize) -> &SystemConfig
+        requires { place < vec_len self.now.hosts }
+        ensures { (system : SystemState) → slice_get self.now.hosts.items place ≡ Some system → result.now ≡ system.configuration }
+    {
+        self.hosts[place].config()
+    }
+}
+
+/// Appends the host of a declaration, at the start.
+fn push_host(
+    alloc: Global,
+    place: usize,
+    system: &SystemConfig,
+    hosts: &mut Vec<Host>,
+) -> Result<(), NoMemory>
+    requires { system.now.settings.sealed ≡ false }
+    ensures { OnOk result (hosts.new.items
+        ≡ hosts.old.items ++ record { place = place; configuration = system.now; moment = 0; count = 0 } ∷ []) }
+{
+    let config = system.copy(alloc)?;
+    hosts.push(Host::new(place, config))?;
+    Ok(())
 }

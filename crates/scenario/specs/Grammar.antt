@@ -1,7 +1,8 @@
 -- The grammar of a scenario text, by lines and words, with the first bad line and its code.
-use Rattle.std.specs.Prelude.{ℕ, ◌+◌, ◌==◌, ◌&&◌, ◌||◌, not, nat_le, Bool, true, false, if◌then◌else◌, List, [], ◌∷◌, take, drop, length, codes, Option, None, Some, is_some, Result, Ok, Err}
-use Rattle.std.specs.List.{list_all, position}
+use Rattle.std.specs.Prelude.{ℕ, ◌+◌, ◌==◌, ◌&&◌, ◌||◌, not, nat_le, nat_eq, Bool, true, false, if◌then◌else◌, List, [], ◌∷◌, take, drop, length, codes, Option, None, Some, is_some, option_map, Result, Ok, Err}
+use Rattle.std.specs.List.{list_all, list_any, position}
 use Rattle.std.specs.Str.{bytes_eq}
+use Rattle.std.specs.Cmp.Lexicographic.{pointwise}
 use Rattle.hex.specs.Hex.{decode_of}
 use Rattle.hex.specs.declared.error.FromHexError.{FromHexError}
 use Rattle.clnp_base.specs.Text.{lines_of, words_of, decimal_of, is_digit}
@@ -43,10 +44,16 @@ literal text word = wanted (bytes_eq word text) SYNTAX
 abbrev pub is_letter : ℕ → Bool
 is_letter c = nat_le 97 c && nat_le c 122
 
--- a letter a to z, and up to 15 letters or digits
+abbrev pub is_letter_or_digit : ℕ → Bool
+is_letter_or_digit c = is_letter c || is_digit c
+
+abbrev pub begins_with_letter : List ℕ → Bool
+begins_with_letter [] = false
+begins_with_letter (c ∷ cs) = is_letter c
+
+-- up to 16 letters a to z and digits, the first of them a letter
 abbrev pub is_name : List ℕ → Bool
-is_name [] = false
-is_name (c ∷ cs) = is_letter c && (list_all (λ d. is_letter d || is_digit d) cs && nat_le (length cs) 15)
+is_name word = begins_with_letter word && list_all is_letter_or_digit word && nat_le (length word) 16
 
 abbrev pub name_word : List ℕ → Result (List ℕ) ℕ
 name_word word = wanted (is_name word) SYNTAX >>= λ _. Ok word
@@ -63,11 +70,13 @@ number_within low high (Some n) = if nat_le low n && nat_le n high then Some n e
 abbrev pub number_word : ℕ → ℕ → List ℕ → Result ℕ ℕ
 number_word low high word = found (number_within low high (decimal_of word)) NUMBER
 
+-- one or more digits
+abbrev pub is_digits : List ℕ → Bool
+is_digits word = not (length word == 0) && list_all is_digit word
+
 -- an MTU: one that is decimal and out of its range has a code of its own
 abbrev pub mtu_word : List ℕ → Result ℕ ℕ
-mtu_word [] = Err NUMBER
-mtu_word (c ∷ cs) =
-    wanted (list_all is_digit (c ∷ cs)) NUMBER >>= λ _. found (number_within 512 65535 (decimal_of (c ∷ cs))) MTU
+mtu_word word = wanted (is_digits word) NUMBER >>= λ _. found (number_within 512 65535 (decimal_of word)) MTU
 
 abbrev pub address_read : Result (List ℕ) NsapFault → Result (List ℕ) ℕ
 address_read (Ok octets) = Ok octets
@@ -95,30 +104,50 @@ life_word word = after_prefix (codes "life=") word >>= number_word 1 255
 
 -- Lines, by their words.
 
+-- exactly one word
+abbrev pub one_word : List (List ℕ) → Option (List ℕ)
+one_word (word ∷ []) = Some word
+one_word _ = None
+
+-- exactly three words
+abbrev pub three_words : List (List ℕ) → Option (List ℕ × List ℕ × List ℕ)
+three_words (a ∷ b ∷ words) = option_map (λ c. (a, b, c)) (one_word words)
+three_words _ = None
+
+-- exactly five words
+abbrev pub five_words : List (List ℕ) → Option (List ℕ × List ℕ × List ℕ × List ℕ × List ℕ)
+five_words (a ∷ b ∷ words) = option_map (λ w. (a, b, w.0, w.1, w.2)) (three_words words)
+five_words _ = None
+
+-- exactly six words
+abbrev pub six_words : List (List ℕ) → Option (List ℕ × List ℕ × List ℕ × List ℕ × List ℕ × List ℕ)
+six_words (a ∷ words) = option_map (λ w. (a, w.0, w.1, w.2, w.3, w.4)) (five_words words)
+six_words _ = None
+
 -- `subnet NAME MTU`
-abbrev pub subnet_line : List (List ℕ) → Result Subnetwork ℕ
-subnet_line (keyword ∷ name ∷ mtu ∷ []) = do
-  _ ← literal (codes "subnet") keyword
-  name ← name_word name
-  mtu ← mtu_word mtu
+unfoldable pub subnet_line : List (List ℕ) → Result Subnetwork ℕ
+subnet_line words = do
+  w ← found (three_words words) SYNTAX
+  _ ← literal (codes "subnet") w.0
+  name ← name_word w.1
+  mtu ← mtu_word w.2
   Ok (record { name = name; mtu = mtu })
-subnet_line _ = Err SYNTAX
 
 -- a name that the ones before it don't have
 abbrev pub new_name : List (List ℕ) → List ℕ → Result (Unit {0}) ℕ
 new_name names name = wanted (not (is_some (position (λ other. bytes_eq other name) names))) DUP_NAME
 
 -- `system NAME host hello=0 checksum=off`
-abbrev pub system_line : List (List ℕ) → List (List ℕ) → Result (List ℕ) ℕ
-system_line names (keyword ∷ name ∷ role ∷ hello ∷ checksum ∷ []) = do
-  _ ← literal (codes "system") keyword
-  name ← name_word name
-  _ ← literal (codes "host") role
-  _ ← literal (codes "hello=0") hello
-  _ ← literal (codes "checksum=off") checksum
+unfoldable pub system_line : List (List ℕ) → List (List ℕ) → Result (List ℕ) ℕ
+system_line names words = do
+  w ← found (five_words words) SYNTAX
+  _ ← literal (codes "system") w.0
+  name ← name_word w.1
+  _ ← literal (codes "host") w.2
+  _ ← literal (codes "hello=0") w.3
+  _ ← literal (codes "checksum=off") w.4
   _ ← new_name names name
   Ok name
-system_line names _ = Err SYNTAX
 
 -- the system at this place is the one whose turn it is
 abbrev pub own_turn : ℕ → ℕ → Result (Unit {0}) ℕ
@@ -126,50 +155,49 @@ own_turn turn place = wanted (place == turn) SYNTAX
 
 -- an address that the ones before it don't equal
 abbrev pub new_address : List (List ℕ) → List ℕ → Result (Unit {0}) ℕ
-new_address addresses address = wanted (not (is_some (position (λ other. bytes_eq other address) addresses))) DUP_ADDRESS
+new_address addresses address = wanted (not (list_any (λ other. pointwise nat_eq other address) addresses)) DUP_ADDRESS
 
 -- `address NAME ADDRESS`
-abbrev pub address_line : List (List ℕ) → ℕ → List (List ℕ) → List (List ℕ) → Result (List ℕ) ℕ
-address_line names turn addresses (keyword ∷ name ∷ address ∷ []) = do
-  _ ← literal (codes "address") keyword
-  place ← declared_word names name
+unfoldable pub address_line : List (List ℕ) → ℕ → List (List ℕ) → List (List ℕ) → Result (List ℕ) ℕ
+address_line names turn addresses words = do
+  w ← found (three_words words) SYNTAX
+  _ ← literal (codes "address") w.0
+  place ← declared_word names w.1
   _ ← own_turn turn place
-  octets ← address_word address
+  octets ← address_word w.2
   _ ← new_address addresses octets
   Ok octets
-address_line names turn addresses _ = Err SYNTAX
 
 -- `port NAME 0 SUBNET SNPA`
-abbrev pub port_line : Subnetwork → List (List ℕ) → ℕ → List (List ℕ) → List (List ℕ) → Result (List ℕ) ℕ
-port_line subnet names turn snpas (keyword ∷ name ∷ number ∷ on ∷ snpa ∷ []) = do
-  _ ← literal (codes "port") keyword
-  place ← declared_word names name
+unfoldable pub port_line : List ℕ → List (List ℕ) → ℕ → List (List ℕ) → List (List ℕ) → Result (List ℕ) ℕ
+port_line subnet names turn snpas words = do
+  w ← found (five_words words) SYNTAX
+  _ ← literal (codes "port") w.0
+  place ← declared_word names w.1
   _ ← own_turn turn place
-  _ ← number_word 0 0 number
-  _ ← declared_word (subnet.name ∷ []) on
-  octets ← address_word snpa
+  _ ← number_word 0 0 w.2
+  _ ← declared_word (subnet ∷ []) w.3
+  octets ← address_word w.4
   _ ← new_address snpas octets
   Ok octets
-port_line subnet names turn snpas _ = Err SYNTAX
 
 -- `NAME FROM TO hex:DIGITS life=N whole`, behind `send`
-abbrev pub send_line : List (List ℕ) → List (List ℕ) → Result Event ℕ
-send_line names (name ∷ from ∷ to ∷ body ∷ life ∷ whole ∷ []) = do
-  system ← declared_word names name
-  from ← address_word from
-  to ← address_word to
-  body ← data_word body
-  life ← life_word life
-  _ ← literal (codes "whole") whole
+unfoldable pub send_line : List (List ℕ) → List (List ℕ) → Result Event ℕ
+send_line names words = do
+  w ← found (six_words words) SYNTAX
+  system ← declared_word names w.0
+  from ← address_word w.1
+  to ← address_word w.2
+  body ← data_word w.3
+  life ← life_word w.4
+  _ ← literal (codes "whole") w.5
   Ok (Send system from to body life)
-send_line names _ = Err SYNTAX
 
 -- `N`, behind `settle`
-abbrev pub settle_line : List (List ℕ) → Result Event ℕ
-settle_line (count ∷ []) = number_word 1 100000 count >>= λ n. Ok (Settle n)
-settle_line _ = Err SYNTAX
+unfoldable pub settle_line : List (List ℕ) → Result Event ℕ
+settle_line words = found (one_word words) SYNTAX >>= λ count. number_word 1 100000 count >>= λ n. Ok (Settle n)
 
-abbrev pub event_line : List (List ℕ) → List (List ℕ) → Result Event ℕ
+unfoldable pub event_line : List (List ℕ) → List (List ℕ) → Result Event ℕ
 event_line names [] = Err SYNTAX
 event_line names (keyword ∷ words) =
     if bytes_eq keyword (codes "send") then send_line names words
@@ -204,55 +232,81 @@ header_line (line ∷ lines) = at_line 1 (wanted (bytes_eq line (codes "clnp-sim
 
 -- one word alone
 abbrev pub only_word : List ℕ → List (List ℕ) → Result (Unit {0}) ℕ
-only_word text (word ∷ []) = literal text word
-only_word text _ = Err SYNTAX
+only_word text words = found (one_word words) SYNTAX >>= literal text
+
+abbrev pub is_end_word : Option (List ℕ) → Bool
+is_end_word (Some word) = bytes_eq word (codes "end")
+is_end_word None = false
 
 abbrev pub is_end : List (List ℕ) → Bool
-is_end (word ∷ []) = bytes_eq word (codes "end")
-is_end _ = false
+is_end words = is_end_word (one_word words)
 
 -- no line comes after `end`
-abbrev pub nothing_after : ℕ → List (List ℕ) → Result (List Event) BadLine
-nothing_after n [] = Ok []
+abbrev pub nothing_after : ℕ → List (List ℕ) → Result (Unit {0}) BadLine
+nothing_after n [] = Ok tt
 nothing_after n (line ∷ lines) = Err (record { line = n; code = SYNTAX })
+
+-- the event of line number n, the events and settles so far counted with it
+unfoldable pub counted_event : List (List ℕ) → ℕ → ℕ → ℕ → List (List ℕ) → Result Event BadLine
+counted_event names n events settles words = do
+  event ← at_line n (event_line names words)
+  _ ← at_line n (within_counts (events + 1) (settles + settles_of event))
+  Ok event
 
 -- The event lines from number n on, and `end`, where so many events and settles came before.
 unfoldable pub events_from : List (List ℕ) → ℕ → ℕ → ℕ → List (List ℕ) → Result (List Event) BadLine
 events_from names n events settles [] = Err (record { line = n; code = SYNTAX })
 events_from names n events settles (line ∷ lines) =
-    if is_end (words_of line) then nothing_after (n + 1) lines
-    else (at_line n (event_line names (words_of line)) >>= λ event.
-    at_line n (within_counts (events + 1) (settles + settles_of event)) >>= λ _.
+    if is_end (words_of line) then (nothing_after (n + 1) lines >>= λ _. Ok [])
+    else (counted_event names n events settles (words_of line) >>= λ event.
     events_from names (n + 1) (events + 1) (settles + settles_of event) lines >>= λ others.
     Ok (event ∷ others))
 
 -- a host with one address and one port on the one subnetwork, whose headers have no checksum
-abbrev pub host_of : Subnetwork → List ℕ → List ℕ → List ℕ → SystemConfiguration
-host_of subnet name address snpa =
+abbrev pub host_of : ℕ → List ℕ → List ℕ → List ℕ → SystemConfiguration
+host_of mtu name address snpa =
     record {
       name = name;
       role = Host;
       addresses = address ∷ [];
-      ports = record { subnet = 0; snpa = snpa; mtu = subnet.mtu } ∷ [];
+      ports = record { subnet = 0; snpa = snpa; mtu = mtu } ∷ [];
       settings = record { sealed = false };
     }
+
+-- the two names that lines 3 and 4 declare, and the lines behind them
+unfoldable pub names_at : List (List ℕ) → Result (List ℕ × List ℕ × List (List ℕ)) BadLine
+names_at lines = do
+  first ← next_line_as 3 (system_line []) lines
+  second ← next_line_as 4 (system_line (first.0 ∷ [])) first.1
+  Ok (first.0, second.0, second.1)
+
+-- the addresses of the two systems, on lines 5 and 6, and the lines behind them
+unfoldable pub addresses_at : List (List ℕ) → List (List ℕ) → Result (List ℕ × List ℕ × List (List ℕ)) BadLine
+addresses_at names lines = do
+  first ← next_line_as 5 (address_line names 0 []) lines
+  second ← next_line_as 6 (address_line names 1 (first.0 ∷ [])) first.1
+  Ok (first.0, second.0, second.1)
+
+-- the addresses of their ports on the subnetwork, on lines 7 and 8, and the lines behind them
+unfoldable pub ports_at : List ℕ → List (List ℕ) → List (List ℕ) → Result (List ℕ × List ℕ × List (List ℕ)) BadLine
+ports_at subnet names lines = do
+  first ← next_line_as 7 (port_line subnet names 0 []) lines
+  second ← next_line_as 8 (port_line subnet names 1 (first.0 ∷ [])) first.1
+  Ok (first.0, second.0, second.1)
 
 -- what the lines of a text say, or the first bad line
 unfoldable pub plan_at : List (List ℕ) → Result Plan BadLine
 plan_at lines = do
   lines ← header_line lines
   subnet ← next_line_as 2 subnet_line lines
-  first ← next_line_as 3 (system_line []) subnet.1
-  second ← next_line_as 4 (system_line (first.0 ∷ [])) first.1
-  a ← next_line_as 5 (address_line (first.0 ∷ second.0 ∷ []) 0 []) second.1
-  b ← next_line_as 6 (address_line (first.0 ∷ second.0 ∷ []) 1 (a.0 ∷ [])) a.1
-  p ← next_line_as 7 (port_line subnet.0 (first.0 ∷ second.0 ∷ []) 0 []) b.1
-  q ← next_line_as 8 (port_line subnet.0 (first.0 ∷ second.0 ∷ []) 1 (p.0 ∷ [])) p.1
-  started ← next_line_as 9 (only_word (codes "events")) q.1
-  events ← events_from (first.0 ∷ second.0 ∷ []) 10 0 0 started.1
+  names ← names_at subnet.1
+  a ← addresses_at (names.0 ∷ names.1 ∷ []) names.2
+  p ← ports_at subnet.0.name (names.0 ∷ names.1 ∷ []) a.2
+  started ← next_line_as 9 (only_word (codes "events")) p.2
+  events ← events_from (names.0 ∷ names.1 ∷ []) 10 0 0 started.1
   Ok (record {
     subnets = subnet.0 ∷ [];
-    systems = host_of subnet.0 first.0 a.0 p.0 ∷ host_of subnet.0 second.0 b.0 q.0 ∷ [];
+    systems = host_of subnet.0.mtu names.0 a.0 p.0 ∷ host_of subnet.0.mtu names.1 a.1 p.1 ∷ [];
     events = events;
   })
 

@@ -1,2 +1,3 @@
 pub mod Scenario
 pub mod Grammar
+pub mod Refusal

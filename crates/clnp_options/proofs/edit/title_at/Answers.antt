@@ -1,4 +1,4 @@
-use Rattle.std.proofs.Common.{ap, ◌∙◌, arith, ◌≡◌, ◌+◌, ◌-◌, take, drop, Some, sym}
+use Rattle.std.proofs.Common.{ap, ◌∙◌, arith, ◌≡◌, ◌+◌, ◌-◌, take, drop, Some}
 use Rattle.clnp_options.specs.Edits.{pointer_of, title_size}
 use Rattle.clnp_options.proofs.Values.{title_at-none, title_at-some}
 use Rattle.clnp_options.proofs.edit.title_at.Goals as goal

@@ -1,6 +1,6 @@
 use Rattle.std.proofs.Common.{refl}
 use Rattle.std.proofs.lemmas.Result.{err_from_is_err_and}
-use Rattle.clnp_options.proofs.Least.{at_rule-found, refused_by_form, passed_form, accepted_iff, well_formed_on_ok}
+use Rattle.clnp_options.proofs.Least.{refused_by_form, passed_form, accepted_iff, well_formed_on_ok}
 use Rattle.clnp_options.proofs.judge.check.Goals as goal
 
 pub returns-in_err-check_form-clause-judged : goal.returns-in_err-check_form-clause-judged
@@ -12,7 +12,7 @@ pub returns-in_err-check_form-clause-accepted : goal.returns-in_err-check_form-c
 returns-in_err-check_form-clause-accepted c =
     accepted_iff c.from_residual.result c.args.part.now c.args.first c.args.is_report
     (let p = err_from_is_err_and c.from_residual.result c.from_residual.ensures.1 in
-     rw (p.1, p.2) (refused_by_form _ _ _ _ c.in_err-check_form.ensures))
+    rw (p.1, p.2) (refused_by_form _ _ _ _ c.in_err-check_form.ensures))
 
 pub returns-clause-judged : goal.returns-clause-judged
 returns-clause-judged c =

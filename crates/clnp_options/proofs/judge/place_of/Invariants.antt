@@ -7,7 +7,7 @@ use Rattle.clnp_options.proofs.judge.place_of.Given as goal
 abbrev pub invariant-loop-code : goal.invariant-loop-code
 invariant-loop-code l = record {
   at : l.place + length l.rest ≡ l.first + length l.part;
-  same : rules.place_of (test_of l.test) l.place (parameters l.rest) ≡ rules.place_of (test_of l.test) l.first (parameters l.part)
+  same : rules.place_of (test_of l.test) l.place (parameters l.rest) ≡ rules.place_of (test_of l.test) l.first (parameters l.part);
 }
 
 abbrev pub decreases-loop-code : goal.decreases-loop-code

@@ -1,5 +1,4 @@
-use Rattle.std.proofs.Common.{sym, ◌∙◌}
-use Rattle.clnp_options.specs.Parameter.{parameters}
+use Rattle.std.proofs.Common.{sym}
 use Rattle.clnp_options.proofs.Places.{place_of_reason-found, place_of_reason-none}
 use Rattle.clnp_options.proofs.judge.place_of_reason.Goals as goal
 

@@ -5,7 +5,7 @@ use Rattle.clnp_options.proofs.judge.place_of_repeat.Given as goal
 abbrev pub invariant-loop-code : goal.invariant-loop-code
 invariant-loop-code l = record {
   at : l.place + length l.rest ≡ l.first + length l.part;
-  so_far : RepeatSoFar l.seen l.place l.rest l.first l.part
+  so_far : RepeatSoFar l.seen l.place l.rest l.first l.part;
 }
 
 abbrev pub decreases-loop-code : goal.decreases-loop-code

@@ -13,7 +13,7 @@ pub returns-then-is_empty : goal.returns-then-is_empty
 returns-then-is_empty c =
     place_of_unfit-none c.args.first c.args.part.now
     (let h = eqb-true _ 0 (sym c.is_empty.ensures ∙ c.if-is_empty.true) in
-     omega (arith, h, c.loop-value.invariant.at, c.loop-value.invariant.same, fitting_none _ c.in_default.ensures.none))
+    omega (arith, h, c.loop-value.invariant.at, c.loop-value.invariant.same, fitting_none _ c.in_default.ensures.none))
 
 pub returns-else-is_empty : goal.returns-else-is_empty
 returns-else-is_empty c =

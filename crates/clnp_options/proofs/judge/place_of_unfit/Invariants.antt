@@ -5,7 +5,7 @@ use Rattle.clnp_options.proofs.judge.place_of_unfit.Given as goal
 abbrev pub invariant-loop-value : goal.invariant-loop-value
 invariant-loop-value l = record {
   at : l.place + length l.rest ≡ l.first + length l.part;
-  same : l.place + length (spelled (parameters l.rest)) ≡ l.first + length (spelled (parameters l.part))
+  same : l.place + length (spelled (parameters l.rest)) ≡ l.first + length (spelled (parameters l.part));
 }
 
 abbrev pub decreases-loop-value : goal.decreases-loop-value

@@ -6,7 +6,8 @@ pub returns-clause-part : goal.returns-clause-part
 returns-clause-part c =
     λ part first. (
       (λ e. (parameters part, forms_of part ((well_formed_anywhere part first).0 e))),
-      (λ s. (well_formed_anywhere part first).1 (well_formed_from s.0 part s.1)))
+      (λ s. (well_formed_anywhere part first).1 (well_formed_from s.0 part s.1)),
+    )
 
 pub returns-clause-well_formed : goal.returns-clause-well_formed
 returns-clause-well_formed c = λ part. ((λ h. forms_of part h), (λ f. well_formed_from (parameters part) part f))

@@ -7,7 +7,8 @@ pub returns-clause-spelled : goal.returns-clause-spelled
 returns-clause-spelled c =
     λ is_report part first. (
       (λ e. (parameters part, spells_of is_report part ((accepted_anywhere is_report part first).0 e))),
-      (λ s. (accepted_anywhere is_report part first).1 (accepts_from is_report s.0 part s.1)))
+      (λ s. (accepted_anywhere is_report part first).1 (accepts_from is_report s.0 part s.1)),
+    )
 
 pub returns-clause-accepts : goal.returns-clause-accepts
 returns-clause-accepts c =

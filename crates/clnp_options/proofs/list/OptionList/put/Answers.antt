@@ -1,4 +1,4 @@
-use Rattle.std.proofs.Common.{arith, ◌∙◌}
+use Rattle.std.proofs.Common.{arith}
 use Rattle.clnp_options.proofs.Holds.{three_writes}
 use Rattle.clnp_options.proofs.list.OptionList.put.Goals as goal
 

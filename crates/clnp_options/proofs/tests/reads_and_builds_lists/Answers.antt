@@ -1,0 +1,8 @@
+use Rattle.std.proofs.Common.{refl}
+use Rattle.clnp_options.specs.Parameter.{parameters_after}
+use Rattle.clnp_options.specs.Rules.{place_of, place_of_repeat, list_refusal}
+use Rattle.clnp_options.proofs.tests.reads_and_builds_lists.Goals as goal
+
+pub push-requires : goal.push-requires
+unfolding parameters_after place_of place_of_repeat list_refusal
+push-requires g c = rw c.new-other.ensures refl

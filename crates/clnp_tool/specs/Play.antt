@@ -1,0 +1,60 @@
+-- What the parts of the program come to: playing moves, playing a scenario, and the command `sim`.
+use Rattle.std.specs.Prelude.{◌≡◌, ℕ, ◌⊎◌, List, Option, Result, Ok, Err, IfOk}
+use Rattle.std.specs.Io.KnownBytes.{Appends, Keeps}
+use Rattle.clnp_base.specs.Streams.{AppendsFront}
+use Rattle.scenario.specs.Scenario.{Plan}
+use Rattle.scenario.specs.declared.event.Move.{Move}
+use Rattle.scenario.specs.Grammar.{plan_of}
+use Rattle.clnp_network.specs.World as network
+use Rattle.clnp_network.specs.Run.{text_of, world_after, journal}
+use Rattle.clnp_world.specs.declared.world.World.{World}
+use Rattle.clnp_world.specs.Stands.{Stands}
+use Rattle.clnp_tool.specs.declared.status.Status.{Status}
+use Rattle.clnp_tool.specs.declared.status.Status.TheVariants as status
+use Rattle.clnp_tool.specs.declared.top.Stop.{Stop}
+use Rattle.clnp_tool.specs.declared.top.Stop.TheVariants as stop
+use Rattle.clnp_tool.specs.Words.{status_of, output_of}
+use Rattle.clnp_tool.specs.Sim.{AppendsMoves, AppendsWholeMoves}
+
+-- What writing a piece comes to: it was written; a front of it was; or nothing was.
+abbrev pub PieceOf : {A : Type 0} → List ℕ → Option (List ℕ) → Option (List ℕ) → Result A Stop → Type 0
+PieceOf piece before after (Ok _) = Appends before after piece
+PieceOf piece before after (Err stop.WriteFault) = AppendsFront before after piece
+PieceOf piece before after (Err stop.NoMemory) = Keeps before after
+
+-- the moves were made, and their text was written
+pub record Plays (plan : Plan) (model : network.World) (moves : List Move) (code : World) (before after : Option (List ℕ)) : Type 0 where
+  pub stands : Stands code (world_after plan model moves)
+  pub appended : Appends before after (text_of plan model moves)
+
+-- what was written where playing moves stopped: a front of their text, or that of some whole moves
+abbrev pub StopOf : Plan → network.World → List Move → Option (List ℕ) → Option (List ℕ) → Stop → Type 0
+StopOf plan model moves before after stop.WriteFault = AppendsFront before after (text_of plan model moves)
+StopOf plan model moves before after stop.NoMemory = AppendsMoves plan model moves before after
+
+-- What playing moves comes to: all of them were played, or it stopped.
+abbrev pub PlayOf : {A : Type 0} → Plan → network.World → List Move → World → Option (List ℕ) → Option (List ℕ) → Result A Stop → Type 0
+PlayOf plan model moves code before after (Ok _) = Plays plan model moves code before after
+PlayOf plan model moves code before after (Err e) = StopOf plan model moves before after e
+
+-- what was written where playing a scenario stopped: a front of its journal, or the text of some whole moves
+abbrev pub JournalStopOf : Plan → Option (List ℕ) → Option (List ℕ) → Stop → Type 0
+JournalStopOf plan before after stop.WriteFault = AppendsFront before after (journal plan)
+JournalStopOf plan before after stop.NoMemory = AppendsWholeMoves plan before after
+
+-- What playing a scenario comes to.
+abbrev pub JournalOf : {A : Type 0} → Plan → Option (List ℕ) → Option (List ℕ) → Result A Stop → Type 0
+JournalOf plan before after (Ok _) = Appends before after (journal plan)
+JournalOf plan before after (Err e) = JournalStopOf plan before after e
+
+-- What the command `sim` comes to on a text.
+abbrev pub SimOf : List ℕ → Option (List ℕ) → Option (List ℕ) → Status → Type 0
+SimOf text before after status.Done = (status_of (plan_of text) ≡ status.Done) × Appends before after (output_of text)
+SimOf text before after (status.BadInput line code) = (status_of (plan_of text) ≡ status.BadInput line code) × Keeps before after
+SimOf text before after status.WriteFault = (status_of (plan_of text) ≡ status.Done) × AppendsFront before after (output_of text)
+SimOf text before after status.NoMemory =
+    Keeps before after
+    ⊎ ((status_of (plan_of text) ≡ status.Done) × IfOk (plan_of text) (λ plan. AppendsWholeMoves plan before after))
+SimOf text before after (status.BadWords at) = ⊥
+SimOf text before after status.TooLong = ⊥
+SimOf text before after status.ReadFault = ⊥

@@ -1,0 +1,193 @@
+use crate::status::Status;
+use crate::top::clnp_main;
+use clnp_base::{MemSink, MemSource};
+use std::alloc::Global;
+use std::test::Fail;
+
+/// Two hosts on one subnetwork, and one unit from the first to the second.
+const SCENARIO: &str = "\
+clnp-sim 1
+subnet lan 1500
+system a host hello=0 checksum=off
+system b host hello=0 checksum=off
+address a 47002702
+address b 47002701
+port a 0 lan 01
+port b 0 lan 02
+events
+send a 47002702 47002701 hex:6869 life=10 whole
+settle 1
+end
+";
+
+/// Its journal.
+const JOURNAL: &str = "\
+0 a sent dt 1 - 47002702 47002701 2
+0 a tx 1 0 es 8113010a3c00150000044700270104470027026869
+0 b got 47002702 47002701 6869
+end 0 1
+";
+
+/// A call of the program: its input, and the source and sink that it is made over.
+#[derive(Clone, Copy)]
+struct Call<'a> {
+    words: &'a [&'a str],
+    text: &'a [u8],
+    /// The most octets that source and sink move in one call, at least 1.
+    most: usize,
+    read_fails: &'a [u64],
+    write_fails: &'a [u64],
+}
+
+impl Call<'_> {
+    /// The status, and the sink as it is afterwards.
+    fn run(self, alloc: Global) -> Result<(Status, MemSink), Fail> {
+        let mut words = Vec::new(alloc);
+        for word in self.words {
+            words.push(String::from_str(alloc, word)?)?;
+        }
+        let most = self.most.max(1);
+        let text = Vec::from_slice(alloc, self.text)?;
+        let read_fails = Vec::from_slice(alloc, self.read_fails)?;
+        let mut source = MemSource::new(text, most, read_fails);
+        let write_fails = Vec::from_slice(alloc, self.write_fails)?;
+        let mut sink = MemSink::new(alloc, 1000, most, write_fails)?;
+        let status = clnp_main(alloc, words.as_slice(), &mut source, &mut sink);
+        Ok((status, sink))
+    }
+}
+
+/// `sim` on a text.
+fn sim(text: &[u8], most: usize) -> Call<'_> {
+    Call {
+        words: &["sim"],
+        text,
+        most,
+        read_fails: &[],
+        write_fails: &[],
+    }
+}
+
+#[test]
+fn writes_the_journal_octet_by_octet(rt: HostRuntime) -> Result<(), Fail> {
+    let (status, sink) = sim(SCENARIO.as_bytes(), 1).run(rt.alloc())?;
+    assert_eq!(rt; status, Status::Done);
+    assert_eq!(rt; sink.as_bytes(), JOURNAL.as_bytes());
+    Ok(())
+}
+
+#[test]
+fn stops_where_the_sink_fails(rt: HostRuntime) -> Result<(), Fail> {
+    // What was taken before each call: a send writes 93 octets, the settle 31, the end 8.
+    let taken = [
+        0, 7, 14, 21, 28, 35, 42, 49, 56, 63, 70, 77, 84, 91, 93, 100, 107, 114, 121, 124, 131,
+    ];
+    let mut number = 0u64;
+    for front in taken {
+        number = number.saturating_add(1);
+        let mut call = sim(SCENARIO.as_bytes(), 7);
+        let fails = [number];
+        call.write_fails = &fails;
+        let (status, sink) = call.run(rt.alloc())?;
+        assert_eq!(rt; status, Status::WriteFault, "at call {number}");
+        assert_eq!(rt;
+            sink.as_bytes(),
+            &JOURNAL.as_bytes()[..front],
+            "at call {number}"
+        );
+    }
+    let mut call = sim(SCENARIO.as_bytes(), 7);
+    call.write_fails = &[22];
+    let (status, sink) = call.run(rt.alloc())?;
+    assert_eq!(rt; status, Status::Done);
+    assert_eq!(rt; sink.as_bytes(), JOURNAL.as_bytes());
+    Ok(())
+}
+
+#[test]
+fn stops_where_the_source_fails(rt: HostRuntime) -> Result<(), Fail> {
+    // The text has 235 octets, so 34 calls give some and one more tells the end.
+    for number in 1..36u64 {
+        let mut call = sim(SCENARIO.as_bytes(), 7);
+        let fails = [number];
+        call.read_fails = &fails;
+        let (status, sink) = call.run(rt.alloc())?;
+        assert_eq!(rt; status, Status::ReadFault, "at call {number}");
+        assert!(rt; sink.as_bytes().is_empty());
+    }
+    let mut call = sim(SCENARIO.as_bytes(), 7);
+    call.read_fails = &[36];
+    let (status, _) = call.run(rt.alloc())?;
+    assert_eq!(rt; status, Status::Done);
+    Ok(())
+}
+
+#[test]
+fn refuses_words(rt: HostRuntime) -> Result<(), Fail> {
+    let table = [
+        ([].as_slice(), 0),
+        (["show"].as_slice(), 0),
+        (["sim", "x"].as_slice(), 1),
+        (["--help", "sim"].as_slice(), 0),
+        (["Sim"].as_slice(), 0),
+    ];
+    for (words, at) in table {
+        let mut call = sim(SCENARIO.as_bytes(), 100);
+        call.words = words;
+        let (status, sink) = call.run(rt.alloc())?;
+        assert_eq!(rt; status, Status::BadWords { at });
+        assert!(rt; sink.as_bytes().is_empty());
+    }
+    Ok(())
+}
+
+/// The scenario with a part of it in place of another.
+fn with(alloc: Global, old: &str, new: &str) -> Result<String, Fail> {
+    Ok(SCENARIO.replace(alloc, old, new)?)
+}
+
+#[test]
+fn judges_texts(rt: HostRuntime) -> Result<(), Fail> {
+    let table = [
+        ("end\n", "end", Status::Done),
+        ("\n", "\r\n", Status::Done),
+        (
+            "lan 1500",
+            "lan\0 1500",
+            Status::BadInput { line: 2, code: 2 },
+        ),
+        (
+            "subnet lan",
+            "subnet abcdefghijklmnopq",
+            Status::BadInput { line: 2, code: 2 },
+        ),
+        (
+            "settle 1",
+            "settle 123456789012345678901234567890",
+            Status::BadInput { line: 11, code: 3 },
+        ),
+        (
+            "clnp-sim 1",
+            "clnp-sim 2",
+            Status::BadInput { line: 1, code: 1 },
+        ),
+    ];
+    for (old, new, wanted) in table {
+        let text = with(rt.alloc(), old, new)?;
+        let (status, sink) = sim(text.as_str().as_bytes(), 100).run(rt.alloc())?;
+        assert_eq!(rt; status, wanted, "with {new:?}");
+        assert_eq!(rt; sink.as_bytes().is_empty(), wanted != Status::Done);
+    }
+    let (status, _) = sim(b"", 100).run(rt.alloc())?;
+    assert_eq!(rt; status, Status::BadInput { line: 1, code: 1 });
+    Ok(())
+}
+
+#[test]
+fn refuses_a_long_text(rt: HostRuntime) -> Result<(), Fail> {
+    let text = vec![in rt.alloc(); b'a'; 16_777_217]?;
+    let (status, sink) = sim(text.as_slice(), usize::MAX).run(rt.alloc())?;
+    assert_eq!(rt; status, Status::TooLong);
+    assert!(rt; sink.as_bytes().is_empty());
+    Ok(())
+}

@@ -1,0 +1,3 @@
+pub mod ModelSteps
+pub mod StandSteps
+pub mod HostSteps

@@ -1,0 +1,22 @@
+-- How the answers of the reader and the grammar agree, up to want of memory.
+use Rattle.std.specs.Prelude.{◌≡◌, ℕ, List, map, Result, Ok, Err}
+use Rattle.scenario.specs.Grammar.{BadLine as Bad}
+use Rattle.scenario.specs.declared.fault.LineFault.{LineFault}
+use Rattle.scenario.specs.declared.fault.LineFault.TheVariants.{Code, NoMemory}
+use Rattle.scenario.specs.declared.fault.ScenarioRefusal.{ScenarioRefusal}
+use Rattle.scenario.specs.declared.fault.ScenarioRefusal.TheVariants as refusal
+
+-- a bad line is the grammar's very bad line; want of memory alone is free
+abbrev pub Refuses : {A : Type 0} → ScenarioRefusal → Result A Bad → Type 0
+Refuses refusal.NoMemory reading = Unit {0}
+Refuses (refusal.BadLine line code) reading = reading ≡ Err (record { line = line; code = code })
+
+-- a code is the grammar's very code for the line; want of memory alone is free
+abbrev pub Faults : {A : Type 0} → LineFault → Result A ℕ → Type 0
+Faults NoMemory reading = Unit {0}
+Faults (Code code) reading = reading ≡ Err code
+
+-- the code at the line of this number
+abbrev pub refused_at : {A : Type 0} → ℕ → Result A ℕ → Result A ScenarioRefusal
+refused_at line (Ok x) = Ok x
+refused_at line (Err code) = Err (refusal.BadLine line code)

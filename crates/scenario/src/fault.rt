@@ -1,0 +1,54 @@
+//! Why a text or one of its lines is refused.
+
+use std::alloc::{AllocError, AllocFailed};
+
+/// Why a text is no scenario.
+#[derive(Clone, Copy, Debug, PartialEq, Eq)]
+pub enum ScenarioRefusal {
+    /// The first line that breaks the grammar, from 1, and the code of what it breaks.
+    BadLine { line: u32, code: u8 },
+    /// Memory was refused.
+    NoMemory,
+}
+
+impl From<AllocError> for ScenarioRefusal {
+    ghost use Rattle.std.specs.Prelude.{◌≡◌};
+    ghost use Rattle.scenario.specs.declared.fault.ScenarioRefusal.TheVariants.{NoMemory};
+
+    ghost from_gives = { λ _ refusal. refusal ≡ NoMemory };
+
+    fn from(_refused: AllocError) -> ScenarioRefusal {
+        ScenarioRefusal::NoMemory
+    }
+}
+
+impl<T: Drop> From<AllocFailed<T>> for ScenarioRefusal {
+    ghost use Rattle.std.specs.Prelude.{◌≡◌};
+    ghost use Rattle.scenario.specs.declared.fault.ScenarioRefusal.TheVariants.{NoMemory};
+
+    ghost from_gives = { λ _ refusal. refusal ≡ NoMemory };
+
+    fn from(_refused: AllocFailed<T>) -> ScenarioRefusal {
+        ScenarioRefusal::NoMemory
+    }
+}
+
+/// Why a line isn't read.
+#[derive(Clone, Copy, Debug)]
+pub(crate) enum LineFault {
+    /// The code of what the line breaks.
+    Code(u8),
+    /// Memory was refused.
+    NoMemory,
+}
+
+impl From<u8> for LineFault {
+    ghost use Rattle.std.specs.Prelude.{◌≡◌};
+    ghost use Rattle.scenario.specs.declared.fault.LineFault.TheVariants.{Code};
+
+    ghost from_gives = { λ code fault. fault ≡ Code code };
+
+    fn from(code: u8) -> LineFault {
+        LineFault::Code(code)
+    }
+}

@@ -1,0 +1,254 @@
+//! The words of a line: each gives its value, or the code of what is wrong with it.
+ghost use Rattle.std.specs.Prelude.{◌≡◌, ◌<◌, ◌≤◌, map, length, IfOk, IfSome, None, Some, Ok, Err, MatchOption, MatchResult};
+ghost use Rattle.std.specs.Str.{bytes_eq};
+ghost use Rattle.std.specs.List.{position, list_all};
+ghost use Rattle.clnp_base.specs.Text.{words_of, is_digit};
+ghost use Rattle.scenario.specs.Grammar.{one_word, three_words, five_words, six_words, wanted, literal, is_letter_or_digit, begins_with_letter, is_name, is_digits, number_within, name_word, declared_word, number_word, mtu_word, address_word, after_prefix, data_word, life_word};
+ghost use Rattle.scenario.specs.Refusal.{Faults};
+
+use crate::code::{ADDRESS, MTU, NUMBER, SYNTAX, UNKNOWN_NAME};
+use crate::fault::LineFault;
+use clnp_base::{Octets, decimal, next_word};
+use nsap::{Address, Snpa};
+use std::alloc::Global;
+
+/// The word of a line that has one word.
+pub(crate) fn one_word(line: &[u8]) -> Option<&[u8]>
+    ensures { MatchOption result (one_word (words_of line.now) ≡ None) (λ word. one_word (words_of line.now) ≡ Some word.now) }
+{
+    let (word, line) = next_word(line)?;
+    match next_word(line) {
+        Some(_) => None,
+        None => Some(word),
+    }
+}
+
+/// The words of a line that has three words.
+pub(crate) fn three_words(line: &[u8]) -> Option<(&[u8], &[u8], &[u8])>
+    ensures { MatchOption result (three_words (words_of line.now) ≡ None)
+        (λ words. three_words (words_of line.now) ≡ Some (words.0.now, words.1.now, words.2.now)) }
+{
+    let (a, line) = next_word(line)?;
+    let (b, line) = next_word(line)?;
+    let c = one_word(line)?;
+    Some((a, b, c))
+}
+
+/// The words of a line that has five words.
+pub(crate) fn five_words(line: &[u8]) -> Option<(&[u8], &[u8], &[u8], &[u8], &[u8])>
+    ensures { MatchOption result (five_words (words_of line.now) ≡ None)
+        (λ words. five_words (words_of line.now) ≡ Some (words.0.now, words.1.now, words.2.now, words.3.now, words.4.now)) }
+{
+    let (a, line) = next_word(line)?;
+    let (b, line) = next_word(line)?;
+    let (c, d, e) = three_words(line)?;
+    Some((a, b, c, d, e))
+}
+
+/// The words of a line that has six words.
+pub(crate) fn six_words(line: &[u8]) -> Option<(&[u8], &[u8], &[u8], &[u8], &[u8], &[u8])>
+    ensures { MatchOption result (six_words (words_of line.now) ≡ None)
+        (λ words. six_words (words_of line.now) ≡ Some (words.0.now, words.1.now, words.2.now, words.3.now, words.4.now, words.5.now)) }
+{
+    let (a, line) = next_word(line)?;
+    let (b, c, d, e, f) = five_words(line)?;
+    Some((a, b, c, d, e, f))
+}
+
+/// Whether two words are the same.
+pub(crate) fn same(word: &[u8], other: &[u8]) -> bool
+    ensures { result ≡ bytes_eq word.now other.now }
+{
+    word == other
+}
+
+/// Nothing where it holds, and else the code.
+pub(crate) fn wanted(holds: bool, code: u8) -> Result<(), u8>
+    ensures { result ≡ wanted holds code }
+{
+    if holds { Ok(()) } else { Err(code) }
+}
+
+/// This very word.
+pub(crate) fn literal(text: &[u8], word: &[u8]) -> Result<(), u8>
+    ensures { result ≡ literal text.now word.now }
+{
+    wanted(same(word, text), SYNTAX)
+}
+
+/// Whether a character is a letter a to z or a digit.
+fn is_letter_or_digit(c: u8) -> bool
+    ensures { result ≡ is_letter_or_digit c }
+{
+    c.is_ascii_lowercase() || c.is_ascii_digit()
+}
+
+/// Whether a word begins with a letter a to z.
+fn begins_with_letter(word: &[u8]) -> bool
+    ensures { result ≡ begins_with_letter word.now }
+{
+    match word {
+        [first, ..] => first.is_ascii_lowercase(),
+        [] => false,
+    }
+}
+
+/// Whether a word has letters a to z and digits alone.
+fn all_letters_or_digits(word: &[u8]) -> bool
+    ensures { result ≡ list_all is_letter_or_digit word.now }
+{
+    word.iter().all(|c| is_letter_or_digit(*c))
+}
+
+/// Whether a word is up to 16 letters a to z and digits, the first of them a letter.
+fn is_name(word: &[u8]) -> bool
+    ensures { result ≡ is_name word.now }
+{
+    begins_with_letter(word) && all_letters_or_digits(word) && word.len() <= 16
+}
+
+/// A word that has the form of a name.
+pub(crate) fn name_word(word: &[u8]) -> Result<&[u8], u8>
+    ensures { MatchResult result (λ name. name_word word.now ≡ Ok name.now) (λ code. name_word word.now ≡ Err code) }
+{
+    if is_name(word) { Ok(word) } else { Err(SYNTAX) }
+}
+
+/// The place of the first of the names that equals a word.
+fn first_equal(names: &[&[u8]], word: &[u8]) -> Option<usize>
+    ensures place { result ≡ position (λ name. bytes_eq name.now word.now) names.now }
+    ensures within { IfSome result (λ place. place < length names.now) }
+{
+    names.iter().position(|name| same(name, word))
+}
+
+/// The place of a word among the names.
+pub(crate) fn place_of(names: &[&[u8]], word: &[u8]) -> Option<usize>
+    ensures place { result ≡ position (λ name. bytes_eq name word.now) (map (λ name. name.now) names.now) }
+    ensures within { IfSome result (λ place. place < length names.now) }
+{
+    first_equal(names, word)
+}
+
+/// The place of a name among the declared ones.
+pub(crate) fn declared_word(names: &[&[u8]], word: &[u8]) -> Result<usize, u8>
+    ensures place { result ≡ declared_word (map (λ name. name.now) names.now) word.now }
+    ensures within { IfOk result (λ place. place < length names.now) }
+{
+    if !is_name(word) {
+        return Err(SYNTAX);
+    }
+    match place_of(names, word) {
+        Some(place) => Ok(place),
+        None => Err(UNKNOWN_NAME),
+    }
+}
+
+/// The number, where there is one from `low` to `high`.
+fn number_within(low: u64, high: u64, number: Option<u64>) -> Option<u64>
+    ensures number { result ≡ number_within low high number }
+    ensures within { IfSome result (λ n. n ≤ high) }
+{
+    match number {
+        Some(n) if low <= n && n <= high => Some(n),
+        _ => None,
+    }
+}
+
+/// A decimal from `low` to `high`.
+pub(crate) fn number_word(low: u64, high: u64, word: &[u8]) -> Result<u64, u8>
+    ensures number { result ≡ number_word low high word.now }
+    ensures within { IfOk result (λ n. n ≤ high) }
+{
+    match number_within(low, high, decimal(word)) {
+        Some(n) => Ok(n),
+        None => Err(NUMBER),
+    }
+}
+
+/// Whether a character is a digit.
+fn is_digit(c: u8) -> bool
+    ensures { result ≡ is_digit c }
+{
+    c.is_ascii_digit()
+}
+
+/// Whether a word has digits alone.
+fn all_digits(word: &[u8]) -> bool
+    ensures { result ≡ list_all is_digit word.now }
+{
+    word.iter().all(|c| is_digit(*c))
+}
+
+/// Whether a word is one or more digits.
+fn is_digits(word: &[u8]) -> bool
+    ensures { result ≡ is_digits word.now }
+{
+    !word.is_empty() && all_digits(word)
+}
+
+/// An MTU: a decimal from 512 to 65,535.
+pub(crate) fn mtu_word(word: &[u8]) -> Result<u16, u8>
+    ensures { result ≡ mtu_word word.now }
+{
+    if !is_digits(word) {
+        return Err(NUMBER);
+    }
+    match number_within(512, 65535, decimal(word)) {
+        Some(mtu) => Ok(mtu as u16),
+        None => Err(MTU),
+    }
+}
+
+/// An NSAP address.
+pub(crate) fn address_word(word: &[u8]) -> Result<Address, u8>
+    ensures { result ≡ address_word word.now }
+{
+    match Address::from_text(word) {
+        Ok(address) => Ok(address),
+        Err(_) => Err(ADDRESS),
+    }
+}
+
+/// The address of a port on its subnetwork.
+pub(crate) fn snpa_word(word: &[u8]) -> Result<Snpa, u8>
+    ensures { result ≡ address_word word.now }
+{
+    match Snpa::from_text(word) {
+        Ok(snpa) => Ok(snpa),
+        Err(_) => Err(ADDRESS),
+    }
+}
+
+/// What follows a prefix.
+fn after_prefix<'a>(prefix: &[u8], word: &'a [u8]) -> Result<&'a [u8], u8>
+    ensures { MatchResult result
+        (λ rest. after_prefix prefix.now word.now ≡ Ok rest.now)
+        (λ code. after_prefix prefix.now word.now ≡ Err code) }
+{
+    match word.strip_prefix(prefix) {
+        Some(rest) => Ok(rest),
+        None => Err(SYNTAX),
+    }
+}
+
+/// `hex:` and an even number of hexadecimal digits: the octets that they spell.
+pub(crate) fn data_word(alloc: Global, word: &[u8]) -> Result<Octets, LineFault>
+    ensures { MatchResult result (λ octets. data_word word.now ≡ Ok octets) (λ fault. Faults fault (data_word word.now)) }
+{
+    let digits = after_prefix(b"hex:", word)?;
+    match hex::decode(alloc, digits) {
+        Ok(octets) => Ok(Octets::from_vec(octets)),
+        Err(hex::FromHexError::OutOfMemory) => Err(LineFault::NoMemory),
+        Err(_) => Err(LineFault::Code(ADDRESS)),
+    }
+}
+
+/// `life=` and a decimal from 1 to 255.
+pub(crate) fn life_word(word: &[u8]) -> Result<u8, u8>
+    ensures { result ≡ life_word word.now }
+{
+    let digits = after_prefix(b"life=", word)?;
+    let life = number_word(1, 255, digits)?;
+    Ok(life as u8)
+}
