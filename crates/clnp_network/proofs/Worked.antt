@@ -2,7 +2,7 @@
 use Rattle.std.proofs.Common.{◌≡◌, ℕ, List, ◌++◌, refl, Result, Ok, Err, codes}
 use Rattle.hex.specs.Hex.{encode_with, decode_pairs}
 use Rattle.scenario.specs.Scenario.{Plan}
-use Rattle.scenario.specs.Grammar.{BadLine, plan_of, plan_at, events_from}
+use Rattle.scenario.specs.Grammar.{BadLine, plan_of, plan_at, names_at, addresses_at, ports_at, events_from, counted_event, subnet_line, system_line, address_line, port_line, event_line, send_line, settle_line}
 use Rattle.nsap.specs.Text.{octets_of}
 use Rattle.std.specs.Fmt.{digits}
 use Rattle.clnp_network.specs.Run.{journal}
@@ -15,5 +15,5 @@ written (Ok plan) = journal plan
 written (Err bad) = codes "bad"
 
 journal-two_hosts : written (plan_of two_hosts) ≡ codes "0 a sent dt 1 - 47002702 47002701 2\n0 a tx 1 0 es 8113010a3c00150000044700270104470027026869\n0 b got 47002702 47002701 6869\nend 0 1\n"
-unfolding encode_with decode_pairs octets_of digits plan_at events_from
+unfolding encode_with decode_pairs octets_of digits plan_at names_at addresses_at ports_at events_from counted_event subnet_line system_line address_line port_line event_line send_line settle_line
 journal-two_hosts = refl
