@@ -38,7 +38,7 @@ pub moves_from_more : (events : List Event) (place : ℕ) (event : Event) → pl
     → moves_from 0 (take (place + 1) events) ≡ moves_from 0 (take place events) ++ moves_of place event
 moves_from_more events place event h e =
     let front : take (place + 1) events ≡ take place events ++ (event ∷ []) =
-        rw add-one (take-suc events place event h ∙ ap (λ (x : Event). take place events ++ (x ∷ [])) (sym e)) in
+    rw add-one (take-suc events place event h ∙ ap (λ (x : Event). take place events ++ (x ∷ [])) (sym e)) in
     let len : 0 + length (take place events) ≡ place = omega (arith, length-take place events) in
     ap (λ (t : List Event). moves_from 0 t) front
     ∙ (moves_from-append 0 (take place events) (event ∷ []) ∙ rw (len, append-nil) refl)

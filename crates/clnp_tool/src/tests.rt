@@ -31,7 +31,8 @@ end 0 1
 /// A call of the program: its input, and the source and sink that it is made over.
 #[derive(Clone, Copy)]
 struct Call<'a> {
-    words: &'a [&'a str],
+    /// The words, with spaces between them.
+    words: &'a str,
     text: &'a [u8],
     /// The most octets that source and sink move in one call, at least 1.
     most: usize,
@@ -43,7 +44,7 @@ impl Call<'_> {
     /// The status, and the sink as it is afterwards.
     fn run(self, alloc: Global) -> Result<(Status, MemSink), Fail> {
         let mut words = Vec::new(alloc);
-        for word in self.words {
+        for word in self.words.split_whitespace() {
             words.push(String::from_str(alloc, word)?)?;
         }
         let most = self.most.max(1);
@@ -60,7 +61,7 @@ impl Call<'_> {
 /// `sim` on a text.
 fn sim(text: &[u8], most: usize) -> Call<'_> {
     Call {
-        words: &["sim"],
+        words: "sim",
         text,
         most,
         read_fails: &[],
@@ -125,11 +126,11 @@ fn stops_where_the_source_fails(rt: HostRuntime) -> Result<(), Fail> {
 #[test]
 fn refuses_words(rt: HostRuntime) -> Result<(), Fail> {
     let table = [
-        ([].as_slice(), 0),
-        (["show"].as_slice(), 0),
-        (["sim", "x"].as_slice(), 1),
-        (["--help", "sim"].as_slice(), 0),
-        (["Sim"].as_slice(), 0),
+        ("", 0),
+        ("show", 0),
+        ("sim x", 1),
+        ("--help sim", 0),
+        ("Sim", 0),
     ];
     for (words, at) in table {
         let mut call = sim(SCENARIO.as_bytes(), 100);

@@ -25,7 +25,7 @@ pub goes_on : (front : List Event) (names : List (List ℕ)) (n events settles :
 unfolding events_from
 goes_on front names n events settles line lines event total other h so_far =
     let one : with_front front (events_from names n events settles (line ∷ lines)) ≡ with_front (front ++ event ∷ []) (events_from names (n + 1) (events + 1) (settles + settles_of event) lines)
-      = rw (other, h) (regroup front event (events_from names (n + 1) (events + 1) (settles + settles_of event) lines)) in
+    = rw (other, h) (regroup front event (events_from names (n + 1) (events + 1) (settles + settles_of event) lines)) in
     sym one ∙ so_far
 
 pub stops : (r : ScenarioRefusal) (front : List Event) (names : List (List ℕ)) (n events settles : ℕ) (line : List ℕ) (lines : List (List ℕ)) (total : Result (List Event) BadLine)

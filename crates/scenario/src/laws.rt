@@ -5,5 +5,4 @@ ghost use Rattle.clnp_base.specs.Text.{lines_of};
 /// A text has no more lines than octets.
 pub fn lines_are_few()
     ensures { (text : List ℕ) → length (lines_of text) ≤ length text }
-{
-}
+{}

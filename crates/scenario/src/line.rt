@@ -8,8 +8,8 @@ use crate::code::{COUNT, DUP_ADDRESS, DUP_NAME, SYNTAX};
 use crate::event::Event;
 use crate::fault::LineFault;
 use crate::word::{
-    address_word, data_word, declared_word, five_words, life_word, literal, mtu_word, name_word, number_word, one_word,
-    place_of, same, six_words, snpa_word, three_words, wanted,
+    address_word, data_word, declared_word, five_words, life_word, literal, mtu_word, name_word,
+    number_word, one_word, place_of, same, six_words, snpa_word, three_words, wanted,
 };
 use clnp_base::next_word;
 use nsap::{Address, Snpa};
@@ -81,7 +81,12 @@ fn new_snpa(snpas: &[Snpa], snpa: &Snpa) -> Result<(), u8>
 /// `address NAME ADDRESS`, with the name at place `turn` and an address that isn't among the
 /// addresses: the address.
 #[tactic(auto, unfolding(crate::specs::Grammar::address_line))]
-pub(crate) fn address_line(names: &[&[u8]], turn: usize, addresses: &[Address], line: &[u8]) -> Result<Address, u8>
+pub(crate) fn address_line(
+    names: &[&[u8]],
+    turn: usize,
+    addresses: &[Address],
+    line: &[u8],
+) -> Result<Address, u8>
     ensures { result ≡ address_line (map (λ name. name.now) names.now) turn addresses.now (words_of line.now) }
 {
     let Some((keyword, name, address)) = three_words(line) else {
@@ -98,7 +103,13 @@ pub(crate) fn address_line(names: &[&[u8]], turn: usize, addresses: &[Address], 
 /// `port NAME 0 SUBNET SNPA`, with the name at place `turn` and an SNPA that isn't among the SNPAs:
 /// the SNPA.
 #[tactic(auto, unfolding(crate::specs::Grammar::port_line))]
-pub(crate) fn port_line(subnet: &[u8], names: &[&[u8]], turn: usize, snpas: &[Snpa], line: &[u8]) -> Result<Snpa, u8>
+pub(crate) fn port_line(
+    subnet: &[u8],
+    names: &[&[u8]],
+    turn: usize,
+    snpas: &[Snpa],
+    line: &[u8],
+) -> Result<Snpa, u8>
     ensures { result ≡ port_line subnet.now (map (λ name. name.now) names.now) turn snpas.now (words_of line.now) }
 {
     let Some((keyword, name, number, on, snpa)) = five_words(line) else {
@@ -148,7 +159,9 @@ fn settle_line(line: &[u8]) -> Result<Event, u8>
         return Err(SYNTAX);
     };
     let count = number_word(1, 100_000, count)?;
-    Ok(Event::Settle { count: count as u32 })
+    Ok(Event::Settle {
+        count: count as u32,
+    })
 }
 
 /// An event: a `send` or a `settle`.

@@ -8,7 +8,8 @@ use crate::code::{HEADER, SYNTAX};
 use crate::event::Event;
 use crate::fault::{LineFault, ScenarioRefusal};
 use crate::line::{
-    address_line, event_line, is_end, only_word, port_line, settles_of, subnet_line, system_line, within_counts,
+    address_line, event_line, is_end, only_word, port_line, settles_of, subnet_line, system_line,
+    within_counts,
 };
 use crate::plan::{Scenario, Subnet};
 use crate::word::same;
@@ -36,7 +37,10 @@ fn line_at(number: u32, text: &[u8]) -> Result<(&[u8], &[u8]), ScenarioRefusal>
 {
     match next_line(text) {
         Some((line, rest)) => Ok((line, rest)),
-        None => Err(ScenarioRefusal::BadLine { line: number, code: SYNTAX }),
+        None => Err(ScenarioRefusal::BadLine {
+            line: number,
+            code: SYNTAX,
+        }),
     }
 }
 
@@ -48,12 +52,18 @@ fn header(text: &[u8]) -> Result<&[u8], ScenarioRefusal>
     ensures fewer { IfOk result (λ rest. length (lines_of text.now) ≡ length (lines_of rest.now) + 1) }
 {
     let Some((line, rest)) = next_line(text) else {
-        return Err(ScenarioRefusal::BadLine { line: 1, code: HEADER });
+        return Err(ScenarioRefusal::BadLine {
+            line: 1,
+            code: HEADER,
+        });
     };
     if same(line, b"clnp-sim 1") {
         return Ok(rest);
     }
-    Err(ScenarioRefusal::BadLine { line: 1, code: HEADER })
+    Err(ScenarioRefusal::BadLine {
+        line: 1,
+        code: HEADER,
+    })
 }
 
 /// The subnetwork that the line of this number declares.
@@ -97,7 +107,10 @@ fn names_at(text: &[u8]) -> Result<(&[u8], &[u8], &[u8]), ScenarioRefusal>
 
 /// The addresses of the two systems, on lines 5 and 6, and the text behind them.
 #[tactic(auto, unfolding(crate::specs::Grammar::addresses_at))]
-fn addresses_at<'a>(names: &[&[u8]], text: &'a [u8]) -> Result<(Address, Address, &'a [u8]), ScenarioRefusal>
+fn addresses_at<'a>(
+    names: &[&[u8]],
+    text: &'a [u8],
+) -> Result<(Address, Address, &'a [u8]), ScenarioRefusal>
     ensures addresses { let reading = addresses_at (map (λ name. name.now) names.now) (lines_of text.now) in
         MatchResult result (λ r. reading ≡ Ok (r.0, r.1, lines_of r.2.now)) (λ refusal. Refuses refusal reading) }
     ensures fewer { IfOk result (λ r. length (lines_of text.now) ≡ length (lines_of r.2.now) + 2) }
@@ -111,7 +124,11 @@ fn addresses_at<'a>(names: &[&[u8]], text: &'a [u8]) -> Result<(Address, Address
 
 /// The addresses of their ports on the subnetwork, on lines 7 and 8, and the text behind them.
 #[tactic(auto, unfolding(crate::specs::Grammar::ports_at))]
-fn ports_at<'a>(subnet: &[u8], names: &[&[u8]], text: &'a [u8]) -> Result<(Snpa, Snpa, &'a [u8]), ScenarioRefusal>
+fn ports_at<'a>(
+    subnet: &[u8],
+    names: &[&[u8]],
+    text: &'a [u8],
+) -> Result<(Snpa, Snpa, &'a [u8]), ScenarioRefusal>
     ensures ports { let reading = ports_at subnet.now (map (λ name. name.now) names.now) (lines_of text.now) in
         MatchResult result (λ r. reading ≡ Ok (r.0, r.1, lines_of r.2.now)) (λ refusal. Refuses refusal reading) }
     ensures fewer { IfOk result (λ r. length (lines_of text.now) ≡ length (lines_of r.2.now) + 2) }
@@ -166,7 +183,10 @@ fn nothing_after(number: u32, text: &[u8]) -> Result<(), ScenarioRefusal>
         MatchResult result (λ _. reading ≡ Ok tt) (λ refusal. Refuses refusal reading) }
 {
     match next_line(text) {
-        Some(_) => Err(ScenarioRefusal::BadLine { line: number, code: SYNTAX }),
+        Some(_) => Err(ScenarioRefusal::BadLine {
+            line: number,
+            code: SYNTAX,
+        }),
         None => Ok(()),
     }
 }
@@ -193,17 +213,39 @@ fn events_of(alloc: Global, names: &[&[u8]], text: &[u8]) -> Result<Vec<Event>, 
         number += 1;
         left = rest;
     }
-    Err(ScenarioRefusal::BadLine { line: number, code: SYNTAX })
+    Err(ScenarioRefusal::BadLine {
+        line: number,
+        code: SYNTAX,
+    })
 }
 
 /// A host with one address and one port on the one subnetwork, whose headers have no checksum.
-fn host_of(alloc: Global, mtu: u16, name: &[u8], address: Address, snpa: Snpa) -> Result<SystemConfig, ScenarioRefusal>
+fn host_of(
+    alloc: Global,
+    mtu: u16,
+    name: &[u8],
+    address: Address,
+    snpa: Snpa,
+) -> Result<SystemConfig, ScenarioRefusal>
     ensures { MatchResult result (λ host. host ≡ host_of mtu name.now address snpa) (λ refusal. refusal ≡ ScenarioRefusal.NoMemory) }
 {
     let name = Vec::from_slice(alloc, name)?;
     let addresses = Vec::from_slice(alloc, &[address])?;
-    let ports = Vec::from_slice(alloc, &[PortConfig { subnet: 0, snpa, mtu }])?;
-    Ok(SystemConfig::new(name, Role::Host, addresses, ports, Settings { sealed: false }))
+    let ports = Vec::from_slice(
+        alloc,
+        &[PortConfig {
+            subnet: 0,
+            snpa,
+            mtu,
+        }],
+    )?;
+    Ok(SystemConfig::new(
+        name,
+        Role::Host,
+        addresses,
+        ports,
+        Settings { sealed: false },
+    ))
 }
 
 /// What a scenario text says: its subnetwork, its systems and its events.
@@ -236,6 +278,13 @@ pub fn read(alloc: Global, text: &[u8]) -> Result<Scenario, ScenarioRefusal>
     systems.push(host_of(alloc, mtu, one, a, p)?)?;
     systems.push(host_of(alloc, mtu, other, b, q)?)?;
     let mut subnets = Vec::new(alloc);
-    subnets.push(Subnet { mtu, name: Vec::from_slice(alloc, subnet)? })?;
-    Ok(Scenario { subnets, systems, events })
+    subnets.push(Subnet {
+        mtu,
+        name: Vec::from_slice(alloc, subnet)?,
+    })?;
+    Ok(Scenario {
+        subnets,
+        systems,
+        events,
+    })
 }

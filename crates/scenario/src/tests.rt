@@ -66,7 +66,11 @@ fn reads_two_hosts(rt: HostRuntime) -> Result<(), Fail> {
             assert_eq!(rt; subnet.name(), b"lan".as_slice());
         }
         assert_eq!(rt; scenario.systems().len(), 2);
-        for (system, (name, address, snpa)) in scenario.systems().iter().zip([(b"a", 2, 1), (b"b", 1, 2)]) {
+        for (system, (name, address, snpa)) in scenario
+            .systems()
+            .iter()
+            .zip([(b"a", 2, 1), (b"b", 1, 2)])
+        {
             assert_eq!(rt; system.name(), name.as_slice());
             for own in system.addresses() {
                 assert_eq!(rt; own.as_bytes(), [0x47, 0, 0x27, address].as_slice());
@@ -79,7 +83,13 @@ fn reads_two_hosts(rt: HostRuntime) -> Result<(), Fail> {
         assert_eq!(rt; scenario.events().len(), 2);
         for event in scenario.events() {
             match event {
-                Event::Send { system, from, to, body, life } => {
+                Event::Send {
+                    system,
+                    from,
+                    to,
+                    body,
+                    life,
+                } => {
                     assert_eq!(rt; *system, 0);
                     assert_eq!(rt; from.as_bytes(), [0x47, 0, 0x27, 2].as_slice());
                     assert_eq!(rt; to.as_bytes(), [0x47, 0, 0x27, 1].as_slice());
@@ -128,7 +138,11 @@ fn refuses_lines(rt: HostRuntime) -> Result<(), Fail> {
     for (line, other, code) in cases {
         let text = text_with(rt.alloc(), line, other.as_bytes(), b"\n")?;
         let wanted = ScenarioRefusal::BadLine { line, code };
-        assert_eq!(rt; refusal_of(rt.alloc(), text.as_slice()), Some(wanted), "{other}");
+        assert_eq!(rt;
+            refusal_of(rt.alloc(), text.as_slice()),
+            Some(wanted),
+            "{other}"
+        );
     }
     Ok(())
 }
@@ -146,9 +160,15 @@ fn refuses_ends(rt: HostRuntime) -> Result<(), Fail> {
         assert_eq!(rt; refusal_of(alloc, text.as_bytes()), wanted, "{text}");
     }
     let missing = text_with(alloc, 12, b"settle 1", b"\n")?;
-    assert_eq!(rt; refusal_of(alloc, missing.as_slice()), Some(ScenarioRefusal::BadLine { line: 13, code: 2 }));
+    assert_eq!(rt;
+        refusal_of(alloc, missing.as_slice()),
+        Some(ScenarioRefusal::BadLine { line: 13, code: 2 })
+    );
     let after = text_with(alloc, 12, b"end\nsettle 1", b"\n")?;
-    assert_eq!(rt; refusal_of(alloc, after.as_slice()), Some(ScenarioRefusal::BadLine { line: 13, code: 2 }));
+    assert_eq!(rt;
+        refusal_of(alloc, after.as_slice()),
+        Some(ScenarioRefusal::BadLine { line: 13, code: 2 })
+    );
     let mut bare = text_with(alloc, 0, b"", b"\n")?;
     let _newline = bare.pop();
     assert_eq!(rt; refusal_of(alloc, bare.as_slice()), None);
@@ -161,6 +181,12 @@ fn refuses_ends(rt: HostRuntime) -> Result<(), Fail> {
         many.extend_from_slice(b"\nsettle 100000")?;
     }
     many.extend_from_slice(b"\nend")?;
-    assert_eq!(rt; refusal_of(alloc, many.as_slice()), Some(ScenarioRefusal::BadLine { line: 111, code: 10 }));
+    assert_eq!(rt;
+        refusal_of(alloc, many.as_slice()),
+        Some(ScenarioRefusal::BadLine {
+            line: 111,
+            code: 10
+        })
+    );
     Ok(())
 }

@@ -8,7 +8,7 @@ pub returns-in_err-play_events-in-Ok-clause-comes_to :
 returns-in_err-play_events-in-Ok-clause-comes_to g c =
     let p = err_from_is_err_and c.from_residual.result c.from_residual.ensures.1 in
     rw (p.1, p.2) (journal_stopped c.args.scenario.now _ _ c.in_err-play_events-in-Ok.field-0.0
-        (c.in_err-play_events-in-Ok.ensures.comes_to (first_world c.args.scenario.now) c.in-Ok.ensures))
+    (c.in_err-play_events-in-Ok.ensures.comes_to (first_world c.args.scenario.now) c.in-Ok.ensures))
 
 pub returns-in_ok-play_events-in-Ok-clause-comes_to :
     goal.returns-in_ok-play_events-in-Ok-clause-comes_to

@@ -8,5 +8,5 @@ use Rattle.clnp_tool.proofs.top.play_events.Given as goal
 abbrev pub invariant-loop-place : goal.invariant-loop-place
 invariant-loop-place g l =
     ((model : network.World) → Stands l.initial.world model
-        → Plays l.scenario model (moves_from 0 (take l.place l.scenario.events)) l.world (g.K.Sink.written l.initial.sink) (g.K.Sink.written l.sink))
+    → Plays l.scenario model (moves_from 0 (take l.place l.scenario.events)) l.world (g.K.Sink.written l.initial.sink) (g.K.Sink.written l.sink))
     × (g.K.Sink.faults l.initial.sink ≤ g.K.Sink.faults l.sink)

@@ -11,14 +11,14 @@ returns-in_err-play_move-clause-comes_to g c = λ model stands.
     let so_far = c.loop-settled.invariant.0 model stands in
     let p = err_from_is_err_and c.from_residual.result c.from_residual.ensures.1 in
     rw (p.1, p.2) (stopped_next c.args.scenario.now model _ _ _ _ _ _ _ c.in_err-play_move.field-0.0
-        (replicate_next c.loop-settled._settled c.args.count SettleOne (omega arith))
-        so_far.appended (c.in_err-play_move.ensures.comes_to _ so_far.stands))
+    (replicate_next c.loop-settled._settled c.args.count SettleOne (omega arith))
+    so_far.appended (c.in_err-play_move.ensures.comes_to _ so_far.stands))
 
 pub loop-settled-preserved : goal.loop-settled-preserved
 loop-settled-preserved g c = (
   λ model stands.
       let so_far = c.loop-settled.invariant.0 model stands in
       rw (← replicate_more c.loop-settled._settled SettleOne)
-          (Plays-more c.args.scenario.now model _ _ _ _ _ c.play_move.new.world so_far.appended (c.in_ok-play_move.ensures.comes_to _ so_far.stands)),
+      (Plays-more c.args.scenario.now model _ _ _ _ _ c.play_move.new.world so_far.appended (c.in_ok-play_move.ensures.comes_to _ so_far.stands)),
   omega (arith, c.loop-settled.invariant.1, c.in_ok-play_move.ensures.later),
 )

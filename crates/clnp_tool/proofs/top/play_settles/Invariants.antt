@@ -8,5 +8,5 @@ use Rattle.clnp_tool.proofs.top.play_settles.Given as goal
 abbrev pub invariant-loop-settled : goal.invariant-loop-settled
 invariant-loop-settled g l =
     ((model : network.World) → Stands l.initial.world model
-        → Plays l.scenario model (replicate l._settled SettleOne) l.world (g.K.Sink.written l.initial.sink) (g.K.Sink.written l.sink))
+    → Plays l.scenario model (replicate l._settled SettleOne) l.world (g.K.Sink.written l.initial.sink) (g.K.Sink.written l.sink))
     × (g.K.Sink.faults l.initial.sink ≤ g.K.Sink.faults l.sink)

@@ -44,9 +44,9 @@ loop-line-preserved c =
       settled = rw c.settles_of-settles.ensures.settles c.in_ok-event.ensures.settled;
       counted = rw (c.in_ok-push.ensures.items, longer) (omega arith);
       same = rw (c.in_ok-push.ensures.items, longer, c.settles_of-settles.ensures.settles)
-        (goes_on c.loop-line.events.items names c.loop-line.number (length c.loop-line.events.items) c.loop-line.settles c.in-Some.line.now (lines_of c.in-Some.rest.now) c.in_ok-event.event
-        (events_from names 10 0 0 (lines_of c.args.text.now)) (sym c.is_end.ensures ∙ c.if-is_end.false) (rw count at c.in_ok-event.ensures.event)
-        (rw c.in-Some.ensures.line at c.loop-line.invariant.same));
+          (goes_on c.loop-line.events.items names c.loop-line.number (length c.loop-line.events.items) c.loop-line.settles c.in-Some.line.now (lines_of c.in-Some.rest.now) c.in_ok-event.event
+          (events_from names 10 0 0 (lines_of c.args.text.now)) (sym c.is_end.ensures ∙ c.if-is_end.false) (rw count at c.in_ok-event.ensures.event)
+          (rw c.in-Some.ensures.line at c.loop-line.invariant.same));
     }
 
 pub returns : goal.returns

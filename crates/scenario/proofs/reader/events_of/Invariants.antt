@@ -10,7 +10,7 @@ invariant-loop-line l = record {
   counted : 10 + length l.events.items ≡ l.number;
   settled : l.settles ≤ 10000000;
   same : with_front l.events.items (events_from (map (λ (name : Bor (List ℕ)). name.now) l.names) l.number (length l.events.items) l.settles (lines_of l.left))
-       ≡ events_from (map (λ (name : Bor (List ℕ)). name.now) l.names) 10 0 0 (lines_of l.text);
+      ≡ events_from (map (λ (name : Bor (List ℕ)). name.now) l.names) 10 0 0 (lines_of l.text);
 }
 
 abbrev pub decreases-loop-line : goal.decreases-loop-line
