@@ -91,11 +91,8 @@ fn stops_where_the_sink_fails(rt: HostRuntime) -> Result<(), Fail> {
         call.write_fails = &fails;
         let (status, sink) = call.run(rt.alloc())?;
         assert_eq!(rt; status, Status::WriteFault, "at call {number}");
-        assert_eq!(rt;
-            sink.as_bytes(),
-            &JOURNAL.as_bytes()[..front],
-            "at call {number}"
-        );
+        assert_eq!(rt; sink.as_bytes().len(), front, "at call {number}");
+        assert!(rt; JOURNAL.as_bytes().starts_with(sink.as_bytes()));
     }
     let mut call = sim(SCENARIO.as_bytes(), 7);
     call.write_fails = &[22];
