@@ -5,7 +5,9 @@ use Rattle.std.specs.Str.{bytes_eq}
 use Rattle.nsap.specs.declared.target.Target.{Target}
 use Rattle.nsap.specs.declared.target.Target.TheVariants.{EndSystems}
 use Rattle.pdu_header.specs.declared.kind.Kind.TheVariants.{Dt}
-use Rattle.pdu_header.specs.Value.{OptionField}
+use Rattle.clnp_options.specs.Parameter.{Parameter}
+use Rattle.clnp_options.specs.declared.judge.OptionRefusal.{OptionRefusal}
+use Rattle.pdu_header.specs.Rules.{octet, refusal as rule_broken}
 use Rattle.pdu_header.specs.Spelling.{header_length}
 use Rattle.clnp_plan.specs.declared.note.Note.{Note}
 use Rattle.clnp_plan.specs.declared.note.Note.TheVariants.{Sent, Refused, Got, Discard, NotMine}
@@ -19,7 +21,7 @@ pub record Asking : Type 0 where
   pub lifetime : ℕ
   -- an error report is wanted where it is discarded
   pub report : Bool
-  pub options : List OptionField
+  pub options : List Parameter
 
 -- whether an address is one of the system's
 abbrev pub is_own : SystemState → List ℕ → Bool
@@ -98,10 +100,18 @@ packet_note s p =
     else (if is_own s p.unit.destination then Got p.unit.source p.unit.destination (value_of p).body
     else NotMine p.unit.destination)
 
--- octets that spell no PDU are discarded, the reason not specified (section 7.9.5)
+-- octets that break a rule of PDUs are discarded with its reason and place
+abbrev pub refused_note : Option OptionRefusal → Note
+refused_note None = Discard 0x00 0
+refused_note (Some broken) = Discard broken.reason broken.place
+
+-- octets that spell no PDU: of those that don't begin as one nothing is said, so the reason is not specified (section 7.9.5)
+abbrev pub octets_note : List ℕ → Note
+octets_note octets = refused_note (if octet octets 1 == 0x81 then rule_broken octets else None)
+
 abbrev pub arrival_note : SystemState → Content → Note
 arrival_note s (Labelled packet following) = packet_note s packet
-arrival_note s (Unlabelled octets) = Discard 0x00 0
+arrival_note s (Unlabelled octets) = octets_note octets
 
 -- a frame comes to a host
 abbrev pub arrive : SystemState → Content → Effect

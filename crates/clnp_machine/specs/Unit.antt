@@ -1,7 +1,8 @@
 -- Units, and the packets that travel: a packet is a labelled range of a unit, and has no octets of its own.
 use Rattle.std.specs.Prelude.{ℕ, ◌+◌, ◌-◌, nat_lt, Bool, false, if◌then◌else◌, List, [], ◌∷◌, length, take, drop, Option, None, Some, option_map}
 use Rattle.pdu_header.specs.declared.kind.Kind.{Kind}
-use Rattle.pdu_header.specs.Value.{SegmentationPart, OptionField, PduValue}
+use Rattle.clnp_options.specs.Parameter.{Parameter}
+use Rattle.pdu_header.specs.Value.{SegmentationPart, PduValue}
 use Rattle.pdu_header.specs.Spelling.{spelling, header_length}
 
 -- who made a unit: the system declared at a place, from 0, or somebody outside
@@ -25,7 +26,7 @@ pub record Unit : Type 0 where
   pub destination : List ℕ
   -- the data unit identifier, where its PDUs have a segmentation part
   pub identifier : Option ℕ
-  pub options : List OptionField
+  pub options : List Parameter
   pub lifetime : ℕ
   -- where its data begins in the initial PDU's data
   pub first_position : ℕ
@@ -39,7 +40,7 @@ pub record Packet : Type 0 where
   pub offset : ℕ
   pub length : ℕ
   pub lifetime : ℕ
-  pub options : List OptionField
+  pub options : List Parameter
   -- how often it was forwarded
   pub hops : ℕ
 

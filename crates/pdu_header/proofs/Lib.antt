@@ -1,1 +1,13 @@
-pub mod ReadingLemmas
+pub mod Fields
+pub mod Accepted
+pub mod Flags
+pub mod Shape
+pub mod Spelled
+pub mod Read
+pub mod Frames
+pub mod Fill
+pub mod Written
+pub mod MoreFlag
+pub mod Changed
+pub mod Edited
+pub mod Samples

@@ -1,4 +1,9 @@
 pub mod Value
 pub mod Spelling
-pub mod Plain
+pub mod Grammar
+pub mod Rules
 pub mod Reading
+pub mod View
+pub mod Parts
+pub mod Headers
+pub mod Encoding

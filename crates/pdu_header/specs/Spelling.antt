@@ -1,11 +1,11 @@
 -- The octets that spell a PDU value (ISO 8473, section 7).
 use Rattle.std.specs.Prelude.{ℕ, ◌+◌, if◌then◌else◌, List, [], ◌∷◌, ◌++◌, length, Option, Some, None, is_some}
-use Rattle.std.specs.List.{flat_map}
 use Rattle.std.specs.Int.{to_be_bytes, w16}
 use Rattle.fletcher.specs.Checksum.{sealed}
+use Rattle.clnp_options.specs.Parameter.{spelled}
 use Rattle.pdu_header.specs.declared.kind.Kind.{Kind}
 use Rattle.pdu_header.specs.declared.kind.Kind.TheVariants.{Dt, Er, Erq, Erp}
-use Rattle.pdu_header.specs.Value.{SegmentationPart, OptionField, PduValue}
+use Rattle.pdu_header.specs.Value.{SegmentationPart, PduValue}
 
 -- the type (section 7.2.6; RFC 1575, section 4)
 abbrev pub type_code : Kind → ℕ
@@ -22,9 +22,6 @@ pair_of n = to_be_bytes w16 n
 abbrev pub counted : List ℕ → List ℕ
 counted octets = length octets ∷ octets
 
-abbrev pub option_octets : OptionField → List ℕ
-option_octets o = o.code ∷ counted o.octets
-
 -- identifier, offset and total length (section 7.4)
 abbrev pub segmentation_octets : Option SegmentationPart → List ℕ
 segmentation_octets None = []
@@ -33,7 +30,7 @@ segmentation_octets (Some s) = pair_of s.identifier ++ (pair_of s.offset ++ pair
 -- what follows the fixed part in the header: addresses, segmentation part, options (sections 7.3 to 7.5)
 abbrev pub variable_part : PduValue → List ℕ
 variable_part v =
-    counted v.destination ++ (counted v.source ++ (segmentation_octets v.segmentation ++ flat_map option_octets v.options))
+    counted v.destination ++ (counted v.source ++ (segmentation_octets v.segmentation ++ spelled v.options))
 
 -- the fixed part has nine octets
 abbrev pub header_length : PduValue → ℕ

@@ -1,5 +1,6 @@
 -- The value that a CLNP PDU carries (ISO 8473, section 7).
 use Rattle.std.specs.Prelude.{ℕ, Bool, List, Option}
+use Rattle.clnp_options.specs.Parameter.{Parameter}
 use Rattle.pdu_header.specs.declared.kind.Kind.{Kind}
 
 -- the segmentation part (section 7.4)
@@ -7,11 +8,6 @@ pub record SegmentationPart : Type 0 where
   pub identifier : ℕ
   pub offset : ℕ
   pub total : ℕ
-
--- an option (section 7.5): its code and its value's octets
-pub record OptionField : Type 0 where
-  pub code : ℕ
-  pub octets : List ℕ
 
 pub record PduValue : Type 0 where
   pub kind : Kind
@@ -25,5 +21,5 @@ pub record PduValue : Type 0 where
   pub destination : List ℕ
   pub source : List ℕ
   pub segmentation : Option SegmentationPart
-  pub options : List OptionField
+  pub options : List Parameter
   pub body : List ℕ

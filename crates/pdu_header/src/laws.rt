@@ -1,12 +1,25 @@
-//! Laws of the definitions that the contracts cite. The functions do nothing.
-ghost use Rattle.std.specs.Prelude.{◌≡◌, ℕ, List, []};
-ghost use Rattle.pdu_header.specs.Plain.{BeginsPlain, SpellsPlain};
+//! Laws of the definitions: the grammar of PDUs, stated as a relation between a value and its octets,
+//! and the rules G1 to G20 agree. Each law is the clause of a function that does nothing.
+ghost use Rattle.hex.specs.Hex.{IsBytes};
+ghost use Rattle.pdu_header.specs.Grammar.{BeginsWith, is_report};
+ghost use Rattle.pdu_header.specs.Rules.{is_reportable, octet, refusal};
+ghost use Rattle.pdu_header.specs.Value.{PduValue};
+ghost use Rattle.std.specs.Prelude.{◌≡◌, ◌↔◌, ◌&&◌, ℕ, List, None, not};
 
-/// A frame begins with at most one plain PDU: its lifetime, addresses and body and what follows it
-/// are determined by the frame.
-pub fn one_plain_value()
-    ensures begins { (frame : List ℕ) (lifetime other_lifetime : ℕ) (to from body rest other_to other_from other_body other_rest : List ℕ) → BeginsPlain frame lifetime to from body rest → BeginsPlain frame other_lifetime other_to other_from other_body other_rest → (lifetime ≡ other_lifetime) × (to ≡ other_to) × (from ≡ other_from) × (body ≡ other_body) × (rest ≡ other_rest) }
+/// Of a frame at most one prefix spells a value, and it spells one value only.
+pub fn one_value()
+    ensures { (frame : List ℕ) (v w : PduValue) (rest others : List ℕ) → BeginsWith frame v rest → BeginsWith frame w others → (v ≡ w) × (rest ≡ others) }
+{}
 
-    // Octets that spell a plain PDU begin with no other one, and nothing follows it.
-    ensures spells { (octets : List ℕ) (lifetime other_lifetime : ℕ) (to from body other_to other_from other_body other_rest : List ℕ) → SpellsPlain lifetime to from body octets → BeginsPlain octets other_lifetime other_to other_from other_body other_rest → (lifetime ≡ other_lifetime) × (to ≡ other_to) × (from ≡ other_from) × (body ≡ other_body) × (other_rest ≡ []) }
+/// A frame of octets that begins with 0x81 breaks no rule exactly where a prefix of it spells a value;
+/// and a frame of which a prefix spells a value begins with 0x81.
+pub fn spelled_where_no_rule_is_broken()
+    ensures spelled { (frame : List ℕ) → IsBytes frame → octet frame 1 ≡ 0x81 → (refusal frame ≡ None) ↔ ((v : PduValue) × (rest : List ℕ) × BeginsWith frame v rest) }
+    ensures protocol { (frame : List ℕ) (v : PduValue) (rest : List ℕ) → BeginsWith frame v rest → octet frame 1 ≡ 0x81 }
+{}
+
+/// A frame of which a prefix spells a value is reported where it is discarded exactly where the value
+/// wants a report and isn't one.
+pub fn reportable_where_wanted()
+    ensures { (frame : List ℕ) (v : PduValue) (rest : List ℕ) → BeginsWith frame v rest → is_reportable frame ≡ (v.report && not (is_report v.kind)) }
 {}

@@ -1,11 +1,25 @@
 //! CLNP PDUs: their octets and their values.
 #![tactic(auto)]
 
+mod cells;
+mod decoder;
+mod encoding;
+mod header;
+#[cfg(test)]
+mod header_tests;
 mod kind;
 pub mod laws;
-mod plain;
+mod parts;
+mod pdu;
+mod report;
 #[cfg(test)]
 mod tests;
+mod write;
 
+pub use decoder::decode;
+pub use encoding::{EncodeRefusal, encode};
+pub use header::{Header, HeaderRefusal};
 pub use kind::Kind;
-pub use plain::{NotPlain, Plain, plain_decode, plain_encode};
+pub use parts::Parts;
+pub use pdu::{Broken, Pdu, Refusal, ReportTo, SegPart};
+pub use report::reportable;

@@ -114,6 +114,11 @@ abbrev pub three_words : List (List ℕ) → Option (List ℕ × List ℕ × Lis
 three_words (a ∷ b ∷ words) = option_map (λ c. (a, b, c)) (one_word words)
 three_words _ = None
 
+-- the first four words, and those behind them
+abbrev pub first_four : List (List ℕ) → Option (List ℕ × List ℕ × List ℕ × List ℕ × List (List ℕ))
+first_four (a ∷ b ∷ c ∷ d ∷ words) = Some (a, b, c, d, words)
+first_four _ = None
+
 -- exactly five words
 abbrev pub five_words : List (List ℕ) → Option (List ℕ × List ℕ × List ℕ × List ℕ × List ℕ)
 five_words (a ∷ b ∷ words) = option_map (λ w. (a, b, w.0, w.1, w.2)) (three_words words)
@@ -133,21 +138,36 @@ subnet_line words = do
   mtu ← mtu_word w.2
   Ok (record { name = name; mtu = mtu })
 
+-- one word alone
+abbrev pub only_word : List ℕ → List (List ℕ) → Result (Unit {0}) ℕ
+only_word text words = found (one_word words) SYNTAX >>= literal text
+
 -- a name that the ones before it don't have
 abbrev pub new_name : List (List ℕ) → List ℕ → Result (Unit {0}) ℕ
 new_name names name = wanted (not (is_some (position (λ other. bytes_eq other name) names))) DUP_NAME
 
--- `system NAME host hello=0 checksum=off`
-unfoldable pub system_line : List (List ℕ) → List (List ℕ) → Result (List ℕ) ℕ
+-- what a system's line says of it
+pub record Declared : Type 0 where
+  pub name : List ℕ
+  -- its headers have a checksum
+  pub sealed : Bool
+
+-- whether headers have a checksum, by the words at the end of a line: they have where no word is there
+abbrev pub checksum_words : List (List ℕ) → Result Bool ℕ
+checksum_words [] = Ok true
+checksum_words (word ∷ words) = only_word (codes "checksum=off") (word ∷ words) >>= λ _. Ok false
+
+-- `system NAME host hello=0`, and `checksum=off` where its headers have no checksum
+unfoldable pub system_line : List (List ℕ) → List (List ℕ) → Result Declared ℕ
 system_line names words = do
-  w ← found (five_words words) SYNTAX
+  w ← found (first_four words) SYNTAX
   _ ← literal (codes "system") w.0
   name ← name_word w.1
   _ ← literal (codes "host") w.2
   _ ← literal (codes "hello=0") w.3
-  _ ← literal (codes "checksum=off") w.4
+  sealed ← checksum_words w.4
   _ ← new_name names name
-  Ok name
+  Ok (record { name = name; sealed = sealed })
 
 -- the system at this place is the one whose turn it is
 abbrev pub own_turn : ℕ → ℕ → Result (Unit {0}) ℕ
@@ -230,10 +250,6 @@ abbrev pub header_line : List (List ℕ) → Result (List (List ℕ)) BadLine
 header_line [] = Err (record { line = 1; code = HEADER })
 header_line (line ∷ lines) = at_line 1 (wanted (bytes_eq line (codes "clnp-sim 1")) HEADER) >>= λ _. Ok lines
 
--- one word alone
-abbrev pub only_word : List ℕ → List (List ℕ) → Result (Unit {0}) ℕ
-only_word text words = found (one_word words) SYNTAX >>= literal text
-
 abbrev pub is_end_word : Option (List ℕ) → Bool
 is_end_word (Some word) = bytes_eq word (codes "end")
 is_end_word None = false
@@ -262,22 +278,22 @@ events_from names n events settles (line ∷ lines) =
     events_from names (n + 1) (events + 1) (settles + settles_of event) lines >>= λ others.
     Ok (event ∷ others))
 
--- a host with one address and one port on the one subnetwork, whose headers have no checksum
-abbrev pub host_of : ℕ → List ℕ → List ℕ → List ℕ → SystemConfiguration
-host_of mtu name address snpa =
+-- a host with one address and one port on the one subnetwork
+abbrev pub host_of : ℕ → Declared → List ℕ → List ℕ → SystemConfiguration
+host_of mtu system address snpa =
     record {
-      name = name;
+      name = system.name;
       role = Host;
       addresses = address ∷ [];
       ports = record { subnet = 0; snpa = snpa; mtu = mtu } ∷ [];
-      settings = record { sealed = false };
+      settings = record { sealed = system.sealed };
     }
 
--- the two names that lines 3 and 4 declare, and the lines behind them
-unfoldable pub names_at : List (List ℕ) → Result (List ℕ × List ℕ × List (List ℕ)) BadLine
-names_at lines = do
+-- the two systems that lines 3 and 4 declare, and the lines behind them
+unfoldable pub systems_at : List (List ℕ) → Result (Declared × Declared × List (List ℕ)) BadLine
+systems_at lines = do
   first ← next_line_as 3 (system_line []) lines
-  second ← next_line_as 4 (system_line (first.0 ∷ [])) first.1
+  second ← next_line_as 4 (system_line (first.0.name ∷ [])) first.1
   Ok (first.0, second.0, second.1)
 
 -- the addresses of the two systems, on lines 5 and 6, and the lines behind them
@@ -299,14 +315,14 @@ unfoldable pub plan_at : List (List ℕ) → Result Plan BadLine
 plan_at lines = do
   lines ← header_line lines
   subnet ← next_line_as 2 subnet_line lines
-  names ← names_at subnet.1
-  a ← addresses_at (names.0 ∷ names.1 ∷ []) names.2
-  p ← ports_at subnet.0.name (names.0 ∷ names.1 ∷ []) a.2
+  systems ← systems_at subnet.1
+  a ← addresses_at (systems.0.name ∷ systems.1.name ∷ []) systems.2
+  p ← ports_at subnet.0.name (systems.0.name ∷ systems.1.name ∷ []) a.2
   started ← next_line_as 9 (only_word (codes "events")) p.2
-  events ← events_from (names.0 ∷ names.1 ∷ []) 10 0 0 started.1
+  events ← events_from (systems.0.name ∷ systems.1.name ∷ []) 10 0 0 started.1
   Ok (record {
     subnets = subnet.0 ∷ [];
-    systems = host_of subnet.0.mtu names.0 a.0 p.0 ∷ host_of subnet.0.mtu names.1 a.1 p.1 ∷ [];
+    systems = host_of subnet.0.mtu systems.0 a.0 p.0 ∷ host_of subnet.0.mtu systems.1 a.1 p.1 ∷ [];
     events = events;
   })
 

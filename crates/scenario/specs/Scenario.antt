@@ -1,6 +1,5 @@
 -- What a scenario text says: the subnetworks and systems that it declares, and its events.
-use Rattle.std.specs.Prelude.{◌≡◌, ℕ, ◌+◌, false, List, [], ◌∷◌, ◌++◌, replicate}
-use Rattle.std.specs.List.{AllByRecursion}
+use Rattle.std.specs.Prelude.{ℕ, ◌+◌, List, [], ◌∷◌, ◌++◌, replicate}
 use Rattle.clnp_plan.specs.Configuration.{SystemConfiguration}
 use Rattle.scenario.specs.declared.event.Event.{Event}
 use Rattle.scenario.specs.declared.event.Event.TheVariants.{Send, Settle}
@@ -17,10 +16,6 @@ pub record Plan : Type 0 where
   pub subnets : List Subnetwork
   pub systems : List SystemConfiguration
   pub events : List Event
-
--- no system makes checksums
-abbrev pub AreUnsealed : List SystemConfiguration → Type 0
-AreUnsealed systems = AllByRecursion (λ system. system.settings.sealed ≡ false) systems
 
 -- the moves of the event at a place: `settle n` is n moves, a send one
 abbrev pub moves_of : ℕ → Event → List Move

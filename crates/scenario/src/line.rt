@@ -1,15 +1,15 @@
 //! The kinds of lines: each gives what the line says, or the code of what is wrong with it.
 ghost use Rattle.std.specs.Prelude.{◌≡◌, ◌≤◌, ◌<◌, map, length, codes, IfOk, Ok, Err, MatchResult};
 ghost use Rattle.clnp_base.specs.Text.{words_of};
-ghost use Rattle.scenario.specs.Grammar.{subnet_line, new_name, system_line, own_turn, new_address, address_line, port_line, send_line, settle_line, event_line, settles_of, within_counts, only_word, is_end};
+ghost use Rattle.scenario.specs.Grammar.{subnet_line, new_name, checksum_words, system_line, own_turn, new_address, address_line, port_line, send_line, settle_line, event_line, settles_of, within_counts, only_word, is_end};
 ghost use Rattle.scenario.specs.Refusal.{Faults};
 
 use crate::code::{COUNT, DUP_ADDRESS, DUP_NAME, SYNTAX};
 use crate::event::Event;
 use crate::fault::LineFault;
 use crate::word::{
-    address_word, data_word, declared_word, five_words, life_word, literal, mtu_word, name_word,
-    number_word, one_word, place_of, same, six_words, snpa_word, three_words, wanted,
+    address_word, data_word, declared_word, first_four, five_words, life_word, literal, mtu_word,
+    name_word, number_word, one_word, place_of, same, six_words, snpa_word, three_words, wanted,
 };
 use clnp_base::next_word;
 use nsap::{Address, Snpa};
@@ -38,23 +38,36 @@ fn new_name(names: &[&[u8]], name: &[u8]) -> Result<(), u8>
     wanted(place_of(names, name).is_none(), DUP_NAME)
 }
 
-/// `system NAME host hello=0 checksum=off`, with a name that isn't among the names: the name.
+/// Whether headers have a checksum, by the end of a line: they have where it has no word, and none
+/// where it is `checksum=off`.
+fn is_sealed(line: &[u8]) -> Result<bool, u8>
+    ensures { result ≡ checksum_words (words_of line.now) }
+{
+    if next_word(line).is_none() {
+        return Ok(true);
+    }
+    only_word(b"checksum=off", line)?;
+    Ok(false)
+}
+
+/// `system NAME host hello=0`, and `checksum=off` where its headers have no checksum, with a name
+/// that isn't among the names: the name, and whether they have one.
 #[tactic(auto, unfolding(crate::specs::Grammar::system_line))]
-pub(crate) fn system_line<'a>(names: &[&[u8]], line: &'a [u8]) -> Result<&'a [u8], u8>
+pub(crate) fn system_line<'a>(names: &[&[u8]], line: &'a [u8]) -> Result<(&'a [u8], bool), u8>
     ensures { MatchResult result
-        (λ name. system_line (map (λ name. name.now) names.now) (words_of line.now) ≡ Ok name.now)
+        (λ system. system_line (map (λ name. name.now) names.now) (words_of line.now) ≡ Ok (record { name = system.0.now; sealed = system.1 }))
         (λ code. system_line (map (λ name. name.now) names.now) (words_of line.now) ≡ Err code) }
 {
-    let Some((keyword, name, role, hello, checksum)) = five_words(line) else {
+    let Some((keyword, name, role, hello, checksum)) = first_four(line) else {
         return Err(SYNTAX);
     };
     literal(b"system", keyword)?;
     let name = name_word(name)?;
     literal(b"host", role)?;
     literal(b"hello=0", hello)?;
-    literal(b"checksum=off", checksum)?;
+    let sealed = is_sealed(checksum)?;
     new_name(names, name)?;
-    Ok(name)
+    Ok((name, sealed))
 }
 
 /// The system at this place is the one whose turn it is.

@@ -1,6 +1,5 @@
 //! What a scenario text says.
 ghost use Rattle.std.specs.Prelude.{◌≡◌};
-ghost use Rattle.scenario.specs.Scenario.{AreUnsealed};
 
 use crate::event::Event;
 use clnp_plan::SystemConfig;
@@ -39,13 +38,11 @@ pub struct Scenario {
 }
 
 impl Model for Scenario {
-    ghost use Rattle.scenario.specs.Scenario.{Plan, AreUnsealed};
+    ghost use Rattle.scenario.specs.Scenario.{Plan};
 
     ghost Value = { Plan };
 
     ghost view = { λ s. record { subnets = s.subnets.items; systems = s.systems.items; events = s.events.items } };
-
-    ghost invariant = { λ s. AreUnsealed s.systems.items };
 }
 
 impl Scenario {
@@ -55,10 +52,9 @@ impl Scenario {
         self.subnets.as_slice()
     }
 
-    /// The systems in the order of their declarations; none of them makes checksums.
+    /// The systems in the order of their declarations.
     pub fn systems(&self) -> &[SystemConfig]
-        ensures systems { result.now ≡ self.now.systems }
-        ensures unsealed { AreUnsealed self.now.systems }
+        ensures { result.now ≡ self.now.systems }
     {
         self.systems.as_slice()
     }

@@ -1,7 +1,7 @@
 //! The reader of scenario texts.
 ghost use Rattle.std.specs.Prelude.{◌≡◌, ◌+◌, ◌-◌, ◌^◌, ◌≤◌, ◌<◌, ◌∷◌, [], map, length, codes, IfOk, Ok, Err, MatchResult};
 ghost use Rattle.clnp_base.specs.Text.{lines_of, words_of};
-ghost use Rattle.scenario.specs.Grammar.{at_line, subnet_line, system_line, settles_of, next_line_as, only_word, nothing_after, counted_event, events_from, header_line, names_at, addresses_at, ports_at, host_of, plan_of};
+ghost use Rattle.scenario.specs.Grammar.{at_line, subnet_line, system_line, settles_of, next_line_as, only_word, nothing_after, counted_event, events_from, header_line, systems_at, addresses_at, ports_at, host_of, plan_of};
 ghost use Rattle.scenario.specs.Refusal.{Refuses};
 
 use crate::code::{HEADER, SYNTAX};
@@ -78,31 +78,37 @@ fn subnet_at(number: u32, line: &[u8]) -> Result<(&[u8], u16), ScenarioRefusal>
     }
 }
 
-/// The name of the system that the line of this number declares.
-fn system_at<'a>(number: u32, names: &[&[u8]], line: &'a [u8]) -> Result<&'a [u8], ScenarioRefusal>
+/// The name of the system that the line of this number declares, and whether its headers have a
+/// checksum.
+fn system_at<'a>(
+    number: u32,
+    names: &[&[u8]],
+    line: &'a [u8],
+) -> Result<(&'a [u8], bool), ScenarioRefusal>
     ensures { MatchResult result
-        (λ name. system_line (map (λ name. name.now) names.now) (words_of line.now) ≡ Ok name.now)
+        (λ system. system_line (map (λ name. name.now) names.now) (words_of line.now) ≡ Ok (record { name = system.0.now; sealed = system.1 }))
         (λ refusal. Refuses refusal (at_line number (system_line (map (λ name. name.now) names.now) (words_of line.now)))) }
 {
     match system_line(names, line) {
-        Ok(name) => Ok(name),
+        Ok((name, sealed)) => Ok((name, sealed)),
         Err(code) => Err(ScenarioRefusal::BadLine { line: number, code }),
     }
 }
 
-/// The names that lines 3 and 4 declare, and the text behind them.
-#[tactic(auto, unfolding(crate::specs::Grammar::names_at))]
-fn names_at(text: &[u8]) -> Result<(&[u8], &[u8], &[u8]), ScenarioRefusal>
-    ensures names { MatchResult result
-        (λ r. names_at (lines_of text.now) ≡ Ok (r.0.now, r.1.now, lines_of r.2.now))
-        (λ refusal. Refuses refusal (names_at (lines_of text.now))) }
-    ensures fewer { IfOk result (λ r. length (lines_of text.now) ≡ length (lines_of r.2.now) + 2) }
+/// The systems that lines 3 and 4 declare, each its name and whether its headers have a checksum,
+/// and the text behind them.
+#[tactic(auto, unfolding(crate::specs::Grammar::systems_at))]
+fn systems_at(text: &[u8]) -> Result<(&[u8], bool, &[u8], bool, &[u8]), ScenarioRefusal>
+    ensures systems { MatchResult result
+        (λ r. systems_at (lines_of text.now) ≡ Ok (record { name = r.0.now; sealed = r.1 }, record { name = r.2.now; sealed = r.3 }, lines_of r.4.now))
+        (λ refusal. Refuses refusal (systems_at (lines_of text.now))) }
+    ensures fewer { IfOk result (λ r. length (lines_of text.now) ≡ length (lines_of r.4.now) + 2) }
 {
     let (line, text) = line_at(3, text)?;
-    let first = system_at(3, &[], line)?;
+    let (first, first_sealed) = system_at(3, &[], line)?;
     let (line, text) = line_at(4, text)?;
-    let second = system_at(4, &[first], line)?;
-    Ok((first, second, text))
+    let (second, second_sealed) = system_at(4, &[first], line)?;
+    Ok((first, first_sealed, second, second_sealed, text))
 }
 
 /// The addresses of the two systems, on lines 5 and 6, and the text behind them.
@@ -219,15 +225,16 @@ fn events_of(alloc: Global, names: &[&[u8]], text: &[u8]) -> Result<Vec<Event>, 
     })
 }
 
-/// A host with one address and one port on the one subnetwork, whose headers have no checksum.
+/// A host with one address and one port on the one subnetwork.
 fn host_of(
     alloc: Global,
     mtu: u16,
     name: &[u8],
+    sealed: bool,
     address: Address,
     snpa: Snpa,
 ) -> Result<SystemConfig, ScenarioRefusal>
-    ensures { MatchResult result (λ host. host ≡ host_of mtu name.now address snpa) (λ refusal. refusal ≡ ScenarioRefusal.NoMemory) }
+    ensures { MatchResult result (λ host. host ≡ host_of mtu (record { name = name.now; sealed = sealed }) address snpa) (λ refusal. refusal ≡ ScenarioRefusal.NoMemory) }
 {
     let name = Vec::from_slice(alloc, name)?;
     let addresses = Vec::from_slice(alloc, &[address])?;
@@ -239,13 +246,7 @@ fn host_of(
             mtu,
         }],
     )?;
-    Ok(SystemConfig::new(
-        name,
-        Role::Host,
-        addresses,
-        ports,
-        Settings { sealed: false },
-    ))
+    Ok(SystemConfig::new(name, Role::Host, addresses, ports, Settings { sealed }))
 }
 
 /// What a scenario text says: its subnetwork, its systems and its events.
@@ -262,7 +263,7 @@ pub fn read(alloc: Global, text: &[u8]) -> Result<Scenario, ScenarioRefusal>
     let text = header(text)?;
     let (line, text) = line_at(2, text)?;
     let (subnet, mtu) = subnet_at(2, line)?;
-    let (one, other, text) = names_at(text)?;
+    let (one, one_sealed, other, other_sealed, text) = systems_at(text)?;
     let names = [one, other];
     let (a, b, text) = match addresses_at(&names, text) {
         Ok((a, b, text)) => (a, b, text),
@@ -275,8 +276,8 @@ pub fn read(alloc: Global, text: &[u8]) -> Result<Scenario, ScenarioRefusal>
     let text = started(text)?;
     let events = events_of(alloc, &names, text)?;
     let mut systems = Vec::new(alloc);
-    systems.push(host_of(alloc, mtu, one, a, p)?)?;
-    systems.push(host_of(alloc, mtu, other, b, q)?)?;
+    systems.push(host_of(alloc, mtu, one, one_sealed, a, p)?)?;
+    systems.push(host_of(alloc, mtu, other, other_sealed, b, q)?)?;
     let mut subnets = Vec::new(alloc);
     subnets.push(Subnet {
         mtu,

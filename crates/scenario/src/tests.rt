@@ -104,6 +104,20 @@ fn reads_two_hosts(rt: HostRuntime) -> Result<(), Fail> {
 }
 
 #[test]
+fn seals_unless_told_otherwise(rt: HostRuntime) -> Result<(), Fail> {
+    let alloc = rt.alloc();
+    let text = text_with(alloc, 4, b"system b host hello=0", b"\n")?;
+    let Some(Ok(scenario)) = answer(alloc, text.as_slice()) else {
+        assert!(rt; false);
+        return Ok(());
+    };
+    for (system, sealed) in scenario.systems().iter().zip([false, true]) {
+        assert_eq!(rt; system.settings().sealed, sealed);
+    }
+    Ok(())
+}
+
+#[test]
 fn refuses_lines(rt: HostRuntime) -> Result<(), Fail> {
     let cases = [
         (1, "clnp-sim 2", 1),
@@ -117,6 +131,9 @@ fn refuses_lines(rt: HostRuntime) -> Result<(), Fail> {
         (2, "subnet l\0n 1500", 2),
         (2, "subnet 1an 1500", 2),
         (3, "system a router hello=0 checksum=off", 2),
+        (3, "system a host", 2),
+        (3, "system a host hello=0 checksum=off off", 2),
+        (4, "system a host hello=0", 6),
         (4, "system a host hello=0 checksum=off", 6),
         (4, "system b host hello=0 checksum=on", 2),
         (5, "address a 0102030405060708090a0b0c0d0e0f101112131415", 4),

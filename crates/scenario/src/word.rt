@@ -3,7 +3,7 @@ ghost use Rattle.std.specs.Prelude.{◌≡◌, ◌<◌, ◌≤◌, map, length, 
 ghost use Rattle.std.specs.Str.{bytes_eq};
 ghost use Rattle.std.specs.List.{position, list_all};
 ghost use Rattle.clnp_base.specs.Text.{words_of, is_digit};
-ghost use Rattle.scenario.specs.Grammar.{one_word, three_words, five_words, six_words, wanted, literal, is_letter_or_digit, begins_with_letter, is_name, is_digits, number_within, name_word, declared_word, number_word, mtu_word, address_word, after_prefix, data_word, life_word};
+ghost use Rattle.scenario.specs.Grammar.{one_word, three_words, first_four, five_words, six_words, wanted, literal, is_letter_or_digit, begins_with_letter, is_name, is_digits, number_within, name_word, declared_word, number_word, mtu_word, address_word, after_prefix, data_word, life_word};
 ghost use Rattle.scenario.specs.Refusal.{Faults};
 
 use crate::code::{ADDRESS, MTU, NUMBER, SYNTAX, UNKNOWN_NAME};
@@ -32,6 +32,18 @@ pub(crate) fn three_words(line: &[u8]) -> Option<(&[u8], &[u8], &[u8])>
     let (b, line) = next_word(line)?;
     let c = one_word(line)?;
     Some((a, b, c))
+}
+
+/// The first four words of a line, and the rest of it.
+pub(crate) fn first_four(line: &[u8]) -> Option<(&[u8], &[u8], &[u8], &[u8], &[u8])>
+    ensures { MatchOption result (first_four (words_of line.now) ≡ None)
+        (λ words. first_four (words_of line.now) ≡ Some (words.0.now, words.1.now, words.2.now, words.3.now, words_of words.4.now)) }
+{
+    let (a, line) = next_word(line)?;
+    let (b, line) = next_word(line)?;
+    let (c, line) = next_word(line)?;
+    let (d, line) = next_word(line)?;
+    Some((a, b, c, d, line))
 }
 
 /// The words of a line that has five words.

@@ -1,0 +1,3 @@
+pub mod CaptureFacts
+pub mod Pieces
+pub mod OneLine

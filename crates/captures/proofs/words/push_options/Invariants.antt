@@ -1,0 +1,12 @@
+use Rattle.std.proofs.Common.{◌≡◌, ◌++◌, length}
+use Rattle.clnp_options.specs.Parameter.{parameters}
+use Rattle.captures.specs.Shown.{options_text}
+use Rattle.captures.proofs.words.push_options.Given as goal
+
+-- what is written and what is left to write are all options
+abbrev pub invariant-loop-code : goal.invariant-loop-code
+invariant-loop-code l =
+    l.line.items ++ options_text (parameters l.left) ≡ l.initial.line.items ++ options_text (parameters l.initial.left)
+
+abbrev pub decreases-loop-code : goal.decreases-loop-code
+decreases-loop-code l = length l.left

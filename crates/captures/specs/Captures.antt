@@ -1,0 +1,27 @@
+-- The lines of a capture: frames in hexadecimal digits, and lines to skip.
+use Rattle.std.specs.Prelude.{ℕ, ◌==◌, nat_lt, Bool, true, if◌then◌else◌, List, [], ◌∷◌, length, Result, Ok, Err}
+use Rattle.hex.specs.Hex.{decode_of}
+use Rattle.hex.specs.declared.error.FromHexError.{FromHexError}
+use Rattle.captures.specs.declared.capture.TheConstants.{MOST_OCTETS}
+
+-- What a line is: one to skip, one of another form, a frame of too many octets, or a frame.
+pub data Capture : Type 0 where
+  Skipped : Capture
+  Malformed : Capture
+  TooLong : Capture
+  Frame : (octets : List ℕ) → Capture
+
+-- an empty line, and one that begins with `#`
+abbrev pub is_skipped : List ℕ → Bool
+is_skipped [] = true
+is_skipped (first ∷ others) = first == 35
+
+-- the octets that hexadecimal digits spell, two digits each, in either case; an odd number of digits and any
+-- other character spell none
+abbrev pub spelled_capture : Result (List ℕ) FromHexError → Capture
+spelled_capture (Err e) = Malformed
+spelled_capture (Ok octets) = if nat_lt MOST_OCTETS (length octets) then TooLong else Frame octets
+
+-- what a line of a capture is
+unfoldable pub capture_of : List ℕ → Capture
+capture_of line = if is_skipped line then Skipped else spelled_capture (decode_of line)

@@ -1,0 +1,12 @@
+//! Captured frames: the lines of a capture read, and frames shown as lines of text.
+#![tactic(auto)]
+
+mod capture;
+pub mod laws;
+mod line;
+#[cfg(test)]
+mod tests;
+mod words;
+
+pub use capture::{LineRefusal, MOST_OCTETS, read_capture};
+pub use line::show_line;

@@ -1,0 +1,169 @@
+-- What holds of a header that breaks no rule, rule by rule.
+use Rattle.std.proofs.Common.{◌≡◌, ◌≢◌, ◌⊎◌, ℕ, ◌+◌, ◌-◌, ◌≤◌, ◌==◌, ◌&&◌, not, Bool, true, false, if◌then◌else◌, List, length, Option, Some, None, is_some, inl, inr, refl, arith}
+use Rattle.std.specs.Prelude.{nat_lt, ◌↔◌}
+use Rattle.std.specs.Option.{option_or}
+use Rattle.std.proofs.lemmas.Bool.{not-false, not_from_true}
+use Rattle.std.proofs.lemmas.Bool.Decides.{nat_tests}
+use Rattle.fletcher.specs.Checksum.{IsSealed}
+use Rattle.clnp_options.specs.declared.judge.OptionRefusal.{OptionRefusal}
+use Rattle.clnp_options.specs.Rules.{refusal as options_refusal}
+use Rattle.pdu_header.specs.Rules.{octet, type_of, kind_of, is_segmented, has_more, has_right_checksum, source_place, part_place, options_place, segment_size, is_bad_address, is_unfit_range, is_bad_range, options_part, fixed_part_refusal, addresses_refusal, lengths_refusal, header_refusal}
+
+-- a header breaks no rule in a frame of n octets
+pub record IsAccepted (head : List ℕ) (n : ℕ) : Type 0 where
+  pub version : octet head 3 ≡ 1
+  pub checksum : has_right_checksum head ≡ true
+  pub kind : is_some (kind_of (type_of head)) ≡ true
+  pub flags : (has_more head && not (is_segmented head)) ≡ false
+  pub destination : is_bad_address head 10 ≡ false
+  pub source : is_bad_address head (source_place head) ≡ false
+  pub part : (is_segmented head && nat_lt (length head) (part_place head + 5)) ≡ false
+  pub low : length head ≤ segment_size head
+  pub high : segment_size head ≤ n
+  pub range : (is_segmented head && is_bad_range head) ≡ false
+  pub options : options_refusal (options_part head) (options_place head) (type_of head == 1) ≡ None
+
+-- a test that is no refusal
+pub passed : (b : Bool) (r : OptionRefusal) (others : Option OptionRefusal) → (if b then Some r else others) ≡ None → (b ≡ false) × (others ≡ None)
+passed true r others h = cc
+passed false r others h = (refl, h)
+
+pub passing : (b : Bool) (r : OptionRefusal) (others : Option OptionRefusal) → b ≡ false → others ≡ None → (if b then Some r else others) ≡ None
+passing b r others e h = rw e h
+
+pub both_none : (a b : Option OptionRefusal) → option_or a b ≡ None → (a ≡ None) × (b ≡ None)
+both_none None b h = (refl, h)
+both_none (Some r) b h = cc
+
+pub none_or : (a b : Option OptionRefusal) → a ≡ None → b ≡ None → option_or a b ≡ None
+none_or a b e h = rw e h
+
+pub is_equal : (a b : ℕ) → (a == b) ≡ true → a ≡ b
+is_equal a b h = grind (arith, nat_tests)
+
+pub not_equal : (a b : ℕ) → (a == b) ≡ false → a ≢ b
+not_equal a b h = λ e. grind (arith, nat_tests)
+
+pub equal_is : (a b : ℕ) → a ≡ b → (a == b) ≡ true
+equal_is a b h = grind (arith, nat_tests)
+
+pub not_below : (a b : ℕ) → nat_lt a b ≡ false → b ≤ a
+not_below a b h = grind (arith, nat_tests)
+
+pub below_not : (a b : ℕ) → b ≤ a → nat_lt a b ≡ false
+below_not a b h = grind (arith, nat_tests)
+
+pub accepted : (head : List ℕ) (n : ℕ) → header_refusal head n ≡ None → IsAccepted head n
+unfolding header_refusal fixed_part_refusal addresses_refusal lengths_refusal
+accepted head n h =
+    let fixed = both_none _ _ h in
+    let addresses = both_none _ _ fixed.1 in
+    let lengths = both_none _ _ addresses.1 in
+    let g4 = passed _ _ _ fixed.0 in
+    let g5 = passed _ _ _ g4.1 in
+    let g6 = passed _ _ _ g5.1 in
+    let g7 = passed _ _ _ g6.1 in
+    let g8 = passed _ _ _ addresses.0 in
+    let g9 = passed _ _ _ g8.1 in
+    let g10 = passed _ _ _ lengths.0 in
+    let g11 = passed _ _ _ g10.1 in
+    let g12 = passed _ _ _ g11.1 in
+    let g13 = passed _ _ _ g12.1 in
+    record {
+      version = is_equal _ _ (not-false _ g4.0);
+      checksum = not-false _ g5.0;
+      kind = not-false _ g6.0;
+      flags = g7.0;
+      destination = g8.0;
+      source = g9.0;
+      part = g10.0;
+      low = not_below _ _ g11.0;
+      high = not_below _ _ g12.0;
+      range = g13.0;
+      options = lengths.1;
+    }
+
+pub accepting : (head : List ℕ) (n : ℕ) → IsAccepted head n → header_refusal head n ≡ None
+unfolding header_refusal fixed_part_refusal addresses_refusal lengths_refusal
+accepting head n h =
+    none_or _ _
+    (passing _ _ _ (not_from_true _ (equal_is _ _ h.version)) (passing _ _ _ (not_from_true _ h.checksum) (passing _ _ _ (not_from_true _ h.kind) (passing _ _ _ h.flags refl))))
+    (none_or _ _
+    (passing _ _ _ h.destination (passing _ _ _ h.source refl))
+    (none_or _ _
+    (passing _ _ _ h.part (passing _ _ _ (below_not _ _ h.low) (passing _ _ _ (below_not _ _ h.high) (passing _ _ _ h.range refl))))
+    h.options))
+
+-- an address lies in the header
+pub record IsWithin (head : List ℕ) (place : ℕ) : Type 0 where
+  pub start : place ≤ length head
+  pub some : 1 ≤ octet head place
+  pub few : octet head place ≤ 20
+  pub end : place + octet head place ≤ length head
+
+pub within : (head : List ℕ) (place : ℕ) → is_bad_address head place ≡ false → IsWithin head place
+within head place h = record {
+  start = grind (arith, nat_tests);
+  some = grind (arith, nat_tests);
+  few = grind (arith, nat_tests);
+  end = grind (arith, nat_tests);
+}
+
+pub within_is : (head : List ℕ) (place : ℕ) → IsWithin head place → is_bad_address head place ≡ false
+within_is head place h =
+    let start : place ≤ length head = h.start in
+    let some : 1 ≤ octet head place = h.some in
+    let few : octet head place ≤ 20 = h.few in
+    let end : place + octet head place ≤ length head = h.end in
+    grind (arith, nat_tests)
+
+-- the data's range fits its unit
+pub record IsGoodRange (length_of_head total data_end : ℕ) (more : Bool) : Type 0 where
+  pub holds_header : length_of_head ≤ total
+  pub within : data_end ≤ total - length_of_head
+  pub ends : (more ≡ false) ↔ (data_end ≡ total - length_of_head)
+
+pub good_range : (size total data_end : ℕ) (more : Bool) → is_unfit_range size total data_end more ≡ false → IsGoodRange size total data_end more
+good_range size total data_end true h = record {
+  holds_header = grind (arith, nat_tests);
+  within = grind (arith, nat_tests);
+  ends = ((λ e. cc), (λ e. grind (arith, nat_tests)));
+}
+good_range size total data_end false h = record {
+  holds_header = grind (arith, nat_tests);
+  within = grind (arith, nat_tests);
+  ends = ((λ e. grind (arith, nat_tests)), (λ e. refl));
+}
+
+pub range_is_good : (size total data_end : ℕ) (more : Bool) → IsGoodRange size total data_end more → is_unfit_range size total data_end more ≡ false
+range_is_good size total data_end true h =
+    let differ : data_end ≢ total - size = λ e. let wrong = h.ends.1 e in cc in
+    let holds : size ≤ total = h.holds_header in
+    let fits : data_end ≤ total - size = h.within in
+    grind (arith, nat_tests)
+range_is_good size total data_end false h =
+    let same : data_end ≡ total - size = h.ends.0 refl in
+    let holds : size ≤ total = h.holds_header in
+    grind (arith, nat_tests)
+
+-- the checksum isn't in use, or it is right
+pub checksum_parts : (head : List ℕ) → has_right_checksum head ≡ true → ((octet head 8 ≡ 0) × (octet head 9 ≡ 0)) ⊎ IsSealed head
+checksum_parts head h = by_octet_8 (octet head 8 == 0) refl
+  where
+    by_octet_8 : (b : Bool) → (octet head 8 == 0) ≡ b → ((octet head 8 ≡ 0) × (octet head 9 ≡ 0)) ⊎ IsSealed head
+    by_octet_8 true e = inl (is_equal _ _ e, grind (arith, nat_tests))
+    by_octet_8 false e = inr (record {
+      octet_8 = not_equal _ _ e;
+      octet_9 = λ z. grind (arith, nat_tests);
+      sum = grind (arith, nat_tests);
+      weighted_sum = grind (arith, nat_tests);
+    })
+
+pub unused_is_right : (head : List ℕ) → octet head 8 ≡ 0 → octet head 9 ≡ 0 → has_right_checksum head ≡ true
+unused_is_right head x y = grind (arith, nat_tests)
+
+pub sealed_is_right : (head : List ℕ) → IsSealed head → has_right_checksum head ≡ true
+sealed_is_right head h =
+    let octet_8 : octet head 8 ≢ 0 = h.octet_8 in
+    let octet_9 : octet head 9 ≢ 0 = h.octet_9 in
+    grind (arith, nat_tests, h.sum, h.weighted_sum)

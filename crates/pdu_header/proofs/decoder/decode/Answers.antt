@@ -1,0 +1,22 @@
+use Rattle.std.proofs.Common.{◌≡◌, ◌==◌, false, arith, rules}
+use Rattle.pdu_header.specs.Rules.{octet}
+use Rattle.pdu_header.proofs.Frames.{nothing_spelled, other_protocol, read_front, read_header}
+use Rattle.pdu_header.proofs.decoder.decode.Goals as goal
+
+pub returns-in-Ok-clause-found : goal.returns-in-Ok-clause-found
+returns-in-Ok-clause-found c =
+    let protocol : octet c.args.frame.now 1 ≡ 0x81 = search rules in
+    read_front c.args.frame.now _ _ (λ i. omega (arith, c.type_inv.frame i)) protocol c.in-Ok.ensures.judged c.in-Ok.ensures.value c.in-Ok.ensures.rest
+
+pub returns-in-Ok-clause-header : goal.returns-in-Ok-clause-header
+returns-in-Ok-clause-header c =
+    let protocol : octet c.args.frame.now 1 ≡ 0x81 = search rules in
+    read_header c.args.frame.now _ _ (λ i. omega (arith, c.type_inv.frame i)) protocol c.in-Ok.ensures.judged c.in-Ok.ensures.head c.in-Ok.ensures.value
+
+pub returns-in-Err-clause-none : goal.returns-in-Err-clause-none
+returns-in-Err-clause-none c = nothing_spelled c.args.frame.now _ c.in-Err.ensures.judged
+
+pub returns-then-not-is_clnp-clause-none : goal.returns-then-not-is_clnp-clause-none
+returns-then-not-is_clnp-clause-none c =
+    let differs : (octet c.args.frame.now 1 == 0x81) ≡ false = search rules in
+    other_protocol c.args.frame.now differs

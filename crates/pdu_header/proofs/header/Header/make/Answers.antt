@@ -1,0 +1,14 @@
+use Rattle.std.proofs.Common.{◌≡◌, ◌∙◌, sym, ap, refl, arith, length, replicate, List, ℕ}
+use Rattle.std.proofs.lemmas.List.{length-replicate}
+use Rattle.pdu_header.specs.Parts.{parts_value}
+use Rattle.pdu_header.proofs.Written.{spells_header}
+use Rattle.pdu_header.proofs.header.Header.make.Goals as goal
+
+pub invariant_of-result : goal.invariant_of-result
+invariant_of-result c =
+    let body : List ℕ = replicate c.args.body_len 0 in
+    (parts_value c.args.parts.now body, spells_header c.args.parts.now body _ c.args.body_len (length-replicate c.args.body_len 0) c.written.ensures.typed c.requires.fit (omega arith) (omega arith) (c.written.ensures.value body (omega (arith, length-replicate {A = ℕ} c.args.body_len 0))))
+
+pub returns-clause-spells : goal.returns-clause-spells
+returns-clause-spells c body e =
+    spells_header c.args.parts.now body _ c.args.body_len e c.written.ensures.typed c.requires.fit (omega arith) (omega arith) (c.written.ensures.value body (omega arith))

@@ -1,0 +1,46 @@
+use Rattle.std.proofs.Common.{◌≡◌, ◌∙◌, ap, arith, length, rules}
+use Rattle.clnp_options.specs.Parameter.{quality}
+use Rattle.clnp_options.specs.Edits.{edited, marked}
+use Rattle.pdu_header.specs.Value.{PduValue}
+use Rattle.pdu_header.specs.Headers.{SpellsHeader, with_options}
+use Rattle.pdu_header.proofs.Written.{nine_at_least}
+use Rattle.pdu_header.proofs.Edited.{StartsAt, start_within, options_formed, options_lead, edit_spells, nine_kept}
+use Rattle.pdu_header.proofs.header.Header.mark_congestion.Goals as goal
+
+pub mark_congestion-requires-clause-start : goal.mark_congestion-requires-clause-start
+mark_congestion-requires-clause-start c =
+    let v : PduValue = c.self.invariant.0 in
+    let h : SpellsHeader v c.self.inside.cells = c.self.invariant.1 in
+    let read : SpellsHeader v c.as_bytes.result.now = rw c.as_bytes.ensures.octets h in
+    let start : StartsAt v c.options_index-start.result = c.options_index-start.ensures v read in
+    start_within v c.self.inside.cells c.options_index-start.result h start
+
+pub mark_congestion-requires-clause-well_formed : goal.mark_congestion-requires-clause-well_formed
+mark_congestion-requires-clause-well_formed c =
+    let v : PduValue = c.self.invariant.0 in
+    let h : SpellsHeader v c.self.inside.cells = c.self.invariant.1 in
+    let read : SpellsHeader v c.as_bytes.result.now = rw c.as_bytes.ensures.octets h in
+    let start : StartsAt v c.options_index-start.result = c.options_index-start.ensures v read in
+    options_formed v c.self.inside.cells c.options_index-start.result h start
+
+pub reseal-requires : goal.reseal-requires
+reseal-requires c = nine_kept c.self.inside.cells _ c.self.invariant c.mark_congestion.ensures.len
+
+pub invariant_of-self : goal.invariant_of-self
+invariant_of-self c =
+    let v : PduValue = c.self.invariant.0 in
+    let h : SpellsHeader v c.self.inside.cells = c.self.invariant.1 in
+    let read : SpellsHeader v c.as_bytes.result.now = rw c.as_bytes.ensures.octets h in
+    let start : StartsAt v c.options_index-start.result = c.options_index-start.ensures v read in
+    (with_options ((edited quality marked) v.options) v, edit_spells v (edited quality marked) c.self.inside.cells _ _ c.options_index-start.result h start c.mark_congestion.ensures c.reseal.ensures.value)
+
+pub returns-clause-spells : goal.returns-clause-spells
+returns-clause-spells c w spelt =
+    let v : PduValue = w in
+    let h : SpellsHeader v c.self.inside.cells = rw c.self.view_is spelt in
+    let read : SpellsHeader v c.as_bytes.result.now = rw c.as_bytes.ensures.octets h in
+    let start : StartsAt v c.options_index-start.result = c.options_index-start.ensures v read in
+    edit_spells v (edited quality marked) c.self.inside.cells _ _ c.options_index-start.result h start c.mark_congestion.ensures c.reseal.ensures.value
+
+pub returns-clause-len : goal.returns-clause-len
+returns-clause-len c = c.reseal.ensures.len ∙ c.mark_congestion.ensures.len ∙ ap length c.self.view_is

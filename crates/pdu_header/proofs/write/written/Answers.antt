@@ -1,0 +1,59 @@
+use Rattle.std.proofs.Common.{◌≡◌, ◌∙◌, sym, ap, subst, refl, arith, length, List, [], ℕ, ◌++◌}
+use Rattle.fletcher.specs.Checksum.{sealed}
+use Rattle.clnp_options.specs.Rules.{IsWellFormed}
+use Rattle.pdu_header.specs.Spelling.{counted}
+use Rattle.pdu_header.specs.Parts.{parts_value}
+use Rattle.pdu_header.proofs.Written.{pieces_join, pieces_length, options_spelled, header_if_sealed, header_if_unsealed}
+use Rattle.pdu_header.proofs.write.written.Goals as goal
+
+pub push-requires : goal.push-requires
+push-requires c =
+    omega (
+      arith,
+      c.requires.len,
+      pieces_length (parts_value c.args.parts.now []) _ _ _ _ _ _ _
+          refl (options_spelled _ _ c.as_bytes-3.ensures.value c.as_bytes-3.ensures.well_formed)
+          c.new-cells.ensures c.push_fixed.ensures.octets
+          (c.push_counted.ensures ∙ ap (λ x. c.push_fixed.new.cells ++ counted x) c.as_bytes.ensures.octets)
+          (c.push_counted-2.ensures ∙ ap (λ x. c.push_counted.new.cells ++ counted x) c.as_bytes-2.ensures.octets)
+          c.push_segmentation.ensures.octets,
+    )
+
+pub returns-then-parts-clause-value : goal.returns-then-parts-clause-value
+returns-then-parts-clause-value c body e =
+    c.seal.ensures
+    ∙ ap sealed (pieces_join (parts_value c.args.parts.now body) c.args.head_len c.args.total _ _ _ _ _ _ _ _
+    c.requires.len (sym e) c.flags.ensures (options_spelled _ _ c.as_bytes-3.ensures.value c.as_bytes-3.ensures.well_formed)
+    c.new-cells.ensures c.push_fixed.ensures.octets
+    (c.push_counted.ensures ∙ ap (λ x. c.push_fixed.new.cells ++ counted x) c.as_bytes.ensures.octets)
+    (c.push_counted-2.ensures ∙ ap (λ x. c.push_counted.new.cells ++ counted x) c.as_bytes-2.ensures.octets)
+    c.push_segmentation.ensures.octets c.push.ensures)
+    ∙ sym (header_if_sealed (parts_value c.args.parts.now body) c.if-parts.true)
+
+pub returns-else-parts-clause-value : goal.returns-else-parts-clause-value
+returns-else-parts-clause-value c body e =
+    pieces_join (parts_value c.args.parts.now body) c.args.head_len c.args.total _ _ _ _ _ _ _ _
+    c.requires.len (sym e) c.flags.ensures (options_spelled _ _ c.as_bytes-3.ensures.value c.as_bytes-3.ensures.well_formed)
+    c.new-cells.ensures c.push_fixed.ensures.octets
+    (c.push_counted.ensures ∙ ap (λ x. c.push_fixed.new.cells ++ counted x) c.as_bytes.ensures.octets)
+    (c.push_counted-2.ensures ∙ ap (λ x. c.push_counted.new.cells ++ counted x) c.as_bytes-2.ensures.octets)
+    c.push_segmentation.ensures.octets c.push.ensures
+    ∙ sym (header_if_unsealed (parts_value c.args.parts.now body) c.if-parts.false)
+
+pub returns-then-parts-clause-typed : goal.returns-then-parts-clause-typed
+returns-then-parts-clause-typed c = record {
+  lifetime = c.push_fixed.ensures.life;
+  destination = c.as_bytes.ensures.bounds;
+  source = c.as_bytes-2.ensures.bounds;
+  numbers = c.push_segmentation.ensures.numbers;
+  options = let P : List ℕ → Type 0 = IsWellFormed in subst P c.as_bytes-3.ensures.value c.as_bytes-3.ensures.well_formed;
+}
+
+pub returns-else-parts-clause-typed : goal.returns-else-parts-clause-typed
+returns-else-parts-clause-typed c = record {
+  lifetime = c.push_fixed.ensures.life;
+  destination = c.as_bytes.ensures.bounds;
+  source = c.as_bytes-2.ensures.bounds;
+  numbers = c.push_segmentation.ensures.numbers;
+  options = let P : List ℕ → Type 0 = IsWellFormed in subst P c.as_bytes-3.ensures.value c.as_bytes-3.ensures.well_formed;
+}

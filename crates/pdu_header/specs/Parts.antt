@@ -1,0 +1,77 @@
+-- What a header is made from, as a value, and when it can't be made.
+use Rattle.std.specs.Prelude.{◌≡◌, ◌↔◌, ℕ, ◌+◌, ◌-◌, ◌^◌, ◌<◌, ◌≤◌, nat_lt, Bool, true, false, if◌then◌else◌, List, [], length, Option, None, Some, option_map}
+use Rattle.fletcher.specs.Checksum.{sealed}
+use Rattle.clnp_options.specs.Parameter.{parameters}
+use Rattle.nsap.specs.Address.{IsAddress}
+use Rattle.clnp_options.specs.Grammar.{FitsKind}
+use Rattle.clnp_options.specs.Rules.{IsWellFormed}
+use Rattle.pdu_header.specs.declared.pdu.SegPart.{SegPart}
+use Rattle.pdu_header.specs.declared.parts.Parts.{Parts}
+use Rattle.pdu_header.specs.declared.header.HeaderRefusal.{HeaderRefusal}
+use Rattle.pdu_header.specs.declared.header.HeaderRefusal.TheVariants.{HeaderTooLong, TotalTooLong}
+use Rattle.pdu_header.specs.Value.{SegmentationPart, PduValue}
+use Rattle.pdu_header.specs.Spelling.{header_length}
+use Rattle.pdu_header.specs.Grammar.{is_report}
+
+abbrev pub segmentation_value : SegPart → SegmentationPart
+segmentation_value part = record { identifier = part.id; offset = part.offset; total = part.total }
+
+-- the value of a PDU with a header made from these parts, and this body
+abbrev pub parts_value : Parts → List ℕ → PduValue
+parts_value parts body = record {
+  kind = parts.kind;
+  lifetime = parts.life;
+  report = parts.report;
+  sealed = parts.sealed;
+  more = parts.more;
+  destination = parts.to;
+  source = parts.from;
+  segmentation = option_map segmentation_value parts.seg;
+  options = parameters parts.options;
+  body = body;
+}
+
+-- the length of the header, which doesn't depend on the body
+abbrev pub parts_length : Parts → ℕ
+parts_length parts = header_length (parts_value parts [])
+
+-- so many octets of data lie in their unit, behind a header of its length, and more follows exactly where
+-- they don't reach the unit's end (section 7.4)
+pub record FitsRange (header_len data_len : ℕ) (more : Bool) (part : SegmentationPart) : Type 0 where
+  pub holds_header : header_len ≤ part.total
+  pub within : part.offset + data_len ≤ part.total - header_len
+  pub ends : (more ≡ false) ↔ (part.offset + data_len ≡ part.total - header_len)
+
+-- without a segmentation part nothing follows
+abbrev pub FitsSegment : ℕ → ℕ → Bool → Option SegmentationPart → Type 0
+FitsSegment header_len data_len more None = more ≡ false
+FitsSegment header_len data_len more (Some part) = FitsRange header_len data_len more part
+
+-- with a body of so many octets the parts break no rule but those on the lengths
+pub record AreFit (parts : Parts) (body_len : ℕ) : Type 0 where
+  pub segment : FitsSegment (parts_length parts) body_len parts.more (option_map segmentation_value parts.seg)
+  -- a reason for discard stands in an error report, and in no other PDU (section 7.9.5)
+  pub reason : FitsKind (is_report parts.kind) (parameters parts.options)
+
+-- numbers of two octets, where there is a segmentation part
+abbrev pub AreNumbers : Option SegmentationPart → Type 0
+AreNumbers None = Unit {0}
+AreNumbers (Some part) = (part.identifier < 2 ^ 16) × (part.offset < 2 ^ 16) × (part.total < 2 ^ 16)
+
+-- what the types of the parts say
+pub record AreTyped (parts : Parts) : Type 0 where
+  pub lifetime : parts.life < 256
+  pub destination : IsAddress parts.to
+  pub source : IsAddress parts.from
+  pub numbers : AreNumbers (option_map segmentation_value parts.seg)
+  pub options : IsWellFormed parts.options
+
+-- which length is too long: the header's, above 254, or else that of header and body, above 65,535
+abbrev pub too_long : ℕ → ℕ → Option HeaderRefusal
+too_long header_len body_len =
+    if nat_lt 254 header_len then Some (HeaderTooLong header_len)
+    else (if nat_lt 65535 (header_len + body_len) then Some (TotalTooLong (header_len + body_len)) else None)
+
+-- a header with a checksum, or without one
+abbrev pub checked : Bool → List ℕ → List ℕ
+checked is_sealed plain = if is_sealed then sealed plain else plain

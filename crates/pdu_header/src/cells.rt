@@ -1,0 +1,129 @@
+//! A header while it is written: up to 254 octets in 254 cells.
+ghost use Rattle.std.specs.Prelude.{◌≡◌, ◌≢◌, ◌+◌, ◌-◌, ◌≤◌, ◌++◌, ℕ, Bool, List, [], length, take, drop, IsSome};
+ghost use Rattle.std.specs.List.{slice_set};
+ghost use Rattle.fletcher.specs.Checksum.{octet, sealed};
+ghost use Rattle.clnp_options.specs.Parameter.{parameters, spelled, source_route, recording, quality};
+ghost use Rattle.clnp_options.specs.Rules.{IsWellFormed};
+ghost use Rattle.clnp_options.specs.Grammar.{IsTitle};
+ghost use Rattle.clnp_options.specs.Edits.{edited, advanced, recorded, marked, target_of};
+ghost use Rattle.pdu_header.specs.Parts.{checked};
+ghost use Rattle.pdu_header.specs.Headers.{IsEdited, resealed};
+
+use std::marker::Model;
+
+/// The most octets of a header (ISO 8473, section 7.2.3).
+pub const MOST: usize = 254;
+
+/// Octets of a header. The cells past them are 0, so that one list of octets is one value.
+#[derive(Clone, Copy, PartialEq, Eq, Debug)]
+pub struct Cells {
+    len: usize,
+    octets: [u8; MOST],
+}
+
+impl Model for Cells {
+    ghost use Rattle.std.specs.Prelude.{◌-◌, ◌++◌, List, ℕ, length, take, replicate};
+    ghost use Rattle.clnp_views.specs.Held.{IsHeld, length-front, cells_again};
+
+    ghost Value = { List ℕ };
+
+    ghost view = { λ s. take s.len s.octets };
+
+    ghost invariant = { λ s. IsHeld s.len s.octets };
+
+    ghost inverse = { λ v. record { len = length v; octets = v ++ replicate (254 - length v) 0 } };
+
+    ghost inverse_ok = { λ s h i. record { len = length-front s.len s.octets h i; octets = cells_again s.len s.octets h i } };
+}
+
+impl Cells {
+    /// No octets.
+    pub fn new() -> Cells
+        ensures { result ≡ [] }
+    {
+        Cells {
+            len: 0,
+            octets: [0; MOST],
+        }
+    }
+
+    /// The octets.
+    pub fn as_bytes(&self) -> &[u8]
+        ensures octets { result.now ≡ self.now }
+        ensures few { length result.now ≤ 254 }
+    {
+        &self.octets[..self.len]
+    }
+
+    /// Puts a piece behind the octets.
+    pub fn push(&mut self, piece: &[u8])
+        requires { length self.old + length piece.now ≤ 254 }
+        ensures { self.new ≡ self.old ++ piece.now }
+    {
+        let end = self.len + piece.len();
+        self.octets[self.len..end].copy_from_slice(piece);
+        self.len = end;
+    }
+
+    /// Makes the checksum.
+    pub fn seal(&mut self)
+        requires { 9 ≤ length self.old }
+        ensures { self.new ≡ sealed self.old }
+    {
+        fletcher::seal(&mut self.octets[..self.len]);
+    }
+
+    /// Writes the octet at a place, counted from 1, and adjusts the checksum where it is in use.
+    pub fn adjust(&mut self, place: usize, new: u8)
+        requires head { 9 ≤ length self.old }
+        requires first { 1 ≤ place }
+        requires last { place ≤ length self.old }
+        requires not_octet_8 { place ≢ 8 }
+        requires not_octet_9 { place ≢ 9 }
+        ensures changed { (is_sealed : Bool) (plain : List ℕ) → octet plain 8 ≡ 0 → self.old ≡ checked is_sealed plain → self.new ≡ checked is_sealed (slice_set plain (place - 1) new) }
+        ensures len { length self.new ≡ length self.old }
+    {
+        fletcher::adjust(&mut self.octets[..self.len], place, new);
+    }
+
+    /// Makes the checksum anew where it is in use.
+    pub fn reseal(&mut self)
+        requires { 9 ≤ length self.old }
+        ensures value { self.new ≡ resealed self.old }
+        ensures len { length self.new ≡ length self.old }
+    {
+        if self.octets[7] == 0 {
+            return;
+        }
+        fletcher::seal(&mut self.octets[..self.len]);
+    }
+
+    /// Moves the pointer of the source route in the options, which begin at this index.
+    pub fn advance_route(&mut self, start: usize)
+        requires start { start ≤ length self.old }
+        requires well_formed { IsWellFormed (drop start self.old) }
+        requires target { IsSome (target_of (parameters (drop start self.old))) }
+        ensures { IsEdited start (edited source_route advanced) self.old self.new }
+    {
+        clnp_options::advance_route(&mut self.octets[start..self.len]);
+    }
+
+    /// Notes a title in the recording of route in the options, which begin at this index.
+    pub fn record_title(&mut self, start: usize, title: &[u8])
+        requires start { start ≤ length self.old }
+        requires well_formed { IsWellFormed (drop start self.old) }
+        requires title { IsTitle title.now }
+        ensures { IsEdited start (edited recording (recorded title.now)) self.old self.new }
+    {
+        clnp_options::record_title(&mut self.octets[start..self.len], title);
+    }
+
+    /// Sets the congestion bit in the options, which begin at this index.
+    pub fn mark_congestion(&mut self, start: usize)
+        requires start { start ≤ length self.old }
+        requires well_formed { IsWellFormed (drop start self.old) }
+        ensures { IsEdited start (edited quality marked) self.old self.new }
+    {
+        clnp_options::mark_congestion(&mut self.octets[start..self.len]);
+    }
+}

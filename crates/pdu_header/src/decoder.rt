@@ -1,0 +1,406 @@
+//! Frames read as PDUs, by the rules G1 to G20.
+ghost use Rattle.clnp_options.specs.Rules.{Gives, refusal as options_refusal};
+ghost use Rattle.pdu_header.specs.Grammar as grammar;
+ghost use Rattle.pdu_header.specs.Grammar.{BeginsWith};
+ghost use Rattle.pdu_header.specs.Reading as reading;
+ghost use Rattle.pdu_header.specs.Reading.{body_of, rest_of, segmentation_at, value_of};
+ghost use Rattle.pdu_header.specs.Rules as rules;
+ghost use Rattle.pdu_header.specs.Rules.{addresses_refusal, data_size, extent_refusal, fixed_part_refusal, header_size, is_unfit_range, is_bad_address, lengths_refusal, octet, options_part, options_place, part_place, refusal, source_place, type_of};
+ghost use Rattle.pdu_header.specs.Spelling.{header};
+ghost use Rattle.pdu_header.specs.Value.{PduValue};
+ghost use Rattle.pdu_header.specs.View.{part_value, pdu_value, why_refused};
+ghost use Rattle.std.specs.Prelude.{IfSome, MatchResult, None, Some, ◌^◌, ◌≡◌, ◌+◌, ◌-◌, ◌==◌, ◌<◌, ◌≤◌, ◌↔◌, ℕ, Bool, true, false, List, IfOk, IsTrue, MatchOption, OnErr, OnOk, drop, length, not, option_map, take};
+
+use crate::kind::Kind;
+use crate::pdu::{Broken, Pdu, Refusal, SegPart};
+use crate::report::reportable;
+use byteorder::{BigEndian, ByteOrder};
+use clnp_options::{OptionRefusal, check};
+use nsap::Address;
+
+/// The first octet: the network layer protocol identifier of ISO 8473 (section 7.2.2).
+const PROTOCOL: u8 = 0x81;
+
+/// The version of the protocol (section 7.2.4).
+const VERSION: u8 = 1;
+
+/// The octets of the header's fixed part (section 7.2).
+const FIXED_PART: usize = 9;
+
+/// The header length that is reserved (section 7.2.3).
+const RESERVED_LENGTH: u8 = 255;
+
+/// The octets of the segmentation part (section 7.4).
+const SEGMENTATION_PART: usize = 6;
+
+/// The flags in octet 5 (section 7.2.6): segmentation permitted, more segments, error report.
+const SEGMENTATION_PERMITTED: u8 = 0x80;
+
+const MORE_SEGMENTS: u8 = 0x40;
+
+const ERROR_REPORT: u8 = 0x20;
+
+/// The number of types, which stand in the low bits of octet 5.
+pub(crate) const TYPES: u8 = 0x20;
+
+/// Reasons for discard (section 7.9.5).
+const INCORRECT_CHECKSUM: u8 = 0x02;
+
+const HEADER_SYNTAX: u8 = 0x04;
+
+const INCOMPLETE: u8 = 0x06;
+
+const UNSUPPORTED_VERSION: u8 = 0xb1;
+
+/// The PDU at the front of a frame (ISO 8473, section 7). What follows it in the frame is its `rest`.
+///
+/// # Errors
+///
+/// `NotClnp` exactly where the frame is empty or its first octet isn't 0x81; else `Broken` exactly
+/// where it breaks one of the rules G1 to G20 (see `docs/FORMATS.md`), by the least of them.
+pub fn decode(frame: &[u8]) -> Result<Pdu<'_>, Refusal>
+    ensures judged { MatchResult result (λ _. why_refused frame.now ≡ None) (λ refused. why_refused frame.now ≡ Some refused) }
+    ensures accepted { OnOk result ((octet frame.now 1 ≡ 0x81) × (refusal frame.now ≡ None)) }
+    ensures found { IfOk result (λ pdu. BeginsWith frame.now (pdu_value pdu) pdu.rest.now) }
+    ensures none { OnErr result ((value : PduValue) (rest : List ℕ) → BeginsWith frame.now value rest → ⊥) }
+    ensures header { IfOk result (λ pdu. pdu.head.now ≡ header (pdu_value pdu)) }
+    ensures head { IfOk result (λ pdu. pdu.head.now ≡ rules.header_of frame.now) }
+    ensures sum { IfOk result (λ pdu. pdu.sum ≡ rules.pair_at pdu.head.now 8) }
+    ensures options { IfOk result (λ pdu. pdu.options.now ≡ options_part pdu.head.now) }
+{
+    if !is_clnp(frame) {
+        return Err(Refusal::NotClnp);
+    }
+    match read(frame) {
+        Ok(pdu) => Ok(pdu),
+        Err(refusal) => Err(Refusal::Broken(Broken {
+            rule: refusal.rule,
+            reason: refusal.reason,
+            place: refusal.place,
+            reportable: reportable(frame).is_some(),
+        })),
+    }
+}
+
+/// Whether the frame begins with the identifier of this protocol.
+pub(crate) fn is_clnp(frame: &[u8]) -> bool
+    ensures { result ≡ (octet frame.now 1 == 0x81) }
+{
+    matches!(frame, [PROTOCOL, ..])
+}
+
+/// The PDU at the front of a frame that begins with 0x81. Refuses by G1 to G20.
+#[tactic(auto, unfolding(crate::specs::Rules::refusal, crate::specs::Rules::header_refusal))]
+fn read(frame: &[u8]) -> Result<Pdu<'_>, OptionRefusal>
+    ensures judged { Gives result (refusal frame.now) }
+    ensures value { IfOk result (λ pdu. pdu_value pdu ≡ value_of (rules.header_of frame.now) (body_of frame.now)) }
+    ensures rest { IfOk result (λ pdu. pdu.rest.now ≡ rest_of frame.now) }
+    ensures head { IfOk result (λ pdu. pdu.head.now ≡ rules.header_of frame.now) }
+    ensures sum { IfOk result (λ pdu. pdu.sum ≡ rules.pair_at pdu.head.now 8) }
+    ensures options { IfOk result (λ pdu. pdu.options.now ≡ options_part pdu.head.now) }
+{
+    let (head, behind) = header_of(frame)?;
+    let kind = check_fixed_part(head)?;
+    let Addresses { to, from, end } = match read_addresses(head) {
+        Ok(addresses) => addresses,
+        Err(refusal) => return Err(refusal),
+    };
+    let lengths = read_lengths(head, end, frame.len())?;
+    let options = read_options(head, options_place(head, end), kind)?;
+    let (body, rest) = behind.split_at(lengths.data_length);
+    Ok(Pdu {
+        kind,
+        life: head[3],
+        report: wants_report(head),
+        more: has_more(head),
+        sum: pair_at(head, 8),
+        to,
+        from,
+        seg: lengths.seg,
+        head,
+        options,
+        body,
+        rest,
+    })
+}
+
+/// A rule that is broken, its reason and its place.
+fn broken(rule: u8, reason: u8, place: u8) -> OptionRefusal
+    ensures { result ≡ record { rule = rule; reason = reason; place = place } }
+{
+    OptionRefusal {
+        rule,
+        reason,
+        place,
+    }
+}
+
+/// The header of a frame, and what follows it. Refuses by G1 to G3.
+#[tactic(auto, unfolding(crate::specs::Rules::extent_refusal))]
+pub(crate) fn header_of(frame: &[u8]) -> Result<(&[u8], &[u8]), OptionRefusal>
+    ensures judged { Gives result (extent_refusal frame.now) }
+    ensures header { IfOk result (λ r. r.0.now ≡ rules.header_of frame.now) }
+    ensures behind { IfOk result (λ r. r.1.now ≡ drop (header_size frame.now) frame.now) }
+    ensures size { IfOk result (λ r. length r.0.now ≡ header_size frame.now) }
+    ensures at_least { IfOk result (λ r. 9 ≤ length r.0.now) }
+    ensures at_most { IfOk result (λ r. length r.0.now ≤ 254) }
+{
+    if frame.len() < FIXED_PART {
+        return Err(broken(1, INCOMPLETE, 0));
+    }
+    let size = frame[1];
+    if usize::from(size) < FIXED_PART || size == RESERVED_LENGTH {
+        return Err(broken(2, HEADER_SYNTAX, 2));
+    }
+    if frame.len() < usize::from(size) {
+        return Err(broken(3, INCOMPLETE, 2));
+    }
+    Ok(frame.split_at(usize::from(size)))
+}
+
+/// The number of two octets whose first has this place.
+fn pair_at(head: &[u8], place: usize) -> u16
+    requires first { 1 ≤ place }
+    requires last { place + 1 ≤ length head.now }
+    ensures { result ≡ rules.pair_at head.now place }
+{
+    BigEndian::read_u16(&[head[place - 1], head[place]])
+}
+
+/// Whether the header has a segmentation part.
+fn is_segmented(head: &[u8]) -> bool
+    requires { 9 ≤ length head.now }
+    ensures { result ≡ rules.is_segmented head.now }
+{
+    head[4] >= SEGMENTATION_PERMITTED
+}
+
+/// Whether data of the same unit follows behind this PDU's.
+fn has_more(head: &[u8]) -> bool
+    requires { 9 ≤ length head.now }
+    ensures { result ≡ rules.has_more head.now }
+{
+    head[4] / MORE_SEGMENTS % 2 == 1
+}
+
+/// Whether an error report is wanted where the PDU is discarded.
+pub(crate) fn wants_report(head: &[u8]) -> bool
+    requires { 9 ≤ length head.now }
+    ensures { result ≡ rules.wants_report head.now }
+{
+    head[4] / ERROR_REPORT % 2 == 1
+}
+
+/// The kind that the header's type says, where it is known.
+pub(crate) fn kind_of(head: &[u8]) -> Option<Kind>
+    requires { 9 ≤ length head.now }
+    ensures { result ≡ rules.kind_of (type_of head.now) }
+{
+    match head[4] % TYPES {
+        1 => Some(Kind::Er),
+        28 => Some(Kind::Dt),
+        30 => Some(Kind::Erq),
+        31 => Some(Kind::Erp),
+        _ => None,
+    }
+}
+
+/// Whether the header's checksum is right, or not in use.
+fn has_right_checksum(head: &[u8]) -> bool
+    requires at_least { 9 ≤ length head.now }
+    requires at_most { length head.now ≤ 254 }
+    ensures { result ≡ rules.has_right_checksum head.now }
+{
+    fletcher::is_right(head)
+}
+
+/// The kind of a PDU, from the fixed part of its header. Refuses by G4 to G7.
+#[tactic(auto, unfolding(crate::specs::Rules::fixed_part_refusal))]
+fn check_fixed_part(head: &[u8]) -> Result<Kind, OptionRefusal>
+    requires at_least { 9 ≤ length head.now }
+    requires at_most { length head.now ≤ 254 }
+    ensures judged { Gives result (fixed_part_refusal head.now) }
+    ensures kind { IfOk result (λ kind. rules.kind_of (type_of head.now) ≡ Some kind) }
+{
+    if head[2] != VERSION {
+        return Err(broken(4, UNSUPPORTED_VERSION, 3));
+    }
+    if !has_right_checksum(head) {
+        return Err(broken(5, INCORRECT_CHECKSUM, 0));
+    }
+    let Some(kind) = kind_of(head) else {
+        return Err(broken(6, HEADER_SYNTAX, 5));
+    };
+    if has_more(head) && !is_segmented(head) {
+        return Err(broken(7, HEADER_SYNTAX, 5));
+    }
+    Ok(kind)
+}
+
+/// The address whose length octet has this place, where it lies in the header.
+fn address_at(head: &[u8], place: usize) -> Option<Address>
+    requires first { 1 ≤ place }
+    requires last { place ≤ 254 }
+    ensures none { MatchOption result (is_bad_address head.now place ≡ true) (λ _. is_bad_address head.now place ≡ false) }
+    ensures value { IfSome result (λ address. address ≡ reading.address_at head.now place) }
+    ensures size { IfSome result (λ address. octet head.now place ≡ length address) }
+    ensures within { IfSome result (λ address. place + length address ≤ length head.now) }
+    ensures few { IfSome result (λ address. length address ≤ 20) }
+{
+    if head.len() < place {
+        return None;
+    }
+    let size = usize::from(head[place - 1]);
+    if head.len() < place + size {
+        return None;
+    }
+    match Address::from_bytes(&head[place..place + size]) {
+        Ok(address) => Some(address),
+        Err(_) => None,
+    }
+}
+
+/// The addresses of a header, and the place at which what follows them begins.
+#[derive(Clone, Copy)]
+pub(crate) struct Addresses {
+    pub(crate) to: Address,
+    pub(crate) from: Address,
+    pub(crate) end: usize,
+}
+
+/// The addresses of a header. Refuses by G8 and G9.
+#[tactic(auto, unfolding(crate::specs::Rules::addresses_refusal))]
+pub(crate) fn read_addresses(head: &[u8]) -> Result<Addresses, OptionRefusal>
+    requires at_least { 9 ≤ length head.now }
+    requires at_most { length head.now ≤ 254 }
+    ensures judged { Gives result (addresses_refusal head.now) }
+    ensures to { IfOk result (λ addresses. addresses.to ≡ reading.address_at head.now 10) }
+    ensures from { IfOk result (λ addresses. addresses.from ≡ reading.address_at head.now (source_place head.now)) }
+    ensures end { IfOk result (λ addresses. addresses.end ≡ part_place head.now) }
+    ensures within { IfOk result (λ addresses. addresses.end ≤ length head.now + 1) }
+{
+    let Some(to) = address_at(head, FIXED_PART + 1) else {
+        return Err(broken(8, HEADER_SYNTAX, 10));
+    };
+    let place = FIXED_PART + 2 + to.as_bytes().len();
+    let Some(from) = address_at(head, place) else {
+        return Err(broken(9, HEADER_SYNTAX, place as u8));
+    };
+    let end = place + 1 + from.as_bytes().len();
+    Ok(Addresses { to, from, end })
+}
+
+/// The segmentation part whose first octet has this place.
+fn segmentation_part(head: &[u8], place: usize) -> SegPart
+    requires first { 1 ≤ place }
+    requires last { place + 5 ≤ length head.now }
+    ensures id { result.id ≡ rules.pair_at head.now place }
+    ensures offset { result.offset ≡ rules.pair_at head.now (place + 2) }
+    ensures total { result.total ≡ rules.pair_at head.now (place + 4) }
+{
+    SegPart {
+        id: pair_at(head, place),
+        offset: pair_at(head, place + 2),
+        total: pair_at(head, place + 4),
+    }
+}
+
+/// Whether a segment's total length is below its header's, or its data passes the unit's end, or
+/// it says of the data behind it what isn't so.
+fn is_bad_range(part: SegPart, header_length: usize, data_length: usize, more: bool) -> bool
+    requires { data_length < 2 ^ 16 }
+    ensures { result ≡ is_unfit_range header_length part.total (part.offset + data_length) more }
+{
+    let total = usize::from(part.total);
+    let data_end = usize::from(part.offset) + data_length;
+    if total < header_length || total - header_length < data_end {
+        return true;
+    }
+    (data_end == total - header_length) == more
+}
+
+/// What a header says of lengths: its segmentation part, and the octets of data behind it.
+#[derive(Clone, Copy)]
+struct Lengths {
+    seg: Option<SegPart>,
+    data_length: usize,
+}
+
+/// The lengths of a header whose addresses end before this place. Refuses by G10 to G13.
+#[tactic(auto, unfolding(crate::specs::Rules::lengths_refusal))]
+fn read_lengths(head: &[u8], place: usize, frame_length: usize) -> Result<Lengths, OptionRefusal>
+    requires at_least { 9 ≤ length head.now }
+    requires at_most { length head.now ≤ 254 }
+    requires place { place ≡ part_place head.now }
+    requires within { place ≤ length head.now + 1 }
+    ensures judged { Gives result (lengths_refusal head.now frame_length) }
+    ensures seg { IfOk result (λ lengths. option_map part_value lengths.seg ≡ segmentation_at head.now) }
+    ensures data_length { IfOk result (λ lengths. lengths.data_length ≡ data_size head.now) }
+    ensures fits { IfOk result (λ lengths. length head.now + lengths.data_length ≤ frame_length) }
+    ensures options { OnOk result (options_place head.now ≤ length head.now + 1) }
+{
+    let segmented = is_segmented(head);
+    if segmented && head.len() < place + (SEGMENTATION_PART - 1) {
+        return Err(broken(10, HEADER_SYNTAX, place as u8));
+    }
+    let segment_length = usize::from(pair_at(head, 6));
+    if segment_length < head.len() {
+        return Err(broken(11, HEADER_SYNTAX, 6));
+    }
+    if frame_length < segment_length {
+        return Err(broken(12, INCOMPLETE, 6));
+    }
+    let data_length = segment_length - head.len();
+    if !segmented {
+        return Ok(Lengths {
+            seg: None,
+            data_length,
+        });
+    }
+    let part = segmentation_part(head, place);
+    if is_bad_range(part, head.len(), data_length, has_more(head)) {
+        return Err(broken(13, HEADER_SYNTAX, place as u8 + 4));
+    }
+    Ok(Lengths {
+        seg: Some(part),
+        data_length,
+    })
+}
+
+/// The place at which the options begin, where the addresses end before this place.
+fn options_place(head: &[u8], end: usize) -> usize
+    requires long { 9 ≤ length head.now }
+    requires end { end ≡ part_place head.now }
+    requires within { end ≤ 255 }
+    ensures { result ≡ rules.options_place head.now }
+{
+    if is_segmented(head) {
+        end + SEGMENTATION_PART
+    } else {
+        end
+    }
+}
+
+/// Whether a PDU of this kind is an error report.
+fn is_report(kind: Kind) -> bool
+    ensures { result ≡ grammar.is_report kind }
+{
+    matches!(kind, Kind::Er)
+}
+
+/// The octets of the options part, where the header's parts before it end before this place.
+/// Refuses by G14 to G20.
+fn read_options(head: &[u8], place: usize, kind: Kind) -> Result<&[u8], OptionRefusal>
+    requires at_most { length head.now ≤ 254 }
+    requires place { place ≡ options_place head.now }
+    requires within { place ≤ length head.now + 1 }
+    requires kind { rules.kind_of (type_of head.now) ≡ Some kind }
+    ensures judged { Gives result (options_refusal (options_part head.now) (options_place head.now) (type_of head.now == 1)) }
+    ensures value { IfOk result (λ options. options.now ≡ options_part head.now) }
+{
+    let (_, options) = head.split_at(place - 1);
+    match check(options, place as u8, is_report(kind)) {
+        Ok(()) => Ok(options),
+        Err(refusal) => Err(refusal),
+    }
+}

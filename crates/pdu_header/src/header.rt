@@ -1,0 +1,215 @@
+//! Whole headers, made from parts and changed as a router changes them.
+ghost use Rattle.std.specs.Prelude.{◌≡◌, ◌+◌, ◌≤◌, ◌^◌, ◌⊎◌, ℕ, Bool, List, length, if◌then◌else◌, bit_and, bit_or, None, Some, IfOk, MatchResult};
+ghost use Rattle.fletcher.specs.Checksum.{octet};
+ghost use Rattle.pdu_header.specs.Value.{SegmentationPart, PduValue};
+ghost use Rattle.clnp_options.specs.Parameter.{source_route, recording, quality};
+ghost use Rattle.clnp_options.specs.Edits.{edited, advanced, recorded, marked};
+ghost use Rattle.pdu_header.specs.Spelling.{segmentation_octets};
+ghost use Rattle.pdu_header.specs.Parts.{AreFit, checked, parts_length, parts_value, too_long};
+ghost use Rattle.pdu_header.specs.Headers.{IsHeader, SpellsHeader, with_pair, TakesSegment, MayCarry, LeadsOn, with_lifetime, with_segment, at_offset, with_options};
+
+use crate::cells::{Cells, MOST};
+use crate::parts::Parts;
+use crate::pdu::Pdu;
+use crate::write::{MORE_SEGMENTS, SEGMENTATION_PERMITTED, header_len, written};
+use byteorder::{BigEndian, ByteOrder};
+use clnp_views::Head;
+use nsap::Address;
+use std::marker::Model;
+
+/// The most octets of a header and its data (ISO 8473, section 7.2.8).
+const MOST_TOTAL: usize = 65535;
+
+/// Why no header can be made.
+#[derive(Clone, Copy, Debug, PartialEq, Eq)]
+pub enum HeaderRefusal {
+    /// The header would have this number of octets, above 254 (ISO 8473, section 7.2.3).
+    HeaderTooLong { octets: usize },
+    /// Header and body would have this number of octets, above 65,535 (section 7.2.8).
+    TotalTooLong { octets: usize },
+}
+
+/// A whole header, 9 to 254 octets.
+///
+/// A contract sees it as the list of its octets. They are the header of the PDUs that have a certain
+/// value; of the data the header tells the length alone.
+#[derive(Clone, Copy, PartialEq, Eq, Debug)]
+pub struct Header {
+    cells: Cells,
+}
+
+impl Model for Header {
+    ghost use Rattle.std.specs.Prelude.{ℕ, List};
+
+    ghost Value = { List ℕ };
+
+    ghost use Rattle.pdu_header.specs.Headers.{IsHeader};
+
+    ghost view = { λ h. h.cells };
+
+    ghost invariant = { λ h. IsHeader h.cells };
+
+    ghost inverse = { λ l. record { cells = l } };
+}
+
+impl Header {
+    /// The header of a PDU, as `decode` finds it.
+    pub fn of(pdu: &Pdu<'_>) -> Header
+        requires { IsHeader pdu.now.head.now }
+        ensures { result ≡ pdu.now.head.now }
+    {
+        let mut cells = Cells::new();
+        cells.push(pdu.head);
+        Header { cells }
+    }
+
+    /// The header that is made from these parts, for a body of so many octets.
+    ///
+    /// # Errors
+    ///
+    /// HeaderTooLong exactly where the header passes 254 octets, else TotalTooLong exactly where header
+    /// and body pass 65,535; each with the number of octets.
+    pub fn make(parts: &Parts, body_len: usize) -> Result<Header, HeaderRefusal>
+        requires fit { AreFit parts.now body_len }
+        requires few { body_len ≤ 2 ^ 31 }
+        ensures spells { IfOk result (λ header. (body : List ℕ) → length body ≡ body_len → SpellsHeader (parts_value parts.now body) header) }
+        ensures refused { MatchResult result (λ _. too_long (parts_length parts.now) body_len ≡ None) (λ refusal. too_long (parts_length parts.now) body_len ≡ Some refusal) }
+    {
+        let octets = header_len(parts);
+        if octets > MOST {
+            return Err(HeaderRefusal::HeaderTooLong { octets });
+        }
+        let total = octets + body_len;
+        if total > MOST_TOTAL {
+            return Err(HeaderRefusal::TotalTooLong { octets: total });
+        }
+        Ok(Header {
+            cells: written(parts, octets as u8, total as u16),
+        })
+    }
+
+    /// The octets.
+    pub fn as_bytes(&self) -> &[u8]
+        ensures octets { result.now ≡ self.now }
+        ensures some { 9 ≤ length result.now }
+        ensures few { length result.now ≤ 254 }
+    {
+        self.cells.as_bytes()
+    }
+
+    /// The octets by value.
+    pub fn head(&self) -> Head
+        ensures { result ≡ self.now }
+    {
+        Head::of(self.cells.as_bytes())
+    }
+
+    /// Changes the lifetime, in ticks of 500 ms (ISO 8473, section 7.2.5).
+    pub fn set_life(&mut self, life: u8)
+        ensures spells { (v : PduValue) → SpellsHeader v self.old → SpellsHeader (with_lifetime life v) self.new }
+        ensures len { length self.new ≡ length self.old }
+    {
+        self.cells.adjust(4, life);
+    }
+
+    /// Makes the header that of another segment of the same unit (ISO 8473, section 6.8): with `len` octets
+    /// of data from this offset in the unit's data, and `more` where data of the unit follows behind them.
+    pub fn set_segment(&mut self, offset: u16, len: u16, more: bool)
+        requires { TakesSegment self.old offset len more }
+        ensures spells { (v : PduValue) (carries : MayCarry v offset len more) → SpellsHeader v self.old → (body : List ℕ) → length body ≡ len → SpellsHeader (with_segment (at_offset offset carries.part) more body v) self.new }
+        ensures len { length self.new ≡ length self.old }
+    {
+        let octets = self.cells.as_bytes();
+        let part = part_index(octets);
+        let flags = flags_with_more(octets[4], more);
+        let total = octets.len() as u16 + len;
+        self.cells.adjust(5, flags);
+        put_pair(&mut self.cells, 6, total);
+        put_pair(&mut self.cells, part + 3, offset);
+    }
+
+    /// Moves the pointer of the source route past the title there (ISO 8473, section 7.5.4).
+    pub fn advance_route(&mut self)
+        requires { LeadsOn self.old }
+        ensures spells { (v : PduValue) → SpellsHeader v self.old → SpellsHeader (with_options (edited source_route advanced v.options) v) self.new }
+        ensures len { length self.new ≡ length self.old }
+    {
+        let start = options_index(self.cells.as_bytes());
+        self.cells.advance_route(start);
+        self.cells.reseal();
+    }
+
+    /// Notes a router's title in the recording of route (section 7.5.5): puts it where it fits, else ends
+    /// the recording. A header without a recording, or whose recording was ended, stays as it is.
+    pub fn record_title(&mut self, title: &Address)
+        ensures spells { (v : PduValue) → SpellsHeader v self.old → SpellsHeader (with_options (edited recording (recorded title.now) v.options) v) self.new }
+        ensures len { length self.new ≡ length self.old }
+    {
+        let start = options_index(self.cells.as_bytes());
+        self.cells.record_title(start, title.as_bytes());
+        self.cells.reseal();
+    }
+
+    /// Sets the bit "congestion experienced" in a quality of service of the globally unique format. Another
+    /// header stays as it is.
+    pub fn mark_congestion(&mut self)
+        ensures spells { (v : PduValue) → SpellsHeader v self.old → SpellsHeader (with_options (edited quality marked v.options) v) self.new }
+        ensures len { length self.new ≡ length self.old }
+    {
+        let start = options_index(self.cells.as_bytes());
+        self.cells.mark_congestion(start);
+        self.cells.reseal();
+    }
+}
+
+/// The index, from 0, of the options in a header.
+fn options_index(octets: &[u8]) -> usize
+    requires { IsHeader octets.now }
+    ensures { (v : PduValue) → SpellsHeader v octets.now → result ≡ 11 + length v.destination + length v.source + length (segmentation_octets v.segmentation) }
+{
+    let part = part_index(octets);
+    if octets[4] >= SEGMENTATION_PERMITTED {
+        part + 6
+    } else {
+        part
+    }
+}
+
+/// The index, from 0, of what follows the addresses in a header.
+fn part_index(octets: &[u8]) -> usize
+    requires { IsHeader octets.now }
+    ensures place { (v : PduValue) → SpellsHeader v octets.now → result ≡ 11 + length v.destination + length v.source }
+    ensures least { 11 ≤ result }
+    ensures few { result ≤ length octets.now }
+{
+    let to = octets[9] as usize;
+    let from = octets[10 + to] as usize;
+    11 + to + from
+}
+
+/// The octet of flags and type with this flag MS (ISO 8473, section 7.2.6.2).
+fn flags_with_more(flags: u8, more: bool) -> u8
+    ensures { result ≡ (if more then bit_or flags 64 else bit_and flags 191) }
+{
+    if more {
+        flags | MORE_SEGMENTS
+    } else {
+        flags & !MORE_SEGMENTS
+    }
+}
+
+/// Writes a number of two octets at a place, counted from 1, and adjusts the checksum.
+fn put_pair(cells: &mut Cells, place: usize, number: u16)
+    requires head { 9 ≤ length cells.old }
+    requires first { 1 ≤ place }
+    requires last { place + 1 ≤ length cells.old }
+    requires few { place ≤ 253 }
+    requires apart { (place ≤ 6) ⊎ (10 ≤ place) }
+    ensures changed { (is_sealed : Bool) (plain : List ℕ) → octet plain 8 ≡ 0 → cells.old ≡ checked is_sealed plain → cells.new ≡ checked is_sealed (with_pair plain place number) }
+    ensures len { length cells.new ≡ length cells.old }
+{
+    let mut octets = [0; 2];
+    BigEndian::write_u16(&mut octets, number);
+    cells.adjust(place, octets[0]);
+    cells.adjust(place + 1, octets[1]);
+}

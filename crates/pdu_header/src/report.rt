@@ -1,0 +1,49 @@
+//! Whether the discard of a frame is reported, and to whom.
+ghost use Rattle.nsap.specs.Address.{IsAddress};
+ghost use Rattle.pdu_header.specs.Reading.{address_at};
+ghost use Rattle.pdu_header.specs.Rules as rules;
+ghost use Rattle.pdu_header.specs.Rules.{header_size, is_reportable, source_place, type_of};
+ghost use Rattle.std.specs.Prelude.{◌≡◌, ◌==◌, ◌≤◌, IfSome, is_some, length};
+
+use crate::decoder::{TYPES, header_of, is_clnp, read_addresses, wants_report};
+use crate::pdu::ReportTo;
+
+/// The type of an error report (ISO 8473, section 7.2.6).
+const ERROR_REPORT_TYPE: u8 = 1;
+
+/// Where an error report of the frame's discard goes (section 6.10): the frame begins with 0x81 and
+/// with a whole header in which both addresses lie, which wants a report and is none itself. Version
+/// and checksum don't matter.
+#[tactic(auto, unfolding(crate::specs::Rules::addresses_refusal))]
+pub fn reportable(frame: &[u8]) -> Option<ReportTo>
+    ensures some { is_some result ≡ is_reportable frame.now }
+    ensures from { IfSome result (λ report. report.from ≡ address_at (rules.header_of frame.now) (source_place (rules.header_of frame.now))) }
+    ensures address { IfSome result (λ report. IsAddress report.from) }
+    ensures head_len { IfSome result (λ report. report.head_len ≡ header_size frame.now) }
+    ensures head { IfSome result (λ report. report.head_len ≡ length (rules.header_of frame.now)) }
+{
+    if !is_clnp(frame) {
+        return None;
+    }
+    let Ok((head, _)) = header_of(frame) else {
+        return None;
+    };
+    if !wants_report(head) || is_error_report(head) {
+        return None;
+    }
+    match read_addresses(head) {
+        Ok(addresses) => Some(ReportTo {
+            from: addresses.from,
+            head_len: head.len() as u8,
+        }),
+        Err(_) => None,
+    }
+}
+
+/// Whether the header's type is that of an error report.
+fn is_error_report(head: &[u8]) -> bool
+    requires { 9 ≤ length head.now }
+    ensures { result ≡ (type_of head.now == 1) }
+{
+    head[4] % TYPES == ERROR_REPORT_TYPE
+}

@@ -1,0 +1,117 @@
+//! A header written from its parts.
+ghost use Rattle.std.specs.Prelude.{◌≡◌, ◌+◌, ◌≤◌, ◌++◌, ◌<◌, ◌∷◌, [], List, ℕ, length, option_map};
+ghost use Rattle.pdu_header.specs.Spelling.{counted, flags_and_type, header, pair_of, segment_length, segmentation_octets, type_code};
+ghost use Rattle.pdu_header.specs.Parts.{AreNumbers, AreTyped, parts_length, parts_value, segmentation_value};
+
+use crate::cells::Cells;
+use crate::kind::Kind;
+use crate::parts::Parts;
+use crate::pdu::SegPart;
+use byteorder::{BigEndian, ByteOrder};
+
+/// The network layer protocol identifier (ISO 8473, section 7.2.2).
+const PROTOCOL: u8 = 0x81;
+/// The version (section 7.2.4).
+const VERSION: u8 = 1;
+/// Segmentation is permitted (section 7.2.6.1).
+pub const SEGMENTATION_PERMITTED: u8 = 0x80;
+/// More data of the same unit follows (section 7.2.6.2).
+pub const MORE_SEGMENTS: u8 = 0x40;
+/// An error report is wanted (section 7.2.6.3).
+const ERROR_REPORT: u8 = 0x20;
+
+/// The number of octets of the header that is made from these parts.
+pub fn header_len(parts: &Parts) -> usize
+    ensures value { result ≡ parts_length parts.now }
+    ensures few { result ≤ 311 }
+{
+    let seg = if parts.seg.is_some() { 6 } else { 0 };
+    let addresses = 2 + parts.to.as_bytes().len() + parts.from.as_bytes().len();
+    9 + addresses + seg + parts.options.as_bytes().len()
+}
+
+/// The header that is made from these parts, with its length and that of header and body.
+pub fn written(parts: &Parts, head_len: u8, total: u16) -> Cells
+    requires len { head_len ≡ parts_length parts.now }
+    requires few { head_len ≤ 254 }
+    ensures value { (body : List ℕ) → segment_length (parts_value parts.now body) ≡ total → result ≡ header (parts_value parts.now body) }
+    ensures typed { AreTyped parts.now }
+{
+    let mut cells = Cells::new();
+    push_fixed(&mut cells, head_len, parts.life, flags(parts), total);
+    push_counted(&mut cells, parts.to.as_bytes());
+    push_counted(&mut cells, parts.from.as_bytes());
+    push_segmentation(&mut cells, parts.seg);
+    cells.push(parts.options.as_bytes());
+    if parts.sealed {
+        cells.seal();
+    }
+    cells
+}
+
+/// Puts the fixed part, with a checksum that is not in use (ISO 8473, section 7.2).
+fn push_fixed(cells: &mut Cells, head_len: u8, life: u8, flags: u8, total: u16)
+    requires { length cells.old + 9 ≤ 254 }
+    ensures octets { cells.new ≡ cells.old ++ 0x81 ∷ head_len ∷ 1 ∷ life ∷ flags ∷ (pair_of total ++ 0 ∷ 0 ∷ []) }
+    ensures life { life < 256 }
+{
+    let mut size = [0; 2];
+    BigEndian::write_u16(&mut size, total);
+    cells.push(&[
+        PROTOCOL, head_len, VERSION, life, flags, size[0], size[1], 0, 0,
+    ]);
+}
+
+/// The flags and the type (ISO 8473, section 7.2.6).
+fn flags(parts: &Parts) -> u8
+    ensures { result ≡ flags_and_type (parts_value parts.now []) }
+{
+    let mut flags = type_of(parts.kind);
+    if parts.seg.is_some() {
+        flags |= SEGMENTATION_PERMITTED;
+    }
+    if parts.more {
+        flags |= MORE_SEGMENTS;
+    }
+    if parts.report {
+        flags |= ERROR_REPORT;
+    }
+    flags
+}
+
+/// The type (ISO 8473, section 7.2.6; RFC 1575, section 4).
+fn type_of(kind: Kind) -> u8
+    ensures { result ≡ type_code kind }
+{
+    match kind {
+        Kind::Dt => 28,
+        Kind::Er => 1,
+        Kind::Erq => 30,
+        Kind::Erp => 31,
+    }
+}
+
+/// Puts an address behind its length octet.
+fn push_counted(cells: &mut Cells, address: &[u8])
+    requires { length cells.old + length (counted address.now) ≤ 254 }
+    ensures { cells.new ≡ cells.old ++ counted address.now }
+{
+    cells.push(&[address.len() as u8]);
+    cells.push(address);
+}
+
+/// Puts the segmentation part, if there is one.
+fn push_segmentation(cells: &mut Cells, part: Option<SegPart>)
+    requires { length cells.old + length (segmentation_octets (option_map segmentation_value part)) ≤ 254 }
+    ensures octets { cells.new ≡ cells.old ++ segmentation_octets (option_map segmentation_value part) }
+    ensures numbers { AreNumbers (option_map segmentation_value part) }
+{
+    let Some(part) = part else {
+        return;
+    };
+    let mut octets = [0; 6];
+    BigEndian::write_u16(&mut octets[..2], part.id);
+    BigEndian::write_u16(&mut octets[2..4], part.offset);
+    BigEndian::write_u16(&mut octets[4..], part.total);
+    cells.push(&octets);
+}
