@@ -7,7 +7,7 @@ fn keeps_the_octets(rt: HostRuntime) {
         0x47, 0x00, 0x27, 0x02,
     ];
     let head = Head::of(&header);
-    assert!(rt; *head.as_bytes() == header);
+    assert!(rt; head.as_bytes() == header.as_slice());
     let copy = head;
     assert!(rt; copy == head);
     assert!(rt; copy != Head::of(&header[..18]));
@@ -17,5 +17,5 @@ fn keeps_the_octets(rt: HostRuntime) {
 fn holds_none_and_254(rt: HostRuntime) {
     assert!(rt; Head::of(&[]).as_bytes().is_empty());
     let most = [0xccu8; 254];
-    assert!(rt; *Head::of(&most).as_bytes() == most);
+    assert!(rt; Head::of(&most).as_bytes() == most.as_slice());
 }
