@@ -1,0 +1,241 @@
+// A plain Rust program that shows capture lines as `clnp show` does, without proofs: the measure of its speed.
+use std::fmt::Write as _;
+use std::io::{Read, Write};
+
+fn pair(b: &[u8], place: usize) -> usize {
+    256 * b[place - 1] as usize + b[place] as usize
+}
+
+fn push_hex(out: &mut String, octets: &[u8]) {
+    for octet in octets {
+        write!(out, "{octet:02x}").unwrap();
+    }
+}
+
+fn reportable(b: &[u8]) -> bool {
+    if b.len() < 9 || b[0] != 0x81 {
+        return false;
+    }
+    let l = b[1] as usize;
+    if !(9..255).contains(&l) || l > b.len() || b[4] & 0x20 == 0 || b[4] & 0x1f == 1 {
+        return false;
+    }
+    !bad_address(b, l, 10) && !bad_address(b, l, 11 + b[9] as usize)
+}
+
+fn bad_address(b: &[u8], l: usize, place: usize) -> bool {
+    place > l || b[place - 1] == 0 || b[place - 1] > 20 || place + b[place - 1] as usize > l
+}
+
+fn right(head: &[u8]) -> bool {
+    match (head[7], head[8]) {
+        (0, 0) => true,
+        (0, _) | (_, 0) => false,
+        _ => {
+            let (mut c0, mut c1) = (0u32, 0u32);
+            for octet in head {
+                c0 += *octet as u32;
+                c1 += c0;
+            }
+            c0 % 255 == 0 && c1 % 255 == 0
+        }
+    }
+}
+
+// the least broken rule with its reason and place, or where the options begin
+fn judge(b: &[u8]) -> Result<usize, (u8, u8, usize)> {
+    if b.len() < 9 {
+        return Err((1, 0x06, 0));
+    }
+    let l = b[1] as usize;
+    if l < 9 || l == 255 {
+        return Err((2, 0x04, 2));
+    }
+    if l > b.len() {
+        return Err((3, 0x06, 2));
+    }
+    if b[2] != 1 {
+        return Err((4, 0xb1, 3));
+    }
+    if !right(&b[..l]) {
+        return Err((5, 0x02, 0));
+    }
+    let kind = b[4] & 0x1f;
+    if ![1, 28, 30, 31].contains(&kind) {
+        return Err((6, 0x04, 5));
+    }
+    let (sp, ms) = (b[4] & 0x80 != 0, b[4] & 0x40 != 0);
+    if ms && !sp {
+        return Err((7, 0x04, 5));
+    }
+    if bad_address(b, l, 10) {
+        return Err((8, 0x04, 10));
+    }
+    let source = 11 + b[9] as usize;
+    if bad_address(b, l, source) {
+        return Err((9, 0x04, source));
+    }
+    let part = source + 1 + b[source - 1] as usize;
+    if sp && part + 5 > l {
+        return Err((10, 0x04, part));
+    }
+    let segment = pair(b, 6);
+    if segment < l {
+        return Err((11, 0x04, 6));
+    }
+    if segment > b.len() {
+        return Err((12, 0x06, 6));
+    }
+    if sp {
+        let (offset, total, data) = (pair(b, part + 2), pair(b, part + 4), segment - l);
+        if total < l || offset + data > total - l || (offset + data == total - l) == ms {
+            return Err((13, 0x04, part + 4));
+        }
+    }
+    let options = if sp { part + 6 } else { part };
+    judge_options(&b[options - 1..l], options, kind == 1)?;
+    Ok(options)
+}
+
+fn titles(mut b: &[u8]) -> bool {
+    while let Some(&n) = b.first() {
+        if n == 0 || n > 20 || b.len() <= n as usize {
+            return false;
+        }
+        b = &b[n as usize + 1..];
+    }
+    true
+}
+
+fn after_titles(v: &[u8], pointer: usize) -> bool {
+    pointer >= 3 && pointer - 1 <= v.len() && titles(&v[2..pointer - 1])
+}
+
+fn judge_options(part: &[u8], first: usize, report: bool) -> Result<(), (u8, u8, usize)> {
+    let mut list = Vec::new();
+    let mut at = 0;
+    while at < part.len() {
+        if at + 2 > part.len() || at + 2 + part[at + 1] as usize > part.len() {
+            return Err((14, 0x04, first + at));
+        }
+        let n = part[at + 1] as usize;
+        list.push((part[at], first + at, &part[at + 2..at + 2 + n]));
+        at += 2 + n;
+    }
+    for (i, o) in list.iter().enumerate() {
+        if o.0 != 0xcc && list[..i].iter().any(|p| p.0 == o.0) {
+            return Err((15, 0x07, o.1));
+        }
+    }
+    for o in &list {
+        if ![0xcc, 0xc5, 0xc8, 0xcb, 0xc3, 0xcd, 0xc1].contains(&o.0) {
+            return Err((16, 0xb0, o.1));
+        }
+    }
+    let no_format = |v: &[u8]| v.is_empty() || v[0] < 64;
+    for o in &list {
+        if o.0 == 0xc5 && no_format(o.2) {
+            return Err((17, 0xb2, o.1));
+        }
+    }
+    let kinded = |v: &[u8]| v.len() >= 2 && v[0] <= 1;
+    for o in &list {
+        let v = o.2;
+        if o.0 == 0xc8 && !(kinded(v) && titles(&v[2..]) && (v[1] as usize > v.len() || after_titles(v, v[1] as usize))) {
+            return Err((18, 0x91, o.1));
+        }
+    }
+    for o in &list {
+        let v = o.2;
+        let bad = match o.0 {
+            0xcb => !(kinded(v) && (v[1] == 255 || (v[1] as usize <= v.len() + 1 && after_titles(v, v[1] as usize)))),
+            0xc3 => no_format(v),
+            0xcd => v.len() != 1,
+            0xc1 => v.len() != 2,
+            _ => false,
+        };
+        if bad {
+            return Err((19, 0x04, o.1));
+        }
+    }
+    let reason = list.iter().find(|o| o.0 == 0xc1);
+    match (report, reason) {
+        (true, None) => Err((20, 0x04, 5)),
+        (false, Some(o)) => Err((20, 0x04, o.1)),
+        _ => Ok(()),
+    }
+}
+
+fn show(b: &[u8], out: &mut String) {
+    match b.first() {
+        Some(0x81) => {}
+        Some(0x82) => return out.push_str("unbuilt"),
+        _ => return out.push_str("alien"),
+    }
+    let options = match judge(b) {
+        Ok(options) => options,
+        Err((rule, reason, place)) => {
+            let word = if reportable(b) { "report" } else { "silent" };
+            write!(out, "refused G{rule} {reason:02x} {place:02x} {word}").unwrap();
+            return;
+        }
+    };
+    let (l, segment, source) = (b[1] as usize, pair(b, 6), 11 + b[9] as usize);
+    let part = source + 1 + b[source - 1] as usize;
+    let kind = match b[4] & 0x1f {
+        1 => "er",
+        28 => "dt",
+        30 => "erq",
+        _ => "erp",
+    };
+    let mut flags = String::new();
+    for (bit, letter) in [(0x80, 's'), (0x40, 'm'), (0x20, 'e')] {
+        if b[4] & bit != 0 {
+            flags.push(letter);
+        }
+    }
+    if flags.is_empty() {
+        flags.push('-');
+    }
+    write!(out, "clnp {kind} {flags} life={} sum={:04x} to=", b[3], pair(b, 8)).unwrap();
+    push_hex(out, &b[10..source - 1]);
+    out.push_str(" from=");
+    push_hex(out, &b[source..part - 1]);
+    if b[4] & 0x80 != 0 {
+        write!(out, " id={:04x} off={} total={}", pair(b, part), pair(b, part + 2), pair(b, part + 4)).unwrap();
+    }
+    let mut at = options - 1;
+    while at < l {
+        let n = b[at + 1] as usize;
+        write!(out, " opt={:02x}:", b[at]).unwrap();
+        push_hex(out, &b[at + 2..at + 2 + n]);
+        at += 2 + n;
+    }
+    out.push_str(" data=");
+    push_hex(out, &b[l..segment]);
+    out.push_str(" rest=");
+    push_hex(out, &b[segment..]);
+}
+
+fn main() {
+    let mut input = Vec::new();
+    std::io::stdin().read_to_end(&mut input).unwrap();
+    let mut out = String::new();
+    let mut stdout = std::io::stdout().lock();
+    for line in input.split(|c| *c == b'\n') {
+        if line.is_empty() || line[0] == b'#' {
+            continue;
+        }
+        let frame: Vec<u8> = line
+            .chunks(2)
+            .map(|two| u8::from_str_radix(std::str::from_utf8(two).unwrap(), 16).unwrap())
+            .collect();
+        show(&frame, &mut out);
+        out.push('\n');
+        if out.len() > 65_536 {
+            stdout.write_all(out.as_bytes()).unwrap();
+            out.clear();
+        }
+    }
+    stdout.write_all(out.as_bytes()).unwrap();
+}
