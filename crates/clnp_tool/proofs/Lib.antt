@@ -1,3 +1,4 @@
 pub mod Playing
 pub mod Runs
 pub mod Lines
+pub mod Captured

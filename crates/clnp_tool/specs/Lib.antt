@@ -1,4 +1,6 @@
 pub mod Words
 pub mod Sim
+pub mod Show
+pub mod Showing
 pub mod Play
 pub mod Exit

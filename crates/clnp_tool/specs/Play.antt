@@ -1,10 +1,9 @@
--- What the parts of the program come to: playing moves, playing a scenario, and the command `sim`.
-use Rattle.std.specs.Prelude.{◌≡◌, ℕ, ◌⊎◌, List, Option, Result, Ok, Err, IfOk}
+-- What the parts of the program come to: playing moves, playing a scenario, and commands.
+use Rattle.std.specs.Prelude.{◌≡◌, ℕ, ◌⊎◌, List, Option, Result, Ok, Err}
 use Rattle.std.specs.Io.KnownBytes.{Appends, Keeps}
 use Rattle.clnp_base.specs.Streams.{AppendsFront}
 use Rattle.scenario.specs.Scenario.{Plan}
 use Rattle.scenario.specs.declared.event.Move.{Move}
-use Rattle.scenario.specs.Grammar.{plan_of}
 use Rattle.clnp_network.specs.World as network
 use Rattle.clnp_network.specs.Run.{text_of, world_after, journal}
 use Rattle.clnp_world.specs.declared.world.World.{World}
@@ -13,7 +12,8 @@ use Rattle.clnp_tool.specs.declared.status.Status.{Status}
 use Rattle.clnp_tool.specs.declared.status.Status.TheVariants as status
 use Rattle.clnp_tool.specs.declared.top.Stop.{Stop}
 use Rattle.clnp_tool.specs.declared.top.Stop.TheVariants as stop
-use Rattle.clnp_tool.specs.Words.{status_of, output_of}
+use Rattle.clnp_tool.specs.declared.command.Command.{Command}
+use Rattle.clnp_tool.specs.Words.{status_of, AppendsOutput, AppendsOutputFront, AppendsOutputParts}
 use Rattle.clnp_tool.specs.Sim.{AppendsMoves, AppendsWholeMoves}
 
 -- What writing a piece comes to: it was written; a front of it was; or nothing was.
@@ -47,14 +47,13 @@ abbrev pub JournalOf : {A : Type 0} → Plan → Option (List ℕ) → Option (L
 JournalOf plan before after (Ok _) = Appends before after (journal plan)
 JournalOf plan before after (Err e) = JournalStopOf plan before after e
 
--- What the command `sim` comes to on a text.
-abbrev pub SimOf : List ℕ → Option (List ℕ) → Option (List ℕ) → Status → Type 0
-SimOf text before after status.Done = (status_of (plan_of text) ≡ status.Done) × Appends before after (output_of text)
-SimOf text before after (status.BadInput line code) = (status_of (plan_of text) ≡ status.BadInput line code) × Keeps before after
-SimOf text before after status.WriteFault = (status_of (plan_of text) ≡ status.Done) × AppendsFront before after (output_of text)
-SimOf text before after status.NoMemory =
-    Keeps before after
-    ⊎ ((status_of (plan_of text) ≡ status.Done) × IfOk (plan_of text) (λ plan. AppendsWholeMoves plan before after))
-SimOf text before after (status.BadWords at) = ⊥
-SimOf text before after status.TooLong = ⊥
-SimOf text before after status.ReadFault = ⊥
+-- What a command comes to on a text that isn't too long.
+abbrev pub ComesTo : Command → List ℕ → Option (List ℕ) → Option (List ℕ) → Status → Type 0
+ComesTo command text before after status.Done = (status_of command text ≡ status.Done) × AppendsOutput command text before after
+ComesTo command text before after (status.BadInput line code) =
+    (status_of command text ≡ status.BadInput line code) × AppendsOutput command text before after
+ComesTo command text before after status.WriteFault = AppendsOutputFront command text before after
+ComesTo command text before after status.NoMemory = Keeps before after ⊎ AppendsOutputParts command text before after
+ComesTo command text before after (status.BadWords at) = ⊥
+ComesTo command text before after status.TooLong = ⊥
+ComesTo command text before after status.ReadFault = ⊥

@@ -1,14 +1,19 @@
 -- What a call reads and writes.
-use Rattle.std.specs.Prelude.{◌≡◌, ℕ, List, ◌++◌, Option}
+use Rattle.std.specs.Prelude.{◌≡◌, ◌≤◌, ℕ, List, ◌++◌, length, Option}
 use Rattle.std.specs.Io.KnownBytes.{Consumes, IsAtEnd, Appends}
 use Rattle.scenario.specs.Scenario.{Plan}
 use Rattle.scenario.specs.declared.event.Move.{Move}
 use Rattle.clnp_network.specs.World.{World, first_world}
 use Rattle.clnp_network.specs.Run.{text_of, moves_of_plan}
 
--- the text is all that was left in the source, and was read to its end
+-- the most octets of an input
+abbrev pub most_input : ℕ
+most_input = 16777216
+
+-- the text is all that was left in the source, isn't too long, and was read to its end
 pub record ReadsWhole (before after : Option (List ℕ)) (text : List ℕ) : Type 0 where
   pub consumed : Consumes before after text
+  pub within : length text ≤ most_input
   pub at_end : IsAtEnd after
 
 -- the lines of some of the moves, from the first on, and of no part of a move, were written

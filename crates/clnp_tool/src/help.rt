@@ -8,6 +8,7 @@ const HELP: &str = "\
 clnp simulates a connectionless network (ISO/IEC 8473, RFC 994).
 
   clnp sim < SCENARIO    reads a scenario and writes its journal
+  clnp show < CAPTURE    reads frames in hexadecimal digits and writes a line for each
   clnp --help            writes this text
   clnp --version         writes the version
 
@@ -15,7 +16,7 @@ Exit numbers:
   0  done
   1  the words are no command
   2  the input has more than 16,777,216 octets
-  3  the input isn't a scenario
+  3  the input isn't a scenario, or has a bad line
   5  standard input failed
   6  standard output failed
   8  no memory
@@ -24,8 +25,8 @@ A scenario, in which the host a sends two octets to the host b:
 
   clnp-sim 1
   subnet lan 1500
-  system a host hello=0 checksum=off
-  system b host hello=0 checksum=off
+  system a host hello=0
+  system b host hello=0
   address a 47002702
   address b 47002701
   port a 0 lan 01

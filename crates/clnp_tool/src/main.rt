@@ -1,9 +1,12 @@
-//! The program `clnp`: it simulates a connectionless network (ISO/IEC 8473, RFC 994).
+//! The program `clnp`: it simulates a connectionless network (ISO/IEC 8473, RFC 994), and shows its
+//! frames as text.
 #![tactic(auto)]
 
 mod arguments;
+mod command;
 mod fault;
 mod help;
+mod show;
 mod status;
 #[cfg(test)]
 mod tests;
@@ -49,6 +52,6 @@ fn report(rt: &impl Eprint, status: Status) {
     };
     let _ = eprintln!(rt; "clnp: {fault}");
     if let Fault::BadWords { .. } = fault {
-        let _ = eprintln!(rt; "clnp: wanted: clnp sim < SCENARIO");
+        let _ = eprintln!(rt; "clnp: wanted: clnp sim < SCENARIO, or clnp show < CAPTURE");
     }
 }

@@ -28,6 +28,41 @@ const JOURNAL: &str = "\
 end 0 1
 ";
 
+/// A PDU in hexadecimal digits.
+const FRAME: &str = "8113010a3c0015ce58044700270104470027026869";
+
+/// The line that shows it.
+const FRAME_SHOWN: &str =
+    "clnp dt e life=10 sum=ce58 to=47002701 from=47002702 data=6869 rest=\n";
+
+/// Captured frames, and lines to skip.
+const CAPTURE: &str = "\
+# a PDU, and its first octets
+8113010a3c0015ce58044700270104470027026869
+
+8113010a3c0015ce00044700270104470027026869
+8113010A3C00150000044700270104470027026869
+81ff010a3c0015ce58044700270104470027026869
+8113010a3c0015ce580447002701044700270268
+8113010a3c0015ce58044700270104470027026869ff
+81
+8113010a7c00150000044700270104470027026869
+8119010abc001b00000447002701044700270200010000001c6869
+";
+
+/// The lines that show them.
+const SHOWN: &str = "\
+clnp dt e life=10 sum=ce58 to=47002701 from=47002702 data=6869 rest=
+refused G5 02 00 report
+clnp dt e life=10 sum=0000 to=47002701 from=47002702 data=6869 rest=
+refused G2 04 02 silent
+refused G12 06 06 report
+clnp dt e life=10 sum=ce58 to=47002701 from=47002702 data=6869 rest=ff
+refused G1 06 00 silent
+refused G7 04 05 report
+refused G13 04 18 report
+";
+
 /// A call of the program: its input, and the source and sink that it is made over.
 #[derive(Clone, Copy)]
 struct Call<'a> {
@@ -36,6 +71,8 @@ struct Call<'a> {
     text: &'a [u8],
     /// The most octets that source and sink move in one call, at least 1.
     most: usize,
+    /// How many octets the sink has room for.
+    room: usize,
     read_fails: &'a [u64],
     write_fails: &'a [u64],
 }
@@ -52,7 +89,7 @@ impl Call<'_> {
         let read_fails = Vec::from_slice(alloc, self.read_fails)?;
         let mut source = MemSource::new(text, most, read_fails);
         let write_fails = Vec::from_slice(alloc, self.write_fails)?;
-        let mut sink = MemSink::new(alloc, 1000, most, write_fails)?;
+        let mut sink = MemSink::new(alloc, self.room, most, write_fails)?;
         let status = clnp_main(alloc, words.as_slice(), &mut source, &mut sink);
         Ok((status, sink))
     }
@@ -64,9 +101,17 @@ fn sim(text: &[u8], most: usize) -> Call<'_> {
         words: "sim",
         text,
         most,
+        room: 1000,
         read_fails: &[],
         write_fails: &[],
     }
+}
+
+/// `show` on a text.
+fn show(text: &[u8], most: usize) -> Call<'_> {
+    let mut call = sim(text, most);
+    call.words = "show";
+    call
 }
 
 #[test]
@@ -74,6 +119,22 @@ fn writes_the_journal_octet_by_octet(rt: HostRuntime) -> Result<(), Fail> {
     let (status, sink) = sim(SCENARIO.as_bytes(), 1).run(rt.alloc())?;
     assert_eq!(rt; status, Status::Done);
     assert_eq!(rt; sink.as_bytes(), JOURNAL.as_bytes());
+    Ok(())
+}
+
+#[test]
+fn seals_where_nothing_says_otherwise(rt: HostRuntime) -> Result<(), Fail> {
+    let text = with(rt.alloc(), " checksum=off", "")?;
+    let (status, sink) = sim(text.as_str().as_bytes(), 100).run(rt.alloc())?;
+    assert_eq!(rt; status, Status::Done);
+    assert_eq!(rt;
+        sink.as_bytes(),
+        b"0 a sent dt 1 - 47002702 47002701 2\n\
+          0 a tx 1 0 es 8113010a3c0015ce58044700270104470027026869\n\
+          0 b got 47002702 47002701 6869\n\
+          end 0 1\n"
+            .as_slice()
+    );
     Ok(())
 }
 
@@ -124,8 +185,9 @@ fn stops_where_the_source_fails(rt: HostRuntime) -> Result<(), Fail> {
 fn refuses_words(rt: HostRuntime) -> Result<(), Fail> {
     let table = [
         ("", 0),
-        ("show", 0),
+        ("shows", 0),
         ("sim x", 1),
+        ("show sim", 1),
         ("--help sim", 0),
         ("Sim", 0),
     ];
@@ -187,5 +249,83 @@ fn refuses_a_long_text(rt: HostRuntime) -> Result<(), Fail> {
     let (status, sink) = sim(text.as_slice(), usize::MAX).run(rt.alloc())?;
     assert_eq!(rt; status, Status::TooLong);
     assert!(rt; sink.as_bytes().is_empty());
+    Ok(())
+}
+
+#[test]
+fn shows_frames_in_any_pieces(rt: HostRuntime) -> Result<(), Fail> {
+    for most in [1, 7, 4096] {
+        let (status, sink) = show(CAPTURE.as_bytes(), most).run(rt.alloc())?;
+        assert_eq!(rt; status, Status::Done);
+        assert_eq!(rt; sink.as_bytes(), SHOWN.as_bytes());
+    }
+    let text = CAPTURE.replace(rt.alloc(), "\n", "\r\n")?;
+    let (status, sink) = show(text.as_str().as_bytes(), 100).run(rt.alloc())?;
+    assert_eq!(rt; status, Status::Done);
+    assert_eq!(rt; sink.as_bytes(), SHOWN.as_bytes());
+    let (status, sink) = show(b"", 100).run(rt.alloc())?;
+    assert_eq!(rt; status, Status::Done);
+    assert!(rt; sink.as_bytes().is_empty());
+    Ok(())
+}
+
+#[test]
+fn shows_the_lines_before_a_bad_one(rt: HostRuntime) -> Result<(), Fail> {
+    let mut text = String::from_str(rt.alloc(), FRAME)?;
+    for line in ["#8", "", "8", FRAME] {
+        text.push_str("\n")?;
+        text.push_str(line)?;
+    }
+    let (status, sink) = show(text.as_str().as_bytes(), 100).run(rt.alloc())?;
+    assert_eq!(rt; status, Status::BadInput { line: 4, code: 2 });
+    assert_eq!(rt; sink.as_bytes(), FRAME_SHOWN.as_bytes());
+
+    let mut text = String::from_str(rt.alloc(), FRAME)?;
+    text.push_str("\n")?;
+    for _ in 0..70_001 {
+        text.push_str("00")?;
+    }
+    let (status, sink) = show(text.as_str().as_bytes(), 4096).run(rt.alloc())?;
+    assert_eq!(rt; status, Status::BadInput { line: 2, code: 10 });
+    assert_eq!(rt; sink.as_bytes(), FRAME_SHOWN.as_bytes());
+    Ok(())
+}
+
+#[test]
+fn stops_showing_where_source_or_sink_fails(rt: HostRuntime) -> Result<(), Fail> {
+    let fails = [3];
+    let mut call = show(CAPTURE.as_bytes(), 7);
+    call.write_fails = &fails;
+    let (status, sink) = call.run(rt.alloc())?;
+    assert_eq!(rt; status, Status::WriteFault);
+    assert_eq!(rt; sink.as_bytes(), &SHOWN.as_bytes()[..14]);
+
+    let mut call = show(CAPTURE.as_bytes(), 7);
+    call.read_fails = &fails;
+    let (status, sink) = call.run(rt.alloc())?;
+    assert_eq!(rt; status, Status::ReadFault);
+    assert!(rt; sink.as_bytes().is_empty());
+    Ok(())
+}
+
+#[test]
+fn shows_many_frames(rt: HostRuntime) -> Result<(), Fail> {
+    let mut text = String::new(rt.alloc());
+    let mut shown = String::new(rt.alloc());
+    for _ in 0..1000 {
+        text.push_str(FRAME)?;
+        text.push_str("\n")?;
+        shown.push_str(FRAME_SHOWN)?;
+    }
+    let mut call = show(text.as_str().as_bytes(), 4096);
+    call.room = shown.len();
+    let (status, sink) = call.run(rt.alloc())?;
+    assert_eq!(rt; status, Status::Done);
+    assert_eq!(rt; sink.as_bytes(), shown.as_str().as_bytes());
+
+    call.room = 68_000;
+    let (status, sink) = call.run(rt.alloc())?;
+    assert_eq!(rt; status, Status::WriteFault);
+    assert_eq!(rt; sink.as_bytes(), &shown.as_str().as_bytes()[..68_000]);
     Ok(())
 }

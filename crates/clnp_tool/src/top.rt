@@ -1,7 +1,7 @@
 //! The top call: words and input in, output and a status out.
-ghost use Rattle.std.specs.Prelude.{◌≡◌, ◌<◌, ◌≤◌, ◌⊎◌, ◌↔◌, ℕ, List, [], ◌∷◌, length, map, replicate, IfSome, IfOk, Err, string_bytes};
-ghost use Rattle.std.specs.Io.KnownBytes.{Appends, Consumes, Keeps};
-ghost use Rattle.clnp_base.specs.Streams.{AppendsFront, Rose};
+ghost use Rattle.std.specs.Prelude.{◌≡◌, ◌<◌, ◌≤◌, ◌⊎◌, ◌↔◌, ℕ, List, [], ◌∷◌, length, map, replicate, IfSome, IfOk, Ok, Err, string_bytes};
+ghost use Rattle.std.specs.Io.KnownBytes.{Consumes, Keeps};
+ghost use Rattle.clnp_base.specs.Streams.{Rose};
 ghost use Rattle.clnp_base.specs.Text.{lines_of};
 ghost use Rattle.scenario.specs.Scenario.{moves_of};
 ghost use Rattle.scenario.specs.Grammar.{plan_of};
@@ -9,10 +9,12 @@ ghost use Rattle.clnp_network.specs.World as network;
 ghost use Rattle.clnp_network.specs.Run.{moves_of_plan, run, world_end};
 ghost use Rattle.clnp_network.specs.Safe.{IsHonest};
 ghost use Rattle.clnp_world.specs.Stands.{Stands};
-ghost use Rattle.clnp_tool.specs.Words.{bad_place, most_input, called, called_by, output_of, Excuses};
-ghost use Rattle.clnp_tool.specs.Sim.{ReadsWhole, AppendsWholeMoves};
-ghost use Rattle.clnp_tool.specs.Play.{PieceOf, PlayOf, JournalOf, SimOf};
+ghost use Rattle.clnp_tool.specs.Words.{command_of, called, called_by, AppendsOutput, AppendsOutputFront, AppendsOutputParts, Excuses};
+ghost use Rattle.clnp_tool.specs.Sim.{most_input, ReadsWhole};
+ghost use Rattle.clnp_tool.specs.Play.{PieceOf, PlayOf, JournalOf, ComesTo};
 
+use crate::command::Command;
+use crate::show::show;
 use crate::status::Status;
 use clnp_base::{ReadStop, Sink, Source, read_all, write_all};
 use clnp_safety::laws;
@@ -26,7 +28,8 @@ const MOST_INPUT: usize = 16_777_216;
 /// Runs the command that the words name, on what the source gives, and writes to the sink.
 ///
 /// `sim` reads a scenario text and writes its journal. Nothing is written before the whole text
-/// was accepted.
+/// was accepted. `show` reads a capture and writes a line for each of its frames, up to the first
+/// bad line.
 pub fn clnp_main<S: Source, K: Sink>(
     alloc: Global,
     words: &[String],
@@ -39,26 +42,31 @@ pub fn clnp_main<S: Source, K: Sink>(
     // Where the source tells its octets, the answer is the one that words and octets call for,
     // but for want of memory and for faults that came in this call.
     ensures answer { IfSome (S.left source.old) (λ text.
-        (result ≡ called (bad_place (map string_bytes words.now)) text)
+        (result ≡ called (command_of (map string_bytes words.now)) text)
         ⊎ Excuses (Rose (S.faults source.old) (S.faults source.new)) (Rose (K.faults sink.old) (K.faults sink.new)) result) }
 
     // Bad words are answered exactly where they are no command; then nothing is read or written.
-    ensures bad_words { (at : ℕ) → (result ≡ Status.BadWords at) ↔ (bad_place (map string_bytes words.now) ≡ Some at) }
+    ensures bad_words { (at : ℕ) → (result ≡ Status.BadWords at) ↔ (command_of (map string_bytes words.now) ≡ Err at) }
     ensures untouched { (at : ℕ) → result ≡ Status.BadWords at
         → Keeps (S.left source.old) (S.left source.new) × Keeps (K.written sink.old) (K.written sink.new) }
 
-    // Done: all was read, and the journal of the run of the scenario that it is was written.
-    ensures done { result ≡ Status.Done → (text : List ℕ) × ReadsWhole (S.left source.old) (S.left source.new) text
-        × (called_by text ≡ Status.Done) × Appends (K.written sink.old) (K.written sink.new) (output_of text) }
+    // Done: all was read, and the output that the command and the text call for was written: the
+    // journal of the run of the scenario that the text is, or the shown lines of a capture.
+    ensures done { result ≡ Status.Done → (command : Command) × (command_of (map string_bytes words.now) ≡ Ok command)
+        × ((text : List ℕ) × ReadsWhole (S.left source.old) (S.left source.new) text
+        × (called_by command text ≡ Status.Done) × AppendsOutput command text (K.written sink.old) (K.written sink.new)) }
 
     // Too long: more octets came, and nothing was written.
     ensures too_long { result ≡ Status.TooLong → (text : List ℕ) × Consumes (S.left source.old) (S.left source.new) text
         × (most_input < length text) × Keeps (K.written sink.old) (K.written sink.new) }
 
-    // Bad input: all was read, it isn't of the grammar, and nothing was written.
+    // Bad input: all was read, and this is its first bad line. The output of the lines of a
+    // capture before it was written, and nothing of a text that is no scenario.
     ensures bad_input { (line code : ℕ) → result ≡ Status.BadInput line code
-        → (text : List ℕ) × ReadsWhole (S.left source.old) (S.left source.new) text
-        × (called_by text ≡ Status.BadInput line code) × Keeps (K.written sink.old) (K.written sink.new) }
+        → (command : Command) × (command_of (map string_bytes words.now) ≡ Ok command)
+        × ((text : List ℕ) × ReadsWhole (S.left source.old) (S.left source.new) text
+        × (called_by command text ≡ Status.BadInput line code)
+        × AppendsOutput command text (K.written sink.old) (K.written sink.new)) }
 
     // Read fault: the source failed in this call, and nothing was written.
     ensures read_fault { result ≡ Status.ReadFault
@@ -66,25 +74,28 @@ pub fn clnp_main<S: Source, K: Sink>(
 
     // Write fault: the sink failed in this call, and has a front of what would have been written.
     ensures write_fault { result ≡ Status.WriteFault → Rose (K.faults sink.old) (K.faults sink.new)
+        × ((command : Command) × (command_of (map string_bytes words.now) ≡ Ok command)
         × ((text : List ℕ) × ReadsWhole (S.left source.old) (S.left source.new) text
-        × (called_by text ≡ Status.Done) × AppendsFront (K.written sink.old) (K.written sink.new) (output_of text)) }
+        × AppendsOutputFront command text (K.written sink.old) (K.written sink.new))) }
 
-    // No memory: nothing was written, or the journal of some of the moves.
+    // No memory: nothing was written, or the journal of some of the moves, or what some of the
+    // lines of a capture call for.
     ensures no_memory { result ≡ Status.NoMemory → Keeps (K.written sink.old) (K.written sink.new)
-        ⊎ ((text : List ℕ) × ReadsWhole (S.left source.old) (S.left source.new) text
-        × (called_by text ≡ Status.Done)
-        × IfOk (plan_of text) (λ plan. AppendsWholeMoves plan (K.written sink.old) (K.written sink.new))) }
+        ⊎ ((command : Command) × (command_of (map string_bytes words.now) ≡ Ok command)
+        × ((text : List ℕ) × ReadsWhole (S.left source.old) (S.left source.new) text
+        × AppendsOutputParts command text (K.written sink.old) (K.written sink.new))) }
 
     // Each data unit that the run of a scenario hands up is one that was sent before in that run.
     ensures safe { (text : List ℕ) → IfOk (plan_of text) (λ plan. IsHonest plan (run plan)) }
 {
     every_run_is_honest();
-    if let Some(at) = bad_words(words) {
-        return Status::BadWords { at };
-    }
+    let command = match Command::of(words) {
+        Ok(command) => command,
+        Err(at) => return Status::BadWords { at },
+    };
     let mut text = Vec::new(alloc);
     match read_all(alloc, source, MOST_INPUT, &mut text) {
-        Ok(()) => sim(alloc, text.as_slice(), sink),
+        Ok(()) => obey(alloc, command, text.as_slice(), sink),
         Err(ReadStop::Failed) => Status::ReadFault,
         Err(ReadStop::TooLong) => Status::TooLong,
         Err(ReadStop::NoMemory) => Status::NoMemory,
@@ -98,15 +109,16 @@ fn every_run_is_honest()
     laws::handed_up_was_sent();
 }
 
-/// The first place at which the words are no command.
-fn bad_words(words: &[String]) -> Option<usize>
-    ensures { result ≡ bad_place (map string_bytes words.now) }
+/// Runs a command on a text.
+fn obey<K: Sink>(alloc: Global, command: Command, text: &[u8], sink: &mut K) -> Status
+    requires { length text.now ≤ most_input }
+    ensures later { K.faults sink.old ≤ K.faults sink.new }
+    ensures comes_to { ComesTo command text.now (K.written sink.old) (K.written sink.new) result }
+    ensures failed { result ≡ Status.WriteFault → Rose (K.faults sink.old) (K.faults sink.new) }
 {
-    match words {
-        [] => Some(0),
-        [word] if word.as_str() == "sim" => None,
-        [word, ..] if word.as_str() == "sim" => Some(1),
-        _ => Some(0),
+    match command {
+        Command::Sim => sim(alloc, text, sink),
+        Command::Show => show(alloc, text, sink),
     }
 }
 
@@ -114,7 +126,7 @@ fn bad_words(words: &[String]) -> Option<usize>
 fn sim<K: Sink>(alloc: Global, text: &[u8], sink: &mut K) -> Status
     requires { length text.now ≤ most_input }
     ensures later { K.faults sink.old ≤ K.faults sink.new }
-    ensures comes_to { SimOf text.now (K.written sink.old) (K.written sink.new) result }
+    ensures comes_to { ComesTo Command.Sim text.now (K.written sink.old) (K.written sink.new) result }
     ensures failed { result ≡ Status.WriteFault → Rose (K.faults sink.old) (K.faults sink.new) }
 {
     few_lines();

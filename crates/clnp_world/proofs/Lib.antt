@@ -1,3 +1,4 @@
 pub mod ModelSteps
 pub mod StandSteps
 pub mod HostSteps
+pub mod PutSteps

@@ -11,7 +11,7 @@ use Rattle.scenario.specs.declared.event.Event.TheVariants.{Send}
 use Rattle.clnp_machine.specs.Host.{arrive, send}
 use Rattle.clnp_network.specs.World as network
 use Rattle.clnp_network.specs.Run.{lines_text}
-use Rattle.clnp_world.specs.Seen.{emitted, frame_copy, frame_copies, IsGood, IsCarried, plain_asking}
+use Rattle.clnp_world.specs.Seen.{emitted, frame_copy, frame_copies, IsGood, IsCarried, asking}
 use Rattle.clnp_world.specs.Stands.{Stands, Follows}
 use Rattle.clnp_world.specs.declared.world.World.{World}
 use Rattle.clnp_world.specs.declared.copy.FrameCopy.{FrameCopy}
@@ -274,14 +274,14 @@ pub event_sends : (old mid code : World) (before after : List ℕ) (event : Even
     → event ≡ Send system from to body life → place ≡ system
     → place < length old.hosts.items → host ≡ get_or old.hosts.items place host
     → mid.spent ≡ old.spent → mid.clock ≡ old.clock → mid.copies.items ≡ old.copies.items → mid.cursor ≡ old.cursor
-    → mid.hosts.items ≡ slice_set old.hosts.items place sent → sent ≡ (send host from to body (plain_asking life)).after
-    → outputs ≡ map emitted (send host from to body (plain_asking life)).outputs
-    → AllByRecursion IsGood (send host from to body (plain_asking life)).outputs
+    → mid.hosts.items ≡ slice_set old.hosts.items place sent → sent ≡ (send host from to body (asking life)).after
+    → outputs ≡ map emitted (send host from to body (asking life)).outputs
+    → AllByRecursion IsGood (send host from to body (asking life)).outputs
     → PutsOut mid code before after place outputs
     → (model : network.World) → Stands old model → Follows code before after (network.event_happens model (Some event))
 event_sends old mid code before after event system place from to body life host sent outputs event_is place_is within host_is
     spent clock copies cursor hosts sent_is outputs_are good puts model h =
-    let does : SystemState → Effect = λ s. send s from to body (plain_asking life) in
+    let does : SystemState → Effect = λ s. send s from to body (asking life) in
     let hosts' : mid.hosts.items ≡ slice_set old.hosts.items place (does host).after
     = hosts ∙ ap (λ (s : SystemState). slice_set old.hosts.items place s) sent_is in
     let done : Follows code before after (network.system_does model place does)

@@ -1,8 +1,9 @@
 -- What the code's values are in the model: outputs and copies as the frames that stand for packets.
-use Rattle.std.specs.Prelude.{◌≡◌, ℕ, ◌==◌, true, if◌then◌else◌, List, [], ◌∷◌, Option, None, Some}
+use Rattle.std.specs.Prelude.{ℕ, ◌==◌, true, if◌then◌else◌, List, [], ◌∷◌, Option, None, Some}
 use Rattle.nsap.specs.declared.target.Target.{Target}
 use Rattle.clnp_plan.specs.declared.config.PortConfig.{PortConfig}
-use Rattle.pdu_header.specs.Plain.{SpellsPlain, BeginsPlain, plain_value}
+use Rattle.pdu_header.specs.Value.{PduValue}
+use Rattle.pdu_header.specs.Grammar.{IsPdu, BeginsWith}
 use Rattle.clnp_machine.specs.Unit.{Packet, value_of, wire}
 use Rattle.clnp_plan.specs.declared.note.Note.{Note}
 use Rattle.clnp_plan.specs.declared.note.Note.TheVariants.{Discard, Got, NotMine}
@@ -23,14 +24,9 @@ abbrev pub frame_copy : Copy → FrameCopy
 frame_copy copy =
     record { subnet = copy.subnet; sender = copy.sender; target = copy.target; birth = copy.birth; frame = frame_of copy.content }
 
--- a packet whose PDU is a plain one
-pub record IsPlain (packet : Packet) : Type 0 where
-  pub value_is : value_of packet ≡ plain_value packet.lifetime packet.unit.destination packet.unit.source (value_of packet).body
-  pub spells : SpellsPlain packet.lifetime packet.unit.destination packet.unit.source (value_of packet).body (wire packet)
-
--- an output whose packet, where it has one, has a plain PDU
+-- an output whose packet, where it has one, can be carried by a PDU
 abbrev pub IsGood : Output → Type 0
-IsGood (Transmits port target packet) = IsPlain packet
+IsGood (Transmits port target packet) = IsPdu (value_of packet)
 IsGood (Notes note) = Unit {0}
 
 -- the copy that a frame makes on a port's subnetwork, where there is such a port
@@ -40,15 +36,15 @@ frame_copies (Some port) target birth frame =
     record { subnet = port.subnet; sender = port.snpa; target = target; birth = birth; frame = frame } ∷ []
 
 -- how a host is asked to send
-abbrev pub plain_asking : ℕ → Asking
-plain_asking lifetime = record { lifetime = lifetime; report = true; options = [] }
+abbrev pub asking : ℕ → Asking
+asking lifetime = record { lifetime = lifetime; report = true; options = [] }
 
--- what a host notes of a plain PDU with these parts
-abbrev pub plain_note : SystemState → ℕ → List ℕ → List ℕ → List ℕ → Note
-plain_note s lifetime to from body =
+-- what a host notes of a PDU with these parts
+abbrev pub data_note : SystemState → ℕ → List ℕ → List ℕ → List ℕ → Note
+data_note s lifetime to from body =
     if lifetime == 0 then Discard 0xA0 0x00 else (if is_own s to then Got from to body else NotMine to)
 
--- what a frame may carry: a packet whose octets are read as its PDU, or octets that are read as none
+-- what a frame may carry: a packet that a PDU can carry, or octets that don't begin with a PDU
 abbrev pub IsCarried : Content → Type 0
-IsCarried (Labelled packet following) = IsPlain packet
-IsCarried (Unlabelled octets) = (lifetime : ℕ) (to from body rest : List ℕ) → BeginsPlain octets lifetime to from body rest → ⊥
+IsCarried (Labelled packet following) = IsPdu (value_of packet)
+IsCarried (Unlabelled octets) = (value : PduValue) (rest : List ℕ) → BeginsWith octets value rest → ⊥

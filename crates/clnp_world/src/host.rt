@@ -1,19 +1,21 @@
 //! A host: it sends units whole and takes what is for it.
-ghost use Rattle.std.specs.Prelude.{◌≡◌, ◌≤◌, IfOk, OnOk, [], ◌∷◌, false, map, length};
+ghost use Rattle.std.specs.Prelude.{◌≡◌, ◌≤◌, IfOk, OnOk, [], ◌∷◌, map, length};
 ghost use Rattle.std.specs.List.{AllByRecursion};
 ghost use Rattle.nsap.specs.declared.target.Target.TheVariants.{EndSystems};
 ghost use Rattle.clnp_plan.specs.declared.note.Note.TheVariants.{Refused};
-ghost use Rattle.clnp_machine.specs.Unit.{cut, whole_packet};
+ghost use Rattle.clnp_machine.specs.Unit.{cut, value_of, whole_packet, wire};
 ghost use Rattle.clnp_machine.specs.System.{Content, frame_of};
 ghost use Rattle.clnp_machine.specs.Host as machine;
+ghost use Rattle.pdu_header.specs.Grammar.{IsPdu};
 ghost use Rattle.clnp_world.specs.declared.output.Emitted.TheVariants.{Noted};
-ghost use Rattle.clnp_world.specs.Seen.{IsCarried, IsGood, emitted, plain_asking, plain_note};
+ghost use Rattle.clnp_world.specs.Seen.{IsCarried, IsGood, asking, data_note, emitted};
 
 use crate::output::Emitted;
 use clnp_base::{NoMemory, Octets};
 use clnp_plan::{Note, SystemConfig, Why};
 use nsap::{Address, Target};
-use pdu_header::{Kind, Plain, laws, plain_decode, plain_encode};
+use clnp_options::OptionList;
+use pdu_header::{EncodeRefusal, Kind, Parts, Refusal, decode, encode, laws};
 use std::alloc::Global;
 use std::marker::Model;
 
@@ -39,21 +41,16 @@ pub(crate) struct Host {
 }
 
 impl Model for Host {
-    ghost use Rattle.std.specs.Prelude.{◌≡◌, false};
     ghost use Rattle.clnp_machine.specs.System.{SystemState};
 
     ghost Value = { SystemState };
 
     ghost view = { λ h. record { place = h.place; configuration = h.config; moment = h.moment; count = h.units } };
-
-    // Its units have no checksum.
-    ghost invariant = { λ h. h.config.settings.sealed ≡ false };
 }
 
 impl Host {
     /// The host of a declaration, at the start.
     pub(crate) fn new(place: usize, config: SystemConfig) -> Host
-        requires { config.settings.sealed ≡ false }
         ensures { result ≡ record { place = place; configuration = config; moment = 0; count = 0 } }
     {
         Host {
@@ -87,11 +84,11 @@ impl Host {
         body: &[u8],
         life: u8,
     ) -> Result<Vec<Emitted>, NoMemory>
-        ensures after { OnOk result (self.new ≡ (machine.send self.old from to body.now (plain_asking life)).after) }
+        ensures after { OnOk result (self.new ≡ (machine.send self.old from to body.now (asking life)).after) }
         ensures outputs { IfOk result (λ outputs. outputs.items
-            ≡ map emitted (machine.send self.old from to body.now (plain_asking life)).outputs) }
+            ≡ map emitted (machine.send self.old from to body.now (asking life)).outputs) }
         ensures good { OnOk result (AllByRecursion IsGood
-            (machine.send self.old from to body.now (plain_asking life)).outputs) }
+            (machine.send self.old from to body.now (asking life)).outputs) }
     {
         if !self.is_own(&from) {
             return refused(alloc, Why::NotMine, 0);
@@ -125,15 +122,14 @@ impl Host {
     ) -> Result<Emitted, NoMemory>
         requires { length body.now ≤ 64512 }
         ensures outputs { IfOk result (λ output. output ∷ [] ≡ map emitted (machine.transmissions EndSystems
-            (cut (whole_packet (machine.unit_of self.now from to body.now (plain_asking life)))
+            (cut (whole_packet (machine.unit_of self.now from to body.now (asking life)))
             (machine.port_mtu self.now.configuration.ports)))) }
         ensures good { OnOk result (AllByRecursion IsGood (machine.transmissions EndSystems
-            (cut (whole_packet (machine.unit_of self.now from to body.now (plain_asking life)))
+            (cut (whole_packet (machine.unit_of self.now from to body.now (asking life)))
             (machine.port_mtu self.now.configuration.ports)))) }
     {
         let birth = self.moment;
-        let mut frame = Vec::new(alloc);
-        plain_encode(alloc, &Plain { life, to, from }, body, &mut frame)?;
+        let frame = self.pdu(alloc, from, to, body, life)?;
         if frame.len() > self.mtu() {
             return Ok(Emitted::Noted(Note::Discard {
                 reason: NOT_PERMITTED,
@@ -146,6 +142,42 @@ impl Host {
             birth,
             frame: Octets::from_vec(frame),
         })
+    }
+
+    /// The octets of a unit's PDU. Its header has at most 51 octets, since an address has at most 20.
+    fn pdu(
+        &self,
+        alloc: Global,
+        from: Address,
+        to: Address,
+        body: &[u8],
+        life: u8,
+    ) -> Result<Vec<u8>, NoMemory>
+        requires { length body.now ≤ 64512 }
+        ensures octets { IfOk result (λ frame. frame.items
+            ≡ wire (whole_packet (machine.unit_of self.now from to body.now (asking life)))) }
+        ensures pdu { OnOk result (IsPdu (value_of (whole_packet (machine.unit_of self.now from to body.now (asking life))))) }
+    {
+        let _from = from.as_bytes();
+        let _to = to.as_bytes();
+        let parts = Parts {
+            kind: Kind::Dt,
+            life,
+            report: true,
+            more: false,
+            to,
+            from,
+            seg: None,
+            options: OptionList::new(),
+            sealed: self.config.settings().sealed,
+        };
+        let mut frame = Vec::new(alloc);
+        match encode(alloc, &parts, body, &mut frame) {
+            Ok(()) => Ok(frame),
+            Err(EncodeRefusal::NoMemory) => Err(NoMemory),
+            Err(EncodeRefusal::HeaderTooLong { .. }) => unreachable!(),
+            Err(EncodeRefusal::TotalTooLong { .. }) => unreachable!(),
+        }
     }
 
     /// The MTU at the host's port.
@@ -172,36 +204,43 @@ impl Host {
         ensures { IfOk result (λ note. (content : Content) → IsCarried content → frame_of content ≡ frame.now
             → note ≡ machine.arrival_note self.now content) }
     {
-        laws::one_plain_value();
-        match plain_decode(frame) {
-            Ok((plain, body)) => self.plain_note(alloc, &plain, body),
-            Err(_) => Ok(Note::Discard {
+        laws::one_value();
+        match decode(frame) {
+            Ok(pdu) => self.data_note(alloc, pdu.life, pdu.to, pdu.from, pdu.body),
+            Err(Refusal::Broken(broken)) => Ok(Note::Discard {
+                reason: broken.reason,
+                place: broken.place,
+            }),
+            Err(Refusal::NotClnp) => Ok(Note::Discard {
                 reason: NOT_SPECIFIED,
                 place: 0,
             }),
         }
     }
 
-    /// What is noted of a plain PDU that came: its lifetime is over (ISO 8473, section 6.4), or it is
-    /// for the host and handed up (section 6.5), or it is for another address.
-    fn plain_note(&self, alloc: Global, plain: &Plain, body: &[u8]) -> Result<Note, NoMemory>
-        ensures { IfOk result (λ note. note ≡ plain_note self.now plain.now.life plain.now.to plain.now.from body.now) }
+    /// What is noted of a PDU that came: its lifetime is over (ISO 8473, section 6.4), or it is for
+    /// the host and handed up (section 6.5), or it is for another address.
+    fn data_note(
+        &self,
+        alloc: Global,
+        life: u8,
+        to: Address,
+        from: Address,
+        body: &[u8],
+    ) -> Result<Note, NoMemory>
+        ensures { IfOk result (λ note. note ≡ data_note self.now life to from body.now) }
     {
-        if plain.life == 0 {
+        if life == 0 {
             return Ok(Note::Discard {
                 reason: LIFETIME_EXPIRED,
                 place: 0,
             });
         }
-        if !self.is_own(&plain.to) {
-            return Ok(Note::NotMine { to: plain.to });
+        if !self.is_own(&to) {
+            return Ok(Note::NotMine { to });
         }
         let octets = Octets::copy(alloc, body)?;
-        Ok(Note::Got {
-            from: plain.from,
-            to: plain.to,
-            octets,
-        })
+        Ok(Note::Got { from, to, octets })
     }
 }
 

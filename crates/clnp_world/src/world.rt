@@ -1,5 +1,5 @@
 //! The network: hosts, the copies of frames on the subnetworks, and the moves.
-ghost use Rattle.std.specs.Prelude.{◌≡◌, ◌+◌, ◌<◌, ◌≤◌, [], ◌∷◌, ◌++◌, List, IfOk, OnOk, OnErr, IsErr, Some, false, length, map, slice_get, true, vec_len};
+ghost use Rattle.std.specs.Prelude.{◌≡◌, ◌+◌, ◌<◌, ◌≤◌, [], ◌∷◌, ◌++◌, List, IfOk, OnOk, OnErr, IsErr, Some, length, map, slice_get, true, vec_len};
 ghost use Rattle.std.specs.List.{AllByRecursion};
 ghost use Rattle.clnp_plan.specs.Journal.{Transmitted, line_text};
 ghost use Rattle.clnp_machine.specs.System.{Output, SystemState};
@@ -383,7 +383,6 @@ fn push_host(
     system: &SystemConfig,
     hosts: &mut Vec<Host>,
 ) -> Result<(), NoMemory>
-    requires { system.now.settings.sealed ≡ false }
     ensures { OnOk result (hosts.new.items
         ≡ hosts.old.items ++ record { place = place; configuration = system.now; moment = 0; count = 0 } ∷ []) }
 {
