@@ -121,8 +121,7 @@ ended all left number a b c block m p s =
     let good = Good-more m.made m.waiting m.output block m.good m.good_block in
     let split : all ≡ (m.made ++ m.waiting) ++ left = m.split ∙ sym (append_assoc m.made m.waiting left) in
     let place : 1 + length (m.made ++ m.waiting) ≡ number + 1 = omega (arith, n, length-append m.made m.waiting) in
-    let shows : ShowsLines ((m.made ++ m.waiting) ++ left) (m.output ++ block) = rw (append-nil (m.output ++ block)) at (good.behind left [] s) in
-    (
+    let shows : ShowsLines ((m.made ++ m.waiting) ++ left) (m.output ++ block) = rw (append-nil (m.output ++ block)) at (good.behind left [] s) in (
       ap (λ (t : List (List ℕ)). show_status 1 t) split ∙ (good.counted 1 left ∙ ap (λ (k : ℕ). show_status k left) place),
       record {
         output = m.output ++ block;

@@ -32,8 +32,7 @@ end 0 1
 const FRAME: &str = "8113010a3c0015ce58044700270104470027026869";
 
 /// The line that shows it.
-const FRAME_SHOWN: &str =
-    "clnp dt e life=10 sum=ce58 to=47002701 from=47002702 data=6869 rest=\n";
+const FRAME_SHOWN: &str = "clnp dt e life=10 sum=ce58 to=47002701 from=47002702 data=6869 rest=\n";
 
 /// Captured frames, and lines to skip.
 const CAPTURE: &str = "\

@@ -29,7 +29,15 @@ use Rattle.clnp_world.specs.Seen.{IsCarried, asking, data_note}
 -- the parts of a unit's PDU, where these options are none
 abbrev pub sent_parts : Bool → List ℕ → List ℕ → ℕ → List ℕ → Parts
 sent_parts is_sealed from to life options = record {
-  kind = Dt; life = life; report = true; more = false; to = to; from = from; seg = None; options = options; sealed = is_sealed;
+  kind = Dt;
+  life = life;
+  report = true;
+  more = false;
+  to = to;
+  from = from;
+  seg = None;
+  options = options;
+  sealed = is_sealed;
 }
 
 no_parameters : parameters [] ≡ []
@@ -124,9 +132,10 @@ refused_as : (frame : List ℕ) (refused : Refusal) → why_refused frame ≡ So
     → note_of refused ≡ refused_note (if octet frame 1 == 0x81 then refusal frame else None)
 refused_as frame refused e =
     (elim (octet frame 1 == 0x81) as (λ b. cond b (option_map (told frame) (refusal frame)) (Some NotClnp) ≡ Some refused
-    → note_of refused ≡ refused_note (cond b (refusal frame) None))
-    [ true ↦ noted frame refused (refusal frame)
-    | false ↦ λ (h : (let x : Option Refusal = Some NotClnp in x) ≡ Some refused). let same : NotClnp ≡ refused = cc in ap note_of (sym same) ]) e
+    → note_of refused ≡ refused_note (cond b (refusal frame) None)) [
+      | true ↦ noted frame refused (refusal frame)
+      | false ↦ λ (h : (let x : Option Refusal = Some NotClnp in x) ≡ Some refused). let same : NotClnp ≡ refused = cc in ap note_of (sym same)
+    ]) e
 
 -- no PDU is at the front of a frame
 pub note_none : (s : SystemState) (frame : List ℕ) (refused : Refusal) → why_refused frame ≡ Some refused

@@ -12,9 +12,9 @@ ghost use Rattle.clnp_world.specs.Seen.{IsCarried, IsGood, asking, data_note, em
 
 use crate::output::Emitted;
 use clnp_base::{NoMemory, Octets};
+use clnp_options::OptionList;
 use clnp_plan::{Note, SystemConfig, Why};
 use nsap::{Address, Target};
-use clnp_options::OptionList;
 use pdu_header::{EncodeRefusal, Kind, Parts, Refusal, decode, encode, laws};
 use std::alloc::Global;
 use std::marker::Model;

@@ -1,5 +1,5 @@
 -- How the answers of the reader and the grammar agree, up to want of memory.
-use Rattle.std.specs.Prelude.{◌≡◌, ℕ, List, map, Result, Ok, Err}
+use Rattle.std.specs.Prelude.{◌≡◌, ℕ, Result, Ok, Err}
 use Rattle.scenario.specs.Grammar.{BadLine as Bad}
 use Rattle.scenario.specs.declared.fault.LineFault.{LineFault}
 use Rattle.scenario.specs.declared.fault.LineFault.TheVariants.{Code, NoMemory}

@@ -7,8 +7,7 @@ use Rattle.clnp_tool.proofs.show.show.Goals as goal
 
 pub loop-line-init : goal.loop-line-init
 loop-line-init g c =
-    let lines : length (lines_of c.args.text.now) ≤ length c.args.text.now = few c.args.text.now in
-    (
+    let lines : length (lines_of c.args.text.now) ≤ length c.args.text.now = few c.args.text.now in (
       rw c.new-block.ensures.items (start (lines_of c.args.text.now) (g.K.Sink.written c.args.sink.now)),
       omega arith,
       omega (arith, lines),
@@ -17,7 +16,7 @@ loop-line-init g c =
 pub returns-in-Err-clause-comes_to : goal.returns-in-Err-clause-comes_to
 returns-in-Err-clause-comes_to g c =
     let here : Midway (lines_of c.args.text.now) (c.in-Some.line.now ∷ lines_of c.in-Some.others.now) c.loop-line.number
-        (g.K.Sink.written c.args.sink.now) (g.K.Sink.written c.loop-line.sink) c.loop-line.block.items =
+    (g.K.Sink.written c.args.sink.now) (g.K.Sink.written c.loop-line.sink) c.loop-line.block.items =
     rw c.in-Some.ensures.line at c.loop-line.invariant.0 in
     rw c.status.ensures
     (stopped (Unit {0}) c.args.text.now (lines_of c.in-Some.others.now) c.loop-line.number (g.K.Sink.written c.args.sink.now)

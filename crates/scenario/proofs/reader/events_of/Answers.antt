@@ -1,8 +1,8 @@
-use Rattle.std.proofs.Common.{◌≡◌, ◌≤◌, ◌<◌, ◌+◌, ◌∷◌, [], ◌++◌, length, map, List, ℕ, Bor, sym, ◌∙◌, ap, arith, length-append}
+use Rattle.std.proofs.Common.{◌≡◌, length, map, List, ℕ, Bor, sym, ◌∙◌, ap, arith}
 use Rattle.std.proofs.lemmas.Result.{err_from_is_err_and}
 use Rattle.clnp_base.specs.Text.{lines_of}
-use Rattle.scenario.specs.Grammar.{events_from, settles_of}
-use Rattle.scenario.proofs.Events.{with_front, goes_on, stops, ends, stops_after, lacks_end, one_more}
+use Rattle.scenario.specs.Grammar.{events_from}
+use Rattle.scenario.proofs.Events.{goes_on, stops, ends, stops_after, lacks_end, one_more}
 use Rattle.scenario.proofs.reader.events_of.Goals as goal
 
 pub returns-in_err-nothing_after : goal.returns-in_err-nothing_after
