@@ -325,6 +325,7 @@ fn shows_many_frames(rt: HostRuntime) -> Result<(), Fail> {
     call.room = 68_000;
     let (status, sink) = call.run(rt.alloc())?;
     assert_eq!(rt; status, Status::WriteFault);
-    assert_eq!(rt; sink.as_bytes(), &shown.as_str().as_bytes()[..68_000]);
+    assert_eq!(rt; sink.as_bytes().len(), 68_000);
+    assert!(rt; shown.as_str().as_bytes().starts_with(sink.as_bytes()));
     Ok(())
 }
