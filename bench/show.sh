@@ -32,15 +32,28 @@ PYTHON
 measure() {
     for _ in $(seq "$runs"); do
         python3 - "$work/capture.txt" "$@" <<'PYTHON'
-import os, resource, subprocess, sys, time
+import os, subprocess, sys, time
 capture, *command = sys.argv[1:]
 size = os.path.getsize(capture)
-start = time.monotonic()
-with open(capture, "rb") as source:
-    done = subprocess.run(command, stdin=source, stdout=subprocess.DEVNULL)
-seconds = time.monotonic() - start
-peak = resource.getrusage(resource.RUSAGE_CHILDREN).ru_maxrss / 1024
-print(f"{200_000 / seconds:12.0f} frames/s {size / seconds:14.0f} octets/s   peak {peak:7.1f} MiB (input {size / 2**20:.1f} MiB)   status {done.returncode}")
+
+def start():
+    return subprocess.Popen(command, stdin=open(capture, "rb"), stdout=subprocess.DEVNULL)
+
+begun = time.monotonic()
+status = start().wait()
+seconds = time.monotonic() - begun
+
+# The peak is read while a second run goes on, since a child's own count begins with its parent's.
+peak, process = 0, start()
+while process.poll() is None:
+    try:
+        with open(f"/proc/{process.pid}/status") as lines:
+            marks = [int(line.split()[1]) for line in lines if line.startswith("VmHWM")]
+            if os.readlink(f"/proc/{process.pid}/exe") == os.path.realpath(command[0]):
+                peak = max([peak, *marks])
+    except OSError:
+        pass
+print(f"{200_000 / seconds:12.0f} frames/s {size / seconds:14.0f} octets/s   peak {peak / 1024:7.1f} MiB (input {size / 2**20:.1f} MiB)   status {status}")
 PYTHON
     done
 }
