@@ -93,7 +93,7 @@ abbrev pub send : SystemState → List ℕ → List ℕ → List ℕ → Asking 
 send s from to octets asking = unless_refused (refusal s from octets) s (sends_unit s (unit_of s from to octets asking))
 
 -- What a host notes of a PDU: its lifetime is over (section 6.4), or it is for the host and handed up
--- (section 6.5), or it is for another address.
+-- (section 6.2), or it is for another address.
 abbrev pub packet_note : SystemState → Packet → Note
 packet_note s p =
     if p.lifetime == 0 then Discard 0xA0 0

@@ -219,7 +219,7 @@ impl Host {
     }
 
     /// What is noted of a PDU that came: its lifetime is over (ISO 8473, section 6.4), or it is for
-    /// the host and handed up (section 6.5), or it is for another address.
+    /// the host and handed up (section 6.2), or it is for another address.
     fn data_note(
         &self,
         alloc: Global,

@@ -26,7 +26,7 @@ header_of frame = take (header_size frame) frame
 abbrev pub type_of : List ℕ → ℕ
 type_of head = octet head 5 % 32
 
--- the kind that a type says, where it is known (section 7.2.6; RFC 1575, section 4)
+-- the kind that a type says, where it is known (section 7.2.7; RFC 1575, section 4)
 abbrev pub kind_of : ℕ → Option Kind
 kind_of type =
     if type == 1 then Some Er

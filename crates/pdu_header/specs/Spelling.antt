@@ -7,7 +7,7 @@ use Rattle.pdu_header.specs.declared.kind.Kind.{Kind}
 use Rattle.pdu_header.specs.declared.kind.Kind.TheVariants.{Dt, Er, Erq, Erp}
 use Rattle.pdu_header.specs.Value.{SegmentationPart, PduValue}
 
--- the type (section 7.2.6; RFC 1575, section 4)
+-- the type (section 7.2.7; RFC 1575, section 4)
 abbrev pub type_code : Kind → ℕ
 type_code Er = 1
 type_code Dt = 28
@@ -40,7 +40,7 @@ header_length v = 9 + length (variable_part v)
 abbrev pub segment_length : PduValue → ℕ
 segment_length v = header_length v + length v.body
 
--- the flags SP, MS and E/R, and the type (section 7.2.6)
+-- the flags SP, MS and E/R, and the type (sections 7.2.6 and 7.2.7)
 abbrev pub flags_and_type : PduValue → ℕ
 flags_and_type v =
     (if is_some v.segmentation then 128 else 0) + (if v.more then 64 else 0) + (if v.report then 32 else 0) + type_code v.kind

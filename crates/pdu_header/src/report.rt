@@ -8,7 +8,7 @@ ghost use Rattle.std.specs.Prelude.{◌≡◌, ◌==◌, ◌≤◌, IfSome, is_s
 use crate::decoder::{TYPES, header_of, is_clnp, read_addresses, wants_report};
 use crate::pdu::ReportTo;
 
-/// The type of an error report (ISO 8473, section 7.2.6).
+/// The type of an error report (ISO 8473, section 7.2.7).
 const ERROR_REPORT_TYPE: u8 = 1;
 
 /// Where an error report of the frame's discard goes (section 6.10): the frame begins with 0x81 and

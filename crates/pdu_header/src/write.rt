@@ -62,7 +62,7 @@ fn push_fixed(cells: &mut Cells, head_len: u8, life: u8, flags: u8, total: u16)
     ]);
 }
 
-/// The flags and the type (ISO 8473, section 7.2.6).
+/// The flags and the type (ISO 8473, sections 7.2.6 and 7.2.7).
 fn flags(parts: &Parts) -> u8
     ensures { result ≡ flags_and_type (parts_value parts.now []) }
 {
@@ -79,7 +79,7 @@ fn flags(parts: &Parts) -> u8
     flags
 }
 
-/// The type (ISO 8473, section 7.2.6; RFC 1575, section 4).
+/// The type (ISO 8473, section 7.2.7; RFC 1575, section 4).
 fn type_of(kind: Kind) -> u8
     ensures { result ≡ type_code kind }
 {
