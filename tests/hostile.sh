@@ -1,6 +1,6 @@
 #!/usr/bin/env bash
-# Feeds hostile octets to `clnp show`: every front of every worked frame, every octet of a worked frame set to
-# each value, and random octets up to 70,000. One line each must come out, and none be lost. With rustc at
+# Feeds hostile octets to `clnp show`: every front of the worked frames below, every octet of six of them
+# set to each value, and random octets up to 70,000. One line each must come out, and none be lost. With rustc at
 # hand the lines are compared with those of the plain Rust program of bench/.
 # usage: tests/hostile.sh
 set -eu
