@@ -1,1 +1,2 @@
 pub mod Laid
+mod Parts

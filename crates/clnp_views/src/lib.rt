@@ -1,8 +1,12 @@
-//! Octets that are handed on by value.
+//! Octets that are handed on: headers by value, and frames and parts of them by shared views.
 #![tactic(auto)]
 
+mod frame;
 mod head;
 #[cfg(test)]
 mod tests;
+mod view;
 
+pub use frame::Frame;
 pub use head::Head;
+pub use view::View;

@@ -1,4 +1,5 @@
-use super::Head;
+use super::{Frame, Head};
+use std::test::Fail;
 
 #[test]
 fn keeps_the_octets(rt: HostRuntime) {
@@ -18,4 +19,35 @@ fn holds_none_and_254(rt: HostRuntime) {
     assert!(rt; Head::of(&[]).as_bytes().is_empty());
     let most = [0xccu8; 254];
     assert!(rt; Head::of(&most).as_bytes() == most.as_slice());
+}
+
+#[test]
+fn shows_a_frame_and_its_parts(rt: HostRuntime) -> Result<(), Fail> {
+    let frame = Frame::copy(rt.alloc(), b"header, data")?;
+    assert!(rt; frame.len() == 12);
+    assert!(rt; frame.bytes() == b"header, data".as_slice());
+    let whole = frame.view()?;
+    let last = whole.part(6, 6)?;
+    let data = last.part(2, 4)?;
+    assert!(rt; data.bytes() == b"data".as_slice());
+    assert!(rt; data.len() == 4);
+    assert!(rt; data.frame_len() == 12);
+    Ok(())
+}
+
+#[test]
+fn shares_a_frame(rt: HostRuntime) -> Result<(), Fail> {
+    let frame = Frame::copy(rt.alloc(), b"header, data")?;
+    let header = frame.share()?.into_view().narrow(0, 6);
+    assert!(rt; header.share()?.bytes() == b"header".as_slice());
+    assert!(rt; frame.bytes() == b"header, data".as_slice());
+    Ok(())
+}
+
+#[test]
+fn shows_an_empty_frame(rt: HostRuntime) -> Result<(), Fail> {
+    let view = Frame::copy(rt.alloc(), &[])?.into_view();
+    assert!(rt; view.bytes().is_empty());
+    assert!(rt; view.narrow(0, 0).frame_len() == 0);
+    Ok(())
 }

@@ -2,15 +2,15 @@
 use Rattle.std.proofs.Common.{◌≡◌, ◌≢◌, ◌∙◌, refl, sym, ap, subst, ℕ, suc, ◌+◌, ◌-◌, ◌^◌, ◌<◌, ◌≤◌, Bool, true, false, Option, None, Some, List, [], ◌∷◌, ◌++◌, length, get_or, arith, length-append, append_assoc, inl, inr}
 use Rattle.std.specs.Prelude.{◌⊎◌, if◌then◌else◌, bit_and, bit_or, slice_set, slice_index}
 use Rattle.std.proofs.lemmas.List.{get_or-append-add, get_or-set_other}
-use Rattle.fletcher.specs.Checksum.{octet, sealed}
+use Rattle.fletcher.specs.Checksum.{octet}
 use Rattle.fletcher.proofs.ChecksumLaws.{sealed_other}
 use Rattle.clnp_options.specs.Parameter.{spelled}
 use Rattle.pdu_header.specs.Value.{SegmentationPart, PduValue}
 use Rattle.pdu_header.specs.Spelling.{pair_of, counted, flags_and_type, header, header_length, segment_length, segmentation_octets, unsealed_header}
-use Rattle.pdu_header.specs.Grammar.{FitsUnit, IsSegment, IsPdu}
+use Rattle.pdu_header.specs.Grammar.{IsSegment, IsPdu}
 use Rattle.pdu_header.specs.Parts.{FitsRange, checked}
-use Rattle.pdu_header.specs.Headers.{IsHeader, SpellsHeader, MayCarry, with_lifetime, with_segment, at_offset, with_pair}
-use Rattle.pdu_header.proofs.Written.{length-header, nine_at_least}
+use Rattle.pdu_header.specs.Headers.{SpellsHeader, MayCarry, with_lifetime, with_segment, at_offset, with_pair}
+use Rattle.pdu_header.proofs.Written.{length-header}
 use Rattle.pdu_header.proofs.MoreFlag.{flags_changed}
 
 -- a change in the octets but the checksum, which is adjusted
@@ -134,12 +134,12 @@ offset_set head_len life flags size to from id offset total options place number
     ∙ set_pair_at front (pair_of total ++ options) offset number place n
     ∙ split_at_offset head_len life flags size to from id number total options
 
-same_length : (v : PduValue) (part : SegmentationPart) (old_more more : Bool) (old_body body : List ℕ) (offset : ℕ)
+pub same_length : (v : PduValue) (part : SegmentationPart) (old_more more : Bool) (old_body body : List ℕ) (offset : ℕ)
     → header_length (with_segment part old_more old_body v) ≡ header_length (with_segment (at_offset offset part) more body v)
 same_length v part old_more more old_body body offset =
     header_length-is (with_segment part old_more old_body v) ∙ sym (header_length-is (with_segment (at_offset offset part) more body v))
 
-segment_pdu : (v : PduValue) (part : SegmentationPart) (old_more more : Bool) (old_body body : List ℕ) (offset : ℕ)
+pub segment_pdu : (v : PduValue) (part : SegmentationPart) (old_more more : Bool) (old_body body : List ℕ) (offset : ℕ)
     → IsPdu (with_segment part old_more old_body v)
     → FitsRange (header_length (with_segment part old_more old_body v)) (length body) more (at_offset offset part)
     → offset < 2 ^ 16

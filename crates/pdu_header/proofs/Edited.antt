@@ -1,12 +1,12 @@
 -- Headers after an edit of their options.
-use Rattle.std.proofs.Common.{◌≡◌, ◌≢◌, ◌∙◌, refl, sym, ap, subst, ℕ, ◌+◌, ◌-◌, ◌<◌, ◌≤◌, Bool, true, false, Option, None, Some, List, [], ◌∷◌, ◌++◌, length, take, drop, get_or, arith, length-append, append_assoc, is_some, lit<}
-use Rattle.std.specs.Prelude.{◌==◌, if◌then◌else◌, IsSome, eqb}
-use Rattle.std.proofs.lemmas.List.{take_at, drop_at, append_cancel_left}
+use Rattle.std.proofs.Common.{◌≡◌, ◌≢◌, ◌∙◌, sym, ap, subst, ℕ, ◌+◌, ◌<◌, ◌≤◌, Bool, true, false, Option, None, Some, List, ◌∷◌, ◌++◌, length, take, drop, arith, length-append, append_assoc, is_some, lit<}
+use Rattle.std.specs.Prelude.{if◌then◌else◌, IsSome}
+use Rattle.std.proofs.lemmas.List.{take_at, drop_at}
 use Rattle.std.proofs.lemmas.Bool.{ne_eqb}
-use Rattle.fletcher.specs.Checksum.{octet, sealed, checksum_x, checksum_y, with_checksum}
+use Rattle.fletcher.specs.Checksum.{sealed, checksum_x, checksum_y, with_checksum}
 use Rattle.fletcher.proofs.ChecksumLaws.{sealed_is, sealed-with_checksum}
 use Rattle.clnp_options.specs.Parameter.{Parameter, parameters, spelled}
-use Rattle.clnp_options.specs.Grammar.{Forms, FitsKind, Spells}
+use Rattle.clnp_options.specs.Grammar.{FitsKind}
 use Rattle.clnp_options.specs.Rules.{Accepts, IsWellFormed}
 use Rattle.clnp_options.specs.Edits.{target_of}
 use Rattle.clnp_options.proofs.Parts.{parameters-of_spelled}
@@ -14,12 +14,12 @@ use Rattle.clnp_options.proofs.Agree.{forms_of, well_formed_from, spells_of, acc
 use Rattle.pdu_header.specs.declared.kind.Kind.{Kind}
 use Rattle.pdu_header.specs.declared.kind.Kind.TheVariants.{Dt, Er, Erq, Erp}
 use Rattle.pdu_header.specs.Value.{SegmentationPart, PduValue}
-use Rattle.pdu_header.specs.Spelling.{pair_of, counted, flags_and_type, header, header_length, segment_length, segmentation_octets, type_code, unsealed_header}
-use Rattle.pdu_header.specs.Grammar.{FitsUnit, IsSegment, IsPdu, is_report}
+use Rattle.pdu_header.specs.Spelling.{pair_of, counted, flags_and_type, header_length, segment_length, segmentation_octets, type_code, unsealed_header}
+use Rattle.pdu_header.specs.Grammar.{IsSegment, is_report}
 use Rattle.pdu_header.specs.Parts.{checked}
 use Rattle.pdu_header.specs.Headers.{IsHeader, SpellsHeader, IsEdited, with_options, resealed}
 use Rattle.pdu_header.proofs.Written.{length-header, nine_at_least}
-use Rattle.pdu_header.proofs.Changed.{header_length-is, octet_of}
+use Rattle.pdu_header.proofs.Changed.{header_length-is}
 
 -- what stands before the options, with these octets as its checksum
 abbrev pub before_options : PduValue → ℕ → ℕ → List ℕ

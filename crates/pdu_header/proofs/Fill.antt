@@ -2,7 +2,7 @@
 use Rattle.std.proofs.Common.{◌≡◌, ◌∙◌, refl, sym, ap, subst, Bool, ℕ, ◌+◌, ◌-◌, ◌≤◌, List, ◌++◌, length, take, drop, replicate, arith, length-append}
 use Rattle.std.proofs.lemmas.List.{drop-replicate, length-drop, length-take-le, drop-drop, drop-take}
 use Rattle.std.proofs.lemmas.Slice.{drop-put_mid, take-put_mid}
-use borrow.Rule.Slice.PartMut.{put_mid, same_len_mid, mid_len}
+use borrow.Rule.Slice.PartMut.{put_mid}
 use Rattle.std.proofs.lemmas.Grind.{common_steps}
 use Rattle.clnp_options.specs.Parameter.{Parameter, parameters, spelled}
 use Rattle.clnp_options.specs.Rules.{Accepts, IsWellFormed}

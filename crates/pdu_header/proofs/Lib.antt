@@ -11,3 +11,4 @@ pub mod MoreFlag
 pub mod Changed
 pub mod Edited
 pub mod Samples
+pub mod Told

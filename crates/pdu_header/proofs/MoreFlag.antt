@@ -1,5 +1,5 @@
 -- The flag MS in the octet of flags and type.
-use Rattle.std.proofs.Common.{◌≡◌, refl, ℕ, ◌+◌, Bool, true, false}
+use Rattle.std.proofs.Common.{◌≡◌, refl, ◌+◌, Bool, true, false}
 use Rattle.std.specs.Prelude.{if◌then◌else◌, bit_and, bit_or}
 use Rattle.pdu_header.specs.declared.kind.Kind.{Kind}
 use Rattle.pdu_header.specs.declared.kind.Kind.TheVariants.{Dt, Er, Erq, Erp}

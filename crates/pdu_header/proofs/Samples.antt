@@ -1,5 +1,5 @@
 -- The parts of the worked headers break no rule.
-use Rattle.std.proofs.Common.{◌≡◌, ◌∙◌, refl, sym, ap, subst, ℕ, ◌+◌, ◌-◌, ◌≤◌, Bool, true, false, Option, None, Some, List, [], ◌∷◌, length, replicate, arith, Result, Ok}
+use Rattle.std.proofs.Common.{◌≡◌, ◌∙◌, refl, sym, ap, subst, ℕ, ◌+◌, ◌≤◌, true, false, Option, None, Some, List, [], ◌∷◌, length, replicate, arith, Result, Ok}
 use Rattle.std.specs.Prelude.{option_map, IsSome}
 use Rattle.std.proofs.lemmas.List.{length-replicate}
 use Rattle.nsap.specs.declared.fault.NsapFault.{NsapFault}
@@ -13,21 +13,21 @@ use Rattle.pdu_header.specs.declared.kind.Kind.TheVariants.{Dt}
 use Rattle.pdu_header.specs.declared.pdu.SegPart.{SegPart}
 use Rattle.pdu_header.specs.declared.parts.Parts.{Parts}
 use Rattle.pdu_header.specs.Value.{PduValue}
-use Rattle.pdu_header.specs.Spelling.{header_length, segmentation_octets}
-use Rattle.pdu_header.specs.Grammar.{is_report}
-use Rattle.pdu_header.specs.Parts.{AreFit, FitsRange, FitsSegment, parts_length, parts_value, segmentation_value}
+use Rattle.pdu_header.specs.Spelling.{segmentation_octets}
+use Rattle.pdu_header.specs.Parts.{AreFit, FitsRange, FitsSegment, parts_length, parts_value}
+use Rattle.pdu_header.specs.View.{part_value}
 use Rattle.pdu_header.specs.Headers.{LeadsOn, MayCarry, SpellsHeader, TakesSegment, with_lifetime}
 use Rattle.pdu_header.proofs.Changed.{header_length-is}
 
 pub plain_fit : (p : Parts) (n : ℕ) (part : List ℕ) → p.kind ≡ Dt → p.seg ≡ None → p.more ≡ false → p.options ≡ part → Accepts false part → AreFit p n
 plain_fit p n part k s m o a =
-    let P : Option SegPart → Type 0 = λ x. FitsSegment (parts_length p) n p.more (option_map segmentation_value x) in
+    let P : Option SegPart → Type 0 = λ x. FitsSegment (parts_length p) n p.more (option_map part_value x) in
     record {
       segment = subst P (sym s) m;
       reason = rw (k, o) (spells_of false part a).kind;
     }
 
-no_reason : FitsKind false (parameters [])
+pub no_reason : FitsKind false (parameters [])
 unfolding place_of
 no_reason = rw parameters-nil (fits_kind_of false [] refl)
 
@@ -36,8 +36,8 @@ first_part = record { id = 0; offset = 0; total = 3025 }
 
 pub first_length : (p : Parts) → length p.to ≡ 4 → length p.from ≡ 4 → p.seg ≡ Some first_part → p.options ≡ [] → parts_length p ≡ 25
 first_length p t f s o =
-    let seg : length (segmentation_octets (option_map segmentation_value p.seg)) ≡ 6 =
-    ap (λ x. length (segmentation_octets (option_map segmentation_value x))) s in
+    let seg : length (segmentation_octets (option_map part_value p.seg)) ≡ 6 =
+    ap (λ x. length (segmentation_octets (option_map part_value x))) s in
     let options : length (spelled (parameters p.options)) ≡ 0 =
     ap (λ x. length (spelled (parameters x))) o ∙ ap (λ x. length (spelled x)) parameters-nil ∙ ap length spelled-nil in
     header_length-is (parts_value p []) ∙ omega (arith, t, f, seg, options)
@@ -51,7 +51,7 @@ range_of head size offset h small = record {
 
 pub first_fit : (p : Parts) → p.kind ≡ Dt → length p.to ≡ 4 → length p.from ≡ 4 → p.seg ≡ Some first_part → p.more ≡ true → p.options ≡ [] → AreFit p 1472
 first_fit p k t f s m o =
-    let P : Option SegPart → Type 0 = λ x. FitsSegment (parts_length p) 1472 p.more (option_map segmentation_value x) in
+    let P : Option SegPart → Type 0 = λ x. FitsSegment (parts_length p) 1472 p.more (option_map part_value x) in
     record {
       segment = subst P (sym s) (rw m (range_of (parts_length p) 1472 0 (first_length p t f s o) (omega arith)));
       reason = rw (k, o) no_reason;
@@ -61,7 +61,7 @@ first_fit p k t f s m o =
 pub first_carries : (p : Parts) (life : ℕ) (body : List ℕ) → parts_length p ≡ 25 → p.seg ≡ Some first_part → MayCarry (with_lifetime life (parts_value p body)) 0 480 true
 first_carries p life body n s = record {
   part = record { identifier = 0; offset = 0; total = 3025 };
-  has = ap (option_map segmentation_value) s;
+  has = ap (option_map part_value) s;
   fits = range_of (parts_length p) 480 0 n (omega arith);
 }
 

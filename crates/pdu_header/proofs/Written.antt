@@ -1,5 +1,5 @@
 -- A header as it is written from its parts.
-use Rattle.std.proofs.Common.{◌≡◌, ◌∙◌, refl, sym, ap, subst, ℕ, ◌+◌, ◌-◌, ◌<◌, ◌≤◌, Bool, true, false, is_some, Option, None, Some, List, [], ◌∷◌, ◌++◌, length, arith, length-append, append_assoc}
+use Rattle.std.proofs.Common.{◌≡◌, ◌∙◌, refl, sym, ap, subst, ℕ, ◌+◌, ◌≤◌, Bool, true, false, is_some, Option, None, Some, List, [], ◌∷◌, ◌++◌, length, arith, length-append, append_assoc}
 use Rattle.std.specs.Prelude.{option_map}
 use Rattle.fletcher.specs.Checksum.{sealed}
 use Rattle.fletcher.proofs.ChecksumLaws.{length-sealed}
@@ -10,8 +10,9 @@ use Rattle.pdu_header.specs.declared.pdu.SegPart.{SegPart}
 use Rattle.pdu_header.specs.declared.parts.Parts.{Parts}
 use Rattle.pdu_header.specs.Value.{SegmentationPart, PduValue}
 use Rattle.pdu_header.specs.Spelling.{pair_of, counted, flags_and_type, header, header_length, segment_length, segmentation_octets, spelling, unsealed_header}
-use Rattle.pdu_header.specs.Grammar.{FitsUnit, IsSegment, IsPdu, Spells}
-use Rattle.pdu_header.specs.Parts.{AreFit, AreNumbers, AreTyped, FitsRange, FitsSegment, parts_length, parts_value, segmentation_value}
+use Rattle.pdu_header.specs.Grammar.{IsSegment, IsPdu, Spells}
+use Rattle.pdu_header.specs.Parts.{AreFit, AreNumbers, AreTyped, FitsSegment, parts_length, parts_value}
+use Rattle.pdu_header.specs.View.{part_value}
 use Rattle.pdu_header.specs.Headers.{IsHeader, SpellsHeader}
 
 pub spelled_again : (options : List ℕ) → IsWellFormed options → spelled (parameters options) ≡ options
@@ -35,14 +36,14 @@ nine_at_least octets h = rw (h.1.octets_are, length-header h.0) (omega arith)
 pub at_most_254 : (octets : List ℕ) → IsHeader octets → length octets ≤ 254
 at_most_254 octets h = let fits = h.1.pdu.header_fits in rw (h.1.octets_are, length-header h.0) fits
 
-pub part_size : (part : Option SegPart) → (is_some part ≡ true → length (segmentation_octets (option_map segmentation_value part)) ≡ 6) × (is_some part ≡ false → length (segmentation_octets (option_map segmentation_value part)) ≡ 0)
+pub part_size : (part : Option SegPart) → (is_some part ≡ true → length (segmentation_octets (option_map part_value part)) ≡ 6) × (is_some part ≡ false → length (segmentation_octets (option_map part_value part)) ≡ 0)
 part_size None = ((λ e. cc), (λ e. refl))
 part_size (Some s) = ((λ e. refl), (λ e. cc))
 
-pub parts_length-is : (parts : Parts) (to from options : List ℕ) (n : ℕ) → to ≡ parts.to → from ≡ parts.from → options ≡ parts.options → IsWellFormed options → n ≡ length (segmentation_octets (option_map segmentation_value parts.seg)) → 9 + (2 + length to + length from) + n + length options ≡ parts_length parts
+pub parts_length-is : (parts : Parts) (to from options : List ℕ) (n : ℕ) → to ≡ parts.to → from ≡ parts.from → options ≡ parts.options → IsWellFormed options → n ≡ length (segmentation_octets (option_map part_value parts.seg)) → 9 + (2 + length to + length from) + n + length options ≡ parts_length parts
 parts_length-is parts to from options n t f o w e =
     rw (← t, ← f, ← o, spelled_again options w, e)
-    (omega (arith, length-append (counted to) (counted from ++ (segmentation_octets (option_map segmentation_value parts.seg) ++ options)), length-append (counted from) (segmentation_octets (option_map segmentation_value parts.seg) ++ options), length-append (segmentation_octets (option_map segmentation_value parts.seg)) options))
+    (omega (arith, length-append (counted to) (counted from ++ (segmentation_octets (option_map part_value parts.seg) ++ options)), length-append (counted from) (segmentation_octets (option_map part_value parts.seg) ++ options), length-append (segmentation_octets (option_map part_value parts.seg)) options))
 
 -- ---- octets
 
@@ -102,7 +103,7 @@ pdu_of parts body typed fit h t = record {
   lifetime = typed.lifetime;
   destination = typed.destination;
   source = typed.source;
-  segmentation = segment_of parts body (option_map segmentation_value parts.seg) typed.numbers fit.segment;
+  segmentation = segment_of parts body (option_map part_value parts.seg) typed.numbers fit.segment;
   options = (forms_of parts.options typed.options).formed;
   reason = fit.reason;
   header_fits = h;

@@ -1,5 +1,5 @@
 -- Which octets are a header, and what a router may change in one.
-use Rattle.std.specs.Prelude.{◌≡◌, ℕ, ◌-◌, ◌==◌, Bool, if◌then◌else◌, List, ◌++◌, length, take, drop, slice_index, slice_set, Option, Some, IsSome}
+use Rattle.std.specs.Prelude.{◌≡◌, ℕ, ◌-◌, ◌==◌, Bool, if◌then◌else◌, List, ◌++◌, length, take, drop, slice_index, slice_set, Some, IsSome}
 use Rattle.fletcher.specs.Checksum.{octet, sealed}
 use Rattle.clnp_options.specs.Parameter.{Parameter, parameters, spelled}
 use Rattle.clnp_options.specs.Rules.{Accepts, IsWellFormed}

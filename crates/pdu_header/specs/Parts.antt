@@ -1,20 +1,17 @@
 -- What a header is made from, as a value, and when it can't be made.
-use Rattle.std.specs.Prelude.{◌≡◌, ◌↔◌, ℕ, ◌+◌, ◌-◌, ◌^◌, ◌<◌, ◌≤◌, nat_lt, Bool, true, false, if◌then◌else◌, List, [], length, Option, None, Some, option_map}
+use Rattle.std.specs.Prelude.{◌≡◌, ◌↔◌, ℕ, ◌+◌, ◌-◌, ◌^◌, ◌<◌, ◌≤◌, nat_lt, Bool, false, if◌then◌else◌, List, [], Option, None, Some, option_map}
 use Rattle.fletcher.specs.Checksum.{sealed}
 use Rattle.clnp_options.specs.Parameter.{parameters}
 use Rattle.nsap.specs.Address.{IsAddress}
 use Rattle.clnp_options.specs.Grammar.{FitsKind}
 use Rattle.clnp_options.specs.Rules.{IsWellFormed}
-use Rattle.pdu_header.specs.declared.pdu.SegPart.{SegPart}
 use Rattle.pdu_header.specs.declared.parts.Parts.{Parts}
 use Rattle.pdu_header.specs.declared.header.HeaderRefusal.{HeaderRefusal}
 use Rattle.pdu_header.specs.declared.header.HeaderRefusal.TheVariants.{HeaderTooLong, TotalTooLong}
 use Rattle.pdu_header.specs.Value.{SegmentationPart, PduValue}
+use Rattle.pdu_header.specs.View.{part_value}
 use Rattle.pdu_header.specs.Spelling.{header_length}
 use Rattle.pdu_header.specs.Grammar.{is_report}
-
-abbrev pub segmentation_value : SegPart → SegmentationPart
-segmentation_value part = record { identifier = part.id; offset = part.offset; total = part.total }
 
 -- the value of a PDU with a header made from these parts, and this body
 abbrev pub parts_value : Parts → List ℕ → PduValue
@@ -26,7 +23,7 @@ parts_value parts body = record {
   more = parts.more;
   destination = parts.to;
   source = parts.from;
-  segmentation = option_map segmentation_value parts.seg;
+  segmentation = option_map part_value parts.seg;
   options = parameters parts.options;
   body = body;
 }
@@ -49,7 +46,7 @@ FitsSegment header_len data_len more (Some part) = FitsRange header_len data_len
 
 -- with a body of so many octets the parts break no rule but those on the lengths
 pub record AreFit (parts : Parts) (body_len : ℕ) : Type 0 where
-  pub segment : FitsSegment (parts_length parts) body_len parts.more (option_map segmentation_value parts.seg)
+  pub segment : FitsSegment (parts_length parts) body_len parts.more (option_map part_value parts.seg)
   -- a reason for discard stands in an error report, and in no other PDU (section 7.9.5)
   pub reason : FitsKind (is_report parts.kind) (parameters parts.options)
 
@@ -63,7 +60,7 @@ pub record AreTyped (parts : Parts) : Type 0 where
   pub lifetime : parts.life < 256
   pub destination : IsAddress parts.to
   pub source : IsAddress parts.from
-  pub numbers : AreNumbers (option_map segmentation_value parts.seg)
+  pub numbers : AreNumbers (option_map part_value parts.seg)
   pub options : IsWellFormed parts.options
 
 -- which length is too long: the header's, above 254, or else that of header and body, above 65,535

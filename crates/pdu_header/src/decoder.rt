@@ -168,7 +168,7 @@ fn pair_at(head: &[u8], place: usize) -> u16
 }
 
 /// Whether the header has a segmentation part.
-fn is_segmented(head: &[u8]) -> bool
+pub(crate) fn is_segmented(head: &[u8]) -> bool
     requires { 9 ≤ length head.now }
     ensures { result ≡ rules.is_segmented head.now }
 {
@@ -176,7 +176,7 @@ fn is_segmented(head: &[u8]) -> bool
 }
 
 /// Whether data of the same unit follows behind this PDU's.
-fn has_more(head: &[u8]) -> bool
+pub(crate) fn has_more(head: &[u8]) -> bool
     requires { 9 ≤ length head.now }
     ensures { result ≡ rules.has_more head.now }
 {
@@ -291,7 +291,7 @@ pub(crate) fn read_addresses(head: &[u8]) -> Result<Addresses, OptionRefusal>
 }
 
 /// The segmentation part whose first octet has this place.
-fn segmentation_part(head: &[u8], place: usize) -> SegPart
+pub(crate) fn segmentation_part(head: &[u8], place: usize) -> SegPart
     requires first { 1 ≤ place }
     requires last { place + 5 ≤ length head.now }
     ensures id { result.id ≡ rules.pair_at head.now place }

@@ -1,16 +1,19 @@
 //! Whole headers, made from parts and changed as a router changes them.
-ghost use Rattle.std.specs.Prelude.{◌≡◌, ◌+◌, ◌≤◌, ◌^◌, ◌⊎◌, ℕ, Bool, List, length, if◌then◌else◌, bit_and, bit_or, None, Some, IfOk, MatchResult};
+ghost use Rattle.std.specs.Prelude.{◌≡◌, ◌+◌, ◌≤◌, ◌^◌, ◌⊎◌, ℕ, Bool, List, length, if◌then◌else◌, bit_and, bit_or, option_map, None, Some, IfOk, MatchResult};
 ghost use Rattle.fletcher.specs.Checksum.{octet};
 ghost use Rattle.pdu_header.specs.Value.{SegmentationPart, PduValue};
 ghost use Rattle.clnp_options.specs.Parameter.{source_route, recording, quality};
 ghost use Rattle.clnp_options.specs.Edits.{edited, advanced, recorded, marked};
 ghost use Rattle.pdu_header.specs.Spelling.{segmentation_octets};
+ghost use Rattle.pdu_header.specs.Rules.{part_place};
+ghost use Rattle.pdu_header.specs.View.{part_value};
 ghost use Rattle.pdu_header.specs.Parts.{AreFit, checked, parts_length, parts_value, too_long};
 ghost use Rattle.pdu_header.specs.Headers.{IsHeader, SpellsHeader, with_pair, TakesSegment, MayCarry, LeadsOn, with_lifetime, with_segment, at_offset, with_options};
 
 use crate::cells::{Cells, MOST};
+use crate::decoder::{has_more, is_segmented, segmentation_part};
 use crate::parts::Parts;
-use crate::pdu::Pdu;
+use crate::pdu::{Pdu, SegPart};
 use crate::write::{MORE_SEGMENTS, SEGMENTATION_PERMITTED, header_len, written};
 use byteorder::{BigEndian, ByteOrder};
 use clnp_views::Head;
@@ -104,6 +107,26 @@ impl Header {
         Head::of(self.cells.as_bytes())
     }
 
+    /// The segmentation part, where segmentation is permitted (ISO 8473, section 7.4).
+    pub fn segmentation(&self) -> Option<SegPart>
+        ensures { (v : PduValue) → SpellsHeader v self.now → option_map part_value result ≡ v.segmentation }
+    {
+        let octets = self.cells.as_bytes();
+        if !is_segmented(octets) {
+            return None;
+        }
+        let place = part_index(octets) + 1;
+        Some(segmentation_part(octets, place))
+    }
+
+    /// Whether data of the same unit follows behind this segment's (section 7.2.6.2).
+    #[tactic(auto, using(crate::proofs::Told::tells_more))]
+    pub fn more(&self) -> bool
+        ensures { (v : PduValue) → SpellsHeader v self.now → result ≡ v.more }
+    {
+        has_more(self.as_bytes())
+    }
+
     /// Changes the lifetime, in ticks of 500 ms (ISO 8473, section 7.2.5).
     pub fn set_life(&mut self, life: u8)
         ensures spells { (v : PduValue) → SpellsHeader v self.old → SpellsHeader (with_lifetime life v) self.new }
@@ -112,7 +135,7 @@ impl Header {
         self.cells.adjust(4, life);
     }
 
-    /// Makes the header that of another segment of the same unit (ISO 8473, section 6.8): with `len` octets
+    /// Makes the header that of another segment of the same unit (ISO 8473, section 6.7): with `len` octets
     /// of data from this offset in the unit's data, and `more` where data of the unit follows behind them.
     pub fn set_segment(&mut self, offset: u16, len: u16, more: bool)
         requires { TakesSegment self.old offset len more }
@@ -179,6 +202,7 @@ fn options_index(octets: &[u8]) -> usize
 fn part_index(octets: &[u8]) -> usize
     requires { IsHeader octets.now }
     ensures place { (v : PduValue) → SpellsHeader v octets.now → result ≡ 11 + length v.destination + length v.source }
+    ensures part { part_place octets.now ≡ result + 1 }
     ensures least { 11 ≤ result }
     ensures few { result ≤ length octets.now }
 {

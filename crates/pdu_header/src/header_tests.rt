@@ -101,6 +101,12 @@ fn changes_a_segment(rt: HostRuntime) {
         header.as_bytes()
             == b"\x81\x19\x01\x0a\xfc\x05\xd9\xcb\xed\x04\x47\x00\x27\x01\x04\x47\x00\x27\x02\x00\x00\x00\x00\x0b\xd1".as_slice()
     );
+    let part = SegPart {
+        id: 0,
+        offset: 0,
+        total: 3025,
+    };
+    assert!(rt; header.segmentation() == Some(part) && header.more());
     header.set_life(9);
     header.set_segment(0, 480, true);
     assert!(rt;
@@ -136,6 +142,7 @@ fn changes_options(rt: HostRuntime) {
         rest: &[],
     };
     assert!(rt; Header::of(&pdu) == header);
+    assert!(rt; header.segmentation() == None && !header.more());
     header.advance_route();
     header.record_title(&parts.to);
     header.mark_congestion();

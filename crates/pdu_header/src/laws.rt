@@ -2,6 +2,8 @@
 //! and the rules G1 to G20 agree. Each law is the clause of a function that does nothing.
 ghost use Rattle.hex.specs.Hex.{IsBytes};
 ghost use Rattle.pdu_header.specs.Grammar.{BeginsWith, is_report};
+ghost use Rattle.pdu_header.specs.Headers.{SpellsHeader};
+ghost use Rattle.pdu_header.specs.Reading.{value_of};
 ghost use Rattle.pdu_header.specs.Rules.{is_reportable, octet, refusal};
 ghost use Rattle.pdu_header.specs.Value.{PduValue};
 ghost use Rattle.std.specs.Prelude.{◌≡◌, ◌↔◌, ◌&&◌, ℕ, List, None, not};
@@ -22,4 +24,9 @@ pub fn spelled_where_no_rule_is_broken()
 /// wants a report and isn't one.
 pub fn reportable_where_wanted()
     ensures { (frame : List ℕ) (v : PduValue) (rest : List ℕ) → BeginsWith frame v rest → is_reportable frame ≡ (v.report && not (is_report v.kind)) }
+{}
+
+/// A header tells the value of a PDU that it is the header of, but for what the data hold.
+pub fn a_header_tells_its_value()
+    ensures value { (v : PduValue) (octets : List ℕ) → SpellsHeader v octets → v ≡ value_of octets v.body }
 {}

@@ -165,4 +165,5 @@ fn laws_can_be_called() {
     laws::one_value();
     laws::spelled_where_no_rule_is_broken();
     laws::reportable_where_wanted();
+    laws::a_header_tells_its_value();
 }

@@ -1,7 +1,8 @@
 //! A header written from its parts.
 ghost use Rattle.std.specs.Prelude.{◌≡◌, ◌+◌, ◌≤◌, ◌++◌, ◌<◌, ◌∷◌, [], List, ℕ, length, option_map};
 ghost use Rattle.pdu_header.specs.Spelling.{counted, flags_and_type, header, pair_of, segment_length, segmentation_octets, type_code};
-ghost use Rattle.pdu_header.specs.Parts.{AreNumbers, AreTyped, parts_length, parts_value, segmentation_value};
+ghost use Rattle.pdu_header.specs.Parts.{AreNumbers, AreTyped, parts_length, parts_value};
+ghost use Rattle.pdu_header.specs.View.{part_value};
 
 use crate::cells::Cells;
 use crate::kind::Kind;
@@ -102,9 +103,9 @@ fn push_counted(cells: &mut Cells, address: &[u8])
 
 /// Puts the segmentation part, if there is one.
 fn push_segmentation(cells: &mut Cells, part: Option<SegPart>)
-    requires { length cells.old + length (segmentation_octets (option_map segmentation_value part)) ≤ 254 }
-    ensures octets { cells.new ≡ cells.old ++ segmentation_octets (option_map segmentation_value part) }
-    ensures numbers { AreNumbers (option_map segmentation_value part) }
+    requires { length cells.old + length (segmentation_octets (option_map part_value part)) ≤ 254 }
+    ensures octets { cells.new ≡ cells.old ++ segmentation_octets (option_map part_value part) }
+    ensures numbers { AreNumbers (option_map part_value part) }
 {
     let Some(part) = part else {
         return;

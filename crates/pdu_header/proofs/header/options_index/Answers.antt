@@ -1,4 +1,4 @@
-use Rattle.std.proofs.Common.{ℕ, ◌+◌, ◌≡◌, length, get_or, arith, refl}
+use Rattle.std.proofs.Common.{arith, refl}
 use Rattle.pdu_header.proofs.Changed.{octet_of}
 use Rattle.pdu_header.proofs.Edited.{part_size_by_flags}
 use Rattle.pdu_header.proofs.header.options_index.Goals as goal

@@ -1,4 +1,4 @@
-use Rattle.std.proofs.Common.{ℕ, ◌+◌, ◌≡◌, length, get_or, arith}
+use Rattle.std.proofs.Common.{◌+◌, get_or, arith}
 use Rattle.pdu_header.proofs.Changed.{to_length, from_length, header_holds}
 use Rattle.pdu_header.proofs.header.part_index.Goals as goal
 

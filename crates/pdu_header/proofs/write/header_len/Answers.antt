@@ -1,14 +1,14 @@
 use Rattle.std.proofs.Common.{◌≡◌, ◌∙◌, sym, length}
 use Rattle.std.specs.Prelude.{option_map}
 use Rattle.pdu_header.specs.Spelling.{segmentation_octets}
-use Rattle.pdu_header.specs.Parts.{segmentation_value}
+use Rattle.pdu_header.specs.View.{part_value}
 use Rattle.pdu_header.proofs.Written.{part_size, parts_length-is}
 use Rattle.pdu_header.proofs.write.header_len.Goals.{then-is_some, else-is_some}
 use Rattle.pdu_header.proofs.write.header_len.Goals as goal
 
 pub returns-clause-value : goal.returns-clause-value
 returns-clause-value c =
-    let size : c.if-is_some.seg ≡ length (segmentation_octets (option_map segmentation_value c.args.parts.now.seg)) =
+    let size : c.if-is_some.seg ≡ length (segmentation_octets (option_map part_value c.args.parts.now.seg)) =
     elim c.if-is_some.branch [
       | then-is_some w ↦ w.seg-is ∙ sym ((part_size c.args.parts.now.seg).0 (sym c.is_some.ensures ∙ w.if-is_some.true))
       | else-is_some w ↦ w.seg-is ∙ sym ((part_size c.args.parts.now.seg).1 (sym c.is_some.ensures ∙ w.if-is_some.false))

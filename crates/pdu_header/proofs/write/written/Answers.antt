@@ -1,4 +1,4 @@
-use Rattle.std.proofs.Common.{◌≡◌, ◌∙◌, sym, ap, subst, refl, arith, length, List, [], ℕ, ◌++◌}
+use Rattle.std.proofs.Common.{◌∙◌, sym, ap, subst, refl, arith, List, [], ℕ, ◌++◌}
 use Rattle.fletcher.specs.Checksum.{sealed}
 use Rattle.clnp_options.specs.Rules.{IsWellFormed}
 use Rattle.pdu_header.specs.Spelling.{counted}

@@ -1,4 +1,4 @@
-use Rattle.std.proofs.Common.{◌≡◌, ◌∙◌, ap, arith, length, take}
+use Rattle.std.proofs.Common.{ap, arith, length}
 use Rattle.clnp_options.specs.Parameter.{source_route}
 use Rattle.clnp_options.specs.Edits.{edited, advanced}
 use Rattle.clnp_views.specs.Held.{length-front}

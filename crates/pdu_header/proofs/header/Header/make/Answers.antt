@@ -1,4 +1,4 @@
-use Rattle.std.proofs.Common.{◌≡◌, ◌∙◌, sym, ap, refl, arith, length, replicate, List, ℕ}
+use Rattle.std.proofs.Common.{arith, replicate, List, ℕ}
 use Rattle.std.proofs.lemmas.List.{length-replicate}
 use Rattle.pdu_header.specs.Parts.{parts_value}
 use Rattle.pdu_header.proofs.Written.{spells_header}

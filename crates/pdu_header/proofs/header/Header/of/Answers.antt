@@ -1,5 +1,4 @@
-use Rattle.std.proofs.Common.{◌≡◌, sym, subst, List, ℕ, arith}
-use Rattle.pdu_header.specs.Headers.{IsHeader}
+use Rattle.std.proofs.Common.{arith}
 use Rattle.pdu_header.proofs.Written.{at_most_254}
 use Rattle.pdu_header.proofs.header.Header.of.Goals as goal
 

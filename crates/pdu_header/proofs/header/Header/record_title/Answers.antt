@@ -1,10 +1,9 @@
-use Rattle.std.proofs.Common.{◌≡◌, ◌∙◌, ap, subst, arith, length, List, ℕ}
+use Rattle.std.proofs.Common.{◌∙◌, ap, subst, length, List, ℕ}
 use Rattle.clnp_options.specs.Parameter.{recording}
 use Rattle.clnp_options.specs.Edits.{edited, recorded}
 use Rattle.pdu_header.specs.Value.{PduValue}
 use Rattle.pdu_header.specs.Headers.{SpellsHeader, IsEdited, with_options}
-use Rattle.pdu_header.proofs.Written.{nine_at_least}
-use Rattle.pdu_header.proofs.Edited.{StartsAt, start_within, options_formed, options_lead, edit_spells, nine_kept}
+use Rattle.pdu_header.proofs.Edited.{StartsAt, start_within, options_formed, edit_spells, nine_kept}
 use Rattle.pdu_header.proofs.header.Header.record_title.Goals as goal
 
 pub record_title-requires-clause-start : goal.record_title-requires-clause-start
