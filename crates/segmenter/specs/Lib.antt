@@ -1,0 +1,4 @@
+pub mod Cut
+pub mod Left
+pub mod Pieces
+pub mod Range

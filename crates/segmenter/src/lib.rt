@@ -1,0 +1,9 @@
+//! PDUs cut into segments that fit an MTU (ISO/IEC 8473, section 6.7).
+#![tactic(auto)]
+
+mod cuts;
+pub mod laws;
+#[cfg(test)]
+mod tests;
+
+pub use cuts::{Cut, Cuts, NotPermitted};
