@@ -1,0 +1,125 @@
+-- What stands after an opening or a segment was taken out of a table.
+use Rattle.std.proofs.Common.{◌≡◌, ◌≢◌, ◌∙◌, sym, ap, subst, refl, ℕ, ◌<◌, ◌⊎◌, inl, inr, List, [], ◌∷◌, length, get_or, Some}
+use Rattle.std.specs.Prelude.{filter, slice_get}
+use Rattle.std.specs.List.{remove}
+use Rattle.std.proofs.lemmas.Option.{same_Some, slice_get_read, slice_get_within}
+use Rattle.clnp_views.specs.Extent.{Extent}
+use Rattle.reassembly.specs.declared.segment.Key.{Key}
+use Rattle.reassembly.specs.declared.segment.Segment.{Segment}
+use Rattle.reassembly.specs.declared.table.Opening.{Opening}
+use Rattle.reassembly.specs.declared.table.TableLimits.{TableLimits}
+use Rattle.reassembly.specs.Arrival.{same_key}
+use Rattle.reassembly.specs.Buffer.{Buffer, buffer_of, first_carried, undone, without}
+use Rattle.reassembly.specs.Offered.{total_size}
+use Rattle.reassembly.specs.Sound.{IsSound}
+use Rattle.reassembly.specs.State.{TableState, KeepsSegments, Names, Stands, segments_of}
+use Rattle.reassembly.specs.Ending.{first_pdu, others_of, without_last}
+use Rattle.reassembly.proofs.Removing.{AllByRecursion-find}
+use Rattle.reassembly.proofs.Undoing.{without_last-none_left}
+use Rattle.reassembly.proofs.Ended.{buffers-once, first_of, sound_without, stands_without}
+use Rattle.reassembly.proofs.Undone.{sound_undone, stands_undone, undone_is_without}
+
+empty_or_not : (segments : List Segment) → (segments ≡ []) ⊎ (segments ≢ [])
+empty_or_not [] = inl refl
+empty_or_not (segment ∷ others) = inr (λ e. cc)
+
+module _ (limits : TableLimits) (openings : List Opening) (segments : List Segment) (held slot : ℕ) (closed : Opening) (table : TableState)
+    (view_is : record { limits = limits; openings = openings; segments = segments } ≡ table) (sound : IsSound limits openings segments held)
+    (within : slot < length openings) (read : closed ≡ get_or openings slot closed) where
+  abbrev kept_table : TableState
+  kept_table = record { limits = limits; openings = openings; segments = segments }
+
+  at : slice_get openings slot ≡ Some closed
+  at = slice_get_read openings (length openings) slot closed refl within read
+
+  -- the key that a slot names is that of the opening which was read there
+  named_key : (key : Key) → Names table slot key → closed.key ≡ key
+  named_key key names =
+      let there : slice_get openings slot ≡ Some names.opening = ap (λ t. slice_get t.openings slot) view_is ∙ names.stands_at in
+      ap (λ o. o.key) (same_Some closed names.opening (sym at ∙ there)) ∙ names.key_is
+
+  stands_here : (buffers : List (Buffer Extent)) → Stands table buffers → Stands kept_table buffers
+  stands_here buffers = subst (λ t. Stands t buffers) (sym view_is)
+
+  pub once : (buffers : List (Buffer Extent)) → Stands table buffers → length (filter (λ b. same_key b.key closed.key) buffers) ≡ 1
+  once buffers stands = buffers-once openings slot closed at closed.key refl sound.distinct limits segments buffers (stands_here buffers stands)
+
+  -- all segments of the key, and its opening, were taken out
+  module _ (after : List Opening) (left : List Segment) (removed : after ≡ remove openings slot) (others : left ≡ others_of closed.key segments) where
+    pub left_sound : (size : ℕ) → size ≡ total_size left → IsSound limits after left size
+    left_sound size e =
+        let h = sound_without openings slot closed at closed.key refl sound.distinct limits segments held sound in
+        subst (λ n. IsSound limits after left n) (sym e)
+        (subst (λ l. IsSound limits l left (total_size left)) (sym removed)
+        (subst (λ l. IsSound limits (remove openings slot) l (total_size l)) (sym others) h))
+
+    pub left_stands : (buffers : List (Buffer Extent)) (key : Key) → Stands table buffers → Names table slot key
+        → Stands (record { limits = limits; openings = after; segments = left }) (without key buffers)
+    left_stands buffers key stands names =
+        let h = stands_without openings slot closed at closed.key refl sound.distinct limits segments buffers (stands_here buffers stands) in
+        subst (λ k. Stands (record { limits = limits; openings = after; segments = left }) (without k buffers)) (named_key key names)
+        (subst (λ l. Stands (record { limits = limits; openings = l; segments = left }) (without closed.key buffers)) (sym removed)
+        (subst (λ l. Stands (record { limits = limits; openings = remove openings slot; segments = l }) (without closed.key buffers)) (sym others) h))
+
+  pub left_first : (buffers : List (Buffer Extent)) (taken : Buffer Extent) → Stands table buffers → Names table slot taken.key
+      → buffer_of taken.key buffers ≡ Some taken → first_pdu closed.key segments ≡ first_carried taken
+  left_first buffers taken stands names is_there =
+      ap (λ k. first_pdu k segments) (named_key taken.key names)
+      ∙ first_of kept_table taken
+      (AllByRecursion-find (KeepsSegments kept_table) (λ b. same_key b.key taken.key) buffers taken is_there (stands_here buffers stands).segments)
+
+  -- the last segment of the key was taken out
+  module _ (left : List Segment) (undo : left ≡ without_last closed.key segments) where
+    pub undone_sound : (size : ℕ) → size ≡ total_size left → IsSound limits openings left size
+    undone_sound size e =
+        subst (λ n. IsSound limits openings left n) (sym e)
+        (subst (λ l. IsSound limits openings l (total_size l)) (sym undo) (sound_undone closed.key limits openings segments held sound))
+
+    pub undone_stands : (buffers : List (Buffer Extent)) (key : Key) → segments_of closed.key left ≢ [] → Stands table buffers → Names table slot key
+        → Stands (record { limits = limits; openings = openings; segments = left }) (undone key buffers)
+    undone_stands buffers key more stands names =
+        let some : segments_of closed.key (without_last closed.key segments) ≢ [] = λ e. more (ap (segments_of closed.key) undo ∙ e) in
+        subst (λ k. Stands (record { limits = limits; openings = openings; segments = left }) (undone k buffers)) (named_key key names)
+        (subst (λ l. Stands (record { limits = limits; openings = openings; segments = l }) (undone closed.key buffers)) (sym undo)
+        (stands_undone closed.key limits segments openings openings buffers (once buffers stands) (stands_here buffers stands) some refl))
+
+    -- it was the only one
+    module _ (after : List Opening) (removed : after ≡ remove openings slot) (none : segments_of closed.key left ≡ []) where
+      none_left : segments_of closed.key (without_last closed.key segments) ≡ []
+      none_left = ap (segments_of closed.key) (sym undo) ∙ none
+
+      all_others : left ≡ others_of closed.key segments
+      all_others = undo ∙ without_last-none_left closed.key segments none_left
+
+      pub emptied_sound : (size : ℕ) → size ≡ total_size left → IsSound limits after left size
+      emptied_sound = left_sound after left removed all_others
+
+      pub emptied_stands : (buffers : List (Buffer Extent)) (key : Key) → Stands table buffers → Names table slot key
+          → Stands (record { limits = limits; openings = after; segments = left }) (undone key buffers)
+      emptied_stands buffers key stands names =
+          let e = undone_is_without closed.key limits segments openings openings buffers (once buffers stands) (stands_here buffers stands) none_left in
+          subst (Stands (record { limits = limits; openings = after; segments = left }))
+          (ap (λ k. without k buffers) (sym (named_key key names)) ∙ sym e ∙ ap (λ k. undone k buffers) (named_key key names))
+          (left_stands after left removed all_others buffers key stands names)
+
+    -- its opening was taken out with it where it was the only one
+    module _ (after : List Opening) (closed_now : segments_of closed.key left ≡ [] → after ≡ remove openings slot) (open_still : segments_of closed.key left ≢ [] → after ≡ openings) where
+      pub undo_sound : (size : ℕ) → size ≡ total_size left → IsSound limits after left size
+      undo_sound size e =
+          elim (empty_or_not (segments_of closed.key left)) [
+            | inl none ↦ emptied_sound after (closed_now none) none size e
+            | inr more ↦ subst (λ l. IsSound limits l left size) (sym (open_still more)) (undone_sound size e)
+          ]
+
+      pub undo_stands : (buffers : List (Buffer Extent)) (key : Key) → Stands table buffers → Names table slot key
+          → Stands (record { limits = limits; openings = after; segments = left }) (undone key buffers)
+      undo_stands buffers key stands names =
+          elim (empty_or_not (segments_of closed.key left)) [
+            | inl none ↦ emptied_stands after (closed_now none) none buffers key stands names
+            | inr more ↦ subst (λ l. Stands (record { limits = limits; openings = l; segments = left }) (undone key buffers)) (sym (open_still more))
+                (undone_stands buffers key more stands names)
+          ]
+
+-- a slot that is named is one of the table
+pub named_within : (table : TableState) (openings : List Opening) (slot : ℕ) (key : Key) → openings ≡ table.openings → Names table slot key → slot < length openings
+named_within table openings slot key same names = slice_get_within openings slot names.opening (ap (λ l. slice_get l slot) same ∙ names.stands_at)

@@ -1,0 +1,131 @@
+-- What keeping and taking out leave of the buffers: their deadlines, their segments, and the buffers as they were.
+use Rattle.std.proofs.Common.{◌≡◌, ℕ, ◌<◌, true, List, [], ◌∷◌, ◌++◌, Some, None, length, refl, ap, ◌∙◌, inl, inr, arith}
+use Rattle.std.proofs.lemmas.Bool.{cases_Bool, eq-eqb, and_from}
+use Rattle.std.proofs.lemmas.List.{length_push}
+use Rattle.std.proofs.lemmas.Slice.Eq.{bytes_eq-Decides}
+use Rattle.reassembly.specs.declared.segment.Key.{Key}
+use Rattle.reassembly.specs.declared.table.TableLimits.{TableLimits}
+use Rattle.reassembly.specs.Arrival.{Arrival, same_key}
+use Rattle.reassembly.specs.Buffer.{Buffer, buffer_of, refusal, with_kept, after, buffers_of, without, but_last, holding, undone}
+use Rattle.reassembly.specs.Claims.{StaysWithDeadline, NoneIsEmpty}
+use Rattle.reassembly.proofs.LawKept.{kept_or_not}
+
+pub same_key-itself : (key : Key) → same_key key key ≡ true
+same_key-itself key =
+    and_from _ _ ((bytes_eq-Decides key.from key.from).1 refl)
+    (and_from _ _ ((bytes_eq-Decides key.to key.to).1 refl) (eq-eqb key.id key.id refl))
+
+module _ {C : Type 0} where
+  -- the buffer of a key as it was, found among later buffers
+  pub record IsThere (key : Key) (later : List (Buffer C)) (buffer : Buffer C) : Type 0 where
+    pub now : Buffer C
+    pub found : buffer_of key later ≡ Some now
+    pub opened : now.opened ≡ buffer.opened
+    pub deadline : now.deadline ≡ buffer.deadline
+
+  same_buffer : (a b : Buffer C) → Some a ≡ Some b → a ≡ b
+  same_buffer a b e = cc
+
+  there_with_kept : (limits : TableLimits) (now : ℕ) (arrival : Arrival C) (key : Key) (buffers : List (Buffer C)) (buffer : Buffer C)
+      → buffer_of key buffers ≡ Some buffer → IsThere key (with_kept limits now arrival buffers) buffer
+  there_with_kept limits now arrival key [] buffer e = absurd (cc)
+  there_with_kept limits now arrival key (first ∷ others) buffer e =
+      elim (cases_Bool (same_key first.key arrival.key)) [
+        | inl same ↦
+            rw same
+            (elim (cases_Bool (same_key first.key key)) [
+              | inl is ↦
+                  let s = same_buffer first buffer (rw is at e) in
+                  record {
+                    now = record first { kept = first.kept ++ arrival ∷ [] };
+                    found = rw is;
+                    opened = ap (λ (b : Buffer C). b.opened) s;
+                    deadline = ap (λ (b : Buffer C). b.deadline) s;
+                  }
+              | inr isnt ↦ record { now = buffer; found = rw isnt (rw isnt at e); opened = refl; deadline = refl }
+            ])
+        | inr other ↦
+            rw other
+            (elim (cases_Bool (same_key first.key key)) [
+              | inl is ↦ record { now = buffer; found = rw is (rw is at e); opened = refl; deadline = refl }
+              | inr isnt ↦
+                  let ih = there_with_kept limits now arrival key others buffer (rw isnt at e) in
+                  record { now = ih.now; found = rw isnt ih.found; opened = ih.opened; deadline = ih.deadline }
+            ])
+      ]
+
+  pub stays_with_deadline : (limits : TableLimits) (now : ℕ) (arrival : Arrival C) (buffers : List (Buffer C)) (key : Key)
+      → StaysWithDeadline key buffers (after limits now arrival buffers)
+  stays_with_deadline limits now arrival buffers key buffer e =
+      let there : IsThere key (after limits now arrival buffers) buffer =
+      kept_or_not (λ later. IsThere key later buffer) (refusal limits arrival buffers) buffers (with_kept limits now arrival buffers)
+      (record { now = buffer; found = e; opened = refl; deadline = refl })
+      (λ kept. there_with_kept limits now arrival key buffers buffer e)
+      in (there.now, there.found, there.opened, there.deadline)
+
+  none_empty-with_kept : (limits : TableLimits) (now : ℕ) (arrival : Arrival C) (buffers : List (Buffer C))
+      → NoneIsEmpty buffers → NoneIsEmpty (with_kept limits now arrival buffers)
+  none_empty-with_kept limits now arrival [] full = (omega arith, tt)
+  none_empty-with_kept limits now arrival (buffer ∷ others) full =
+      elim (cases_Bool (same_key buffer.key arrival.key)) [
+        | inl same ↦ rw same ((let l = length_push buffer.kept arrival in omega arith), full.1)
+        | inr other ↦ rw other (full.0, none_empty-with_kept limits now arrival others full.1)
+      ]
+
+  pub none_empty-after : (limits : TableLimits) (now : ℕ) (arrival : Arrival C) (buffers : List (Buffer C))
+      → NoneIsEmpty buffers → NoneIsEmpty (after limits now arrival buffers)
+  none_empty-after limits now arrival buffers full =
+      kept_or_not NoneIsEmpty (refusal limits arrival buffers) buffers (with_kept limits now arrival buffers) full
+      (λ e. none_empty-with_kept limits now arrival buffers full)
+
+  pub none_empty-without : (key : Key) (buffers : List (Buffer C)) → NoneIsEmpty buffers → NoneIsEmpty (without key buffers)
+  none_empty-without key [] full = tt
+  none_empty-without key (buffer ∷ others) full =
+      let ih = none_empty-without key others full.1 in
+      elim (cases_Bool (same_key buffer.key key)) [
+        | inl same ↦ rw same ih
+        | inr other ↦ rw other (full.0, ih)
+      ]
+
+  none_empty-holding : (arrivals : List (Arrival C)) (buffer : Buffer C) (others : List (Buffer C))
+      → NoneIsEmpty others → NoneIsEmpty (holding arrivals buffer ++ others)
+  none_empty-holding [] buffer others full = full
+  none_empty-holding (arrival ∷ more) buffer others full = (omega arith, full)
+
+  pub none_empty-undone : (key : Key) (buffers : List (Buffer C)) → NoneIsEmpty buffers → NoneIsEmpty (undone key buffers)
+  none_empty-undone key [] full = tt
+  none_empty-undone key (buffer ∷ others) full =
+      elim (cases_Bool (same_key buffer.key key)) [
+        | inl same ↦ rw same (none_empty-holding (but_last buffer.kept) buffer others full.1)
+        | inr other ↦ rw other (full.0, none_empty-undone key others full.1)
+      ]
+
+  pub but_last-push : (arrivals : List (Arrival C)) (arrival : Arrival C) → but_last (arrivals ++ arrival ∷ []) ≡ arrivals
+  but_last-push [] arrival = refl
+  but_last-push (first ∷ []) arrival = refl
+  but_last-push (first ∷ next ∷ others) arrival = ap (λ rest. first ∷ rest) (but_last-push (next ∷ others) arrival)
+
+  holding-its_own : (buffer : Buffer C) (arrivals : List (Arrival C)) → 0 < length buffer.kept
+      → arrivals ≡ buffer.kept → (others : List (Arrival C))
+      → holding arrivals (record buffer { kept = others }) ≡ buffer ∷ []
+  holding-its_own buffer [] full e others = absurd (let l = ap length e in omega arith)
+  holding-its_own buffer (arrival ∷ more) full e others = ap (λ k. record buffer { kept = k } ∷ []) e
+
+  undone-with_kept : (limits : TableLimits) (now : ℕ) (arrival : Arrival C) (buffers : List (Buffer C))
+      → NoneIsEmpty buffers → undone arrival.key (with_kept limits now arrival buffers) ≡ buffers
+  undone-with_kept limits now arrival [] full = rw (same_key-itself arrival.key)
+  undone-with_kept limits now arrival (buffer ∷ others) full =
+      elim (cases_Bool (same_key buffer.key arrival.key)) [
+        | inl same ↦
+            rw (same, same)
+            (ap (λ front. front ++ others)
+            (holding-its_own buffer (but_last (buffer.kept ++ arrival ∷ [])) full.0 (but_last-push buffer.kept arrival) (buffer.kept ++ arrival ∷ [])))
+        | inr other ↦ rw (other, other) (ap (λ rest. buffer ∷ rest) (undone-with_kept limits now arrival others full.1))
+      ]
+
+  pub undone-after : (limits : TableLimits) (now : ℕ) (arrival : Arrival C) (buffers : List (Buffer C))
+      → NoneIsEmpty buffers → refusal limits arrival buffers ≡ None
+      → undone arrival.key (after limits now arrival buffers) ≡ buffers
+  undone-after limits now arrival buffers full e =
+      ap (λ refused. undone arrival.key (buffers_of refused buffers (with_kept limits now arrival buffers))) e
+      ∙ undone-with_kept limits now arrival buffers full

@@ -1,0 +1,37 @@
+use Rattle.std.proofs.Common.{◌≡◌, map, slice_get, sym, ap, subst, ◌∙◌}
+use Rattle.std.specs.List.{AllByRecursion, range_with_len}
+use Rattle.std.proofs.lemmas.Option.{get_or_from_slice_get}
+use Rattle.reassembly.specs.Arrival.{are_covered, arrival_of, data_len, earliest, octet_in}
+use Rattle.reassembly.specs.Buffer.{octet_by}
+use Rattle.reassembly.specs.Offered.{openings_of}
+use Rattle.reassembly.specs.State.{KeepsSegments, TableState, opening_of, segments_of}
+use Rattle.reassembly.proofs.Standing.{of_found}
+use Rattle.reassembly.proofs.Whole.{named_there}
+use Rattle.reassembly.proofs.table.Table.pieces.Goals as goal
+
+pub new-requires-clause-covered : goal.new-requires-clause-covered
+new-requires-clause-covered c =
+    let distinct = subst (λ (t : TableState). AllByRecursion (λ opening. openings_of opening.key t.openings ≡ 1) t.openings) c.self.view_is c.self.invariant.0.distinct in
+    let at = named_there c.args.self.now c.requires.buffers c.requires.buffer c.args.slot.0 c.requires.stands distinct c.requires.is_there c.requires.named in
+    let opening : c.index-opening.result.now ≡ opening_of c.requires.buffer = c.index-opening.ensures
+    ∙ get_or_from_slice_get c.self.inside.openings.items c.args.slot.0 (opening_of c.requires.buffer) c.index-opening.result.now
+    (ap (λ (t : TableState). slice_get t.openings c.args.slot.0) c.self.view_is ∙ at) in
+    let segments : c.deref.result.now ≡ c.args.self.now.segments = c.deref.ensures.value ∙ ap (λ (t : TableState). t.segments) c.self.view_is in
+    let keeps = of_found (KeepsSegments c.args.self.now) c.requires.buffer.key c.requires.buffers c.requires.buffer c.requires.stands.segments c.requires.is_there in
+    (λ i. are_covered (map arrival_of (segments_of (opening i).key (segments i))) 0 (c.data_len.ensures i))
+    ∙ ((λ i. are_covered (sym keeps.0 i) 0 (data_len (opening i).shape)) ∙ c.requires.whole)
+
+pub returns : goal.returns
+returns c buffers whole stands found named =
+    let distinct = subst (λ (t : TableState). AllByRecursion (λ opening. openings_of opening.key t.openings ≡ 1) t.openings) c.self.view_is c.self.invariant.0.distinct in
+    let at = named_there c.args.self.now buffers whole c.args.slot.0 stands distinct found named in
+    let opening : c.index-opening.result.now ≡ opening_of whole = c.index-opening.ensures
+    ∙ get_or_from_slice_get c.self.inside.openings.items c.args.slot.0 (opening_of whole) c.index-opening.result.now
+    (ap (λ (t : TableState). slice_get t.openings c.args.slot.0) c.self.view_is ∙ at) in
+    let segments : c.deref.result.now ≡ c.args.self.now.segments = c.deref.ensures.value ∙ ap (λ (t : TableState). t.segments) c.self.view_is in
+    let keeps = of_found (KeepsSegments c.args.self.now) whole.key buffers whole stands.segments found in
+    let arrivals : map arrival_of (segments_of c.index-opening.result.now.key c.deref.result.now) ≡ whole.kept
+    = (λ i. map arrival_of (segments_of (opening i).key (segments i))) ∙ sym keeps.0 in
+    let len : c.data_len.result ≡ data_len whole.shape = c.data_len.ensures ∙ (λ i. data_len (opening i).shape) in
+    c.new.ensures
+    ∙ (λ i. map (λ place. octet_by octet_in place (earliest (arrivals i) place)) (range_with_len 0 (len i)))

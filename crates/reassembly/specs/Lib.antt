@@ -1,0 +1,10 @@
+pub mod Arrival
+pub mod Buffer
+pub mod Claims
+pub mod Ending
+pub mod Kept
+pub mod Mapped
+pub mod NoWhole
+pub mod Offered
+pub mod Sound
+pub mod State

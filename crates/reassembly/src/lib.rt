@@ -1,0 +1,17 @@
+//! Reassembly buffers of data units: segments kept until a unit is whole or its time ends
+//! (ISO/IEC 8473, sections 6.8 and 6.9).
+#![tactic(auto)]
+
+mod coverage;
+#[cfg(test)]
+mod ending_tests;
+pub mod laws;
+mod pieces;
+mod segment;
+mod table;
+#[cfg(test)]
+mod tests;
+
+pub use pieces::Pieces;
+pub use segment::{Key, Segment, Shape};
+pub use table::{Accept, Expired, SlotNo, Table, TableLimits};

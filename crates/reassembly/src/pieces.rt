@@ -1,0 +1,79 @@
+//! The data of a whole unit, piece by piece.
+ghost use Rattle.std.specs.Prelude.{◌≡◌, ◌++◌, ◌<◌, [], length, map, true, MatchOption};
+ghost use Rattle.std.specs.Iterator.{item_count};
+ghost use Rattle.std.specs.List.{AllByRecursion, range_with_len};
+ghost use Rattle.reassembly.specs.Arrival.{are_covered, arrival_of, earliest, octet_in};
+ghost use Rattle.reassembly.specs.Buffer.{octet_by};
+ghost use Rattle.reassembly.specs.Offered.{MayCome};
+ghost use Rattle.reassembly.specs.State.{segments_of};
+
+use crate::coverage::{first_with, run_end};
+use crate::segment::{Key, Segment};
+use std::marker::Model;
+
+/// What is left of the data of a whole unit, in pieces of the kept segments' octets.
+///
+/// A contract sees it as the list of the octets that are left.
+#[derive(Drop)]
+pub struct Pieces<'a> {
+    segments: &'a [Segment],
+    key: Key,
+    place: usize,
+    end: usize,
+}
+
+impl<'a> Model for Pieces<'a> {
+    ghost use Rattle.std.specs.Prelude.{◌≡◌, ◌-◌, ◌≤◌, ℕ, List, map, true};
+    ghost use Rattle.std.specs.List.{AllByRecursion, range_with_len};
+    ghost use Rattle.reassembly.specs.Arrival.{are_covered, arrival_of, earliest, octet_in};
+    ghost use Rattle.reassembly.specs.Buffer.{octet_by};
+    ghost use Rattle.reassembly.specs.Offered.{MayCome};
+    ghost use Rattle.reassembly.specs.State.{segments_of};
+
+    ghost Value = { List ℕ };
+
+    ghost view = { λ p. map (λ place. octet_by octet_in place (earliest (map arrival_of (segments_of p.key p.segments.now)) place))
+        (range_with_len p.place (p.end - p.place)) };
+
+    ghost invariant = { λ p. (p.place ≤ p.end) × AllByRecursion MayCome p.segments.now
+        × (are_covered (map arrival_of (segments_of p.key p.segments.now)) p.place (p.end - p.place) ≡ true) };
+}
+
+impl<'a> Pieces<'a> {
+    /// The data of the unit whose segments are those of the key, which cover `end` places.
+    pub(crate) fn new(segments: &'a [Segment], key: Key, end: usize) -> Pieces<'a>
+        requires came { AllByRecursion MayCome segments.now }
+        requires covered { are_covered (map arrival_of (segments_of key segments.now)) 0 end ≡ true }
+        ensures { result ≡ map (λ place. octet_by octet_in place (earliest (map arrival_of (segments_of key segments.now)) place)) (range_with_len 0 end) }
+    {
+        Pieces {
+            segments,
+            key,
+            place: 0,
+            end,
+        }
+    }
+}
+
+impl<'a> Iterator for Pieces<'a> {
+    type Item = &'a [u8];
+
+    /// Each piece has at least one octet, and they are the next ones of what is left.
+    ghost next_gives = { λ before piece after. MatchOption piece ((before ≡ []) × (after ≡ []))
+        (λ octets. (0 < length octets.now) × (before ≡ octets.now ++ after)) };
+
+    ghost remaining = { item_count (λ left. left) };
+
+    fn next(&mut self) -> Option<&'a [u8]> {
+        if self.place == self.end {
+            return None;
+        }
+        let Some(index) = first_with(self.segments, &self.key, self.place) else {
+            return None;
+        };
+        let end = run_end(self.segments, &self.key, index, self.place).min(self.end);
+        let piece = self.segments[index].octets(self.place, end - self.place);
+        self.place = end;
+        Some(piece)
+    }
+}

@@ -1,0 +1,323 @@
+//! The table of reassembly buffers.
+ghost use Rattle.std.specs.Prelude.{◌≡◌, ◌+◌, ◌<◌, ◌≤◌, ◌^◌, ◌&&◌, ℕ, List, [], length, map, min, nat_le, false, true, if◌then◌else◌, IfNone, IfOk, IfSome, MatchOption, None, Some, is_none, option_map, slice_get};
+ghost use Rattle.std.specs.List.{AllByRecursion};
+ghost use Rattle.clnp_views.specs.Extent.{Extent};
+ghost use Rattle.reassembly.specs.Arrival.{are_covered, arrival_of, data_len, octet_in, same_shape};
+ghost use Rattle.reassembly.specs.Buffer as buffer;
+ghost use Rattle.reassembly.specs.Buffer.{Buffer};
+ghost use Rattle.reassembly.specs.Kept.{with_opening};
+ghost use Rattle.reassembly.specs.Offered.{MayCome, openings_of};
+ghost use Rattle.reassembly.specs.State.{IsReady, IsWholeSlot, MayKeep, Names, Stands, said, segments_of, slot_of, was_kept};
+
+use crate::coverage::first_gap;
+use crate::pieces::Pieces;
+use crate::segment::{Key, Segment, Shape};
+use clnp_base::NoMemory;
+use clnp_views::View;
+use std::alloc::Global;
+use std::marker::Model;
+
+mod ending;
+
+/// The numbers that a table keeps to.
+#[derive(Clone, Copy, Debug, PartialEq, Eq)]
+pub struct TableLimits {
+    /// The most buffers at a time.
+    pub slots: u16,
+    /// The most segments that are kept, in all buffers together.
+    pub segments: u16,
+    /// The most octets that are held: of whole frames, in all buffers together.
+    pub budget: u32,
+    /// The longest time that a buffer is kept, in ticks of 500 ms.
+    pub hold: u8,
+}
+
+/// A buffer's place in its table, until the buffer is taken out.
+#[derive(Clone, Copy, Debug, PartialEq, Eq)]
+pub struct SlotNo(pub usize);
+
+/// What comes of a segment that is offered.
+#[derive(Clone, Copy, Debug, PartialEq, Eq)]
+pub enum Accept {
+    /// It is kept, and its unit isn't whole yet.
+    Held,
+    /// It has no octet that isn't kept already.
+    Repeat,
+    /// It is kept, and its unit is whole.
+    Whole(SlotNo),
+    /// Its buffer is that of a unit of another shape.
+    Interference { kept: Shape, offered: Shape },
+    /// Every buffer is taken: so many are.
+    NoSlot { live: u16 },
+    /// Too many octets would be held: so many are, and it came in a frame of `size` octets.
+    Crowded { held: u32, size: u32 },
+    /// As many segments are kept as may be.
+    Many { kept: u16 },
+}
+
+/// A buffer whose time has ended.
+#[derive(Debug, Drop)]
+pub struct Expired {
+    pub key: Key,
+    /// The PDU of the earliest segment at the beginning of the unit, if one came.
+    pub first: Option<View>,
+}
+
+/// A buffer that is open.
+#[derive(Clone, Copy, Debug)]
+pub struct Opening {
+    key: Key,
+    shape: Shape,
+    /// The moment from which its time has ended.
+    deadline: u64,
+}
+
+/// Reassembly buffers: the open ones in the order of their opening, and the segments of all of them in the order in
+/// which they came.
+///
+/// A contract sees what the table keeps; `Stands` says which buffers it stands for.
+#[derive(Debug, Drop)]
+pub struct Table {
+    limits: TableLimits,
+    openings: Vec<Opening>,
+    segments: Vec<Segment>,
+    held: u32,
+}
+
+impl Model for Table {
+    ghost use Rattle.std.specs.Prelude.{◌≤◌, vec_capacity};
+    ghost use Rattle.reassembly.specs.State.{TableState};
+    ghost use Rattle.reassembly.specs.Sound.{IsSound};
+
+    ghost Value = { TableState };
+
+    ghost view = { λ t. record { limits = t.limits; openings = t.openings.items; segments = t.segments.items } };
+
+    // Room for all that the limits allow was reserved when the table was made.
+    ghost invariant = { λ t. IsSound t.limits t.openings.items t.segments.items t.held
+        × (t.limits.slots ≤ vec_capacity t.openings) × (t.limits.segments ≤ vec_capacity t.segments) };
+}
+
+impl Table {
+    /// A table without buffers. It reserves all the room that it will need.
+    ///
+    /// # Errors
+    ///
+    /// `NoMemory`.
+    pub fn new(alloc: Global, limits: TableLimits) -> Result<Table, NoMemory>
+        ensures stands { IfOk result (λ table. Stands table []) }
+        ensures limits { IfOk result (λ table. table.limits ≡ limits) }
+    {
+        let Ok(openings) = Vec::with_capacity(alloc, usize::from(limits.slots)) else {
+            return Err(NoMemory);
+        };
+        let Ok(segments) = Vec::with_capacity(alloc, usize::from(limits.segments)) else {
+            return Err(NoMemory);
+        };
+        Ok(Table {
+            limits,
+            openings,
+            segments,
+            held: 0,
+        })
+    }
+
+    /// Offers a segment, which is kept or not; it takes no memory (ISO/IEC 8473, section 6.8).
+    ///
+    /// It isn't kept, and nothing changes, by the first of these that holds: the buffer of its key is that of a unit of
+    /// another shape (`Interference`); each of its octets is there already (`Repeat`); it has no buffer and none is free
+    /// (`NoSlot`); the frames of all kept segments would pass the budget (`Crowded`); as many segments are kept as may be
+    /// (`Many`). Else it is kept, in a new buffer where it has none, whose deadline is then `now` plus the lesser of
+    /// `hold` and the segment's lifetime, and never moves.
+    pub fn accept(&mut self, now: u64, segment: Segment) -> Accept
+        requires moment { now < 2 ^ 62 }
+        requires offered { MayCome segment }
+        requires ready { IsReady now self.old }
+        // Whatever buffers the table stands for, the answer is theirs, and it stands for those after the segment.
+        ensures answered { (buffers : List (Buffer Extent)) → Stands self.old buffers
+            → said result ≡ buffer.answer self.old.limits now (arrival_of segment) buffers }
+        ensures stands { (buffers : List (Buffer Extent)) → Stands self.old buffers
+            → Stands self.new (buffer.after self.old.limits now (arrival_of segment) buffers) }
+        ensures slot { (slot : SlotNo) → result ≡ Accept.Whole slot → Names self.new slot.0 segment.key }
+        ensures same { was_kept result ≡ false → self.new ≡ self.old }
+        ensures limits { self.new.limits ≡ self.old.limits }
+    {
+        match self.refusal(&segment) {
+            Some(refusal) => refusal,
+            None => self.keep(now, segment),
+        }
+    }
+
+    /// Why a segment isn't kept, if it isn't.
+    fn refusal(&self, segment: &Segment) -> Option<Accept>
+        requires { MayCome segment.now }
+        ensures refused { (buffers : List (Buffer Extent)) → Stands self.now buffers
+            → option_map said result ≡ buffer.refusal self.now.limits (arrival_of segment.now) buffers }
+        ensures not_kept { IfSome result (λ answer. was_kept answer ≡ false) }
+        ensures room { IfNone result (MayKeep self.now segment.now) }
+    {
+        let slot = self.slot_of(&segment.key);
+        if let Some(kept) = self.other_shape(slot, segment.shape) {
+            let offered = segment.shape;
+            return Some(Accept::Interference { kept, offered });
+        }
+        if is_there(&self.segments, segment) {
+            return Some(Accept::Repeat);
+        }
+        if self.lacks_slot(slot) {
+            let live = self.live();
+            return Some(Accept::NoSlot { live });
+        }
+        let held = self.held;
+        let size = segment.pdu.frame_len() as u32;
+        if size > self.limits.budget - held {
+            return Some(Accept::Crowded { held, size });
+        }
+        if self.segments.len() >= usize::from(self.limits.segments) {
+            let kept = self.kept();
+            return Some(Accept::Many { kept });
+        }
+        None
+    }
+
+    /// The shape of the buffer at a place, if it is another one than this.
+    fn other_shape(&self, slot: Option<usize>, shape: Shape) -> Option<Shape>
+        requires { IfSome slot (λ slot. slot < length self.now.openings) }
+        ensures { MatchOption slot (result ≡ None) (λ slot. (opening : Opening) → slice_get self.now.openings slot ≡ Some opening
+            → result ≡ (if same_shape opening.shape shape then None else Some opening.shape)) }
+    {
+        let kept = self.openings[slot?].shape;
+        if kept == shape { None } else { Some(kept) }
+    }
+
+    /// Whether there is no buffer at this place, and none is free.
+    fn lacks_slot(&self, slot: Option<usize>) -> bool
+        ensures { result ≡ (is_none slot && nat_le self.now.limits.slots (length self.now.openings)) }
+    {
+        slot.is_none() && self.openings.len() >= usize::from(self.limits.slots)
+    }
+
+    /// Keeps a segment.
+    fn keep(&mut self, now: u64, segment: Segment) -> Accept
+        requires moment { now < 2 ^ 62 }
+        requires offered { MayCome segment }
+        requires room { MayKeep self.old segment }
+        ensures answered { (buffers : List (Buffer Extent)) → Stands self.old buffers
+            → said result ≡ buffer.kept_answer segment.key (buffer.with_kept self.old.limits now (arrival_of segment) buffers) }
+        ensures stands { (buffers : List (Buffer Extent)) → Stands self.old buffers
+            → Stands self.new (buffer.with_kept self.old.limits now (arrival_of segment) buffers) }
+        ensures slot { (slot : SlotNo) → result ≡ Accept.Whole slot → Names self.new slot.0 segment.key }
+        ensures kept { was_kept result ≡ true }
+        ensures limits { self.new.limits ≡ self.old.limits }
+    {
+        let slot = self.slot_for(now, &segment);
+        let key = segment.key;
+        let shape = segment.shape;
+        self.held += segment.pdu.frame_len() as u32;
+        let Ok(()) = self.segments.push(segment) else {
+            unreachable!()
+        };
+        if is_whole(&self.segments, &key, shape) {
+            Accept::Whole(SlotNo(slot))
+        } else {
+            Accept::Held
+        }
+    }
+
+    /// The place of the buffer of a segment's key, which is opened where there is none.
+    fn slot_for(&mut self, now: u64, segment: &Segment) -> usize
+        requires moment { now < 2 ^ 62 }
+        requires offered { MayCome segment.now }
+        requires room { openings_of segment.now.key self.old.openings ≡ 0 → length self.old.openings < self.old.limits.slots }
+        ensures opened { self.new ≡ with_opening now segment.now self.old }
+        ensures named { Names self.new result segment.now.key }
+        ensures distinct { AllByRecursion (λ opening. openings_of opening.key self.old.openings ≡ 1) self.old.openings }
+        ensures owned { AllByRecursion (λ other. openings_of other.key self.old.openings ≡ 1) self.old.segments }
+    {
+        if let Some(slot) = self.slot_of(&segment.key) {
+            return slot;
+        }
+        let slot = self.openings.len();
+        let opening = Opening {
+            key: segment.key,
+            shape: segment.shape,
+            deadline: deadline_of(self.limits, now, segment.life),
+        };
+        let Ok(()) = self.openings.push(opening) else {
+            unreachable!()
+        };
+        slot
+    }
+
+    /// The data of a whole unit, piece by piece, each octet from the earliest segment that has it.
+    pub fn pieces(&self, slot: SlotNo) -> Pieces<'_>
+        requires { IsWholeSlot self.now slot.0 }
+        ensures { (buffers : List (Buffer Extent)) (whole : Buffer Extent) → Stands self.now buffers
+            → buffer.buffer_of whole.key buffers ≡ Some whole → Names self.now slot.0 whole.key
+            → result ≡ buffer.data_of octet_in whole }
+    {
+        let opening = self.openings[slot.0];
+        Pieces::new(&self.segments, opening.key, opening.shape.data_len())
+    }
+
+    /// How many octets are held: of the whole frames in which kept segments came.
+    pub fn held(&self) -> u32
+        ensures held { (buffers : List (Buffer Extent)) → Stands self.now buffers → result ≡ buffer.held buffers }
+        ensures within { result ≤ self.now.limits.budget }
+    {
+        self.held
+    }
+
+    /// How many segments are kept.
+    pub fn kept(&self) -> u16
+        ensures kept { (buffers : List (Buffer Extent)) → Stands self.now buffers → result ≡ buffer.kept buffers }
+        ensures within { result ≤ self.now.limits.segments }
+    {
+        self.segments.len() as u16
+    }
+
+    /// How many buffers there are.
+    pub fn live(&self) -> u16
+        ensures live { (buffers : List (Buffer Extent)) → Stands self.now buffers → result ≡ length buffers }
+        ensures within { result ≤ self.now.limits.slots }
+    {
+        self.openings.len() as u16
+    }
+
+    /// The place of the buffer of a key.
+    fn slot_of(&self, key: &Key) -> Option<usize>
+        ensures { result ≡ slot_of key.now self.now.openings }
+    {
+        self.openings.iter().position(|opening| opening.key == *key)
+    }
+}
+
+/// The moment from which the time of a buffer has ended that a segment of this lifetime opens.
+fn deadline_of(limits: TableLimits, now: u64, life: u8) -> u64
+    requires { now < 2 ^ 62 }
+    ensures { result ≡ now + min limits.hold life }
+{
+    now + u64::from(limits.hold.min(life))
+}
+
+/// Whether each octet of a segment is in those segments of its key.
+#[tactic(auto, using(crate::proofs::Gap::gap_tells))]
+fn is_there(segments: &[Segment], segment: &Segment) -> bool
+    requires came { AllByRecursion MayCome segments.now }
+    requires offered { MayCome segment.now }
+    ensures { result ≡ are_covered (map arrival_of (segments_of segment.now.key segments.now)) segment.now.offset (arrival_of segment.now).len }
+{
+    let end = segment.end();
+    first_gap(segments, &segment.key, usize::from(segment.offset), end) == end
+}
+
+/// Whether the segments of a key cover each place of a unit's data.
+#[tactic(auto, using(crate::proofs::Gap::gap_tells))]
+fn is_whole(segments: &[Segment], key: &Key, shape: Shape) -> bool
+    requires came { AllByRecursion MayCome segments.now }
+    requires shaped { shape.head_len ≤ shape.total }
+    ensures { result ≡ are_covered (map arrival_of (segments_of key.now segments.now)) 0 (data_len shape) }
+{
+    let end = shape.data_len();
+    first_gap(segments, key, 0, end) == end
+}

@@ -1,0 +1,184 @@
+//! Buffers taken out of the table, whole or because their time has ended.
+ghost use Rattle.std.specs.Prelude.{◌≡◌, ◌≢◌, ◌≤◌, ◌<◌, ◌^◌, List, [], length, nat_le, nat_lt, take, Some, IfNone, IfSome, MatchOption, option_map, slice_get, vec_capacity};
+ghost use Rattle.std.specs.List.{All, position_from, remove};
+ghost use Rattle.clnp_views.specs.Extent.{Extent};
+ghost use Rattle.reassembly.specs.declared.table.Opening.{Opening};
+ghost use Rattle.reassembly.specs.Offered.{total_size};
+ghost use Rattle.reassembly.specs.Buffer as buffer;
+ghost use Rattle.reassembly.specs.Buffer.{Buffer};
+ghost use Rattle.reassembly.specs.Ending.{first_pdu, is_start_of, others_of, without_last};
+ghost use Rattle.reassembly.specs.State.{IsWholeSlot, Names, Stands, segments_of};
+
+use super::{Expired, Opening, SlotNo, Table};
+use crate::segment::{Key, Segment};
+use clnp_views::View;
+
+impl Table {
+    /// Takes a whole buffer out.
+    pub fn release(&mut self, slot: SlotNo)
+        requires { IsWholeSlot self.old slot.0 }
+        ensures stands { (buffers : List (Buffer Extent)) (key : Key) → Stands self.old buffers → Names self.old slot.0 key
+            → Stands self.new (buffer.without key buffers) }
+        ensures limits { self.new.limits ≡ self.old.limits }
+    {
+        self.take_out(slot.0);
+    }
+
+    /// Takes the segment that made a buffer whole out again: the last one of it.
+    pub fn undo(&mut self, slot: SlotNo)
+        requires { IsWholeSlot self.old slot.0 }
+        ensures stands { (buffers : List (Buffer Extent)) (key : Key) → Stands self.old buffers → Names self.old slot.0 key
+            → Stands self.new (buffer.undone key buffers) }
+        ensures limits { self.new.limits ≡ self.old.limits }
+    {
+        let key = self.openings[slot.0].key;
+        drop_last(&mut self.segments, &key);
+        close_empty(&mut self.openings, slot.0, &self.segments, &key);
+        self.held = total_size(&self.segments);
+    }
+
+    /// Takes out the buffer whose time has ended at a moment: the one with the earliest deadline, the one that was
+    /// opened first among equals (ISO/IEC 8473, section 6.9).
+    pub fn expire(&mut self, now: u64) -> Option<Expired>
+        ensures ended { (buffers : List (Buffer Extent)) → Stands self.old buffers
+            → result ≡ option_map (λ ended. record { key = ended.key; first = buffer.first_carried ended }) (buffer.due now buffers) }
+        ensures stands { (buffers : List (Buffer Extent)) → Stands self.old buffers
+            → Stands self.new (buffer.without_due (buffer.due now buffers) buffers) }
+        ensures limits { self.new.limits ≡ self.old.limits }
+    {
+        let slot = due_slot(&self.openings, now)?;
+        let key = self.openings[slot].key;
+        let first = self.take_out(slot);
+        Some(Expired { key, first })
+    }
+
+    /// Takes all buffers out.
+    pub fn clear(&mut self)
+        ensures stands { Stands self.new [] }
+        ensures limits { self.new.limits ≡ self.old.limits }
+    {
+        self.openings.clear();
+        self.segments.clear();
+        self.held = 0;
+    }
+
+    /// Takes the buffer at a place out, and gives the PDU of its earliest segment at the beginning of the unit.
+    fn take_out(&mut self, slot: usize) -> Option<View>
+        requires { slot < length self.old.openings }
+        ensures stands { (buffers : List (Buffer Extent)) (key : Key) → Stands self.old buffers → Names self.old slot key
+            → Stands self.new (buffer.without key buffers) }
+        ensures first { (buffers : List (Buffer Extent)) (taken : Buffer Extent) → Stands self.old buffers → Names self.old slot taken.key
+            → buffer.buffer_of taken.key buffers ≡ Some taken → result ≡ buffer.first_carried taken }
+        ensures limits { self.new.limits ≡ self.old.limits }
+    {
+        let key = self.openings.remove(slot).key;
+        let first = take_first(&mut self.segments, &key);
+        drop_all(&mut self.segments, &key);
+        self.held = total_size(&self.segments);
+        first
+    }
+}
+
+/// Takes the earliest segment of a key that begins its unit out, and gives its PDU.
+fn take_first(segments: &mut Vec<Segment>, key: &Key) -> Option<View>
+    ensures first { result ≡ first_pdu key.now segments.old.items }
+    ensures others { others_of key.now segments.new.items ≡ others_of key.now segments.old.items }
+    ensures capacity { vec_capacity segments.new ≡ vec_capacity segments.old }
+{
+    let index = first_at_start(segments, key)?;
+    Some(segments.remove(index).pdu)
+}
+
+/// Takes all segments of a key out.
+fn drop_all(segments: &mut Vec<Segment>, key: &Key)
+    ensures others { segments.new.items ≡ others_of key.now segments.old.items }
+    ensures capacity { vec_capacity segments.new ≡ vec_capacity segments.old }
+{
+    segments.retain(|segment| segment.key != *key);
+}
+
+/// Takes the last segment of a key out, if there is one.
+fn drop_last(segments: &mut Vec<Segment>, key: &Key)
+    ensures others { segments.new.items ≡ without_last key.now segments.old.items }
+    ensures capacity { vec_capacity segments.new ≡ vec_capacity segments.old }
+{
+    if let Some(last) = last_of(segments, key) {
+        segments.remove(last);
+    }
+}
+
+/// Takes the opening of a key at a place out, if no segment has the key.
+fn close_empty(openings: &mut Vec<Opening>, slot: usize, segments: &[Segment], key: &Key)
+    requires { slot < length openings.old.items }
+    ensures closed { segments_of key.now segments.now ≡ [] → openings.new.items ≡ remove openings.old.items slot }
+    ensures open { segments_of key.now segments.now ≢ [] → openings.new.items ≡ openings.old.items }
+    ensures capacity { vec_capacity openings.new ≡ vec_capacity openings.old }
+{
+    if last_of(segments, key).is_none() {
+        openings.remove(slot);
+    }
+}
+
+/// The index of the earliest segment of a key that begins its unit.
+fn first_at_start(segments: &[Segment], key: &Key) -> Option<usize>
+    ensures { result ≡ position_from (is_start_of key.now) 0 segments.now }
+{
+    segments
+        .iter()
+        .position(|segment| segment.key == *key && segment.offset == 0)
+}
+
+/// The index of the last segment of a key.
+fn last_of(segments: &[Segment], key: &Key) -> Option<usize>
+    ensures none { IfNone result (segments_of key.now segments.now ≡ []) }
+    ensures some { IfSome result (λ _. segments_of key.now segments.now ≢ []) }
+    ensures last { IfSome result (λ index. (index < length segments.now) × (remove segments.now index ≡ without_last key.now segments.now)) }
+{
+    for index in (0..segments.len()).rev() {
+        if segments[index].key == *key {
+            return Some(index);
+        }
+    }
+    None
+}
+
+/// The octets of all frames in which some segments came.
+fn total_size(segments: &[Segment]) -> u32
+    requires { total_size segments.now < 2 ^ 32 }
+    ensures { result ≡ total_size segments.now }
+{
+    let mut total = 0;
+    for segment in segments {
+        total += segment.pdu.frame_len() as u32;
+    }
+    total
+}
+
+/// The place of the opening with the earliest deadline that isn't above a moment, the first of equals.
+fn due_slot(openings: &[Opening], now: u64) -> Option<usize>
+    ensures none { IfNone result (All (λ opening. now < opening.deadline) openings.now) }
+    ensures due { IfSome result (λ slot. (opening : Opening) × (slice_get openings.now slot ≡ Some opening)
+        × (opening.deadline ≤ now) × All (λ other. (opening.deadline ≤ other.deadline)) openings.now
+        × All (λ other. opening.deadline < other.deadline) (take slot openings.now)) }
+{
+    let mut found = None;
+    for (slot, opening) in openings.iter().enumerate() {
+        if is_sooner(openings, found, opening.deadline, now) {
+            found = Some(slot);
+        }
+    }
+    found
+}
+
+/// Whether a deadline is earlier than that of the opening found so far; where none is found, whether it isn't above a
+/// moment.
+fn is_sooner(openings: &[Opening], found: Option<usize>, deadline: u64, now: u64) -> bool
+    requires { IfSome found (λ slot. slot < length openings.now) }
+    ensures { MatchOption found (result ≡ nat_le deadline now) (λ slot. (opening : Opening) → slice_get openings.now slot ≡ Some opening
+        → result ≡ nat_lt deadline opening.deadline) }
+{
+    match found {
+        Some(slot) => deadline < openings[slot].deadline,
+        None => deadline <= now,
+    }
+}
