@@ -1,3 +1,4 @@
 pub mod Unit
 pub mod System
 pub mod Host
+pub mod Identifiers

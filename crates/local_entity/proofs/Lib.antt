@@ -1,0 +1,4 @@
+pub mod Places
+pub mod Uses
+pub mod Pools
+pub mod Rest
