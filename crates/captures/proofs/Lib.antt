@@ -1,3 +1,5 @@
 pub mod CaptureFacts
+pub mod VectorFacts
 pub mod Pieces
 pub mod OneLine
+pub mod OneVerdict

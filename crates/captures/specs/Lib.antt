@@ -1,2 +1,3 @@
 pub mod Captures
 pub mod Shown
+pub mod Vectors

@@ -57,7 +57,7 @@ pub fn read_capture(alloc: Global, line: &[u8], frame: &mut Vec<u8>) -> Result<b
 }
 
 /// Whether a line is to be skipped.
-fn is_skipped(line: &[u8]) -> bool
+pub fn is_skipped(line: &[u8]) -> bool
     ensures { result ≡ is_skipped line.now }
 {
     match line {

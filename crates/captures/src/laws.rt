@@ -3,7 +3,9 @@
 ghost use Rattle.std.specs.Prelude.{◌≡◌, ℕ, List};
 ghost use Rattle.hex.specs.Hex.{IsBytes};
 ghost use Rattle.captures.specs.Shown.{Shows};
+ghost use Rattle.captures.specs.Vectors.{Judges};
 
+use crate::vector::Verdict;
 use pdu_header::laws::{one_value, spelled_where_no_rule_is_broken};
 
 /// Each frame of octets is shown by one line, and by no other.
@@ -13,4 +15,15 @@ pub fn one_line()
 {
     one_value();
     spelled_where_no_rule_is_broken();
+}
+
+/// Each vector whose frame is of octets has one verdict and one text of it, and no others.
+pub fn one_verdict()
+    ensures some { (number : ℕ) (octets expected : List ℕ) → IsBytes octets
+        → (verdict : Verdict) × ((text : List ℕ) × Judges number octets expected verdict text) }
+    ensures one { (number : ℕ) (octets expected : List ℕ) (verdict other : Verdict) (text another : List ℕ)
+        → Judges number octets expected verdict text → Judges number octets expected other another
+        → (verdict ≡ other) × (text ≡ another) }
+{
+    one_line();
 }

@@ -6,7 +6,11 @@ pub mod laws;
 mod line;
 #[cfg(test)]
 mod tests;
+mod vector;
+#[cfg(test)]
+mod vector_tests;
 mod words;
 
 pub use capture::{LineRefusal, MOST_OCTETS, read_capture};
 pub use line::show_line;
+pub use vector::{Verdict, check_line};
