@@ -6,7 +6,7 @@ use Rattle.scenario.specs.Scenario.{Plan}
 use Rattle.scenario.specs.declared.event.Event.{Event}
 use Rattle.scenario.specs.declared.event.Event.TheVariants.{Send}
 use Rattle.scenario.specs.declared.event.Move.{Move}
-use Rattle.scenario.specs.declared.event.Move.TheVariants.{One, SettleOne}
+use Rattle.scenario.specs.declared.event.Move.TheVariants.{One, SettleOne, LoseOne}
 use Rattle.clnp_network.specs.Run.{Entry}
 
 -- some line says that a unit from here to there was handed up with these octets
@@ -24,7 +24,7 @@ NoRefusal (_ ∷ lines) = NoRefusal lines
 
 -- the event asks for these octets to be sent from here to there
 abbrev pub AsksFor : Option Event → List ℕ → List ℕ → List ℕ → Type 0
-AsksFor (Some (Send system source destination body life)) from to octets =
+AsksFor (Some (Send system source destination body life report)) from to octets =
     (source ≡ from) × (destination ≡ to) × (body ≡ octets)
 AsksFor _ from to octets = ⊥
 
@@ -32,6 +32,7 @@ AsksFor _ from to octets = ⊥
 abbrev pub IsSend : Plan → Move → List ℕ → List ℕ → List ℕ → Type 0
 IsSend plan (One place) from to octets = AsksFor (slice_get plan.events place) from to octets
 IsSend plan SettleOne from to octets = ⊥
+IsSend plan LoseOne from to octets = ⊥
 
 -- one of the entries sent these octets from here to there, and wasn't refused
 abbrev pub WasSent : Plan → List Entry → List ℕ → List ℕ → List ℕ → Type 0

@@ -1,19 +1,19 @@
 -- The simulated network: its systems, the copies of frames that were ever put on a subnetwork, and its moves.
-use Rattle.std.specs.Prelude.{ℕ, ◌+◌, ◌==◌, ◌&&◌, not, Bool, true, false, if◌then◌else◌, List, [], ◌∷◌, ◌++◌, length, slice_get, slice_set, Option, None, Some}
+use Rattle.std.specs.Prelude.{ℕ, ◌+◌, ◌-◌, ◌==◌, ◌&&◌, not, Bool, false, if◌then◌else◌, List, [], ◌∷◌, ◌++◌, length, slice_get, slice_set, Option, None, Some}
 use Rattle.std.specs.List.{list_any}
 use Rattle.std.specs.Str.{bytes_eq}
 use Rattle.nsap.specs.declared.target.Target.{Target}
 use Rattle.nsap.specs.declared.target.Target.TheVariants.{System, EndSystems, Routers}
 use Rattle.clnp_plan.specs.Configuration.{SystemConfiguration}
-use Rattle.clnp_plan.specs.Journal.{Line, Noted, Transmitted}
+use Rattle.clnp_plan.specs.Journal.{Line, Noted, Transmitted, Void}
 use Rattle.clnp_plan.specs.declared.config.Role.{Role}
 use Rattle.clnp_plan.specs.declared.config.Role.TheVariants.{Host, Router}
 use Rattle.clnp_plan.specs.declared.config.PortConfig.{PortConfig}
 use Rattle.scenario.specs.Scenario.{Plan}
 use Rattle.scenario.specs.declared.event.Event.{Event}
-use Rattle.scenario.specs.declared.event.Event.TheVariants.{Send, Settle}
+use Rattle.scenario.specs.declared.event.Event.TheVariants.{Send, Deliver, Settle, Lose}
 use Rattle.scenario.specs.declared.event.Move.{Move}
-use Rattle.scenario.specs.declared.event.Move.TheVariants.{One, SettleOne}
+use Rattle.scenario.specs.declared.event.Move.TheVariants.{One, SettleOne, LoseOne}
 use Rattle.clnp_machine.specs.Unit.{Packet, wire}
 use Rattle.clnp_machine.specs.System.{SystemState, Content, Labelled, Output, Transmits, Notes, Effect}
 use Rattle.clnp_machine.specs.Host.{send, arrive}
@@ -115,17 +115,45 @@ settle_copy w (Some copy) = give_each copy (record w { cursor = w.cursor + 1 }) 
 abbrev pub settle_one : World → Step
 settle_one w = settle_copy w (slice_get w.copies w.cursor)
 
+-- the copy at the cursor is given to nobody
+abbrev pub lose_copy : World → Option Copy → Step
+lose_copy w None = nothing w
+lose_copy w (Some copy) = nothing (record w { cursor = w.cursor + 1 })
+
+abbrev pub lose_one : World → Step
+lose_one w = lose_copy w (slice_get w.copies w.cursor)
+
+-- the line of a copy that isn't there, or isn't for the system
+abbrev pub is_void : World → SystemState → ℕ → Step
+is_void w system number = record { world = w; lines = Void w.clock system.configuration.name number ∷ [] }
+
+-- the copy with a number is given to the system at a place, where it is for it
+abbrev pub deliver_to : World → ℕ → ℕ → Option Copy → SystemState → Step
+deliver_to w number place None system = is_void w system number
+deliver_to w number place (Some copy) system =
+    if is_addressee copy system.configuration then give copy w place else is_void w system number
+
+abbrev pub deliver_at : World → ℕ → ℕ → Option SystemState → Step
+deliver_at w number place None = nothing w
+deliver_at w number place (Some system) = deliver_to w number place (slice_get w.copies (number - 1)) system
+
+abbrev pub deliver : World → ℕ → ℕ → Step
+deliver w number place = deliver_at w number place (slice_get w.systems place)
+
 -- what an event of one move does
 abbrev pub event_happens : World → Option Event → Step
 event_happens w None = nothing w
 event_happens w (Some (Settle count)) = nothing w
-event_happens w (Some (Send system from to body life)) =
-    system_does w system (λ s. send s from to body (record { lifetime = life; report = true; options = [] }))
+event_happens w (Some (Lose count)) = nothing w
+event_happens w (Some (Deliver copy system)) = deliver w copy system
+event_happens w (Some (Send system from to body life report)) =
+    system_does w system (λ s. send s from to body (record { lifetime = life; report = report; options = [] }))
 
 -- one move of the network
 abbrev pub after : Plan → World → Move → Step
 after plan w (One place) = event_happens w (slice_get plan.events place)
 after plan w SettleOne = settle_one w
+after plan w LoseOne = lose_one w
 
 -- the systems as they are declared, from a place on
 abbrev pub states_from : ℕ → List SystemConfiguration → List SystemState

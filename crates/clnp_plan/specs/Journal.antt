@@ -51,10 +51,12 @@ note_text (Got from to octets) = codes "got " ++ (hex_text from ++ (codes " " ++
 note_text (Discard reason place) = codes "drop " ++ (octet_word reason ++ (codes " " ++ octet_word place))
 note_text (NotMine to) = codes "notmine " ++ hex_text to
 
--- A line: what a system notes, or a frame that it transmits as a copy with a number on a port.
+-- A line: what a system notes, a frame that it transmits as a copy with a number on a port, or a copy that isn't there
+-- for it to be given.
 pub data Line : Type 0 where
   Noted : (now : ℕ) (name : List ℕ) (note : Note) → Line
   Transmitted : (now : ℕ) (name : List ℕ) (copy : ℕ) (port : ℕ) (target : Target) (frame : List ℕ) → Line
+  Void : (now : ℕ) (name : List ℕ) (copy : ℕ) → Line
 
 -- the moment and the system's name, with which each line begins
 abbrev pub line_front : ℕ → List ℕ → List ℕ
@@ -65,6 +67,7 @@ line_text (Noted now name note) = line_front now name ++ (note_text note ++ code
 line_text (Transmitted now name copy port target frame) =
     line_front now name ++ (codes "tx " ++ (decimal copy ++ (codes " " ++ (decimal port ++ (codes " "
     ++ (target_word target ++ (codes " " ++ (octets_word frame ++ codes "\n"))))))))
+line_text (Void now name copy) = line_front now name ++ (codes "void " ++ (decimal copy ++ codes "\n"))
 
 -- the last line of a journal: the clock and the number of copies
 abbrev pub end_text : ℕ → ℕ → List ℕ

@@ -29,6 +29,8 @@ pub struct PortConfig {
 pub struct Settings {
     /// Whether the headers of its units get a checksum.
     pub sealed: bool,
+    /// The lifetime of its units, in ticks of 500 ms, where none is wished for.
+    pub life: u8,
 }
 
 /// What a scenario says of one system: its name, whether it is a host or a router, its addresses,

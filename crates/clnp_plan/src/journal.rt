@@ -2,7 +2,7 @@
 ghost use Rattle.std.specs.Prelude.{◌≡◌, ◌++◌, OnOk, OnErr, codes};
 ghost use Rattle.std.specs.Fmt.{decimal};
 ghost use Rattle.nsap.specs.Text.{hex_text};
-ghost use Rattle.clnp_plan.specs.Journal.{Noted, Transmitted, line_text, end_text, line_front, note_text, kind_word, identifier_word, why_word, target_word, octets_word, octet_word};
+ghost use Rattle.clnp_plan.specs.Journal.{Noted, Transmitted, Void, line_text, end_text, line_front, note_text, kind_word, identifier_word, why_word, target_word, octets_word, octet_word};
 
 use crate::note::{Note, Why};
 use clnp_base::NoMemory;
@@ -55,6 +55,29 @@ pub fn transmission_text(
     let mut line = Vec::new(alloc);
     push_front(now, name, &mut line)?;
     push_transmission(alloc, copy, port, target, frame, &mut line)?;
+    push(&line, out)
+}
+
+/// Appends the line of a copy that isn't there for a system to be given.
+///
+/// # Errors
+///
+/// `NoMemory`; `out` is then as it was.
+pub fn void_text(
+    alloc: Global,
+    now: u64,
+    name: &[u8],
+    copy: u32,
+    out: &mut Vec<u8>,
+) -> Result<(), NoMemory>
+    ensures written { OnOk result (out.new.items ≡ out.old.items ++ line_text (Void now name.now copy)) }
+    ensures same { OnErr result (out.new.items ≡ out.old.items) }
+{
+    let mut line = Vec::new(alloc);
+    push_front(now, name, &mut line)?;
+    push(b"void ", &mut line)?;
+    push_decimal(u64::from(copy), &mut line)?;
+    push(b"\n", &mut line)?;
     push(&line, out)
 }
 

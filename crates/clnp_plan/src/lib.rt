@@ -8,5 +8,5 @@ mod note;
 mod tests;
 
 pub use config::{PortConfig, Role, Settings, SystemConfig};
-pub use journal::{journal_text, push_end, transmission_text};
+pub use journal::{journal_text, push_end, transmission_text, void_text};
 pub use note::{Note, Why};

@@ -133,11 +133,13 @@ fn writes_frames_and_the_end(rt: HostRuntime) -> Result<(), Fail> {
         &mut out,
     )?;
     transmission_text(alloc, 4, b"r", 13, 1, Target::Routers, b"", &mut out)?;
+    void_text(alloc, 0, b"b", 9, &mut out)?;
     push_end(alloc, 0, 1, &mut out)?;
     let text = b"before
 0 a tx 1 0 es 8113010a3c00150000044700270104470027026869
 3 r tx 12 7 02000000000b 811301
 4 r tx 13 1 is -
+0 b void 9
 end 0 1
 ";
     assert_eq!(rt; out.as_slice(), text.as_slice());
@@ -161,7 +163,10 @@ fn tells_and_copies_a_system(rt: HostRuntime) -> Result<(), Fail> {
         Role::Router,
         Vec::from_slice(alloc, &addresses)?,
         Vec::from_slice(alloc, &ports)?,
-        Settings { sealed: true },
+        Settings {
+            sealed: true,
+            life: 20,
+        },
     );
     for config in [config.copy(alloc)?, config] {
         assert_eq!(rt; config.name(), b"r1".as_slice());
@@ -169,6 +174,7 @@ fn tells_and_copies_a_system(rt: HostRuntime) -> Result<(), Fail> {
         assert_eq!(rt; config.addresses(), addresses.as_slice());
         assert_eq!(rt; config.ports(), ports.as_slice());
         assert!(rt; config.settings().sealed);
+        assert_eq!(rt; config.settings().life, 20);
     }
     Ok(())
 }

@@ -1,21 +1,21 @@
 -- The copies of a world stay as a front of those after each move, and the cursor stays within them.
 use Rattle.std.proofs.Common.{◌≡◌, ◌≤◌, ℕ, List, [], ◌∷◌, ◌++◌, ◌+◌, length, refl, sym, ap, ◌∙◌, arith, length-append, append_assoc}
-use Rattle.std.specs.Prelude.{true, slice_get, slice_set, Option, None, Some}
+use Rattle.std.specs.Prelude.{slice_get, slice_set, Option, None, Some}
 use Rattle.std.proofs.lemmas.Option.{slice_get_within}
 use Rattle.std.proofs.lemmas.List.{append-nil}
 use Rattle.clnp_plan.specs.Configuration.{SystemConfiguration}
 use Rattle.scenario.specs.Scenario.{Plan}
 use Rattle.scenario.specs.declared.event.Event.{Event}
-use Rattle.scenario.specs.declared.event.Event.TheVariants.{Send, Settle}
+use Rattle.scenario.specs.declared.event.Event.TheVariants.{Send, Deliver, Settle, Lose}
 use Rattle.scenario.specs.declared.event.Move.{Move}
-use Rattle.scenario.specs.declared.event.Move.TheVariants.{One, SettleOne}
+use Rattle.scenario.specs.declared.event.Move.TheVariants.{One, SettleOne, LoseOne}
 use Rattle.clnp_machine.specs.System.{SystemState, Output, Transmits, Notes, Effect}
 use Rattle.clnp_machine.specs.Host.{send, arrive}
-use Rattle.clnp_network.specs.World.{World, Copy, copy_from, put_out, takes_effect, system_does, addressees_from, settle_copy, event_happens, after, first_world}
+use Rattle.clnp_network.specs.World.{World, Copy, copy_from, put_out, takes_effect, system_does, addressees_from, settle_copy, deliver, lose_copy, event_happens, after, first_world}
 use Rattle.clnp_network.specs.Run.{world_after}
 use Rattle.clnp_safety.specs.Growth.{IsFront, IsWithinCopies}
 use Rattle.clnp_safety.proofs.Lists.{AllByRecursion-any}
-use Rattle.clnp_safety.proofs.Steps.{Keeps, keeps-put_all_out, keeps-at_system, keeps-give_each}
+use Rattle.clnp_safety.proofs.Steps.{Keeps, keeps-put_all_out, keeps-at_system, keeps-give_each, keeps-deliver}
 use Rattle.clnp_safety.proofs.Outputs.{AnyLine}
 
 -- a world with more copies behind these, and this cursor
@@ -69,9 +69,14 @@ nothing_grows w = grows_to w w w.cursor (λ k. k) (stays w)
 event_grows : (w : World) (asked : Option Event) → GrowsFrom w (event_happens w asked).world
 event_grows w None = nothing_grows w
 event_grows w (Some (Settle count)) = nothing_grows w
-event_grows w (Some (Send system from to body life)) =
-    grows_to w (event_happens w (Some (Send system from to body life))).world w.cursor (λ k. k)
-    (system_does_grows w.copies w.cursor w system (λ s. send s from to body (record { lifetime = life; report = true; options = [] })) (stays w)).world
+event_grows w (Some (Lose count)) = nothing_grows w
+event_grows w (Some (Deliver number place)) =
+    grows_to w (deliver w number place).world w.cursor (λ k. k)
+    (keeps-deliver (Grown w.copies w.cursor) AnyLine (λ now name copy. tt) w number place (stays w)
+    (λ copy e. system_does_grows w.copies w.cursor w place (λ system. arrive system copy.content) (stays w))).world
+event_grows w (Some (Send system from to body life report)) =
+    grows_to w (event_happens w (Some (Send system from to body life report))).world w.cursor (λ k. k)
+    (system_does_grows w.copies w.cursor w system (λ s. send s from to body (record { lifetime = life; report = report; options = [] })) (stays w)).world
 
 settle_copy_grows : (w : World) (found : Option Copy) → ((copy : Copy) → found ≡ Some copy → w.cursor + 1 ≤ length w.copies) → GrowsFrom w (settle_copy w found).world
 settle_copy_grows w None bound = nothing_grows w
@@ -81,10 +86,19 @@ settle_copy_grows w (Some copy) bound =
     (λ v place k. system_does_grows w.copies (w.cursor + 1) v place (λ system. arrive system copy.content) k)
     (record w { cursor = w.cursor + 1 }) (record { front = ([], sym (append-nil w.copies)); at = refl })).world
 
+lose_copy_grows : (w : World) (found : Option Copy) → ((copy : Copy) → found ≡ Some copy → w.cursor + 1 ≤ length w.copies) → GrowsFrom w (lose_copy w found).world
+lose_copy_grows w None bound = nothing_grows w
+lose_copy_grows w (Some copy) bound =
+    grows_to w (lose_copy w (Some copy)).world (w.cursor + 1) (λ k. bound copy refl)
+    (record { front = ([], sym (append-nil w.copies)); at = refl })
+
 pub move_grows : (plan : Plan) (w : World) (move : Move) → GrowsFrom w (after plan w move).world
 move_grows plan w (One place) = event_grows w (slice_get plan.events place)
 move_grows plan w SettleOne =
     settle_copy_grows w (slice_get w.copies w.cursor)
+    (λ copy e. let l = slice_get_within w.copies w.cursor copy e in omega arith)
+move_grows plan w LoseOne =
+    lose_copy_grows w (slice_get w.copies w.cursor)
     (λ copy e. let l = slice_get_within w.copies w.cursor copy e in omega arith)
 
 pub copies_stay : (plan : Plan) (w : World) (move : Move) → IsFront w.copies (after plan w move).world.copies

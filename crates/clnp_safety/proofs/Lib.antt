@@ -9,3 +9,4 @@ pub mod Sends
 pub mod Runs
 pub mod Grows
 pub mod Refusals
+pub mod Owned

@@ -1,6 +1,6 @@
 -- Lines that hand up only what was sent, and lines of no refusal.
 use Rattle.std.proofs.Common.{◌≡◌, ℕ, List, [], ◌∷◌, inl, inr, subst}
-use Rattle.clnp_plan.specs.Journal.{Line, Noted, Transmitted}
+use Rattle.clnp_plan.specs.Journal.{Line, Noted, Transmitted, Void}
 use Rattle.clnp_plan.specs.declared.note.Note.{Note}
 use Rattle.clnp_plan.specs.declared.note.Note.TheVariants.{Sent, Refused, Got, Discard, NotMine}
 use Rattle.scenario.specs.Scenario.{Plan}
@@ -24,6 +24,7 @@ NoteIsQuiet _ = Unit {0}
 abbrev pub LineIs : (Note → Type 0) → Line → Type 0
 LineIs Q (Noted now name note) = Q note
 LineIs Q (Transmitted now name copy port target frame) = Unit {0}
+LineIs Q (Void now name copy) = Unit {0}
 
 -- what lines hand up was sent
 abbrev pub LinesAreHonest : Plan → List Entry → List Line → Type 0
@@ -50,6 +51,8 @@ lines_are_honest plan past (Noted now name (NotMine destination) ∷ lines) h fr
     lines_are_honest plan past lines h.1 from to octets up
 lines_are_honest plan past (Transmitted now name copy port target frame ∷ lines) h from to octets up =
     lines_are_honest plan past lines h.1 from to octets up
+lines_are_honest plan past (Void now name copy ∷ lines) h from to octets up =
+    lines_are_honest plan past lines h.1 from to octets up
 
 pub quiet_is_honest : (plan : Plan) (past : List Entry) (note : Note) → NoteIsQuiet note → NoteIsHonest plan past note
 quiet_is_honest plan past (Got from to octets) h = absurd h
@@ -61,6 +64,7 @@ quiet_is_honest plan past (NotMine destination) h = tt
 line_is_honest : (plan : Plan) (past : List Entry) (line : Line) → LineIs NoteIsQuiet line → LineIs (NoteIsHonest plan past) line
 line_is_honest plan past (Noted now name note) h = quiet_is_honest plan past note h
 line_is_honest plan past (Transmitted now name copy port target frame) h = tt
+line_is_honest plan past (Void now name copy) h = tt
 
 -- quiet lines hand up nothing
 pub quiet_lines_are_honest : (plan : Plan) (past : List Entry) (lines : List Line) → AllByRecursion (LineIs NoteIsQuiet) lines → LinesAreHonest plan past lines
@@ -76,3 +80,4 @@ quiet_lines_refuse_nothing (Noted now name (Sent kind unit id source destination
 quiet_lines_refuse_nothing (Noted now name (Discard reason place) ∷ lines) h = quiet_lines_refuse_nothing lines h.1
 quiet_lines_refuse_nothing (Noted now name (NotMine destination) ∷ lines) h = quiet_lines_refuse_nothing lines h.1
 quiet_lines_refuse_nothing (Transmitted now name copy port target frame ∷ lines) h = quiet_lines_refuse_nothing lines h.1
+quiet_lines_refuse_nothing (Void now name copy ∷ lines) h = quiet_lines_refuse_nothing lines h.1

@@ -1,5 +1,5 @@
--- Settling hands up only what the copies carry, and leaves the copies.
-use Rattle.std.proofs.Common.{◌≡◌, ℕ, List, ◌+◌, Bool, true, false, refl, sym, subst}
+-- Settling, delivering and losing hand up only what the copies carry, and leave the copies.
+use Rattle.std.proofs.Common.{◌≡◌, ℕ, List, ◌+◌, ◌-◌, Bool, true, false, refl, sym, subst}
 use Rattle.std.specs.Prelude.{◌==◌, if◌then◌else◌, slice_get, Option, None, Some}
 use Rattle.clnp_plan.specs.Journal.{Line}
 use Rattle.clnp_plan.specs.declared.note.Note.TheVariants.{Got, Discard, NotMine}
@@ -7,13 +7,13 @@ use Rattle.scenario.specs.Scenario.{Plan}
 use Rattle.clnp_machine.specs.Unit.{Packet, value_of}
 use Rattle.clnp_machine.specs.System.{SystemState, Content, Labelled, Unlabelled}
 use Rattle.clnp_machine.specs.Host.{is_own, arrival_note, arrive}
-use Rattle.clnp_network.specs.World.{World, Copy, addressees_from, give, settle_copy, settle_one}
+use Rattle.clnp_network.specs.World.{World, Copy, addressees_from, give, settle_copy, settle_one, deliver, lose_copy, lose_one}
 use Rattle.clnp_network.specs.Run.{Entry}
 use Rattle.clnp_network.specs.Safe.{WasSent}
 use Rattle.clnp_safety.specs.Invariant.{PacketIsSound, Carries}
 use Rattle.clnp_safety.proofs.Lists.{AllByRecursion-slice_get}
 use Rattle.clnp_safety.proofs.Lines.{NoteIsHonest, LineIs}
-use Rattle.clnp_safety.proofs.Steps.{Keeps, keeps-nothing, keeps-at_system, keeps-give_each}
+use Rattle.clnp_safety.proofs.Steps.{Keeps, keeps-nothing, keeps-at_system, keeps-give_each, keeps-deliver}
 use Rattle.clnp_safety.proofs.Outputs.{CopiesCarry, takes_effect_carries, takes_effect_notes}
 
 module _ (plan : Plan) (past : List Entry) where
@@ -54,3 +54,18 @@ module _ (plan : Plan) (past : List Entry) where
   settle_one_is_sound w k =
       settle_copy_is_sound w (slice_get w.copies w.cursor)
       (λ copy e. AllByRecursion-slice_get (λ (c : Copy). Carries (PacketIsSound plan past) c.content) w.copies w.cursor copy e k) k
+
+  -- the copy with a number is given to one system, or isn't there for it
+  pub deliver_is_sound : (w : World) (number place : ℕ) → Sound w → Keeps Sound Honest (deliver w number place)
+  deliver_is_sound w number place k =
+      keeps-deliver Sound Honest (λ now name copy. tt) w number place k
+      (λ copy e. give_is_sound copy
+      (AllByRecursion-slice_get (λ (c : Copy). Carries (PacketIsSound plan past) c.content) w.copies (number - 1) copy e k) w place k)
+
+  lose_copy_is_sound : (w : World) (found : Option Copy) → Sound w → Keeps Sound Honest (lose_copy w found)
+  lose_copy_is_sound w None k = keeps-nothing Sound Honest w k
+  lose_copy_is_sound w (Some copy) k = keeps-nothing Sound Honest (record w { cursor = w.cursor + 1 }) k
+
+  -- a copy is passed over
+  pub lose_one_is_sound : (w : World) → Sound w → Keeps Sound Honest (lose_one w)
+  lose_one_is_sound w k = lose_copy_is_sound w (slice_get w.copies w.cursor) k

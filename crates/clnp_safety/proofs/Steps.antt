@@ -1,10 +1,10 @@
 -- What the parts of a step keep of the worlds, and what their lines are.
-use Rattle.std.proofs.Common.{ℕ, List, [], ◌∷◌}
-use Rattle.std.specs.Prelude.{Option, None, Some}
+use Rattle.std.proofs.Common.{◌≡◌, ℕ, ◌-◌, List, [], ◌∷◌, refl, cond, Bool, true, false}
+use Rattle.std.specs.Prelude.{Option, None, Some, slice_get}
 use Rattle.clnp_plan.specs.Configuration.{SystemConfiguration}
-use Rattle.clnp_plan.specs.Journal.{Line}
+use Rattle.clnp_plan.specs.Journal.{Line, Void}
 use Rattle.clnp_machine.specs.System.{SystemState, Output, Effect}
-use Rattle.clnp_network.specs.World.{World, Copy, Step, nothing, followed_by, put_out, put_all_out, takes_effect, at_system, give, give_each}
+use Rattle.clnp_network.specs.World.{World, Copy, Step, nothing, followed_by, put_out, put_all_out, takes_effect, at_system, give, give_each, is_void, is_addressee, deliver_to, deliver_at, deliver}
 use Rattle.std.specs.List.{AllByRecursion}
 use Rattle.clnp_safety.proofs.Lists.{AllByRecursion-append}
 
@@ -36,3 +36,29 @@ module _ (K : World → Type 0) (Q : Line → Type 0) where
   keeps-give_each copy [] h w k = keeps-nothing w k
   keeps-give_each copy (place ∷ places) h w k =
       keeps-followed_by (give copy w place) (λ v. give_each copy v places) (h w place k) (keeps-give_each copy places h)
+
+  keeps-one_of : (given void : Step) (is_for : Bool) → Keeps K Q given → Keeps K Q void → Keeps K Q (cond is_for given void)
+  keeps-one_of given void true g v = g
+  keeps-one_of given void false g v = v
+
+  -- a void line is one of which Q holds
+  abbrev VoidIsFine : Type 0
+  VoidIsFine = (now : ℕ) (name : List ℕ) (copy : ℕ) → Q (Void now name copy)
+
+  keeps-is_void : VoidIsFine → (w : World) (number : ℕ) (system : SystemState) → K w → Keeps K Q (is_void w system number)
+  keeps-is_void fine w number system h = record { world = h; lines = (fine w.clock system.configuration.name number, tt) }
+
+  keeps-deliver_to : VoidIsFine → (w : World) (number place : ℕ) (found : Option Copy) (system : SystemState) → K w
+      → ((copy : Copy) → found ≡ Some copy → Keeps K Q (give copy w place)) → Keeps K Q (deliver_to w number place found system)
+  keeps-deliver_to fine w number place None system h k = keeps-is_void fine w number system h
+  keeps-deliver_to fine w number place (Some copy) system h k =
+      keeps-one_of (give copy w place) (is_void w system number) (is_addressee copy system.configuration) (k copy refl) (keeps-is_void fine w number system h)
+
+  keeps-deliver_at : VoidIsFine → (w : World) (number place : ℕ) (found : Option SystemState) → K w
+      → ((copy : Copy) → slice_get w.copies (number - 1) ≡ Some copy → Keeps K Q (give copy w place)) → Keeps K Q (deliver_at w number place found)
+  keeps-deliver_at fine w number place None h k = keeps-nothing w h
+  keeps-deliver_at fine w number place (Some system) h k = keeps-deliver_to fine w number place (slice_get w.copies (number - 1)) system h k
+
+  pub keeps-deliver : VoidIsFine → (w : World) (number place : ℕ) → K w
+      → ((copy : Copy) → slice_get w.copies (number - 1) ≡ Some copy → Keeps K Q (give copy w place)) → Keeps K Q (deliver w number place)
+  keeps-deliver fine w number place h k = keeps-deliver_at fine w number place (slice_get w.systems place) h k

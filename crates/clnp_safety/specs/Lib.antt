@@ -1,3 +1,4 @@
 pub mod Invariant
 pub mod Growth
 pub mod Refusal
+pub mod Owners

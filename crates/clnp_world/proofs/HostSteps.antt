@@ -1,6 +1,6 @@
 -- What a host sends of a unit, and what it notes of a frame.
-use Rattle.std.proofs.Common.{◌≡◌, ℕ, ◌+◌, ◌≤◌, Bool, true, false, List, [], ◌∷◌, ◌++◌, length, take, drop, Option, Some, None, option_map, cond, refl, sym, ap, ◌∙◌, subst, arith, length-append}
-use Rattle.std.specs.Prelude.{nat_lt, ◌==◌, if◌then◌else◌, Any}
+use Rattle.std.proofs.Common.{◌≡◌, ℕ, ◌+◌, ◌≤◌, Bool, true, false, List, [], ◌∷◌, ◌++◌, length, take, Option, Some, None, option_map, cond, refl, sym, ap, ◌∙◌, subst, arith, length-append}
+use Rattle.std.specs.Prelude.{◌==◌, if◌then◌else◌, Any}
 use Rattle.std.proofs.lemmas.List.{take_all}
 use Rattle.std.proofs.lemmas.Bool.{le-ltb}
 use Rattle.clnp_options.specs.Parameter.{Parameter, parameters, parameters_after, reason, spelled}
@@ -27,11 +27,11 @@ use Rattle.clnp_machine.specs.Host.{arrival_note, refused_note, unit_of}
 use Rattle.clnp_world.specs.Seen.{IsCarried, asking, data_note}
 
 -- the parts of a unit's PDU, where these options are none
-abbrev pub sent_parts : Bool → List ℕ → List ℕ → ℕ → List ℕ → Parts
-sent_parts is_sealed from to life options = record {
+abbrev pub sent_parts : Bool → List ℕ → List ℕ → ℕ → Bool → List ℕ → Parts
+sent_parts is_sealed from to life report options = record {
   kind = Dt;
   life = life;
-  report = true;
+  report = report;
   more = false;
   to = to;
   from = from;
@@ -49,10 +49,10 @@ unfolding spelled
 no_options = refl
 
 -- the value that is made of the parts is that of the unit's whole packet
-pub sent_value : (s : SystemState) (is_sealed : Bool) (from to body options : List ℕ) (life : ℕ)
+pub sent_value : (s : SystemState) (is_sealed : Bool) (from to body options : List ℕ) (life : ℕ) (report : Bool)
     → is_sealed ≡ s.configuration.settings.sealed → options ≡ []
-    → parts_value (sent_parts is_sealed from to life options) body ≡ value_of (whole_packet (unit_of s from to body (asking life)))
-sent_value s is_sealed from to body options life e none =
+    → parts_value (sent_parts is_sealed from to life report options) body ≡ value_of (whole_packet (unit_of s from to body (asking life report)))
+sent_value s is_sealed from to body options life report e none =
     let whole : take (length body) body ≡ body = take_all (length body) body (omega arith) in
     rw (e, none, no_parameters, whole) refl
 
@@ -60,50 +60,50 @@ no_reason : FitsKind false []
 no_reason = (λ h. absurd (cc), λ (any : Any (λ (option : Parameter). option.code ≡ reason) []). absurd (omega (arith, any.2)))
 
 -- the parts break no rule
-pub sent_fits : (is_sealed : Bool) (from to options : List ℕ) (life n : ℕ) → options ≡ [] → AreFit (sent_parts is_sealed from to life options) n
-sent_fits is_sealed from to options life n none = record {
+pub sent_fits : (is_sealed : Bool) (from to options : List ℕ) (life : ℕ) (report : Bool) (n : ℕ) → options ≡ [] → AreFit (sent_parts is_sealed from to life report options) n
+sent_fits is_sealed from to options life report n none = record {
   segment = refl;
   reason = rw (none, no_parameters) no_reason;
 }
 
-sent_length : (is_sealed : Bool) (from to options : List ℕ) (life : ℕ) → options ≡ [] → length from ≤ 20 → length to ≤ 20
-    → parts_length (sent_parts is_sealed from to life options) ≤ 51
-sent_length is_sealed from to options life none f t =
+sent_length : (is_sealed : Bool) (from to options : List ℕ) (life : ℕ) (report : Bool) → options ≡ [] → length from ≤ 20 → length to ≤ 20
+    → parts_length (sent_parts is_sealed from to life report options) ≤ 51
+sent_length is_sealed from to options life report none f t =
     rw (none, no_parameters) (omega (arith, length-append to (length from ∷ (from ++ spelled [])), length-append from (spelled []), no_options))
 
 short : (header_len body_len : ℕ) → header_len ≤ 254 → header_len + body_len ≤ 65535 → too_long header_len body_len ≡ None
 short header_len body_len few all = rw (le-ltb 254 header_len few, le-ltb 65535 (header_len + body_len) all) refl
 
 -- the lengths are within their limits
-pub sent_short : (is_sealed : Bool) (from to options : List ℕ) (life n : ℕ) → options ≡ [] → length from ≤ 20 → length to ≤ 20 → n ≤ 64512
-    → too_long (parts_length (sent_parts is_sealed from to life options)) n ≡ None
-sent_short is_sealed from to options life n none f t b =
-    let few : parts_length (sent_parts is_sealed from to life options) ≤ 51 = sent_length is_sealed from to options life none f t in
-    short (parts_length (sent_parts is_sealed from to life options)) n (omega (arith, few)) (omega (arith, few))
+pub sent_short : (is_sealed : Bool) (from to options : List ℕ) (life : ℕ) (report : Bool) (n : ℕ) → options ≡ [] → length from ≤ 20 → length to ≤ 20 → n ≤ 64512
+    → too_long (parts_length (sent_parts is_sealed from to life report options)) n ≡ None
+sent_short is_sealed from to options life report n none f t b =
+    let few : parts_length (sent_parts is_sealed from to life report options) ≤ 51 = sent_length is_sealed from to options life report none f t in
+    short (parts_length (sent_parts is_sealed from to life report options)) n (omega (arith, few)) (omega (arith, few))
 
 -- so no length is refused
-pub sent_accepted : (is_sealed : Bool) (from to options : List ℕ) (life n : ℕ) (refused : EncodeRefusal) (length_is : HeaderRefusal)
+pub sent_accepted : (is_sealed : Bool) (from to options : List ℕ) (life : ℕ) (report : Bool) (n : ℕ) (refused : EncodeRefusal) (length_is : HeaderRefusal)
     → options ≡ [] → length from ≤ 20 → length to ≤ 20 → n ≤ 64512
-    → too_long (parts_length (sent_parts is_sealed from to life options)) n ≡ length_refused refused → length_refused refused ≡ Some length_is → ⊥
-sent_accepted is_sealed from to options life n refused length_is none f t b told some =
-    let never : too_long (parts_length (sent_parts is_sealed from to life options)) n ≡ None = sent_short is_sealed from to options life n none f t b in
+    → too_long (parts_length (sent_parts is_sealed from to life report options)) n ≡ length_refused refused → length_refused refused ≡ Some length_is → ⊥
+sent_accepted is_sealed from to options life report n refused length_is none f t b told some =
+    let never : too_long (parts_length (sent_parts is_sealed from to life report options)) n ≡ None = sent_short is_sealed from to options life report n none f t b in
     let told' : length_refused refused ≡ None = sym told ∙ never in
     cc
 
 -- the octets are those of the unit's PDU
-pub sent_octets : (s : SystemState) (is_sealed : Bool) (from to body options : List ℕ) (life : ℕ) (old new : List ℕ)
+pub sent_octets : (s : SystemState) (is_sealed : Bool) (from to body options : List ℕ) (life : ℕ) (report : Bool) (old new : List ℕ)
     → is_sealed ≡ s.configuration.settings.sealed → options ≡ [] → old ≡ []
-    → new ≡ old ++ spelling (parts_value (sent_parts is_sealed from to life options) body)
-    → new ≡ wire (whole_packet (unit_of s from to body (asking life)))
-sent_octets s is_sealed from to body options life old new e none empty written =
-    written ∙ ap (λ (o : List ℕ). o ++ spelling (parts_value (sent_parts is_sealed from to life options) body)) empty
-    ∙ ap (λ (v : PduValue). spelling v) (sent_value s is_sealed from to body options life e none)
+    → new ≡ old ++ spelling (parts_value (sent_parts is_sealed from to life report options) body)
+    → new ≡ wire (whole_packet (unit_of s from to body (asking life report)))
+sent_octets s is_sealed from to body options life report old new e none empty written =
+    written ∙ ap (λ (o : List ℕ). o ++ spelling (parts_value (sent_parts is_sealed from to life report options) body)) empty
+    ∙ ap (λ (v : PduValue). spelling v) (sent_value s is_sealed from to body options life report e none)
 
-pub sent_pdu : (s : SystemState) (is_sealed : Bool) (from to body options : List ℕ) (life : ℕ)
+pub sent_pdu : (s : SystemState) (is_sealed : Bool) (from to body options : List ℕ) (life : ℕ) (report : Bool)
     → is_sealed ≡ s.configuration.settings.sealed → options ≡ []
-    → IsPdu (parts_value (sent_parts is_sealed from to life options) body) → IsPdu (value_of (whole_packet (unit_of s from to body (asking life))))
-sent_pdu s is_sealed from to body options life e none pdu =
-    subst (λ (v : PduValue). IsPdu v) (sent_value s is_sealed from to body options life e none) pdu
+    → IsPdu (parts_value (sent_parts is_sealed from to life report options) body) → IsPdu (value_of (whole_packet (unit_of s from to body (asking life report))))
+sent_pdu s is_sealed from to body options life report e none pdu =
+    subst (λ (v : PduValue). IsPdu v) (sent_value s is_sealed from to body options life report e none) pdu
 
 -- a frame has one PDU at most
 abbrev pub OneValue : Type 0

@@ -2,3 +2,4 @@ pub mod ModelSteps
 pub mod StandSteps
 pub mod HostSteps
 pub mod PutSteps
+pub mod DeliverSteps

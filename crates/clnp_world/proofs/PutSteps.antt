@@ -8,7 +8,7 @@ use Rattle.clnp_plan.specs.declared.config.PortConfig.{PortConfig}
 use Rattle.clnp_plan.specs.Journal.{Transmitted, line_text}
 use Rattle.pdu_header.specs.Grammar.{IsPdu}
 use Rattle.clnp_machine.specs.Unit.{Packet, value_of, wire}
-use Rattle.clnp_machine.specs.System.{SystemState, Output, Transmits, Notes, Labelled}
+use Rattle.clnp_machine.specs.System.{SystemState, Output, Transmits, Notes}
 use Rattle.clnp_network.specs.World as network
 use Rattle.clnp_world.specs.Seen.{emitted, frame_copy, frame_copies, IsGood, IsCarried}
 use Rattle.clnp_world.specs.Stands.{Stands, Follows}

@@ -7,7 +7,7 @@ use Rattle.nsap.specs.declared.target.Target.{Target}
 use Rattle.clnp_plan.specs.declared.config.PortConfig.{PortConfig}
 use Rattle.clnp_machine.specs.System.{SystemState, Output, Effect, Content, frame_of}
 use Rattle.scenario.specs.declared.event.Event.{Event}
-use Rattle.scenario.specs.declared.event.Event.TheVariants.{Send}
+use Rattle.scenario.specs.declared.event.Event.TheVariants.{Send, Deliver}
 use Rattle.clnp_machine.specs.Host.{arrive, send}
 use Rattle.clnp_network.specs.World as network
 use Rattle.clnp_network.specs.Run.{lines_text}
@@ -269,22 +269,19 @@ system_does_puts old mid code before after place does host outputs within host_i
     (puts w (does host).after (does host).outputs now at outputs_are good)
 
 -- an event asks the host at a place to send
-pub event_sends : (old mid code : World) (before after : List ℕ) (event : Event) (system place : ℕ) (from to body : List ℕ) (life : ℕ)
-    (host sent : SystemState) (outputs : List Emitted)
-    → event ≡ Send system from to body life → place ≡ system
-    → place < length old.hosts.items → host ≡ get_or old.hosts.items place host
-    → mid.spent ≡ old.spent → mid.clock ≡ old.clock → mid.copies.items ≡ old.copies.items → mid.cursor ≡ old.cursor
-    → mid.hosts.items ≡ slice_set old.hosts.items place sent → sent ≡ (send host from to body (asking life)).after
-    → outputs ≡ map emitted (send host from to body (asking life)).outputs
-    → AllByRecursion IsGood (send host from to body (asking life)).outputs
-    → PutsOut mid code before after place outputs
-    → (model : network.World) → Stands old model → Follows code before after (network.event_happens model (Some event))
-event_sends old mid code before after event system place from to body life host sent outputs event_is place_is within host_is
-    spent clock copies cursor hosts sent_is outputs_are good puts model h =
-    let does : SystemState → Effect = λ s. send s from to body (asking life) in
-    let hosts' : mid.hosts.items ≡ slice_set old.hosts.items place (does host).after
-    = hosts ∙ ap (λ (s : SystemState). slice_set old.hosts.items place s) sent_is in
-    let done : Follows code before after (network.system_does model place does)
-    = system_does_puts old mid code before after place does host outputs within host_is spent clock copies cursor hosts' outputs_are good puts model h in
+pub event_sends : (code : World) (before after : List ℕ) (event : Event) (system place : ℕ) (from to body : List ℕ) (life : ℕ) (report : Bool)
+    → event ≡ Send system from to body life report → place ≡ system
+    → (model : network.World) → Follows code before after (network.system_does model place (λ s. send s from to body (asking life report)))
+    → Follows code before after (network.event_happens model (Some event))
+event_sends code before after event system place from to body life report event_is place_is model done =
     subst (λ (e : Event). Follows code before after (network.event_happens model (Some e))) (sym event_is)
-    (subst (λ (n : ℕ). Follows code before after (network.system_does model n does)) place_is done)
+    (subst (λ (n : ℕ). Follows code before after (network.system_does model n (λ s. send s from to body (asking life report)))) place_is done)
+
+-- an event gives a copy to the host at a place
+pub event_delivers : (code : World) (before after : List ℕ) (event : Event) (copy system place : ℕ)
+    → event ≡ Deliver copy system → place ≡ system
+    → (model : network.World) → Follows code before after (network.deliver model copy place)
+    → Follows code before after (network.event_happens model (Some event))
+event_delivers code before after event copy system place event_is place_is model done =
+    subst (λ (e : Event). Follows code before after (network.event_happens model (Some e))) (sym event_is)
+    (subst (λ (n : ℕ). Follows code before after (network.deliver model copy n)) place_is done)

@@ -1,10 +1,10 @@
 -- What the code's values are in the model: outputs and copies as the frames that stand for packets.
-use Rattle.std.specs.Prelude.{ℕ, ◌==◌, true, if◌then◌else◌, List, [], ◌∷◌, Option, None, Some}
+use Rattle.std.specs.Prelude.{ℕ, ◌==◌, Bool, if◌then◌else◌, List, [], ◌∷◌, Option, None, Some}
 use Rattle.nsap.specs.declared.target.Target.{Target}
 use Rattle.clnp_plan.specs.declared.config.PortConfig.{PortConfig}
 use Rattle.pdu_header.specs.Value.{PduValue}
 use Rattle.pdu_header.specs.Grammar.{IsPdu, BeginsWith}
-use Rattle.clnp_machine.specs.Unit.{Packet, value_of, wire}
+use Rattle.clnp_machine.specs.Unit.{value_of, wire}
 use Rattle.clnp_plan.specs.declared.note.Note.{Note}
 use Rattle.clnp_plan.specs.declared.note.Note.TheVariants.{Discard, Got, NotMine}
 use Rattle.clnp_machine.specs.Host.{Asking, is_own}
@@ -36,8 +36,8 @@ frame_copies (Some port) target birth frame =
     record { subnet = port.subnet; sender = port.snpa; target = target; birth = birth; frame = frame } ∷ []
 
 -- how a host is asked to send
-abbrev pub asking : ℕ → Asking
-asking lifetime = record { lifetime = lifetime; report = true; options = [] }
+abbrev pub asking : ℕ → Bool → Asking
+asking lifetime report = record { lifetime = lifetime; report = report; options = [] }
 
 -- what a host notes of a PDU with these parts
 abbrev pub data_note : SystemState → ℕ → List ℕ → List ℕ → List ℕ → Note

@@ -83,12 +83,13 @@ impl Host {
         to: Address,
         body: &[u8],
         life: u8,
+        report: bool,
     ) -> Result<Vec<Emitted>, NoMemory>
-        ensures after { OnOk result (self.new ≡ (machine.send self.old from to body.now (asking life)).after) }
+        ensures after { OnOk result (self.new ≡ (machine.send self.old from to body.now (asking life report)).after) }
         ensures outputs { IfOk result (λ outputs. outputs.items
-            ≡ map emitted (machine.send self.old from to body.now (asking life)).outputs) }
+            ≡ map emitted (machine.send self.old from to body.now (asking life report)).outputs) }
         ensures good { OnOk result (AllByRecursion IsGood
-            (machine.send self.old from to body.now (asking life)).outputs) }
+            (machine.send self.old from to body.now (asking life report)).outputs) }
     {
         if !self.is_own(&from) {
             return refused(alloc, Why::NotMine, 0);
@@ -96,7 +97,7 @@ impl Host {
         if body.len() > MOST_OCTETS {
             return refused(alloc, Why::TooLong, body.len() as u64);
         }
-        let transmission = self.transmission(alloc, from, to, body, life)?;
+        let transmission = self.transmission(alloc, from, to, body, life, report)?;
         let unit = self.units.saturating_add(1);
         let sent = Note::Sent {
             kind: Kind::Dt,
@@ -119,17 +120,18 @@ impl Host {
         to: Address,
         body: &[u8],
         life: u8,
+        report: bool,
     ) -> Result<Emitted, NoMemory>
         requires { length body.now ≤ 64512 }
         ensures outputs { IfOk result (λ output. output ∷ [] ≡ map emitted (machine.transmissions EndSystems
-            (cut (whole_packet (machine.unit_of self.now from to body.now (asking life)))
+            (cut (whole_packet (machine.unit_of self.now from to body.now (asking life report)))
             (machine.port_mtu self.now.configuration.ports)))) }
         ensures good { OnOk result (AllByRecursion IsGood (machine.transmissions EndSystems
-            (cut (whole_packet (machine.unit_of self.now from to body.now (asking life)))
+            (cut (whole_packet (machine.unit_of self.now from to body.now (asking life report)))
             (machine.port_mtu self.now.configuration.ports)))) }
     {
         let birth = self.moment;
-        let frame = self.pdu(alloc, from, to, body, life)?;
+        let frame = self.pdu(alloc, from, to, body, life, report)?;
         if frame.len() > self.mtu() {
             return Ok(Emitted::Noted(Note::Discard {
                 reason: NOT_PERMITTED,
@@ -152,18 +154,19 @@ impl Host {
         to: Address,
         body: &[u8],
         life: u8,
+        report: bool,
     ) -> Result<Vec<u8>, NoMemory>
         requires { length body.now ≤ 64512 }
         ensures octets { IfOk result (λ frame. frame.items
-            ≡ wire (whole_packet (machine.unit_of self.now from to body.now (asking life)))) }
-        ensures pdu { OnOk result (IsPdu (value_of (whole_packet (machine.unit_of self.now from to body.now (asking life))))) }
+            ≡ wire (whole_packet (machine.unit_of self.now from to body.now (asking life report)))) }
+        ensures pdu { OnOk result (IsPdu (value_of (whole_packet (machine.unit_of self.now from to body.now (asking life report))))) }
     {
         let _from = from.as_bytes();
         let _to = to.as_bytes();
         let parts = Parts {
             kind: Kind::Dt,
             life,
-            report: true,
+            report,
             more: false,
             to,
             from,

@@ -1,19 +1,20 @@
 //! The network: hosts, the copies of frames on the subnetworks, and the moves.
-ghost use Rattle.std.specs.Prelude.{◌≡◌, ◌+◌, ◌<◌, ◌≤◌, [], ◌∷◌, ◌++◌, List, IfOk, OnOk, OnErr, IsErr, Some, length, map, slice_get, true, vec_len};
+ghost use Rattle.std.specs.Prelude.{◌≡◌, ◌+◌, ◌<◌, ◌≤◌, ℕ, [], ◌∷◌, ◌++◌, List, IfOk, OnOk, OnErr, IsErr, Some, length, map, slice_get, true, vec_len};
 ghost use Rattle.std.specs.List.{AllByRecursion};
-ghost use Rattle.clnp_plan.specs.Journal.{Transmitted, line_text};
+ghost use Rattle.clnp_plan.specs.Journal.{Transmitted, Void, line_text};
 ghost use Rattle.clnp_machine.specs.System.{Output, SystemState};
+ghost use Rattle.clnp_machine.specs.Host as machine;
 ghost use Rattle.clnp_network.specs.Run.{lines_text, world_end};
 ghost use Rattle.clnp_network.specs.World as network;
-ghost use Rattle.clnp_world.specs.Seen.{IsGood, emitted, frame_copies};
+ghost use Rattle.clnp_world.specs.Seen.{IsGood, asking, emitted, frame_copies};
 ghost use Rattle.clnp_world.specs.Stands.{Follows, Stands};
 
 use crate::copy::{FrameCopy, is_addressee};
 use crate::host::Host;
 use crate::output::Emitted;
 use clnp_base::{NoMemory, Octets};
-use clnp_plan::{SystemConfig, journal_text, push_end, transmission_text};
-use nsap::Target;
+use clnp_plan::{SystemConfig, journal_text, push_end, transmission_text, void_text};
+use nsap::{Address, Target};
 use scenario::{Event, Move, Scenario};
 use std::alloc::Global;
 
@@ -137,6 +138,10 @@ impl World {
         match mv {
             Move::One(place) => self.event_at(alloc, scenario.events(), *place, lines),
             Move::SettleOne => self.settle_one(alloc, lines),
+            Move::LoseOne => {
+                self.lose_one();
+                Ok(())
+            }
         }
     }
 
@@ -157,7 +162,7 @@ impl World {
         self.event_happens(alloc, &events[place], lines)
     }
 
-    /// What an event of one move does: a host is asked to send.
+    /// What an event of one move does.
     fn event_happens(
         &mut self,
         alloc: Global,
@@ -167,22 +172,106 @@ impl World {
         ensures { OnOk result ((model : network.World) → Stands self.old model
             → Follows self.new lines.old.items lines.new.items (network.event_happens model (Some event.now))) }
     {
-        let Event::Send {
-            system,
-            from,
-            to,
-            body,
-            life,
-        } = event
-        else {
-            return Ok(());
-        };
-        let place = usize::from(*system);
+        match event {
+            Event::Send {
+                system,
+                from,
+                to,
+                body,
+                life,
+                report,
+            } => {
+                let place = usize::from(*system);
+                self.host_sends(
+                    alloc,
+                    place,
+                    *from,
+                    *to,
+                    body.as_bytes(),
+                    *life,
+                    *report,
+                    lines,
+                )
+            }
+            Event::Deliver { copy, system } => {
+                self.deliver(alloc, *copy, usize::from(*system), lines)
+            }
+            Event::Settle { .. } | Event::Lose { .. } => Ok(()),
+        }
+    }
+
+    /// Asks the host at a place to send a unit.
+    fn host_sends(
+        &mut self,
+        alloc: Global,
+        place: usize,
+        from: Address,
+        to: Address,
+        body: &[u8],
+        life: u8,
+        report: bool,
+        lines: &mut Vec<u8>,
+    ) -> Result<(), NoMemory>
+        ensures { OnOk result ((model : network.World) → Stands self.old model
+            → Follows self.new lines.old.items lines.new.items
+            (network.system_does model place (λ host. machine.send host from to body.now (asking life report)))) }
+    {
         if place >= self.hosts.len() {
             return Ok(());
         }
-        let outputs = self.hosts[place].send(alloc, *from, *to, body.as_bytes(), *life)?;
+        let outputs = self.hosts[place].send(alloc, from, to, body, life, report)?;
         self.put_all_out(alloc, place, outputs, lines)
+    }
+
+    /// Gives the copy with a number to the host at a place, where it is for it; else a line says that
+    /// there is none for it.
+    fn deliver(
+        &mut self,
+        alloc: Global,
+        copy: u32,
+        place: usize,
+        lines: &mut Vec<u8>,
+    ) -> Result<(), NoMemory>
+        ensures { OnOk result ((model : network.World) → Stands self.old model
+            → Follows self.new lines.old.items lines.new.items (network.deliver model copy place)) }
+    {
+        if place >= self.hosts.len() {
+            return Ok(());
+        }
+        let number = copy.saturating_sub(1) as usize;
+        if number >= self.copies.len() {
+            return self.write_void(alloc, copy, place, lines);
+        }
+        if !self.is_for(number, place) {
+            return self.write_void(alloc, copy, place, lines);
+        }
+        self.give(alloc, number, place, lines)
+    }
+
+    /// Appends the line of a copy that isn't there for the host at a place.
+    fn write_void(
+        &self,
+        alloc: Global,
+        copy: u32,
+        place: usize,
+        lines: &mut Vec<u8>,
+    ) -> Result<(), NoMemory>
+        requires { place < vec_len self.now.hosts }
+        ensures { OnOk result ((system : SystemState) → slice_get self.now.hosts.items place ≡ Some system
+            → lines.new.items ≡ lines.old.items ++ line_text (Void self.now.clock system.configuration.name copy)) }
+    {
+        void_text(alloc, self.clock, self.config_at(place).name(), copy, lines)
+    }
+
+    /// Passes over the copy at the cursor: it is given to nobody.
+    fn lose_one(&mut self)
+        ensures { (model : network.World) → Stands self.old model
+            → (lines : List ℕ) → Follows self.new lines lines (network.lose_one model) }
+    {
+        if self.cursor >= self.copies.len() {
+            return;
+        }
+        self.cursor += 1;
     }
 
     /// Gives the copy at the cursor to each of its addressees.
@@ -194,7 +283,7 @@ impl World {
         if number >= self.copies.len() {
             return Ok(());
         }
-        self.cursor += 1;
+        self.cursor = number + 1;
         self.give_each(alloc, number, lines)
     }
 

@@ -1,3 +1,3 @@
-pub mod Names
+pub mod Readings
+pub mod Lists
 pub mod Events
-pub mod Few

@@ -1,3 +1,6 @@
 pub mod Scenario
 pub mod Grammar
 pub mod Refusal
+pub mod Declarations
+pub mod Events
+pub mod Words

@@ -1,5 +1,5 @@
 -- How the answers of the reader and the grammar agree, up to want of memory.
-use Rattle.std.specs.Prelude.{◌≡◌, ℕ, Result, Ok, Err}
+use Rattle.std.specs.Prelude.{◌≡◌, ℕ, Result, Err}
 use Rattle.scenario.specs.Grammar.{BadLine as Bad}
 use Rattle.scenario.specs.declared.fault.LineFault.{LineFault}
 use Rattle.scenario.specs.declared.fault.LineFault.TheVariants.{Code, NoMemory}
@@ -15,8 +15,3 @@ Refuses (refusal.BadLine line code) reading = reading ≡ Err (record { line = l
 abbrev pub Faults : {A : Type 0} → LineFault → Result A ℕ → Type 0
 Faults NoMemory reading = Unit {0}
 Faults (Code code) reading = reading ≡ Err code
-
--- the code at the line of this number
-abbrev pub refused_at : {A : Type 0} → ℕ → Result A ℕ → Result A ScenarioRefusal
-refused_at line (Ok x) = Ok x
-refused_at line (Err code) = Err (refusal.BadLine line code)

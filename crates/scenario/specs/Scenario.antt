@@ -2,9 +2,9 @@
 use Rattle.std.specs.Prelude.{ℕ, ◌+◌, List, [], ◌∷◌, ◌++◌, replicate}
 use Rattle.clnp_plan.specs.Configuration.{SystemConfiguration}
 use Rattle.scenario.specs.declared.event.Event.{Event}
-use Rattle.scenario.specs.declared.event.Event.TheVariants.{Send, Settle}
+use Rattle.scenario.specs.declared.event.Event.TheVariants.{Send, Deliver, Settle, Lose}
 use Rattle.scenario.specs.declared.event.Move.{Move}
-use Rattle.scenario.specs.declared.event.Move.TheVariants.{One, SettleOne}
+use Rattle.scenario.specs.declared.event.Move.TheVariants.{One, SettleOne, LoseOne}
 
 pub record Subnetwork : Type 0 where
   pub name : List ℕ
@@ -17,10 +17,12 @@ pub record Plan : Type 0 where
   pub systems : List SystemConfiguration
   pub events : List Event
 
--- the moves of the event at a place: `settle n` is n moves, a send one
+-- the moves of the event at a place: `settle n` and `lose n` are n moves, every other event is one
 abbrev pub moves_of : ℕ → Event → List Move
 moves_of place (Settle count) = replicate count SettleOne
-moves_of place (Send system from to body life) = One place ∷ []
+moves_of place (Lose count) = replicate count LoseOne
+moves_of place (Send system from to body life report) = One place ∷ []
+moves_of place (Deliver copy system) = One place ∷ []
 
 -- the moves of events, the first of them at a place
 abbrev pub moves_from : ℕ → List Event → List Move

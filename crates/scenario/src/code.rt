@@ -1,6 +1,6 @@
 //! The codes of what a line of a scenario text breaks.
 
-/// The first line isn't the header.
+/// The first line that isn't skipped isn't the header.
 pub const HEADER: u8 = 1;
 /// An unknown first word, a wrong number of words, a word of another form, or a line that is
 /// missing or too many.
@@ -11,11 +11,13 @@ pub const NUMBER: u8 = 3;
 pub const ADDRESS: u8 = 4;
 /// A system or subnetwork that isn't declared.
 pub const UNKNOWN_NAME: u8 = 5;
-/// A name that is declared already.
+/// A name that is declared already, a word that may stand once and stands twice, or a second port
+/// of a system with the same number or on the same subnetwork.
 pub const DUP_NAME: u8 = 6;
-/// An address that another system has.
+/// An address that a system has already, or an SNPA that stands already on its subnetwork.
 pub const DUP_ADDRESS: u8 = 7;
 /// An MTU that is decimal and out of its range.
 pub const MTU: u8 = 9;
-/// Too many events or settles.
+/// Too many subnetworks, systems, addresses, ports, events, or copies settled and lost; or a system
+/// that lacks an address or its port.
 pub const COUNT: u8 = 10;

@@ -2,14 +2,17 @@
 #![tactic(auto)]
 
 mod code;
+mod declarations;
 mod event;
+mod event_line;
 mod fault;
-pub mod laws;
-mod line;
 mod plan;
 mod reader;
+mod setting;
+mod system;
 #[cfg(test)]
 mod tests;
+mod wish;
 mod word;
 
 pub use event::{Event, Move};

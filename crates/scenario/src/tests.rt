@@ -1,34 +1,53 @@
 use super::*;
 use clnp_base::lines;
+use clnp_plan::{Role, SystemConfig};
 use std::alloc::{AllocError, Global};
+use std::process::Abort;
 use std::test::Fail;
 
-const LINES: [&str; 12] = [
+const LINES: [&str; 29] = [
+    "# two subnetworks",
+    "",
     "clnp-sim 1",
     "subnet lan 1500",
-    "system a host hello=0 checksum=off",
-    "system b host hello=0 checksum=off",
-    "address a 47002702",
-    "address b 47002701",
+    "# hosts",
+    "system a host hello=0",
+    "system b host life=7 checksum=off hello=0",
+    "subnet wan 512",
+    "system c host checksum=on hello=0",
+    "address a 4701",
+    "address b 47.02",
+    "address b 4703",
+    "address c 4704",
     "port a 0 lan 01",
-    "port b 0 lan 02",
+    "",
+    "port b 0 wan 01",
+    "port c 0 lan 02",
     "events",
-    "send a 47002702 47002701 hex:6869 life=10 whole",
-    "settle 1",
+    "# what happens",
+    "send a 4701 4702 hex:6869 whole",
+    "send b 4703 4701 hex: noreport whole",
+    "send b 4702 4701 hex:00 whole life=9",
+    "deliver 3 c",
+    "settle 2",
+    "",
+    "lose 5",
     "end",
+    "",
+    "# nothing more",
 ];
 
-/// The lines of `LINES`, with the one of this number, from 1, replaced, each with this end.
-fn text_with(alloc: Global, number: u32, other: &[u8], end: &[u8]) -> Result<Vec<u8>, AllocError> {
+/// The lines of `LINES`, with the one of this number, from 1, replaced.
+fn text_with(alloc: Global, number: u32, other: &str) -> Result<Vec<u8>, AllocError> {
     let mut text = Vec::new(alloc);
     let mut at: u32 = 1;
     for line in LINES {
         if at == number {
-            text.extend_from_slice(other)?;
+            text.extend_from_slice(other.as_bytes())?;
         } else {
             text.extend_from_slice(line.as_bytes())?;
         }
-        text.extend_from_slice(end)?;
+        text.extend_from_slice(b"\n")?;
         at = at.wrapping_add(1);
     }
     Ok(text)
@@ -51,109 +70,170 @@ fn refusal_of(alloc: Global, text: &[u8]) -> Option<ScenarioRefusal> {
     }
 }
 
-#[test]
-fn reads_two_hosts(rt: HostRuntime) -> Result<(), Fail> {
-    let alloc = rt.alloc();
-    for end in [b"\n".as_slice(), b"\r\n".as_slice()] {
-        let text = text_with(alloc, 0, b"", end)?;
-        let Some(Ok(scenario)) = answer(alloc, text.as_slice()) else {
-            assert!(rt; false);
-            return Ok(());
-        };
-        assert_eq!(rt; scenario.subnets().len(), 1);
-        for subnet in scenario.subnets() {
-            assert_eq!(rt; subnet.mtu, 1500);
-            assert_eq!(rt; subnet.name(), b"lan".as_slice());
-        }
-        assert_eq!(rt; scenario.systems().len(), 2);
-        for (system, (name, address, snpa)) in scenario
-            .systems()
-            .iter()
-            .zip([(b"a", 2, 1), (b"b", 1, 2)])
-        {
-            assert_eq!(rt; system.name(), name.as_slice());
-            for own in system.addresses() {
-                assert_eq!(rt; own.as_bytes(), [0x47, 0, 0x27, address].as_slice());
-            }
-            for port in system.ports() {
-                assert_eq!(rt; port.snpa.as_bytes(), [snpa].as_slice());
-                assert_eq!(rt; port.mtu, 1500);
-            }
-        }
-        assert_eq!(rt; scenario.events().len(), 2);
-        for event in scenario.events() {
-            match event {
-                Event::Send {
-                    system,
-                    from,
-                    to,
-                    body,
-                    life,
-                } => {
-                    assert_eq!(rt; *system, 0);
-                    assert_eq!(rt; from.as_bytes(), [0x47, 0, 0x27, 2].as_slice());
-                    assert_eq!(rt; to.as_bytes(), [0x47, 0, 0x27, 1].as_slice());
-                    assert_eq!(rt; body.as_bytes(), b"hi".as_slice());
-                    assert_eq!(rt; *life, 10);
-                }
-                Event::Settle { count } => assert_eq!(rt; *count, 1),
-            }
-        }
+fn expect_system(
+    rt: &impl Abort,
+    system: &SystemConfig,
+    name: &[u8],
+    addresses: &[[u8; 2]],
+    port: (u8, u8, u16),
+    settings: (bool, u8),
+) {
+    let (subnet, snpa, mtu) = port;
+    let (sealed, life) = settings;
+    assert_eq!(rt; system.name(), name);
+    assert_eq!(rt; system.role(), Role::Host);
+    assert_eq!(rt; system.addresses().len(), addresses.len());
+    for (own, address) in system.addresses().iter().zip(addresses) {
+        assert_eq!(rt; own.as_bytes(), address.as_slice());
     }
-    Ok(())
+    assert_eq!(rt; system.ports().len(), 1);
+    for own in system.ports() {
+        assert_eq!(rt; own.subnet, subnet);
+        assert_eq!(rt; own.snpa.as_bytes(), [snpa].as_slice());
+        assert_eq!(rt; own.mtu, mtu);
+    }
+    assert_eq!(rt; system.settings().sealed, sealed);
+    assert_eq!(rt; system.settings().life, life);
+}
+
+fn expect_send(
+    rt: &impl Abort,
+    event: &Event,
+    place: u8,
+    ends: (u8, u8),
+    data: &[u8],
+    wishes: (u8, bool),
+) {
+    let (source, destination) = ends;
+    let (lifetime, wanted) = wishes;
+    match event {
+        Event::Send {
+            system,
+            from,
+            to,
+            body,
+            life,
+            report,
+        } => {
+            assert_eq!(rt; *system, place);
+            assert_eq!(rt; from.as_bytes(), [0x47, source].as_slice());
+            assert_eq!(rt; to.as_bytes(), [0x47, destination].as_slice());
+            assert_eq!(rt; body.as_bytes(), data);
+            assert_eq!(rt; *life, lifetime);
+            assert_eq!(rt; *report, wanted);
+        }
+        Event::Deliver { .. } | Event::Settle { .. } | Event::Lose { .. } => assert!(rt; false),
+    }
 }
 
 #[test]
-fn seals_unless_told_otherwise(rt: HostRuntime) -> Result<(), Fail> {
+fn reads_what_is_declared(rt: HostRuntime) -> Result<(), Fail> {
     let alloc = rt.alloc();
-    let text = text_with(alloc, 4, b"system b host hello=0", b"\n")?;
+    let text = text_with(alloc, 0, "")?;
     let Some(Ok(scenario)) = answer(alloc, text.as_slice()) else {
         assert!(rt; false);
         return Ok(());
     };
-    for (system, sealed) in scenario.systems().iter().zip([false, true]) {
-        assert_eq!(rt; system.settings().sealed, sealed);
+    assert_eq!(rt; scenario.subnets().len(), 2);
+    for (subnet, (name, mtu)) in scenario
+        .subnets()
+        .iter()
+        .zip([(b"lan", 1500), (b"wan", 512)])
+    {
+        assert_eq!(rt; subnet.name(), name.as_slice());
+        assert_eq!(rt; subnet.mtu, mtu);
     }
+    let [a, b, c] = scenario.systems() else {
+        assert!(rt; false);
+        return Ok(());
+    };
+    expect_system(&rt, a, b"a", &[[0x47, 1]], (0, 1, 1500), (true, 64));
+    expect_system(
+        &rt,
+        b,
+        b"b",
+        &[[0x47, 2], [0x47, 3]],
+        (1, 1, 512),
+        (false, 7),
+    );
+    expect_system(&rt, c, b"c", &[[0x47, 4]], (0, 2, 1500), (true, 64));
+    Ok(())
+}
+
+#[test]
+fn reads_what_happens(rt: HostRuntime) -> Result<(), Fail> {
+    let alloc = rt.alloc();
+    let text = text_with(alloc, 0, "")?;
+    let Some(Ok(scenario)) = answer(alloc, text.as_slice()) else {
+        assert!(rt; false);
+        return Ok(());
+    };
+    let [first, second, third, deliver, settle, lose] = scenario.events() else {
+        assert!(rt; false);
+        return Ok(());
+    };
+    expect_send(&rt, first, 0, (1, 2), b"hi", (64, true));
+    expect_send(&rt, second, 1, (3, 1), b"", (7, false));
+    expect_send(&rt, third, 1, (2, 1), b"\0", (9, true));
+    assert!(rt; matches!(deliver, Event::Deliver { copy: 3, system: 2 }));
+    assert!(rt; matches!(settle, Event::Settle { count: 2 }));
+    assert!(rt; matches!(lose, Event::Lose { count: 5 }));
     Ok(())
 }
 
 #[test]
 fn refuses_lines(rt: HostRuntime) -> Result<(), Fail> {
     let cases = [
-        (1, "clnp-sim 2", 1),
-        (1, " clnp-sim 1", 1),
-        (2, "subnet lan 511", 9),
-        (2, "subnet lan 65536", 9),
-        (2, "subnet lan x", 3),
-        (2, "subnet lan 123456789012345678901234567890", 9),
-        (2, "subnet lan", 2),
-        (2, "subnet abcdefghijklmnopq 1500", 2),
-        (2, "subnet l\0n 1500", 2),
-        (2, "subnet 1an 1500", 2),
-        (3, "system a router hello=0 checksum=off", 2),
-        (3, "system a host", 2),
-        (3, "system a host hello=0 checksum=off off", 2),
-        (4, "system a host hello=0", 6),
-        (4, "system a host hello=0 checksum=off", 6),
-        (4, "system b host hello=0 checksum=on", 2),
-        (5, "address a 0102030405060708090a0b0c0d0e0f101112131415", 4),
-        (5, "address c 47002702", 5),
-        (5, "address b 47002702", 2),
-        (6, "address b 4700.2702", 7),
-        (7, "port a 1 lan 01", 3),
-        (7, "port a 0 wan 01", 5),
-        (8, "port b 0 lan 01", 7),
-        (9, "event", 2),
-        (10, "send a 47002702 47002701 hex:686 life=10 whole", 4),
-        (10, "send a 47002702 47002701 hex:6869 life=0 whole", 3),
-        (10, "send a 47002702 47002701 hex:6869 life=10 half", 2),
-        (10, "send c 47002702 47002701 hex:6869 life=10 whole", 5),
-        (11, "settle 0", 3),
-        (11, "settle 100001", 3),
-        (11, "settle 123456789012345678901234567890", 3),
+        (3, "clnp-sim 2", 1),
+        (3, "clnp-sim 1 ", 1),
+        (4, "subnets lan 1500", 2),
+        (4, "subnet lan 5", 9),
+        (4, "subnet lan 511", 9),
+        (4, "subnet lan 65536", 9),
+        (4, "subnet lan x", 3),
+        (4, "subnet lan", 2),
+        (4, "subnet 1an 1500", 2),
+        (4, "subnet abcdefghijklmnopq 1500", 2),
+        (8, "subnet lan 511", 6),
+        (8, "subnet lan x", 3),
+        (6, "system a router hello=0", 2),
+        (6, "system a host", 2),
+        (6, "system a host hello=60", 2),
+        (6, "system a host hello=0 life=0", 3),
+        (6, "system a host hello=0 life=256", 3),
+        (6, "system a host hello=0 checksum=no", 2),
+        (6, "system a host hello=0 life=1 life=1", 6),
+        (6, "system a host hello=0 hello=0", 6),
+        (7, "system a host hello=0", 6),
+        (11, "address d 4702", 5),
+        (11, "address b 4701", 7),
+        (11, "address b 470", 4),
+        (12, "address b 4702", 7),
+        (14, "port a 0 man 01", 5),
+        (14, "port a 8 lan 01", 3),
+        (15, "port a 0 lan 03", 6),
+        (15, "port a 1 lan 03", 6),
+        (15, "port a 0 wan 03", 6),
+        (15, "port a 1 wan 03", 10),
+        (17, "port c 0 lan 01", 7),
+        (17, "events", 10),
+        (18, "event", 2),
+        (20, "send a 4701 4702 hex:6869", 2),
+        (20, "send a 4701 4702 hex:6869 whole whole", 6),
+        (20, "send a 4701 4702 hex:686 whole", 4),
+        (20, "send a 4701 4702 hex6869 whole", 2),
+        (20, "send d 4701 4702 hex:6869 whole", 5),
+        (20, "send a 4701 4702 hex:6869 whole life=0", 3),
+        (23, "deliver 0 a", 3),
+        (23, "deliver 1000000001 a", 3),
+        (23, "deliver 1 d", 5),
+        (24, "settle 100001", 3),
+        (26, "lose", 2),
+        (26, "loose 1", 2),
+        (29, "end", 2),
     ];
     for (line, other, code) in cases {
-        let text = text_with(rt.alloc(), line, other.as_bytes(), b"\n")?;
+        let text = text_with(rt.alloc(), line, other)?;
         let wanted = ScenarioRefusal::BadLine { line, code };
         assert_eq!(rt;
             refusal_of(rt.alloc(), text.as_slice()),
@@ -165,45 +245,85 @@ fn refuses_lines(rt: HostRuntime) -> Result<(), Fail> {
 }
 
 #[test]
+fn accepts_lines(rt: HostRuntime) -> Result<(), Fail> {
+    let cases = [
+        (16, "port b 0 wan 02"),
+        (5, "subnet man 65535"),
+        (8, "subnet wan 1500"),
+        (24, "settle 100000"),
+    ];
+    for (line, other) in cases {
+        let text = text_with(rt.alloc(), line, other)?;
+        assert_eq!(rt; refusal_of(rt.alloc(), text.as_slice()), None, "{other}");
+    }
+    Ok(())
+}
+
+#[test]
 fn refuses_ends(rt: HostRuntime) -> Result<(), Fail> {
     let alloc = rt.alloc();
     let cases = [
-        ("", Some((1, 1))),
-        ("clnp-sim 1", Some((2, 2))),
-        ("clnp-sim 1\n", Some((2, 2))),
+        ("", 1, 1),
+        ("# a\n\n", 3, 1),
+        ("clnp-sim 1", 2, 2),
+        ("clnp-sim 1\n\n# a\n", 4, 2),
+        ("clnp-sim 1\nevents", 3, 2),
+        (
+            "clnp-sim 1\nsystem a host hello=0\naddress a 47\nevents",
+            4,
+            10,
+        ),
+        (
+            "clnp-sim 1\nsubnet l 512\nsystem a host hello=0\naddress a 47\nport a 1 l 01\nevents",
+            6,
+            10,
+        ),
+        (
+            "clnp-sim 1\nsubnet l 512\nsystem a host hello=0\nport a 0 l 01\nevents",
+            5,
+            10,
+        ),
+        ("clnp-sim 1\nevents\nend\n\nevents", 5, 2),
     ];
-    for (text, wanted) in cases {
-        let wanted = wanted.map(|(line, code)| ScenarioRefusal::BadLine { line, code });
-        assert_eq!(rt; refusal_of(alloc, text.as_bytes()), wanted, "{text}");
+    for (text, line, code) in cases {
+        let wanted = ScenarioRefusal::BadLine { line, code };
+        assert_eq!(rt; refusal_of(alloc, text.as_bytes()), Some(wanted), "{text}");
     }
-    let missing = text_with(alloc, 12, b"settle 1", b"\n")?;
-    assert_eq!(rt;
-        refusal_of(alloc, missing.as_slice()),
-        Some(ScenarioRefusal::BadLine { line: 13, code: 2 })
-    );
-    let after = text_with(alloc, 12, b"end\nsettle 1", b"\n")?;
-    assert_eq!(rt;
-        refusal_of(alloc, after.as_slice()),
-        Some(ScenarioRefusal::BadLine { line: 13, code: 2 })
-    );
-    let mut bare = text_with(alloc, 0, b"", b"\n")?;
-    let _newline = bare.pop();
-    assert_eq!(rt; refusal_of(alloc, bare.as_slice()), None);
-    let mut many = text_with(alloc, 0, b"", b"\n")?;
-    let _newline = many.pop();
-    for _ in 0..4 {
-        let _letter = many.pop();
+    assert_eq!(rt; refusal_of(alloc, b"clnp-sim 1\nevents\nend"), None);
+    Ok(())
+}
+
+/// The header and this many lines, each of them this text and a name of two letters of its own.
+fn many(alloc: Global, count: u8, before: &str, after: &str) -> Result<Vec<u8>, AllocError> {
+    let mut text = Vec::from_slice(alloc, b"clnp-sim 1\n")?;
+    for i in 0..count {
+        text.extend_from_slice(before.as_bytes())?;
+        text.push(b'a' + i / 26)?;
+        text.push(b'a' + i % 26)?;
+        text.extend_from_slice(after.as_bytes())?;
     }
-    for _ in 0..101 {
-        many.extend_from_slice(b"\nsettle 100000")?;
+    Ok(text)
+}
+
+#[test]
+fn refuses_too_many(rt: HostRuntime) -> Result<(), Fail> {
+    let alloc = rt.alloc();
+    for (before, after) in [("subnet ", " 512\n"), ("system ", " host hello=0\n")] {
+        let text = many(alloc, 65, before, after)?;
+        assert_eq!(rt;
+            refusal_of(alloc, text.as_slice()),
+            Some(ScenarioRefusal::BadLine { line: 66, code: 10 })
+        );
     }
-    many.extend_from_slice(b"\nend")?;
+    let mut text = Vec::from_slice(alloc, b"clnp-sim 1\nsystem a host hello=0\n")?;
+    for i in 0..9_u8 {
+        text.extend_from_slice(b"address a 470")?;
+        text.push(b'0' + i)?;
+        text.push(b'\n')?;
+    }
     assert_eq!(rt;
-        refusal_of(alloc, many.as_slice()),
-        Some(ScenarioRefusal::BadLine {
-            line: 111,
-            code: 10
-        })
+        refusal_of(alloc, text.as_slice()),
+        Some(ScenarioRefusal::BadLine { line: 11, code: 10 })
     );
     Ok(())
 }

@@ -1,9 +1,10 @@
 //! The words of a line: each gives its value, or the code of what is wrong with it.
-ghost use Rattle.std.specs.Prelude.{◌≡◌, ◌<◌, ◌≤◌, map, length, IfOk, IfSome, None, Some, Ok, Err, MatchOption, MatchResult};
+ghost use Rattle.std.specs.Prelude.{◌≡◌, ◌≤◌, IfOk, IfSome, None, Some, Ok, Err, MatchOption, MatchResult};
 ghost use Rattle.std.specs.Str.{bytes_eq};
-ghost use Rattle.std.specs.List.{position, list_all};
-ghost use Rattle.clnp_base.specs.Text.{words_of, is_digit};
-ghost use Rattle.scenario.specs.Grammar.{one_word, three_words, first_four, five_words, six_words, wanted, literal, is_letter_or_digit, begins_with_letter, is_name, is_digits, number_within, name_word, declared_word, number_word, mtu_word, address_word, after_prefix, data_word, life_word};
+ghost use Rattle.std.specs.List.{list_all};
+ghost use Rattle.clnp_base.specs.Text.{words_of, is_digit, decimal_of};
+ghost use Rattle.scenario.specs.Grammar.{is_line_of};
+ghost use Rattle.scenario.specs.Words.{one_word, two_words, four_words, first_two, first_four, wanted, found, literal, is_letter_or_digit, begins_with_letter, is_name, is_digits, is_skipped, number_within, name_word, number_word, address_word, has_prefix, after_prefix, data_word, life_word};
 ghost use Rattle.scenario.specs.Refusal.{Faults};
 
 use crate::code::{ADDRESS, MTU, NUMBER, SYNTAX, UNKNOWN_NAME};
@@ -23,15 +24,35 @@ pub(crate) fn one_word(line: &[u8]) -> Option<&[u8]>
     }
 }
 
-/// The words of a line that has three words.
-pub(crate) fn three_words(line: &[u8]) -> Option<(&[u8], &[u8], &[u8])>
-    ensures { MatchOption result (three_words (words_of line.now) ≡ None)
-        (λ words. three_words (words_of line.now) ≡ Some (words.0.now, words.1.now, words.2.now)) }
+/// The words of a line that has two words.
+pub(crate) fn two_words(line: &[u8]) -> Option<(&[u8], &[u8])>
+    ensures { MatchOption result (two_words (words_of line.now) ≡ None)
+        (λ words. two_words (words_of line.now) ≡ Some (words.0.now, words.1.now)) }
+{
+    let (a, line) = next_word(line)?;
+    let b = one_word(line)?;
+    Some((a, b))
+}
+
+/// The words of a line that has four words.
+pub(crate) fn four_words(line: &[u8]) -> Option<(&[u8], &[u8], &[u8], &[u8])>
+    ensures { MatchOption result (four_words (words_of line.now) ≡ None)
+        (λ words. four_words (words_of line.now) ≡ Some (words.0.now, words.1.now, words.2.now, words.3.now)) }
 {
     let (a, line) = next_word(line)?;
     let (b, line) = next_word(line)?;
-    let c = one_word(line)?;
-    Some((a, b, c))
+    let (c, d) = two_words(line)?;
+    Some((a, b, c, d))
+}
+
+/// The first two words of a line, and the rest of it.
+pub(crate) fn first_two(line: &[u8]) -> Option<(&[u8], &[u8], &[u8])>
+    ensures { MatchOption result (first_two (words_of line.now) ≡ None)
+        (λ words. first_two (words_of line.now) ≡ Some (words.0.now, words.1.now, words_of words.2.now)) }
+{
+    let (a, line) = next_word(line)?;
+    let (b, line) = next_word(line)?;
+    Some((a, b, line))
 }
 
 /// The first four words of a line, and the rest of it.
@@ -46,25 +67,24 @@ pub(crate) fn first_four(line: &[u8]) -> Option<(&[u8], &[u8], &[u8], &[u8], &[u
     Some((a, b, c, d, line))
 }
 
-/// The words of a line that has five words.
-pub(crate) fn five_words(line: &[u8]) -> Option<(&[u8], &[u8], &[u8], &[u8], &[u8])>
-    ensures { MatchOption result (five_words (words_of line.now) ≡ None)
-        (λ words. five_words (words_of line.now) ≡ Some (words.0.now, words.1.now, words.2.now, words.3.now, words.4.now)) }
+/// Whether a line has this word alone.
+pub(crate) fn is_line_of(text: &[u8], line: &[u8]) -> bool
+    ensures { result ≡ is_line_of text.now (words_of line.now) }
 {
-    let (a, line) = next_word(line)?;
-    let (b, line) = next_word(line)?;
-    let (c, d, e) = three_words(line)?;
-    Some((a, b, c, d, e))
+    match one_word(line) {
+        Some(word) => same(word, text),
+        None => false,
+    }
 }
 
-/// The words of a line that has six words.
-pub(crate) fn six_words(line: &[u8]) -> Option<(&[u8], &[u8], &[u8], &[u8], &[u8], &[u8])>
-    ensures { MatchOption result (six_words (words_of line.now) ≡ None)
-        (λ words. six_words (words_of line.now) ≡ Some (words.0.now, words.1.now, words.2.now, words.3.now, words.4.now, words.5.now)) }
+/// Whether a line is empty or begins with `#`.
+pub(crate) fn is_skipped(line: &[u8]) -> bool
+    ensures { result ≡ is_skipped line.now }
 {
-    let (a, line) = next_word(line)?;
-    let (b, c, d, e, f) = five_words(line)?;
-    Some((a, b, c, d, e, f))
+    match line {
+        [first, ..] => *first == b'#',
+        [] => true,
+    }
 }
 
 /// Whether two words are the same.
@@ -113,7 +133,7 @@ fn all_letters_or_digits(word: &[u8]) -> bool
 }
 
 /// Whether a word is up to 16 letters a to z and digits, the first of them a letter.
-fn is_name(word: &[u8]) -> bool
+pub(crate) fn is_name(word: &[u8]) -> bool
     ensures { result ≡ is_name word.now }
 {
     begins_with_letter(word) && all_letters_or_digits(word) && word.len() <= 16
@@ -126,31 +146,11 @@ pub(crate) fn name_word(word: &[u8]) -> Result<&[u8], u8>
     if is_name(word) { Ok(word) } else { Err(SYNTAX) }
 }
 
-/// The place of the first of the names that equals a word.
-fn first_equal(names: &[&[u8]], word: &[u8]) -> Option<usize>
-    ensures place { result ≡ position (λ name. bytes_eq name.now word.now) names.now }
-    ensures within { IfSome result (λ place. place < length names.now) }
+/// A place, where a name is declared.
+pub(crate) fn declared(place: Option<usize>) -> Result<usize, u8>
+    ensures { result ≡ found place UNKNOWN_NAME }
 {
-    names.iter().position(|name| same(name, word))
-}
-
-/// The place of a word among the names.
-pub(crate) fn place_of(names: &[&[u8]], word: &[u8]) -> Option<usize>
-    ensures place { result ≡ position (λ name. bytes_eq name word.now) (map (λ name. name.now) names.now) }
-    ensures within { IfSome result (λ place. place < length names.now) }
-{
-    first_equal(names, word)
-}
-
-/// The place of a name among the declared ones.
-pub(crate) fn declared_word(names: &[&[u8]], word: &[u8]) -> Result<usize, u8>
-    ensures place { result ≡ declared_word (map (λ name. name.now) names.now) word.now }
-    ensures within { IfOk result (λ place. place < length names.now) }
-{
-    if !is_name(word) {
-        return Err(SYNTAX);
-    }
-    match place_of(names, word) {
+    match place {
         Some(place) => Ok(place),
         None => Err(UNKNOWN_NAME),
     }
@@ -193,19 +193,16 @@ fn all_digits(word: &[u8]) -> bool
 }
 
 /// Whether a word is one or more digits.
-fn is_digits(word: &[u8]) -> bool
+pub(crate) fn is_digits(word: &[u8]) -> bool
     ensures { result ≡ is_digits word.now }
 {
     !word.is_empty() && all_digits(word)
 }
 
-/// An MTU: a decimal from 512 to 65,535.
+/// The number of an MTU from 512 to 65,535.
 pub(crate) fn mtu_word(word: &[u8]) -> Result<u16, u8>
-    ensures { result ≡ mtu_word word.now }
+    ensures { result ≡ found (number_within 512 65535 (decimal_of word.now)) MTU }
 {
-    if !is_digits(word) {
-        return Err(NUMBER);
-    }
     match number_within(512, 65535, decimal(word)) {
         Some(mtu) => Ok(mtu as u16),
         None => Err(MTU),
@@ -230,6 +227,13 @@ pub(crate) fn snpa_word(word: &[u8]) -> Result<Snpa, u8>
         Ok(snpa) => Ok(snpa),
         Err(_) => Err(ADDRESS),
     }
+}
+
+/// Whether a word begins with a prefix.
+pub(crate) fn has_prefix(prefix: &[u8], word: &[u8]) -> bool
+    ensures { result ≡ has_prefix prefix.now word.now }
+{
+    word.starts_with(prefix)
 }
 
 /// What follows a prefix.

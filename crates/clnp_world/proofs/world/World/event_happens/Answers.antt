@@ -1,22 +1,23 @@
--- A host sends, and what it gives out is put out.
-use Rattle.std.proofs.Common.{◌∙◌, List, ℕ, ap, sym, refl, arith}
-use Rattle.std.specs.Vec.{with_item}
+-- The host at the event's place sends, or is given a copy.
+use Rattle.std.proofs.Common.{◌∙◌, List, ℕ, ap, sym}
 use Rattle.std.proofs.lemmas.Result.{on_ok_weaker}
 use Rattle.scenario.specs.declared.event.Event.TheVariants.{Send}
-use Rattle.clnp_world.specs.declared.world.World.{World}
-use Rattle.clnp_world.proofs.StandSteps.{event_sends}
+use Rattle.clnp_world.proofs.StandSteps.{event_sends, event_delivers}
 use Rattle.clnp_world.proofs.world.World.event_happens.Goals as goal
 
-pub returns : goal.returns
-returns c =
-    let old = c.args.self.now in
-    let place = c.from-place.result in
-    let mid : World = record old { hosts = with_item old.hosts place c.send.new.self } in
-    on_ok_weaker c.put_all_out.result
-    (event_sends old mid c.put_all_out.new.self c.args.lines.now.items c.put_all_out.new.lines.items c.args.event.now c.in-Send.system place
-    c.in-Send.from c.in-Send.to c.as_bytes.result.now c.in-Send.life c.index_mut.result.now c.send.new.self c.in_ok-outputs.outputs.items
-    (c.in-Send.is ∙ ap (λ (b : List ℕ). Send c.in-Send.system c.in-Send.from c.in-Send.to b c.in-Send.life) (sym c.as_bytes.ensures))
-    c.from-place.ensures (omega (arith, old.hosts.ok.0)) c.index_mut.ensures.value
-    refl refl refl refl refl
-    c.in_ok-outputs.ensures.after c.in_ok-outputs.ensures.outputs c.in_ok-outputs.ensures.good)
-    c.put_all_out.ensures.follows
+pub returns-in-Send : goal.returns-in-Send
+returns-in-Send c =
+    on_ok_weaker c.host_sends.result
+    (λ sends model h. event_sends c.host_sends.new.self c.args.lines.now.items c.host_sends.new.lines.items c.args.event.now c.in-Send.system
+    c.from-place.result c.in-Send.from c.in-Send.to c.as_bytes.result.now c.in-Send.life c.in-Send.report
+    (c.in-Send.is
+    ∙ ap (λ (b : List ℕ). Send c.in-Send.system c.in-Send.from c.in-Send.to b c.in-Send.life c.in-Send.report) (sym c.as_bytes.ensures))
+    c.from-place.ensures model (sends model h))
+    c.host_sends.ensures
+
+pub returns-in-Deliver : goal.returns-in-Deliver
+returns-in-Deliver c =
+    on_ok_weaker c.deliver.result
+    (λ delivers model h. event_delivers c.deliver.new.self c.args.lines.now.items c.deliver.new.lines.items c.args.event.now c.in-Deliver.copy
+    c.in-Deliver.system c.from.result c.in-Deliver.is c.from.ensures model (delivers model h))
+    c.deliver.ensures

@@ -1,5 +1,4 @@
 -- A frame is put on a subnetwork.
-use Rattle.std.proofs.Common.{◌≡◌}
 use Rattle.std.proofs.lemmas.Result.{on_ok_weaker}
 use Rattle.clnp_world.proofs.PutSteps.{puts_transmission}
 use Rattle.clnp_world.proofs.world.World.put_out.Goals as goal

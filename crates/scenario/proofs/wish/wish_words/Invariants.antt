@@ -1,0 +1,11 @@
+use Rattle.std.proofs.Common.{◌≡◌, length}
+use Rattle.clnp_base.specs.Text.{words_of}
+use Rattle.scenario.specs.Events.{wish_words}
+use Rattle.scenario.proofs.Readings.{with_front}
+use Rattle.scenario.proofs.wish.wish_words.Given as goal
+
+abbrev pub invariant-loop-word : goal.invariant-loop-word
+invariant-loop-word l = with_front l.wishes.items (wish_words (words_of l.left)) ≡ wish_words (words_of l.line)
+
+abbrev pub decreases-loop-word : goal.decreases-loop-word
+decreases-loop-word l = length l.left

@@ -1,0 +1,201 @@
+-- The declarations of a scenario text: subnetworks, systems, their addresses and their ports.
+use Rattle.std.specs.Prelude.{ℕ, ◌==◌, ◌&&◌, ◌||◌, not, nat_le, nat_lt, nat_eq, Bool, true, false, if◌then◌else◌, List, [], ◌∷◌, ◌++◌, map, filter, length, slice_get, zero, suc, codes, Option, None, Some, Result, Ok, Err}
+use Rattle.std.specs.List.{list_any, flat_map}
+use Rattle.std.specs.Str.{bytes_eq}
+use Rattle.std.specs.Cmp.Lexicographic.{pointwise}
+use Rattle.clnp_base.specs.Text.{decimal_of}
+use Rattle.clnp_plan.specs.Configuration.{SystemConfiguration}
+use Rattle.clnp_plan.specs.declared.config.PortConfig.{PortConfig}
+use Rattle.clnp_plan.specs.declared.config.Settings.{Settings}
+use Rattle.clnp_plan.specs.declared.config.Role.TheVariants.{Host}
+use Rattle.scenario.specs.Scenario.{Subnetwork}
+use Rattle.scenario.specs.Words.{◌>>=◌, wanted, found, literal, name_word, declared_word, number_within, number_word, is_digits, address_word, life_word, has_prefix, two_words, four_words, first_two, is_taken}
+use Rattle.scenario.specs.declared.code.TheConstants.{SYNTAX, NUMBER, DUP_NAME, DUP_ADDRESS, MTU, COUNT}
+use Rattle.scenario.specs.declared.setting.Setting.{Setting}
+use Rattle.scenario.specs.declared.setting.Setting.TheVariants.{HelloOff, Checksum, Life}
+
+-- a port by its number
+pub record NumberedPort : Type 0 where
+  pub number : ℕ
+  pub port : PortConfig
+
+-- what the lines so far say of a system
+pub record DeclaredSystem : Type 0 where
+  pub name : List ℕ
+  pub settings : Settings
+  pub addresses : List (List ℕ)
+  pub ports : List NumberedPort
+
+-- what the lines so far declare
+pub record Declarations : Type 0 where
+  pub subnets : List Subnetwork
+  pub systems : List DeclaredSystem
+
+abbrev pub nothing_declared : Declarations
+nothing_declared = record { subnets = []; systems = [] }
+
+abbrev pub subnet_names : Declarations → List (List ℕ)
+subnet_names d = map (λ subnet. subnet.name) d.subnets
+
+abbrev pub system_names : Declarations → List (List ℕ)
+system_names d = map (λ system. system.name) d.systems
+
+-- the list with its element at a place changed
+abbrev pub changed_at : {X : Type 0} → (X → X) → ℕ → List X → List X
+changed_at change place [] = []
+changed_at change zero (x ∷ xs) = change x ∷ xs
+changed_at change (suc place) (x ∷ xs) = x ∷ changed_at change place xs
+
+-- whether an address is among some
+abbrev pub is_among : List ℕ → List (List ℕ) → Bool
+is_among address others = list_any (λ other. pointwise nat_eq other address) others
+
+-- `NAME MTU`, behind `subnet`: an MTU that is decimal and out of its range has a code of its own
+unfoldable pub subnet_line : Declarations → List (List ℕ) → Result Declarations ℕ
+subnet_line d words = do
+  w ← found (two_words words) SYNTAX
+  name ← name_word w.0
+  _ ← wanted (is_digits w.1) NUMBER
+  _ ← wanted (not (is_taken (subnet_names d) name)) DUP_NAME
+  mtu ← found (number_within 512 65535 (decimal_of w.1)) MTU
+  _ ← wanted (nat_lt (length d.subnets) 64) COUNT
+  Ok (record d { subnets = d.subnets ++ record { name = name; mtu = mtu } ∷ [] })
+
+-- `checksum=on` or `checksum=off`
+abbrev pub checksum_word : List ℕ → Result Setting ℕ
+checksum_word word =
+    if bytes_eq word (codes "checksum=on") then Ok (Checksum true)
+    else if bytes_eq word (codes "checksum=off") then Ok (Checksum false)
+    else Err SYNTAX
+
+-- a key and its value
+unfoldable pub setting_word : List ℕ → Result Setting ℕ
+setting_word word =
+    if has_prefix (codes "life=") word then (life_word word >>= λ life. Ok (Life life))
+    else if has_prefix (codes "checksum=") word then checksum_word word
+    else (literal (codes "hello=0") word >>= λ _. Ok HelloOff)
+
+abbrev pub setting_words : List (List ℕ) → Result (List Setting) ℕ
+setting_words [] = Ok []
+setting_words (word ∷ words) = do
+  setting ← setting_word word
+  settings ← setting_words words
+  Ok (setting ∷ settings)
+
+abbrev pub is_hello : Setting → Bool
+is_hello HelloOff = true
+is_hello _ = false
+
+abbrev pub is_checksum : Setting → Bool
+is_checksum (Checksum on) = true
+is_checksum _ = false
+
+abbrev pub is_life : Setting → Bool
+is_life (Life life) = true
+is_life _ = false
+
+-- whether a kind of setting is there at most once
+abbrev pub at_most_once : (Setting → Bool) → List Setting → Bool
+at_most_once kind settings = nat_le (length (filter kind settings)) 1
+
+abbrev pub each_once : List Setting → Bool
+each_once settings = at_most_once is_hello settings && (at_most_once is_checksum settings && at_most_once is_life settings)
+
+-- the settings of a system, where a word that is missing leaves the checksum on and the lifetime 64
+abbrev pub with_setting : Setting → Settings → Settings
+with_setting HelloOff settings = settings
+with_setting (Checksum on) settings = record settings { sealed = on }
+with_setting (Life life) settings = record settings { life = life }
+
+abbrev pub settings_of : List Setting → Settings
+settings_of [] = record { sealed = true; life = 64 }
+settings_of (setting ∷ others) = with_setting setting (settings_of others)
+
+-- `NAME host` and settings, behind `system`; `hello=0` is one of them, as hellos aren't sent
+unfoldable pub system_line : Declarations → List (List ℕ) → Result Declarations ℕ
+system_line d words = do
+  w ← found (first_two words) SYNTAX
+  name ← name_word w.0
+  _ ← literal (codes "host") w.1
+  settings ← setting_words w.2
+  _ ← wanted (list_any is_hello settings) SYNTAX
+  _ ← wanted (not (is_taken (system_names d) name) && each_once settings) DUP_NAME
+  _ ← wanted (nat_lt (length d.systems) 64) COUNT
+  Ok (record d { systems = d.systems ++ record { name = name; settings = settings_of settings; addresses = []; ports = [] } ∷ [] })
+
+-- how many addresses or ports a system has so far
+abbrev pub counted_in : {X : Type 0} → (DeclaredSystem → List X) → Option DeclaredSystem → ℕ
+counted_in items None = 0
+counted_in items (Some system) = length (items system)
+
+abbrev pub with_address : List ℕ → DeclaredSystem → DeclaredSystem
+with_address address system = record system { addresses = system.addresses ++ address ∷ [] }
+
+-- `NAME ADDRESS`, behind `address`: a host has at most 8
+unfoldable pub address_line : Declarations → List (List ℕ) → Result Declarations ℕ
+address_line d words = do
+  w ← found (two_words words) SYNTAX
+  place ← declared_word (system_names d) w.0
+  address ← address_word w.1
+  _ ← wanted (not (is_among address (flat_map (λ system. system.addresses) d.systems))) DUP_ADDRESS
+  _ ← wanted (nat_lt (counted_in (λ system. system.addresses) (slice_get d.systems place)) 8) COUNT
+  Ok (record d { systems = changed_at (with_address address) place d.systems })
+
+-- the system at a place has a port with this number, or one on this subnetwork
+abbrev pub has_port : ℕ → ℕ → Option DeclaredSystem → Bool
+has_port number subnet None = false
+has_port number subnet (Some system) =
+    list_any (λ numbered. (numbered.number == number) || (numbered.port.subnet == subnet)) system.ports
+
+-- the addresses of a system's ports on a subnetwork
+abbrev pub snpas_on : ℕ → DeclaredSystem → List (List ℕ)
+snpas_on subnet system = map (λ numbered. numbered.port.snpa) (filter (λ numbered. numbered.port.subnet == subnet) system.ports)
+
+abbrev pub with_port : NumberedPort → DeclaredSystem → DeclaredSystem
+with_port numbered system = record system { ports = system.ports ++ numbered ∷ [] }
+
+abbrev pub mtu_at : Option Subnetwork → ℕ
+mtu_at None = 0
+mtu_at (Some subnet) = subnet.mtu
+
+-- `NAME NUMBER SUBNET SNPA`, behind `port`: a host has one
+unfoldable pub port_line : Declarations → List (List ℕ) → Result Declarations ℕ
+port_line d words = do
+  w ← found (four_words words) SYNTAX
+  place ← declared_word (system_names d) w.0
+  number ← number_word 0 7 w.1
+  subnet ← declared_word (subnet_names d) w.2
+  snpa ← address_word w.3
+  _ ← wanted (not (has_port number subnet (slice_get d.systems place))) DUP_NAME
+  _ ← wanted (not (is_among snpa (flat_map (snpas_on subnet) d.systems))) DUP_ADDRESS
+  _ ← wanted (nat_lt (counted_in (λ system. system.ports) (slice_get d.systems place)) 1) COUNT
+  Ok (record d { systems = changed_at (with_port (record { number = number; port = record { subnet = subnet; snpa = snpa; mtu = mtu_at (slice_get d.subnets subnet) } })) place d.systems })
+
+-- a line that declares something
+unfoldable pub declaration_line : Declarations → List (List ℕ) → Result Declarations ℕ
+declaration_line d [] = Err SYNTAX
+declaration_line d (keyword ∷ words) =
+    if bytes_eq keyword (codes "subnet") then subnet_line d words
+    else if bytes_eq keyword (codes "system") then system_line d words
+    else if bytes_eq keyword (codes "address") then address_line d words
+    else if bytes_eq keyword (codes "port") then port_line d words
+    else Err SYNTAX
+
+-- whether there is one port, with the number 0
+abbrev pub is_port_zero : List NumberedPort → Bool
+is_port_zero (numbered ∷ []) = numbered.number == 0
+is_port_zero _ = false
+
+-- whether a host has all that it must: an address at least, and its one port
+abbrev pub is_complete : DeclaredSystem → Bool
+is_complete system = nat_le 1 (length system.addresses) && is_port_zero system.ports
+
+abbrev pub host_of : DeclaredSystem → SystemConfiguration
+host_of system =
+    record {
+      name = system.name;
+      role = Host;
+      addresses = system.addresses;
+      ports = map (λ numbered. numbered.port) system.ports;
+      settings = system.settings;
+    }

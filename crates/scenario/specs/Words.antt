@@ -1,0 +1,126 @@
+-- The words of a scenario text: each gives its value, or the code of what is wrong with it.
+use Rattle.std.specs.Prelude.{ℕ, ◌==◌, ◌&&◌, ◌||◌, not, nat_le, Bool, true, false, if◌then◌else◌, List, [], ◌∷◌, take, drop, length, codes, Option, None, Some, is_some, option_map, Result, Ok, Err}
+use Rattle.std.specs.List.{list_all, position}
+use Rattle.std.specs.Str.{bytes_eq}
+use Rattle.hex.specs.Hex.{decode_of}
+use Rattle.hex.specs.declared.error.FromHexError.{FromHexError}
+use Rattle.clnp_base.specs.Text.{decimal_of, is_digit}
+use Rattle.nsap.specs.Text.{octets_of}
+use Rattle.nsap.specs.declared.fault.NsapFault.{NsapFault}
+use Rattle.scenario.specs.declared.code.TheConstants.{SYNTAX, NUMBER, ADDRESS, UNKNOWN_NAME}
+
+infixl 10 ◌>>=◌
+abbrev pub ◌>>=◌ : {A B E : Type 0} → Result A E → (A → Result B E) → Result B E
+(Ok x) >>= f = f x
+(Err e) >>= f = Err e
+
+-- the word stands, or the code
+abbrev pub wanted : Bool → ℕ → Result (Unit {0}) ℕ
+wanted true code = Ok tt
+wanted false code = Err code
+
+-- the value, or the code where there is none
+abbrev pub found : {A : Type 0} → Option A → ℕ → Result A ℕ
+found None code = Err code
+found (Some x) code = Ok x
+
+-- this very word
+abbrev pub literal : List ℕ → List ℕ → Result (Unit {0}) ℕ
+literal text word = wanted (bytes_eq word text) SYNTAX
+
+abbrev pub is_letter : ℕ → Bool
+is_letter c = nat_le 97 c && nat_le c 122
+
+abbrev pub is_letter_or_digit : ℕ → Bool
+is_letter_or_digit c = is_letter c || is_digit c
+
+abbrev pub begins_with_letter : List ℕ → Bool
+begins_with_letter [] = false
+begins_with_letter (c ∷ cs) = is_letter c
+
+-- up to 16 letters a to z and digits, the first of them a letter
+abbrev pub is_name : List ℕ → Bool
+is_name word = begins_with_letter word && list_all is_letter_or_digit word && nat_le (length word) 16
+
+abbrev pub name_word : List ℕ → Result (List ℕ) ℕ
+name_word word = wanted (is_name word) SYNTAX >>= λ _. Ok word
+
+-- the place of a name among the declared ones
+abbrev pub declared_word : List (List ℕ) → List ℕ → Result ℕ ℕ
+declared_word names word = wanted (is_name word) SYNTAX >>= λ _. found (position (λ name. bytes_eq name word) names) UNKNOWN_NAME
+
+abbrev pub number_within : ℕ → ℕ → Option ℕ → Option ℕ
+number_within low high None = None
+number_within low high (Some n) = if nat_le low n && nat_le n high then Some n else None
+
+-- a decimal from low to high
+abbrev pub number_word : ℕ → ℕ → List ℕ → Result ℕ ℕ
+number_word low high word = found (number_within low high (decimal_of word)) NUMBER
+
+-- one or more digits
+abbrev pub is_digits : List ℕ → Bool
+is_digits word = not (length word == 0) && list_all is_digit word
+
+abbrev pub address_read : Result (List ℕ) NsapFault → Result (List ℕ) ℕ
+address_read (Ok octets) = Ok octets
+address_read (Err fault) = Err ADDRESS
+
+-- an NSAP address, or the address of a port on its subnetwork
+abbrev pub address_word : List ℕ → Result (List ℕ) ℕ
+address_word word = address_read (octets_of word)
+
+-- what follows a prefix that ends in `:` or `=`
+abbrev pub after_prefix : List ℕ → List ℕ → Result (List ℕ) ℕ
+after_prefix prefix word = wanted (bytes_eq (take (length prefix) word) prefix) SYNTAX >>= λ _. Ok (drop (length prefix) word)
+
+abbrev pub digits_read : Result (List ℕ) FromHexError → Result (List ℕ) ℕ
+digits_read (Ok octets) = Ok octets
+digits_read (Err e) = Err ADDRESS
+
+-- `hex:` and an even number of hexadecimal digits
+abbrev pub data_word : List ℕ → Result (List ℕ) ℕ
+data_word word = after_prefix (codes "hex:") word >>= λ digits. digits_read (decode_of digits)
+
+-- whether a word begins so
+abbrev pub has_prefix : List ℕ → List ℕ → Bool
+has_prefix prefix word = bytes_eq (take (length prefix) word) prefix
+
+-- `life=` and 1 to 255
+abbrev pub life_word : List ℕ → Result ℕ ℕ
+life_word word = after_prefix (codes "life=") word >>= number_word 1 255
+
+-- How many words a line has.
+
+-- exactly one word
+abbrev pub one_word : List (List ℕ) → Option (List ℕ)
+one_word (word ∷ []) = Some word
+one_word _ = None
+
+-- exactly two words
+abbrev pub two_words : List (List ℕ) → Option (List ℕ × List ℕ)
+two_words (a ∷ words) = option_map (λ b. (a, b)) (one_word words)
+two_words [] = None
+
+-- exactly four words
+abbrev pub four_words : List (List ℕ) → Option (List ℕ × List ℕ × List ℕ × List ℕ)
+four_words (a ∷ b ∷ words) = option_map (λ w. (a, b, w.0, w.1)) (two_words words)
+four_words _ = None
+
+-- the first two words, and those behind them
+abbrev pub first_two : List (List ℕ) → Option (List ℕ × List ℕ × List (List ℕ))
+first_two (a ∷ b ∷ words) = Some (a, b, words)
+first_two _ = None
+
+-- the first four words, and those behind them
+abbrev pub first_four : List (List ℕ) → Option (List ℕ × List ℕ × List ℕ × List ℕ × List (List ℕ))
+first_four (a ∷ b ∷ c ∷ d ∷ words) = Some (a, b, c, d, words)
+first_four _ = None
+
+-- whether a name is among some
+abbrev pub is_taken : List (List ℕ) → List ℕ → Bool
+is_taken names name = is_some (position (λ other. bytes_eq other name) names)
+
+-- an empty line, and one that begins with `#`
+abbrev pub is_skipped : List ℕ → Bool
+is_skipped [] = true
+is_skipped (first ∷ others) = first == 35

@@ -1,0 +1,385 @@
+//! What the lines of a text declare.
+ghost use Rattle.std.specs.Prelude.{◌≡◌, ◌<◌, ◌≤◌, ◌==◌, ◌&&◌, ◌++◌, ◌∷◌, [], map, length, slice_get, nat_eq, IfSome, IfOk, Ok, Err, MatchResult};
+ghost use Rattle.std.specs.Cmp.Lexicographic.{pointwise};
+ghost use Rattle.std.specs.List.{position, list_any, list_all, flat_map};
+ghost use Rattle.std.specs.Str.{bytes_eq};
+ghost use Rattle.clnp_base.specs.Text.{words_of};
+ghost use Rattle.scenario.specs.Declarations.{nothing_declared, subnet_names, system_names, changed_at, is_among, has_port, snpas_on, counted_in, mtu_at, with_address, with_port, settings_of, subnet_line, system_line, address_line, port_line, declaration_line, is_complete};
+ghost use Rattle.scenario.specs.Words.{is_taken, declared_word};
+ghost use Rattle.scenario.specs.Refusal.{Faults};
+
+use crate::code::{COUNT, DUP_ADDRESS, DUP_NAME, NUMBER, SYNTAX};
+use crate::fault::LineFault;
+use crate::plan::Subnet;
+use crate::setting::{each_once, has_hello, setting_words, settings_of};
+use crate::system::{PortAt, System};
+use crate::word::{
+    address_word, declared, first_two, four_words, is_digits, is_name, literal, mtu_word,
+    name_word, number_word, same, snpa_word, two_words, wanted,
+};
+use clnp_base::next_word;
+use clnp_plan::{PortConfig, Settings};
+use nsap::{Address, Snpa};
+use std::alloc::Global;
+use std::marker::Model;
+
+/// The subnetworks and the systems that are declared so far.
+#[derive(Drop)]
+pub(crate) struct Declared {
+    subnets: Vec<Subnet>,
+    systems: Vec<System>,
+}
+
+impl Model for Declared {
+    ghost use Rattle.std.specs.Prelude.{◌≤◌, length};
+    ghost use Rattle.scenario.specs.Declarations.{Declarations};
+
+    ghost Value = { Declarations };
+
+    ghost view = { λ d. record { subnets = d.subnets.items; systems = d.systems.items } };
+
+    ghost invariant = { λ d. (length d.subnets.items ≤ 64) × (length d.systems.items ≤ 64) };
+}
+
+/// Gives the system at a place an address.
+fn add_address(systems: &mut [System], place: usize, address: Address) -> Result<(), LineFault>
+    requires { place < length systems.old }
+    ensures { MatchResult result (λ _. systems.new ≡ changed_at (with_address address) place systems.old) (λ fault. fault ≡ LineFault.NoMemory) }
+{
+    let system = &mut systems[place];
+    system.add_address(address)
+}
+
+/// Gives the system at a place a port.
+fn add_port(systems: &mut [System], place: usize, port: PortAt) -> Result<(), LineFault>
+    requires { place < length systems.old }
+    ensures { MatchResult result (λ _. systems.new ≡ changed_at (with_port port) place systems.old) (λ fault. fault ≡ LineFault.NoMemory) }
+{
+    let system = &mut systems[place];
+    system.add_port(port)
+}
+
+/// Whether one of the systems has this address.
+fn has_address(systems: &[System], address: &Address) -> bool
+    ensures { result ≡ list_any (λ system. is_among address.now system.addresses) systems.now }
+{
+    systems.iter().any(|system| system.has_address(address))
+}
+
+/// Whether one of the systems has this address on this subnetwork.
+fn has_snpa(systems: &[System], subnet: u8, snpa: &Snpa) -> bool
+    ensures { result ≡ list_any (λ system. list_any (λ numbered. (numbered.port.subnet == subnet) && pointwise nat_eq numbered.port.snpa snpa.now) system.ports) systems.now }
+{
+    systems.iter().any(|system| system.has_snpa(subnet, snpa))
+}
+
+impl Declared {
+    /// Nothing is declared.
+    pub(crate) fn new(alloc: Global) -> Declared
+        ensures { result ≡ nothing_declared }
+    {
+        Declared {
+            subnets: Vec::new(alloc),
+            systems: Vec::new(alloc),
+        }
+    }
+
+    /// The place of the first subnetwork of this name.
+    fn first_subnet(&self, name: &[u8]) -> Option<usize>
+        ensures place { result ≡ position (λ subnet. bytes_eq subnet.name name.now) self.now.subnets }
+        ensures within { IfSome result (λ place. place < 64) }
+    {
+        self.subnets
+            .iter()
+            .position(|subnet| same(subnet.name(), name))
+    }
+
+    /// The place of the first system of this name.
+    fn first_system(&self, name: &[u8]) -> Option<usize>
+        ensures place { result ≡ position (λ system. bytes_eq system.name name.now) self.now.systems }
+        ensures within { IfSome result (λ place. place < length self.now.systems) }
+    {
+        self.systems
+            .iter()
+            .position(|system| same(system.name(), name))
+    }
+
+    /// The place of a name among the subnetworks'.
+    fn subnet_place(&self, name: &[u8]) -> Option<usize>
+        ensures place { result ≡ position (λ other. bytes_eq other name.now) (subnet_names self.now) }
+        ensures within { IfSome result (λ place. place < 64) }
+    {
+        self.first_subnet(name)
+    }
+
+    /// The place of a name among the systems'.
+    fn system_place(&self, name: &[u8]) -> Option<usize>
+        ensures place { result ≡ position (λ other. bytes_eq other name.now) (system_names self.now) }
+        ensures within { IfSome result (λ place. place < length self.now.systems) }
+    {
+        self.first_system(name)
+    }
+
+    /// The place of the subnetwork that a word names.
+    fn subnet_word(&self, word: &[u8]) -> Result<usize, u8>
+        ensures place { result ≡ declared_word (subnet_names self.now) word.now }
+        ensures within { IfOk result (λ place. place < 64) }
+    {
+        if !is_name(word) {
+            return Err(SYNTAX);
+        }
+        declared(self.subnet_place(word))
+    }
+
+    /// The place of the system that a word names.
+    fn system_word(&self, word: &[u8]) -> Result<usize, u8>
+        ensures place { result ≡ declared_word (system_names self.now) word.now }
+        ensures within { IfOk result (λ place. place < length self.now.systems) }
+    {
+        if !is_name(word) {
+            return Err(SYNTAX);
+        }
+        declared(self.system_place(word))
+    }
+
+    /// The name and the MTU of the subnetwork that `NAME MTU` declares.
+    #[tactic(auto, unfolding(crate::specs::Declarations::subnet_line))]
+    fn subnet_of<'a>(&self, line: &'a [u8]) -> Result<(&'a [u8], u16), u8>
+        ensures reading { MatchResult result
+            (λ r. subnet_line self.now (words_of line.now) ≡ Ok (record self.now { subnets = self.now.subnets ++ record { name = r.0.now; mtu = r.1 } ∷ [] }))
+            (λ code. subnet_line self.now (words_of line.now) ≡ Err code) }
+        ensures room { IfOk result (λ _. length self.now.subnets < 64) }
+    {
+        let Some((name, mtu)) = two_words(line) else {
+            return Err(SYNTAX);
+        };
+        let name = name_word(name)?;
+        wanted(is_digits(mtu), NUMBER)?;
+        wanted(self.subnet_place(name).is_none(), DUP_NAME)?;
+        let mtu = mtu_word(mtu)?;
+        wanted(self.subnets.len() < 64, COUNT)?;
+        Ok((name, mtu))
+    }
+
+    /// `NAME MTU`, behind `subnet`.
+    pub(crate) fn subnet_line(&mut self, alloc: Global, line: &[u8]) -> Result<(), LineFault>
+        ensures { let reading = subnet_line self.old (words_of line.now) in
+            MatchResult result (λ _. reading ≡ Ok self.new) (λ fault. Faults fault reading) }
+    {
+        let (name, mtu) = self.subnet_of(line)?;
+        let name = Vec::from_slice(alloc, name)?;
+        self.subnets.push(Subnet { mtu, name })?;
+        Ok(())
+    }
+
+    /// The name and the settings of the system that `NAME host` and settings declare.
+    #[tactic(auto, unfolding(crate::specs::Declarations::system_line))]
+    fn system_of<'a>(
+        &self,
+        alloc: Global,
+        line: &'a [u8],
+    ) -> Result<(&'a [u8], Settings), LineFault>
+        ensures reading { MatchResult result
+            (λ r. system_line self.now (words_of line.now) ≡ Ok (record self.now { systems = self.now.systems ++ record { name = r.0.now; settings = r.1; addresses = []; ports = [] } ∷ [] }))
+            (λ fault. Faults fault (system_line self.now (words_of line.now))) }
+        ensures room { IfOk result (λ _. length self.now.systems < 64) }
+    {
+        let Some((name, role, words)) = first_two(line) else {
+            return Err(LineFault::Code(SYNTAX));
+        };
+        let name = name_word(name)?;
+        literal(b"host", role)?;
+        let settings = setting_words(alloc, words)?;
+        wanted(has_hello(&settings), SYNTAX)?;
+        let is_new = self.system_place(name).is_none();
+        wanted(is_new && each_once(&settings), DUP_NAME)?;
+        wanted(self.systems.len() < 64, COUNT)?;
+        Ok((name, settings_of(&settings)))
+    }
+
+    /// `NAME host` and settings, behind `system`.
+    pub(crate) fn system_line(&mut self, alloc: Global, line: &[u8]) -> Result<(), LineFault>
+        ensures { let reading = system_line self.old (words_of line.now) in
+            MatchResult result (λ _. reading ≡ Ok self.new) (λ fault. Faults fault reading) }
+    {
+        let (name, settings) = self.system_of(alloc, line)?;
+        let name = Vec::from_slice(alloc, name)?;
+        self.systems.push(System::new(alloc, name, settings))?;
+        Ok(())
+    }
+
+    /// Whether a system has this address.
+    fn has_address(&self, address: &Address) -> bool
+        ensures { result ≡ is_among address.now (flat_map (λ system. system.addresses) self.now.systems) }
+    {
+        has_address(&self.systems, address)
+    }
+
+    /// Whether a system has this address on this subnetwork.
+    fn has_snpa(&self, subnet: u8, snpa: &Snpa) -> bool
+        ensures { result ≡ is_among snpa.now (flat_map (snpas_on subnet) self.now.systems) }
+    {
+        has_snpa(&self.systems, subnet, snpa)
+    }
+
+    /// How many addresses the system at a place has.
+    fn address_count(&self, place: usize) -> usize
+        ensures { result ≡ counted_in (λ system. system.addresses) (slice_get self.now.systems place) }
+    {
+        match self.systems.get(place) {
+            Some(system) => system.address_count(),
+            None => 0,
+        }
+    }
+
+    /// How many ports the system at a place has.
+    fn port_count(&self, place: usize) -> usize
+        ensures { result ≡ counted_in (λ system. system.ports) (slice_get self.now.systems place) }
+    {
+        match self.systems.get(place) {
+            Some(system) => system.port_count(),
+            None => 0,
+        }
+    }
+
+    /// Whether the system at a place has a port with this number or one on this subnetwork.
+    fn has_port(&self, place: usize, number: u8, subnet: u8) -> bool
+        ensures { result ≡ has_port number subnet (slice_get self.now.systems place) }
+    {
+        match self.systems.get(place) {
+            Some(system) => system.has_port(number, subnet),
+            None => false,
+        }
+    }
+
+    /// The MTU of the subnetwork at a place.
+    fn mtu_at(&self, place: usize) -> u16
+        ensures { result ≡ mtu_at (slice_get self.now.subnets place) }
+    {
+        match self.subnets.get(place) {
+            Some(subnet) => subnet.mtu,
+            None => 0,
+        }
+    }
+
+    /// The place of the system and the address that `NAME ADDRESS` gives it.
+    #[tactic(auto, unfolding(crate::specs::Declarations::address_line))]
+    fn address_of(&self, line: &[u8]) -> Result<(usize, Address), u8>
+        ensures reading { MatchResult result
+            (λ r. address_line self.now (words_of line.now) ≡ Ok (record self.now { systems = changed_at (with_address r.1) r.0 self.now.systems }))
+            (λ code. address_line self.now (words_of line.now) ≡ Err code) }
+        ensures within { IfOk result (λ r. r.0 < length self.now.systems) }
+    {
+        let Some((name, address)) = two_words(line) else {
+            return Err(SYNTAX);
+        };
+        let place = self.system_word(name)?;
+        let address = address_word(address)?;
+        wanted(!self.has_address(&address), DUP_ADDRESS)?;
+        wanted(self.address_count(place) < 8, COUNT)?;
+        Ok((place, address))
+    }
+
+    /// `NAME ADDRESS`, behind `address`.
+    pub(crate) fn address_line(&mut self, line: &[u8]) -> Result<(), LineFault>
+        ensures { let reading = address_line self.old (words_of line.now) in
+            MatchResult result (λ _. reading ≡ Ok self.new) (λ fault. Faults fault reading) }
+    {
+        let (place, address) = match self.address_of(line) {
+            Ok((place, address)) => (place, address),
+            Err(code) => return Err(LineFault::Code(code)),
+        };
+        add_address(&mut self.systems, place, address)
+    }
+
+    /// The port that words declare, of the system at a place.
+    fn port_at(&self, number: u8, subnet: usize, snpa: Snpa) -> PortAt
+        requires { subnet < 64 }
+        ensures { result ≡ record { number = number; port = record { subnet = subnet; snpa = snpa; mtu = mtu_at (slice_get self.now.subnets subnet) } } }
+    {
+        let mtu = self.mtu_at(subnet);
+        PortAt {
+            number,
+            port: PortConfig {
+                subnet: subnet as u8,
+                snpa,
+                mtu,
+            },
+        }
+    }
+
+    /// The place of the system and the port that `NAME NUMBER SUBNET SNPA` gives it.
+    #[tactic(auto, unfolding(crate::specs::Declarations::port_line))]
+    fn port_of(&self, line: &[u8]) -> Result<(usize, PortAt), u8>
+        ensures reading { MatchResult result
+            (λ r. port_line self.now (words_of line.now) ≡ Ok (record self.now { systems = changed_at (with_port r.1) r.0 self.now.systems }))
+            (λ code. port_line self.now (words_of line.now) ≡ Err code) }
+        ensures within { IfOk result (λ r. r.0 < length self.now.systems) }
+    {
+        let Some((name, number, on, snpa)) = four_words(line) else {
+            return Err(SYNTAX);
+        };
+        let place = self.system_word(name)?;
+        let number = number_word(0, 7, number)? as u8;
+        let subnet = self.subnet_word(on)?;
+        let snpa = snpa_word(snpa)?;
+        let port = self.port_at(number, subnet, snpa);
+        wanted(!self.has_port(place, number, port.port.subnet), DUP_NAME)?;
+        wanted(!self.has_snpa(port.port.subnet, &snpa), DUP_ADDRESS)?;
+        wanted(self.port_count(place) < 1, COUNT)?;
+        Ok((place, port))
+    }
+
+    /// `NAME NUMBER SUBNET SNPA`, behind `port`.
+    pub(crate) fn port_line(&mut self, line: &[u8]) -> Result<(), LineFault>
+        ensures { let reading = port_line self.old (words_of line.now) in
+            MatchResult result (λ _. reading ≡ Ok self.new) (λ fault. Faults fault reading) }
+    {
+        let (place, port) = match self.port_of(line) {
+            Ok((place, port)) => (place, port),
+            Err(code) => return Err(LineFault::Code(code)),
+        };
+        add_port(&mut self.systems, place, port)
+    }
+
+    /// A line that declares something.
+    #[tactic(auto, unfolding(crate::specs::Declarations::declaration_line))]
+    pub(crate) fn declare(&mut self, alloc: Global, line: &[u8]) -> Result<(), LineFault>
+        ensures { let reading = declaration_line self.old (words_of line.now) in
+            MatchResult result (λ _. reading ≡ Ok self.new) (λ fault. Faults fault reading) }
+    {
+        let Some((keyword, words)) = next_word(line) else {
+            return Err(LineFault::Code(SYNTAX));
+        };
+        if same(keyword, b"subnet") {
+            return self.subnet_line(alloc, words);
+        }
+        if same(keyword, b"system") {
+            return self.system_line(alloc, words);
+        }
+        if same(keyword, b"address") {
+            return self.address_line(words);
+        }
+        if same(keyword, b"port") {
+            return self.port_line(words);
+        }
+        Err(LineFault::Code(SYNTAX))
+    }
+
+    /// Whether each system has all that it must.
+    pub(crate) fn is_complete(&self) -> bool
+        ensures { result ≡ list_all is_complete self.now.systems }
+    {
+        self.systems.iter().all(|system| system.is_complete())
+    }
+
+    /// The subnetworks and the systems.
+    pub(crate) fn into_parts(self) -> (Vec<Subnet>, Vec<System>)
+        ensures subnets { result.0.items ≡ self.subnets }
+        ensures systems { result.1.items ≡ self.systems }
+        ensures few { length self.systems ≤ 64 }
+    {
+        let Declared { subnets, systems } = self;
+        (subnets, systems)
+    }
+}

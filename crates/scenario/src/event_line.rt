@@ -1,0 +1,163 @@
+//! The event lines.
+ghost use Rattle.std.specs.Prelude.{◌≡◌, ◌<◌, ◌≤◌, map, length, slice_get, IfSome, IfOk, Ok, Err, MatchResult};
+ghost use Rattle.std.specs.List.{position};
+ghost use Rattle.std.specs.Str.{bytes_eq};
+ghost use Rattle.clnp_base.specs.Text.{words_of};
+ghost use Rattle.scenario.specs.Events.{own_life, send_line, deliver_line, count_line, event_line, passed_by, within_counts};
+ghost use Rattle.scenario.specs.Words.{declared_word};
+ghost use Rattle.scenario.specs.Refusal.{Faults};
+
+use crate::code::{COUNT, DUP_NAME, SYNTAX, UNKNOWN_NAME};
+use crate::event::Event;
+use crate::fault::LineFault;
+use crate::wish::{each_once, life_in, wants_no_report, wants_whole, wish_words};
+use crate::word::{
+    address_word, data_word, first_four, is_name, number_word, one_word, same, two_words, wanted,
+};
+use clnp_base::next_word;
+use clnp_plan::SystemConfig;
+use std::alloc::Global;
+
+/// The place of the first system of this name.
+fn first_named(systems: &[SystemConfig], name: &[u8]) -> Option<usize>
+    ensures place { result ≡ position (λ system. bytes_eq system.name name.now) systems.now }
+    ensures within { IfSome result (λ place. place < length systems.now) }
+{
+    systems.iter().position(|system| same(system.name(), name))
+}
+
+/// The place of a name among the systems'.
+fn place_of(systems: &[SystemConfig], name: &[u8]) -> Option<usize>
+    ensures place { result ≡ position (λ other. bytes_eq other name.now) (map (λ system. system.name) systems.now) }
+    ensures within { IfSome result (λ place. place < length systems.now) }
+{
+    first_named(systems, name)
+}
+
+/// The place of the system that a word names.
+fn system_word(systems: &[SystemConfig], word: &[u8]) -> Result<u8, u8>
+    requires { length systems.now ≤ 64 }
+    ensures { result ≡ declared_word (map (λ system. system.name) systems.now) word.now }
+{
+    if !is_name(word) {
+        return Err(SYNTAX);
+    }
+    match place_of(systems, word) {
+        Some(place) => Ok(place as u8),
+        None => Err(UNKNOWN_NAME),
+    }
+}
+
+/// The lifetime that the setting of the system at a place says.
+fn own_life(systems: &[SystemConfig], place: u8) -> u8
+    ensures { result ≡ own_life (slice_get systems.now place) }
+{
+    match systems.get(usize::from(place)) {
+        Some(system) => system.settings().life,
+        None => 64,
+    }
+}
+
+/// `NAME FROM TO hex:DIGITS` and wishes, behind `send`.
+#[tactic(auto, unfolding(crate::specs::Events::send_line))]
+fn send_line(alloc: Global, systems: &[SystemConfig], line: &[u8]) -> Result<Event, LineFault>
+    requires { length systems.now ≤ 64 }
+    ensures { let reading = send_line (map (λ system. system.name) systems.now) systems.now (words_of line.now) in
+        MatchResult result (λ event. reading ≡ Ok event) (λ fault. Faults fault reading) }
+{
+    let Some((name, from, to, body, words)) = first_four(line) else {
+        return Err(LineFault::Code(SYNTAX));
+    };
+    let system = system_word(systems, name)?;
+    let from = address_word(from)?;
+    let to = address_word(to)?;
+    let body = data_word(alloc, body)?;
+    let wishes = wish_words(alloc, words)?;
+    wanted(wants_whole(&wishes), SYNTAX)?;
+    wanted(each_once(&wishes), DUP_NAME)?;
+    Ok(Event::Send {
+        system,
+        from,
+        to,
+        body,
+        life: life_in(own_life(systems, system), &wishes),
+        report: !wants_no_report(&wishes),
+    })
+}
+
+/// `K NAME`, behind `deliver`.
+#[tactic(auto, unfolding(crate::specs::Events::deliver_line))]
+fn deliver_line(systems: &[SystemConfig], line: &[u8]) -> Result<Event, u8>
+    requires { length systems.now ≤ 64 }
+    ensures { result ≡ deliver_line (map (λ system. system.name) systems.now) (words_of line.now) }
+{
+    let Some((copy, name)) = two_words(line) else {
+        return Err(SYNTAX);
+    };
+    let copy = number_word(1, 1_000_000_000, copy)? as u32;
+    let system = system_word(systems, name)?;
+    Ok(Event::Deliver { copy, system })
+}
+
+/// `N`, behind `settle` and `lose`.
+#[tactic(auto, unfolding(crate::specs::Events::count_line))]
+fn count_line(line: &[u8]) -> Result<u32, u8>
+    ensures { result ≡ count_line (words_of line.now) }
+{
+    let Some(count) = one_word(line) else {
+        return Err(SYNTAX);
+    };
+    let count = number_word(1, 100_000, count)?;
+    Ok(count as u32)
+}
+
+/// The event of a line.
+#[tactic(auto, unfolding(crate::specs::Events::event_line))]
+pub(crate) fn event_line(
+    alloc: Global,
+    systems: &[SystemConfig],
+    line: &[u8],
+) -> Result<Event, LineFault>
+    requires { length systems.now ≤ 64 }
+    ensures { let reading = event_line (map (λ system. system.name) systems.now) systems.now (words_of line.now) in
+        MatchResult result (λ event. reading ≡ Ok event) (λ fault. Faults fault reading) }
+{
+    let Some((keyword, line)) = next_word(line) else {
+        return Err(LineFault::Code(SYNTAX));
+    };
+    if same(keyword, b"send") {
+        return send_line(alloc, systems, line);
+    }
+    if same(keyword, b"deliver") {
+        return match deliver_line(systems, line) {
+            Ok(event) => Ok(event),
+            Err(code) => Err(LineFault::Code(code)),
+        };
+    }
+    if same(keyword, b"settle") {
+        let count = count_line(line)?;
+        return Ok(Event::Settle { count });
+    }
+    if same(keyword, b"lose") {
+        let count = count_line(line)?;
+        return Ok(Event::Lose { count });
+    }
+    Err(LineFault::Code(SYNTAX))
+}
+
+/// The copies that an event settles or loses.
+pub(crate) fn passed_by(event: &Event) -> u32
+    ensures { result ≡ passed_by event.now }
+{
+    match event {
+        Event::Settle { count } | Event::Lose { count } => *count,
+        Event::Send { .. } | Event::Deliver { .. } => 0,
+    }
+}
+
+/// At most 100,000 events, and 10,000,000 copies settled and lost.
+pub(crate) fn within_counts(events: u64, passed: u64) -> Result<(), u8>
+    ensures { result ≡ within_counts events passed }
+{
+    wanted(events <= 100_000 && passed <= 10_000_000, COUNT)
+}
