@@ -1,4 +1,6 @@
 pub mod Playing
 pub mod Runs
 pub mod Lines
-pub mod Captured
+pub mod ByLine
+pub mod Outputs
+pub mod Commands

@@ -1,11 +1,10 @@
 -- What the lines of a capture call for.
 use Rattle.std.specs.Prelude.{◌≡◌, ℕ, ◌+◌, List, [], ◌∷◌, ◌++◌, Option}
-use Rattle.std.specs.Io.KnownBytes.{Appends}
-use Rattle.clnp_base.specs.Streams.{AppendsFront}
 use Rattle.captures.specs.Captures.{Capture, Skipped, Malformed, TooLong, Frame, capture_of}
 use Rattle.captures.specs.Shown.{Shows}
 use Rattle.clnp_tool.specs.declared.status.Status.{Status}
 use Rattle.clnp_tool.specs.declared.status.Status.TheVariants as status
+use Rattle.clnp_tool.specs.Output.{AppendsCalled, AppendsCalledFront, AppendsCalledPart}
 
 -- what a line with this number calls for, before lines that call for `later`
 abbrev pub status_at : ℕ → Capture → Status → Status
@@ -41,23 +40,14 @@ ShowsLines [] output = output ≡ []
 ShowsLines (line ∷ others) output = ShowsLine (capture_of line) (ShowsLines others) output
 
 -- the output that the lines call for was written
-pub record AppendsShown (lines : List (List ℕ)) (before after : Option (List ℕ)) : Type 0 where
-  pub output : List ℕ
-  pub shows : ShowsLines lines output
-  pub appended : Appends before after output
+abbrev pub AppendsShown : List (List ℕ) → Option (List ℕ) → Option (List ℕ) → Type 0
+AppendsShown lines before after = AppendsCalled (ShowsLines lines) before after
 
--- the output that some of the lines call for, from the first on, was written
-pub record AppendsSomeShown (lines : List (List ℕ)) (before after : Option (List ℕ)) : Type 0 where
-  pub made : List (List ℕ)
-  pub later : List (List ℕ)
-  pub all : lines ≡ made ++ later
-  pub written : AppendsShown made before after
+-- a front of the whole output that all the lines call for was written
+abbrev pub AppendsShownFront : List (List ℕ) → Option (List ℕ) → Option (List ℕ) → Type 0
+AppendsShownFront lines before after = AppendsCalledFront (ShowsLines lines) before after
 
--- a front of the output that some of the lines call for, from the first on, was written
-pub record AppendsShownFront (lines : List (List ℕ)) (before after : Option (List ℕ)) : Type 0 where
-  pub made : List (List ℕ)
-  pub later : List (List ℕ)
-  pub all : lines ≡ made ++ later
-  pub output : List ℕ
-  pub shows : ShowsLines made output
-  pub appended : AppendsFront before after output
+-- The output that some of the lines call for, from the first on, was written; the whole output that all of them call
+-- for begins with it.
+abbrev pub AppendsSomeShown : List (List ℕ) → Option (List ℕ) → Option (List ℕ) → Type 0
+AppendsSomeShown lines before after = AppendsCalledPart (ShowsLines lines) ShowsLines lines before after

@@ -1,5 +1,5 @@
 -- The words of a command line, and what they and the input call for.
-use Rattle.std.specs.Prelude.{◌≡◌, ℕ, ◌⊎◌, nat_lt, if◌then◌else◌, is_some, List, [], ◌∷◌, length, codes, Option, None, Some, Result, Ok, Err, IfOk}
+use Rattle.std.specs.Prelude.{◌≡◌, ℕ, nat_lt, if◌then◌else◌, is_some, List, [], ◌∷◌, length, codes, Option, None, Some, Result, Ok, Err, IfOk}
 use Rattle.std.specs.Str.{bytes_eq}
 use Rattle.std.specs.Io.KnownBytes.{Appends}
 use Rattle.clnp_base.specs.Streams.{AppendsFront}
@@ -8,17 +8,19 @@ use Rattle.scenario.specs.Scenario.{Plan}
 use Rattle.scenario.specs.Grammar.{BadLine, plan_of}
 use Rattle.clnp_network.specs.Run.{journal}
 use Rattle.clnp_tool.specs.declared.command.Command.{Command}
-use Rattle.clnp_tool.specs.declared.command.Command.TheVariants.{Sim, Show}
+use Rattle.clnp_tool.specs.declared.command.Command.TheVariants.{Sim, Show, Check}
 use Rattle.clnp_tool.specs.declared.status.Status.{Status}
 use Rattle.clnp_tool.specs.declared.status.Status.TheVariants.{Done, BadWords, TooLong, BadInput, ReadFault, WriteFault, NoMemory}
 use Rattle.clnp_tool.specs.Sim.{most_input, AppendsWholeMoves}
 use Rattle.clnp_tool.specs.Show.{show_status, AppendsShown, AppendsShownFront, AppendsSomeShown}
+use Rattle.clnp_tool.specs.Check.{check_status, AppendsChecked, AppendsCheckedFront, AppendsSomeChecked}
 
 -- the command of this name
 abbrev pub command_named : List ℕ → Option Command
 command_named word =
     if bytes_eq word (codes "sim") then Some Sim
     else if bytes_eq word (codes "show") then Some Show
+    else if bytes_eq word (codes "check") then Some Check
     else None
 
 abbrev pub ok_or_first : Option Command → Result Command ℕ
@@ -40,6 +42,7 @@ scenario_status (Err bad) = BadInput bad.line bad.code
 abbrev pub status_of : Command → List ℕ → Status
 status_of Sim text = scenario_status (plan_of text)
 status_of Show text = show_status 1 (lines_of text)
+status_of Check text = check_status 1 (lines_of text)
 
 -- what a command and an input call for
 abbrev pub called_by : Command → List ℕ → Status
@@ -58,24 +61,27 @@ journal_of (Err bad) = []
 abbrev pub output_of : List ℕ → List ℕ
 output_of text = journal_of (plan_of text)
 
--- The output that a command and an input call for was written: the journal of a scenario, or the lines that show
--- the frames of a capture, up to its first bad line.
+-- The output that a command and an input call for was written: the journal of a scenario, the lines that show the
+-- frames of a capture, up to its first bad line, or the verdicts on vectors, up to the first bad line, and their counts.
 abbrev pub AppendsOutput : Command → List ℕ → Option (List ℕ) → Option (List ℕ) → Type 0
 AppendsOutput Sim text before after = Appends before after (output_of text)
 AppendsOutput Show text before after = AppendsShown (lines_of text) before after
+AppendsOutput Check text before after = AppendsChecked (lines_of text) before after
 
--- A front of the output was written: of the journal of a text that is a scenario, or of what some of the lines of
--- a capture, from the first on, call for.
+-- A front of the whole output was written: of the journal of a text that is a scenario, or of what the lines of a
+-- capture or of a file of vectors call for.
 abbrev pub AppendsOutputFront : Command → List ℕ → Option (List ℕ) → Option (List ℕ) → Type 0
 AppendsOutputFront Sim text before after = (status_of Sim text ≡ Done) × AppendsFront before after (output_of text)
 AppendsOutputFront Show text before after = AppendsShownFront (lines_of text) before after
+AppendsOutputFront Check text before after = AppendsCheckedFront (lines_of text) before after
 
 -- Whole parts of the output, from the first on, were written: the text of some moves of a scenario, or what some
--- of the lines of a capture call for.
+-- of the lines of a capture or of a file of vectors call for.
 abbrev pub AppendsOutputParts : Command → List ℕ → Option (List ℕ) → Option (List ℕ) → Type 0
 AppendsOutputParts Sim text before after =
     (status_of Sim text ≡ Done) × IfOk (plan_of text) (λ plan. AppendsWholeMoves plan before after)
 AppendsOutputParts Show text before after = AppendsSomeShown (lines_of text) before after
+AppendsOutputParts Check text before after = AppendsSomeChecked (lines_of text) before after
 
 -- The excuses for an answer that the words and the input don't call for: want of memory, which is
 -- free, and a fault of the source or of the sink, which must have come in this call.

@@ -9,6 +9,8 @@ pub enum Command {
     Sim,
     /// Shows the frames of a capture.
     Show,
+    /// Judges vectors.
+    Check,
 }
 
 impl Command {
@@ -32,6 +34,8 @@ impl Command {
             Some(Command::Sim)
         } else if word == "show" {
             Some(Command::Show)
+        } else if word == "check" {
+            Some(Command::Check)
         } else {
             None
         }

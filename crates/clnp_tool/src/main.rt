@@ -1,8 +1,12 @@
-//! The program `clnp`: it simulates a connectionless network (ISO/IEC 8473, RFC 994), and shows its
-//! frames as text.
+//! The program `clnp`: it simulates a connectionless network (ISO/IEC 8473, RFC 994), shows its
+//! frames as text, and judges vectors of frames.
 #![tactic(auto)]
 
 mod arguments;
+mod block;
+mod check;
+#[cfg(test)]
+mod check_tests;
 mod command;
 mod fault;
 mod help;
@@ -52,6 +56,8 @@ fn report(rt: &impl Eprint, status: Status) {
     };
     let _ = eprintln!(rt; "clnp: {fault}");
     if let Fault::BadWords { .. } = fault {
-        let _ = eprintln!(rt; "clnp: wanted: clnp sim < SCENARIO, or clnp show < CAPTURE");
+        let _ = eprintln!(rt;
+            "clnp: wanted: clnp sim < SCENARIO, clnp show < CAPTURE, or clnp check < VECTORS"
+        );
     }
 }

@@ -1,50 +1,18 @@
 //! The command `show`: the frames of a capture as lines of text.
-ghost use Rattle.std.specs.Prelude.{◌≡◌, ◌≤◌, ℕ, List, [], ◌∷◌, ◌++◌, length, Option, Err, OnOk, OnErr};
-ghost use Rattle.std.specs.Io.KnownBytes.{Appends};
-ghost use Rattle.clnp_base.specs.Streams.{AppendsFront, Rose};
+ghost use Rattle.std.specs.Prelude.{◌≡◌, ◌≤◌, ◌+◌, ℕ, List, [], ◌∷◌, ◌++◌, length, Option, Err, OnOk};
+ghost use Rattle.clnp_base.specs.Streams.{Rose};
+ghost use Rattle.hex.specs.Hex.{IsBytes};
 ghost use Rattle.captures.specs.Shown.{Shows};
 ghost use Rattle.clnp_tool.specs.Sim.{most_input};
 ghost use Rattle.clnp_tool.specs.Play.{ComesTo};
-ghost use Rattle.clnp_tool.specs.Showing.{PushOf, BlockOf, RefusalOf, Midway, NextOf, stop_status};
+ghost use Rattle.clnp_tool.specs.ByLine.{showing, PushOf, Midway, NextOf};
 
+use crate::block::{LineStop, refuse, write_block, write_full_block};
 use crate::command::Command;
 use crate::status::Status;
-use captures::{LineRefusal, read_capture, show_line};
-use clnp_base::{Sink, next_line, write_all};
+use captures::{LineRefusal, laws, read_capture, show_line};
+use clnp_base::{Sink, next_line};
 use std::alloc::Global;
-
-/// How many octets wait before they are written in one piece.
-const BLOCK: usize = 65_536;
-
-/// The code of a line that isn't made of two hexadecimal digits for each octet.
-const SYNTAX: u8 = 2;
-
-/// The code of a line whose frame has too many octets.
-const COUNT: u8 = 10;
-
-/// Why showing stopped at a line.
-#[derive(Clone, Copy, Debug, PartialEq, Eq)]
-pub enum ShowStop {
-    /// The line is bad, with the code of what it breaks.
-    BadLine { code: u8 },
-    /// The sink failed.
-    WriteFault,
-    /// Memory was refused.
-    NoMemory,
-}
-
-impl ShowStop {
-    /// The answer where showing stopped at the line with this number.
-    fn status(self, line: u32) -> Status
-        ensures { result ≡ stop_status line self }
-    {
-        match self {
-            ShowStop::BadLine { code } => Status::BadInput { line, code },
-            ShowStop::WriteFault => Status::WriteFault,
-            ShowStop::NoMemory => Status::NoMemory,
-        }
-    }
-}
 
 /// Writes the line that shows each frame of a capture, up to the first bad line.
 pub fn show<K: Sink>(alloc: Global, text: &[u8], sink: &mut K) -> Status
@@ -53,6 +21,7 @@ pub fn show<K: Sink>(alloc: Global, text: &[u8], sink: &mut K) -> Status
     ensures comes_to { ComesTo Command.Show text.now (K.written sink.old) (K.written sink.new) result }
     ensures failed { result ≡ Status.WriteFault → Rose (K.faults sink.old) (K.faults sink.new) }
 {
+    every_frame_is_shown();
     let mut block = Vec::new(alloc);
     let mut number = 0u32;
     let mut left = text;
@@ -69,30 +38,35 @@ pub fn show<K: Sink>(alloc: Global, text: &[u8], sink: &mut K) -> Status
     }
 }
 
+/// Each frame of octets has a line that shows it.
+fn every_frame_is_shown()
+    ensures { (frame : List ℕ) → IsBytes frame → (line : List ℕ) × Shows frame line }
+{
+    laws::one_line();
+}
+
 /// Puts the next line into the block, and writes the block where it is full or the line is bad.
 fn show_next<K: Sink>(
     alloc: Global,
     line: &[u8],
     block: &mut Vec<u8>,
     sink: &mut K,
-) -> Result<(), ShowStop>
+) -> Result<(), LineStop>
     ensures later { K.faults sink.old ≤ K.faults sink.new }
     ensures comes_to { (all left : List (List ℕ)) (number : ℕ) (before : Option (List ℕ))
-        → Midway all (line.now ∷ left) number before (K.written sink.old) block.old.items
-        → NextOf all left number before (K.written sink.new) block.new.items result }
-    ensures failed { result ≡ Err ShowStop.WriteFault → Rose (K.faults sink.old) (K.faults sink.new) }
+        → Midway showing 1 number all (line.now ∷ left) before (K.written sink.old) block.old.items
+        → NextOf showing 1 (λ done. number + 1) all left number before (K.written sink.new) block.new.items result }
+    ensures failed { result ≡ Err LineStop.WriteFault → Rose (K.faults sink.old) (K.faults sink.new) }
 {
     match push_line(alloc, line, block) {
         Ok(()) => write_full_block(block, sink),
-        Err(LineRefusal::Syntax) => refuse(SYNTAX, block, sink),
-        Err(LineRefusal::Count) => refuse(COUNT, block, sink),
-        Err(LineRefusal::NoMemory) => Err(ShowStop::NoMemory),
+        Err(refusal) => Err(refuse(refusal, block, sink)),
     }
 }
 
 /// Puts the line that shows the frame of a line into the block, if it has one.
 fn push_line(alloc: Global, line: &[u8], block: &mut Vec<u8>) -> Result<(), LineRefusal>
-    ensures { PushOf line.now block.old.items block.new.items result }
+    ensures { (number : ℕ) → PushOf showing number (λ done. number + 1) number line.now block.old.items block.new.items result }
 {
     let mut frame = Vec::new(alloc);
     if read_capture(alloc, line, &mut frame)? {
@@ -111,45 +85,4 @@ fn push_shown(alloc: Global, frame: &[u8], block: &mut Vec<u8>) -> Result<(), Li
         return Err(LineRefusal::NoMemory);
     }
     Ok(())
-}
-
-/// Writes the block before a bad line, and stops there.
-fn refuse<K: Sink>(code: u8, block: &mut Vec<u8>, sink: &mut K) -> Result<(), ShowStop>
-    ensures later { K.faults sink.old ≤ K.faults sink.new }
-    ensures written { RefusalOf code block.old.items (K.written sink.old) (K.written sink.new) result }
-    ensures failed { result ≡ Err ShowStop.WriteFault → Rose (K.faults sink.old) (K.faults sink.new) }
-{
-    match write_block(block, sink) {
-        Ok(()) => Err(ShowStop::BadLine { code }),
-        Err(_) => Err(ShowStop::WriteFault),
-    }
-}
-
-/// Writes the block where it is full.
-fn write_full_block<K: Sink>(block: &mut Vec<u8>, sink: &mut K) -> Result<(), ShowStop>
-    ensures later { K.faults sink.old ≤ K.faults sink.new }
-    ensures written { BlockOf block.old.items block.new.items (K.written sink.old) (K.written sink.new) result }
-    ensures failed { result ≡ Err ShowStop.WriteFault → Rose (K.faults sink.old) (K.faults sink.new) }
-{
-    if block.len() < BLOCK {
-        return Ok(());
-    }
-    write_block(block, sink)
-}
-
-/// Writes the block, and empties it.
-fn write_block<K: Sink>(block: &mut Vec<u8>, sink: &mut K) -> Result<(), ShowStop>
-    ensures later { K.faults sink.old ≤ K.faults sink.new }
-    ensures written { BlockOf block.old.items block.new.items (K.written sink.old) (K.written sink.new) result }
-    ensures done { OnOk result (Appends (K.written sink.old) (K.written sink.new) block.old.items) }
-    ensures front { OnErr result (AppendsFront (K.written sink.old) (K.written sink.new) block.old.items) }
-    ensures failed { OnErr result (Rose (K.faults sink.old) (K.faults sink.new)) }
-{
-    match write_all(sink, block.as_slice()) {
-        Ok(()) => {
-            block.clear();
-            Ok(())
-        }
-        Err(_) => Err(ShowStop::WriteFault),
-    }
 }

@@ -28,6 +28,56 @@ const JOURNAL: &str = "\
 end 0 1
 ";
 
+/// Three hosts on two subnetworks: units that come twice, are lost, or aren't for the one that gets them.
+const NETWORK: &str = "\
+# Three hosts: a and b share a subnetwork, c is alone on another one.
+clnp-sim 1
+
+subnet lan 1500
+subnet far 576
+system a host hello=0
+system b host checksum=off hello=0
+system c host hello=0 life=7
+address a 47002702
+address b 47002701
+address b 47.0027.0101
+address c 47009901
+port a 0 lan 01
+port b 0 lan 02
+port c 0 far 01
+
+events
+send a 47002702 4700270101 hex:6869 life=10 whole
+settle 1
+# The copy stays, and may come again. It isn't on the subnetwork of c.
+deliver 1 b
+deliver 1 c
+send c 47009901 47002702 hex:00 whole noreport
+lose 1
+deliver 2 a
+send b 47002701 47009901 hex:ff whole
+settle 1
+deliver 9 b
+end
+";
+
+/// Its journal.
+const NETWORK_JOURNAL: &str = "\
+0 a sent dt 1 - 47002702 4700270101 2
+0 a tx 1 0 es 8114010a3c001641e105470027010104470027026869
+0 b got 47002702 4700270101 6869
+0 b got 47002702 4700270101 6869
+0 c void 1
+0 c sent dt 1 - 47009901 47002702 1
+0 c tx 2 0 es 811301071c001461770447002702044700990100
+0 a void 2
+0 b sent dt 1 - 47002701 47009901 1
+0 b tx 3 0 es 811301403c0014000004470099010447002701ff
+0 a notmine 47009901
+0 b void 9
+end 0 3
+";
+
 /// A PDU in hexadecimal digits.
 const FRAME: &str = "8113010a3c0015ce58044700270104470027026869";
 
@@ -64,21 +114,21 @@ refused G13 04 18 report
 
 /// A call of the program: its input, and the source and sink that it is made over.
 #[derive(Clone, Copy)]
-struct Call<'a> {
+pub struct Call<'a> {
     /// The words, with spaces between them.
-    words: &'a str,
-    text: &'a [u8],
+    pub words: &'a str,
+    pub text: &'a [u8],
     /// The most octets that source and sink move in one call, at least 1.
-    most: usize,
+    pub most: usize,
     /// How many octets the sink has room for.
-    room: usize,
-    read_fails: &'a [u64],
-    write_fails: &'a [u64],
+    pub room: usize,
+    pub read_fails: &'a [u64],
+    pub write_fails: &'a [u64],
 }
 
 impl Call<'_> {
     /// The status, and the sink as it is afterwards.
-    fn run(self, alloc: Global) -> Result<(Status, MemSink), Fail> {
+    pub fn run(self, alloc: Global) -> Result<(Status, MemSink), Fail> {
         let mut words = Vec::new(alloc);
         for word in self.words.split_whitespace() {
             words.push(String::from_str(alloc, word)?)?;
@@ -138,6 +188,14 @@ fn seals_where_nothing_says_otherwise(rt: HostRuntime) -> Result<(), Fail> {
 }
 
 #[test]
+fn delivers_again_and_loses(rt: HostRuntime) -> Result<(), Fail> {
+    let (status, sink) = sim(NETWORK.as_bytes(), 100).run(rt.alloc())?;
+    assert_eq!(rt; status, Status::Done);
+    assert_eq!(rt; sink.as_bytes(), NETWORK_JOURNAL.as_bytes());
+    Ok(())
+}
+
+#[test]
 fn stops_where_the_sink_fails(rt: HostRuntime) -> Result<(), Fail> {
     // What was taken before each call: a send writes 93 octets, the settle 31, the end 8.
     let taken = [
@@ -187,6 +245,8 @@ fn refuses_words(rt: HostRuntime) -> Result<(), Fail> {
         ("shows", 0),
         ("sim x", 1),
         ("show sim", 1),
+        ("check extra", 1),
+        ("checks", 0),
         ("--help sim", 0),
         ("Sim", 0),
     ];

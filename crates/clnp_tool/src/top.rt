@@ -13,6 +13,7 @@ ghost use Rattle.clnp_tool.specs.Words.{command_of, called, called_by, AppendsOu
 ghost use Rattle.clnp_tool.specs.Sim.{most_input, ReadsWhole};
 ghost use Rattle.clnp_tool.specs.Play.{PieceOf, PlayOf, JournalOf, ComesTo};
 
+use crate::check::check;
 use crate::command::Command;
 use crate::show::show;
 use crate::status::Status;
@@ -29,7 +30,8 @@ const MOST_INPUT: usize = 16_777_216;
 ///
 /// `sim` reads a scenario text and writes its journal. Nothing is written before the whole text
 /// was accepted. `show` reads a capture and writes a line for each of its frames, up to the first
-/// bad line.
+/// bad line. `check` reads vectors and writes the verdict on each, up to the first bad line, and at
+/// the end how many passed and how many failed.
 pub fn clnp_main<S: Source, K: Sink>(
     alloc: Global,
     words: &[String],
@@ -51,7 +53,8 @@ pub fn clnp_main<S: Source, K: Sink>(
         → Keeps (S.left source.old) (S.left source.new) × Keeps (K.written sink.old) (K.written sink.new) }
 
     // Done: all was read, and the output that the command and the text call for was written: the
-    // journal of the run of the scenario that the text is, or the shown lines of a capture.
+    // journal of the run of the scenario that the text is, or the shown lines of a capture, or the
+    // verdicts on vectors and their counts.
     ensures done { result ≡ Status.Done → (command : Command) × (command_of (map string_bytes words.now) ≡ Ok command)
         × ((text : List ℕ) × ReadsWhole (S.left source.old) (S.left source.new) text
         × (called_by command text ≡ Status.Done) × AppendsOutput command text (K.written sink.old) (K.written sink.new)) }
@@ -61,7 +64,8 @@ pub fn clnp_main<S: Source, K: Sink>(
         × (most_input < length text) × Keeps (K.written sink.old) (K.written sink.new) }
 
     // Bad input: all was read, and this is its first bad line. The output of the lines of a
-    // capture before it was written, and nothing of a text that is no scenario.
+    // capture or of a file of vectors before it was written, and nothing of a text that is no
+    // scenario.
     ensures bad_input { (line code : ℕ) → result ≡ Status.BadInput line code
         → (command : Command) × (command_of (map string_bytes words.now) ≡ Ok command)
         × ((text : List ℕ) × ReadsWhole (S.left source.old) (S.left source.new) text
@@ -79,7 +83,7 @@ pub fn clnp_main<S: Source, K: Sink>(
         × AppendsOutputFront command text (K.written sink.old) (K.written sink.new))) }
 
     // No memory: nothing was written, or the journal of some of the moves, or what some of the
-    // lines of a capture call for.
+    // lines of a capture or of a file of vectors call for.
     ensures no_memory { result ≡ Status.NoMemory → Keeps (K.written sink.old) (K.written sink.new)
         ⊎ ((command : Command) × (command_of (map string_bytes words.now) ≡ Ok command)
         × ((text : List ℕ) × ReadsWhole (S.left source.old) (S.left source.new) text
@@ -119,6 +123,7 @@ fn obey<K: Sink>(alloc: Global, command: Command, text: &[u8], sink: &mut K) -> 
     match command {
         Command::Sim => sim(alloc, text, sink),
         Command::Show => show(alloc, text, sink),
+        Command::Check => check(alloc, text, sink),
     }
 }
 
@@ -201,26 +206,32 @@ fn play_event<K: Sink>(
     ensures failed { result ≡ Err Stop.WriteFault → Rose (K.faults sink.old) (K.faults sink.new) }
 {
     match event {
-        Event::Settle { count } => play_settles(alloc, scenario, *count, world, sink),
-        Event::Send { .. } => play_move(alloc, scenario, &Move::One(place), world, sink),
+        Event::Settle { count } => {
+            play_times(alloc, scenario, &Move::SettleOne, *count, world, sink)
+        }
+        Event::Lose { count } => play_times(alloc, scenario, &Move::LoseOne, *count, world, sink),
+        Event::Send { .. } | Event::Deliver { .. } => {
+            play_move(alloc, scenario, &Move::One(place), world, sink)
+        }
     }
 }
 
-/// Settles so many copies, one after another, and writes the lines.
-fn play_settles<K: Sink>(
+/// Makes one move so many times and writes the lines.
+fn play_times<K: Sink>(
     alloc: Global,
     scenario: &Scenario,
+    mv: &Move,
     count: u32,
     world: &mut World,
     sink: &mut K,
 ) -> Result<(), Stop>
     ensures later { K.faults sink.old ≤ K.faults sink.new }
     ensures comes_to { (model : network.World) → Stands world.old model
-        → PlayOf scenario.now model (replicate count Move.SettleOne) world.new (K.written sink.old) (K.written sink.new) result }
+        → PlayOf scenario.now model (replicate count mv.now) world.new (K.written sink.old) (K.written sink.new) result }
     ensures failed { result ≡ Err Stop.WriteFault → Rose (K.faults sink.old) (K.faults sink.new) }
 {
-    for _settled in 0..count {
-        play_move(alloc, scenario, &Move::SettleOne, world, sink)?;
+    for _made in 0..count {
+        play_move(alloc, scenario, mv, world, sink)?;
     }
     Ok(())
 }

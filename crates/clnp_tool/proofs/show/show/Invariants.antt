@@ -1,12 +1,12 @@
 use Rattle.std.proofs.Common.{◌+◌, ◌≤◌, length}
 use Rattle.clnp_base.specs.Text.{lines_of}
 use Rattle.clnp_tool.specs.Sim.{most_input}
-use Rattle.clnp_tool.specs.Showing.{Midway}
+use Rattle.clnp_tool.specs.ByLine.{showing, Midway}
 use Rattle.clnp_tool.proofs.show.show.Given as goal
 
 abbrev pub invariant-loop-line : goal.invariant-loop-line
 invariant-loop-line g l =
-    Midway (lines_of l.text) (lines_of l.left) l.number (g.K.Sink.written l.initial.sink) (g.K.Sink.written l.sink) l.block.items
+    Midway showing 1 (l.number + 1) (lines_of l.text) (lines_of l.left) (g.K.Sink.written l.initial.sink) (g.K.Sink.written l.sink) l.block.items
     × (g.K.Sink.faults l.initial.sink ≤ g.K.Sink.faults l.sink)
     × (l.number + length (lines_of l.left) ≤ most_input)
 
