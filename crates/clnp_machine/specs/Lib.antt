@@ -1,4 +1,5 @@
 pub mod Unit
-pub mod System
-pub mod Host
 pub mod Identifiers
+pub mod System
+pub mod Local
+pub mod Host

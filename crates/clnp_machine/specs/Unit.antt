@@ -1,9 +1,12 @@
 -- Units, and the packets that travel: a packet is a labelled range of a unit, and has no octets of its own.
-use Rattle.std.specs.Prelude.{ℕ, ◌+◌, ◌-◌, nat_lt, Bool, false, if◌then◌else◌, List, [], ◌∷◌, length, take, drop, Option, None, Some, option_map}
+use Rattle.std.specs.Prelude.{ℕ, ◌+◌, ◌-◌, ◌≤◌, nat_le, nat_lt, Bool, false, if◌then◌else◌, List, [], ◌∷◌, length, map, take, drop, Option, None, Some, option_map}
 use Rattle.pdu_header.specs.declared.kind.Kind.{Kind}
 use Rattle.clnp_options.specs.Parameter.{Parameter}
 use Rattle.pdu_header.specs.Value.{SegmentationPart, PduValue}
 use Rattle.pdu_header.specs.Spelling.{spelling, header_length}
+use Rattle.pdu_header.specs.Grammar.{IsPdu}
+use Rattle.segmenter.specs.Range.{Range}
+use Rattle.segmenter.specs.Cut.{data_room, ranges}
 
 -- who made a unit: the system declared at a place, from 0, or somebody outside
 pub data Maker : Type 0 where
@@ -82,7 +85,22 @@ abbrev pub whole_packet : Unit → Packet
 whole_packet u =
     record { unit = u; offset = 0; length = length u.octets; lifetime = u.lifetime; options = u.options; hops = 0 }
 
+-- the packet of a range of a packet's places
+abbrev pub piece_of : Packet → Range → Packet
+piece_of p range = record p { offset = p.offset + range.from; length = range.len }
+
+-- the packets of the ranges into which the places of a packet are divided for an MTU
+abbrev pub pieces : Packet → ℕ → List Packet
+pieces p mtu = map (piece_of p) (ranges (data_room (header_length (value_of p)) mtu) p.length)
+
 -- The packets into which one is cut for an MTU: it alone where it fits; none where it may not be
 -- segmented (ISO 8473, section 6.7).
 abbrev pub cut : Packet → ℕ → Option (List Packet)
-cut p mtu = if nat_lt mtu (length (wire p)) then None else Some (p ∷ [])
+cut p mtu =
+    if nat_le (length (wire p)) mtu then Some (p ∷ []) else option_map (λ identifier. pieces p mtu) p.unit.identifier
+
+-- a PDU can carry the packet, and its places are among those of its unit's octets
+pub record IsCarriable (p : Packet) : Type 0 where
+  pub pdu : IsPdu (value_of p)
+  pub from : p.unit.first_position ≤ p.offset
+  pub to : p.offset + p.length ≤ p.unit.first_position + length p.unit.octets

@@ -1,10 +1,10 @@
 -- A run: the moves of a scenario, one after another, and its journal.
-use Rattle.std.specs.Prelude.{ℕ, List, [], ◌∷◌, ◌++◌, length}
+use Rattle.std.specs.Prelude.{ℕ, if◌then◌else◌, List, [], ◌∷◌, ◌++◌, length, Option, None, Some}
 use Rattle.std.specs.List.{flat_map}
 use Rattle.clnp_plan.specs.Journal.{Line, line_text, end_text}
 use Rattle.scenario.specs.Scenario.{Plan, moves_from}
 use Rattle.scenario.specs.declared.event.Move.{Move}
-use Rattle.clnp_network.specs.World.{World, after, first_world}
+use Rattle.clnp_network.specs.World.{World, after, first_world, is_full, weight}
 
 -- a move, and the lines that it wrote
 pub record Entry : Type 0 where
@@ -31,16 +31,39 @@ text_of plan w (move ∷ moves) = lines_text (after plan w move).lines ++ text_o
 abbrev pub moves_of_plan : Plan → List Move
 moves_of_plan plan = moves_from 0 plan.events
 
+-- the moves before the first at which the network is full
+abbrev pub until_full : Plan → World → List Move → List Move
+until_full plan w [] = []
+until_full plan w (move ∷ moves) = if is_full w then [] else move ∷ until_full plan (after plan w move).world moves
+
+-- the weight of the network where it is full before a move
+abbrev pub full_weight : Plan → World → List Move → Option ℕ
+full_weight plan w [] = None
+full_weight plan w (move ∷ moves) = if is_full w then Some (weight w) else full_weight plan (after plan w move).world moves
+
+-- the moves of a scenario that are made
+abbrev pub moves_made : Plan → List Move
+moves_made plan = until_full plan (first_world plan) (moves_of_plan plan)
+
+-- the weight at which the run of a scenario stops, where it does
+abbrev pub stopped_at : Plan → Option ℕ
+stopped_at plan = full_weight plan (first_world plan) (moves_of_plan plan)
+
 -- the run of a scenario
 abbrev pub run : Plan → List Entry
-run plan = entries_of plan (first_world plan) (moves_of_plan plan)
+run plan = entries_of plan (first_world plan) (moves_made plan)
 
 abbrev pub last_world : Plan → World
-last_world plan = world_after plan (first_world plan) (moves_of_plan plan)
+last_world plan = world_after plan (first_world plan) (moves_made plan)
 
 abbrev pub world_end : World → List ℕ
 world_end w = end_text w.clock (length w.copies)
 
+-- the last line of a journal, where the run wasn't stopped
+abbrev pub ending : Option ℕ → World → List ℕ
+ending None w = world_end w
+ending (Some weight) w = []
+
 -- the journal of a scenario
 abbrev pub journal : Plan → List ℕ
-journal plan = text_of plan (first_world plan) (moves_of_plan plan) ++ world_end (last_world plan)
+journal plan = text_of plan (first_world plan) (moves_made plan) ++ ending (stopped_at plan) (last_world plan)

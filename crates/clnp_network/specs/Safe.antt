@@ -1,13 +1,17 @@
--- Each data unit handed up is one that was sent before.
-use Rattle.std.specs.Prelude.{◌≡◌, ℕ, ◌⊎◌, List, [], ◌∷◌, ◌++◌, slice_get, Option, Some}
+-- What a safe run is: each data unit handed up is one that was sent before, and no system holds more octets for
+-- reassembly than it may.
+use Rattle.std.specs.Prelude.{◌≡◌, ℕ, ◌≤◌, ◌⊎◌, List, [], ◌∷◌, ◌++◌, slice_get, Option, Some}
 use Rattle.clnp_plan.specs.Journal.{Line, Noted}
-use Rattle.clnp_plan.specs.declared.note.Note.TheVariants.{Refused, Got}
-use Rattle.scenario.specs.Scenario.{Plan}
+use Rattle.clnp_plan.specs.declared.note.Note.TheVariants.{Refused, Got, Interference}
+use Rattle.scenario.specs.Scenario.{Plan, octets_of}
 use Rattle.scenario.specs.declared.event.Event.{Event}
 use Rattle.scenario.specs.declared.event.Event.TheVariants.{Send}
 use Rattle.scenario.specs.declared.event.Move.{Move}
-use Rattle.scenario.specs.declared.event.Move.TheVariants.{One, SettleOne, LoseOne}
+use Rattle.scenario.specs.declared.event.Move.TheVariants.{One, SettleOne, LoseOne, TickOne}
+use Rattle.clnp_network.specs.World.{World}
 use Rattle.clnp_network.specs.Run.{Entry}
+use Rattle.reassembly.specs.Buffer.{held}
+use Rattle.std.specs.List.{AllByRecursion}
 
 -- some line says that a unit from here to there was handed up with these octets
 abbrev pub HandsUp : List Line → List ℕ → List ℕ → List ℕ → Type 0
@@ -24,8 +28,8 @@ NoRefusal (_ ∷ lines) = NoRefusal lines
 
 -- the event asks for these octets to be sent from here to there
 abbrev pub AsksFor : Option Event → List ℕ → List ℕ → List ℕ → Type 0
-AsksFor (Some (Send system source destination body life report)) from to octets =
-    (source ≡ from) × (destination ≡ to) × (body ≡ octets)
+AsksFor (Some (Send system source destination body ask)) from to octets =
+    (source ≡ from) × (destination ≡ to) × (octets_of body ≡ octets)
 AsksFor _ from to octets = ⊥
 
 -- the move is the event that asks for these octets to be sent
@@ -33,6 +37,7 @@ abbrev pub IsSend : Plan → Move → List ℕ → List ℕ → List ℕ → Typ
 IsSend plan (One place) from to octets = AsksFor (slice_get plan.events place) from to octets
 IsSend plan SettleOne from to octets = ⊥
 IsSend plan LoseOne from to octets = ⊥
+IsSend plan TickOne from to octets = ⊥
 
 -- one of the entries sent these octets from here to there, and wasn't refused
 abbrev pub WasSent : Plan → List Entry → List ℕ → List ℕ → List ℕ → Type 0
@@ -50,3 +55,13 @@ EachWasSent plan past (entry ∷ later) =
 -- the run hands up only what it sent before
 abbrev pub IsHonest : Plan → List Entry → Type 0
 IsHonest plan entries = EachWasSent plan [] entries
+
+-- no system of the network holds more octets for reassembly than its budget
+abbrev pub IsWithinBudgets : World → Type 0
+IsWithinBudgets w = AllByRecursion (λ system. held system.buffers ≤ system.configuration.settings.budget) w.systems
+
+-- no segment of a unit meets another unit's in a buffer
+abbrev pub NoInterference : List Line → Type 0
+NoInterference [] = Unit {0}
+NoInterference (Noted now name (Interference id) ∷ lines) = ⊥
+NoInterference (_ ∷ lines) = NoInterference lines

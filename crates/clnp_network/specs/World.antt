@@ -1,22 +1,23 @@
 -- The simulated network: its systems, the copies of frames that were ever put on a subnetwork, and its moves.
-use Rattle.std.specs.Prelude.{ℕ, ◌+◌, ◌-◌, ◌==◌, ◌&&◌, not, Bool, false, if◌then◌else◌, List, [], ◌∷◌, ◌++◌, length, slice_get, slice_set, Option, None, Some}
-use Rattle.std.specs.List.{list_any}
+use Rattle.std.specs.Prelude.{ℕ, ◌+◌, ◌-◌, ◌==◌, ◌&&◌, not, nat_le, nat_lt, Bool, false, if◌then◌else◌, List, [], ◌∷◌, ◌++◌, length, map, sum, slice_get, slice_set, Option, None, Some}
+use Rattle.std.specs.List.{list_any, range_with_len}
 use Rattle.std.specs.Str.{bytes_eq}
 use Rattle.nsap.specs.declared.target.Target.{Target}
 use Rattle.nsap.specs.declared.target.Target.TheVariants.{System, EndSystems, Routers}
 use Rattle.clnp_plan.specs.Configuration.{SystemConfiguration}
-use Rattle.clnp_plan.specs.Journal.{Line, Noted, Transmitted, Void}
+use Rattle.clnp_plan.specs.Journal.{Line, Noted, Transmitted, Void, Late}
+use Rattle.clnp_plan.specs.declared.config.Limits.{Limits}
 use Rattle.clnp_plan.specs.declared.config.Role.{Role}
 use Rattle.clnp_plan.specs.declared.config.Role.TheVariants.{Host, Router}
 use Rattle.clnp_plan.specs.declared.config.PortConfig.{PortConfig}
-use Rattle.scenario.specs.Scenario.{Plan}
+use Rattle.scenario.specs.Scenario.{Plan, octets_of}
 use Rattle.scenario.specs.declared.event.Event.{Event}
-use Rattle.scenario.specs.declared.event.Event.TheVariants.{Send, Deliver, Settle, Lose}
+use Rattle.scenario.specs.declared.event.Event.TheVariants.{Send, Deliver, Settle, Lose, Tick, Restart}
 use Rattle.scenario.specs.declared.event.Move.{Move}
-use Rattle.scenario.specs.declared.event.Move.TheVariants.{One, SettleOne, LoseOne}
+use Rattle.scenario.specs.declared.event.Move.TheVariants.{One, SettleOne, LoseOne, TickOne}
 use Rattle.clnp_machine.specs.Unit.{Packet, wire}
-use Rattle.clnp_machine.specs.System.{SystemState, Content, Labelled, Output, Transmits, Notes, Effect}
-use Rattle.clnp_machine.specs.Host.{send, arrive}
+use Rattle.clnp_machine.specs.System.{SystemState, first_state, Content, Labelled, frame_of, Output, Transmits, Notes, Effect}
+use Rattle.clnp_machine.specs.Host as host
 
 -- a frame on a subnetwork, for good
 pub record Copy : Type 0 where
@@ -24,7 +25,7 @@ pub record Copy : Type 0 where
   -- the sender's address there
   pub sender : List ℕ
   pub target : Target
-  -- the moment of its making
+  -- the moment of its unit's making
   pub birth : ℕ
   pub content : Content
 
@@ -33,7 +34,7 @@ pub record World : Type 0 where
   pub systems : List SystemState
   -- in the order of their numbers, which count from 1
   pub copies : List Copy
-  -- how many of the copies were settled
+  -- how many of the copies were settled or lost
   pub cursor : ℕ
 
 -- the world after a part of a move, and the lines that it wrote
@@ -44,11 +45,15 @@ pub record Step : Type 0 where
 abbrev pub nothing : World → Step
 nothing w = record { world = w; lines = [] }
 
+-- nothing changes but that a line is written
+abbrev pub writes : World → Line → Step
+writes w line = record { world = w; lines = line ∷ [] }
+
 -- one part, and then the next
 abbrev pub followed_by : Step → (World → Step) → Step
 followed_by step next = record { world = (next step.world).world; lines = step.lines ++ (next step.world).lines }
 
--- the port of a system at a number
+-- the copy that a packet makes on a port's subnetwork, where there is such a port
 abbrev pub copy_from : Option PortConfig → Target → Packet → List Copy
 copy_from None target packet = []
 copy_from (Some port) target packet =
@@ -56,7 +61,7 @@ copy_from (Some port) target packet =
 
 -- one output of a system: its note, or the copy that it puts on a port's subnetwork
 abbrev pub put_out : SystemConfiguration → World → Output → Step
-put_out system w (Notes note) = record { world = w; lines = Noted w.clock system.name note ∷ [] }
+put_out system w (Notes note) = writes w (Noted w.clock system.name note)
 put_out system w (Transmits port target packet) =
     record {
       world = record w { copies = w.copies ++ copy_from (slice_get system.ports port) target packet };
@@ -99,21 +104,37 @@ addressees_from place copy (system ∷ systems) =
     if is_addressee copy system.configuration then place ∷ addressees_from (place + 1) copy systems
     else addressees_from (place + 1) copy systems
 
--- the copy is given to the system at a place
-abbrev pub give : Copy → World → ℕ → Step
-give copy w place = system_does w place (λ system. arrive system copy.content)
+-- a copy with its number
+pub record Numbered : Type 0 where
+  pub number : ℕ
+  pub copy : Copy
 
-abbrev pub give_each : Copy → World → List ℕ → Step
-give_each copy w [] = nothing w
-give_each copy w (place ∷ places) = followed_by (give copy w place) (λ v. give_each copy v places)
+-- whether a copy is older than one may be that is given
+abbrev pub is_late : Limits → World → Copy → Bool
+is_late limits w copy = nat_lt (copy.birth + limits.age) w.clock
+
+-- the copy is given to a system at its place, unless it is late
+abbrev pub give_to : Limits → Numbered → World → ℕ → Option SystemState → Step
+give_to limits given w place None = nothing w
+give_to limits given w place (Some system) =
+    if is_late limits w given.copy then writes w (Late w.clock system.configuration.name given.number)
+    else takes_effect w place (host.arrive system given.copy.content)
+
+abbrev pub give : Limits → Numbered → World → ℕ → Step
+give limits given w place = give_to limits given w place (slice_get w.systems place)
+
+abbrev pub give_each : Limits → Numbered → World → List ℕ → Step
+give_each limits given w [] = nothing w
+give_each limits given w (place ∷ places) = followed_by (give limits given w place) (λ v. give_each limits given v places)
 
 -- the copy at the cursor is given to each of its addressees in the order of the declarations
-abbrev pub settle_copy : World → Option Copy → Step
-settle_copy w None = nothing w
-settle_copy w (Some copy) = give_each copy (record w { cursor = w.cursor + 1 }) (addressees_from 0 copy w.systems)
+abbrev pub settle_copy : Limits → World → Option Copy → Step
+settle_copy limits w None = nothing w
+settle_copy limits w (Some copy) =
+    give_each limits (record { number = w.cursor + 1; copy = copy }) (record w { cursor = w.cursor + 1 }) (addressees_from 0 copy w.systems)
 
-abbrev pub settle_one : World → Step
-settle_one w = settle_copy w (slice_get w.copies w.cursor)
+abbrev pub settle_one : Limits → World → Step
+settle_one limits w = settle_copy limits w (slice_get w.copies w.cursor)
 
 -- the copy at the cursor is given to nobody
 abbrev pub lose_copy : World → Option Copy → Step
@@ -125,42 +146,69 @@ lose_one w = lose_copy w (slice_get w.copies w.cursor)
 
 -- the line of a copy that isn't there, or isn't for the system
 abbrev pub is_void : World → SystemState → ℕ → Step
-is_void w system number = record { world = w; lines = Void w.clock system.configuration.name number ∷ [] }
+is_void w system number = writes w (Void w.clock system.configuration.name number)
 
 -- the copy with a number is given to the system at a place, where it is for it
-abbrev pub deliver_to : World → ℕ → ℕ → Option Copy → SystemState → Step
-deliver_to w number place None system = is_void w system number
-deliver_to w number place (Some copy) system =
-    if is_addressee copy system.configuration then give copy w place else is_void w system number
+abbrev pub deliver_to : Limits → World → ℕ → ℕ → Option Copy → SystemState → Step
+deliver_to limits w number place None system = is_void w system number
+deliver_to limits w number place (Some copy) system =
+    if is_addressee copy system.configuration then give limits (record { number = number; copy = copy }) w place
+    else is_void w system number
 
-abbrev pub deliver_at : World → ℕ → ℕ → Option SystemState → Step
-deliver_at w number place None = nothing w
-deliver_at w number place (Some system) = deliver_to w number place (slice_get w.copies (number - 1)) system
+abbrev pub deliver_at : Limits → World → ℕ → ℕ → Option SystemState → Step
+deliver_at limits w number place None = nothing w
+deliver_at limits w number place (Some system) = deliver_to limits w number place (slice_get w.copies (number - 1)) system
 
-abbrev pub deliver : World → ℕ → ℕ → Step
-deliver w number place = deliver_at w number place (slice_get w.systems place)
+abbrev pub deliver : Limits → World → ℕ → ℕ → Step
+deliver limits w number place = deliver_at limits w number place (slice_get w.systems place)
+
+-- the clock's moment comes to each of some systems
+abbrev pub tick_each : World → List ℕ → Step
+tick_each w [] = nothing w
+tick_each w (place ∷ places) =
+    followed_by (system_does w place (λ system. host.tick system w.clock)) (λ v. tick_each v places)
+
+-- the clock goes on, and its moment comes to each system in the order of the declarations
+abbrev pub tick_one : World → Step
+tick_one w = tick_each (record w { clock = w.clock + 1 }) (range_with_len 0 (length w.systems))
 
 -- what an event of one move does
-abbrev pub event_happens : World → Option Event → Step
-event_happens w None = nothing w
-event_happens w (Some (Settle count)) = nothing w
-event_happens w (Some (Lose count)) = nothing w
-event_happens w (Some (Deliver copy system)) = deliver w copy system
-event_happens w (Some (Send system from to body life report)) =
-    system_does w system (λ s. send s from to body (record { lifetime = life; report = report; options = [] }))
+abbrev pub event_happens : Limits → World → Option Event → Step
+event_happens limits w None = nothing w
+event_happens limits w (Some (Settle count)) = nothing w
+event_happens limits w (Some (Lose count)) = nothing w
+event_happens limits w (Some (Tick count)) = nothing w
+event_happens limits w (Some (Deliver copy system)) = deliver limits w copy system
+event_happens limits w (Some (Restart system)) = system_does w system host.restart
+event_happens limits w (Some (Send system from to body ask)) = system_does w system (λ s. host.send s from to (octets_of body) ask)
 
 -- one move of the network
 abbrev pub after : Plan → World → Move → Step
-after plan w (One place) = event_happens w (slice_get plan.events place)
-after plan w SettleOne = settle_one w
+after plan w (One place) = event_happens plan.limits w (slice_get plan.events place)
+after plan w SettleOne = settle_one plan.limits w
 after plan w LoseOne = lose_one w
+after plan w TickOne = tick_one w
 
 -- the systems as they are declared, from a place on
-abbrev pub states_from : ℕ → List SystemConfiguration → List SystemState
-states_from place [] = []
-states_from place (system ∷ systems) =
-    record { place = place; configuration = system; moment = 0; count = 0 } ∷ states_from (place + 1) systems
+abbrev pub states_from : Limits → ℕ → List SystemConfiguration → List SystemState
+states_from limits place [] = []
+states_from limits place (system ∷ systems) =
+    first_state place system limits 0 0 ∷ states_from limits (place + 1) systems
 
 -- the world of a scenario's declarations
 abbrev pub first_world : Plan → World
-first_world plan = record { clock = 0; systems = states_from 0 plan.systems; copies = []; cursor = 0 }
+first_world plan = record { clock = 0; systems = states_from plan.limits 0 plan.systems; copies = []; cursor = 0 }
+
+-- what a copy weighs: its octets, and 64
+abbrev pub copy_weight : Copy → ℕ
+copy_weight copy = length (frame_of copy.content) + 64
+
+abbrev pub weight : World → ℕ
+weight w = sum (map copy_weight w.copies)
+
+-- the weight from which on no move is made
+abbrev pub most_weight : ℕ
+most_weight = 268435456
+
+abbrev pub is_full : World → Bool
+is_full w = nat_le most_weight (weight w)

@@ -1,6 +1,9 @@
--- What a scenario says of one system.
-use Rattle.std.specs.Prelude.{ℕ, List}
+-- What a scenario says of one system, and how long things last in a network.
+use Rattle.std.specs.Prelude.{◌≡◌, ◌≢◌, ℕ, ◌+◌, ◌≤◌, List, length, AllPairs}
+use Rattle.std.specs.List.{AllByRecursion}
+use Rattle.clnp_plan.specs.declared.config.Limits.{Limits}
 use Rattle.clnp_plan.specs.declared.config.Role.{Role}
+use Rattle.clnp_plan.specs.declared.config.Role.TheVariants.{Host, Router}
 use Rattle.clnp_plan.specs.declared.config.PortConfig.{PortConfig}
 use Rattle.clnp_plan.specs.declared.config.Settings.{Settings}
 
@@ -11,3 +14,53 @@ pub record SystemConfiguration : Type 0 where
   pub addresses : List (List ℕ)
   pub ports : List PortConfig
   pub settings : Settings
+
+-- a number within its range
+pub record IsWithin (low high n : ℕ) : Type 0 where
+  pub least : low ≤ n
+  pub most : n ≤ high
+
+-- A host has 1 to 8 addresses, a router has one.
+abbrev pub HasItsAddresses : Role → List (List ℕ) → Type 0
+HasItsAddresses Host addresses = IsWithin 1 8 (length addresses)
+HasItsAddresses Router addresses = length addresses ≡ 1
+
+-- A host has one port, a router has 1 to 8.
+abbrev pub HasItsPorts : Role → List PortConfig → Type 0
+HasItsPorts Host ports = length ports ≡ 1
+HasItsPorts Router ports = IsWithin 1 8 (length ports)
+
+pub record IsPort (port : PortConfig) : Type 0 where
+  pub transit : IsWithin 1 255 port.transit
+  pub mtu : IsWithin 512 65535 port.mtu
+
+pub record AreSettings (settings : Settings) : Type 0 where
+  pub hello : IsWithin 0 600 settings.hello
+  pub suggest : IsWithin 0 32767 settings.suggest
+  pub rhold : IsWithin 0 65535 settings.rhold
+  pub slots : IsWithin 1 1024 settings.slots
+  pub segments : IsWithin 1 16384 settings.segments
+  pub budget : IsWithin 512 4194304 settings.budget
+  pub neighbours : IsWithin 1 1024 settings.neighbours
+  pub routers : IsWithin 1 64 settings.routers
+  pub redirects : IsWithin 1 1024 settings.redirects
+  pub life : IsWithin 1 255 settings.life
+
+-- no two of some addresses are the same
+abbrev pub AreDistinct : List (List ℕ) → Type 0
+AreDistinct addresses = AllPairs (λ a b. a ≢ b) addresses
+
+-- what each system is
+pub record IsSystem (system : SystemConfiguration) : Type 0 where
+  pub addresses : HasItsAddresses system.role system.addresses
+  pub distinct : AreDistinct system.addresses
+  pub ports : HasItsPorts system.role system.ports
+  pub each_port : AllByRecursion IsPort system.ports
+  pub settings : AreSettings system.settings
+
+-- An identifier rests until no segment of the unit that had it can be on its way or in a buffer (ISO 8473, section 6.8).
+pub record AreLimits (limits : Limits) : Type 0 where
+  pub age : IsWithin 1 4096 limits.age
+  pub hold : IsWithin 1 255 limits.hold
+  pub reuse : IsWithin 1 16384 limits.reuse
+  pub rests : limits.age + limits.hold ≤ limits.reuse

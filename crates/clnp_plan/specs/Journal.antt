@@ -8,7 +8,7 @@ use Rattle.pdu_header.specs.Spelling.{pair_of}
 use Rattle.pdu_header.specs.declared.kind.Kind.{Kind}
 use Rattle.pdu_header.specs.declared.kind.Kind.TheVariants.{Dt, Er, Erq, Erp}
 use Rattle.clnp_plan.specs.declared.note.Note.{Note}
-use Rattle.clnp_plan.specs.declared.note.Note.TheVariants.{Sent, Refused, Got, Discard, NotMine}
+use Rattle.clnp_plan.specs.declared.note.Note.TheVariants.{Sent, Refused, Got, Discard, Held, Repeat, Crowded, Many, NoSlot, Interference, Expired, NotMine, Restart}
 use Rattle.clnp_plan.specs.declared.note.Why.{Why}
 use Rattle.clnp_plan.specs.declared.note.Why.TheVariants as why
 
@@ -35,6 +35,8 @@ octet_word octet = hex_text (octet ∷ [])
 abbrev pub why_word : Why → List ℕ
 why_word why.NotMine = codes "not-mine"
 why_word why.TooLong = codes "too-long"
+why_word why.Quiet = codes "quiet"
+why_word why.IdsBusy = codes "ids-busy"
 
 -- where a frame goes: to one system, or to a group
 abbrev pub target_word : Target → List ℕ
@@ -49,14 +51,24 @@ note_text (Sent kind unit id from to len) =
 note_text (Refused why value) = codes "refused " ++ (why_word why ++ (codes " " ++ decimal value))
 note_text (Got from to octets) = codes "got " ++ (hex_text from ++ (codes " " ++ (hex_text to ++ (codes " " ++ octets_word octets))))
 note_text (Discard reason place) = codes "drop " ++ (octet_word reason ++ (codes " " ++ octet_word place))
+note_text (Held id offset held) =
+    codes "held " ++ (hex_text (pair_of id) ++ (codes " " ++ (decimal offset ++ (codes " " ++ decimal held))))
+note_text (Repeat id offset) = codes "repeat " ++ (hex_text (pair_of id) ++ (codes " " ++ decimal offset))
+note_text (Crowded held size) = codes "crowded " ++ (decimal held ++ (codes " " ++ decimal size))
+note_text (Many kept) = codes "many " ++ decimal kept
+note_text (NoSlot live) = codes "noslot " ++ decimal live
+note_text (Interference id) = codes "interference " ++ hex_text (pair_of id)
+note_text (Expired id held) = codes "expired " ++ (hex_text (pair_of id) ++ (codes " " ++ decimal held))
 note_text (NotMine to) = codes "notmine " ++ hex_text to
+note_text Restart = codes "restart"
 
--- A line: what a system notes, a frame that it transmits as a copy with a number on a port, or a copy that isn't there
--- for it to be given.
+-- A line: what a system notes, a frame that it transmits as a copy with a number on a port, a copy that isn't there
+-- for it to be given, or one that is too old to be given.
 pub data Line : Type 0 where
   Noted : (now : ℕ) (name : List ℕ) (note : Note) → Line
   Transmitted : (now : ℕ) (name : List ℕ) (copy : ℕ) (port : ℕ) (target : Target) (frame : List ℕ) → Line
   Void : (now : ℕ) (name : List ℕ) (copy : ℕ) → Line
+  Late : (now : ℕ) (name : List ℕ) (copy : ℕ) → Line
 
 -- the moment and the system's name, with which each line begins
 abbrev pub line_front : ℕ → List ℕ → List ℕ
@@ -68,6 +80,7 @@ line_text (Transmitted now name copy port target frame) =
     line_front now name ++ (codes "tx " ++ (decimal copy ++ (codes " " ++ (decimal port ++ (codes " "
     ++ (target_word target ++ (codes " " ++ (octets_word frame ++ codes "\n"))))))))
 line_text (Void now name copy) = line_front now name ++ (codes "void " ++ (decimal copy ++ codes "\n"))
+line_text (Late now name copy) = line_front now name ++ (codes "late " ++ (decimal copy ++ codes "\n"))
 
 -- the last line of a journal: the clock and the number of copies
 abbrev pub end_text : ℕ → ℕ → List ℕ

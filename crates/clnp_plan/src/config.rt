@@ -1,5 +1,6 @@
 //! What a scenario says of one system.
 ghost use Rattle.std.specs.Prelude.{◌≡◌, IfOk};
+ghost use Rattle.clnp_plan.specs.Configuration.{HasItsPorts, IsSystem};
 
 use clnp_base::NoMemory;
 use nsap::{Address, Snpa};
@@ -15,22 +16,53 @@ pub enum Role {
     Router,
 }
 
+/// How long things last in a network, in ticks of 500 ms.
+#[derive(Clone, Copy, Debug, PartialEq, Eq)]
+pub struct Limits {
+    /// How long after the making of its unit a copy of a frame may still be given: 1 to 4,096.
+    pub age: u16,
+    /// The longest time that a reassembly buffer is kept: 1 to 255.
+    pub hold: u8,
+    /// How long a data unit identifier isn't used again: up to 16,384, and at least `age` and `hold` together.
+    pub reuse: u16,
+}
+
 /// A system's port: the subnetwork's place among the declarations, from 0, the system's address
-/// there, and the most octets that a frame on it may have.
+/// there, how much of its lifetime a PDU loses that a router sends there (at least 1 tick), and the most octets that a
+/// frame on it may have (at least 512).
 #[derive(Clone, Copy, Debug, PartialEq, Eq)]
 pub struct PortConfig {
     pub subnet: u8,
     pub snpa: Snpa,
+    pub transit: u8,
     pub mtu: u16,
 }
 
 /// The settings of a system.
 #[derive(Clone, Copy, Debug, PartialEq, Eq)]
 pub struct Settings {
+    /// How often it says hello, in seconds, 0 to 600; 0 is never (ISO 9542, section 6.2).
+    pub hello: u16,
+    /// How often a router asks end systems to say hello, in seconds, 0 to 32,767; 0 is no wish.
+    pub suggest: u16,
+    /// The holding time of a router's redirects, in seconds; 0 is none (ISO 9542, section 6.4).
+    pub rhold: u16,
+    /// The most reassembly buffers at a time: 1 to 1,024.
+    pub slots: u16,
+    /// The most segments that are kept, in all buffers together: 1 to 16,384.
+    pub segments: u16,
+    /// The most octets that are held for reassembly, of whole frames: 512 to 4,194,304.
+    pub budget: u32,
+    /// The most neighbours that it keeps in mind: 1 to 1,024.
+    pub neighbours: u16,
+    /// The most routers that it keeps in mind: 1 to 64.
+    pub routers: u16,
+    /// The most redirects that it keeps in mind: 1 to 1,024.
+    pub redirects: u16,
+    /// The lifetime of its units, in ticks of 500 ms, where none is wished for: 1 to 255.
+    pub life: u8,
     /// Whether the headers of its units get a checksum.
     pub sealed: bool,
-    /// The lifetime of its units, in ticks of 500 ms, where none is wished for.
-    pub life: u8,
 }
 
 /// What a scenario says of one system: its name, whether it is a host or a router, its addresses,
@@ -45,7 +77,7 @@ pub struct SystemConfig {
 }
 
 impl Model for SystemConfig {
-    ghost use Rattle.clnp_plan.specs.Configuration.{SystemConfiguration};
+    ghost use Rattle.clnp_plan.specs.Configuration.{IsSystem, SystemConfiguration};
 
     ghost Value = { SystemConfiguration };
 
@@ -56,6 +88,14 @@ impl Model for SystemConfig {
       ports = c.ports.items;
       settings = c.settings;
     } };
+
+    ghost invariant = { λ c. IsSystem (record {
+      name = c.name.items;
+      role = c.role;
+      addresses = c.addresses.items;
+      ports = c.ports.items;
+      settings = c.settings;
+    }) };
 }
 
 impl SystemConfig {
@@ -67,6 +107,13 @@ impl SystemConfig {
         ports: Vec<PortConfig>,
         settings: Settings,
     ) -> SystemConfig
+        requires { IsSystem (record {
+          name = name.items;
+          role = role;
+          addresses = addresses.items;
+          ports = ports.items;
+          settings = settings;
+        }) }
         ensures { result ≡ record {
           name = name.items;
           role = role;
@@ -117,6 +164,14 @@ impl SystemConfig {
         ensures { result.now ≡ self.now.settings }
     {
         &self.settings
+    }
+
+    /// A system has what its role calls for, and each number of it is within its range. The function does nothing: its
+    /// clause tells this to callers.
+    pub fn is_system(&self)
+        ensures { IsSystem self.now }
+    {
+        let _name = &self.name;
     }
 
     /// The same configuration once more.

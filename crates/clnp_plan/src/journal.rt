@@ -2,7 +2,8 @@
 ghost use Rattle.std.specs.Prelude.{◌≡◌, ◌++◌, OnOk, OnErr, codes};
 ghost use Rattle.std.specs.Fmt.{decimal};
 ghost use Rattle.nsap.specs.Text.{hex_text};
-ghost use Rattle.clnp_plan.specs.Journal.{Noted, Transmitted, Void, line_text, end_text, line_front, note_text, kind_word, identifier_word, why_word, target_word, octets_word, octet_word};
+ghost use Rattle.pdu_header.specs.Spelling.{pair_of};
+ghost use Rattle.clnp_plan.specs.Journal.{Late, Noted, Transmitted, Void, line_text, end_text, line_front, note_text, kind_word, identifier_word, why_word, target_word, octets_word, octet_word};
 
 use crate::note::{Note, Why};
 use clnp_base::NoMemory;
@@ -81,6 +82,29 @@ pub fn void_text(
     push(&line, out)
 }
 
+/// Appends the line of a copy that is too old for a system to be given.
+///
+/// # Errors
+///
+/// `NoMemory`; `out` is then as it was.
+pub fn late_text(
+    alloc: Global,
+    now: u64,
+    name: &[u8],
+    copy: u64,
+    out: &mut Vec<u8>,
+) -> Result<(), NoMemory>
+    ensures written { OnOk result (out.new.items ≡ out.old.items ++ line_text (Late now name.now copy)) }
+    ensures same { OnErr result (out.new.items ≡ out.old.items) }
+{
+    let mut line = Vec::new(alloc);
+    push_front(now, name, &mut line)?;
+    push(b"late ", &mut line)?;
+    push_decimal(copy, &mut line)?;
+    push(b"\n", &mut line)?;
+    push(&line, out)
+}
+
 /// Appends the last line of a journal: the clock and the number of copies.
 ///
 /// # Errors
@@ -146,11 +170,71 @@ fn push_note(alloc: Global, note: &Note, line: &mut Vec<u8>) -> Result<(), NoMem
             push(b" ", line)?;
             push_hex(alloc, &[*place], line)
         }
+        Note::Held { id, offset, held } => {
+            push_segment(alloc, b"held ", *id, *offset, line)?;
+            push(b" ", line)?;
+            push_decimal(u64::from(*held), line)
+        }
+        Note::Repeat { id, offset } => push_segment(alloc, b"repeat ", *id, *offset, line),
+        Note::Crowded { held, size } => {
+            push(b"crowded ", line)?;
+            push_decimal(u64::from(*held), line)?;
+            push(b" ", line)?;
+            push_decimal(u64::from(*size), line)
+        }
+        Note::Many { kept } => {
+            push(b"many ", line)?;
+            push_decimal(u64::from(*kept), line)
+        }
+        Note::NoSlot { live } => {
+            push(b"noslot ", line)?;
+            push_decimal(u64::from(*live), line)
+        }
+        Note::Interference { id } => push_with_id(alloc, b"interference ", *id, line),
+        Note::Expired { id, held } => {
+            push(b"expired ", line)?;
+            push_id(alloc, *id, line)?;
+            push(b" ", line)?;
+            push_decimal(u64::from(*held), line)
+        }
         Note::NotMine { to } => {
             push(b"notmine ", line)?;
             push_hex(alloc, to.as_bytes(), line)
         }
+        Note::Restart => push(b"restart", line),
     }
+}
+
+/// Appends what came of a unit's segments, and the unit's identifier.
+fn push_with_id(alloc: Global, what: &[u8], id: u16, line: &mut Vec<u8>) -> Result<(), NoMemory>
+    ensures { OnOk result (line.new.items ≡ line.old.items ++ (what.now ++ hex_text (pair_of id))) }
+{
+    push(what, line)?;
+    push_id(alloc, id, line)
+}
+
+/// Appends a data unit identifier in four hexadecimal digits.
+fn push_id(alloc: Global, id: u16, line: &mut Vec<u8>) -> Result<(), NoMemory>
+    ensures { OnOk result (line.new.items ≡ line.old.items ++ hex_text (pair_of id)) }
+{
+    push_hex(alloc, &id.to_be_bytes(), line)
+}
+
+/// Appends the words of a segment: what came of it, its identifier, and the place of its data.
+fn push_segment(
+    alloc: Global,
+    what: &[u8],
+    id: u16,
+    offset: u16,
+    line: &mut Vec<u8>,
+) -> Result<(), NoMemory>
+    ensures { OnOk result (line.new.items
+        ≡ line.old.items ++ (what.now ++ (hex_text (pair_of id) ++ (codes " " ++ decimal offset)))) }
+{
+    push(what, line)?;
+    push_id(alloc, id, line)?;
+    push(b" ", line)?;
+    push_decimal(u64::from(offset), line)
 }
 
 /// Appends that a unit was made: its kind, its number and its identifier.
@@ -223,6 +307,8 @@ fn why_text(why: Why) -> &'static [u8]
     match why {
         Why::NotMine => b"not-mine",
         Why::TooLong => b"too-long",
+        Why::Quiet => b"quiet",
+        Why::IdsBusy => b"ids-busy",
     }
 }
 
@@ -256,7 +342,7 @@ fn push_identifier(alloc: Global, id: Option<u16>, line: &mut Vec<u8>) -> Result
     ensures { OnOk result (line.new.items ≡ line.old.items ++ identifier_word id) }
 {
     match id {
-        Some(identifier) => push_hex(alloc, &identifier.to_be_bytes(), line),
+        Some(id) => push_id(alloc, id, line),
         None => push(b"-", line),
     }
 }

@@ -1,12 +1,16 @@
-//! What a scenario says of one system, and the lines of a journal.
+//! What a scenario says of one system, what a system is asked and gives out, and the lines of a journal.
 #![tactic(auto)]
 
+mod ask;
 mod config;
 mod journal;
 mod note;
+mod output;
 #[cfg(test)]
 mod tests;
 
-pub use config::{PortConfig, Role, Settings, SystemConfig};
-pub use journal::{journal_text, push_end, transmission_text, void_text};
+pub use ask::{Ask, SendRefusal};
+pub use config::{Limits, PortConfig, Role, Settings, SystemConfig};
+pub use journal::{journal_text, late_text, push_end, transmission_text, void_text};
 pub use note::{Note, Why};
+pub use output::{Output, Sending};

@@ -7,8 +7,12 @@ use pdu_header::Kind;
 pub enum Why {
     /// The source isn't an address of the system.
     NotMine,
-    /// The unit has too many octets.
+    /// The unit has too many octets, or its header has.
     TooLong,
+    /// The system is quiet after a restart.
+    Quiet,
+    /// The next data unit identifier was used too short a time ago.
+    IdsBusy,
 }
 
 /// What a system notes: the words of a journal line, in their order.
@@ -23,7 +27,8 @@ pub enum Note {
         to: Address,
         len: u32,
     },
-    /// A unit wasn't made; the value is 0, or the octets that are too many.
+    /// A unit wasn't made; the value is 0, or the octets that are too many, or the moment at which the quiet time ends, or
+    /// that at which the identifier was used.
     Refused {
         why: Why,
         value: u64,
@@ -39,8 +44,43 @@ pub enum Note {
         reason: u8,
         place: u8,
     },
+    /// A segment was kept, with the place of its data in its unit's; so many octets are held then.
+    Held {
+        id: u16,
+        offset: u16,
+        held: u32,
+    },
+    /// A segment has no octet that isn't there already.
+    Repeat {
+        id: u16,
+        offset: u16,
+    },
+    /// A segment of `size` octets isn't kept, since so many octets are held.
+    Crowded {
+        held: u32,
+        size: u32,
+    },
+    /// A segment isn't kept, since so many are.
+    Many {
+        kept: u16,
+    },
+    /// A segment isn't kept, since so many buffers are taken.
+    NoSlot {
+        live: u16,
+    },
+    /// A segment doesn't go with those of its unit that are kept.
+    Interference {
+        id: u16,
+    },
+    /// A reassembly buffer's time has ended; so many octets are held then.
+    Expired {
+        id: u16,
+        held: u32,
+    },
     /// A host got a PDU for another address.
     NotMine {
         to: Address,
     },
+    /// The system was restarted.
+    Restart,
 }

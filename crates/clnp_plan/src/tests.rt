@@ -102,6 +102,64 @@ fn writes_notes(rt: HostRuntime) -> Result<(), Fail> {
             Note::NotMine { to: three },
             "0 b notmine 47002703\n",
         ),
+        (
+            2,
+            "a",
+            Note::Refused {
+                why: Why::Quiet,
+                value: 7,
+            },
+            "2 a refused quiet 7\n",
+        ),
+        (
+            3,
+            "a",
+            Note::Refused {
+                why: Why::IdsBusy,
+                value: 2,
+            },
+            "3 a refused ids-busy 2\n",
+        ),
+        (
+            0,
+            "b",
+            Note::Held {
+                id: 0,
+                offset: 960,
+                held: 65,
+            },
+            "0 b held 0000 960 65\n",
+        ),
+        (
+            0,
+            "b",
+            Note::Repeat { id: 258, offset: 0 },
+            "0 b repeat 0102 0\n",
+        ),
+        (
+            0,
+            "b",
+            Note::Crowded {
+                held: 1010,
+                size: 505,
+            },
+            "0 b crowded 1010 505\n",
+        ),
+        (0, "b", Note::Many { kept: 12 }, "0 b many 12\n"),
+        (0, "b", Note::NoSlot { live: 1 }, "0 b noslot 1\n"),
+        (
+            0,
+            "b",
+            Note::Interference { id: 1 },
+            "0 b interference 0001\n",
+        ),
+        (
+            10,
+            "b",
+            Note::Expired { id: 65535, held: 0 },
+            "10 b expired ffff 0\n",
+        ),
+        (1, "a", Note::Restart, "1 a restart\n"),
     ];
     let mut out = Vec::new(alloc);
     for (now, name, note, line) in &cases {
@@ -134,12 +192,14 @@ fn writes_frames_and_the_end(rt: HostRuntime) -> Result<(), Fail> {
     )?;
     transmission_text(alloc, 4, b"r", 13, 1, Target::Routers, b"", &mut out)?;
     void_text(alloc, 0, b"b", 9, &mut out)?;
+    late_text(alloc, 7, b"b", 1, &mut out)?;
     push_end(alloc, 0, 1, &mut out)?;
     let text = b"before
 0 a tx 1 0 es 8113010a3c00150000044700270104470027026869
 3 r tx 12 7 02000000000b 811301
 4 r tx 13 1 is -
 0 b void 9
+7 b late 1
 end 0 1
 ";
     assert_eq!(rt; out.as_slice(), text.as_slice());
@@ -149,13 +209,11 @@ end 0 1
 #[test]
 fn tells_and_copies_a_system(rt: HostRuntime) -> Result<(), Fail> {
     let alloc = rt.alloc();
-    let addresses = [
-        Address::from_text(b"47002701")?,
-        Address::from_text(b"47002702")?,
-    ];
+    let addresses = [Address::from_text(b"47002701")?];
     let ports = [PortConfig {
         subnet: 2,
         snpa: Snpa::from_bytes(&[2, 0])?,
+        transit: 3,
         mtu: 1497,
     }];
     let config = SystemConfig::new(
@@ -164,8 +222,17 @@ fn tells_and_copies_a_system(rt: HostRuntime) -> Result<(), Fail> {
         Vec::from_slice(alloc, &addresses)?,
         Vec::from_slice(alloc, &ports)?,
         Settings {
-            sealed: true,
+            hello: 0,
+            suggest: 1,
+            rhold: 2,
+            slots: 3,
+            segments: 4,
+            budget: 512,
+            neighbours: 5,
+            routers: 6,
+            redirects: 7,
             life: 20,
+            sealed: true,
         },
     );
     for config in [config.copy(alloc)?, config] {
@@ -175,6 +242,7 @@ fn tells_and_copies_a_system(rt: HostRuntime) -> Result<(), Fail> {
         assert_eq!(rt; config.ports(), ports.as_slice());
         assert!(rt; config.settings().sealed);
         assert_eq!(rt; config.settings().life, 20);
+        assert_eq!(rt; config.settings().redirects, 7);
     }
     Ok(())
 }

@@ -1,33 +1,39 @@
 -- The copies of a world stay as a front of those after each move, and the cursor stays within them.
 use Rattle.std.proofs.Common.{◌≡◌, ◌≤◌, ℕ, List, [], ◌∷◌, ◌++◌, ◌+◌, length, refl, sym, ap, ◌∙◌, arith, length-append, append_assoc}
 use Rattle.std.specs.Prelude.{slice_get, slice_set, Option, None, Some}
+use Rattle.std.specs.List.{range_with_len}
 use Rattle.std.proofs.lemmas.Option.{slice_get_within}
 use Rattle.std.proofs.lemmas.List.{append-nil}
 use Rattle.clnp_plan.specs.Configuration.{SystemConfiguration}
-use Rattle.scenario.specs.Scenario.{Plan}
+use Rattle.clnp_plan.specs.declared.config.Limits.{Limits}
+use Rattle.scenario.specs.Scenario.{Plan, octets_of}
 use Rattle.scenario.specs.declared.event.Event.{Event}
-use Rattle.scenario.specs.declared.event.Event.TheVariants.{Send, Deliver, Settle, Lose}
+use Rattle.scenario.specs.declared.event.Event.TheVariants.{Send, Deliver, Settle, Lose, Tick, Restart}
 use Rattle.scenario.specs.declared.event.Move.{Move}
-use Rattle.scenario.specs.declared.event.Move.TheVariants.{One, SettleOne, LoseOne}
+use Rattle.scenario.specs.declared.event.Move.TheVariants.{One, SettleOne, LoseOne, TickOne}
 use Rattle.clnp_machine.specs.System.{SystemState, Output, Transmits, Notes, Effect}
-use Rattle.clnp_machine.specs.Host.{send, arrive}
-use Rattle.clnp_network.specs.World.{World, Copy, copy_from, put_out, takes_effect, system_does, addressees_from, settle_copy, deliver, lose_copy, event_happens, after, first_world}
+use Rattle.clnp_machine.specs.Host.{send, arrive, tick, restart}
+use Rattle.clnp_network.specs.World.{World, Copy, copy_from, put_out, takes_effect, system_does, addressees_from, settle_copy, deliver, lose_copy, tick_each, tick_one, event_happens, after, first_world}
 use Rattle.clnp_network.specs.Run.{world_after}
 use Rattle.clnp_safety.specs.Growth.{IsFront, IsWithinCopies}
 use Rattle.clnp_safety.proofs.Lists.{AllByRecursion-any}
-use Rattle.clnp_safety.proofs.Steps.{Keeps, keeps-put_all_out, keeps-at_system, keeps-give_each, keeps-deliver}
-use Rattle.clnp_safety.proofs.Outputs.{AnyLine}
+use Rattle.clnp_safety.proofs.Lines.{AnyLine}
+use Rattle.clnp_safety.proofs.Steps.{Keeps, NotGivenIsFine, keeps-nothing, keeps-followed_by, keeps-put_all_out, keeps-at_system, keeps-give_each, keeps-deliver}
 
 -- a world with more copies behind these, and this cursor
-pub record Grown (copies : List Copy) (cursor : ℕ) (w : World) : Type 0 where
-  pub front : IsFront copies w.copies
-  pub at : w.cursor ≡ cursor
+record Grown (copies : List Copy) (cursor : ℕ) (w : World) : Type 0 where
+  front : IsFront copies w.copies
+  at : w.cursor ≡ cursor
 
 front-more : {A : Type 0} (xs ys zs : List A) → IsFront xs ys → IsFront xs (ys ++ zs)
 front-more xs ys zs h = (h.0 ++ zs, ap (λ l. l ++ zs) h.1 ∙ append_assoc xs h.0 zs)
 
+any_line_is_fine : NotGivenIsFine AnyLine
+any_line_is_fine = record { void = λ now name copy. tt; late = λ now name copy. tt }
+
 module _ (copies : List Copy) (cursor : ℕ) where
-  put_out_grows : (system : SystemConfiguration) (output : Output) (v : World) → Grown copies cursor v → Keeps (Grown copies cursor) AnyLine (put_out system v output)
+  put_out_grows : (system : SystemConfiguration) (output : Output) (v : World) → Grown copies cursor v
+      → Keeps (Grown copies cursor) AnyLine (put_out system v output)
   put_out_grows system (Notes note) v k = record { world = k; lines = (tt, tt) }
   put_out_grows system (Transmits port target packet) v k = record {
     world = record { front = front-more copies v.copies (copy_from (slice_get system.ports port) target packet) k.front; at = k.at };
@@ -41,14 +47,21 @@ module _ (copies : List Copy) (cursor : ℕ) where
       (put_out_grows effect.after.configuration) effect.outputs)
       (record w { systems = slice_set w.systems place effect.after }) (record { front = k.front; at = k.at })
 
-  system_does_grows : (w : World) (place : ℕ) (does : SystemState → Effect) → Grown copies cursor w → Keeps (Grown copies cursor) AnyLine (system_does w place does)
+  system_does_grows : (w : World) (place : ℕ) (does : SystemState → Effect) → Grown copies cursor w
+      → Keeps (Grown copies cursor) AnyLine (system_does w place does)
   system_does_grows w place does k =
-      keeps-at_system (Grown copies cursor) AnyLine w place does (slice_get w.systems place) k (λ s. takes_effect_grows w place (does s) k)
+      keeps-at_system (Grown copies cursor) AnyLine w place does (slice_get w.systems place) (λ none. k) (λ s there. takes_effect_grows w place (does s) k)
+
+  tick_each_grows : (places : List ℕ) (w : World) → Grown copies cursor w → Keeps (Grown copies cursor) AnyLine (tick_each w places)
+  tick_each_grows [] w k = keeps-nothing (Grown copies cursor) AnyLine w k
+  tick_each_grows (place ∷ places) w k =
+      keeps-followed_by (Grown copies cursor) AnyLine (Grown copies cursor) (system_does w place (λ s. tick s w.clock)) (λ v. tick_each v places)
+      (system_does_grows w place (λ s. tick s w.clock) k) (tick_each_grows places)
 
 -- the world after a move, with the copies before it as a front, and the cursor within them
-pub record GrowsFrom (w v : World) : Type 0 where
-  pub front : IsFront w.copies v.copies
-  pub within : IsWithinCopies w → IsWithinCopies v
+record GrowsFrom (w v : World) : Type 0 where
+  front : IsFront w.copies v.copies
+  within : IsWithinCopies w → IsWithinCopies v
 
 grows_to : (w v : World) (cursor : ℕ) → (IsWithinCopies w → cursor ≤ length w.copies) → Grown w.copies cursor v → GrowsFrom w v
 grows_to w v cursor bound h = record {
@@ -66,40 +79,50 @@ stays w = record { front = ([], sym (append-nil w.copies)); at = refl }
 nothing_grows : (w : World) → GrowsFrom w w
 nothing_grows w = grows_to w w w.cursor (λ k. k) (stays w)
 
-event_grows : (w : World) (asked : Option Event) → GrowsFrom w (event_happens w asked).world
-event_grows w None = nothing_grows w
-event_grows w (Some (Settle count)) = nothing_grows w
-event_grows w (Some (Lose count)) = nothing_grows w
-event_grows w (Some (Deliver number place)) =
-    grows_to w (deliver w number place).world w.cursor (λ k. k)
-    (keeps-deliver (Grown w.copies w.cursor) AnyLine (λ now name copy. tt) w number place (stays w)
-    (λ copy e. system_does_grows w.copies w.cursor w place (λ system. arrive system copy.content) (stays w))).world
-event_grows w (Some (Send system from to body life report)) =
-    grows_to w (event_happens w (Some (Send system from to body life report))).world w.cursor (λ k. k)
-    (system_does_grows w.copies w.cursor w system (λ s. send s from to body (record { lifetime = life; report = report; options = [] })) (stays w)).world
+does_grow : (w : World) (place : ℕ) (does : SystemState → Effect) → GrowsFrom w (system_does w place does).world
+does_grow w place does =
+    grows_to w (system_does w place does).world w.cursor (λ k. k) (system_does_grows w.copies w.cursor w place does (stays w)).world
 
-settle_copy_grows : (w : World) (found : Option Copy) → ((copy : Copy) → found ≡ Some copy → w.cursor + 1 ≤ length w.copies) → GrowsFrom w (settle_copy w found).world
-settle_copy_grows w None bound = nothing_grows w
-settle_copy_grows w (Some copy) bound =
-    grows_to w (settle_copy w (Some copy)).world (w.cursor + 1) (λ k. bound copy refl)
-    (keeps-give_each (Grown w.copies (w.cursor + 1)) AnyLine copy (addressees_from 0 copy w.systems)
-    (λ v place k. system_does_grows w.copies (w.cursor + 1) v place (λ system. arrive system copy.content) k)
+event_grows : (limits : Limits) (w : World) (asked : Option Event) → GrowsFrom w (event_happens limits w asked).world
+event_grows limits w None = nothing_grows w
+event_grows limits w (Some (Settle count)) = nothing_grows w
+event_grows limits w (Some (Lose count)) = nothing_grows w
+event_grows limits w (Some (Tick count)) = nothing_grows w
+event_grows limits w (Some (Deliver number place)) =
+    grows_to w (deliver limits w number place).world w.cursor (λ k. k)
+    (keeps-deliver (Grown w.copies w.cursor) AnyLine any_line_is_fine limits w number place (stays w)
+    (λ copy e s there soon. takes_effect_grows w.copies w.cursor w place (arrive s copy.content) (stays w))).world
+event_grows limits w (Some (Restart system)) = does_grow w system restart
+event_grows limits w (Some (Send system from to body ask)) = does_grow w system (λ s. send s from to (octets_of body) ask)
+
+settle_copy_grows : (limits : Limits) (w : World) (found : Option Copy) → ((copy : Copy) → found ≡ Some copy → w.cursor + 1 ≤ length w.copies)
+    → GrowsFrom w (settle_copy limits w found).world
+settle_copy_grows limits w None bound = nothing_grows w
+settle_copy_grows limits w (Some copy) bound =
+    grows_to w (settle_copy limits w (Some copy)).world (w.cursor + 1) (λ k. bound copy refl)
+    (keeps-give_each (Grown w.copies (w.cursor + 1)) AnyLine any_line_is_fine limits (record { number = w.cursor + 1; copy = copy }) (addressees_from 0 copy w.systems)
+    (λ v place k s there soon. takes_effect_grows w.copies (w.cursor + 1) v place (arrive s copy.content) k)
     (record w { cursor = w.cursor + 1 }) (record { front = ([], sym (append-nil w.copies)); at = refl })).world
 
-lose_copy_grows : (w : World) (found : Option Copy) → ((copy : Copy) → found ≡ Some copy → w.cursor + 1 ≤ length w.copies) → GrowsFrom w (lose_copy w found).world
+lose_copy_grows : (w : World) (found : Option Copy) → ((copy : Copy) → found ≡ Some copy → w.cursor + 1 ≤ length w.copies)
+    → GrowsFrom w (lose_copy w found).world
 lose_copy_grows w None bound = nothing_grows w
 lose_copy_grows w (Some copy) bound =
     grows_to w (lose_copy w (Some copy)).world (w.cursor + 1) (λ k. bound copy refl)
     (record { front = ([], sym (append-nil w.copies)); at = refl })
 
-pub move_grows : (plan : Plan) (w : World) (move : Move) → GrowsFrom w (after plan w move).world
-move_grows plan w (One place) = event_grows w (slice_get plan.events place)
+move_grows : (plan : Plan) (w : World) (move : Move) → GrowsFrom w (after plan w move).world
+move_grows plan w (One place) = event_grows plan.limits w (slice_get plan.events place)
 move_grows plan w SettleOne =
-    settle_copy_grows w (slice_get w.copies w.cursor)
+    settle_copy_grows plan.limits w (slice_get w.copies w.cursor)
     (λ copy e. let l = slice_get_within w.copies w.cursor copy e in omega arith)
 move_grows plan w LoseOne =
     lose_copy_grows w (slice_get w.copies w.cursor)
     (λ copy e. let l = slice_get_within w.copies w.cursor copy e in omega arith)
+move_grows plan w TickOne =
+    grows_to w (tick_one w).world w.cursor (λ k. k)
+    (tick_each_grows w.copies w.cursor (range_with_len 0 (length w.systems)) (record w { clock = w.clock + 1 })
+    (record { front = ([], sym (append-nil w.copies)); at = refl })).world
 
 pub copies_stay : (plan : Plan) (w : World) (move : Move) → IsFront w.copies (after plan w move).world.copies
 copies_stay plan w move = (move_grows plan w move).front

@@ -1,30 +1,55 @@
--- What was sent stays sent, and a last entry that sends counts.
-use Rattle.std.proofs.Common.{ℕ, List, [], ◌∷◌, ◌++◌, inl, inr}
+-- What was sent stays sent, a last entry that sends counts, and units stay sound as time goes on.
+use Rattle.std.proofs.Common.{◌≤◌, ℕ, List, [], ◌∷◌, ◌++◌, inl, inr, subst, arith}
+use Rattle.std.proofs.lemmas.List.{append-nil}
+use Rattle.std.specs.List.{AllByRecursion}
 use Rattle.scenario.specs.Scenario.{Plan}
-use Rattle.clnp_machine.specs.System.{Content, Labelled, Unlabelled}
-use Rattle.clnp_network.specs.World.{World, Copy}
+use Rattle.clnp_machine.specs.Unit as unit
+use Rattle.clnp_machine.specs.Unit.{Packet}
+use Rattle.clnp_network.specs.World.{Copy}
 use Rattle.clnp_network.specs.Run.{Entry}
 use Rattle.clnp_network.specs.Safe.{IsSend, NoRefusal, WasSent}
-use Rattle.clnp_safety.specs.Invariant.{PacketIsSound, Carries, WorldIsSound}
+use Rattle.clnp_safety.specs.Invariant.{UnitIsSound, UnitsAreSound, CopyIsSound}
 use Rattle.clnp_safety.proofs.Lists.{AllByRecursion-implies}
+use Rattle.clnp_safety.proofs.Units.{copy_later}
 
-pub sent_before : (plan : Plan) (past more : List Entry) (from to octets : List ℕ) → WasSent plan past from to octets → WasSent plan (past ++ more) from to octets
+sent_before : (plan : Plan) (past more : List Entry) (from to octets : List ℕ) → WasSent plan past from to octets → WasSent plan (past ++ more) from to octets
 sent_before plan [] more from to octets h = absurd h
 sent_before plan (entry ∷ past) more from to octets h =
     elim h [ inl now ↦ inl now | inr before ↦ inr (sent_before plan past more from to octets before) ]
 
-pub sent_last : (plan : Plan) (past : List Entry) (entry : Entry) (from to octets : List ℕ) → IsSend plan entry.move from to octets → NoRefusal entry.lines → WasSent plan (past ++ entry ∷ []) from to octets
+pub sent_last : (plan : Plan) (past : List Entry) (entry : Entry) (from to octets : List ℕ) → IsSend plan entry.move from to octets
+    → NoRefusal entry.lines → WasSent plan (past ++ entry ∷ []) from to octets
 sent_last plan [] entry from to octets sends made = inl (sends, made)
 sent_last plan (first ∷ past) entry from to octets sends made = inr (sent_last plan past entry from to octets sends made)
 
-content_later : (plan : Plan) (past more : List Entry) (content : Content) → Carries (PacketIsSound plan past) content → Carries (PacketIsSound plan (past ++ more)) content
-content_later plan past more (Labelled p following) h =
-    (record { sent = sent_before plan past more p.unit.source p.unit.destination p.unit.octets h.0.sent; whole = h.0.whole }, h.1)
-content_later plan past more (Unlabelled octets) h = absurd h
-
--- the world stays sound as the past grows
-pub world_later : (plan : Plan) (past more : List Entry) (w : World) → WorldIsSound plan past w → WorldIsSound plan (past ++ more) w
-world_later plan past more w h = record {
-  copies = AllByRecursion-implies (λ (copy : Copy). Carries (PacketIsSound plan past) copy.content) (λ (copy : Copy). Carries (PacketIsSound plan (past ++ more)) copy.content)
-      (λ copy. content_later plan past more copy.content) w.copies h.copies;
+unit_later : (plan : Plan) (past more : List Entry) (before now : ℕ) → before ≤ now → (u : unit.Unit) → UnitIsSound plan past before u
+    → UnitIsSound plan (past ++ more) now u
+unit_later plan past more before now later u h = record {
+  sent = sent_before plan past more u.source u.destination u.octets h.sent;
+  place = h.place;
+  maker = h.maker;
+  owner = h.owner;
+  first_position = h.first_position;
+  total = h.total;
+  made = let made = h.made in omega arith;
 }
+
+-- units stay sound as the past grows and the clock goes on
+pub units_later : (plan : Plan) (past more : List Entry) (before now : ℕ) (units : List unit.Unit) → before ≤ now
+    → UnitsAreSound plan past before units → UnitsAreSound plan (past ++ more) now units
+units_later plan past more before now units later h = record {
+  each = AllByRecursion-implies (UnitIsSound plan past before) (UnitIsSound plan (past ++ more) now) (unit_later plan past more before now later) units h.each;
+  rest = h.rest;
+}
+
+-- the same where the clock alone goes on
+pub units_stay : (plan : Plan) (past : List Entry) (before now : ℕ) (units : List unit.Unit) → before ≤ now → UnitsAreSound plan past before units
+    → UnitsAreSound plan past now units
+units_stay plan past before now units later h =
+    subst (λ entries. UnitsAreSound plan entries now units) (append-nil past) (units_later plan past [] before now units later h)
+
+-- copies stay sound as units are made
+pub copies_later : (units more : List unit.Unit) (copies : List Copy) → AllByRecursion (CopyIsSound units) copies
+    → AllByRecursion (CopyIsSound (units ++ more)) copies
+copies_later units more copies h =
+    AllByRecursion-implies (CopyIsSound units) (CopyIsSound (units ++ more)) (copy_later units more) copies h

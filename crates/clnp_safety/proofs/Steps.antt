@@ -1,10 +1,12 @@
 -- What the parts of a step keep of the worlds, and what their lines are.
-use Rattle.std.proofs.Common.{◌≡◌, ℕ, ◌-◌, List, [], ◌∷◌, refl, cond, Bool, true, false}
-use Rattle.std.specs.Prelude.{Option, None, Some, slice_get}
+use Rattle.std.proofs.Common.{◌≡◌, ℕ, ◌-◌, List, [], ◌∷◌, refl, Bool, true, false}
+use Rattle.std.specs.Prelude.{if◌then◌else◌, Option, None, Some, slice_get}
 use Rattle.clnp_plan.specs.Configuration.{SystemConfiguration}
-use Rattle.clnp_plan.specs.Journal.{Line, Void}
+use Rattle.clnp_plan.specs.Journal.{Line, Void, Late}
+use Rattle.clnp_plan.specs.declared.config.Limits.{Limits}
 use Rattle.clnp_machine.specs.System.{SystemState, Output, Effect}
-use Rattle.clnp_network.specs.World.{World, Copy, Step, nothing, followed_by, put_out, put_all_out, takes_effect, at_system, give, give_each, is_void, is_addressee, deliver_to, deliver_at, deliver}
+use Rattle.clnp_machine.specs.Host.{arrive}
+use Rattle.clnp_network.specs.World.{World, Copy, Numbered, Step, nothing, writes, followed_by, put_out, put_all_out, takes_effect, at_system, is_late, give_to, give, give_each, is_void, is_addressee, deliver_to, deliver_at, deliver}
 use Rattle.std.specs.List.{AllByRecursion}
 use Rattle.clnp_safety.proofs.Lists.{AllByRecursion-append}
 
@@ -13,52 +15,85 @@ pub record Keeps (K : World → Type 0) (Q : Line → Type 0) (step : Step) : Ty
   pub world : K step.world
   pub lines : AllByRecursion Q step.lines
 
+-- the lines of copies that aren't given are fine
+pub record NotGivenIsFine (Q : Line → Type 0) : Type 0 where
+  pub void : (now : ℕ) (name : List ℕ) (copy : ℕ) → Q (Void now name copy)
+  pub late : (now : ℕ) (name : List ℕ) (copy : ℕ) → Q (Late now name copy)
+
 module _ (K : World → Type 0) (Q : Line → Type 0) where
   pub keeps-nothing : (w : World) → K w → Keeps K Q (nothing w)
   keeps-nothing w h = record { world = h; lines = tt }
 
-  pub keeps-followed_by : (step : Step) (next : World → Step) → Keeps K Q step → ((v : World) → K v → Keeps K Q (next v)) → Keeps K Q (followed_by step next)
-  keeps-followed_by step next h k = record {
+  -- of the world between the parts J holds
+  pub keeps-followed_by : (J : World → Type 0) (step : Step) (next : World → Step) → Keeps J Q step → ((v : World) → J v → Keeps K Q (next v))
+      → Keeps K Q (followed_by step next)
+  keeps-followed_by J step next h k = record {
     world = (k step.world h.world).world;
     lines = AllByRecursion-append Q step.lines (next step.world).lines h.lines (k step.world h.world).lines;
   }
 
-  pub keeps-put_all_out : (system : SystemConfiguration) (outputs : List Output) → AllByRecursion (λ output. (v : World) → K v → Keeps K Q (put_out system v output)) outputs → (w : World) → K w → Keeps K Q (put_all_out system w outputs)
+  pub keeps-put_all_out : (system : SystemConfiguration) (outputs : List Output)
+      → AllByRecursion (λ output. (v : World) → K v → Keeps K Q (put_out system v output)) outputs → (w : World) → K w
+      → Keeps K Q (put_all_out system w outputs)
   keeps-put_all_out system [] h w k = keeps-nothing w k
   keeps-put_all_out system (output ∷ outputs) h w k =
-      keeps-followed_by (put_out system w output) (λ v. put_all_out system v outputs) (h.0 w k) (keeps-put_all_out system outputs h.1)
+      keeps-followed_by K (put_out system w output) (λ v. put_all_out system v outputs) (h.0 w k) (keeps-put_all_out system outputs h.1)
 
-  pub keeps-at_system : (w : World) (place : ℕ) (does : SystemState → Effect) (found : Option SystemState) → K w → ((s : SystemState) → Keeps K Q (takes_effect w place (does s))) → Keeps K Q (at_system w place does found)
-  keeps-at_system w place does None h k = keeps-nothing w h
-  keeps-at_system w place does (Some s) h k = k s
+  pub keeps-at_system : (w : World) (place : ℕ) (does : SystemState → Effect) (found : Option SystemState) → (found ≡ None → K w)
+      → ((s : SystemState) → found ≡ Some s → Keeps K Q (takes_effect w place (does s))) → Keeps K Q (at_system w place does found)
+  keeps-at_system w place does None h k = keeps-nothing w (h refl)
+  keeps-at_system w place does (Some s) h k = k s refl
 
-  pub keeps-give_each : (copy : Copy) (places : List ℕ) → ((v : World) (place : ℕ) → K v → Keeps K Q (give copy v place)) → (w : World) → K w → Keeps K Q (give_each copy w places)
-  keeps-give_each copy [] h w k = keeps-nothing w k
-  keeps-give_each copy (place ∷ places) h w k =
-      keeps-followed_by (give copy w place) (λ v. give_each copy v places) (h w place k) (keeps-give_each copy places h)
+  module _ (fine : NotGivenIsFine Q) (limits : Limits) (given : Numbered) where
+    -- the system takes in the copy that is given to it
+    abbrev Takes : World → ℕ → Type 0
+    Takes w place =
+        (s : SystemState) → slice_get w.systems place ≡ Some s → is_late limits w given.copy ≡ false
+        → Keeps K Q (takes_effect w place (arrive s given.copy.content))
 
-  keeps-one_of : (given void : Step) (is_for : Bool) → Keeps K Q given → Keeps K Q void → Keeps K Q (cond is_for given void)
-  keeps-one_of given void true g v = g
-  keeps-one_of given void false g v = v
+    keeps-late : (w : World) (place : ℕ) (s : SystemState) (late : Bool) → K w → (late ≡ false → Keeps K Q (takes_effect w place (arrive s given.copy.content)))
+        → Keeps K Q (if late then writes w (Late w.clock s.configuration.name given.number) else takes_effect w place (arrive s given.copy.content))
+    keeps-late w place s true h k = record { world = h; lines = (fine.late w.clock s.configuration.name given.number, tt) }
+    keeps-late w place s false h k = k refl
 
-  -- a void line is one of which Q holds
-  abbrev VoidIsFine : Type 0
-  VoidIsFine = (now : ℕ) (name : List ℕ) (copy : ℕ) → Q (Void now name copy)
+    keeps-give_to : (w : World) (place : ℕ) (found : Option SystemState) → slice_get w.systems place ≡ found → K w → Takes w place
+        → Keeps K Q (give_to limits given w place found)
+    keeps-give_to w place None e h k = keeps-nothing w h
+    keeps-give_to w place (Some s) e h k = keeps-late w place s (is_late limits w given.copy) h (k s e)
 
-  keeps-is_void : VoidIsFine → (w : World) (number : ℕ) (system : SystemState) → K w → Keeps K Q (is_void w system number)
-  keeps-is_void fine w number system h = record { world = h; lines = (fine w.clock system.configuration.name number, tt) }
+    pub keeps-give : (w : World) (place : ℕ) → K w → Takes w place → Keeps K Q (give limits given w place)
+    keeps-give w place h k = keeps-give_to w place (slice_get w.systems place) refl h k
 
-  keeps-deliver_to : VoidIsFine → (w : World) (number place : ℕ) (found : Option Copy) (system : SystemState) → K w
-      → ((copy : Copy) → found ≡ Some copy → Keeps K Q (give copy w place)) → Keeps K Q (deliver_to w number place found system)
-  keeps-deliver_to fine w number place None system h k = keeps-is_void fine w number system h
-  keeps-deliver_to fine w number place (Some copy) system h k =
-      keeps-one_of (give copy w place) (is_void w system number) (is_addressee copy system.configuration) (k copy refl) (keeps-is_void fine w number system h)
+    pub keeps-give_each : (places : List ℕ) → ((v : World) (place : ℕ) → K v → Takes v place) → (w : World) → K w → Keeps K Q (give_each limits given w places)
+    keeps-give_each [] h w k = keeps-nothing w k
+    keeps-give_each (place ∷ places) h w k =
+        keeps-followed_by K (give limits given w place) (λ v. give_each limits given v places) (keeps-give w place k (h w place k)) (keeps-give_each places h)
 
-  keeps-deliver_at : VoidIsFine → (w : World) (number place : ℕ) (found : Option SystemState) → K w
-      → ((copy : Copy) → slice_get w.copies (number - 1) ≡ Some copy → Keeps K Q (give copy w place)) → Keeps K Q (deliver_at w number place found)
-  keeps-deliver_at fine w number place None h k = keeps-nothing w h
-  keeps-deliver_at fine w number place (Some system) h k = keeps-deliver_to fine w number place (slice_get w.copies (number - 1)) system h k
+  module _ (fine : NotGivenIsFine Q) (limits : Limits) where
+    -- the system takes in the copy with a number, if there is one
+    abbrev TakesNumbered : World → ℕ → ℕ → Type 0
+    TakesNumbered w number place =
+        (copy : Copy) → slice_get w.copies (number - 1) ≡ Some copy → Takes fine limits (record { number = number; copy = copy }) w place
 
-  pub keeps-deliver : VoidIsFine → (w : World) (number place : ℕ) → K w
-      → ((copy : Copy) → slice_get w.copies (number - 1) ≡ Some copy → Keeps K Q (give copy w place)) → Keeps K Q (deliver w number place)
-  keeps-deliver fine w number place h k = keeps-deliver_at fine w number place (slice_get w.systems place) h k
+    keeps-is_void : (w : World) (number : ℕ) (system : SystemState) → K w → Keeps K Q (is_void w system number)
+    keeps-is_void w number system h = record { world = h; lines = (fine.void w.clock system.configuration.name number, tt) }
+
+    keeps-one_of : (given void : Step) (is_for : Bool) → Keeps K Q given → Keeps K Q void → Keeps K Q (if is_for then given else void)
+    keeps-one_of given void true g v = g
+    keeps-one_of given void false g v = v
+
+    keeps-deliver_to : (w : World) (number place : ℕ) (found : Option Copy) (system : SystemState) → K w
+        → ((copy : Copy) → found ≡ Some copy → Takes fine limits (record { number = number; copy = copy }) w place)
+        → Keeps K Q (deliver_to limits w number place found system)
+    keeps-deliver_to w number place None system h k = keeps-is_void w number system h
+    keeps-deliver_to w number place (Some copy) system h k =
+        keeps-one_of (give limits (record { number = number; copy = copy }) w place) (is_void w system number) (is_addressee copy system.configuration)
+        (keeps-give fine limits (record { number = number; copy = copy }) w place h (k copy refl)) (keeps-is_void w number system h)
+
+    keeps-deliver_at : (w : World) (number place : ℕ) (found : Option SystemState) → K w → TakesNumbered w number place
+        → Keeps K Q (deliver_at limits w number place found)
+    keeps-deliver_at w number place None h k = keeps-nothing w h
+    keeps-deliver_at w number place (Some system) h k = keeps-deliver_to w number place (slice_get w.copies (number - 1)) system h k
+
+    pub keeps-deliver : (w : World) (number place : ℕ) → K w → TakesNumbered w number place → Keeps K Q (deliver limits w number place)
+    keeps-deliver w number place h k = keeps-deliver_at w number place (slice_get w.systems place) h k

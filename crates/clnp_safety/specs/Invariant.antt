@@ -1,26 +1,131 @@
--- What holds of each world of a run, beside the entries before it.
-use Rattle.std.specs.Prelude.{◌≡◌, List, []}
-use Rattle.std.specs.List.{AllByRecursion}
+-- What holds of each network of a run, beside the entries before it and the units that were made in them.
+use Rattle.std.specs.Prelude.{◌≡◌, ℕ, ◌+◌, ◌≤◌, ◌<◌, ◌⊎◌, false, List, [], length, slice_get, None, Some, AllPairs}
+use Rattle.std.specs.List.{AllByRecursion, Contains}
 use Rattle.scenario.specs.Scenario.{Plan}
-use Rattle.clnp_machine.specs.Unit.{Packet, value_of}
-use Rattle.clnp_machine.specs.System.{Content, Labelled, Unlabelled}
-use Rattle.clnp_network.specs.World.{World}
+use Rattle.clnp_plan.specs.Configuration.{SystemConfiguration}
+use Rattle.clnp_plan.specs.declared.note.Note.{Note}
+use Rattle.clnp_plan.specs.declared.note.Note.TheVariants.{Got, Interference}
+use Rattle.pdu_header.specs.Spelling.{type_code}
+use Rattle.reassembly.specs.Arrival.{Arrival}
+use Rattle.reassembly.specs.Buffer.{Buffer, held, is_whole}
+use Rattle.clnp_machine.specs.Identifiers.{Identifiers, Use}
+use Rattle.clnp_machine.specs.Unit as unit
+use Rattle.clnp_machine.specs.Unit.{DeclaredAt, Packet}
+use Rattle.clnp_machine.specs.System.{SystemState, Content, Labelled, Unlabelled}
+use Rattle.clnp_machine.specs.Local.{header_size, offered}
+use Rattle.clnp_network.specs.World.{World, Copy}
 use Rattle.clnp_network.specs.Run.{Entry}
 use Rattle.clnp_network.specs.Safe.{WasSent}
 
--- What holds of a packet on its way, beside the entries of the past.
-pub record PacketIsSound (plan : Plan) (past : List Entry) (packet : Packet) : Type 0 where
-  -- its unit was sent
-  pub sent : WasSent plan past packet.unit.source packet.unit.destination packet.unit.octets
-  -- it carries the whole of the unit
-  pub whole : (value_of packet).body ≡ packet.unit.octets
+-- the system declared at a place has an address
+pub record Owns (plan : Plan) (place : ℕ) (address : List ℕ) : Type 0 where
+  pub system : SystemConfiguration
+  pub there : slice_get plan.systems place ≡ Some system
+  pub own : Contains system.addresses address
+
+-- What holds of a unit that was made: an event sent it, its maker has its source among its addresses, and its data are
+-- all that its initial PDU carries.
+pub record UnitIsSound (plan : Plan) (past : List Entry) (now : ℕ) (u : unit.Unit) : Type 0 where
+  pub sent : WasSent plan past u.source u.destination u.octets
+  pub place : ℕ
+  pub maker : u.maker ≡ DeclaredAt place
+  pub owner : Owns plan place u.source
+  pub first_position : u.first_position ≡ 0
+  pub total : u.total ≡ header_size u + length u.octets
+  pub made : u.made ≤ now
+
+-- What holds of a packet: it is a range of a unit that was made, and all of it where the unit may not be segmented.
+pub record PacketIsSound (units : List unit.Unit) (p : Packet) : Type 0 where
+  pub unit : Contains units p.unit
+  pub options : p.options ≡ p.unit.options
+  pub lifetime : p.hops + p.lifetime ≤ p.unit.lifetime
+  pub within : p.offset + p.length ≤ length p.unit.octets
+  pub whole : p.unit.identifier ≡ None → (p.offset ≡ 0) × (p.length ≡ length p.unit.octets)
+
+-- a later unit of the same source and identifier was made so much later
+abbrev pub Rests : ℕ → unit.Unit → unit.Unit → Type 0
+Rests reuse u v =
+    u.source ≡ v.source → (identifier : ℕ) → u.identifier ≡ Some identifier → v.identifier ≡ Some identifier → u.made + reuse ≤ v.made
+
+abbrev pub EachRests : ℕ → List unit.Unit → Type 0
+EachRests reuse units = AllPairs (Rests reuse) units
 
 -- a frame carries a packet of which P holds, and nothing behind it
 abbrev pub Carries : (Packet → Type 0) → Content → Type 0
 Carries P (Labelled packet following) = P packet × (following ≡ [])
 Carries P (Unlabelled octets) = ⊥
 
--- What holds of a world beside the entries that led to it.
-pub record WorldIsSound (plan : Plan) (past : List Entry) (w : World) : Type 0 where
-  -- each of its copies carries what was sent
-  pub copies : AllByRecursion (λ copy. Carries (PacketIsSound plan past) copy.content) w.copies
+abbrev pub IsBornWithUnit : ℕ → Content → Type 0
+IsBornWithUnit birth (Labelled packet following) = birth ≡ packet.unit.made
+IsBornWithUnit birth (Unlabelled octets) = ⊥
+
+pub record CopyIsSound (units : List unit.Unit) (copy : Copy) : Type 0 where
+  pub carries : Carries (PacketIsSound units) copy.content
+  pub birth : IsBornWithUnit copy.birth copy.content
+
+-- a kept segment is a packet of the unit, as it was offered
+pub record IsOfUnit (units : List unit.Unit) (u : unit.Unit) (arrival : Arrival Packet) : Type 0 where
+  pub packet : PacketIsSound units arrival.carried
+  pub unit : arrival.carried.unit ≡ u
+  pub offered : arrival ≡ offered arrival.carried []
+
+-- What holds of a buffer: its segments are those of one unit, and it was opened and ends while none of another unit with
+-- the key can come.
+pub record BufferIsSound (plan : Plan) (units : List unit.Unit) (buffer : Buffer Packet) : Type 0 where
+  pub unit : unit.Unit
+  pub made : Contains units unit
+  pub identifier : ℕ
+  pub identified : unit.identifier ≡ Some identifier
+  pub key : buffer.key ≡ record { from = unit.source; to = unit.destination; id = identifier }
+  pub shape : buffer.shape ≡ record { total = unit.total; head_len = header_size unit; kind = type_code unit.kind }
+  pub opened : buffer.opened ≤ unit.made + plan.limits.age
+  pub deadline : buffer.deadline ≤ buffer.opened + plan.limits.hold
+  pub kept : AllByRecursion (IsOfUnit units unit) buffer.kept
+
+-- what was used no later than a moment, one after another
+pub record AreUsesUntil (now : ℕ) (uses : List Use) : Type 0 where
+  pub until_now : AllByRecursion (λ given. given.moment ≤ now) uses
+  pub in_order : AllPairs (λ (earlier later : Use). earlier.moment ≤ later.moment) uses
+
+-- the identifier of a unit is among the uses, or was used so long before the end of the quiet time
+abbrev pub IsInUses : Identifiers → unit.Unit → Type 0
+IsInUses ids u =
+    (identifier : ℕ) → u.identifier ≡ Some identifier
+    → Contains ids.uses (record { identifier = identifier; moment = u.made }) ⊎ (u.made + ids.reuse ≤ ids.quiet)
+
+-- What holds of the system at a place, at a moment.
+pub record SystemIsSound (plan : Plan) (units : List unit.Unit) (now place : ℕ) (s : SystemState) : Type 0 where
+  pub stands_at : s.place ≡ place
+  pub declared : slice_get plan.systems place ≡ Some s.configuration
+  pub hold : s.hold ≡ plan.limits.hold
+  pub moment : s.moment ≡ now
+  pub reuse : s.identifiers.reuse ≡ plan.limits.reuse
+  pub uses : AreUsesUntil now s.identifiers.uses
+  pub used : (u : unit.Unit) → Contains units u → u.maker ≡ DeclaredAt place → IsInUses s.identifiers u
+  pub buffers : AllByRecursion (BufferIsSound plan units) s.buffers
+  pub not_due : AllByRecursion (λ (buffer : Buffer Packet). now < buffer.deadline) s.buffers
+  pub not_whole : AllByRecursion (λ (buffer : Buffer Packet). is_whole buffer ≡ false) s.buffers
+  pub budget : held s.buffers ≤ s.configuration.settings.budget
+
+-- What holds of the units together.
+pub record UnitsAreSound (plan : Plan) (past : List Entry) (now : ℕ) (units : List unit.Unit) : Type 0 where
+  pub each : AllByRecursion (UnitIsSound plan past now) units
+  pub rest : EachRests plan.limits.reuse units
+
+-- the systems are those of the plan, and each is sound
+pub record SystemsAreSound (plan : Plan) (units : List unit.Unit) (now : ℕ) (systems : List SystemState) : Type 0 where
+  pub number : length systems ≡ length plan.systems
+  pub each : (place : ℕ) (s : SystemState) → slice_get systems place ≡ Some s → SystemIsSound plan units now place s
+
+-- What holds of a network beside the entries that led to it.
+pub record WorldIsSound (plan : Plan) (past : List Entry) (units : List unit.Unit) (w : World) : Type 0 where
+  pub made : UnitsAreSound plan past w.clock units
+  pub copies : AllByRecursion (CopyIsSound units) w.copies
+  pub systems : SystemsAreSound plan units w.clock w.systems
+
+-- A note says only what is so of the units that were made: what is handed up is one of them, and nothing interferes.
+abbrev pub NoteIsSound : List unit.Unit → Note → Type 0
+NoteIsSound units (Got from to octets) =
+    (u : unit.Unit) × Contains units u × (u.source ≡ from) × (u.destination ≡ to) × (u.octets ≡ octets)
+NoteIsSound units (Interference id) = ⊥
+NoteIsSound units _ = Unit {0}

@@ -2,3 +2,4 @@ pub mod Invariant
 pub mod Growth
 pub mod Refusal
 pub mod Owners
+pub mod Outputs

@@ -3,7 +3,7 @@ use Rattle.std.specs.Prelude.{◌≡◌, ℕ, true, List, slice_get, Some}
 use Rattle.clnp_plan.specs.Journal.{Line, Noted}
 use Rattle.clnp_plan.specs.declared.note.Note.TheVariants.{Got}
 use Rattle.clnp_machine.specs.System.{SystemState}
-use Rattle.clnp_machine.specs.Host.{is_own}
+use Rattle.clnp_machine.specs.Local.{is_own}
 
 -- one of the systems has this name, and the address among its own
 pub record HasOwner (systems : List SystemState) (name address : List ℕ) : Type 0 where

@@ -1,20 +1,33 @@
 //! Laws of runs: each holds for every scenario, and its function does nothing.
-ghost use Rattle.std.specs.Prelude.{ℕ, List, []};
+ghost use Rattle.std.specs.Prelude.{◌≡◌, ℕ, List, [], None, Some};
 ghost use Rattle.std.specs.List.{AllByRecursion};
-ghost use Rattle.scenario.specs.Scenario.{Plan};
+ghost use Rattle.scenario.specs.Scenario.{Plan, IsFit};
 ghost use Rattle.scenario.specs.declared.event.Move.{Move};
 ghost use Rattle.clnp_network.specs.World.{World, after, first_world};
-ghost use Rattle.clnp_network.specs.Run.{entries_of, run, world_after};
-ghost use Rattle.clnp_network.specs.Safe.{IsSend, NoRefusal, EachWasSent, IsHonest};
-ghost use Rattle.clnp_safety.specs.Growth.{IsFront, IsWithinCopies};
+ghost use Rattle.clnp_network.specs.Run.{Entry, entries_of, full_weight, run, text_of, until_full, world_after};
+ghost use Rattle.clnp_network.specs.Safe.{IsSend, NoRefusal, EachWasSent, IsHonest, IsWithinBudgets, NoInterference};
+ghost use Rattle.clnp_safety.specs.Growth.{IsFront, IsFullAt, IsWithinCopies};
 ghost use Rattle.clnp_safety.specs.Owners.{IsByOwner};
 ghost use Rattle.clnp_safety.specs.Refusal.{LeavesNothing};
 
 /// A run hands up only what it sent before: from the same source to the same destination, with the
-/// same octets, and not refused. So does each series of moves, in whatever order they come.
+/// same octets, and not refused. So does each series of moves, in whatever order they come: copies that
+/// are lost, late, given twice or out of order, ticks and restarts change nothing of it.
 pub fn handed_up_was_sent()
-    ensures run { (plan : Plan) → IsHonest plan (run plan) }
-    ensures moves { (plan : Plan) (moves : List Move) → EachWasSent plan [] (entries_of plan (first_world plan) moves) }
+    ensures run { (plan : Plan) → IsFit plan → IsHonest plan (run plan) }
+    ensures moves { (plan : Plan) → IsFit plan → (moves : List Move) → EachWasSent plan [] (entries_of plan (first_world plan) moves) }
+{}
+
+/// No segment of a unit ever meets one of another unit in a reassembly buffer, since a data unit
+/// identifier rests until none of its unit can be on its way (ISO 8473, section 6.8).
+pub fn no_unit_meets_another()
+    ensures { (plan : Plan) → IsFit plan → (moves : List Move)
+        → AllByRecursion (λ (entry : Entry). NoInterference entry.lines) (entries_of plan (first_world plan) moves) }
+{}
+
+/// No system ever holds more octets for reassembly than its budget.
+pub fn budgets_are_kept()
+    ensures { (plan : Plan) → IsFit plan → (moves : List Move) → IsWithinBudgets (world_after plan (first_world plan) moves) }
 {}
 
 /// The copies of a world stay, in their order, and no more of them are settled than there are.
@@ -33,4 +46,18 @@ pub fn refused_leaves_nothing()
 /// move: a line that says so has the name of one.
 pub fn only_owners_hand_up()
     ensures { (plan : Plan) (w : World) (move : Move) → AllByRecursion (IsByOwner w.systems) (after plan w move).lines }
+{}
+
+/// The moves that are made are the first of the scenario's: all of them, or those up to the first at
+/// which the network is full.
+pub fn moves_are_made_until_full()
+    ensures front { (plan : Plan) (w : World) (moves : List Move) → IsFront (until_full plan w moves) moves }
+    ensures all { (plan : Plan) (w : World) (moves : List Move) → full_weight plan w moves ≡ None → until_full plan w moves ≡ moves }
+    ensures stopped { (plan : Plan) (w : World) (moves : List Move) (weighs : ℕ) → full_weight plan w moves ≡ Some weighs
+        → IsFullAt (world_after plan w (until_full plan w moves)) weighs }
+{}
+
+/// What some moves write stands at the beginning of what they write with others behind them.
+pub fn text_only_grows()
+    ensures { (plan : Plan) (w : World) (moves later : List Move) → IsFront moves later → IsFront (text_of plan w moves) (text_of plan w later) }
 {}

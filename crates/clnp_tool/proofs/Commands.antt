@@ -58,6 +58,7 @@ check_ended law text now left a b c block status.NoMemory none m p =
 check_ended law text now left a b c block (status.BadWords at) none m p = absurd p
 check_ended law text now left a b c block status.TooLong none m p = absurd p
 check_ended law text now left a b c block (status.BadInput line code) none m p = absurd p
+check_ended law text now left a b c block (status.WorldFull octets) none m p = absurd p
 check_ended law text now left a b c block status.ReadFault none m p = absurd p
 
 -- the verdict on a vector, and its end, before what the later lines call for

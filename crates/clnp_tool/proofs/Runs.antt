@@ -1,13 +1,13 @@
 -- Series of moves, one after another: their text, the world after them, and the moves of events.
-use Rattle.std.proofs.Common.{◌≡◌, ℕ, ◌+◌, ◌-◌, ◌<◌, List, [], ◌∷◌, ◌++◌, length, take, drop, get_or, refl, sym, ap, ◌∙◌, append_assoc, append-nil, add-one, arith, length-take, take-append-drop}
+use Rattle.std.proofs.Common.{◌≡◌, ℕ, ◌+◌, ◌-◌, ◌<◌, Bool, true, false, if◌then◌else◌, Option, None, Some, List, [], ◌∷◌, ◌++◌, length, take, drop, get_or, refl, sym, ap, ◌∙◌, append_assoc, append-nil, add-one, arith, length-take, take-append-drop}
 use Rattle.std.specs.Prelude.{replicate}
 use Rattle.std.proofs.lemmas.List.{replicate_more, replicate-append-replicate}
 use Rattle.std.proofs.Math.Seq.{take-suc}
 use Rattle.scenario.specs.Scenario.{Plan, moves_of, moves_from}
 use Rattle.scenario.specs.declared.event.Event.{Event}
 use Rattle.scenario.specs.declared.event.Move.{Move}
-use Rattle.clnp_network.specs.World.{World, after}
-use Rattle.clnp_network.specs.Run.{lines_text, text_of, world_after}
+use Rattle.clnp_network.specs.World.{World, after, is_full, weight}
+use Rattle.clnp_network.specs.Run.{full_weight, lines_text, text_of, until_full, world_after}
 
 pub world_after-append : (plan : Plan) (w : World) (made more : List Move) → world_after plan w (made ++ more) ≡ world_after plan (world_after plan w made) more
 world_after-append plan w [] more = refl
@@ -19,8 +19,63 @@ text_of-append plan w (move ∷ made) more =
     ap (λ (t : List ℕ). lines_text (after plan w move).lines ++ t) (text_of-append plan (after plan w move).world made more)
     ∙ sym (append_assoc (lines_text (after plan w move).lines) (text_of plan (after plan w move).world made) (text_of plan (world_after plan (after plan w move).world made) more))
 
-pub text_of-one : (plan : Plan) (w : World) (move : Move) → text_of plan w (move ∷ []) ≡ lines_text (after plan w move).lines
-text_of-one plan w move = append-nil (lines_text (after plan w move).lines)
+-- where the network isn't full before any of some moves, it isn't before the first nor before the others
+not_full : (full : Bool) (weighs : ℕ) (rest : Option ℕ) → (if full then Some weighs else rest) ≡ None → (full ≡ false) × (rest ≡ None)
+not_full true weighs rest h = absurd (cc)
+not_full false weighs rest h = (refl, h)
+
+-- the network isn't full before any of the first moves, so what is made of those behind them comes behind them
+pub until_full-behind : (plan : Plan) (w : World) (made more : List Move) → full_weight plan w made ≡ None
+    → until_full plan w (made ++ more) ≡ made ++ until_full plan (world_after plan w made) more
+until_full-behind plan w [] more h = refl
+until_full-behind plan w (move ∷ made) more h =
+    let room = not_full (is_full w) (weight w) (full_weight plan (after plan w move).world made) h in
+    ap (λ (full : Bool). if full then [] else move ∷ until_full plan (after plan w move).world (made ++ more)) room.0
+    ∙ ap (λ (t : List Move). move ∷ t) (until_full-behind plan (after plan w move).world made more room.1)
+
+pub full_weight-behind : (plan : Plan) (w : World) (made more : List Move) → full_weight plan w made ≡ None
+    → full_weight plan w (made ++ more) ≡ full_weight plan (world_after plan w made) more
+full_weight-behind plan w [] more h = refl
+full_weight-behind plan w (move ∷ made) more h =
+    let room = not_full (is_full w) (weight w) (full_weight plan (after plan w move).world made) h in
+    ap (λ (full : Bool). if full then Some (weight w) else full_weight plan (after plan w move).world (made ++ more)) room.0
+    ∙ full_weight-behind plan (after plan w move).world made more room.1
+
+pub until_full-all : (plan : Plan) (w : World) (moves : List Move) → full_weight plan w moves ≡ None → until_full plan w moves ≡ moves
+until_full-all plan w [] h = refl
+until_full-all plan w (move ∷ moves) h =
+    let room = not_full (is_full w) (weight w) (full_weight plan (after plan w move).world moves) h in
+    ap (λ (full : Bool). if full then [] else move ∷ until_full plan (after plan w move).world moves) room.0
+    ∙ ap (λ (t : List Move). move ∷ t) (until_full-all plan (after plan w move).world moves room.1)
+
+longer_by_one : (full : Bool) (move : Move) (made all : List Move) → (rest : List Move) × (all ≡ made ++ rest)
+    → (rest : List Move) × ((if full then [] else move ∷ all) ≡ (if full then [] else move ∷ made) ++ rest)
+longer_by_one true move made all h = ([], refl)
+longer_by_one false move made all h = (h.0, ap (λ (t : List Move). move ∷ t) h.1)
+
+-- of more moves as many are made, or more
+pub until_full-longer : (plan : Plan) (w : World) (moves later : List Move)
+    → (rest : List Move) × (until_full plan w (moves ++ later) ≡ until_full plan w moves ++ rest)
+until_full-longer plan w [] later = (until_full plan w later, refl)
+until_full-longer plan w (move ∷ moves) later =
+    longer_by_one (is_full w) move (until_full plan (after plan w move).world moves) (until_full plan (after plan w move).world (moves ++ later))
+    (until_full-longer plan (after plan w move).world moves later)
+
+full_by_one : (full : Bool) (weighs octets : ℕ) (move : Move) (made all : List Move) (rest more : Option ℕ)
+    → (rest ≡ Some octets → (more ≡ Some octets) × (all ≡ made)) → (if full then Some weighs else rest) ≡ Some octets
+    → ((if full then Some weighs else more) ≡ Some octets) × ((if full then [] else move ∷ all) ≡ (if full then [] else move ∷ made))
+full_by_one true weighs octets move made all rest more h is = (is, refl)
+full_by_one false weighs octets move made all rest more h is =
+    let both = h is in (both.0, ap (λ (t : List Move). move ∷ t) both.1)
+
+-- where the network was full before a move, moves behind it change nothing
+pub full_stays : (plan : Plan) (w : World) (moves later : List Move) (octets : ℕ) → full_weight plan w moves ≡ Some octets
+    → (full_weight plan w (moves ++ later) ≡ Some octets) × (until_full plan w (moves ++ later) ≡ until_full plan w moves)
+full_stays plan w [] later octets h = absurd (cc)
+full_stays plan w (move ∷ moves) later octets h =
+    full_by_one (is_full w) (weight w) octets move (until_full plan (after plan w move).world moves) (until_full plan (after plan w move).world (moves ++ later))
+    (full_weight plan (after plan w move).world moves) (full_weight plan (after plan w move).world (moves ++ later))
+    (full_stays plan (after plan w move).world moves later octets) h
 
 pub moves_from-append : (place : ℕ) (made more : List Event) → moves_from place (made ++ more) ≡ moves_from place made ++ moves_from (place + length made) more
 moves_from-append place [] more = ap (λ (n : ℕ). moves_from n more) (omega arith)

@@ -148,4 +148,5 @@ EndOf piece before after status.NoMemory = Appends before after []
 EndOf piece before after (status.BadWords at) = ⊥
 EndOf piece before after status.TooLong = ⊥
 EndOf piece before after (status.BadInput line code) = ⊥
+EndOf piece before after (status.WorldFull octets) = ⊥
 EndOf piece before after status.ReadFault = ⊥

@@ -4,5 +4,6 @@ pub mod Output
 pub mod Show
 pub mod Check
 pub mod ByLine
+pub mod Time
 pub mod Play
 pub mod Exit

@@ -4,7 +4,7 @@ use Rattle.std.specs.Io.KnownBytes.{Consumes, IsAtEnd, Appends}
 use Rattle.scenario.specs.Scenario.{Plan}
 use Rattle.scenario.specs.declared.event.Move.{Move}
 use Rattle.clnp_network.specs.World.{World, first_world}
-use Rattle.clnp_network.specs.Run.{text_of, moves_of_plan}
+use Rattle.clnp_network.specs.Run.{text_of, moves_made}
 
 -- the most octets of an input
 abbrev pub most_input : ℕ
@@ -23,6 +23,6 @@ pub record AppendsMoves (plan : Plan) (model : World) (moves : List Move) (befor
   pub all : moves ≡ made ++ later
   pub appended : Appends before after (text_of plan model made)
 
--- the journal of some of a scenario's moves, from the first on, was written
+-- the journal of some of the moves that a scenario makes, from the first on, was written
 abbrev pub AppendsWholeMoves : Plan → Option (List ℕ) → Option (List ℕ) → Type 0
-AppendsWholeMoves plan before after = AppendsMoves plan (first_world plan) (moves_of_plan plan) before after
+AppendsWholeMoves plan before after = AppendsMoves plan (first_world plan) (moves_made plan) before after

@@ -1,16 +1,16 @@
 -- The words of a command line, and what they and the input call for.
-use Rattle.std.specs.Prelude.{◌≡◌, ℕ, nat_lt, if◌then◌else◌, is_some, List, [], ◌∷◌, length, codes, Option, None, Some, Result, Ok, Err, IfOk}
+use Rattle.std.specs.Prelude.{ℕ, nat_lt, if◌then◌else◌, is_some, List, [], ◌∷◌, length, codes, Option, None, Some, Result, Ok, Err, IfOk, IsOk}
 use Rattle.std.specs.Str.{bytes_eq}
 use Rattle.std.specs.Io.KnownBytes.{Appends}
 use Rattle.clnp_base.specs.Streams.{AppendsFront}
 use Rattle.clnp_base.specs.Text.{lines_of}
 use Rattle.scenario.specs.Scenario.{Plan}
 use Rattle.scenario.specs.Grammar.{BadLine, plan_of}
-use Rattle.clnp_network.specs.Run.{journal}
+use Rattle.clnp_network.specs.Run.{journal, stopped_at}
 use Rattle.clnp_tool.specs.declared.command.Command.{Command}
 use Rattle.clnp_tool.specs.declared.command.Command.TheVariants.{Sim, Show, Check}
 use Rattle.clnp_tool.specs.declared.status.Status.{Status}
-use Rattle.clnp_tool.specs.declared.status.Status.TheVariants.{Done, BadWords, TooLong, BadInput, ReadFault, WriteFault, NoMemory}
+use Rattle.clnp_tool.specs.declared.status.Status.TheVariants.{Done, BadWords, TooLong, BadInput, WorldFull, ReadFault, WriteFault, NoMemory}
 use Rattle.clnp_tool.specs.Sim.{most_input, AppendsWholeMoves}
 use Rattle.clnp_tool.specs.Show.{show_status, AppendsShown, AppendsShownFront, AppendsSomeShown}
 use Rattle.clnp_tool.specs.Check.{check_status, AppendsChecked, AppendsCheckedFront, AppendsSomeChecked}
@@ -34,8 +34,13 @@ command_of [] = Err 0
 command_of (word ∷ []) = ok_or_first (command_named word)
 command_of (word ∷ second ∷ others) = if is_some (command_named word) then Err 1 else Err 0
 
+-- the status of a run that was stopped at a weight, or wasn't
+abbrev pub run_status : Option ℕ → Status
+run_status None = Done
+run_status (Some octets) = WorldFull octets
+
 abbrev pub scenario_status : Result Plan BadLine → Status
-scenario_status (Ok plan) = Done
+scenario_status (Ok plan) = run_status (stopped_at plan)
 scenario_status (Err bad) = BadInput bad.line bad.code
 
 -- what a command and an input that isn't too long call for
@@ -57,7 +62,7 @@ abbrev pub journal_of : Result Plan BadLine → List ℕ
 journal_of (Ok plan) = journal plan
 journal_of (Err bad) = []
 
--- the output that a scenario text calls for: its journal; nothing where it isn't one
+-- the output that a scenario text calls for: its journal, which ends where the network is full; nothing where it isn't one
 abbrev pub output_of : List ℕ → List ℕ
 output_of text = journal_of (plan_of text)
 
@@ -71,7 +76,7 @@ AppendsOutput Check text before after = AppendsChecked (lines_of text) before af
 -- A front of the whole output was written: of the journal of a text that is a scenario, or of what the lines of a
 -- capture or of a file of vectors call for.
 abbrev pub AppendsOutputFront : Command → List ℕ → Option (List ℕ) → Option (List ℕ) → Type 0
-AppendsOutputFront Sim text before after = (status_of Sim text ≡ Done) × AppendsFront before after (output_of text)
+AppendsOutputFront Sim text before after = IsOk (plan_of text) × AppendsFront before after (output_of text)
 AppendsOutputFront Show text before after = AppendsShownFront (lines_of text) before after
 AppendsOutputFront Check text before after = AppendsCheckedFront (lines_of text) before after
 
@@ -79,7 +84,7 @@ AppendsOutputFront Check text before after = AppendsCheckedFront (lines_of text)
 -- of the lines of a capture or of a file of vectors call for.
 abbrev pub AppendsOutputParts : Command → List ℕ → Option (List ℕ) → Option (List ℕ) → Type 0
 AppendsOutputParts Sim text before after =
-    (status_of Sim text ≡ Done) × IfOk (plan_of text) (λ plan. AppendsWholeMoves plan before after)
+    IsOk (plan_of text) × IfOk (plan_of text) (λ plan. AppendsWholeMoves plan before after)
 AppendsOutputParts Show text before after = AppendsSomeShown (lines_of text) before after
 AppendsOutputParts Check text before after = AppendsSomeChecked (lines_of text) before after
 

@@ -11,6 +11,8 @@ pub enum Fault {
     TooLong,
     #[error("bad input at line {line}: {}", code_name(*.code))]
     BadInput { line: u32, code: u8 },
+    #[error("world full at {octets} octets")]
+    WorldFull { octets: u64 },
     #[error("read fault")]
     ReadFault,
     #[error("write fault")]
@@ -27,6 +29,7 @@ impl Fault {
             Status::BadWords { at } => Some(Fault::BadWords { at }),
             Status::TooLong => Some(Fault::TooLong),
             Status::BadInput { line, code } => Some(Fault::BadInput { line, code }),
+            Status::WorldFull { octets } => Some(Fault::WorldFull { octets }),
             Status::ReadFault => Some(Fault::ReadFault),
             Status::WriteFault => Some(Fault::WriteFault),
             Status::NoMemory => Some(Fault::NoMemory),
@@ -44,6 +47,7 @@ fn code_name(code: u8) -> &'static str {
         5 => "unknown-name",
         6 => "dup-name",
         7 => "dup-address",
+        8 => "limits",
         9 => "mtu",
         10 => "count",
         _ => "other",

@@ -18,6 +18,7 @@ Exit numbers:
   1  the words are no command
   2  the input has more than 16,777,216 octets
   3  the input isn't a scenario, or has a bad line
+  4  the frames of the simulated network weigh 268,435,456 octets or more
   5  standard input failed
   6  standard output failed
   8  no memory

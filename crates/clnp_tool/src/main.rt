@@ -14,6 +14,8 @@ mod show;
 mod status;
 #[cfg(test)]
 mod tests;
+#[cfg(test)]
+mod time_tests;
 mod top;
 
 use crate::arguments::words;

@@ -13,6 +13,8 @@ pub enum Status {
     TooLong,
     /// The input breaks its grammar, first at this line, from 1, with the code of what it breaks.
     BadInput { line: u32, code: u8 },
+    /// The copies of a simulated network weigh too much, so many octets: its run was stopped.
+    WorldFull { octets: u64 },
     /// The source failed.
     ReadFault,
     /// The sink failed.
@@ -31,6 +33,7 @@ impl Status {
             Status::BadWords { .. } => 1,
             Status::TooLong => 2,
             Status::BadInput { .. } => 3,
+            Status::WorldFull { .. } => 4,
             Status::ReadFault => 5,
             Status::WriteFault => 6,
             Status::NoMemory => 8,

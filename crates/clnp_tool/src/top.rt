@@ -1,17 +1,20 @@
 //! The top call: words and input in, output and a status out.
 ghost use Rattle.std.specs.Prelude.{◌≡◌, ◌<◌, ◌≤◌, ◌⊎◌, ◌↔◌, ℕ, List, [], ◌∷◌, length, map, replicate, IfSome, IfOk, Ok, Err, string_bytes};
+ghost use Rattle.std.specs.List.{AllByRecursion};
 ghost use Rattle.std.specs.Io.KnownBytes.{Consumes, Keeps};
 ghost use Rattle.clnp_base.specs.Streams.{Rose};
 ghost use Rattle.clnp_base.specs.Text.{lines_of};
-ghost use Rattle.scenario.specs.Scenario.{moves_of};
+ghost use Rattle.scenario.specs.Scenario.{IsFit, moves_of};
 ghost use Rattle.scenario.specs.Grammar.{plan_of};
 ghost use Rattle.clnp_network.specs.World as network;
-ghost use Rattle.clnp_network.specs.Run.{moves_of_plan, run, world_end};
-ghost use Rattle.clnp_network.specs.Safe.{IsHonest};
+ghost use Rattle.clnp_network.specs.World.{first_world};
+ghost use Rattle.clnp_network.specs.Run.{moves_of_plan, run, world_after, world_end};
+ghost use Rattle.clnp_network.specs.Safe.{IsHonest, IsWithinBudgets, NoInterference};
 ghost use Rattle.clnp_world.specs.Stands.{Stands};
 ghost use Rattle.clnp_tool.specs.Words.{command_of, called, called_by, AppendsOutput, AppendsOutputFront, AppendsOutputParts, Excuses};
 ghost use Rattle.clnp_tool.specs.Sim.{most_input, ReadsWhole};
 ghost use Rattle.clnp_tool.specs.Play.{PieceOf, PlayOf, JournalOf, ComesTo};
+ghost use Rattle.clnp_tool.specs.Time.{HasTime};
 
 use crate::check::check;
 use crate::command::Command;
@@ -19,7 +22,7 @@ use crate::show::show;
 use crate::status::Status;
 use clnp_base::{ReadStop, Sink, Source, read_all, write_all};
 use clnp_safety::laws;
-use clnp_world::World;
+use clnp_world::{World, WorldRefusal};
 use scenario::{Event, Move, Scenario, ScenarioRefusal};
 use std::alloc::Global;
 
@@ -72,6 +75,14 @@ pub fn clnp_main<S: Source, K: Sink>(
         × (called_by command text ≡ Status.BadInput line code)
         × AppendsOutput command text (K.written sink.old) (K.written sink.new)) }
 
+    // World full: all was read, and the journal of the scenario that the text is was written, up to
+    // the move before which the copies weighed so much.
+    ensures world_full { (octets : ℕ) → result ≡ Status.WorldFull octets
+        → (command : Command) × (command_of (map string_bytes words.now) ≡ Ok command)
+        × ((text : List ℕ) × ReadsWhole (S.left source.old) (S.left source.new) text
+        × (called_by command text ≡ Status.WorldFull octets)
+        × AppendsOutput command text (K.written sink.old) (K.written sink.new)) }
+
     // Read fault: the source failed in this call, and nothing was written.
     ensures read_fault { result ≡ Status.ReadFault
         → Rose (S.faults source.old) (S.faults source.new) × Keeps (K.written sink.old) (K.written sink.new) }
@@ -91,8 +102,15 @@ pub fn clnp_main<S: Source, K: Sink>(
 
     // Each data unit that the run of a scenario hands up is one that was sent before in that run.
     ensures safe { (text : List ℕ) → IfOk (plan_of text) (λ plan. IsHonest plan (run plan)) }
+
+    // In no run of a scenario does a segment meet another unit's in a buffer.
+    ensures apart { (text : List ℕ) → IfOk (plan_of text) (λ plan. AllByRecursion (λ entry. NoInterference entry.lines) (run plan)) }
+
+    // After whatever moves of a scenario no system holds more octets for reassembly than its budget.
+    ensures bounded { (text : List ℕ) → IfOk (plan_of text) (λ plan. (moves : List Move)
+        → IsWithinBudgets (world_after plan (first_world plan) moves)) }
 {
-    every_run_is_honest();
+    every_run_is_safe();
     let command = match Command::of(words) {
         Ok(command) => command,
         Err(at) => return Status::BadWords { at },
@@ -106,11 +124,18 @@ pub fn clnp_main<S: Source, K: Sink>(
     }
 }
 
-/// The run of the scenario that a text is hands up only what it sent before.
-fn every_run_is_honest()
-    ensures { (text : List ℕ) → IfOk (plan_of text) (λ plan. IsHonest plan (run plan)) }
+/// The run of the scenario that a text is hands up only what it sent before, no segment meets
+/// another unit's in it, and whatever its moves each system keeps its budget.
+fn every_run_is_safe()
+    ensures safe { (text : List ℕ) → IfOk (plan_of text) (λ plan. IsHonest plan (run plan)) }
+    ensures apart { (text : List ℕ) → IfOk (plan_of text) (λ plan. AllByRecursion (λ entry. NoInterference entry.lines) (run plan)) }
+    ensures bounded { (text : List ℕ) → IfOk (plan_of text) (λ plan. (moves : List Move)
+        → IsWithinBudgets (world_after plan (first_world plan) moves)) }
 {
+    scenario::laws::accepted_is_fit();
     laws::handed_up_was_sent();
+    laws::no_unit_meets_another();
+    laws::budgets_are_kept();
 }
 
 /// Runs a command on a text.
@@ -135,9 +160,11 @@ fn sim<K: Sink>(alloc: Global, text: &[u8], sink: &mut K) -> Status
     ensures failed { result ≡ Status.WriteFault → Rose (K.faults sink.old) (K.faults sink.new) }
 {
     few_lines();
+    scenario::laws::accepted_is_fit();
     match scenario::read(alloc, text) {
         Ok(scenario) => match play(alloc, &scenario, sink) {
             Ok(()) => Status::Done,
+            Err(Stop::WorldFull { octets }) => Status::WorldFull { octets },
             Err(Stop::WriteFault) => Status::WriteFault,
             Err(Stop::NoMemory) => Status::NoMemory,
         },
@@ -154,12 +181,15 @@ fn few_lines()
 /// Why the writing of a journal stopped.
 #[derive(Clone, Copy, Debug, PartialEq, Eq)]
 enum Stop {
+    /// The copies weigh too much: so many octets.
+    WorldFull { octets: u64 },
     WriteFault,
     NoMemory,
 }
 
 /// Plays a scenario: makes its moves and writes their lines, and then the journal's last line.
 fn play<K: Sink>(alloc: Global, scenario: &Scenario, sink: &mut K) -> Result<(), Stop>
+    requires { IsFit scenario.now }
     ensures later { K.faults sink.old ≤ K.faults sink.new }
     ensures comes_to { JournalOf scenario.now (K.written sink.old) (K.written sink.new) result }
     ensures failed { result ≡ Err Stop.WriteFault → Rose (K.faults sink.old) (K.faults sink.new) }
@@ -180,6 +210,7 @@ fn play_events<K: Sink>(
     world: &mut World,
     sink: &mut K,
 ) -> Result<(), Stop>
+    requires { HasTime world.old (moves_of_plan scenario.now) }
     ensures later { K.faults sink.old ≤ K.faults sink.new }
     ensures comes_to { (model : network.World) → Stands world.old model
         → PlayOf scenario.now model (moves_of_plan scenario.now) world.new (K.written sink.old) (K.written sink.new) result }
@@ -200,6 +231,7 @@ fn play_event<K: Sink>(
     world: &mut World,
     sink: &mut K,
 ) -> Result<(), Stop>
+    requires { HasTime world.old (moves_of place event.now) }
     ensures later { K.faults sink.old ≤ K.faults sink.new }
     ensures comes_to { (model : network.World) → Stands world.old model
         → PlayOf scenario.now model (moves_of place event.now) world.new (K.written sink.old) (K.written sink.new) result }
@@ -210,7 +242,8 @@ fn play_event<K: Sink>(
             play_times(alloc, scenario, &Move::SettleOne, *count, world, sink)
         }
         Event::Lose { count } => play_times(alloc, scenario, &Move::LoseOne, *count, world, sink),
-        Event::Send { .. } | Event::Deliver { .. } => {
+        Event::Tick { count } => play_times(alloc, scenario, &Move::TickOne, *count, world, sink),
+        Event::Send { .. } | Event::Deliver { .. } | Event::Restart { .. } => {
             play_move(alloc, scenario, &Move::One(place), world, sink)
         }
     }
@@ -225,6 +258,7 @@ fn play_times<K: Sink>(
     world: &mut World,
     sink: &mut K,
 ) -> Result<(), Stop>
+    requires { HasTime world.old (replicate count mv.now) }
     ensures later { K.faults sink.old ≤ K.faults sink.new }
     ensures comes_to { (model : network.World) → Stands world.old model
         → PlayOf scenario.now model (replicate count mv.now) world.new (K.written sink.old) (K.written sink.new) result }
@@ -244,16 +278,18 @@ fn play_move<K: Sink>(
     world: &mut World,
     sink: &mut K,
 ) -> Result<(), Stop>
+    requires { HasTime world.old (mv.now ∷ []) }
     ensures later { K.faults sink.old ≤ K.faults sink.new }
     ensures comes_to { (model : network.World) → Stands world.old model
         → PlayOf scenario.now model (mv.now ∷ []) world.new (K.written sink.old) (K.written sink.new) result }
     ensures failed { result ≡ Err Stop.WriteFault → Rose (K.faults sink.old) (K.faults sink.new) }
 {
     let mut lines = Vec::new(alloc);
-    if world.step(alloc, scenario, mv, &mut lines).is_err() {
-        return Err(Stop::NoMemory);
+    match world.step(alloc, scenario, mv, &mut lines) {
+        Ok(()) => write(sink, lines.as_slice()),
+        Err(WorldRefusal::WorldFull { octets }) => Err(Stop::WorldFull { octets }),
+        Err(WorldRefusal::NoMemory) => Err(Stop::NoMemory),
     }
-    write(sink, lines.as_slice())
 }
 
 /// Writes the journal's last line.

@@ -1,5 +1,10 @@
+pub mod ListSteps
+pub mod EffectSteps
 pub mod ModelSteps
-pub mod StandSteps
-pub mod HostSteps
+pub mod EachSteps
 pub mod PutSteps
-pub mod DeliverSteps
+pub mod TakeSteps
+pub mod GiveSteps
+pub mod SendSteps
+pub mod TickSteps
+pub mod WorldSteps

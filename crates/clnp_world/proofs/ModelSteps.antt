@@ -1,27 +1,21 @@
--- One more output, addressee or system at the end of a list, and what the parts of a move leave as it was.
-use Rattle.std.proofs.Common.{◌≡◌, ℕ, zero, suc, ◌+◌, ◌<◌, ◌≤◌, List, [], ◌∷◌, ◌++◌, length, take, get_or, map, cond, true, false, Option, None, Some, refl, sym, ap, ◌∙◌, arith, append-nil, append_assoc, add-zero, zero-add, add-one}
+-- One more output, addressee, tick or system at the end of a list, and what the parts of a move leave as it was.
+use Rattle.std.proofs.Common.{◌≡◌, ℕ, suc, ◌+◌, List, [], ◌∷◌, ◌++◌, length, take, map, cond, Bool, true, false, Option, None, Some, refl, sym, ap, ◌∙◌, subst, arith, append-nil, append_assoc, add-zero, zero-add}
 use Rattle.std.specs.Prelude.{slice_get, slice_set}
+use Rattle.std.specs.List.{AllByRecursion, range_with_len}
 use Rattle.std.proofs.lemmas.List.Concat.{flat_map-append}
 use Rattle.clnp_plan.specs.Configuration.{SystemConfiguration}
-use Rattle.clnp_plan.specs.Journal.{Line, line_text}
-use Rattle.clnp_machine.specs.System.{SystemState, Output, Transmits, Notes, Effect}
-use Rattle.clnp_machine.specs.Host.{arrive}
+use Rattle.clnp_plan.specs.Journal.{Line, Late, line_text}
+use Rattle.clnp_plan.specs.declared.config.Limits.{Limits}
+use Rattle.clnp_machine.specs.System.{SystemState, Output, Transmits, Notes, Effect, first_state}
+use Rattle.clnp_machine.specs.Host.{arrive, tick}
 use Rattle.clnp_network.specs.World as network
 use Rattle.clnp_network.specs.Run.{lines_text}
+use Rattle.clnp_world.specs.Parts.{IsCurrent}
+use Rattle.clnp_world.proofs.EffectSteps.{keeps_arrive}
+use Rattle.clnp_world.proofs.ListSteps.{slice_get_front, take_push, map_set, all_set, range_push}
 
 pub lines_text-append : (xs ys : List Line) → lines_text (xs ++ ys) ≡ lines_text xs ++ lines_text ys
 lines_text-append xs ys = flat_map-append line_text xs ys
-
--- nothing is changed by writing what stands there
-pub slice_set_same : {X : Type 0} (xs : List X) (i : ℕ) (x : X) → slice_get xs i ≡ Some x → slice_set xs i x ≡ xs
-slice_set_same [] i x e = refl
-slice_set_same (y ∷ ys) zero x e = cc
-slice_set_same (y ∷ ys) (suc i) x e = ap (λ zs. y ∷ zs) (slice_set_same ys i x e)
-
-pub slice_get_front : {X : Type 0} (xs ys : List X) (i : ℕ) (x : X) → slice_get xs i ≡ Some x → slice_get (xs ++ ys) i ≡ Some x
-slice_get_front [] ys i x e = cc
-slice_get_front (z ∷ zs) ys zero x e = e
-slice_get_front (z ∷ zs) ys (suc i) x e = slice_get_front zs ys i x e
 
 pub step_same : (w : network.World) (xs ys : List Line) → xs ≡ ys
     → (let s : network.Step = record { world = w; lines = xs } in s) ≡ (let s : network.Step = record { world = w; lines = ys } in s)
@@ -45,59 +39,144 @@ put_all_out-push c w (first ∷ outs) out =
     (put_all_out-push c (network.put_out c w first).world outs out)
     ∙ sym (followed_by-followed_by (network.put_out c w first) (λ v. network.put_all_out c v outs) (λ v. network.put_out c v out))
 
--- a copy stays where it is
-pub copy-put_out : (c : SystemConfiguration) (w : network.World) (out : Output) (i : ℕ) (copy : network.Copy)
+-- What is put out leaves the systems and the clock as they were, and each copy where it is.
+
+systems-put_out : (c : SystemConfiguration) (w : network.World) (out : Output) → (network.put_out c w out).world.systems ≡ w.systems
+systems-put_out c w (Notes note) = refl
+systems-put_out c w (Transmits port target packet) = refl
+
+clock-put_out : (c : SystemConfiguration) (w : network.World) (out : Output) → (network.put_out c w out).world.clock ≡ w.clock
+clock-put_out c w (Notes note) = refl
+clock-put_out c w (Transmits port target packet) = refl
+
+pub systems-put_all_out : (c : SystemConfiguration) (w : network.World) (outs : List Output)
+    → (network.put_all_out c w outs).world.systems ≡ w.systems
+systems-put_all_out c w [] = refl
+systems-put_all_out c w (first ∷ outs) = systems-put_all_out c (network.put_out c w first).world outs ∙ systems-put_out c w first
+
+pub clock-put_all_out : (c : SystemConfiguration) (w : network.World) (outs : List Output)
+    → (network.put_all_out c w outs).world.clock ≡ w.clock
+clock-put_all_out c w [] = refl
+clock-put_all_out c w (first ∷ outs) = clock-put_all_out c (network.put_out c w first).world outs ∙ clock-put_out c w first
+
+copy-put_out : (c : SystemConfiguration) (w : network.World) (out : Output) (i : ℕ) (copy : network.Copy)
     → slice_get w.copies i ≡ Some copy → slice_get (network.put_out c w out).world.copies i ≡ Some copy
 copy-put_out c w (Notes note) i copy e = e
 copy-put_out c w (Transmits port target packet) i copy e =
     slice_get_front w.copies (network.copy_from (slice_get c.ports port) target packet) i copy e
 
-pub copy-put_all_out : (c : SystemConfiguration) (w : network.World) (outs : List Output) (i : ℕ) (copy : network.Copy)
+copy-put_all_out : (c : SystemConfiguration) (w : network.World) (outs : List Output) (i : ℕ) (copy : network.Copy)
     → slice_get w.copies i ≡ Some copy → slice_get (network.put_all_out c w outs).world.copies i ≡ Some copy
 copy-put_all_out c w [] i copy e = e
 copy-put_all_out c w (first ∷ outs) i copy e =
     copy-put_all_out c (network.put_out c w first).world outs i copy (copy-put_out c w first i copy e)
 
-copy-at_system : (w : network.World) (place : ℕ) (does : SystemState → Effect) (s : Option SystemState) (i : ℕ) (copy : network.Copy)
-    → slice_get w.copies i ≡ Some copy → slice_get (network.at_system w place does s).world.copies i ≡ Some copy
-copy-at_system w place does None i copy e = e
-copy-at_system w place does (Some s) i copy e =
-    copy-put_all_out (does s).after.configuration (record w { systems = slice_set w.systems place (does s).after }) (does s).outputs i copy e
+copy-takes_effect : (w : network.World) (place : ℕ) (effect : Effect) (i : ℕ) (copy : network.Copy)
+    → slice_get w.copies i ≡ Some copy → slice_get (network.takes_effect w place effect).world.copies i ≡ Some copy
+copy-takes_effect w place effect i copy e =
+    copy-put_all_out effect.after.configuration (record w { systems = slice_set w.systems place effect.after }) effect.outputs i copy e
 
-pub copy-give : (given : network.Copy) (w : network.World) (place : ℕ) (i : ℕ) (copy : network.Copy)
-    → slice_get w.copies i ≡ Some copy → slice_get (network.give given w place).world.copies i ≡ Some copy
-copy-give given w place i copy e = copy-at_system w place (λ system. arrive system given.content) (slice_get w.systems place) i copy e
+-- a step at the clock's moment leaves each system at it
+pub current-takes_effect : (w : network.World) (place : ℕ) (effect : Effect) → IsCurrent w → effect.after.moment ≡ w.clock
+    → IsCurrent (network.takes_effect w place effect).world
+current-takes_effect w place effect h now =
+    let v : network.World = record w { systems = slice_set w.systems place effect.after } in
+    let set : AllByRecursion (λ (s : SystemState). s.moment ≡ w.clock) v.systems
+    = all_set (λ (s : SystemState). s.moment ≡ w.clock) w.systems place effect.after h now in
+    subst (λ (t : ℕ). AllByRecursion (λ (s : SystemState). s.moment ≡ t) (network.put_all_out effect.after.configuration v effect.outputs).world.systems)
+    (sym (clock-put_all_out effect.after.configuration v effect.outputs))
+    (subst (λ (ss : List SystemState). AllByRecursion (λ (s : SystemState). s.moment ≡ w.clock) ss)
+    (sym (systems-put_all_out effect.after.configuration v effect.outputs)) set)
 
-pub copy-give_each : (given : network.Copy) (w : network.World) (places : List ℕ) (i : ℕ) (copy : network.Copy)
-    → slice_get w.copies i ≡ Some copy → slice_get (network.give_each given w places).world.copies i ≡ Some copy
-copy-give_each given w [] i copy e = e
-copy-give_each given w (place ∷ places) i copy e =
-    copy-give_each given (network.give given w place).world places i copy (copy-give given w place i copy e)
+-- What the scenario says of the systems isn't changed where a copy is given.
 
--- a frame that comes to a host changes no system
-systems-at_system : (given : network.Copy) (w : network.World) (place : ℕ) (s : Option SystemState) → slice_get w.systems place ≡ s
-    → (network.at_system w place (λ system. arrive system given.content) s).world.systems ≡ w.systems
-systems-at_system given w place None e = refl
-systems-at_system given w place (Some s) e = slice_set_same w.systems place s e
+abbrev pub configuration_of : SystemState → SystemConfiguration
+configuration_of s = s.configuration
 
-pub systems-give : (given : network.Copy) (w : network.World) (place : ℕ) → (network.give given w place).world.systems ≡ w.systems
-systems-give given w place = systems-at_system given w place (slice_get w.systems place) refl
+configurations-takes_effect : (w : network.World) (place : ℕ) (system : SystemState) (effect : Effect) → slice_get w.systems place ≡ Some system
+    → effect.after.configuration ≡ system.configuration
+    → map configuration_of (network.takes_effect w place effect).world.systems ≡ map configuration_of w.systems
+configurations-takes_effect w place system effect e same =
+    ap (λ (ss : List SystemState). map configuration_of ss)
+    (systems-put_all_out effect.after.configuration (record w { systems = slice_set w.systems place effect.after }) effect.outputs)
+    ∙ map_set configuration_of w.systems place system effect.after e same
 
-pub systems-give_each : (given : network.Copy) (w : network.World) (places : List ℕ) → (network.give_each given w places).world.systems ≡ w.systems
-systems-give_each given w [] = refl
-systems-give_each given w (place ∷ places) =
-    systems-give_each given (network.give given w place).world places ∙ systems-give given w place
+abbrev given_to : Limits → network.Numbered → network.World → ℕ → SystemState → Bool → network.Step
+given_to limits given w place system late =
+    cond late (network.writes w (Late w.clock system.configuration.name given.number))
+    (network.takes_effect w place (arrive system given.copy.content))
 
-pub give_each-push : (given : network.Copy) (w : network.World) (places : List ℕ) (place : ℕ)
-    → network.give_each given w (places ++ place ∷ []) ≡ network.followed_by (network.give_each given w places) (λ v. network.give given v place)
-give_each-push given w [] place = followed_by-nothing (network.give given w place)
-give_each-push given w (first ∷ places) place =
-    ap (λ (s : network.Step). (let r : network.Step = record { world = s.world; lines = (network.give given w first).lines ++ s.lines } in r))
-    (give_each-push given (network.give given w first).world places place)
-    ∙ sym (followed_by-followed_by (network.give given w first) (λ v. network.give_each given v places) (λ v. network.give given v place))
+configurations-given : (limits : Limits) (given : network.Numbered) (w : network.World) (place : ℕ) (system : SystemState) (late : Bool)
+    → slice_get w.systems place ≡ Some system
+    → map configuration_of (given_to limits given w place system late).world.systems ≡ map configuration_of w.systems
+configurations-given limits given w place system true e = refl
+configurations-given limits given w place system false e =
+    configurations-takes_effect w place system (arrive system given.copy.content) e (keeps_arrive system given.copy.content).configuration
+
+configurations-give_to : (limits : Limits) (given : network.Numbered) (w : network.World) (place : ℕ) (s : Option SystemState) → slice_get w.systems place ≡ s
+    → map configuration_of (network.give_to limits given w place s).world.systems ≡ map configuration_of w.systems
+configurations-give_to limits given w place None e = refl
+configurations-give_to limits given w place (Some system) e =
+    configurations-given limits given w place system (network.is_late limits w given.copy) e
+
+configurations-give : (limits : Limits) (given : network.Numbered) (w : network.World) (place : ℕ)
+    → map configuration_of (network.give limits given w place).world.systems ≡ map configuration_of w.systems
+configurations-give limits given w place = configurations-give_to limits given w place (slice_get w.systems place) refl
+
+pub configurations-give_each : (limits : Limits) (given : network.Numbered) (w : network.World) (places : List ℕ)
+    → map configuration_of (network.give_each limits given w places).world.systems ≡ map configuration_of w.systems
+configurations-give_each limits given w [] = refl
+configurations-give_each limits given w (place ∷ places) =
+    configurations-give_each limits given (network.give limits given w place).world places ∙ configurations-give limits given w place
+
+copy-given : (limits : Limits) (given : network.Numbered) (w : network.World) (place : ℕ) (system : SystemState) (late : Bool) (i : ℕ) (copy : network.Copy)
+    → slice_get w.copies i ≡ Some copy → slice_get (given_to limits given w place system late).world.copies i ≡ Some copy
+copy-given limits given w place system true i copy e = e
+copy-given limits given w place system false i copy e = copy-takes_effect w place (arrive system given.copy.content) i copy e
+
+copy-give_to : (limits : Limits) (given : network.Numbered) (w : network.World) (place : ℕ) (s : Option SystemState) (i : ℕ) (copy : network.Copy)
+    → slice_get w.copies i ≡ Some copy → slice_get (network.give_to limits given w place s).world.copies i ≡ Some copy
+copy-give_to limits given w place None i copy e = e
+copy-give_to limits given w place (Some system) i copy e =
+    copy-given limits given w place system (network.is_late limits w given.copy) i copy e
+
+pub copy-give_each : (limits : Limits) (given : network.Numbered) (w : network.World) (places : List ℕ) (i : ℕ) (copy : network.Copy)
+    → slice_get w.copies i ≡ Some copy → slice_get (network.give_each limits given w places).world.copies i ≡ Some copy
+copy-give_each limits given w [] i copy e = e
+copy-give_each limits given w (place ∷ places) i copy e =
+    copy-give_each limits given (network.give limits given w place).world places i copy
+    (copy-give_to limits given w place (slice_get w.systems place) i copy e)
+
+pub give_each-push : (limits : Limits) (given : network.Numbered) (w : network.World) (places : List ℕ) (place : ℕ)
+    → network.give_each limits given w (places ++ place ∷ [])
+    ≡ network.followed_by (network.give_each limits given w places) (λ v. network.give limits given v place)
+give_each-push limits given w [] place = followed_by-nothing (network.give limits given w place)
+give_each-push limits given w (first ∷ places) place =
+    ap (λ (s : network.Step). (let r : network.Step = record { world = s.world; lines = (network.give limits given w first).lines ++ s.lines } in r))
+    (give_each-push limits given (network.give limits given w first).world places place)
+    ∙ sym (followed_by-followed_by (network.give limits given w first) (λ v. network.give_each limits given v places) (λ v. network.give limits given v place))
+
+abbrev pub tick_at : network.World → ℕ → network.Step
+tick_at w place = network.system_does w place (λ system. tick system w.clock)
+
+tick_each-push : (w : network.World) (places : List ℕ) (place : ℕ)
+    → network.tick_each w (places ++ place ∷ []) ≡ network.followed_by (network.tick_each w places) (λ v. tick_at v place)
+tick_each-push w [] place = followed_by-nothing (tick_at w place)
+tick_each-push w (first ∷ places) place =
+    ap (λ (s : network.Step). (let r : network.Step = record { world = s.world; lines = (tick_at w first).lines ++ s.lines } in r))
+    (tick_each-push (tick_at w first).world places place)
+    ∙ sym (followed_by-followed_by (tick_at w first) (λ v. network.tick_each v places) (λ v. tick_at v place))
+
+-- one more system has its tick
+pub tick_each-more : (w : network.World) (n : ℕ)
+    → network.tick_each w (range_with_len 0 (n + 1)) ≡ network.followed_by (network.tick_each w (range_with_len 0 n)) (λ v. tick_at v n)
+tick_each-more w n =
+    ap (λ (places : List ℕ). network.tick_each w places)
+    (range_push 0 n ∙ ap (λ (i : ℕ). range_with_len 0 n ++ i ∷ []) (zero-add n))
+    ∙ tick_each-push w (range_with_len 0 n) n
 
 -- the place of one more system, where the copy is for it
-pub addressees_from-push : (k : ℕ) (copy : network.Copy) (systems : List SystemState) (system : SystemState)
+addressees_from-push : (k : ℕ) (copy : network.Copy) (systems : List SystemState) (system : SystemState)
     → network.addressees_from k copy (systems ++ system ∷ [])
     ≡ network.addressees_from k copy systems ++ cond (network.is_addressee copy system.configuration) ((k + length systems) ∷ []) []
 addressees_from-push k copy [] system = rw add-zero refl
@@ -110,56 +189,6 @@ addressees_from-push k copy (first ∷ systems) system =
     ≡ cond b (k ∷ network.addressees_from (k + 1) copy systems) (network.addressees_from (k + 1) copy systems) ++ cond (network.is_addressee copy system.configuration) ((k + suc (length systems)) ∷ []) [])
     [ true ↦ ap (λ (ps : List ℕ). k ∷ ps) h | false ↦ h ]
 
-pub states_from-push : (k : ℕ) (systems : List SystemConfiguration) (system : SystemConfiguration)
-    → network.states_from k (systems ++ system ∷ [])
-    ≡ network.states_from k systems ++ record { place = k + length systems; configuration = system; moment = 0; count = 0 } ∷ []
-states_from-push k [] system = rw add-zero refl
-states_from-push k (first ∷ systems) system =
-    let e : (k + 1) + length systems ≡ k + suc (length systems) = omega arith in
-    let h = rw e at (states_from-push (k + 1) systems system) in
-    ap (λ (ss : List SystemState). record { place = k; configuration = first; moment = 0; count = 0 } ∷ ss) h
-
-pub slice_get_read : {X : Type 0} (xs : List X) (i : ℕ) (x : X) → i < length xs → x ≡ get_or xs i x → slice_get xs i ≡ Some x
-slice_get_read [] i x h e = absurd (omega arith)
-slice_get_read (y ∷ ys) zero x h e = ap Some (sym e)
-slice_get_read (y ∷ ys) (suc i) x h e = slice_get_read ys i x (omega arith) e
-
-pub slice_get_past : {X : Type 0} (xs : List X) (i : ℕ) → length xs ≤ i → slice_get xs i ≡ None
-slice_get_past [] i h = refl
-slice_get_past (y ∷ ys) zero h = absurd (omega arith)
-slice_get_past (y ∷ ys) (suc i) h = slice_get_past ys i (omega arith)
-
-pub slice_get_map : {X Y : Type 0} (f : X → Y) (xs : List X) (i : ℕ) (x : X) → slice_get xs i ≡ Some x → slice_get (map f xs) i ≡ Some (f x)
-slice_get_map f [] i x e = absurd (cc)
-slice_get_map f (y ∷ ys) zero x e = cc
-slice_get_map f (y ∷ ys) (suc i) x e = slice_get_map f ys i x e
-
-pub slice_get_within : {X : Type 0} (xs : List X) (i : ℕ) → i < length xs → (x : X) × (slice_get xs i ≡ Some x)
-slice_get_within [] i h = absurd (omega arith)
-slice_get_within (y ∷ ys) zero h = (y, refl)
-slice_get_within (y ∷ ys) (suc i) h = slice_get_within ys i (omega arith)
-
-pub slice_get_set : {X : Type 0} (xs : List X) (i : ℕ) (x : X) → i < length xs → slice_get (slice_set xs i x) i ≡ Some x
-slice_get_set [] i x h = absurd (omega arith)
-slice_get_set (y ∷ ys) zero x h = refl
-slice_get_set (y ∷ ys) (suc i) x h = slice_get_set ys i x (omega arith)
-
-pub take_push : {X : Type 0} (xs : List X) (i : ℕ) (x : X) → slice_get xs i ≡ Some x → (take (i + 1) xs ≡ take i xs ++ x ∷ []) × (length (take i xs) ≡ i)
-take_push [] i x e = absurd (cc)
-take_push (y ∷ ys) zero x e = (cc, refl)
-take_push (y ∷ ys) (suc i) x e =
-    let r = take_push ys i x e in (rw add-one (ap (λ zs. y ∷ zs) (rw add-one at r.0)), ap suc r.1)
-
--- one more system is declared
-pub states_from-take : (systems : List SystemConfiguration) (i : ℕ) (system : SystemConfiguration) → slice_get systems i ≡ Some system
-    → network.states_from 0 (take (i + 1) systems)
-    ≡ network.states_from 0 (take i systems) ++ record { place = i; configuration = system; moment = 0; count = 0 } ∷ []
-states_from-take systems i system e =
-    let r = take_push systems i system e in
-    ap (λ (cs : List SystemConfiguration). network.states_from 0 cs) r.0 ∙ states_from-push 0 (take i systems) system
-    ∙ ap (λ (n : ℕ). network.states_from 0 (take i systems) ++ record { place = n; configuration = system; moment = 0; count = 0 } ∷ [])
-    (zero-add (length (take i systems)) ∙ r.1)
-
 -- one more system is looked at
 pub addressees_from-take : (copy : network.Copy) (systems : List SystemState) (i : ℕ) (system : SystemState) → slice_get systems i ≡ Some system
     → network.addressees_from 0 copy (take (i + 1) systems)
@@ -170,10 +199,27 @@ addressees_from-take copy systems i system e =
     ∙ ap (λ (n : ℕ). network.addressees_from 0 copy (take i systems) ++ cond (network.is_addressee copy system.configuration) (n ∷ []) [])
     (zero-add (length (take i systems)) ∙ r.1)
 
--- a copy that is given to the host at a place
-pub give_at : (copy : network.Copy) (w : network.World) (place : ℕ) (system : SystemState) → slice_get w.systems place ≡ Some system
-    → network.give copy w place ≡ network.put_all_out system.configuration w (arrive system copy.content).outputs
-give_at copy w place system e =
-    ap (λ (s : Option SystemState). network.at_system w place (λ t. arrive t copy.content) s) e
-    ∙ ap (λ (ss : List SystemState). network.put_all_out system.configuration (record w { systems = ss }) (arrive system copy.content).outputs)
-    (slice_set_same w.systems place system e)
+states_from-push : (limits : Limits) (k : ℕ) (systems : List SystemConfiguration) (system : SystemConfiguration)
+    → network.states_from limits k (systems ++ system ∷ [])
+    ≡ network.states_from limits k systems ++ first_state (k + length systems) system limits 0 0 ∷ []
+states_from-push limits k [] system = rw add-zero refl
+states_from-push limits k (first ∷ systems) system =
+    let e : (k + 1) + length systems ≡ k + suc (length systems) = omega arith in
+    let h = rw e at (states_from-push limits (k + 1) systems system) in
+    ap (λ (ss : List SystemState). first_state k first limits 0 0 ∷ ss) h
+
+-- one more system is declared
+pub states_from-take : (limits : Limits) (systems : List SystemConfiguration) (i : ℕ) (system : SystemConfiguration) → slice_get systems i ≡ Some system
+    → network.states_from limits 0 (take (i + 1) systems)
+    ≡ network.states_from limits 0 (take i systems) ++ first_state i system limits 0 0 ∷ []
+states_from-take limits systems i system e =
+    let r = take_push systems i system e in
+    ap (λ (cs : List SystemConfiguration). network.states_from limits 0 cs) r.0 ∙ states_from-push limits 0 (take i systems) system
+    ∙ ap (λ (n : ℕ). network.states_from limits 0 (take i systems) ++ first_state n system limits 0 0 ∷ [])
+    (zero-add (length (take i systems)) ∙ r.1)
+
+-- at the start each system's moment is 0
+pub states_at_start : (limits : Limits) (k : ℕ) (systems : List SystemConfiguration)
+    → AllByRecursion (λ (s : SystemState). s.moment ≡ 0) (network.states_from limits k systems)
+states_at_start limits k [] = tt
+states_at_start limits k (system ∷ systems) = (refl, states_at_start limits (k + 1) systems)

@@ -1,32 +1,73 @@
--- What a network of the code stands for after a frame was put on a subnetwork.
-use Rattle.std.proofs.Common.{◌≡◌, ℕ, ◌+◌, List, [], ◌∷◌, ◌++◌, length, map, Option, Some, None, refl, sym, ap, ◌∙◌, append-nil}
-use Rattle.std.specs.Prelude.{slice_get}
+-- What a network of the code shows after a note was written or a frame put on a subnetwork.
+use Rattle.std.proofs.Common.{◌≡◌, ℕ, ◌+◌, ◌<◌, ◌≤◌, List, [], ◌∷◌, ◌++◌, length, map, get_or, Option, Some, None, refl, sym, ap, ◌∙◌, subst, append-nil, append_assoc, length-append, arith}
+use Rattle.std.specs.Prelude.{slice_get, sum}
 use Rattle.std.specs.List.{AllByRecursion}
 use Rattle.std.proofs.lemmas.List.{length-map}
+use Rattle.std.proofs.lemmas.List.Sums.{sum_by-append}
+use Rattle.std.proofs.lemmas.Option.{slice_get_past}
 use Rattle.nsap.specs.declared.target.Target.{Target}
+use Rattle.pdu_header.specs.Spelling.{header}
+use Rattle.pdu_header.proofs.Written.{length-header}
 use Rattle.clnp_plan.specs.declared.config.PortConfig.{PortConfig}
-use Rattle.clnp_plan.specs.Journal.{Transmitted, line_text}
-use Rattle.pdu_header.specs.Grammar.{IsPdu}
-use Rattle.clnp_machine.specs.Unit.{Packet, value_of, wire}
-use Rattle.clnp_machine.specs.System.{SystemState, Output, Transmits, Notes}
+use Rattle.clnp_plan.specs.declared.note.Note.{Note}
+use Rattle.clnp_plan.specs.declared.output.Output as output
+use Rattle.clnp_plan.specs.declared.output.Output.TheVariants.{Transmit, Note as Told}
+use Rattle.clnp_plan.specs.declared.output.Sending.{Sending}
+use Rattle.clnp_plan.specs.Journal.{Noted, Transmitted, Line, line_text}
+use Rattle.clnp_machine.specs.Unit.{Packet, value_of, wire, IsCarriable}
+use Rattle.clnp_machine.specs.System.{SystemState, Output, Transmits, Notes, IsCarried}
 use Rattle.clnp_network.specs.World as network
-use Rattle.clnp_world.specs.Seen.{emitted, frame_copy, frame_copies, IsGood, IsCarried}
-use Rattle.clnp_world.specs.Stands.{Stands, Follows}
-use Rattle.clnp_world.specs.declared.world.World.{World}
+use Rattle.clnp_network.specs.Run.{lines_text}
+use Rattle.end_system.specs.State.{HostState}
+use Rattle.end_system.specs.Stands.{GiveAll, Gives, body_of}
+use Rattle.clnp_world.specs.Seen.{frame_copy, frame_copies, frames_weight}
+use Rattle.clnp_world.specs.Stands.{StandEach}
+use Rattle.clnp_world.specs.Parts.{Shows, Puts, PutsCopies}
+use Rattle.clnp_world.specs.declared.network.Network.{Network}
 use Rattle.clnp_world.specs.declared.copy.FrameCopy.{FrameCopy}
-use Rattle.clnp_world.specs.declared.output.Emitted.{Emitted}
-use Rattle.clnp_world.specs.declared.output.Emitted.TheVariants.{Transmit}
+use Rattle.clnp_world.proofs.ListSteps.{map_append, all_append, slice_get_read}
+use Rattle.clnp_world.proofs.ModelSteps.{lines_text-append, put_all_out-push, systems-put_all_out}
 
-map_append : (xs ys : List network.Copy) → map frame_copy (xs ++ ys) ≡ map frame_copy xs ++ map frame_copy ys
-map_append [] ys = refl
-map_append (x ∷ xs) ys = ap (λ (zs : List FrameCopy). frame_copy x ∷ zs) (map_append xs ys)
+-- nothing happens
+pub puts_nothing : (code : Network) (model : network.World) (lines : List ℕ) → Shows code model → Puts code lines lines (network.nothing model)
+puts_nothing code model lines h = record { shows = h; lines = sym (append-nil lines) }
 
-abbrev Carried : network.Copy → Type 0
-Carried copy = IsCarried copy.content
+-- one part, and then the next
+pub puts_then : (code : Network) (before between after : List ℕ) (part : network.Step) (next : network.World → network.Step)
+    → between ≡ before ++ lines_text part.lines → Puts code between after (next part.world)
+    → Puts code before after (network.followed_by part next)
+puts_then code before between after part next e h = record {
+  shows = h.shows;
+  lines = h.lines ∙ ap (λ (t : List ℕ). t ++ lines_text (next part.world).lines) e
+      ∙ append_assoc before (lines_text part.lines) (lines_text (next part.world).lines)
+      ∙ ap (λ (t : List ℕ). before ++ t) (sym (lines_text-append part.lines (next part.world).lines));
+}
 
-all_append : (xs ys : List network.Copy) → AllByRecursion Carried xs → AllByRecursion Carried ys → AllByRecursion Carried (xs ++ ys)
-all_append [] ys h k = k
-all_append (x ∷ xs) ys h k = (h.0, all_append xs ys h.1 k)
+-- nothing changes but that a line is written
+pub puts_line : (code : Network) (before after : List ℕ) (model : network.World) (line : Line) → Shows code model → after ≡ before ++ line_text line
+    → Puts code before after (network.writes model line)
+puts_line code before after model line h e =
+    record { shows = h; lines = e ∙ ap (λ (l : List ℕ). before ++ l) (sym (append-nil (line_text line))) }
+
+-- Weights.
+
+sum_append : (xs ys : List ℕ) → sum (xs ++ ys) ≡ sum xs + sum ys
+sum_append xs ys = sum_by-append (λ (n : ℕ). n) xs ys
+
+pub weight_append : (model : network.World) (copies : List network.Copy)
+    → sum (map network.copy_weight (model.copies ++ copies)) ≡ network.weight model + sum (map network.copy_weight copies)
+weight_append model copies =
+    ap sum (map_append network.copy_weight model.copies copies) ∙ sum_append (map network.copy_weight model.copies) (map network.copy_weight copies)
+
+weights_are : (copies : List network.Copy)
+    → map (λ (copy : FrameCopy). length copy.frame + 64) (map frame_copy copies) ≡ map network.copy_weight copies
+weights_are [] = refl
+weights_are (copy ∷ copies) = ap (λ (ns : List ℕ). network.copy_weight copy ∷ ns) (weights_are copies)
+
+frames_weight_is : (copies : List network.Copy) → frames_weight (map frame_copy copies) ≡ sum (map network.copy_weight copies)
+frames_weight_is copies = ap sum (weights_are copies)
+
+-- The copy of a frame.
 
 -- the frame's copy is the packet's
 copy_seen : (port : Option PortConfig) (target : Target) (packet : Packet)
@@ -36,53 +77,188 @@ copy_seen (Some port) target packet =
     ap (λ (f : List ℕ). (let one : FrameCopy = record { subnet = port.subnet; sender = port.snpa; target = target; birth = packet.unit.made; frame = f } in one) ∷ [])
     (sym (append-nil (wire packet)))
 
-copy_carried : (port : Option PortConfig) (target : Target) (packet : Packet) → IsPdu (value_of packet)
+-- a PDU has fewer than 65,536 octets
+wire_short : (packet : Packet) → IsCarriable packet → length (wire packet) ≤ 70000
+wire_short packet h =
+    let split = length-append (header (value_of packet)) (value_of packet).body in
+    let head = length-header (value_of packet) in
+    let fits = h.pdu.segment_fits in
+    omega (arith, split, head, fits)
+
+abbrev Carried : network.Copy → Type 0
+Carried copy = IsCarried copy.content
+
+abbrev Short : FrameCopy → Type 0
+Short copy = length copy.frame ≤ 70000
+
+copy_carried : (port : Option PortConfig) (target : Target) (packet : Packet) → IsCarriable packet
     → AllByRecursion Carried (network.copy_from port target packet)
 copy_carried None target packet good = tt
 copy_carried (Some port) target packet good = (good, tt)
 
+copy_short : (port : Option PortConfig) (target : Target) (birth : ℕ) (frame : List ℕ) → length frame ≤ 70000
+    → AllByRecursion Short (frame_copies port target birth frame)
+copy_short None target birth frame short = tt
+copy_short (Some port) target birth frame short = (short, tt)
+
 -- a frame that stands for a packet
-pub puts_frame : (old code : World) (before after : List ℕ) (port : ℕ) (target : Target) (packet : Packet) (system : SystemState)
-    → after ≡ before ++ line_text (Transmitted old.clock system.configuration.name (length old.copies.items + 1) port target (wire packet))
-    → code.copies.items ≡ old.copies.items ++ frame_copies (slice_get system.configuration.ports port) target packet.unit.made (wire packet)
-    → code ≡ record old { copies = code.copies }
-    → (model : network.World) → Stands old model → IsPdu (value_of packet)
-    → Follows code before after (network.put_out system.configuration model (Transmits port target packet))
-puts_frame old code before after port target packet system line copies others model h good =
-    let made = network.copy_from (slice_get system.configuration.ports port) target packet in
-    let counted : length old.copies.items ≡ length model.copies = ap length h.copies ∙ length-map model.copies frame_copy in
+pub puts_frame : (old code : Network) (before after : List ℕ) (port : ℕ) (target : Target) (packet : Packet) (system : SystemState)
+    → (model : network.World) → Shows old model → IsCarriable packet
+    → after ≡ before ++ line_text (Transmitted model.clock system.configuration.name (length model.copies + 1) port target (wire packet))
+    → PutsCopies old code (frame_copies (slice_get system.configuration.ports port) target packet.unit.made (wire packet))
+    → code ≡ record old { copies = code.copies; weight = code.weight }
+    → Puts code before after (network.put_out system.configuration model (Transmits port target packet))
+puts_frame old code before after port target packet system model h good line put others =
+    let at = slice_get system.configuration.ports port in
+    let made = network.copy_from at target packet in
+    let seen : frame_copies at target packet.unit.made (wire packet) ≡ map frame_copy made = copy_seen at target packet in
     record {
-      stands = record {
-        not_spent = ap (λ (w : World). w.spent) others ∙ h.not_spent;
-        clock = ap (λ (w : World). w.clock) others ∙ h.clock;
-        systems = ap (λ (w : World). w.hosts.items) others ∙ h.systems;
-        copies = copies ∙ ap (λ (cs : List FrameCopy). cs ++ frame_copies (slice_get system.configuration.ports port) target packet.unit.made (wire packet)) h.copies
-            ∙ ap (λ (cs : List FrameCopy). map frame_copy model.copies ++ cs) (copy_seen (slice_get system.configuration.ports port) target packet)
-            ∙ sym (map_append model.copies made);
-        cursor = ap (λ (w : World). w.cursor) others ∙ h.cursor;
-        carried = all_append model.copies made h.carried (copy_carried (slice_get system.configuration.ports port) target packet good);
+      shows = record {
+        clock = ap (λ (w : Network). w.clock) others ∙ h.clock;
+        systems = subst (λ (hs : List HostState). StandEach hs model.systems) (ap (λ (w : Network). w.hosts.items) (sym others)) h.systems;
+        copies = put.copies ∙ ap (λ (cs : List FrameCopy). cs ++ frame_copies at target packet.unit.made (wire packet)) h.copies
+            ∙ ap (λ (cs : List FrameCopy). map frame_copy model.copies ++ cs) seen
+            ∙ sym (map_append frame_copy model.copies made);
+        cursor = ap (λ (w : Network). w.cursor) others ∙ h.cursor;
+        carried = all_append Carried model.copies made h.carried (copy_carried at target packet good);
+        short = subst (λ (cs : List FrameCopy). AllByRecursion Short cs) (sym put.copies)
+            (all_append Short old.copies.items (frame_copies at target packet.unit.made (wire packet)) h.short
+            (copy_short at target packet.unit.made (wire packet) (wire_short packet good)));
+        weight = put.weight ∙ ap (λ (n : ℕ). n + frames_weight (frame_copies at target packet.unit.made (wire packet))) h.weight
+            ∙ ap (λ (cs : List FrameCopy). network.weight model + frames_weight cs) seen
+            ∙ ap (λ (n : ℕ). network.weight model + n) (frames_weight_is made)
+            ∙ sym (weight_append model made);
       };
-      lines = line ∙ ap (λ (n : ℕ). before ++ line_text (Transmitted old.clock system.configuration.name (n + 1) port target (wire packet))) counted
-          ∙ ap (λ (t : ℕ). before ++ line_text (Transmitted t system.configuration.name (length model.copies + 1) port target (wire packet))) h.clock
-          ∙ ap (λ (l : List ℕ). before ++ l) (sym (append-nil (line_text (Transmitted model.clock system.configuration.name (length model.copies + 1) port target (wire packet)))));
+      lines = line ∙ ap (λ (l : List ℕ). before ++ l)
+          (sym (append-nil (line_text (Transmitted model.clock system.configuration.name (length model.copies + 1) port target (wire packet)))));
     }
 
--- the frame of an output stands for its packet
-pub puts_transmission : (old code : World) (before after : List ℕ) (place port : ℕ) (target : Target) (birth : ℕ) (frame : List ℕ) (output : Emitted)
-    → output ≡ Transmit port target birth frame
-    → ((system : SystemState) → slice_get old.hosts.items place ≡ Some system
-    → after ≡ before ++ line_text (Transmitted old.clock system.configuration.name (length old.copies.items + 1) port target frame))
-    → code ≡ record old { copies = code.copies }
-    → ((system : SystemState) → slice_get old.hosts.items place ≡ Some system
-    → code.copies.items ≡ old.copies.items ++ frame_copies (slice_get system.configuration.ports port) target birth frame)
-    → (model : network.World) (system : SystemState) (out : Output) → Stands old model → slice_get old.hosts.items place ≡ Some system
-    → output ≡ emitted out → IsGood out → Follows code before after (network.put_out system.configuration model out)
-puts_transmission old code before after place port target birth frame output is line others copies model system (Notes note) h at e good = absurd (cc)
-puts_transmission old code before after place port target birth frame output is line others copies model system (Transmits number to packet) h at e good =
-    let port_is : port ≡ number = cc in
-    let target_is : target ≡ to = cc in
-    let birth_is : birth ≡ packet.unit.made = cc in
-    let frame_is : frame ≡ wire packet = cc in
-    let line' = rw (port_is, target_is, frame_is) at (line system at) in
-    let copies' = rw (port_is, target_is, birth_is, frame_is) at (copies system at) in
-    puts_frame old code before after number to packet system line' copies' others model h good
+-- the frame that a sending is stands for the packet of an output of the model
+sends : (old code : Network) (before after : List ℕ) (place : ℕ) (sending : Sending) (frame : List ℕ) (other : Output)
+    → frame ≡ sending.head ++ body_of sending.body
+    → (model : network.World) (system : SystemState) → Shows old model
+    → after ≡ before ++ line_text (Transmitted model.clock system.configuration.name (length model.copies + 1) sending.port sending.to frame)
+    → PutsCopies old code (frame_copies (slice_get system.configuration.ports sending.port) sending.to old.clock frame)
+    → code ≡ record old { copies = code.copies; weight = code.weight }
+    → Gives old.clock (Transmit sending) other → Puts code before after (network.put_out system.configuration model other)
+sends old code before after place sending frame (Notes note) frame_is model system h line put others gives = absurd gives
+sends old code before after place sending frame (Transmits port target packet) frame_is model system h line put others gives =
+    let octets : frame ≡ wire packet = frame_is ∙ gives.octets in
+    let port_is : sending.port ≡ port = gives.port_is in
+    let target_is : sending.to ≡ target = gives.target_is in
+    let made : old.clock ≡ packet.unit.made = sym gives.made in
+    let line' = rw (port_is, target_is, octets) at line in
+    let put' = subst (λ (moment : ℕ). PutsCopies old code (frame_copies (slice_get system.configuration.ports port) target moment (wire packet))) made
+    (rw (port_is, target_is, octets) at put) in
+    puts_frame old code before after port target packet system model h gives.carriable line' put' others
+
+-- an output that is a frame stands for one of the model
+pub puts_transmission : (old code : Network) (before after : List ℕ) (place : ℕ) (sending : Sending) (frame : List ℕ) (out : output.Output)
+    → out ≡ Transmit sending → frame ≡ sending.head ++ body_of sending.body
+    → ((model : network.World) (system : SystemState) → Shows old model → slice_get model.systems place ≡ Some system
+    → after ≡ before ++ line_text (Transmitted model.clock system.configuration.name (length model.copies + 1) sending.port sending.to frame))
+    → ((model : network.World) (system : SystemState) → Shows old model → slice_get model.systems place ≡ Some system
+    → PutsCopies old code (frame_copies (slice_get system.configuration.ports sending.port) sending.to old.clock frame))
+    → code ≡ record old { copies = code.copies; weight = code.weight }
+    → (model : network.World) (system : SystemState) (other : Output) → Shows old model → slice_get model.systems place ≡ Some system
+    → Gives old.clock out other → Puts code before after (network.put_out system.configuration model other)
+puts_transmission old code before after place sending frame out is frame_is line copies others model system other h there gives =
+    sends old code before after place sending frame other frame_is model system h (line model system h there) (copies model system h there) others
+    (subst (λ (o : output.Output). Gives old.clock o other) is gives)
+
+-- an output that is a note stands for one of the model
+tells : (code : Network) (before after : List ℕ) (note : Note) (other : Output) (model : network.World) (system : SystemState) → Shows code model
+    → after ≡ before ++ line_text (Noted model.clock system.configuration.name note)
+    → Gives code.clock (Told note) other → Puts code before after (network.put_out system.configuration model other)
+tells code before after note (Transmits port target packet) model system h line gives = absurd gives
+tells code before after note (Notes told) model system h line gives =
+    puts_line code before after model (Noted model.clock system.configuration.name told) h (rw gives at line)
+
+pub puts_note : (code : Network) (before after : List ℕ) (place : ℕ) (note : Note) (out : output.Output) → out ≡ Told note
+    → ((model : network.World) (system : SystemState) → Shows code model → slice_get model.systems place ≡ Some system
+    → after ≡ before ++ line_text (Noted model.clock system.configuration.name note))
+    → (model : network.World) (system : SystemState) (other : Output) → Shows code model → slice_get model.systems place ≡ Some system
+    → Gives code.clock out other → Puts code before after (network.put_out system.configuration model other)
+puts_note code before after place note out is line model system other h there gives =
+    tells code before after note other model system h (line model system h there)
+    (subst (λ (o : output.Output). Gives code.clock o other) is gives)
+
+-- Many outputs.
+
+-- the last of the outputs that the code has
+split_last : (moment : ℕ) (xs : List output.Output) (x : output.Output) (others : List Output) → GiveAll moment (xs ++ x ∷ []) others
+    → (front : List Output) × (last : Output) × (others ≡ front ++ last ∷ []) × GiveAll moment xs front × Gives moment x last
+split_last moment [] x [] h = absurd h
+split_last moment [] x (other ∷ []) h = ([], other, refl, tt, h.0)
+split_last moment [] x (other ∷ (more ∷ others)) h = absurd h.1
+split_last moment (y ∷ ys) x [] h = absurd h
+split_last moment (y ∷ ys) x (other ∷ others) h =
+    let r = split_last moment ys x others h.1 in
+    (other ∷ r.0, r.1, ap (λ (os : List Output). other ∷ os) r.2, (h.0, r.3), r.4)
+
+no_outputs : (moment : ℕ) (others : List Output) → GiveAll moment [] others → others ≡ []
+no_outputs moment [] h = refl
+no_outputs moment (other ∷ others) h = absurd h
+
+-- what the code has put out of a system's outputs is what the model has
+abbrev pub PutsOut : Network → Network → List ℕ → List ℕ → ℕ → List output.Output → Type 0
+PutsOut start code before after place outputs =
+    (model : network.World) (system : SystemState) (others : List Output) → Shows start model → slice_get model.systems place ≡ Some system
+    → GiveAll start.clock outputs others → Puts code before after (network.put_all_out system.configuration model others)
+
+pub puts_none : (code : Network) (lines : List ℕ) (place : ℕ) → PutsOut code code lines lines place []
+puts_none code lines place model system others h there gives =
+    subst (λ (os : List Output). Puts code lines lines (network.put_all_out system.configuration model os)) (sym (no_outputs code.clock others gives))
+    (puts_nothing code model lines h)
+
+pub puts_more : (start mid code : Network) (before between after : List ℕ) (place : ℕ) (outputs : List output.Output) (out : output.Output)
+    → PutsOut start mid before between place outputs → mid.clock ≡ start.clock
+    → ((model : network.World) (system : SystemState) (other : Output) → Shows mid model → slice_get model.systems place ≡ Some system
+    → Gives mid.clock out other → Puts code between after (network.put_out system.configuration model other))
+    → PutsOut start code before after place (outputs ++ out ∷ [])
+puts_more start mid code before between after place outputs out so_far clock next model system others h there gives =
+    let r = split_last start.clock outputs out others gives in
+    let front = so_far model system r.0 h there r.3 in
+    let w = network.put_all_out system.configuration model r.0 in
+    let there' : slice_get w.world.systems place ≡ Some system
+    = subst (λ (ss : List SystemState). slice_get ss place ≡ Some system) (sym (systems-put_all_out system.configuration model r.0)) there in
+    let last = next w.world system r.1 front.shows there' (subst (λ (t : ℕ). Gives t out r.1) (sym clock) r.4) in
+    subst (λ (s : network.Step). Puts code before after s)
+    (sym (put_all_out-push system.configuration model r.0 r.1) ∙ ap (λ (os : List Output). network.put_all_out system.configuration model os) (sym r.2))
+    (puts_then code before between after w (λ v. network.put_out system.configuration v r.1) front.lines last)
+
+-- The port of a copy is read, or there is none at its number.
+
+pub copies_past : (old : Network) (ports own : List PortConfig) (i port : ℕ) (target : Target) (frame : List ℕ)
+    → ports ≡ own → i ≡ port → length ports ≤ i → PutsCopies old old (frame_copies (slice_get own port) target old.clock frame)
+copies_past old ports own i port target frame e n past =
+    let none : slice_get own port ≡ None
+    = subst (λ (ps : List PortConfig). slice_get ps port ≡ None) e (subst (λ (k : ℕ). slice_get ports k ≡ None) n (slice_get_past ports i past)) in
+    subst (λ (p : Option PortConfig). PutsCopies old old (frame_copies p target old.clock frame)) (sym none)
+    record { copies = sym (append-nil old.copies.items); weight = omega arith }
+
+pub copies_read : (old code : Network) (ports own : List PortConfig) (i port : ℕ) (at : PortConfig) (target : Target) (frame : List ℕ)
+    → ports ≡ own → i ≡ port → i < length ports → at ≡ get_or ports i at
+    → code.copies.items ≡ old.copies.items ++ record { subnet = at.subnet; sender = at.snpa; target = target; birth = old.clock; frame = frame } ∷ []
+    → code.weight ≡ old.weight + (length frame + 64)
+    → PutsCopies old code (frame_copies (slice_get own port) target old.clock frame)
+copies_read old code ports own i port at target frame e n within read copies weight =
+    let one : slice_get own port ≡ Some at
+    = subst (λ (ps : List PortConfig). slice_get ps port ≡ Some at) e
+    (subst (λ (k : ℕ). slice_get ports k ≡ Some at) n (slice_get_read ports i at within read)) in
+    subst (λ (p : Option PortConfig). PutsCopies old code (frame_copies p target old.clock frame)) (sym one)
+    record { copies = copies; weight = weight ∙ omega arith }
+
+-- A line of the code's words is the one of the model's.
+
+pub same_transmission : (before after : List ℕ) (t u : ℕ) (name own : List ℕ) (n m port : ℕ) (target : Target) (frame octets : List ℕ)
+    → t ≡ u → name ≡ own → n ≡ m → octets ≡ frame → after ≡ before ++ line_text (Transmitted t name (n + 1) port target octets)
+    → after ≡ before ++ line_text (Transmitted u own (m + 1) port target frame)
+same_transmission before after t u name own n m port target frame octets a b c d e =
+    e ∙ ap (λ (l : Line). before ++ line_text l) (same a b c d)
+  where
+    same : t ≡ u → name ≡ own → n ≡ m → octets ≡ frame → Transmitted t name (n + 1) port target octets ≡ Transmitted u own (m + 1) port target frame
+    same a b c d = cc
+
+pub counted : (code : Network) (model : network.World) → Shows code model → length code.copies.items ≡ length model.copies
+counted code model h = ap length h.copies ∙ length-map model.copies frame_copy

@@ -1,2 +1,4 @@
 pub mod Seen
+pub mod State
 pub mod Stands
+pub mod Parts

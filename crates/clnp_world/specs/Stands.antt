@@ -1,20 +1,47 @@
 -- What a simulated network of the code stands for.
-use Rattle.std.specs.Prelude.{◌≡◌, ℕ, List, ◌++◌, false, map}
+use Rattle.std.specs.Prelude.{◌≡◌, ◌≤◌, List, [], ◌∷◌, true, false, length, map, Result, Ok, Err}
 use Rattle.std.specs.List.{AllByRecursion}
+use Rattle.clnp_machine.specs.System.{SystemState, IsCarried}
+use Rattle.end_system.specs.State.{HostState}
+use Rattle.end_system.specs.Stands as end_system
 use Rattle.clnp_network.specs.World as network
-use Rattle.clnp_network.specs.Run.{lines_text}
-use Rattle.clnp_world.specs.Seen.{frame_copy, IsCarried}
-use Rattle.clnp_world.specs.declared.world.World.{World}
+use Rattle.clnp_world.specs.Seen.{frame_copy}
+use Rattle.clnp_world.specs.State.{WorldState}
+use Rattle.clnp_world.specs.declared.copy.FrameCopy.{FrameCopy}
+use Rattle.clnp_world.specs.declared.world.WorldRefusal.{WorldRefusal}
+use Rattle.clnp_world.specs.declared.world.WorldRefusal.TheVariants.{WorldFull, NoMemory}
 
-pub record Stands (code : World) (model : network.World) : Type 0 where
+-- each host stands for the system at its place, at its moment
+abbrev pub StandEach : List HostState → List SystemState → Type 0
+StandEach [] [] = Unit {0}
+StandEach (host ∷ hosts) (system ∷ systems) = end_system.Stands host system × StandEach hosts systems
+StandEach [] (system ∷ systems) = ⊥
+StandEach (host ∷ hosts) [] = ⊥
+
+pub record Stands (code : WorldState) (model : network.World) : Type 0 where
   pub not_spent : code.spent ≡ false
   pub clock : code.clock ≡ model.clock
-  pub systems : code.hosts.items ≡ model.systems
-  pub copies : code.copies.items ≡ map frame_copy model.copies
+  pub systems : StandEach code.hosts model.systems
+  -- the clock's moment has come to each system
+  pub moments : AllByRecursion (λ (system : SystemState). system.moment ≡ model.clock) model.systems
+  pub copies : code.copies ≡ map frame_copy model.copies
   pub cursor : code.cursor ≡ model.cursor
   pub carried : AllByRecursion (λ copy. IsCarried copy.content) model.copies
+  -- no frame is longer than a system takes
+  pub short : AllByRecursion (λ (copy : FrameCopy). length copy.frame ≤ 70000) code.copies
+  pub weight : code.weight ≡ network.weight model
 
--- the network and its lines are those after a part of a move
-pub record Follows (code : World) (before after : List ℕ) (part : network.Step) : Type 0 where
-  pub stands : Stands code part.world
-  pub lines : after ≡ before ++ lines_text part.lines
+-- What is always so of a simulated network: while it isn't spent, it stands for one of the model.
+abbrev pub IsSound : WorldState → Type 0
+IsSound code = code.spent ≡ false → (model : network.World) × Stands code model
+
+-- a move isn't made where the network is full, exactly there; and then nothing changes
+abbrev pub IsLeftBy : WorldRefusal → WorldState → WorldState → Type 0
+IsLeftBy (WorldFull octets) before after = after ≡ before
+IsLeftBy NoMemory before after = after.spent ≡ true
+
+-- the answer says whether the network was full before the move, and how much it weighed
+abbrev pub TellsFull : {A : Type 0} → network.World → Result A WorldRefusal → Type 0
+TellsFull model (Ok made) = network.is_full model ≡ false
+TellsFull model (Err (WorldFull octets)) = (network.is_full model ≡ true) × (octets ≡ network.weight model)
+TellsFull model (Err NoMemory) = Unit {0}

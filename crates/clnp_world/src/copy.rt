@@ -3,8 +3,8 @@ ghost use Rattle.std.specs.Prelude.{◌≡◌, ◌==◌, ◌&&◌};
 ghost use Rattle.std.specs.List.{list_any};
 ghost use Rattle.clnp_network.specs.World as network;
 
-use clnp_base::Octets;
 use clnp_plan::{Role, SystemConfig};
+use clnp_views::Frame;
 use nsap::{Snpa, Target};
 
 /// A frame that was put on a subnetwork, by its place among the declarations.
@@ -14,9 +14,9 @@ pub(crate) struct FrameCopy {
     /// The sender's address there.
     pub(crate) sender: Snpa,
     pub(crate) target: Target,
-    /// The moment of its making.
+    /// The moment of its unit's making.
     pub(crate) birth: u64,
-    pub(crate) frame: Octets,
+    pub(crate) frame: Frame,
 }
 
 /// Whether a copy is for a system: a port of it on the copy's subnetwork is reached.

@@ -2,9 +2,8 @@
 #![tactic(auto)]
 
 mod copy;
-mod host;
-mod output;
+mod network;
 mod world;
 
 pub use scenario::Move;
-pub use world::World;
+pub use world::{World, WorldRefusal};

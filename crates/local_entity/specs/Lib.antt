@@ -1,3 +1,5 @@
 pub mod State
 pub mod Pool
 pub mod Apart
+pub mod Local
+pub mod Receipt

@@ -1,10 +1,16 @@
-//! What hosts and routers do alike at their own addresses: they give data unit identifiers to the units that they make
-//! (ISO/IEC 8473, section 6.8).
+//! What hosts and routers do alike at their own addresses: they make data units, with identifiers where these may be
+//! segmented, and receive and reassemble what is for them (ISO/IEC 8473, sections 6.1, 6.2, 6.8 and 6.9).
 #![tactic(auto)]
 
+mod action;
 pub mod laws;
+mod local;
 mod pool;
+#[cfg(test)]
+mod receipt_tests;
 #[cfg(test)]
 mod tests;
 
+pub use action::{Action, Made};
+pub use local::Local;
 pub use pool::{DrawRefusal, IdPool};

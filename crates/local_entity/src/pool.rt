@@ -122,8 +122,15 @@ impl IdPool {
         self.moments.get(usize::from(self.next)).copied()
     }
 
-    /// Gives the next identifier to a unit.
-    fn use_next(&mut self, now: u64) -> u16
+    /// The identifier that is next, which may not be free yet.
+    pub(crate) fn next(&self) -> u16
+        ensures { result ≡ self.now.next }
+    {
+        self.next
+    }
+
+    /// Gives the next identifier to a unit, whether or not it is free.
+    pub(crate) fn use_next(&mut self, now: u64) -> u16
         ensures id { result ≡ self.old.next }
         ensures stands { (ids : Identifiers) → Stands self.old ids → Stands self.new (after_use now ids) }
     {

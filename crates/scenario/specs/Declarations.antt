@@ -1,18 +1,19 @@
--- The declarations of a scenario text: subnetworks, systems, their addresses and their ports.
-use Rattle.std.specs.Prelude.{ℕ, ◌==◌, ◌&&◌, ◌||◌, not, nat_le, nat_lt, nat_eq, Bool, true, false, if◌then◌else◌, List, [], ◌∷◌, ◌++◌, map, filter, length, slice_get, zero, suc, codes, Option, None, Some, Result, Ok, Err}
+-- The declarations of a scenario text: limits, subnetworks, systems, their addresses and their ports.
+use Rattle.std.specs.Prelude.{ℕ, ◌+◌, ◌==◌, ◌&&◌, ◌||◌, not, nat_le, nat_lt, nat_eq, Bool, true, false, if◌then◌else◌, List, [], ◌∷◌, ◌++◌, map, filter, length, slice_get, zero, suc, codes, Option, None, Some, is_some, Result, Ok, Err}
 use Rattle.std.specs.List.{list_any, flat_map}
 use Rattle.std.specs.Str.{bytes_eq}
 use Rattle.std.specs.Cmp.Lexicographic.{pointwise}
 use Rattle.clnp_base.specs.Text.{decimal_of}
 use Rattle.clnp_plan.specs.Configuration.{SystemConfiguration}
+use Rattle.clnp_plan.specs.declared.config.Limits.{Limits}
 use Rattle.clnp_plan.specs.declared.config.PortConfig.{PortConfig}
 use Rattle.clnp_plan.specs.declared.config.Settings.{Settings}
 use Rattle.clnp_plan.specs.declared.config.Role.TheVariants.{Host}
 use Rattle.scenario.specs.Scenario.{Subnetwork}
-use Rattle.scenario.specs.Words.{◌>>=◌, wanted, found, literal, name_word, declared_word, number_within, number_word, is_digits, address_word, life_word, has_prefix, two_words, four_words, first_two, is_taken}
-use Rattle.scenario.specs.declared.code.TheConstants.{SYNTAX, NUMBER, DUP_NAME, DUP_ADDRESS, MTU, COUNT}
+use Rattle.scenario.specs.Words.{◌>>=◌, wanted, found, literal, name_word, declared_word, number_within, number_word, number_behind, is_digits, address_word, life_word, has_prefix, two_words, three_words, first_two, first_four, is_one_at_most, is_taken, each_once}
+use Rattle.scenario.specs.declared.code.TheConstants.{SYNTAX, NUMBER, DUP_NAME, DUP_ADDRESS, LIMITS, MTU, COUNT}
 use Rattle.scenario.specs.declared.setting.Setting.{Setting}
-use Rattle.scenario.specs.declared.setting.Setting.TheVariants.{HelloOff, Checksum, Life}
+use Rattle.scenario.specs.declared.setting.Setting.TheVariants.{HelloOff, Checksum, Life, RedirectHold, Slots, Segments, Budget, Neighbours, Routers, Redirects}
 
 -- a port by its number
 pub record NumberedPort : Type 0 where
@@ -28,11 +29,12 @@ pub record DeclaredSystem : Type 0 where
 
 -- what the lines so far declare
 pub record Declarations : Type 0 where
+  pub limits : Option Limits
   pub subnets : List Subnetwork
   pub systems : List DeclaredSystem
 
 abbrev pub nothing_declared : Declarations
-nothing_declared = record { subnets = []; systems = [] }
+nothing_declared = record { limits = None; subnets = []; systems = [] }
 
 abbrev pub subnet_names : Declarations → List (List ℕ)
 subnet_names d = map (λ subnet. subnet.name) d.subnets
@@ -49,6 +51,22 @@ changed_at change (suc place) (x ∷ xs) = x ∷ changed_at change place xs
 -- whether an address is among some
 abbrev pub is_among : List ℕ → List (List ℕ) → Bool
 is_among address others = list_any (λ other. pointwise nat_eq other address) others
+
+-- `L R Q`, behind `limits`: how long a copy may be given, a buffer is kept and an identifier rests
+unfoldable pub limits_line : Declarations → List (List ℕ) → Result Declarations ℕ
+limits_line d words = do
+  w ← found (three_words words) SYNTAX
+  age ← number_word 1 4096 w.0
+  hold ← number_word 1 255 w.1
+  reuse ← number_word 1 16384 w.2
+  _ ← wanted (not (is_some d.limits)) DUP_NAME
+  _ ← wanted (nat_le (age + hold) reuse) LIMITS
+  Ok (record d { limits = Some (record { age = age; hold = hold; reuse = reuse }) })
+
+-- the limits that are declared, or else the usual ones
+abbrev pub limits_of : Option Limits → Limits
+limits_of None = record { age = 256; hold = 60; reuse = 320 }
+limits_of (Some limits) = limits
 
 -- `NAME MTU`, behind `subnet`: an MTU that is decimal and out of its range has a code of its own
 unfoldable pub subnet_line : Declarations → List (List ℕ) → Result Declarations ℕ
@@ -68,12 +86,24 @@ checksum_word word =
     else if bytes_eq word (codes "checksum=off") then Ok (Checksum false)
     else Err SYNTAX
 
+-- a key of what a system has room for, and its number
+unfoldable pub room_word : List ℕ → Result Setting ℕ
+room_word word =
+    if has_prefix (codes "slots=") word then (number_behind (codes "slots=") 1 1024 word >>= λ slots. Ok (Slots slots))
+    else if has_prefix (codes "segments=") word then (number_behind (codes "segments=") 1 16384 word >>= λ segments. Ok (Segments segments))
+    else if has_prefix (codes "budget=") word then (number_behind (codes "budget=") 512 4194304 word >>= λ budget. Ok (Budget budget))
+    else if has_prefix (codes "neighbours=") word then (number_behind (codes "neighbours=") 1 1024 word >>= λ neighbours. Ok (Neighbours neighbours))
+    else if has_prefix (codes "routers=") word then (number_behind (codes "routers=") 1 64 word >>= λ routers. Ok (Routers routers))
+    else (number_behind (codes "redirects=") 1 1024 word >>= λ redirects. Ok (Redirects redirects))
+
 -- a key and its value
 unfoldable pub setting_word : List ℕ → Result Setting ℕ
 setting_word word =
     if has_prefix (codes "life=") word then (life_word word >>= λ life. Ok (Life life))
     else if has_prefix (codes "checksum=") word then checksum_word word
-    else (literal (codes "hello=0") word >>= λ _. Ok HelloOff)
+    else if has_prefix (codes "rhold=") word then (number_behind (codes "rhold=") 0 65535 word >>= λ seconds. Ok (RedirectHold seconds))
+    else if has_prefix (codes "hello=") word then (literal (codes "hello=0") word >>= λ _. Ok HelloOff)
+    else room_word word
 
 abbrev pub setting_words : List (List ℕ) → Result (List Setting) ℕ
 setting_words [] = Ok []
@@ -86,29 +116,50 @@ abbrev pub is_hello : Setting → Bool
 is_hello HelloOff = true
 is_hello _ = false
 
-abbrev pub is_checksum : Setting → Bool
-is_checksum (Checksum on) = true
-is_checksum _ = false
+-- the key of a setting, by a number of its own
+abbrev pub key_of : Setting → ℕ
+key_of HelloOff = 0
+key_of (Checksum on) = 1
+key_of (Life life) = 2
+key_of (RedirectHold seconds) = 3
+key_of (Slots slots) = 4
+key_of (Segments segments) = 5
+key_of (Budget budget) = 6
+key_of (Neighbours neighbours) = 7
+key_of (Routers routers) = 8
+key_of (Redirects redirects) = 9
 
-abbrev pub is_life : Setting → Bool
-is_life (Life life) = true
-is_life _ = false
-
--- whether a kind of setting is there at most once
-abbrev pub at_most_once : (Setting → Bool) → List Setting → Bool
-at_most_once kind settings = nat_le (length (filter kind settings)) 1
-
-abbrev pub each_once : List Setting → Bool
-each_once settings = at_most_once is_hello settings && (at_most_once is_checksum settings && at_most_once is_life settings)
-
--- the settings of a system, where a word that is missing leaves the checksum on and the lifetime 64
 abbrev pub with_setting : Setting → Settings → Settings
-with_setting HelloOff settings = settings
+with_setting HelloOff settings = record settings { hello = 0 }
 with_setting (Checksum on) settings = record settings { sealed = on }
 with_setting (Life life) settings = record settings { life = life }
+with_setting (RedirectHold seconds) settings = record settings { rhold = seconds }
+with_setting (Slots slots) settings = record settings { slots = slots }
+with_setting (Segments segments) settings = record settings { segments = segments }
+with_setting (Budget budget) settings = record settings { budget = budget }
+with_setting (Neighbours neighbours) settings = record settings { neighbours = neighbours }
+with_setting (Routers routers) settings = record settings { routers = routers }
+with_setting (Redirects redirects) settings = record settings { redirects = redirects }
+
+-- what a system has where no word says another value
+abbrev pub usual_settings : Settings
+usual_settings =
+    record {
+      hello = 60;
+      suggest = 0;
+      rhold = 120;
+      slots = 16;
+      segments = 1024;
+      budget = 262144;
+      neighbours = 64;
+      routers = 8;
+      redirects = 64;
+      life = 64;
+      sealed = true;
+    }
 
 abbrev pub settings_of : List Setting → Settings
-settings_of [] = record { sealed = true; life = 64 }
+settings_of [] = usual_settings
 settings_of (setting ∷ others) = with_setting setting (settings_of others)
 
 -- `NAME host` and settings, behind `system`; `hello=0` is one of them, as hellos aren't sent
@@ -119,7 +170,7 @@ system_line d words = do
   _ ← literal (codes "host") w.1
   settings ← setting_words w.2
   _ ← wanted (list_any is_hello settings) SYNTAX
-  _ ← wanted (not (is_taken (system_names d) name) && each_once settings) DUP_NAME
+  _ ← wanted (not (is_taken (system_names d) name) && each_once key_of settings) DUP_NAME
   _ ← wanted (nat_lt (length d.systems) 64) COUNT
   Ok (record d { systems = d.systems ++ record { name = name; settings = settings_of settings; addresses = []; ports = [] } ∷ [] })
 
@@ -158,24 +209,32 @@ abbrev pub mtu_at : Option Subnetwork → ℕ
 mtu_at None = 0
 mtu_at (Some subnet) = subnet.mtu
 
--- `NAME NUMBER SUBNET SNPA`, behind `port`: a host has one
+-- the transit of a port, where one is said
+abbrev pub transit_word : List (List ℕ) → Result ℕ ℕ
+transit_word [] = Ok 1
+transit_word (word ∷ words) = number_word 1 255 word
+
+-- `NAME NUMBER SUBNET SNPA` and perhaps TRANSIT, behind `port`: a host has one
 unfoldable pub port_line : Declarations → List (List ℕ) → Result Declarations ℕ
 port_line d words = do
-  w ← found (four_words words) SYNTAX
+  w ← found (first_four words) SYNTAX
+  _ ← wanted (is_one_at_most w.4) SYNTAX
   place ← declared_word (system_names d) w.0
   number ← number_word 0 7 w.1
   subnet ← declared_word (subnet_names d) w.2
   snpa ← address_word w.3
+  transit ← transit_word w.4
   _ ← wanted (not (has_port number subnet (slice_get d.systems place))) DUP_NAME
   _ ← wanted (not (is_among snpa (flat_map (snpas_on subnet) d.systems))) DUP_ADDRESS
   _ ← wanted (nat_lt (counted_in (λ system. system.ports) (slice_get d.systems place)) 1) COUNT
-  Ok (record d { systems = changed_at (with_port (record { number = number; port = record { subnet = subnet; snpa = snpa; mtu = mtu_at (slice_get d.subnets subnet) } })) place d.systems })
+  Ok (record d { systems = changed_at (with_port (record { number = number; port = record { subnet = subnet; snpa = snpa; transit = transit; mtu = mtu_at (slice_get d.subnets subnet) } })) place d.systems })
 
 -- a line that declares something
 unfoldable pub declaration_line : Declarations → List (List ℕ) → Result Declarations ℕ
 declaration_line d [] = Err SYNTAX
 declaration_line d (keyword ∷ words) =
-    if bytes_eq keyword (codes "subnet") then subnet_line d words
+    if bytes_eq keyword (codes "limits") then limits_line d words
+    else if bytes_eq keyword (codes "subnet") then subnet_line d words
     else if bytes_eq keyword (codes "system") then system_line d words
     else if bytes_eq keyword (codes "address") then address_line d words
     else if bytes_eq keyword (codes "port") then port_line d words

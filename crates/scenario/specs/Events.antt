@@ -1,19 +1,23 @@
 -- The event lines of a scenario text.
-use Rattle.std.specs.Prelude.{ℕ, ◌&&◌, not, nat_le, Bool, true, false, if◌then◌else◌, List, [], ◌∷◌, filter, length, slice_get, codes, Option, None, Some, Result, Ok, Err}
+use Rattle.std.specs.Prelude.{ℕ, ◌+◌, ◌&&◌, not, nat_le, Bool, true, false, if◌then◌else◌, List, [], ◌∷◌, slice_get, codes, Option, None, Some, Result, Ok, Err}
 use Rattle.std.specs.List.{list_any}
 use Rattle.std.specs.Str.{bytes_eq}
 use Rattle.clnp_plan.specs.Configuration.{SystemConfiguration}
-use Rattle.scenario.specs.Words.{◌>>=◌, wanted, found, literal, declared_word, number_word, address_word, data_word, life_word, has_prefix, one_word, two_words, first_four}
-use Rattle.scenario.specs.declared.code.TheConstants.{SYNTAX, DUP_NAME, COUNT}
+use Rattle.clnp_plan.specs.declared.ask.Ask.{Ask}
+use Rattle.scenario.specs.Scenario.{ticks_of}
+use Rattle.scenario.specs.Words.{◌>>=◌, wanted, found, literal, declared_word, number_word, address_word, data_word, life_word, options_word, has_prefix, one_word, two_words, first_four, each_once}
+use Rattle.scenario.specs.declared.code.TheConstants.{SYNTAX, DUP_NAME}
+use Rattle.scenario.specs.declared.counts.Counts.{Counts}
 use Rattle.scenario.specs.declared.event.Event.{Event}
-use Rattle.scenario.specs.declared.event.Event.TheVariants.{Send, Deliver, Settle, Lose}
+use Rattle.scenario.specs.declared.event.Event.TheVariants.{Send, Deliver, Settle, Lose, Tick, Restart}
 use Rattle.scenario.specs.declared.setting.Wish.{Wish}
-use Rattle.scenario.specs.declared.setting.Wish.TheVariants.{Lasting, NoReport, Whole}
+use Rattle.scenario.specs.declared.setting.Wish.TheVariants.{Lasting, NoReport, Whole, Options}
 
 -- a word behind the data of a `send`
 unfoldable pub wish_word : List ℕ → Result Wish ℕ
 wish_word word =
     if has_prefix (codes "life=") word then (life_word word >>= λ life. Ok (Lasting life))
+    else if has_prefix (codes "opt=") word then (options_word word >>= λ options. Ok (Options options))
     else if bytes_eq word (codes "noreport") then Ok NoReport
     else (literal (codes "whole") word >>= λ _. Ok Whole)
 
@@ -24,10 +28,6 @@ wish_words (word ∷ words) = do
   wishes ← wish_words words
   Ok (wish ∷ wishes)
 
-abbrev pub is_lasting : Wish → Bool
-is_lasting (Lasting life) = true
-is_lasting _ = false
-
 abbrev pub is_no_report : Wish → Bool
 is_no_report NoReport = true
 is_no_report _ = false
@@ -36,11 +36,12 @@ abbrev pub is_whole : Wish → Bool
 is_whole Whole = true
 is_whole _ = false
 
-abbrev pub once : (Wish → Bool) → List Wish → Bool
-once kind wishes = nat_le (length (filter kind wishes)) 1
-
-abbrev pub each_once : List Wish → Bool
-each_once wishes = once is_lasting wishes && (once is_no_report wishes && once is_whole wishes)
+-- the kind of a wish, by a number of its own
+abbrev pub kind_of : Wish → ℕ
+kind_of (Lasting life) = 0
+kind_of NoReport = 1
+kind_of Whole = 2
+kind_of (Options options) = 3
 
 -- the lifetime that is wished for, or else the system's own
 abbrev pub life_in : ℕ → List Wish → ℕ
@@ -53,7 +54,23 @@ abbrev pub own_life : Option SystemConfiguration → ℕ
 own_life None = 64
 own_life (Some system) = system.settings.life
 
--- `NAME FROM TO hex:DIGITS` and wishes, behind `send`; `whole` is one of them, as units aren't cut
+-- the options that are wished for
+abbrev pub options_in : List Wish → List ℕ
+options_in [] = []
+options_in (Options options ∷ wishes) = options
+options_in (_ ∷ wishes) = options_in wishes
+
+-- how a unit is to be sent: it is reported on and may be cut, unless a word says that it mustn't
+abbrev pub ask_of : ℕ → List Wish → Ask
+ask_of own wishes =
+    record {
+      life = life_in own wishes;
+      report = not (list_any is_no_report wishes);
+      segment = not (list_any is_whole wishes);
+      options = options_in wishes;
+    }
+
+-- `NAME FROM TO DATA` and wishes, behind `send`
 unfoldable pub send_line : (names : List (List ℕ)) (systems : List SystemConfiguration) → List (List ℕ) → Result Event ℕ
 send_line names systems words = do
   w ← found (first_four words) SYNTAX
@@ -62,9 +79,8 @@ send_line names systems words = do
   to ← address_word w.2
   body ← data_word w.3
   wishes ← wish_words w.4
-  _ ← wanted (list_any is_whole wishes) SYNTAX
-  _ ← wanted (each_once wishes) DUP_NAME
-  Ok (Send system from to body (life_in (own_life (slice_get systems system)) wishes) (not (list_any is_no_report wishes)))
+  _ ← wanted (each_once kind_of wishes) DUP_NAME
+  Ok (Send system from to body (ask_of (own_life (slice_get systems system)) wishes))
 
 -- `K NAME`, behind `deliver`
 unfoldable pub deliver_line : List (List ℕ) → List (List ℕ) → Result Event ℕ
@@ -73,6 +89,17 @@ deliver_line names words = do
   copy ← number_word 1 1000000000 w.0
   system ← declared_word names w.1
   Ok (Deliver copy system)
+
+-- `N`, behind `tick`
+unfoldable pub tick_line : List (List ℕ) → Result ℕ ℕ
+tick_line words = found (one_word words) SYNTAX >>= number_word 1 65535
+
+-- `NAME`, behind `restart`
+unfoldable pub restart_line : List (List ℕ) → List (List ℕ) → Result Event ℕ
+restart_line names words = do
+  word ← found (one_word words) SYNTAX
+  system ← declared_word names word
+  Ok (Restart system)
 
 -- `N`, behind `settle` and `lose`
 unfoldable pub count_line : List (List ℕ) → Result ℕ ℕ
@@ -85,15 +112,29 @@ event_line names systems (keyword ∷ words) =
     else if bytes_eq keyword (codes "deliver") then deliver_line names words
     else if bytes_eq keyword (codes "settle") then (count_line words >>= λ count. Ok (Settle count))
     else if bytes_eq keyword (codes "lose") then (count_line words >>= λ count. Ok (Lose count))
+    else if bytes_eq keyword (codes "tick") then (tick_line words >>= λ count. Ok (Tick count))
+    else if bytes_eq keyword (codes "restart") then restart_line names words
     else Err SYNTAX
 
 -- the copies that an event settles or loses
 abbrev pub passed_by : Event → ℕ
 passed_by (Settle count) = count
 passed_by (Lose count) = count
-passed_by (Send system from to body life report) = 0
-passed_by (Deliver copy system) = 0
+passed_by _ = 0
 
--- at most 100,000 events, and 10,000,000 copies settled and lost
-abbrev pub within_counts : ℕ → ℕ → Result (Unit {0}) ℕ
-within_counts events passed = wanted (nat_le events 100000 && nat_le passed 10000000) COUNT
+-- the counts with one more event
+abbrev pub counted : Counts → Event → Counts
+counted counts event =
+    record {
+      events = counts.events + 1;
+      passed = counts.passed + passed_by event;
+      ticks = counts.ticks + ticks_of event;
+    }
+
+-- at most 100,000 events, 10,000,000 copies settled and lost, and 1,000,000 ticks
+abbrev pub are_few : Counts → Bool
+are_few counts = nat_le counts.events 100000 && (nat_le counts.passed 10000000 && nat_le counts.ticks 1000000)
+
+-- before the first event
+abbrev pub nothing_counted : Counts
+nothing_counted = record { events = 0; passed = 0; ticks = 0 }

@@ -6,8 +6,9 @@ use Rattle.clnp_base.specs.Text.{lines_of, words_of}
 use Rattle.clnp_plan.specs.Configuration.{SystemConfiguration}
 use Rattle.scenario.specs.Scenario.{Plan}
 use Rattle.scenario.specs.Words.{◌>>=◌, wanted, one_word, is_skipped}
-use Rattle.scenario.specs.Declarations.{Declarations, nothing_declared, declaration_line, is_complete, host_of}
-use Rattle.scenario.specs.Events.{event_line, passed_by, within_counts}
+use Rattle.scenario.specs.Declarations.{Declarations, nothing_declared, declaration_line, limits_of, is_complete, host_of}
+use Rattle.scenario.specs.Events.{event_line, counted, are_few, nothing_counted}
+use Rattle.scenario.specs.declared.counts.Counts.{Counts}
 use Rattle.scenario.specs.declared.event.Event.{Event}
 use Rattle.scenario.specs.declared.code.TheConstants.{HEADER, SYNTAX, COUNT}
 
@@ -58,21 +59,21 @@ nothing_after n [] = Ok tt
 nothing_after n (line ∷ lines) =
     if is_skipped line then nothing_after (n + 1) lines else Err (record { line = n; code = SYNTAX })
 
--- the event of a line, counted with those before it and with the copies that they settle and lose
-unfoldable pub counted_event : List (List ℕ) → List SystemConfiguration → ℕ → ℕ → List (List ℕ) → Result Event ℕ
-counted_event names systems events passed words = do
+-- the event of a line, counted with those before it
+unfoldable pub counted_event : List (List ℕ) → List SystemConfiguration → Counts → List (List ℕ) → Result Event ℕ
+counted_event names systems counts words = do
   event ← event_line names systems words
-  _ ← within_counts (events + 1) (passed + passed_by event)
+  _ ← wanted (are_few (counted counts event)) COUNT
   Ok event
 
--- The event lines from number n on, and `end`, where so many events, settles and losses came before.
-unfoldable pub events_from : List (List ℕ) → List SystemConfiguration → ℕ → ℕ → ℕ → List (List ℕ) → Result (List Event) BadLine
-events_from names systems n events passed [] = Err (record { line = n; code = SYNTAX })
-events_from names systems n events passed (line ∷ lines) =
-    if is_skipped line then events_from names systems (n + 1) events passed lines
+-- The event lines from number n on, and `end`, where the events before them were counted.
+unfoldable pub events_from : List (List ℕ) → List SystemConfiguration → ℕ → Counts → List (List ℕ) → Result (List Event) BadLine
+events_from names systems n counts [] = Err (record { line = n; code = SYNTAX })
+events_from names systems n counts (line ∷ lines) =
+    if is_skipped line then events_from names systems (n + 1) counts lines
     else if is_line_of (codes "end") (words_of line) then (nothing_after (n + 1) lines >>= λ _. Ok [])
-    else (at_line n (counted_event names systems events passed (words_of line)) >>= λ event.
-    events_from names systems (n + 1) (events + 1) (passed + passed_by event) lines >>= λ others.
+    else (at_line n (counted_event names systems counts (words_of line)) >>= λ event.
+    events_from names systems (n + 1) (counted counts event) lines >>= λ others.
     Ok (event ∷ others))
 
 -- what the lines of a text say, or the first bad line
@@ -80,8 +81,8 @@ unfoldable pub plan_at : List (List ℕ) → Result Plan BadLine
 plan_at lines = do
   header ← header_from 1 lines
   declared ← declarations_from header.number nothing_declared header.lines
-  events ← events_from (map (λ system. system.name) declared.value.systems) (map host_of declared.value.systems) declared.number 0 0 declared.lines
-  Ok (record { subnets = declared.value.subnets; systems = map host_of declared.value.systems; events = events })
+  events ← events_from (map (λ system. system.name) declared.value.systems) (map host_of declared.value.systems) declared.number nothing_counted declared.lines
+  Ok (record { limits = limits_of declared.value.limits; subnets = declared.value.subnets; systems = map host_of declared.value.systems; events = events })
 
 abbrev pub plan_of : List ℕ → Result Plan BadLine
 plan_of text = plan_at (lines_of text)

@@ -1,10 +1,17 @@
--- What a scenario text says: the subnetworks and systems that it declares, and its events.
-use Rattle.std.specs.Prelude.{ℕ, ◌+◌, List, [], ◌∷◌, ◌++◌, replicate}
-use Rattle.clnp_plan.specs.Configuration.{SystemConfiguration}
+-- What a scenario text says: how long things last, the subnetworks and systems that it declares, and its events.
+use Rattle.std.specs.Prelude.{◌≡◌, ℕ, false, ◌+◌, ◌/◌, ◌%◌, ◌≤◌, List, [], ◌∷◌, ◌++◌, map, replicate, sum}
+use Rattle.std.specs.List.{AllByRecursion, flat_map, range_with_len}
+use Rattle.clnp_options.specs.Grammar.{FitsKind}
+use Rattle.clnp_options.specs.Parameter.{parameters}
+use Rattle.clnp_plan.specs.Configuration.{SystemConfiguration, AreDistinct, AreLimits, IsSystem}
+use Rattle.clnp_plan.specs.declared.config.Limits.{Limits}
+use Rattle.clnp_plan.specs.declared.config.Role.TheVariants.{Host}
+use Rattle.scenario.specs.declared.event.Body.{Body}
+use Rattle.scenario.specs.declared.event.Body.TheVariants.{Hex, Pattern}
 use Rattle.scenario.specs.declared.event.Event.{Event}
-use Rattle.scenario.specs.declared.event.Event.TheVariants.{Send, Deliver, Settle, Lose}
+use Rattle.scenario.specs.declared.event.Event.TheVariants.{Send, Deliver, Settle, Lose, Tick, Restart}
 use Rattle.scenario.specs.declared.event.Move.{Move}
-use Rattle.scenario.specs.declared.event.Move.TheVariants.{One, SettleOne, LoseOne}
+use Rattle.scenario.specs.declared.event.Move.TheVariants.{One, SettleOne, LoseOne, TickOne}
 
 pub record Subnetwork : Type 0 where
   pub name : List ℕ
@@ -13,18 +20,47 @@ pub record Subnetwork : Type 0 where
 
 -- systems and subnetworks are named by their places, from 0
 pub record Plan : Type 0 where
+  pub limits : Limits
   pub subnets : List Subnetwork
   pub systems : List SystemConfiguration
   pub events : List Event
 
--- the moves of the event at a place: `settle n` and `lose n` are n moves, every other event is one
+-- The octets that are to be sent: those written, or so many of a pattern, which at place q are q + q / 256 + start modulo 256.
+abbrev pub octets_of : Body → List ℕ
+octets_of (Hex octets) = octets
+octets_of (Pattern len start) = map (λ q. (q + q / 256 + start) % 256) (range_with_len 0 len)
+
+-- the moves of the event at a place: `settle n`, `lose n` and `tick n` are n moves, every other event is one
 abbrev pub moves_of : ℕ → Event → List Move
 moves_of place (Settle count) = replicate count SettleOne
 moves_of place (Lose count) = replicate count LoseOne
-moves_of place (Send system from to body life report) = One place ∷ []
+moves_of place (Tick count) = replicate count TickOne
+moves_of place (Send system from to body ask) = One place ∷ []
 moves_of place (Deliver copy system) = One place ∷ []
+moves_of place (Restart system) = One place ∷ []
 
 -- the moves of events, the first of them at a place
 abbrev pub moves_from : ℕ → List Event → List Move
 moves_from place [] = []
 moves_from place (event ∷ events) = moves_of place event ++ moves_from (place + 1) events
+
+-- the ticks of an event
+abbrev pub ticks_of : Event → ℕ
+ticks_of (Tick count) = count
+ticks_of _ = 0
+
+-- an event that asks for a data unit asks for no option that an error report alone may have
+abbrev pub AsksFairly : Event → Type 0
+AsksFairly (Send system from to body ask) = FitsKind false (parameters ask.options)
+AsksFairly _ = Unit {0}
+
+-- What each scenario is that the reader accepts.
+pub record IsFit (plan : Plan) : Type 0 where
+  pub limits : AreLimits plan.limits
+  pub systems : AllByRecursion IsSystem plan.systems
+  -- routers come later
+  pub hosts : AllByRecursion (λ system. system.role ≡ Host) plan.systems
+  -- an address belongs to one system
+  pub addresses : AreDistinct (flat_map (λ system. system.addresses) plan.systems)
+  pub ticks : sum (map ticks_of plan.events) ≤ 1000000
+  pub asks : AllByRecursion AsksFairly plan.events

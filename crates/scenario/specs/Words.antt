@@ -1,13 +1,16 @@
 -- The words of a scenario text: each gives its value, or the code of what is wrong with it.
-use Rattle.std.specs.Prelude.{ℕ, ◌==◌, ◌&&◌, ◌||◌, not, nat_le, Bool, true, false, if◌then◌else◌, List, [], ◌∷◌, take, drop, length, codes, Option, None, Some, is_some, option_map, Result, Ok, Err}
-use Rattle.std.specs.List.{list_all, position}
+use Rattle.std.specs.Prelude.{ℕ, ◌+◌, ◌==◌, ◌&&◌, ◌||◌, not, nat_le, Bool, true, false, if◌then◌else◌, List, [], ◌∷◌, take, drop, length, codes, Option, None, Some, is_some, option_map, Result, Ok, Err}
+use Rattle.std.specs.List.{list_all, list_any, position}
 use Rattle.std.specs.Str.{bytes_eq}
 use Rattle.hex.specs.Hex.{decode_of}
 use Rattle.hex.specs.declared.error.FromHexError.{FromHexError}
 use Rattle.clnp_base.specs.Text.{decimal_of, is_digit}
+use Rattle.clnp_options.specs.Rules.{refusal}
 use Rattle.nsap.specs.Text.{octets_of}
 use Rattle.nsap.specs.declared.fault.NsapFault.{NsapFault}
 use Rattle.scenario.specs.declared.code.TheConstants.{SYNTAX, NUMBER, ADDRESS, UNKNOWN_NAME}
+use Rattle.scenario.specs.declared.event.Body.{Body}
+use Rattle.scenario.specs.declared.event.Body.TheVariants.{Hex, Pattern}
 
 infixl 10 ◌>>=◌
 abbrev pub ◌>>=◌ : {A B E : Type 0} → Result A E → (A → Result B E) → Result B E
@@ -77,17 +80,56 @@ abbrev pub digits_read : Result (List ℕ) FromHexError → Result (List ℕ) �
 digits_read (Ok octets) = Ok octets
 digits_read (Err e) = Err ADDRESS
 
--- `hex:` and an even number of hexadecimal digits
-abbrev pub data_word : List ℕ → Result (List ℕ) ℕ
-data_word word = after_prefix (codes "hex:") word >>= λ digits. digits_read (decode_of digits)
-
 -- whether a word begins so
 abbrev pub has_prefix : List ℕ → List ℕ → Bool
 has_prefix prefix word = bytes_eq (take (length prefix) word) prefix
 
+-- an even number of hexadecimal digits behind a prefix
+abbrev pub octets_behind : List ℕ → List ℕ → Result (List ℕ) ℕ
+octets_behind prefix word = after_prefix prefix word >>= λ digits. digits_read (decode_of digits)
+
+-- a number behind a prefix, from low to high
+abbrev pub number_behind : List ℕ → ℕ → ℕ → List ℕ → Result ℕ ℕ
+number_behind prefix low high word = after_prefix prefix word >>= number_word low high
+
+abbrev pub is_colon : ℕ → Bool
+is_colon c = c == 58
+
+-- what stands before a place and behind it, unless a `:` stands behind it
+abbrev pub fields_at : List ℕ → Option ℕ → Option (List ℕ × List ℕ)
+fields_at text None = None
+fields_at text (Some at) = if list_any is_colon (drop (at + 1) text) then None else Some (take at text, drop (at + 1) text)
+
+-- the two fields into which a text is cut by its only `:`
+abbrev pub two_fields : List ℕ → Option (List ℕ × List ℕ)
+two_fields text = fields_at text (position is_colon text)
+
+-- how many octets of a pattern, and where it starts
+abbrev pub pattern_word : List ℕ → Result Body ℕ
+pattern_word word = do
+  text ← after_prefix (codes "pat:") word
+  fields ← found (two_fields text) SYNTAX
+  len ← number_word 0 70000 fields.0
+  start ← number_word 0 255 fields.1
+  Ok (Pattern len start)
+
+-- `pat:`, a length, `:` and a start, or `hex:` and the octets
+abbrev pub data_word : List ℕ → Result Body ℕ
+data_word word =
+    if has_prefix (codes "pat:") word then pattern_word word
+    else (octets_behind (codes "hex:") word >>= λ octets. Ok (Hex octets))
+
 -- `life=` and 1 to 255
 abbrev pub life_word : List ℕ → Result ℕ ℕ
-life_word word = after_prefix (codes "life=") word >>= number_word 1 255
+life_word word = number_behind (codes "life=") 1 255 word
+
+-- octets that spell options as the header of a data unit may have them
+abbrev pub options_read : List ℕ → Result (List ℕ) ℕ
+options_read octets = wanted (nat_le (length octets) 254 && not (is_some (refusal octets 1 false))) ADDRESS >>= λ _. Ok octets
+
+-- `opt=` and the octets of options
+abbrev pub options_word : List ℕ → Result (List ℕ) ℕ
+options_word word = octets_behind (codes "opt=") word >>= options_read
 
 -- How many words a line has.
 
@@ -101,10 +143,15 @@ abbrev pub two_words : List (List ℕ) → Option (List ℕ × List ℕ)
 two_words (a ∷ words) = option_map (λ b. (a, b)) (one_word words)
 two_words [] = None
 
--- exactly four words
-abbrev pub four_words : List (List ℕ) → Option (List ℕ × List ℕ × List ℕ × List ℕ)
-four_words (a ∷ b ∷ words) = option_map (λ w. (a, b, w.0, w.1)) (two_words words)
-four_words _ = None
+-- exactly three words
+abbrev pub three_words : List (List ℕ) → Option (List ℕ × List ℕ × List ℕ)
+three_words (a ∷ words) = option_map (λ w. (a, w.0, w.1)) (two_words words)
+three_words [] = None
+
+-- no word or one
+abbrev pub is_one_at_most : List (List ℕ) → Bool
+is_one_at_most (a ∷ b ∷ words) = false
+is_one_at_most _ = true
 
 -- the first two words, and those behind them
 abbrev pub first_two : List (List ℕ) → Option (List ℕ × List ℕ × List (List ℕ))
@@ -119,6 +166,11 @@ first_four _ = None
 -- whether a name is among some
 abbrev pub is_taken : List (List ℕ) → List ℕ → Bool
 is_taken names name = is_some (position (λ other. bytes_eq other name) names)
+
+-- whether no two of a list are of one kind
+abbrev pub each_once : {X : Type 0} → (X → ℕ) → List X → Bool
+each_once kind [] = true
+each_once kind (x ∷ xs) = not (list_any (λ y. kind y == kind x) xs) && each_once kind xs
 
 -- an empty line, and one that begins with `#`
 abbrev pub is_skipped : List ℕ → Bool

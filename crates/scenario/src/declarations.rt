@@ -1,31 +1,32 @@
 //! What the lines of a text declare.
-ghost use Rattle.std.specs.Prelude.{◌≡◌, ◌<◌, ◌≤◌, ◌==◌, ◌&&◌, ◌++◌, ◌∷◌, [], map, length, slice_get, nat_eq, IfSome, IfOk, Ok, Err, MatchResult};
+ghost use Rattle.std.specs.Prelude.{◌≡◌, ◌<◌, ◌≤◌, ◌==◌, ◌&&◌, ◌++◌, ◌∷◌, [], map, length, slice_get, nat_eq, Some, IfSome, IfOk, Ok, Err, MatchResult};
 ghost use Rattle.std.specs.Cmp.Lexicographic.{pointwise};
 ghost use Rattle.std.specs.List.{position, list_any, list_all, flat_map};
 ghost use Rattle.std.specs.Str.{bytes_eq};
 ghost use Rattle.clnp_base.specs.Text.{words_of};
-ghost use Rattle.scenario.specs.Declarations.{nothing_declared, subnet_names, system_names, changed_at, is_among, has_port, snpas_on, counted_in, mtu_at, with_address, with_port, settings_of, subnet_line, system_line, address_line, port_line, declaration_line, is_complete};
+ghost use Rattle.scenario.specs.Declarations.{nothing_declared, subnet_names, system_names, changed_at, is_among, has_port, snpas_on, counted_in, mtu_at, with_address, with_port, settings_of, limits_line, limits_of, subnet_line, system_line, address_line, transit_word, port_line, declaration_line, is_complete};
 ghost use Rattle.scenario.specs.Words.{is_taken, declared_word};
 ghost use Rattle.scenario.specs.Refusal.{Faults};
 
-use crate::code::{COUNT, DUP_ADDRESS, DUP_NAME, NUMBER, SYNTAX};
+use crate::code::{COUNT, DUP_ADDRESS, DUP_NAME, LIMITS, NUMBER, SYNTAX};
 use crate::fault::LineFault;
 use crate::plan::Subnet;
 use crate::setting::{each_once, has_hello, setting_words, settings_of};
 use crate::system::{PortAt, System};
 use crate::word::{
-    address_word, declared, first_two, four_words, is_digits, is_name, literal, mtu_word,
-    name_word, number_word, same, snpa_word, two_words, wanted,
+    address_word, declared, first_four, first_two, is_digits, is_name, is_one_at_most, literal,
+    mtu_word, name_word, number_word, same, snpa_word, three_words, two_words, wanted,
 };
 use clnp_base::next_word;
-use clnp_plan::{PortConfig, Settings};
+use clnp_plan::{Limits, PortConfig, Settings};
 use nsap::{Address, Snpa};
 use std::alloc::Global;
 use std::marker::Model;
 
-/// The subnetworks and the systems that are declared so far.
+/// The limits, the subnetworks and the systems that are declared so far.
 #[derive(Drop)]
 pub(crate) struct Declared {
+    limits: Option<Limits>,
     subnets: Vec<Subnet>,
     systems: Vec<System>,
 }
@@ -36,7 +37,7 @@ impl Model for Declared {
 
     ghost Value = { Declarations };
 
-    ghost view = { λ d. record { subnets = d.subnets.items; systems = d.systems.items } };
+    ghost view = { λ d. record { limits = d.limits; subnets = d.subnets.items; systems = d.systems.items } };
 
     ghost invariant = { λ d. (length d.subnets.items ≤ 64) × (length d.systems.items ≤ 64) };
 }
@@ -73,12 +74,24 @@ fn has_snpa(systems: &[System], subnet: u8, snpa: &Snpa) -> bool
     systems.iter().any(|system| system.has_snpa(subnet, snpa))
 }
 
+/// How much a port takes of a lifetime, where a word says it.
+fn transit_word(line: &[u8]) -> Result<u8, u8>
+    ensures { result ≡ transit_word (words_of line.now) }
+{
+    let Some((word, _)) = next_word(line) else {
+        return Ok(1);
+    };
+    let transit = number_word(1, 255, word)?;
+    Ok(transit as u8)
+}
+
 impl Declared {
     /// Nothing is declared.
     pub(crate) fn new(alloc: Global) -> Declared
         ensures { result ≡ nothing_declared }
     {
         Declared {
+            limits: None,
             subnets: Vec::new(alloc),
             systems: Vec::new(alloc),
         }
@@ -140,6 +153,38 @@ impl Declared {
             return Err(SYNTAX);
         }
         declared(self.system_place(word))
+    }
+
+    /// The limits that `L R Q` declares.
+    #[tactic(auto, unfolding(crate::specs::Declarations::limits_line))]
+    fn limits_of(&self, line: &[u8]) -> Result<Limits, u8>
+        ensures { MatchResult result
+            (λ limits. limits_line self.now (words_of line.now) ≡ Ok (record self.now { limits = Some limits }))
+            (λ code. limits_line self.now (words_of line.now) ≡ Err code) }
+    {
+        let Some((age, hold, reuse)) = three_words(line) else {
+            return Err(SYNTAX);
+        };
+        let age = number_word(1, 4096, age)?;
+        let hold = number_word(1, 255, hold)?;
+        let reuse = number_word(1, 16_384, reuse)?;
+        wanted(self.limits.is_none(), DUP_NAME)?;
+        wanted(age + hold <= reuse, LIMITS)?;
+        Ok(Limits {
+            age: age as u16,
+            hold: hold as u8,
+            reuse: reuse as u16,
+        })
+    }
+
+    /// `L R Q`, behind `limits`.
+    pub(crate) fn limits_line(&mut self, line: &[u8]) -> Result<(), LineFault>
+        ensures { let reading = limits_line self.old (words_of line.now) in
+            MatchResult result (λ _. reading ≡ Ok self.new) (λ fault. Faults fault reading) }
+    {
+        let limits = self.limits_of(line)?;
+        self.limits = Some(limits);
+        Ok(())
     }
 
     /// The name and the MTU of the subnetwork that `NAME MTU` declares.
@@ -293,9 +338,9 @@ impl Declared {
     }
 
     /// The port that words declare, of the system at a place.
-    fn port_at(&self, number: u8, subnet: usize, snpa: Snpa) -> PortAt
+    fn port_at(&self, number: u8, subnet: usize, snpa: Snpa, transit: u8) -> PortAt
         requires { subnet < 64 }
-        ensures { result ≡ record { number = number; port = record { subnet = subnet; snpa = snpa; mtu = mtu_at (slice_get self.now.subnets subnet) } } }
+        ensures { result ≡ record { number = number; port = record { subnet = subnet; snpa = snpa; transit = transit; mtu = mtu_at (slice_get self.now.subnets subnet) } } }
     {
         let mtu = self.mtu_at(subnet);
         PortAt {
@@ -303,12 +348,14 @@ impl Declared {
             port: PortConfig {
                 subnet: subnet as u8,
                 snpa,
+                transit,
                 mtu,
             },
         }
     }
 
-    /// The place of the system and the port that `NAME NUMBER SUBNET SNPA` gives it.
+    /// The place of the system and the port that `NAME NUMBER SUBNET SNPA` and perhaps TRANSIT give
+    /// it.
     #[tactic(auto, unfolding(crate::specs::Declarations::port_line))]
     fn port_of(&self, line: &[u8]) -> Result<(usize, PortAt), u8>
         ensures reading { MatchResult result
@@ -316,21 +363,23 @@ impl Declared {
             (λ code. port_line self.now (words_of line.now) ≡ Err code) }
         ensures within { IfOk result (λ r. r.0 < length self.now.systems) }
     {
-        let Some((name, number, on, snpa)) = four_words(line) else {
+        let Some((name, number, on, snpa, transit)) = first_four(line) else {
             return Err(SYNTAX);
         };
+        wanted(is_one_at_most(transit), SYNTAX)?;
         let place = self.system_word(name)?;
         let number = number_word(0, 7, number)? as u8;
         let subnet = self.subnet_word(on)?;
         let snpa = snpa_word(snpa)?;
-        let port = self.port_at(number, subnet, snpa);
+        let transit = transit_word(transit)?;
+        let port = self.port_at(number, subnet, snpa, transit);
         wanted(!self.has_port(place, number, port.port.subnet), DUP_NAME)?;
         wanted(!self.has_snpa(port.port.subnet, &snpa), DUP_ADDRESS)?;
         wanted(self.port_count(place) < 1, COUNT)?;
         Ok((place, port))
     }
 
-    /// `NAME NUMBER SUBNET SNPA`, behind `port`.
+    /// `NAME NUMBER SUBNET SNPA` and perhaps TRANSIT, behind `port`.
     pub(crate) fn port_line(&mut self, line: &[u8]) -> Result<(), LineFault>
         ensures { let reading = port_line self.old (words_of line.now) in
             MatchResult result (λ _. reading ≡ Ok self.new) (λ fault. Faults fault reading) }
@@ -351,6 +400,9 @@ impl Declared {
         let Some((keyword, words)) = next_word(line) else {
             return Err(LineFault::Code(SYNTAX));
         };
+        if same(keyword, b"limits") {
+            return self.limits_line(words);
+        }
         if same(keyword, b"subnet") {
             return self.subnet_line(alloc, words);
         }
@@ -373,13 +425,31 @@ impl Declared {
         self.systems.iter().all(|system| system.is_complete())
     }
 
+    /// The limits that are declared, or else the usual ones.
+    pub(crate) fn limits(&self) -> Limits
+        ensures { result ≡ limits_of self.now.limits }
+    {
+        match self.limits {
+            Some(limits) => limits,
+            None => Limits {
+                age: 256,
+                hold: 60,
+                reuse: 320,
+            },
+        }
+    }
+
     /// The subnetworks and the systems.
     pub(crate) fn into_parts(self) -> (Vec<Subnet>, Vec<System>)
         ensures subnets { result.0.items ≡ self.subnets }
         ensures systems { result.1.items ≡ self.systems }
         ensures few { length self.systems ≤ 64 }
     {
-        let Declared { subnets, systems } = self;
+        let Declared {
+            limits: _,
+            subnets,
+            systems,
+        } = self;
         (subnets, systems)
     }
 }

@@ -1,18 +1,26 @@
 use clnp_base::Octets;
+use clnp_plan::Ask;
 use nsap::Address;
+
+/// The octets of a data unit that is to be sent, in one of the two forms in which they are written.
+#[derive(Debug, Drop)]
+pub enum Body {
+    /// The octets themselves.
+    Hex(Octets),
+    /// So many octets of a pattern: that at place q is q + q / 256 + `start`, modulo 256.
+    Pattern { len: u32, start: u8 },
+}
 
 /// An event of a scenario; systems are named by their places, from 0.
 #[derive(Debug, Drop)]
 pub enum Event {
-    /// A host is asked to send a data unit, whole in one PDU, with a lifetime in ticks of 500 ms; an error report is
-    /// wanted where it is discarded, or not.
+    /// A host is asked to send a data unit.
     Send {
         system: u8,
         from: Address,
         to: Address,
-        body: Octets,
-        life: u8,
-        report: bool,
+        body: Body,
+        ask: Ask,
     },
     /// The copy with this number, from 1, is given to a system.
     Deliver {
@@ -27,15 +35,25 @@ pub enum Event {
     Lose {
         count: u32,
     },
+    /// So many ticks of 500 ms pass.
+    Tick {
+        count: u32,
+    },
+    /// A system is restarted.
+    Restart {
+        system: u8,
+    },
 }
 
 /// One move of the simulated network.
 #[derive(Clone, Copy, Debug, PartialEq, Eq)]
 pub enum Move {
-    /// The event at this place, from 0, which is neither a `Settle` nor a `Lose`.
+    /// The event at this place, from 0, which is none of `Settle`, `Lose` and `Tick`.
     One(usize),
     /// The next copy is given to each of its addressees.
     SettleOne,
     /// The next copy is passed over.
     LoseOne,
+    /// One tick passes.
+    TickOne,
 }

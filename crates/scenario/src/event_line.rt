@@ -3,14 +3,14 @@ ghost use Rattle.std.specs.Prelude.{◌≡◌, ◌<◌, ◌≤◌, map, length, 
 ghost use Rattle.std.specs.List.{position};
 ghost use Rattle.std.specs.Str.{bytes_eq};
 ghost use Rattle.clnp_base.specs.Text.{words_of};
-ghost use Rattle.scenario.specs.Events.{own_life, send_line, deliver_line, count_line, event_line, passed_by, within_counts};
+ghost use Rattle.scenario.specs.Events.{own_life, send_line, deliver_line, count_line, tick_line, restart_line, event_line};
 ghost use Rattle.scenario.specs.Words.{declared_word};
 ghost use Rattle.scenario.specs.Refusal.{Faults};
 
-use crate::code::{COUNT, DUP_NAME, SYNTAX, UNKNOWN_NAME};
+use crate::code::{DUP_NAME, SYNTAX, UNKNOWN_NAME};
 use crate::event::Event;
 use crate::fault::LineFault;
-use crate::wish::{each_once, life_in, wants_no_report, wants_whole, wish_words};
+use crate::wish::{ask_of, each_once, wish_words};
 use crate::word::{
     address_word, data_word, first_four, is_name, number_word, one_word, same, two_words, wanted,
 };
@@ -58,7 +58,7 @@ fn own_life(systems: &[SystemConfig], place: u8) -> u8
     }
 }
 
-/// `NAME FROM TO hex:DIGITS` and wishes, behind `send`.
+/// `NAME FROM TO DATA` and wishes, behind `send`.
 #[tactic(auto, unfolding(crate::specs::Events::send_line))]
 fn send_line(alloc: Global, systems: &[SystemConfig], line: &[u8]) -> Result<Event, LineFault>
     requires { length systems.now ≤ 64 }
@@ -73,15 +73,13 @@ fn send_line(alloc: Global, systems: &[SystemConfig], line: &[u8]) -> Result<Eve
     let to = address_word(to)?;
     let body = data_word(alloc, body)?;
     let wishes = wish_words(alloc, words)?;
-    wanted(wants_whole(&wishes), SYNTAX)?;
     wanted(each_once(&wishes), DUP_NAME)?;
     Ok(Event::Send {
         system,
         from,
         to,
         body,
-        life: life_in(own_life(systems, system), &wishes),
-        report: !wants_no_report(&wishes),
+        ask: ask_of(own_life(systems, system), &wishes),
     })
 }
 
@@ -109,6 +107,31 @@ fn count_line(line: &[u8]) -> Result<u32, u8>
     };
     let count = number_word(1, 100_000, count)?;
     Ok(count as u32)
+}
+
+/// `N`, behind `tick`.
+#[tactic(auto, unfolding(crate::specs::Events::tick_line))]
+fn tick_line(line: &[u8]) -> Result<u32, u8>
+    ensures { result ≡ tick_line (words_of line.now) }
+{
+    let Some(count) = one_word(line) else {
+        return Err(SYNTAX);
+    };
+    let count = number_word(1, 65_535, count)?;
+    Ok(count as u32)
+}
+
+/// `NAME`, behind `restart`.
+#[tactic(auto, unfolding(crate::specs::Events::restart_line))]
+fn restart_line(systems: &[SystemConfig], line: &[u8]) -> Result<Event, u8>
+    requires { length systems.now ≤ 64 }
+    ensures { result ≡ restart_line (map (λ system. system.name) systems.now) (words_of line.now) }
+{
+    let Some(name) = one_word(line) else {
+        return Err(SYNTAX);
+    };
+    let system = system_word(systems, name)?;
+    Ok(Event::Restart { system })
 }
 
 /// The event of a line.
@@ -142,22 +165,15 @@ pub(crate) fn event_line(
         let count = count_line(line)?;
         return Ok(Event::Lose { count });
     }
-    Err(LineFault::Code(SYNTAX))
-}
-
-/// The copies that an event settles or loses.
-pub(crate) fn passed_by(event: &Event) -> u32
-    ensures { result ≡ passed_by event.now }
-{
-    match event {
-        Event::Settle { count } | Event::Lose { count } => *count,
-        Event::Send { .. } | Event::Deliver { .. } => 0,
+    if same(keyword, b"tick") {
+        let count = tick_line(line)?;
+        return Ok(Event::Tick { count });
     }
-}
-
-/// At most 100,000 events, and 10,000,000 copies settled and lost.
-pub(crate) fn within_counts(events: u64, passed: u64) -> Result<(), u8>
-    ensures { result ≡ within_counts events passed }
-{
-    wanted(events <= 100_000 && passed <= 10_000_000, COUNT)
+    if same(keyword, b"restart") {
+        return match restart_line(systems, line) {
+            Ok(event) => Ok(event),
+            Err(code) => Err(LineFault::Code(code)),
+        };
+    }
+    Err(LineFault::Code(SYNTAX))
 }

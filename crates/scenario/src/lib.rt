@@ -2,10 +2,12 @@
 #![tactic(auto)]
 
 mod code;
+mod counts;
 mod declarations;
 mod event;
 mod event_line;
 mod fault;
+pub mod laws;
 mod plan;
 mod reader;
 mod setting;
@@ -15,7 +17,7 @@ mod tests;
 mod wish;
 mod word;
 
-pub use event::{Event, Move};
+pub use event::{Body, Event, Move};
 pub use fault::ScenarioRefusal;
 pub use plan::{Scenario, Subnet};
 pub use reader::read;

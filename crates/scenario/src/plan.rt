@@ -1,8 +1,9 @@
 //! What a scenario text says.
 ghost use Rattle.std.specs.Prelude.{◌≡◌};
+ghost use Rattle.scenario.specs.Scenario.{IsFit};
 
 use crate::event::Event;
-use clnp_plan::SystemConfig;
+use clnp_plan::{Limits, SystemConfig};
 use std::marker::Model;
 
 /// A subnetwork, named by its place among the declarations, from 0.
@@ -29,23 +30,42 @@ impl Subnet {
     }
 }
 
-/// What a text declares, and its events.
+/// What a text declares, and its events. A contract knows of each that it is fit to be run: its limits, settings and
+/// numbers are in their ranges, and no address belongs to two systems.
 #[derive(Debug, Drop)]
 pub struct Scenario {
+    pub(crate) limits: Limits,
     pub(crate) subnets: Vec<Subnet>,
     pub(crate) systems: Vec<SystemConfig>,
     pub(crate) events: Vec<Event>,
 }
 
 impl Model for Scenario {
-    ghost use Rattle.scenario.specs.Scenario.{Plan};
+    ghost use Rattle.scenario.specs.Scenario.{IsFit, Plan};
 
     ghost Value = { Plan };
 
-    ghost view = { λ s. record { subnets = s.subnets.items; systems = s.systems.items; events = s.events.items } };
+    ghost view = { λ s. record { limits = s.limits; subnets = s.subnets.items; systems = s.systems.items; events = s.events.items } };
+
+    ghost invariant = { λ s. IsFit (record { limits = s.limits; subnets = s.subnets.items; systems = s.systems.items; events = s.events.items }) };
 }
 
 impl Scenario {
+    /// What a contract knows of each scenario: it is fit to be run.
+    pub fn is_fit(&self)
+        ensures { IsFit self.now }
+    {
+        let _limits = &self.limits;
+    }
+
+    /// How long things last.
+    pub fn limits(&self) -> &Limits
+        ensures { result.now ≡ self.now.limits }
+    {
+        &self.limits
+    }
+
+    /// The subnetworks in the order of their declarations.
     pub fn subnets(&self) -> &[Subnet]
         ensures { result.now ≡ self.now.subnets }
     {

@@ -1,18 +1,21 @@
 //! The reader of scenario texts.
-ghost use Rattle.std.specs.Prelude.{◌≡◌, ◌+◌, ◌-◌, ◌^◌, ◌≤◌, ◌<◌, map, length, codes, IfOk, Ok, Err, MatchResult};
-ghost use Rattle.std.specs.List.{list_all};
+ghost use Rattle.std.specs.Prelude.{◌≡◌, ◌+◌, ◌-◌, ◌^◌, ◌≤◌, ◌<◌, true, map, length, codes, IfOk, Ok, Err, MatchResult};
+ghost use Rattle.std.specs.List.{list_all, AllByRecursion};
 ghost use Rattle.clnp_base.specs.Text.{lines_of, words_of};
+ghost use Rattle.clnp_plan.specs.Configuration.{IsSystem};
 ghost use Rattle.scenario.specs.Declarations.{declaration_line, is_complete, host_of};
-ghost use Rattle.scenario.specs.Events.{passed_by};
+ghost use Rattle.scenario.specs.Events.{counted, are_few, nothing_counted};
 ghost use Rattle.scenario.specs.Grammar.{at_line, header_from, declarations_from, nothing_after, counted_event, events_from, plan_of};
 ghost use Rattle.scenario.specs.Words.{wanted};
 ghost use Rattle.scenario.specs.Refusal.{Refuses, Faults};
 
 use crate::code::{COUNT, HEADER, SYNTAX};
+use crate::counts::Counts;
 use crate::declarations::Declared;
 use crate::event::Event;
-use crate::event_line::{event_line, passed_by, within_counts};
+use crate::event_line::event_line;
 use crate::fault::{LineFault, ScenarioRefusal};
+use crate::laws;
 use crate::plan::Scenario;
 use crate::system::System;
 use crate::word::{is_line_of, is_skipped, same};
@@ -136,33 +139,33 @@ fn nothing_after(number: u32, text: &[u8]) -> Result<(), ScenarioRefusal>
     Ok(())
 }
 
-/// The event of the line of this number, counted with the events before it and with the copies
-/// that they settle and lose.
+/// The event of the line of this number, counted with the events before it.
 #[tactic(auto, unfolding(crate::specs::Grammar::counted_event))]
 fn counted_event(
     alloc: Global,
     systems: &[SystemConfig],
     number: u32,
-    events: usize,
-    passed: u32,
+    counts: Counts,
     line: &[u8],
 ) -> Result<Event, ScenarioRefusal>
-    requires few { events < 2 ^ 32 }
+    requires few { are_few counts ≡ true }
     requires systems { length systems.now ≤ 64 }
-    ensures event { let reading = at_line number (counted_event (map (λ system. system.name) systems.now) systems.now events passed (words_of line.now)) in
+    ensures event { let reading = at_line number (counted_event (map (λ system. system.name) systems.now) systems.now counts (words_of line.now)) in
         MatchResult result (λ event. reading ≡ Ok event) (λ refusal. Refuses refusal reading) }
-    ensures passed { IfOk result (λ event. passed + passed_by event ≤ 10000000) }
+    ensures few { IfOk result (λ event. are_few (counted counts event) ≡ true) }
 {
     let event = match event_line(alloc, systems, line) {
         Ok(event) => event,
         Err(LineFault::NoMemory) => return Err(ScenarioRefusal::NoMemory),
         Err(LineFault::Code(code)) => return Err(ScenarioRefusal::BadLine { line: number, code }),
     };
-    let passed = u64::from(passed) + u64::from(passed_by(&event));
-    match within_counts(events as u64 + 1, passed) {
-        Ok(()) => Ok(event),
-        Err(code) => Err(ScenarioRefusal::BadLine { line: number, code }),
+    if !counts.with(&event).are_few() {
+        return Err(ScenarioRefusal::BadLine {
+            line: number,
+            code: COUNT,
+        });
     }
+    Ok(event)
 }
 
 /// The events of the lines from this number on, and `end`.
@@ -174,12 +177,12 @@ fn events_of(
 ) -> Result<Vec<Event>, ScenarioRefusal>
     requires few { number + length (lines_of text.now) < 2 ^ 32 }
     requires systems { length systems.now ≤ 64 }
-    ensures { let reading = events_from (map (λ system. system.name) systems.now) systems.now number 0 0 (lines_of text.now) in
+    ensures { let reading = events_from (map (λ system. system.name) systems.now) systems.now number nothing_counted (lines_of text.now) in
         MatchResult result (λ events. reading ≡ Ok events.items) (λ refusal. Refuses refusal reading) }
 {
     let mut events = Vec::new(alloc);
     let mut number = number;
-    let mut passed: u32 = 0;
+    let mut counts = Counts::nothing();
     let mut left = text;
     while let Some((line, rest)) = next_line(left) {
         let at = number;
@@ -192,8 +195,8 @@ fn events_of(
             nothing_after(number, rest)?;
             return Ok(events);
         }
-        let event = counted_event(alloc, systems, at, events.len(), passed, line)?;
-        passed += passed_by(&event);
+        let event = counted_event(alloc, systems, at, counts, line)?;
+        counts = counts.with(&event);
         events.push(event)?;
     }
     Err(ScenarioRefusal::BadLine {
@@ -204,6 +207,7 @@ fn events_of(
 
 /// The declared systems as hosts.
 fn hosts_of(alloc: Global, systems: Vec<System>) -> Result<Vec<SystemConfig>, AllocError>
+    requires { AllByRecursion IsSystem (map host_of systems.items) }
     ensures { IfOk result (λ hosts. hosts.items ≡ map host_of systems.items) }
 {
     let mut hosts = Vec::new(alloc);
@@ -224,13 +228,16 @@ pub fn read(alloc: Global, text: &[u8]) -> Result<Scenario, ScenarioRefusal>
     requires { length (lines_of text.now) < 2 ^ 32 - 1 }
     ensures { MatchResult result (λ scenario. plan_of text.now ≡ Ok scenario) (λ refusal. Refuses refusal (plan_of text.now)) }
 {
+    laws::accepted_is_fit();
     let (number, text) = header(text)?;
     let mut declared = Declared::new(alloc);
     let (number, text) = declarations(alloc, &mut declared, number, text)?;
+    let limits = declared.limits();
     let (subnets, systems) = declared.into_parts();
     let systems = hosts_of(alloc, systems)?;
     let events = events_of(alloc, systems.as_slice(), number, text)?;
     Ok(Scenario {
+        limits,
         subnets,
         systems,
         events,

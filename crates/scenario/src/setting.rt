@@ -1,14 +1,16 @@
 //! The words that a line may have in any order.
-ghost use Rattle.std.specs.Prelude.{◌≡◌, length, filter, Ok, Err, MatchResult};
+ghost use Rattle.std.specs.Prelude.{◌≡◌, ◌==◌, Ok, Err, MatchResult};
 ghost use Rattle.std.specs.List.{list_any};
 ghost use Rattle.clnp_base.specs.Text.{words_of};
-ghost use Rattle.scenario.specs.Declarations.{checksum_word, setting_word, setting_words, is_hello, is_checksum, is_life, each_once, with_setting, settings_of};
+ghost use Rattle.scenario.specs.Declarations.{checksum_word, room_word, setting_word, setting_words, is_hello, key_of, with_setting, usual_settings, settings_of};
+ghost use Rattle.scenario.specs.Words.{each_once};
 ghost use Rattle.scenario.specs.Refusal.{Faults};
 
 use crate::code::SYNTAX;
 use crate::fault::LineFault;
-use crate::word::{has_prefix, life_word, literal, same};
+use crate::word::{has_prefix, life_word, literal, number_behind, same};
 use clnp_base::next_word;
+use clnp_options::OptionList;
 use clnp_plan::Settings;
 use std::alloc::Global;
 
@@ -21,10 +23,24 @@ pub(crate) enum Setting {
     Checksum(bool),
     /// The lifetime of its units, in ticks of 500 ms.
     Life(u8),
+    /// The holding time of its redirects, in seconds.
+    RedirectHold(u16),
+    /// How many reassembly buffers it may have.
+    Slots(u16),
+    /// How many segments it may keep.
+    Segments(u16),
+    /// How many octets it may hold for reassembly.
+    Budget(u32),
+    /// How many neighbours it may keep in mind.
+    Neighbours(u16),
+    /// How many routers it may keep in mind.
+    Routers(u16),
+    /// How many redirects it may keep in mind.
+    Redirects(u16),
 }
 
 /// A wish for a unit that is sent.
-#[derive(Clone, Copy, Debug, PartialEq, Eq)]
+#[derive(Clone, Copy, Debug)]
 pub(crate) enum Wish {
     /// Its lifetime in ticks of 500 ms.
     Lasting(u8),
@@ -32,6 +48,8 @@ pub(crate) enum Wish {
     NoReport,
     /// No segmentation part.
     Whole,
+    /// The options of its header.
+    Options(OptionList),
 }
 
 /// `checksum=on` or `checksum=off`.
@@ -47,6 +65,35 @@ fn checksum_word(word: &[u8]) -> Result<Setting, u8>
     Err(SYNTAX)
 }
 
+/// A key of what a system has room for, and its number.
+#[tactic(auto, unfolding(crate::specs::Declarations::room_word))]
+fn room_word(word: &[u8]) -> Result<Setting, u8>
+    ensures { result ≡ room_word word.now }
+{
+    if has_prefix(b"slots=", word) {
+        let slots = number_behind(b"slots=", 1, 1024, word)?;
+        return Ok(Setting::Slots(slots as u16));
+    }
+    if has_prefix(b"segments=", word) {
+        let segments = number_behind(b"segments=", 1, 16_384, word)?;
+        return Ok(Setting::Segments(segments as u16));
+    }
+    if has_prefix(b"budget=", word) {
+        let budget = number_behind(b"budget=", 512, 4_194_304, word)?;
+        return Ok(Setting::Budget(budget as u32));
+    }
+    if has_prefix(b"neighbours=", word) {
+        let neighbours = number_behind(b"neighbours=", 1, 1024, word)?;
+        return Ok(Setting::Neighbours(neighbours as u16));
+    }
+    if has_prefix(b"routers=", word) {
+        let routers = number_behind(b"routers=", 1, 64, word)?;
+        return Ok(Setting::Routers(routers as u16));
+    }
+    let redirects = number_behind(b"redirects=", 1, 1024, word)?;
+    Ok(Setting::Redirects(redirects as u16))
+}
+
 /// A key and its value.
 #[tactic(auto, unfolding(crate::specs::Declarations::setting_word))]
 fn setting_word(word: &[u8]) -> Result<Setting, u8>
@@ -59,8 +106,15 @@ fn setting_word(word: &[u8]) -> Result<Setting, u8>
     if has_prefix(b"checksum=", word) {
         return checksum_word(word);
     }
-    literal(b"hello=0", word)?;
-    Ok(Setting::HelloOff)
+    if has_prefix(b"rhold=", word) {
+        let seconds = number_behind(b"rhold=", 0, 65_535, word)?;
+        return Ok(Setting::RedirectHold(seconds as u16));
+    }
+    if has_prefix(b"hello=", word) {
+        literal(b"hello=0", word)?;
+        return Ok(Setting::HelloOff);
+    }
+    room_word(word)
 }
 
 /// The settings that the words of a line give.
@@ -81,28 +135,7 @@ pub(crate) fn setting_words(alloc: Global, line: &[u8]) -> Result<Vec<Setting>, 
 fn is_hello(setting: Setting) -> bool
     ensures { result ≡ is_hello setting }
 {
-    match setting {
-        Setting::HelloOff => true,
-        Setting::Checksum(_) | Setting::Life(_) => false,
-    }
-}
-
-fn is_checksum(setting: Setting) -> bool
-    ensures { result ≡ is_checksum setting }
-{
-    match setting {
-        Setting::Checksum(_) => true,
-        Setting::HelloOff | Setting::Life(_) => false,
-    }
-}
-
-fn is_life(setting: Setting) -> bool
-    ensures { result ≡ is_life setting }
-{
-    match setting {
-        Setting::Life(_) => true,
-        Setting::HelloOff | Setting::Checksum(_) => false,
-    }
+    matches!(setting, Setting::HelloOff)
 }
 
 /// Whether hellos are switched off.
@@ -112,57 +145,99 @@ pub(crate) fn has_hello(settings: &[Setting]) -> bool
     settings.iter().any(|setting| is_hello(*setting))
 }
 
-fn hello_count(settings: &[Setting]) -> usize
-    ensures { result ≡ length (filter is_hello settings.now) }
+/// The key of a setting, by a number of its own.
+fn key_of(setting: Setting) -> u8
+    ensures { result ≡ key_of setting }
 {
-    settings
-        .iter()
-        .filter(|setting| is_hello(**setting))
-        .count()
+    match setting {
+        Setting::HelloOff => 0,
+        Setting::Checksum(_) => 1,
+        Setting::Life(_) => 2,
+        Setting::RedirectHold(_) => 3,
+        Setting::Slots(_) => 4,
+        Setting::Segments(_) => 5,
+        Setting::Budget(_) => 6,
+        Setting::Neighbours(_) => 7,
+        Setting::Routers(_) => 8,
+        Setting::Redirects(_) => 9,
+    }
 }
 
-fn checksum_count(settings: &[Setting]) -> usize
-    ensures { result ≡ length (filter is_checksum settings.now) }
+/// Whether one of the settings has this key.
+fn has_key(settings: &[Setting], key: u8) -> bool
+    ensures { result ≡ list_any (λ setting. key_of setting == key) settings.now }
 {
-    settings
-        .iter()
-        .filter(|setting| is_checksum(**setting))
-        .count()
+    settings.iter().any(|setting| key_of(*setting) == key)
 }
 
-fn life_count(settings: &[Setting]) -> usize
-    ensures { result ≡ length (filter is_life settings.now) }
-{
-    settings.iter().filter(|setting| is_life(**setting)).count()
-}
-
-/// Whether each kind of setting is there at most once.
+/// Whether each key is there at most once.
 pub(crate) fn each_once(settings: &[Setting]) -> bool
-    ensures { result ≡ each_once settings.now }
+    ensures { result ≡ each_once key_of settings.now }
 {
-    hello_count(settings) <= 1 && checksum_count(settings) <= 1 && life_count(settings) <= 1
+    match settings.split_first() {
+        Some((setting, others)) => !has_key(others, key_of(*setting)) && each_once(others),
+        None => true,
+    }
 }
 
 fn with_setting(setting: Setting, settings: Settings) -> Settings
     ensures { result ≡ with_setting setting settings }
 {
     match setting {
-        Setting::HelloOff => settings,
+        Setting::HelloOff => Settings {
+            hello: 0,
+            ..settings
+        },
         Setting::Checksum(sealed) => Settings { sealed, ..settings },
         Setting::Life(life) => Settings { life, ..settings },
+        Setting::RedirectHold(rhold) => Settings { rhold, ..settings },
+        Setting::Slots(slots) => Settings { slots, ..settings },
+        Setting::Segments(segments) => Settings {
+            segments,
+            ..settings
+        },
+        Setting::Budget(budget) => Settings { budget, ..settings },
+        Setting::Neighbours(neighbours) => Settings {
+            neighbours,
+            ..settings
+        },
+        Setting::Routers(routers) => Settings {
+            routers,
+            ..settings
+        },
+        Setting::Redirects(redirects) => Settings {
+            redirects,
+            ..settings
+        },
     }
 }
 
-/// The settings of a system: the first of a kind counts, and a kind that is missing leaves the
-/// checksum on and the lifetime 64 ticks.
+/// What a system has where no word says another value.
+fn usual_settings() -> Settings
+    ensures { result ≡ usual_settings }
+{
+    Settings {
+        hello: 60,
+        suggest: 0,
+        rhold: 120,
+        slots: 16,
+        segments: 1024,
+        budget: 262_144,
+        neighbours: 64,
+        routers: 8,
+        redirects: 64,
+        life: 64,
+        sealed: true,
+    }
+}
+
+/// The settings of a system: the first of a key counts, and a key that is missing leaves the usual
+/// value.
 pub(crate) fn settings_of(settings: &[Setting]) -> Settings
     ensures { result ≡ settings_of settings.now }
 {
     match settings.split_first() {
         Some((setting, others)) => with_setting(*setting, settings_of(others)),
-        None => Settings {
-            sealed: true,
-            life: 64,
-        },
+        None => usual_settings(),
     }
 }

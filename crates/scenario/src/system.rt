@@ -2,6 +2,7 @@
 ghost use Rattle.std.specs.Prelude.{◌≡◌, ◌==◌, ◌&&◌, ◌||◌, [], length, map, nat_eq, IfOk, MatchResult};
 ghost use Rattle.std.specs.List.{list_any};
 ghost use Rattle.std.specs.Cmp.Lexicographic.{pointwise};
+ghost use Rattle.clnp_plan.specs.Configuration.{IsSystem};
 ghost use Rattle.scenario.specs.Declarations.{is_among, with_address, with_port, is_port_zero, is_complete, host_of};
 
 use crate::fault::LineFault;
@@ -148,6 +149,7 @@ impl System {
 
     /// The system as a host.
     pub(crate) fn into_host(self, alloc: Global) -> Result<SystemConfig, AllocError>
+        requires { IsSystem (host_of self) }
         ensures { IfOk result (λ host. host ≡ host_of self) }
     {
         let ports = ports_of(alloc, &self.ports)?;

@@ -1,24 +1,33 @@
 //! The words behind the data of a `send`.
-ghost use Rattle.std.specs.Prelude.{◌≡◌, length, filter, Ok, Err, MatchResult};
+ghost use Rattle.std.specs.Prelude.{◌≡◌, ◌==◌, Ok, Err, MatchResult};
 ghost use Rattle.std.specs.List.{list_any};
 ghost use Rattle.clnp_base.specs.Text.{words_of};
-ghost use Rattle.scenario.specs.Events.{wish_word, wish_words, is_lasting, is_no_report, is_whole, each_once, life_in};
+ghost use Rattle.scenario.specs.Events.{wish_word, wish_words, is_no_report, is_whole, kind_of, life_in, options_in, ask_of};
+ghost use Rattle.scenario.specs.Words.{each_once};
 ghost use Rattle.scenario.specs.Refusal.{Faults};
 
 use crate::fault::LineFault;
 use crate::setting::Wish;
-use crate::word::{has_prefix, life_word, literal, same};
+use crate::word::{has_prefix, life_word, literal, options_word, same};
 use clnp_base::next_word;
+use clnp_options::OptionList;
+use clnp_plan::Ask;
 use std::alloc::Global;
 
-/// `life=N`, `noreport` or `whole`.
+/// `life=N`, `opt=HEX`, `noreport` or `whole`.
 #[tactic(auto, unfolding(crate::specs::Events::wish_word))]
-fn wish_word(word: &[u8]) -> Result<Wish, u8>
-    ensures { result ≡ wish_word word.now }
+fn wish_word(alloc: Global, word: &[u8]) -> Result<Wish, LineFault>
+    ensures { MatchResult result (λ wish. wish_word word.now ≡ Ok wish) (λ fault. Faults fault (wish_word word.now)) }
 {
     if has_prefix(b"life=", word) {
         let life = life_word(word)?;
         return Ok(Wish::Lasting(life));
+    }
+    if has_prefix(b"opt=", word) {
+        return match options_word(alloc, word) {
+            Ok(options) => Ok(Wish::Options(options)),
+            Err(fault) => Err(fault),
+        };
     }
     if same(word, b"noreport") {
         return Ok(Wish::NoReport);
@@ -35,86 +44,98 @@ pub(crate) fn wish_words(alloc: Global, line: &[u8]) -> Result<Vec<Wish>, LineFa
     let mut wishes = Vec::new(alloc);
     let mut left = line;
     while let Some((word, rest)) = next_word(left) {
-        let wish = wish_word(word)?;
+        let wish = wish_word(alloc, word)?;
         wishes.push(wish)?;
         left = rest;
     }
     Ok(wishes)
 }
 
-fn is_lasting(wish: Wish) -> bool
-    ensures { result ≡ is_lasting wish }
+fn is_no_report(wish: &Wish) -> bool
+    ensures { result ≡ is_no_report wish.now }
 {
-    match wish {
-        Wish::Lasting(_) => true,
-        Wish::NoReport | Wish::Whole => false,
-    }
+    matches!(wish, Wish::NoReport)
 }
 
-fn is_no_report(wish: Wish) -> bool
-    ensures { result ≡ is_no_report wish }
+fn is_whole(wish: &Wish) -> bool
+    ensures { result ≡ is_whole wish.now }
 {
-    match wish {
-        Wish::NoReport => true,
-        Wish::Lasting(_) | Wish::Whole => false,
-    }
-}
-
-fn is_whole(wish: Wish) -> bool
-    ensures { result ≡ is_whole wish }
-{
-    match wish {
-        Wish::Whole => true,
-        Wish::Lasting(_) | Wish::NoReport => false,
-    }
+    matches!(wish, Wish::Whole)
 }
 
 /// Whether the unit is to be sent whole.
-pub(crate) fn wants_whole(wishes: &[Wish]) -> bool
+fn wants_whole(wishes: &[Wish]) -> bool
     ensures { result ≡ list_any is_whole wishes.now }
 {
-    wishes.iter().any(|wish| is_whole(*wish))
+    wishes.iter().any(|wish| is_whole(wish))
 }
 
 /// Whether no error report is wanted.
-pub(crate) fn wants_no_report(wishes: &[Wish]) -> bool
+fn wants_no_report(wishes: &[Wish]) -> bool
     ensures { result ≡ list_any is_no_report wishes.now }
 {
-    wishes.iter().any(|wish| is_no_report(*wish))
+    wishes.iter().any(|wish| is_no_report(wish))
 }
 
-fn life_count(wishes: &[Wish]) -> usize
-    ensures { result ≡ length (filter is_lasting wishes.now) }
+/// The kind of a wish, by a number of its own.
+fn kind_of(wish: &Wish) -> u8
+    ensures { result ≡ kind_of wish.now }
 {
-    wishes.iter().filter(|wish| is_lasting(**wish)).count()
+    match wish {
+        Wish::Lasting(_) => 0,
+        Wish::NoReport => 1,
+        Wish::Whole => 2,
+        Wish::Options(_) => 3,
+    }
 }
 
-fn no_report_count(wishes: &[Wish]) -> usize
-    ensures { result ≡ length (filter is_no_report wishes.now) }
+/// Whether one of the wishes is of this kind.
+fn has_kind(wishes: &[Wish], kind: u8) -> bool
+    ensures { result ≡ list_any (λ wish. kind_of wish == kind) wishes.now }
 {
-    wishes.iter().filter(|wish| is_no_report(**wish)).count()
-}
-
-fn whole_count(wishes: &[Wish]) -> usize
-    ensures { result ≡ length (filter is_whole wishes.now) }
-{
-    wishes.iter().filter(|wish| is_whole(**wish)).count()
+    wishes.iter().any(|wish| kind_of(wish) == kind)
 }
 
 /// Whether each kind of wish is there at most once.
 pub(crate) fn each_once(wishes: &[Wish]) -> bool
-    ensures { result ≡ each_once wishes.now }
+    ensures { result ≡ each_once kind_of wishes.now }
 {
-    life_count(wishes) <= 1 && no_report_count(wishes) <= 1 && whole_count(wishes) <= 1
+    match wishes.split_first() {
+        Some((wish, others)) => !has_kind(others, kind_of(wish)) && each_once(others),
+        None => true,
+    }
 }
 
 /// The lifetime that is wished for, or else the system's own.
-pub(crate) fn life_in(own: u8, wishes: &[Wish]) -> u8
+fn life_in(own: u8, wishes: &[Wish]) -> u8
     ensures { result ≡ life_in own wishes.now }
 {
     match wishes.split_first() {
         Some((Wish::Lasting(life), _)) => *life,
-        Some((Wish::NoReport | Wish::Whole, others)) => life_in(own, others),
+        Some((Wish::NoReport | Wish::Whole | Wish::Options(_), others)) => life_in(own, others),
         None => own,
+    }
+}
+
+/// The options that are wished for.
+fn options_in(wishes: &[Wish]) -> OptionList
+    ensures { result ≡ options_in wishes.now }
+{
+    match wishes.split_first() {
+        Some((Wish::Options(options), _)) => *options,
+        Some((Wish::NoReport | Wish::Whole | Wish::Lasting(_), others)) => options_in(others),
+        None => OptionList::new(),
+    }
+}
+
+/// How a unit is to be sent: it is reported on and may be cut, unless a word says that it mustn't.
+pub(crate) fn ask_of(own: u8, wishes: &[Wish]) -> Ask
+    ensures { result ≡ ask_of own wishes.now }
+{
+    Ask {
+        life: life_in(own, wishes),
+        report: !wants_no_report(wishes),
+        segment: !wants_whole(wishes),
+        options: options_in(wishes),
     }
 }

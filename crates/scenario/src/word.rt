@@ -1,15 +1,17 @@
 //! The words of a line: each gives its value, or the code of what is wrong with it.
-ghost use Rattle.std.specs.Prelude.{◌≡◌, ◌≤◌, IfOk, IfSome, None, Some, Ok, Err, MatchOption, MatchResult};
+ghost use Rattle.std.specs.Prelude.{◌≡◌, ◌<◌, ◌≤◌, length, IfOk, IfSome, None, Some, Ok, Err, MatchOption, MatchResult};
 ghost use Rattle.std.specs.Str.{bytes_eq};
-ghost use Rattle.std.specs.List.{list_all};
+ghost use Rattle.std.specs.List.{list_all, list_any, position};
 ghost use Rattle.clnp_base.specs.Text.{words_of, is_digit, decimal_of};
 ghost use Rattle.scenario.specs.Grammar.{is_line_of};
-ghost use Rattle.scenario.specs.Words.{one_word, two_words, four_words, first_two, first_four, wanted, found, literal, is_letter_or_digit, begins_with_letter, is_name, is_digits, is_skipped, number_within, name_word, number_word, address_word, has_prefix, after_prefix, data_word, life_word};
+ghost use Rattle.scenario.specs.Words.{one_word, two_words, three_words, first_two, first_four, is_one_at_most, wanted, found, literal, is_letter_or_digit, begins_with_letter, is_name, is_digits, is_skipped, number_within, name_word, number_word, address_word, has_prefix, after_prefix, octets_behind, number_behind, is_colon, two_fields, pattern_word, data_word, life_word, options_read, options_word};
 ghost use Rattle.scenario.specs.Refusal.{Faults};
 
 use crate::code::{ADDRESS, MTU, NUMBER, SYNTAX, UNKNOWN_NAME};
+use crate::event::Body;
 use crate::fault::LineFault;
 use clnp_base::{Octets, decimal, next_word};
+use clnp_options::OptionList;
 use nsap::{Address, Snpa};
 use std::alloc::Global;
 
@@ -34,15 +36,24 @@ pub(crate) fn two_words(line: &[u8]) -> Option<(&[u8], &[u8])>
     Some((a, b))
 }
 
-/// The words of a line that has four words.
-pub(crate) fn four_words(line: &[u8]) -> Option<(&[u8], &[u8], &[u8], &[u8])>
-    ensures { MatchOption result (four_words (words_of line.now) ≡ None)
-        (λ words. four_words (words_of line.now) ≡ Some (words.0.now, words.1.now, words.2.now, words.3.now)) }
+/// The words of a line that has three words.
+pub(crate) fn three_words(line: &[u8]) -> Option<(&[u8], &[u8], &[u8])>
+    ensures { MatchOption result (three_words (words_of line.now) ≡ None)
+        (λ words. three_words (words_of line.now) ≡ Some (words.0.now, words.1.now, words.2.now)) }
 {
     let (a, line) = next_word(line)?;
-    let (b, line) = next_word(line)?;
-    let (c, d) = two_words(line)?;
-    Some((a, b, c, d))
+    let (b, c) = two_words(line)?;
+    Some((a, b, c))
+}
+
+/// Whether a line has no word or one.
+pub(crate) fn is_one_at_most(line: &[u8]) -> bool
+    ensures { result ≡ is_one_at_most (words_of line.now) }
+{
+    match next_word(line) {
+        Some((_, others)) => next_word(others).is_none(),
+        None => true,
+    }
 }
 
 /// The first two words of a line, and the rest of it.
@@ -248,23 +259,118 @@ fn after_prefix<'a>(prefix: &[u8], word: &'a [u8]) -> Result<&'a [u8], u8>
     }
 }
 
-/// `hex:` and an even number of hexadecimal digits: the octets that they spell.
-pub(crate) fn data_word(alloc: Global, word: &[u8]) -> Result<Octets, LineFault>
-    ensures { MatchResult result (λ octets. data_word word.now ≡ Ok octets) (λ fault. Faults fault (data_word word.now)) }
+/// The octets that an even number of hexadecimal digits behind a prefix spells.
+fn octets_behind(alloc: Global, prefix: &[u8], word: &[u8]) -> Result<Vec<u8>, LineFault>
+    ensures { let reading = octets_behind prefix.now word.now in
+        MatchResult result (λ octets. reading ≡ Ok octets.items) (λ fault. Faults fault reading) }
 {
-    let digits = after_prefix(b"hex:", word)?;
+    let digits = after_prefix(prefix, word)?;
     match hex::decode(alloc, digits) {
-        Ok(octets) => Ok(Octets::from_vec(octets)),
+        Ok(octets) => Ok(octets),
         Err(hex::FromHexError::OutOfMemory) => Err(LineFault::NoMemory),
         Err(_) => Err(LineFault::Code(ADDRESS)),
     }
+}
+
+/// A decimal behind a prefix, from `low` to `high`.
+pub(crate) fn number_behind(prefix: &[u8], low: u64, high: u64, word: &[u8]) -> Result<u64, u8>
+    ensures number { result ≡ number_behind prefix.now low high word.now }
+    ensures within { IfOk result (λ n. n ≤ high) }
+{
+    let digits = after_prefix(prefix, word)?;
+    number_word(low, high, digits)
+}
+
+fn is_colon(c: u8) -> bool
+    ensures { result ≡ is_colon c }
+{
+    c == b':'
+}
+
+/// Whether a `:` stands in a text.
+fn has_colon(text: &[u8]) -> bool
+    ensures { result ≡ list_any is_colon text.now }
+{
+    text.iter().any(|c| is_colon(*c))
+}
+
+/// The place of the first `:`.
+fn colon_place(text: &[u8]) -> Option<usize>
+    ensures place { result ≡ position is_colon text.now }
+    ensures within { IfSome result (λ at. at < length text.now) }
+{
+    text.iter().position(|c| is_colon(*c))
+}
+
+/// The two fields into which a text is cut by its only `:`.
+fn two_fields(text: &[u8]) -> Option<(&[u8], &[u8])>
+    ensures { MatchOption result (two_fields text.now ≡ None)
+        (λ fields. two_fields text.now ≡ Some (fields.0.now, fields.1.now)) }
+{
+    let at = colon_place(text)?;
+    let (first, _) = text.split_at(at);
+    let (_, second) = text.split_at(at + 1);
+    if has_colon(second) {
+        return None;
+    }
+    Some((first, second))
+}
+
+/// `pat:`, how many octets, `:` and where the pattern starts.
+fn pattern_word(word: &[u8]) -> Result<Body, u8>
+    ensures { MatchResult result (λ body. pattern_word word.now ≡ Ok body) (λ code. pattern_word word.now ≡ Err code) }
+{
+    let text = after_prefix(b"pat:", word)?;
+    let Some((len, start)) = two_fields(text) else {
+        return Err(SYNTAX);
+    };
+    let len = number_word(0, 70_000, len)? as u32;
+    let start = number_word(0, 255, start)? as u8;
+    Ok(Body::Pattern { len, start })
+}
+
+/// The octets of a data unit, in one of their two forms.
+pub(crate) fn data_word(alloc: Global, word: &[u8]) -> Result<Body, LineFault>
+    ensures { MatchResult result (λ body. data_word word.now ≡ Ok body) (λ fault. Faults fault (data_word word.now)) }
+{
+    if has_prefix(b"pat:", word) {
+        return match pattern_word(word) {
+            Ok(body) => Ok(body),
+            Err(code) => Err(LineFault::Code(code)),
+        };
+    }
+    let octets = octets_behind(alloc, b"hex:", word)?;
+    Ok(Body::Hex(Octets::from_vec(octets)))
 }
 
 /// `life=` and a decimal from 1 to 255.
 pub(crate) fn life_word(word: &[u8]) -> Result<u8, u8>
     ensures { result ≡ life_word word.now }
 {
-    let digits = after_prefix(b"life=", word)?;
-    let life = number_word(1, 255, digits)?;
+    let life = number_behind(b"life=", 1, 255, word)?;
     Ok(life as u8)
+}
+
+/// The options that octets spell, as a data unit's header may have them.
+fn options_read(octets: &[u8]) -> Result<OptionList, u8>
+    ensures { result ≡ options_read octets.now }
+{
+    if octets.len() > 254 {
+        return Err(ADDRESS);
+    }
+    match OptionList::from_bytes(octets) {
+        Ok(options) => Ok(options),
+        Err(_) => Err(ADDRESS),
+    }
+}
+
+/// `opt=` and the octets of options, in hexadecimal digits.
+pub(crate) fn options_word(alloc: Global, word: &[u8]) -> Result<OptionList, LineFault>
+    ensures { MatchResult result (λ options. options_word word.now ≡ Ok options) (λ fault. Faults fault (options_word word.now)) }
+{
+    let octets = octets_behind(alloc, b"opt=", word)?;
+    match options_read(&octets) {
+        Ok(options) => Ok(options),
+        Err(code) => Err(LineFault::Code(code)),
+    }
 }

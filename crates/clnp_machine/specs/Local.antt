@@ -1,0 +1,214 @@
+-- What a system does at its own addresses, be it a host or a router (ISO 8473, sections 6.1, 6.2, 6.8 and 6.9).
+use Rattle.std.specs.Prelude.{ℕ, zero, suc, ◌+◌, ◌-◌, ◌==◌, ◌&&◌, ◌||◌, not, nat_lt, Bool, if◌then◌else◌, List, [], ◌∷◌, ◌++◌, length, slice_index, Option, None, Some, option_map, is_none}
+use Rattle.std.specs.List.{list_any}
+use Rattle.std.specs.Str.{bytes_eq}
+use Rattle.clnp_options.specs.Parameter.{parameters}
+use Rattle.pdu_header.specs.declared.kind.Kind.{Kind}
+use Rattle.pdu_header.specs.Spelling.{header_length, type_code}
+use Rattle.reassembly.specs.Arrival.{Arrival}
+use Rattle.reassembly.specs.Buffer as buffer
+use Rattle.reassembly.specs.Buffer.{Answer, Buffer}
+use Rattle.clnp_plan.specs.declared.ask.Ask.{Ask}
+use Rattle.clnp_plan.specs.declared.note.Note.{Note}
+use Rattle.clnp_plan.specs.declared.note.Note.TheVariants as note
+use Rattle.clnp_plan.specs.declared.note.Why.TheVariants as why
+use Rattle.clnp_machine.specs.Identifiers as ids
+use Rattle.clnp_machine.specs.Identifiers.{Identifiers, NotDrawn, IsQuiet, IsBusy, not_drawn}
+use Rattle.clnp_machine.specs.Unit.{DeclaredAt, Unit, Packet, value_of, wire, whole_packet}
+use Rattle.clnp_machine.specs.System.{SystemState, next_number, table_limits}
+
+-- it sends a unit that it made, or notes something
+pub data Action : Type 0 where
+  Sends : (unit : Unit) → Action
+  Tells : (told : Note) → Action
+
+-- the state after it, and what it does, in order
+pub record Deed : Type 0 where
+  pub after : SystemState
+  pub actions : List Action
+
+-- nothing changes but that something is noted
+abbrev pub tells : SystemState → List Action → Deed
+tells s actions = record { after = s; actions = actions }
+
+-- one deed, and then the next
+abbrev pub and_then : Deed → (SystemState → Deed) → Deed
+and_then deed next = record { after = (next deed.after).after; actions = deed.actions ++ (next deed.after).actions }
+
+-- whether an address is one of the system's
+abbrev pub is_own : SystemState → List ℕ → Bool
+is_own s address = list_any (λ own. bytes_eq own address) s.configuration.addresses
+
+-- Units that it makes.
+
+-- the most octets that a unit may have
+abbrev pub most_octets : ℕ
+most_octets = 64512
+
+-- the identifier of a unit that may be segmented, and of no other
+abbrev pub identifier_for : SystemState → Bool → Option ℕ
+identifier_for s segment = if segment then Some (ids.next s.identifiers) else None
+
+-- the unit that is made where it isn't refused
+abbrev pub unit_of : SystemState → Kind → (from to octets : List ℕ) → Ask → Unit
+unit_of s kind from to octets ask =
+    let made : ℕ → Unit = λ total. record {
+      maker = DeclaredAt s.place;
+      number = next_number s;
+      made = s.moment;
+      kind = kind;
+      report = ask.report;
+      sealed = s.configuration.settings.sealed;
+      source = from;
+      destination = to;
+      identifier = identifier_for s ask.segment;
+      options = parameters ask.options;
+      lifetime = ask.life;
+      first_position = 0;
+      total = total;
+      octets = octets;
+    } in made (header_length (value_of (whole_packet (made 0))) + length octets)
+
+-- how many octets the header of a unit has
+abbrev pub header_size : Unit → ℕ
+header_size u = header_length (value_of (whole_packet u))
+
+abbrev pub not_drawn_note : NotDrawn → Note
+not_drawn_note (IsQuiet until) = note.Refused why.Quiet until
+not_drawn_note (IsBusy used) = note.Refused why.IdsBusy used
+
+-- no identifier can be drawn for a unit that needs one
+abbrev pub identifier_refusal : SystemState → Option ℕ → Option Note
+identifier_refusal s None = None
+identifier_refusal s (Some identifier) = option_map not_drawn_note (not_drawn s.moment s.identifiers)
+
+-- Why a unit isn't made, with the number that is noted beside it: the first of these that holds. Its source isn't one of
+-- the system's addresses; it has too many octets; its header has; no identifier can be drawn for it.
+abbrev pub refusal : SystemState → Unit → Option Note
+refusal s u =
+    if not (is_own s u.source) then Some (note.Refused why.NotMine 0)
+    else if nat_lt most_octets (length u.octets) then Some (note.Refused why.TooLong (length u.octets))
+    else if nat_lt 254 (header_size u) then Some (note.Refused why.TooLong (header_size u))
+    else identifier_refusal s u.identifier
+
+-- the identifiers once a unit was made
+abbrev pub with_use : SystemState → Option ℕ → Identifiers
+with_use s None = s.identifiers
+with_use s (Some identifier) = ids.after_use s.moment s.identifiers
+
+abbrev pub sent_note : Unit → Note
+sent_note u = note.Sent u.kind u.number u.identifier u.source u.destination (length u.octets)
+
+-- the unit is made, noted and sent
+abbrev pub makes : SystemState → Unit → Deed
+makes s u =
+    record {
+      after = record s { count = u.number; identifiers = with_use s u.identifier };
+      actions = Tells (sent_note u) ∷ Sends u ∷ [];
+    }
+
+-- a refused unit leaves nothing but its note
+abbrev pub unless_refused : Option Note → SystemState → Unit → Deed
+unless_refused (Some refused) s u = tells s (Tells refused ∷ [])
+unless_refused None s u = makes s u
+
+-- a unit of these octets is asked for
+abbrev pub make : SystemState → Kind → (from to octets : List ℕ) → Ask → Deed
+make s kind from to octets ask = unless_refused (refusal s (unit_of s kind from to octets ask)) s (unit_of s kind from to octets ask)
+
+-- Packets for its own addresses.
+
+-- whether a packet is all of its unit
+abbrev pub is_all : Packet → Bool
+is_all p = is_none p.unit.identifier || ((p.offset == 0) && not (value_of p).more)
+
+abbrev pub identifier_in : Option ℕ → ℕ
+identifier_in None = 0
+identifier_in (Some identifier) = identifier
+
+-- a segment, as it is offered to the buffers, with the octets that follow its PDU in its frame
+abbrev pub offered : Packet → List ℕ → Arrival Packet
+offered p following =
+    record {
+      key = record { from = p.unit.source; to = p.unit.destination; id = identifier_in p.unit.identifier };
+      shape = record { total = p.unit.total; head_len = header_length (value_of p); kind = type_code p.unit.kind };
+      offset = p.offset;
+      len = p.length;
+      size = length (wire p ++ following);
+      lifetime = p.lifetime;
+      carried = p;
+    }
+
+-- the octet at a place of the data of the packet's unit
+abbrev pub octet_of : Arrival Packet → ℕ → ℕ
+octet_of arrival place = slice_index arrival.carried.unit.octets (place - arrival.carried.unit.first_position)
+
+-- the data of the unit whose buffer it is
+abbrev pub data_in : Option (Buffer Packet) → List ℕ
+data_in None = []
+data_in (Some whole) = buffer.data_of octet_of whole
+
+abbrev pub discards : (reason : ℕ) → List Action
+discards reason = Tells (note.Discard reason 0) ∷ []
+
+-- what comes of a segment, where the buffers are these once it was kept
+abbrev pub takes_in : SystemState → Arrival Packet → List (Buffer Packet) → Answer → Deed
+takes_in s arrival kept buffer.Held =
+    record { after = record s { buffers = kept }; actions = Tells (note.Held arrival.key.id arrival.offset (buffer.held kept)) ∷ [] }
+takes_in s arrival kept buffer.Whole =
+    record {
+      after = record s { buffers = buffer.without arrival.key kept };
+      actions = Tells (note.Got arrival.key.from arrival.key.to (data_in (buffer.buffer_of arrival.key kept))) ∷ [];
+    }
+takes_in s arrival kept (buffer.Interference there other) = tells s (Tells (note.Interference arrival.key.id) ∷ discards 0xC0)
+takes_in s arrival kept buffer.Repeat = tells s (Tells (note.Repeat arrival.key.id arrival.offset) ∷ [])
+takes_in s arrival kept (buffer.NoSlot live) = tells s (Tells (note.NoSlot live) ∷ discards 0x03)
+takes_in s arrival kept (buffer.Crowded held size) = tells s (Tells (note.Crowded held size) ∷ discards 0x03)
+takes_in s arrival kept (buffer.Many segments) = tells s (Tells (note.Many segments) ∷ discards 0x03)
+
+-- a segment is offered to the buffers
+abbrev pub offer : SystemState → Arrival Packet → Deed
+offer s arrival =
+    takes_in s arrival (buffer.after (table_limits s) s.moment arrival s.buffers)
+    (buffer.answer (table_limits s) s.moment arrival s.buffers)
+
+-- a packet for one of the system's addresses comes: a whole unit is handed up, a segment is offered to the buffers
+abbrev pub receive : SystemState → Packet → (following : List ℕ) → Deed
+receive s p following =
+    if is_all p then tells s (Tells (note.Got p.unit.source p.unit.destination (value_of p).body) ∷ [])
+    else offer s (offered p following)
+
+-- Buffers whose time has ended.
+
+-- the packet at the beginning of the unit, if one came, is discarded: its lifetime expired in reassembly
+abbrev pub discards_first : Option Packet → List Action
+discards_first None = []
+discards_first (Some p) = discards 0xA1
+
+-- a buffer is taken out
+abbrev pub gives_up : SystemState → Buffer Packet → Deed
+gives_up s ended =
+    record {
+      after = record s { buffers = buffer.without ended.key s.buffers };
+      actions = Tells (note.Expired ended.key.id (buffer.held (buffer.without ended.key s.buffers))) ∷ discards_first (buffer.first_carried ended);
+    }
+
+-- the buffers that are due are taken out, one after another, so many at most
+abbrev pub give_up_due : Option (Buffer Packet) → SystemState → (SystemState → Deed) → Deed
+give_up_due None s next = tells s []
+give_up_due (Some ended) s next = and_then (gives_up s ended) next
+
+abbrev pub expire : ℕ → SystemState → Deed
+expire zero s = tells s []
+expire (suc most) s = give_up_due (buffer.due s.moment s.buffers) s (expire most)
+
+-- a moment has come
+abbrev pub at_moment : ℕ → SystemState → SystemState
+at_moment now s = record s { moment = now }
+
+abbrev pub tick : SystemState → ℕ → Deed
+tick s now = expire (length s.buffers) (at_moment now s)
+
+-- all that it keeps is forgotten, and it is quiet as long as an identifier rests; the count of its units goes on
+abbrev pub restarted : SystemState → SystemState
+restarted s = record s { identifiers = ids.restarted s.moment s.identifiers; buffers = [] }

@@ -1,0 +1,91 @@
+-- What holds of each buffer once a segment was offered.
+use Rattle.std.proofs.Common.{◌≡◌, subst, ℕ, ◌+◌, ◌≤◌, inl, inr, Bool, true, false, cond, not, List, [], ◌∷◌, ◌++◌, length, Option, None, Some, arith}
+use Rattle.std.specs.Prelude.{◌&&◌, is_none, nat_le, nat_lt}
+use Rattle.std.specs.List.{AllByRecursion, find}
+use Rattle.std.proofs.lemmas.Bool.{cases_Bool}
+use Rattle.std.proofs.lemmas.Option.{none-some, same_Some}
+use Rattle.reassembly.specs.declared.table.TableLimits.{TableLimits}
+use Rattle.reassembly.specs.Arrival.{Arrival, are_covered, same_key}
+use Rattle.reassembly.specs.Buffer.{Answer, Buffer, Crowded, Held, Interference, Many, NoSlot, Repeat, Whole, after, answer, answer_of, buffer_of, clashes, held, is_whole_in, kept, kept_in, opened_by, refusal, with_kept, without}
+use Rattle.reassembly.proofs.LawKept.{held-with_kept, kept_or_not, may_be_kept}
+use Rattle.reassembly.proofs.Removing.{AllByRecursion-filter}
+use Rattle.reassembly.proofs.SameKey.{same_key-refl}
+
+pub find_passes : {X : Type 0} (p : X → Bool) (xs : List X) (x : X) → find p xs ≡ Some x → p x ≡ true
+find_passes p [] x e = absurd (none-some x e)
+find_passes p (y ∷ ys) x e =
+    elim (cases_Bool (p y)) [
+      | inl t ↦ subst (λ z. p z ≡ true) (same_Some y x (rw t at e)) t
+      | inr f ↦ find_passes p ys x (rw f at e)
+    ]
+
+-- an answer that tells of no interference
+abbrev pub TellsNoInterference : Answer → Type 0
+TellsNoInterference (Interference there other) = ⊥
+TellsNoInterference _ = Unit {0}
+
+abbrev NoneInterferes : Option Answer → Type 0
+NoneInterferes None = Unit {0}
+NoneInterferes (Some told) = TellsNoInterference told
+
+cond_without : (test : Bool) (told : Answer) (others : Option Answer) → TellsNoInterference told → NoneInterferes others
+    → NoneInterferes (cond test (Some told) others)
+cond_without true told others here there = here
+cond_without false told others here there = there
+
+whole_or_held : (whole : Bool) → TellsNoInterference (cond whole Whole Held)
+whole_or_held true = tt
+whole_or_held false = tt
+
+module _ {C : Type 0} (limits : TableLimits) (moment : ℕ) (arrival : Arrival C) where
+  refusal_without : (buffers : List (Buffer C)) → clashes (buffer_of arrival.key buffers) arrival.shape ≡ false → NoneInterferes (refusal limits arrival buffers)
+  refusal_without buffers fits =
+      rw fits
+      (cond_without (are_covered (kept_in (buffer_of arrival.key buffers)) arrival.offset arrival.len) Repeat _ tt
+      (cond_without (is_none (buffer_of arrival.key buffers) && nat_le limits.slots (length buffers)) (NoSlot (length buffers)) _ tt
+      (cond_without (nat_lt limits.budget (held buffers + arrival.size)) (Crowded (held buffers) arrival.size) _ tt
+      (cond_without (nat_le limits.segments (kept buffers)) (Many (kept buffers)) None tt tt))))
+
+  answer_by : (refused : Option Answer) (later : List (Buffer C)) → NoneInterferes refused → TellsNoInterference (answer_of refused arrival.key later)
+  answer_by None later none = whole_or_held (is_whole_in (buffer_of arrival.key later))
+  answer_by (Some told) later none = none
+
+  -- where the buffer of its key is one of its shape
+  pub answer_without : (buffers : List (Buffer C)) → clashes (buffer_of arrival.key buffers) arrival.shape ≡ false
+      → TellsNoInterference (answer limits moment arrival buffers)
+  answer_without buffers fits =
+      answer_by (refusal limits arrival buffers) (with_kept limits moment arrival buffers) (refusal_without buffers fits)
+
+  module _ (P : Buffer C → Type 0) where
+    -- P holds of the new buffer and of that in which the segment is kept
+    pub record KeptIn : Type 0 where
+      pub new : P (opened_by limits moment arrival)
+      pub more : (buffer : Buffer C) → P buffer → same_key buffer.key arrival.key ≡ true → P (record buffer { kept = buffer.kept ++ arrival ∷ [] })
+
+    pub all_with_kept : KeptIn → (buffers : List (Buffer C)) → AllByRecursion P buffers → AllByRecursion P (with_kept limits moment arrival buffers)
+    all_with_kept keeps [] all = (keeps.new, tt)
+    all_with_kept keeps (buffer ∷ others) all =
+        elim (cases_Bool (same_key buffer.key arrival.key)) [
+          | inl same ↦ rw same (keeps.more buffer all.0 same, all.1)
+          | inr other ↦ rw other (all.0, all_with_kept keeps others all.1)
+        ]
+
+    pub all_after : KeptIn → (buffers : List (Buffer C)) → AllByRecursion P buffers → AllByRecursion P (after limits moment arrival buffers)
+    all_after keeps buffers all =
+        kept_or_not (AllByRecursion P) (refusal limits arrival buffers) buffers (with_kept limits moment arrival buffers) all
+        (λ kept. all_with_kept keeps buffers all)
+
+  pub held_after : (buffers : List (Buffer C)) → held buffers ≤ limits.budget → held (after limits moment arrival buffers) ≤ limits.budget
+  held_after buffers within =
+      kept_or_not (λ later. held later ≤ limits.budget) (refusal limits arrival buffers) buffers (with_kept limits moment arrival buffers) within
+      (λ e. let more = held-with_kept limits moment arrival buffers in let room = (may_be_kept limits arrival buffers e).budget in omega arith)
+
+  -- the buffers without that in which the segment was kept are some of those that were there
+  pub others_with_kept : (P : Buffer C → Type 0) (buffers : List (Buffer C)) → AllByRecursion P buffers
+      → AllByRecursion P (without arrival.key (with_kept limits moment arrival buffers))
+  others_with_kept P [] all = rw (same_key-refl arrival.key) tt
+  others_with_kept P (buffer ∷ others) all =
+      elim (cases_Bool (same_key buffer.key arrival.key)) [
+        | inl same ↦ rw (same, same) (AllByRecursion-filter (λ b. not (same_key b.key arrival.key)) P P (λ b t h. h) others all.1)
+        | inr other ↦ rw (other, other) (all.0, others_with_kept P others all.1)
+      ]

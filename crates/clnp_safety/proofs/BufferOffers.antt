@@ -1,0 +1,134 @@
+-- A segment that is offered belongs to the unit whose buffer has its key.
+use Rattle.std.proofs.Common.{◌≡◌, ◌∙◌, sym, ap, refl, ℕ, ◌+◌, ◌<◌, ◌≤◌, inl, inr, Bool, true, false, not, List, [], ◌∷◌, ◌++◌, Option, None, Some, arith}
+use Rattle.std.specs.Prelude.{◌==◌, ◌&&◌}
+use Rattle.std.specs.List.{AllByRecursion, Contains}
+use Rattle.std.proofs.lemmas.Bool.{and_from, eq-eqb}
+use Rattle.std.proofs.lemmas.List.Elements.{All-contains, All-from_recursion}
+use Rattle.clnp_plan.specs.Configuration.{AreLimits}
+use Rattle.scenario.specs.Scenario.{Plan}
+use Rattle.pdu_header.specs.Spelling.{type_code}
+use Rattle.reassembly.specs.declared.segment.Shape.{Shape}
+use Rattle.reassembly.specs.declared.table.TableLimits.{TableLimits}
+use Rattle.reassembly.specs.Arrival.{same_key, same_shape}
+use Rattle.reassembly.specs.Buffer.{Buffer, buffer_of, clashes, opened_by}
+use Rattle.reassembly.proofs.Removing.{AllByRecursion-find}
+use Rattle.reassembly.proofs.SameKey.{same_from_same_key}
+use Rattle.clnp_machine.specs.Unit as unit
+use Rattle.clnp_machine.specs.Unit.{Packet, value_of}
+use Rattle.clnp_machine.specs.Local.{header_size, identifier_in, offered}
+use Rattle.clnp_network.specs.Run.{Entry}
+use Rattle.clnp_safety.specs.Invariant.{BufferIsSound, IsOfUnit, PacketIsSound, UnitIsSound, UnitsAreSound}
+use Rattle.clnp_safety.proofs.BufferLists.{all_push}
+use Rattle.clnp_safety.proofs.BufferUnits.{header_of_unit, same_unit}
+use Rattle.clnp_safety.proofs.BufferKept.{KeptIn, find_passes}
+
+pub unit_sound : (plan : Plan) (past : List Entry) (now : ℕ) (units : List unit.Unit) (u : unit.Unit) → UnitsAreSound plan past now units
+    → Contains units u → UnitIsSound plan past now u
+unit_sound plan past now units u sound within =
+    All-contains (UnitIsSound plan past now) units u (All-from_recursion (UnitIsSound plan past now) units sound.each) within
+
+same_shape-like : (a b : Shape) → a ≡ b → same_shape a b ≡ true
+same_shape-like a b e =
+    and_from (a.total == b.total) (a.head_len == b.head_len && (a.kind == b.kind)) (eq-eqb a.total b.total (ap (λ shape. shape.total) e))
+    (and_from (a.head_len == b.head_len) (a.kind == b.kind) (eq-eqb a.head_len b.head_len (ap (λ shape. shape.head_len) e))
+    (eq-eqb a.kind b.kind (ap (λ shape. shape.kind) e)))
+
+-- the shape of a unit
+abbrev unit_shape : unit.Unit → Shape
+unit_shape u = record { total = u.total; head_len = header_size u; kind = type_code u.kind }
+
+shape_offered : (p : Packet) → p.options ≡ p.unit.options → (offered p []).shape ≡ unit_shape p.unit
+shape_offered p options = ap (λ n. record { total = p.unit.total; head_len = n; kind = type_code p.unit.kind }) (header_of_unit p options)
+
+-- a buffer that is sound, and isn't due
+pub record IsLive (plan : Plan) (units : List unit.Unit) (now : ℕ) (buffer : Buffer Packet) : Type 0 where
+  pub sound : BufferIsSound plan units buffer
+  pub lasts : now < buffer.deadline
+
+module _ (plan : Plan) (limits : AreLimits plan.limits) (past : List Entry) (now : ℕ) (units : List unit.Unit) (made : UnitsAreSound plan past now units)
+    (p : Packet) (packet : PacketIsSound units p) (young : now ≤ p.unit.made + plan.limits.age) (identifier : ℕ)
+    (identified : p.unit.identifier ≡ Some identifier) where
+  -- a unit that was made so long before or after it isn't that of a buffer that lasts
+  not_another : (buffer : Buffer Packet) (v : unit.Unit) → Contains units v → now < buffer.deadline
+      → buffer.opened ≤ v.made + plan.limits.age → buffer.deadline ≤ buffer.opened + plan.limits.hold
+      → (p.unit.made + plan.limits.reuse ≤ v.made → ⊥) × (v.made + plan.limits.reuse ≤ p.unit.made → ⊥)
+  not_another buffer v within lasts opened deadline =
+      let rests = limits.rests in
+      let hold = limits.hold.least in
+      let before = (unit_sound plan past now units p.unit made packet.unit).made in
+      let other = (unit_sound plan past now units v made within).made in
+      ((λ e. omega arith), (λ e. omega arith))
+
+  pub unit_in : (buffer : Buffer Packet) (live : IsLive plan units now buffer) → same_key buffer.key (offered p []).key ≡ true
+      → live.sound.unit ≡ p.unit
+  unit_in buffer live same =
+      let v = live.sound.unit in
+      let keys : record { from = v.source; to = v.destination; id = live.sound.identifier } ≡ (offered p []).key
+      = sym live.sound.key ∙ same_from_same_key buffer.key (offered p []).key same in
+      let number : live.sound.identifier ≡ identifier = ap (λ key. key.id) keys ∙ ap identifier_in identified in
+      let apart = not_another buffer v live.sound.made live.lasts live.sound.opened live.sound.deadline in
+      elim (same_unit plan.limits.reuse units made.rest v p.unit live.sound.made packet.unit (ap (λ key. key.from) keys) identifier (live.sound.identified ∙ ap Some number) identified) [
+        | inl one ↦ one
+        | inr (inl before) ↦ absurd (apart.1 before)
+        | inr (inr behind) ↦ absurd (apart.0 behind)
+      ]
+
+  shape_in_buffer : (buffer : Buffer Packet) → IsLive plan units now buffer → same_key buffer.key (offered p []).key ≡ true
+      → buffer.shape ≡ (offered p []).shape
+  shape_in_buffer buffer live same =
+      live.sound.shape ∙ ap unit_shape (unit_in buffer live same) ∙ sym (shape_offered p packet.options)
+
+  clashes_not : (found : Option (Buffer Packet))
+      → ((buffer : Buffer Packet) → found ≡ Some buffer → buffer.shape ≡ (offered p []).shape) → clashes found (offered p []).shape ≡ false
+  clashes_not None shapes = refl
+  clashes_not (Some buffer) shapes =
+      ap not (same_shape-like buffer.shape (offered p []).shape (shapes buffer refl))
+
+  -- the buffer of its key is one of its shape
+  pub clashes_with_none : (buffers : List (Buffer Packet)) → AllByRecursion (IsLive plan units now) buffers
+      → clashes (buffer_of (offered p []).key buffers) (offered p []).shape ≡ false
+  clashes_with_none buffers live =
+      let has_key : Buffer Packet → Bool = λ buffer. same_key buffer.key (offered p []).key in
+      clashes_not (buffer_of (offered p []).key buffers)
+      (λ buffer found. shape_in_buffer buffer (AllByRecursion-find (IsLive plan units now) has_key buffers buffer found live) (find_passes has_key buffers buffer found))
+
+  of_unit : (v : unit.Unit) → v ≡ p.unit → IsOfUnit units v (offered p [])
+  of_unit v same = record { packet = packet; unit = sym same; offered = refl }
+
+  module _ (table : TableLimits) (hold : table.hold ≡ plan.limits.hold) (moment : ℕ) (at : moment ≡ now) (alive : 1 ≤ p.lifetime) where
+    opened_is_live : IsLive plan units now (opened_by table moment (offered p []))
+    opened_is_live = record {
+      sound = record {
+        unit = p.unit;
+        made = packet.unit;
+        identifier = identifier;
+        identified = identified;
+        key = ap (λ n. record { from = p.unit.source; to = p.unit.destination; id = n }) (ap identifier_in identified);
+        shape = shape_offered p packet.options;
+        opened = omega arith;
+        deadline = omega arith;
+        kept = (of_unit p.unit refl, tt);
+      };
+      lasts = let least = limits.hold.least in omega arith;
+    }
+
+    more_is_live : (buffer : Buffer Packet) → IsLive plan units now buffer → same_key buffer.key (offered p []).key ≡ true
+        → IsLive plan units now (record buffer { kept = buffer.kept ++ offered p [] ∷ [] })
+    more_is_live buffer live same = record {
+      sound = record {
+        unit = live.sound.unit;
+        made = live.sound.made;
+        identifier = live.sound.identifier;
+        identified = live.sound.identified;
+        key = live.sound.key;
+        shape = live.sound.shape;
+        opened = live.sound.opened;
+        deadline = live.sound.deadline;
+        kept = all_push (IsOfUnit units live.sound.unit) buffer.kept (offered p []) live.sound.kept
+            (of_unit live.sound.unit (unit_in buffer live same));
+      };
+      lasts = live.lasts;
+    }
+
+    pub stay_live : KeptIn table moment (offered p []) (IsLive plan units now)
+    stay_live = record { new = opened_is_live; more = more_is_live }

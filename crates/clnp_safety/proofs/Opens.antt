@@ -1,0 +1,58 @@
+-- The world of a scenario's declarations is sound: nothing is sent yet, and nothing is on its way.
+use Rattle.std.proofs.Common.{◌≡◌, ℕ, zero, suc, ◌+◌, List, [], ◌∷◌, length, refl, ap, subst, arith}
+use Rattle.std.specs.Prelude.{slice_get, Some}
+use Rattle.clnp_plan.specs.Configuration.{SystemConfiguration}
+use Rattle.clnp_plan.specs.declared.config.Limits.{Limits}
+use Rattle.scenario.specs.Scenario.{Plan}
+use Rattle.clnp_machine.specs.System.{SystemState, first_state}
+use Rattle.clnp_network.specs.World.{states_from, first_world}
+use Rattle.clnp_safety.specs.Invariant.{SystemIsSound, WorldIsSound}
+
+length-states_from : (limits : Limits) (from : ℕ) (systems : List SystemConfiguration) → length (states_from limits from systems) ≡ length systems
+length-states_from limits from [] = refl
+length-states_from limits from (system ∷ systems) = ap suc (length-states_from limits (from + 1) systems)
+
+-- the system at a place at the start
+record IsOpened (limits : Limits) (systems : List SystemConfiguration) (place at : ℕ) (s : SystemState) : Type 0 where
+  configuration : SystemConfiguration
+  declared : slice_get systems place ≡ Some configuration
+  state : first_state at configuration limits 0 0 ≡ s
+
+opened : (limits : Limits) (from : ℕ) (systems : List SystemConfiguration) (place at : ℕ) (s : SystemState) → from + place ≡ at
+    → slice_get (states_from limits from systems) place ≡ Some s
+    → IsOpened limits systems place at s
+opened limits from [] place at s e there = absurd (cc)
+opened limits from (system ∷ systems) zero at s e there =
+    let same : from ≡ at = omega arith in
+    record { configuration = system; declared = refl; state = subst (λ n. first_state n system limits 0 0 ≡ s) same (cc) }
+opened limits from (system ∷ systems) (suc place) at s e there =
+    let rest = opened limits (from + 1) systems place at s (omega arith) there in
+    record { configuration = rest.configuration; declared = rest.declared; state = rest.state }
+
+first_is_sound : (plan : Plan) (place : ℕ) (configuration : SystemConfiguration) → slice_get plan.systems place ≡ Some configuration
+    → SystemIsSound plan [] 0 place (first_state place configuration plan.limits 0 0)
+first_is_sound plan place configuration declared = record {
+  stands_at = refl;
+  declared = declared;
+  hold = refl;
+  moment = refl;
+  reuse = refl;
+  uses = record { until_now = tt; in_order = λ i j d below within. absurd (omega arith) };
+  used = λ u there. let none = there.1 in absurd (omega arith);
+  buffers = tt;
+  not_due = tt;
+  not_whole = tt;
+  budget = omega arith;
+}
+
+pub first_world_is_sound : (plan : Plan) → WorldIsSound plan [] [] (first_world plan)
+first_world_is_sound plan = record {
+  made = record { each = tt; rest = λ i j d below within. absurd (omega arith) };
+  copies = tt;
+  systems = record {
+    number = length-states_from plan.limits 0 plan.systems;
+    each = λ place s there.
+        let here = opened plan.limits 0 plan.systems place place s (omega arith) there in
+        subst (SystemIsSound plan [] 0 place) here.state (first_is_sound plan place here.configuration here.declared);
+  };
+}

@@ -1,0 +1,110 @@
+-- Uses of identifiers: where one may be drawn, each earlier use of it is long ago.
+use Rattle.std.proofs.Common.{◌≡◌, ℕ, zero, suc, ◌+◌, ◌<◌, ◌≤◌, cond, inl, inr, List, [], ◌∷◌, ◌++◌, length, get_or, Option, None, Some, nat_eq, nat_lt, AllPairs, Contains, refl, sym, ap, subst, ◌∙◌, arith}
+use Rattle.std.specs.List.{AllByRecursion}
+use Rattle.std.specs.Option.{option_or}
+use Rattle.std.proofs.lemmas.Bool.Decides.{nat_tests}
+use Rattle.std.proofs.lemmas.List.Elements.{All-from_recursion, recursion_from_All, All-push, Contains-append_left, Contains-push}
+use Rattle.std.proofs.lemmas.List.Quantifiers.{all_pairs_push}
+use Rattle.clnp_machine.specs.Identifiers.{Use, Identifiers, NotDrawn, IsQuiet, last_use, next, busy, not_drawn, after_use}
+use Rattle.clnp_machine.specs.Unit as unit
+use Rattle.clnp_safety.specs.Invariant.{AreUsesUntil, IsInUses}
+use Rattle.clnp_safety.proofs.Units.{pairs_behind}
+
+abbrev InOrder : Use → Use → Type 0
+InOrder earlier later = earlier.moment ≤ later.moment
+
+-- the moment of a use, where it is one of this identifier
+abbrev moment_for : ℕ → Use → Option ℕ
+moment_for identifier given = cond (nat_eq given.identifier identifier) (Some given.moment) None
+
+busy_rested : (now reuse used : ℕ) → busy now reuse (Some used) ≡ None → used + reuse ≤ now
+busy_rested now reuse used idle = grind (arith, nat_tests)
+
+past_quiet : (now quiet : ℕ) (later : Option NotDrawn) → cond (nat_lt now quiet) (Some (IsQuiet quiet)) later ≡ None → (quiet ≤ now) × (later ≡ None)
+past_quiet now quiet later idle = grind (arith, nat_tests)
+
+moment_is : (identifier latest : ℕ) (given : Use) → moment_for identifier given ≡ Some latest → given.moment ≡ latest
+moment_is identifier latest given found = grind (arith, nat_tests)
+
+moment_there : (identifier : ℕ) (given : Use) → given.identifier ≡ identifier → moment_for identifier given ≡ Some given.moment
+moment_there identifier given same = grind (arith, nat_tests)
+
+last_step : (identifier moment latest : ℕ) (first : Use) (found : Option ℕ) → moment ≤ first.moment → (found ≡ Some latest → moment ≤ latest)
+    → option_or found (moment_for identifier first) ≡ Some latest → moment ≤ latest
+last_step identifier moment latest first None least before last = let same = moment_is identifier latest first last in omega arith
+last_step identifier moment latest first (Some other) least before last = before last
+
+-- the last use of an identifier is no earlier than all uses are
+last_from : (identifier moment latest : ℕ) (uses : List Use) → AllByRecursion (λ given. moment ≤ given.moment) uses
+    → last_use identifier uses ≡ Some latest → moment ≤ latest
+last_from identifier moment latest [] h last = absurd (cc)
+last_from identifier moment latest (first ∷ later) h last =
+    last_step identifier moment latest first (last_use identifier later) h.0 (last_from identifier moment latest later h.1) last
+
+first_rests : (now reuse identifier : ℕ) (first : Use) (found : Option ℕ) → first.identifier ≡ identifier
+    → ((latest : ℕ) → found ≡ Some latest → first.moment ≤ latest)
+    → busy now reuse (option_or found (moment_for identifier first)) ≡ None → first.moment + reuse ≤ now
+first_rests now reuse identifier first None same before idle =
+    busy_rested now reuse first.moment (ap (busy now reuse) (sym (moment_there identifier first same)) ∙ idle)
+first_rests now reuse identifier first (Some latest) same before idle =
+    let rest = busy_rested now reuse latest idle in
+    let last = before latest refl in
+    omega arith
+
+later_idle : (now reuse : ℕ) (found other : Option ℕ) → busy now reuse (option_or found other) ≡ None → busy now reuse found ≡ None
+later_idle now reuse None other idle = refl
+later_idle now reuse (Some latest) other idle = idle
+
+-- an identifier that isn't busy was used long ago, each time
+rests_at : (now reuse identifier : ℕ) (uses : List Use) (place : ℕ) (given : Use) → AllPairs InOrder uses
+    → place < length uses → get_or uses place given ≡ given → given.identifier ≡ identifier
+    → busy now reuse (last_use identifier uses) ≡ None → given.moment + reuse ≤ now
+rests_at now reuse identifier [] place given order within there same idle = absurd (omega arith)
+rests_at now reuse identifier (first ∷ later) zero given order within there same idle =
+    let behind = recursion_from_All (InOrder first) later (λ k d lt. order 0 (suc k) d (omega arith) (omega arith)) in
+    let rest = first_rests now reuse identifier first (last_use identifier later) (ap (λ (g : Use). g.identifier) there ∙ same)
+    (λ latest last. last_from identifier first.moment latest later behind last) idle in
+    let at : first.moment ≡ given.moment = ap (λ (g : Use). g.moment) there in
+    omega arith
+rests_at now reuse identifier (first ∷ later) (suc place) given order within there same idle =
+    rests_at now reuse identifier later place given (pairs_behind InOrder (first ∷ []) later order) (omega arith) there same
+    (later_idle now reuse (last_use identifier later) (moment_for identifier first) idle)
+
+-- where an identifier may be drawn, the units that had it were made long ago
+pub made_long_ago : (now : ℕ) (ids : Identifiers) (u : unit.Unit) → AreUsesUntil now ids.uses → IsInUses ids u
+    → u.identifier ≡ Some (next ids) → not_drawn now ids ≡ None → u.made + ids.reuse ≤ now
+made_long_ago now ids u uses used identified idle =
+    let free = past_quiet now ids.quiet (busy now ids.reuse (last_use (next ids) ids.uses)) idle in
+    let given : Use = record { identifier = next ids; moment = u.made } in
+    elim (used (next ids) identified) [
+      | inl has ↦ rests_at now ids.reuse (next ids) ids.uses has.0 given uses.in_order has.1 has.2 refl free.1
+      | inr before ↦ (let quiet : ids.quiet ≤ now = free.0 in omega arith)
+    ]
+
+-- one more use, at this moment
+pub uses_after : (now : ℕ) (ids : Identifiers) → AreUsesUntil now ids.uses → AreUsesUntil now (after_use now ids).uses
+uses_after now ids h =
+    let latest : Use = record { identifier = next ids; moment = now } in
+    let all = All-from_recursion (λ (given : Use). given.moment ≤ now) ids.uses h.until_now in
+    record {
+      until_now = recursion_from_All (λ (given : Use). given.moment ≤ now) (ids.uses ++ latest ∷ [])
+          (All-push (λ (given : Use). given.moment ≤ now) ids.uses latest all (omega arith));
+      in_order = all_pairs_push InOrder ids.uses latest h.in_order (λ k d within. all k d within);
+    }
+
+pub used_before : (now : ℕ) (ids : Identifiers) (u : unit.Unit) → IsInUses ids u → IsInUses (after_use now ids) u
+used_before now ids u used identifier identified =
+    let latest : Use = record { identifier = next ids; moment = now } in
+    elim (used identifier identified) [
+      | inl has ↦ inl (Contains-append_left ids.uses (latest ∷ []) (record { identifier = identifier; moment = u.made }) has)
+      | inr before ↦ inr before
+    ]
+
+pub used_now : (now : ℕ) (ids : Identifiers) (u : unit.Unit) → u.identifier ≡ Some (next ids) → u.made ≡ now → IsInUses (after_use now ids) u
+used_now now ids u drawn made identifier identified =
+    let latest : Use = record { identifier = next ids; moment = now } in
+    let same : Some (next ids) ≡ Some identifier = sym drawn ∙ identified in
+    let number : next ids ≡ identifier = cc in
+    let use_of : ℕ → ℕ → Use = λ i m. record { identifier = i; moment = m } in
+    inl (subst (λ m. Contains (ids.uses ++ latest ∷ []) (use_of identifier m)) (sym made)
+    (subst (λ i. Contains (ids.uses ++ latest ∷ []) (use_of i now)) number (Contains-push ids.uses latest)))

@@ -1,0 +1,5 @@
+use Rattle.clnp_safety.proofs.Runs.{budgets_hold}
+use Rattle.clnp_safety.proofs.laws.budgets_are_kept.Goals as goal
+
+pub returns : goal.returns
+returns c = budgets_hold

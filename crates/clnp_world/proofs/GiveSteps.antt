@@ -1,0 +1,308 @@
+-- What a network of the code stands for where a copy is given.
+use Rattle.std.proofs.Common.{◌≡◌, ℕ, zero, suc, ◌+◌, ◌-◌, ◌<◌, ◌≤◌, List, [], ◌∷◌, ◌++◌, length, take, get_or, map, cond, Bool, true, false, Option, Some, None, refl, sym, ap, ◌∙◌, subst, append-nil, arith}
+use Rattle.std.specs.Prelude.{slice_get}
+use Rattle.std.specs.List.{AllByRecursion}
+use Rattle.std.proofs.lemmas.List.{take_all}
+use Rattle.std.proofs.lemmas.Option.{slice_get_past}
+use Rattle.clnp_plan.specs.Journal.{Void, Late, line_text}
+use Rattle.clnp_plan.specs.declared.config.Limits.{Limits}
+use Rattle.clnp_machine.specs.System.{SystemState, IsCarried}
+use Rattle.clnp_machine.specs.Host.{arrive}
+use Rattle.clnp_network.specs.World as network
+use Rattle.clnp_network.specs.Run.{lines_text}
+use Rattle.clnp_world.specs.Seen.{frame_copy}
+use Rattle.clnp_world.specs.Parts.{Shows, Holds, IsRunning, Follows}
+use Rattle.clnp_world.specs.declared.network.Network.{Network}
+use Rattle.clnp_world.specs.declared.copy.FrameCopy.{FrameCopy}
+use Rattle.clnp_world.proofs.ListSteps.{slice_get_read, slice_get_map, slice_get_within, all_at}
+use Rattle.clnp_world.proofs.EachSteps.{each_length}
+use Rattle.clnp_world.proofs.ModelSteps.{configuration_of, configurations-give_each, copy-give_each, give_each-push, addressees_from-take}
+use Rattle.clnp_world.proofs.PutSteps.{puts_nothing, puts_line, puts_then, counted}
+
+-- a copy of the model, at its place
+pub copy_at : (code : Network) (model : network.World) (at : ℕ) (seen : FrameCopy) (copy : network.Copy) → Shows code model
+    → at < length code.copies.items → seen ≡ get_or code.copies.items at seen → slice_get model.copies at ≡ Some copy → seen ≡ frame_copy copy
+copy_at code model at seen copy h within e there =
+    let same = slice_get_read code.copies.items at seen within e in
+    let one = slice_get_map frame_copy model.copies at copy there in
+    let moved : slice_get (map frame_copy model.copies) at ≡ Some seen = subst (λ (cs : List FrameCopy). slice_get cs at ≡ Some seen) h.copies same in
+    cc
+
+pub carried_at : (copies : List network.Copy) (at : ℕ) (copy : network.Copy) → AllByRecursion (λ (c : network.Copy). IsCarried c.content) copies
+    → slice_get copies at ≡ Some copy → IsCarried copy.content
+carried_at copies at copy h e = all_at (λ (c : network.Copy). IsCarried c.content) copies at copy h e
+
+system_there : (code : Network) (model : network.World) (place : ℕ) → Shows code model → place < length code.hosts.items
+    → (system : SystemState) × (slice_get model.systems place ≡ Some system)
+system_there code model place h within =
+    let same = each_length code.hosts.items model.systems h.systems in
+    slice_get_within model.systems place (omega arith)
+
+copy_there : (code : Network) (model : network.World) (at : ℕ) → Shows code model → at < length code.copies.items
+    → (copy : network.Copy) × (slice_get model.copies at ≡ Some copy)
+copy_there code model at h within =
+    let same = counted code model h in
+    slice_get_within model.copies at (omega arith)
+
+follows_nothing : (code : Network) (lines : List ℕ) (model : network.World) → Holds code model → Follows code lines lines (network.nothing model)
+follows_nothing code lines model h =
+    let part = puts_nothing code model lines h.shows in record { holds = h; lines = part.lines }
+
+follows_then : (code : Network) (before between after : List ℕ) (part : network.Step) (next : network.World → network.Step)
+    → between ≡ before ++ lines_text part.lines → Follows code between after (next part.world)
+    → Follows code before after (network.followed_by part next)
+follows_then code before between after part next e h =
+    let both = puts_then code before between after part next e (record { shows = h.holds.shows; lines = h.lines }) in
+    record { holds = h.holds; lines = both.lines }
+
+-- One copy for one system.
+
+abbrev pub numbered : ℕ → network.Copy → network.Numbered
+numbered number copy = record { number = number; copy = copy }
+
+-- whether the copy is late
+abbrev pub TellsLate : Network → Limits → ℕ → Bool → Type 0
+TellsLate code limits at answer =
+    (model : network.World) (copy : network.Copy) → Shows code model → slice_get model.copies at ≡ Some copy
+    → answer ≡ network.is_late limits model copy
+
+pub gives_late : (code : Network) (before after : List ℕ) (limits : Limits) (number at place : ℕ) → place < length code.hosts.items
+    → TellsLate code limits at true
+    → ((model : network.World) (system : SystemState) → Shows code model → slice_get model.systems place ≡ Some system
+    → after ≡ before ++ line_text (Late model.clock system.configuration.name number))
+    → (model : network.World) (copy : network.Copy) → Holds code model → slice_get model.copies at ≡ Some copy
+    → Follows code before after (network.give limits (numbered number copy) model place)
+gives_late code before after limits number at place within tells writes model copy h there =
+    let system = system_there code model place h.shows within in
+    let part = puts_line code before after model (Late model.clock (system.0).configuration.name number) h.shows (writes model system.0 h.shows system.1) in
+    subst (λ (s : Option SystemState). Follows code before after (network.give_to limits (numbered number copy) model place s)) (sym system.1)
+    (subst (λ (b : Bool). Follows code before after (cond b (network.writes model (Late model.clock (system.0).configuration.name number))
+    (network.takes_effect model place (arrive system.0 copy.content)))) (tells model copy h.shows there)
+    record { holds = h; lines = part.lines })
+
+pub gives_now : (old code : Network) (before after : List ℕ) (limits : Limits) (number at place : ℕ) → place < length old.hosts.items
+    → TellsLate old limits at false
+    → ((model : network.World) (copy : network.Copy) (system : SystemState) → Holds old model → slice_get model.copies at ≡ Some copy
+    → slice_get model.systems place ≡ Some system
+    → Follows code before after (network.takes_effect model place (arrive system copy.content)))
+    → (model : network.World) (copy : network.Copy) → Holds old model → slice_get model.copies at ≡ Some copy
+    → Follows code before after (network.give limits (numbered number copy) model place)
+gives_now old code before after limits number at place within tells hands model copy h there =
+    let system = system_there old model place h.shows within in
+    subst (λ (s : Option SystemState). Follows code before after (network.give_to limits (numbered number copy) model place s)) (sym system.1)
+    (subst (λ (b : Bool). Follows code before after (cond b (network.writes model (Late model.clock (system.0).configuration.name number))
+    (network.takes_effect model place (arrive system.0 copy.content)))) (tells model copy h.shows there)
+    (hands model copy system.0 h there system.1))
+
+-- One copy for each of its addressees.
+
+-- what the code has given of a copy, to the systems below a place, is what the model has
+abbrev pub Gives : Network → Network → List ℕ → List ℕ → Limits → ℕ → ℕ → Type 0
+Gives start code before after limits at place =
+    (model : network.World) (copy : network.Copy) → Holds start model → slice_get model.copies at ≡ Some copy
+    → Follows code before after (network.give_each limits (numbered (at + 1) copy) model (network.addressees_from 0 copy (take place model.systems)))
+
+-- whether the copy is for the host at the place
+abbrev pub TellsAddressee : Network → ℕ → ℕ → Bool → Type 0
+TellsAddressee code at place answer =
+    (model : network.World) (copy : network.Copy) (system : SystemState) → Shows code model → slice_get model.copies at ≡ Some copy
+    → slice_get model.systems place ≡ Some system → answer ≡ network.is_addressee copy system.configuration
+
+pub gives_none : (code : Network) (lines : List ℕ) (limits : Limits) (at : ℕ) → Gives code code lines lines limits at 0
+gives_none code lines limits at model copy h there = follows_nothing code lines model h
+
+-- while it is given, the network stands for one of the model
+pub still_running : (start code : Network) (before after : List ℕ) (limits : Limits) (at place : ℕ) → IsRunning start → at < length start.copies.items
+    → Gives start code before after limits at place → IsRunning code
+still_running start code before after limits at place running within so_far =
+    let model = running.0 in
+    let copy = copy_there start model at running.1.shows within in
+    let part = so_far model copy.0 running.1 copy.1 in
+    ((network.give_each limits (numbered (at + 1) copy.0) model (network.addressees_from 0 copy.0 (take place model.systems))).world, part.holds)
+
+-- what the scenario says of the system at a place, where it says the same of all
+same_configuration : (xs ys : List SystemState) (i : ℕ) (y : SystemState) → map configuration_of xs ≡ map configuration_of ys → slice_get ys i ≡ Some y
+    → (x : SystemState) × (slice_get xs i ≡ Some x) × (x.configuration ≡ y.configuration)
+same_configuration xs [] i y e at = absurd (cc)
+same_configuration [] (z ∷ ys) i y e at = absurd (cc)
+same_configuration (x ∷ xs) (z ∷ ys) zero y e at =
+    let head : x.configuration ≡ z.configuration = cc in
+    let one : z ≡ y = cc in
+    (x, refl, head ∙ ap configuration_of one)
+same_configuration (x ∷ xs) (z ∷ ys) (suc i) y e at =
+    let tail : map configuration_of xs ≡ map configuration_of ys = cc in
+    same_configuration xs ys i y tail at
+
+-- whether the copy is for the system at the place, when those before it have it
+tells_then : (start mid : Network) (before between : List ℕ) (limits : Limits) (at place : ℕ) (answer : Bool) (model : network.World) (copy : network.Copy) (system : SystemState)
+    → Gives start mid before between limits at place → TellsAddressee mid at place answer
+    → Holds start model → slice_get model.copies at ≡ Some copy → slice_get model.systems place ≡ Some system
+    → answer ≡ network.is_addressee copy system.configuration
+tells_then start mid before between limits at place answer model copy system so_far tells h there here =
+    let given = numbered (at + 1) copy in
+    let ps = network.addressees_from 0 copy (take place model.systems) in
+    let w = network.give_each limits given model ps in
+    let part = so_far model copy h there in
+    let now = same_configuration w.world.systems model.systems place system (configurations-give_each limits given model ps) here in
+    tells w.world copy now.0 part.holds.shows (copy-give_each limits given model ps at copy there) now.1
+    ∙ ap (λ c. network.is_addressee copy c) now.2
+
+pub gives_more : (start mid code : Network) (before between after : List ℕ) (limits : Limits) (at place : ℕ)
+    → Gives start mid before between limits at place → place < length start.hosts.items → TellsAddressee mid at place true
+    → ((model : network.World) (copy : network.Copy) → Holds mid model → slice_get model.copies at ≡ Some copy
+    → Follows code between after (network.give limits (numbered (at + 1) copy) model place))
+    → Gives start code before after limits at (place + 1)
+gives_more start mid code before between after limits at place so_far within tells next model copy h there =
+    let system = system_there start model place h.shows within in
+    let given = numbered (at + 1) copy in
+    let ps = network.addressees_from 0 copy (take place model.systems) in
+    let w = network.give_each limits given model ps in
+    let front = so_far model copy h there in
+    let yes = tells_then start mid before between limits at place true model copy system.0 so_far tells h there system.1 in
+    let same : network.addressees_from 0 copy (take (place + 1) model.systems) ≡ ps ++ place ∷ []
+    = addressees_from-take copy model.systems place system.0 system.1 ∙ ap (λ (b : Bool). ps ++ cond b (place ∷ []) []) (sym yes) in
+    subst (λ (s : network.Step). Follows code before after s)
+    (sym (give_each-push limits given model ps place) ∙ ap (λ (qs : List ℕ). network.give_each limits given model qs) (sym same))
+    (follows_then code before between after w (λ v. network.give limits given v place) front.lines
+    (next w.world copy front.holds (copy-give_each limits given model ps at copy there)))
+
+pub gives_skip : (start code : Network) (before after : List ℕ) (limits : Limits) (at place : ℕ)
+    → Gives start code before after limits at place → place < length start.hosts.items → TellsAddressee code at place false
+    → Gives start code before after limits at (place + 1)
+gives_skip start code before after limits at place so_far within tells model copy h there =
+    let system = system_there start model place h.shows within in
+    let ps = network.addressees_from 0 copy (take place model.systems) in
+    let front = so_far model copy h there in
+    let no = tells_then start code before after limits at place false model copy system.0 so_far tells h there system.1 in
+    let same : network.addressees_from 0 copy (take (place + 1) model.systems) ≡ ps
+    = addressees_from-take copy model.systems place system.0 system.1 ∙ ap (λ (b : Bool). ps ++ cond b (place ∷ []) []) (sym no) ∙ append-nil ps in
+    subst (λ (qs : List ℕ). Follows code before after (network.give_each limits (numbered (at + 1) copy) model qs)) (sym same) front
+
+-- the same where the code's names differ, as after an `if`
+pub gives_more_as : (start mid given code : Network) (before between lines after : List ℕ) (limits : Limits) (at place : ℕ)
+    → Gives start mid before between limits at place → place < length start.hosts.items → TellsAddressee mid at place true
+    → code ≡ given → after ≡ lines
+    → ((model : network.World) (copy : network.Copy) → Holds mid model → slice_get model.copies at ≡ Some copy
+    → Follows given between lines (network.give limits (numbered (at + 1) copy) model place))
+    → Gives start code before after limits at (place + 1)
+gives_more_as start mid given code before between lines after limits at place so_far within tells same_code same_lines next =
+    subst (λ (w : Network). Gives start w before after limits at (place + 1)) (sym same_code)
+    (subst (λ (l : List ℕ). Gives start given before l limits at (place + 1)) (sym same_lines)
+    (gives_more start mid given before between lines limits at place so_far within tells next))
+
+pub gives_skip_as : (start mid code : Network) (before between after : List ℕ) (limits : Limits) (at place : ℕ)
+    → Gives start mid before between limits at place → place < length start.hosts.items → TellsAddressee mid at place false
+    → code ≡ mid → after ≡ between
+    → Gives start code before after limits at (place + 1)
+gives_skip_as start mid code before between after limits at place so_far within tells same_code same_lines =
+    subst (λ (w : Network). Gives start w before after limits at (place + 1)) (sym same_code)
+    (subst (λ (l : List ℕ). Gives start mid before l limits at (place + 1)) (sym same_lines)
+    (gives_skip start mid before between limits at place so_far within tells))
+
+pub gives_all : (start code : Network) (before after : List ℕ) (limits : Limits) (at place : ℕ)
+    → Gives start code before after limits at place → length start.hosts.items ≤ place
+    → (model : network.World) (copy : network.Copy) → Holds start model → slice_get model.copies at ≡ Some copy
+    → Follows code before after (network.give_each limits (numbered (at + 1) copy) model (network.addressees_from 0 copy model.systems))
+gives_all start code before after limits at place so_far all model copy h there =
+    let same = each_length start.hosts.items model.systems h.shows.systems in
+    subst (λ (ss : List SystemState). Follows code before after (network.give_each limits (numbered (at + 1) copy) model (network.addressees_from 0 copy ss)))
+    (take_all place model.systems (omega arith)) (so_far model copy h there)
+
+-- The copy at the cursor.
+
+pub moves_on : (code : Network) (model : network.World) → Holds code model
+    → Holds (record code { cursor = code.cursor + 1 }) (record model { cursor = model.cursor + 1 })
+moves_on code model h = record {
+  shows = record {
+    clock = h.shows.clock;
+    systems = h.shows.systems;
+    copies = h.shows.copies;
+    cursor = ap (λ (n : ℕ). n + 1) h.shows.cursor;
+    carried = h.shows.carried;
+    short = h.shows.short;
+    weight = h.shows.weight;
+  };
+  current = h.current;
+}
+
+-- the copy at the cursor is given
+pub settles : (old code : Network) (before after : List ℕ) (limits : Limits) → old.cursor < length old.copies.items
+    → ((model : network.World) (copy : network.Copy) → Holds (record old { cursor = old.cursor + 1 }) model → slice_get model.copies old.cursor ≡ Some copy
+    → Follows code before after (network.give_each limits (numbered (old.cursor + 1) copy) model (network.addressees_from 0 copy model.systems)))
+    → (model : network.World) → Holds old model → Follows code before after (network.settle_one limits model)
+settles old code before after limits within next model h =
+    let copy = copy_there old model old.cursor h.shows within in
+    let at : slice_get model.copies model.cursor ≡ Some copy.0 = subst (λ (n : ℕ). slice_get model.copies n ≡ Some copy.0) h.shows.cursor copy.1 in
+    let w : network.World = record model { cursor = model.cursor + 1 } in
+    subst (λ (c : Option network.Copy). Follows code before after (network.settle_copy limits model c)) (sym at)
+    (subst (λ (n : ℕ). Follows code before after (network.give_each limits (numbered (n + 1) copy.0) w (network.addressees_from 0 copy.0 model.systems)))
+    h.shows.cursor (next w copy.0 (moves_on old model h) copy.1))
+
+-- A copy that is named by its number.
+
+delivered : (limits : Limits) (model : network.World) (number at place : ℕ) (system : SystemState) (found : Option network.Copy) → at ≡ number - 1
+    → slice_get model.systems place ≡ Some system → slice_get model.copies at ≡ found
+    → network.deliver limits model number place ≡ network.deliver_to limits model number place found system
+delivered limits model number at place system found at_is here there =
+    ap (λ (s : Option SystemState). network.deliver_at limits model number place s) here
+    ∙ ap (λ (n : ℕ). network.deliver_to limits model number place (slice_get model.copies n) system) (sym at_is)
+    ∙ ap (λ (c : Option network.Copy). network.deliver_to limits model number place c system) there
+
+-- the line of a copy that isn't there for the host at the place is written
+abbrev pub WritesVoid : Network → List ℕ → List ℕ → ℕ → ℕ → Type 0
+WritesVoid code before after number place =
+    (model : network.World) (system : SystemState) → Shows code model → slice_get model.systems place ≡ Some system
+    → after ≡ before ++ line_text (Void model.clock system.configuration.name number)
+
+void_follows : (code : Network) (before after : List ℕ) (number place : ℕ) (model : network.World) (system : SystemState)
+    → WritesVoid code before after number place → Holds code model → slice_get model.systems place ≡ Some system
+    → Follows code before after (network.is_void model system number)
+void_follows code before after number place model system writes h here =
+    let part = puts_line code before after model (Void model.clock system.configuration.name number) h.shows (writes model system h.shows here) in
+    record { holds = h; lines = part.lines }
+
+-- there is no host at the place
+pub delivers_nowhere : (code : Network) (lines : List ℕ) (limits : Limits) (number place : ℕ) → length code.hosts.items ≤ place
+    → (model : network.World) → Holds code model → Follows code lines lines (network.deliver limits model number place)
+delivers_nowhere code lines limits number place past model h =
+    let same = each_length code.hosts.items model.systems h.shows.systems in
+    let none : slice_get model.systems place ≡ None = slice_get_past model.systems place (omega arith) in
+    subst (λ (s : Option SystemState). Follows code lines lines (network.deliver_at limits model number place s)) (sym none)
+    (follows_nothing code lines model h)
+
+-- there is no such copy
+pub delivers_none : (code : Network) (before after : List ℕ) (limits : Limits) (number at place : ℕ) → at ≡ number - 1 → place < length code.hosts.items
+    → length code.copies.items ≤ at → WritesVoid code before after number place
+    → (model : network.World) → Holds code model → Follows code before after (network.deliver limits model number place)
+delivers_none code before after limits number at place at_is within past writes model h =
+    let system = system_there code model place h.shows within in
+    let same = counted code model h.shows in
+    let none : slice_get model.copies at ≡ None = slice_get_past model.copies at (omega arith) in
+    subst (λ (s : network.Step). Follows code before after s) (sym (delivered limits model number at place system.0 None at_is system.1 none))
+    (void_follows code before after number place model system.0 writes h system.1)
+
+-- the copy isn't for the host
+pub delivers_other : (code : Network) (before after : List ℕ) (limits : Limits) (number at place : ℕ) → at ≡ number - 1 → place < length code.hosts.items
+    → at < length code.copies.items → TellsAddressee code at place false → WritesVoid code before after number place
+    → (model : network.World) → Holds code model → Follows code before after (network.deliver limits model number place)
+delivers_other code before after limits number at place at_is within within' tells writes model h =
+    let system = system_there code model place h.shows within in
+    let copy = copy_there code model at h.shows within' in
+    let no : false ≡ network.is_addressee copy.0 (system.0).configuration = tells model copy.0 system.0 h.shows copy.1 system.1 in
+    subst (λ (s : network.Step). Follows code before after s) (sym (delivered limits model number at place system.0 (Some copy.0) at_is system.1 copy.1))
+    (subst (λ (b : Bool). Follows code before after (cond b (network.give limits (numbered number copy.0) model place) (network.is_void model system.0 number))) no
+    (void_follows code before after number place model system.0 writes h system.1))
+
+-- the copy is for the host
+pub delivers : (old code : Network) (before after : List ℕ) (limits : Limits) (number at place : ℕ) → at ≡ number - 1 → place < length old.hosts.items
+    → at < length old.copies.items → TellsAddressee old at place true
+    → ((model : network.World) (copy : network.Copy) → Holds old model → slice_get model.copies at ≡ Some copy
+    → Follows code before after (network.give limits (numbered number copy) model place))
+    → (model : network.World) → Holds old model → Follows code before after (network.deliver limits model number place)
+delivers old code before after limits number at place at_is within within' tells gives model h =
+    let system = system_there old model place h.shows within in
+    let copy = copy_there old model at h.shows within' in
+    let yes : true ≡ network.is_addressee copy.0 (system.0).configuration = tells model copy.0 system.0 h.shows copy.1 system.1 in
+    subst (λ (s : network.Step). Follows code before after s) (sym (delivered limits model number at place system.0 (Some copy.0) at_is system.1 copy.1))
+    (subst (λ (b : Bool). Follows code before after (cond b (network.give limits (numbered number copy.0) model place) (network.is_void model system.0 number))) yes
+    (gives model copy.0 h copy.1))

@@ -1,0 +1,158 @@
+-- What a network of the code stands for after one of its hosts took a step.
+use Rattle.std.proofs.Common.{◌≡◌, ℕ, ◌<◌, ◌≤◌, List, [], ◌∷◌, ◌++◌, length, Option, Some, refl, sym, ◌∙◌, subst, arith}
+use Rattle.std.specs.Prelude.{slice_get, slice_set}
+use Rattle.std.specs.Vec.{with_item}
+use Rattle.std.proofs.lemmas.Option.{slice_get_past, slice_get_within as within_get}
+use Rattle.clnp_plan.specs.declared.ask.SendRefusal.{SendRefusal}
+use Rattle.clnp_plan.specs.declared.ask.SendRefusal.TheVariants as refusal
+use Rattle.clnp_plan.specs.declared.note.Note.{Note}
+use Rattle.clnp_plan.specs.declared.output.Output as output
+use Rattle.clnp_plan.specs.declared.output.Output.TheVariants.{Note as Told}
+use Rattle.clnp_plan.specs.Journal.{Noted, line_text}
+use Rattle.clnp_machine.specs.System as machine
+use Rattle.clnp_machine.specs.System.{SystemState, Notes, Effect}
+use Rattle.clnp_network.specs.World as network
+use Rattle.end_system.specs.State.{HostState}
+use Rattle.end_system.specs.Stands as end_system
+use Rattle.end_system.specs.Stands.{Appends, GiveAll, IsLeftBy}
+use Rattle.local_entity.specs.Local.{IsWhy, refusal_note}
+use Rattle.clnp_world.specs.Parts.{Shows, Holds, Puts, Follows}
+use Rattle.clnp_world.specs.declared.network.Network.{Network}
+use Rattle.clnp_world.proofs.ListSteps.{slice_get_within, slice_get_set, all_at}
+use Rattle.clnp_world.proofs.EachSteps.{each_length, each_at, each_set}
+use Rattle.clnp_world.proofs.ModelSteps.{current-takes_effect}
+use Rattle.clnp_world.proofs.PutSteps.{PutsOut, puts_none, puts_more, puts_note, puts_nothing}
+
+-- the network with a host in the place of another
+abbrev pub with_host : Network → ℕ → HostState → Network
+with_host code place host = record code { hosts = with_item code.hosts place host }
+
+pub shows_with : (code : Network) (place : ℕ) (host : HostState) (model : network.World) (system : SystemState) → Shows code model
+    → end_system.Stands host system → Shows (with_host code place host) (record model { systems = slice_set model.systems place system })
+shows_with code place host model system h stands = record {
+  clock = h.clock;
+  systems = each_set code.hosts.items model.systems place host system h.systems stands;
+  copies = h.copies;
+  cursor = h.cursor;
+  carried = h.carried;
+  short = h.short;
+  weight = h.weight;
+}
+
+-- the system at the place of a host
+pub record IsThere (code : Network) (model : network.World) (place : ℕ) (host : HostState) : Type 0 where
+  pub system : SystemState
+  pub at : slice_get model.systems place ≡ Some system
+  pub stands : end_system.Stands host system
+
+pub is_there : (code : Network) (model : network.World) (place : ℕ) (host : HostState) → Shows code model
+    → slice_get code.hosts.items place ≡ Some host → IsThere code model place host
+is_there code model place host h here =
+    let same = each_length code.hosts.items model.systems h.systems in
+    let within = within_get code.hosts.items place host here in
+    let there = slice_get_within model.systems place (omega arith) in
+    record { system = there.0; at = there.1; stands = each_at code.hosts.items model.systems place host there.0 h.systems here there.1 }
+
+-- a system takes a step, and what it gives out is put out
+pub takes : (old code : Network) (before after : List ℕ) (place : ℕ) (host : HostState) (outputs : List output.Output) (effect : Effect)
+    → place < length old.hosts.items → end_system.Stands host effect.after → Appends old.clock [] outputs effect.outputs
+    → PutsOut (with_host old place host) code before after place outputs
+    → (model : network.World) → Shows old model → Puts code before after (network.takes_effect model place effect)
+takes old code before after place host outputs effect within stands gives puts model h =
+    let same = each_length old.hosts.items model.systems h.systems in
+    puts (record model { systems = slice_set model.systems place effect.after }) effect.after effect.outputs
+    (shows_with old place host model effect.after h stands)
+    (slice_get_set model.systems place effect.after (omega arith))
+    (subst (λ (os : List output.Output). GiveAll old.clock os effect.outputs) (sym gives.appended) gives.give_all)
+
+-- the system at a place does something, whatever its moment
+pub does_put : (old code : Network) (before after : List ℕ) (place : ℕ) (does : SystemState → Effect) (host new : HostState) (outputs : List output.Output)
+    → slice_get old.hosts.items place ≡ Some host
+    → ((s : SystemState) → end_system.Stands host s → end_system.Stands new (does s).after)
+    → ((s : SystemState) → end_system.Stands host s → Appends old.clock [] outputs (does s).outputs)
+    → PutsOut (with_host old place new) code before after place outputs
+    → (model : network.World) → Shows old model → Puts code before after (network.system_does model place does)
+does_put old code before after place does host new outputs here stands gives puts model h =
+    let there = is_there old model place host h here in
+    subst (λ (s : Option SystemState). Puts code before after (network.at_system model place does s)) (sym there.at)
+    (takes old code before after place new outputs (does there.system) (within_get old.hosts.items place host here)
+    (stands there.system there.stands) (gives there.system there.stands) puts model h)
+
+-- the same at the clock's moment
+pub takes_now : (old code : Network) (before after : List ℕ) (place : ℕ) (host new : HostState) (outputs : List output.Output) (effect : Effect) (system : SystemState)
+    → slice_get old.hosts.items place ≡ Some host → end_system.Stands new effect.after → Appends host.moment [] outputs effect.outputs
+    → effect.after.moment ≡ system.moment
+    → PutsOut (with_host old place new) code before after place outputs
+    → (model : network.World) → Holds old model → slice_get model.systems place ≡ Some system
+    → Follows code before after (network.takes_effect model place effect)
+takes_now old code before after place host new outputs effect system here stands gives moment puts model h there =
+    let within = within_get old.hosts.items place host here in
+    let was = each_at old.hosts.items model.systems place host system h.shows.systems here there in
+    let now : system.moment ≡ model.clock = all_at (λ (s : SystemState). s.moment ≡ model.clock) model.systems place system h.current there in
+    let clock : host.moment ≡ old.clock = was.moment ∙ now ∙ sym h.shows.clock in
+    let part = takes old code before after place new outputs effect within stands
+    (subst (λ (t : ℕ). Appends t [] outputs effect.outputs) clock gives) puts model h.shows in
+    record {
+      holds = record { shows = part.shows; current = current-takes_effect model place effect h.current (moment ∙ now) };
+      lines = part.lines;
+    }
+
+-- the system at a place does something
+pub does_follow : (old code : Network) (before after : List ℕ) (place : ℕ) (does : SystemState → Effect) (host new : HostState) (outputs : List output.Output)
+    → slice_get old.hosts.items place ≡ Some host
+    → ((s : SystemState) → end_system.Stands host s → end_system.Stands new (does s).after)
+    → ((s : SystemState) → end_system.Stands host s → Appends host.moment [] outputs (does s).outputs)
+    → ((s : SystemState) → (does s).after.moment ≡ s.moment)
+    → PutsOut (with_host old place new) code before after place outputs
+    → (model : network.World) → Holds old model → Follows code before after (network.system_does model place does)
+does_follow old code before after place does host new outputs here stands gives moment puts model h =
+    let there = is_there old model place host h.shows here in
+    subst (λ (s : Option SystemState). Follows code before after (network.at_system model place does s)) (sym there.at)
+    (takes_now old code before after place host new outputs (does there.system) there.system here (stands there.system there.stands)
+    (gives there.system there.stands) (moment there.system) puts model h there.at)
+
+-- there is no host at the place
+pub does_nothing : (code : Network) (lines : List ℕ) (place : ℕ) (does : SystemState → Effect) → length code.hosts.items ≤ place
+    → (model : network.World) → Holds code model → Follows code lines lines (network.system_does model place does)
+does_nothing code lines place does past model h =
+    let same = each_length code.hosts.items model.systems h.shows.systems in
+    let none = slice_get_past model.systems place (omega arith) in
+    let part = puts_nothing code model lines h.shows in
+    subst (λ (s : Option SystemState). Follows code lines lines (network.at_system model place does s)) (sym none)
+    record { holds = h; lines = part.lines }
+
+-- the line of a note of the host at a place is written
+abbrev pub WritesNote : Network → List ℕ → List ℕ → ℕ → Note → Type 0
+WritesNote code before after place note =
+    (model : network.World) (system : SystemState) → Shows code model → slice_get model.systems place ≡ Some system
+    → after ≡ before ++ line_text (Noted model.clock system.configuration.name note)
+
+pub note_alone : (code : Network) (before after : List ℕ) (place : ℕ) (note : Note) → WritesNote code before after place note
+    → PutsOut code code before after place (Told note ∷ [])
+note_alone code before after place note writes =
+    puts_more code code code before before after place [] (Told note) (puts_none code before place) refl
+    (puts_note code before after place note (Told note) refl writes)
+
+-- a note that is given out
+pub gives_note : (moment : ℕ) (note : Note) → Appends moment [] (Told note ∷ []) (Notes note ∷ [])
+gives_note moment note = record { outputs = Told note ∷ []; appended = refl; give_all = (refl, tt) }
+
+-- a refusal that is noted says why, and leaves the host as it was
+pub says_why : (e : SendRefusal) (note : Note) (answer : Option Note) → refusal_note e ≡ Some note → IsWhy e answer → answer ≡ Some note
+says_why refusal.NotMine note answer said why = why ∙ said
+says_why (refusal.TooLong octets) note answer said why = why ∙ said
+says_why (refusal.IdsBusy used) note answer said why = why ∙ said
+says_why (refusal.Quiet until) note answer said why = why ∙ said
+says_why refusal.NoMemory note answer said why = absurd (cc)
+
+pub leaves_same : (e : SendRefusal) (note : Note) (before after : HostState) → refusal_note e ≡ Some note → IsLeftBy e before after → after ≡ before
+leaves_same refusal.NotMine note before after said left = left
+leaves_same (refusal.TooLong octets) note before after said left = left
+leaves_same (refusal.IdsBusy used) note before after said left = left
+leaves_same (refusal.Quiet until) note before after said left = left
+leaves_same refusal.NoMemory note before after said left = absurd (cc)
+
+-- outputs that are appended to none
+pub from_none : (moment : ℕ) (empty outputs : List output.Output) (others : List machine.Output) → empty ≡ [] → Appends moment empty outputs others
+    → Appends moment [] outputs others
+from_none moment empty outputs others e h = subst (λ (os : List output.Output). Appends moment os outputs others) e h

@@ -1,0 +1,124 @@
+-- What a network of the code stands for while a moment comes to one of its hosts after another.
+use Rattle.std.proofs.Common.{◌≡◌, ℕ, ◌+◌, ◌<◌, ◌≤◌, List, length, take, Option, Some, sym, ap, ◌∙◌, subst, arith}
+use Rattle.std.specs.Prelude.{slice_get, slice_set}
+use Rattle.std.specs.List.{AllByRecursion, range_with_len}
+use Rattle.std.proofs.lemmas.List.{take_all}
+use Rattle.clnp_machine.specs.System.{SystemState}
+use Rattle.clnp_machine.specs.Host.{tick}
+use Rattle.clnp_network.specs.World as network
+use Rattle.end_system.specs.State.{HostState}
+use Rattle.clnp_world.specs.Parts.{Shows, IsBehind, IsCurrent, Holds, Puts, Follows}
+use Rattle.clnp_world.specs.declared.network.Network.{Network}
+use Rattle.clnp_world.proofs.ListSteps.{slice_get_within, all_at, all_set, all_weaker, all_take_set}
+use Rattle.clnp_world.proofs.EachSteps.{each_length}
+use Rattle.clnp_world.proofs.EffectSteps.{ticked}
+use Rattle.clnp_world.proofs.ModelSteps.{tick_at, tick_each-more, systems-put_all_out, clock-put_all_out}
+use Rattle.clnp_world.proofs.PutSteps.{puts_nothing, puts_then}
+use Rattle.clnp_world.proofs.TakeSteps.{is_there}
+
+-- the clock goes on
+pub clock_goes_on : (code : Network) (model : network.World) → Holds code model
+    → Shows (record code { clock = code.clock + 1 }) (record model { clock = model.clock + 1 })
+clock_goes_on code model h = record {
+  clock = ap (λ (n : ℕ). n + 1) h.shows.clock;
+  systems = h.shows.systems;
+  copies = h.shows.copies;
+  cursor = h.shows.cursor;
+  carried = h.shows.carried;
+  short = h.shows.short;
+  weight = h.shows.weight;
+}
+
+pub all_behind : (model : network.World) → IsCurrent model → IsBehind (record model { clock = model.clock + 1 })
+all_behind model h =
+    all_weaker (λ (s : SystemState). s.moment ≡ model.clock) (λ (s : SystemState). s.moment ≤ model.clock + 1) model.systems
+    (λ s e. omega arith) h
+
+-- the moment has come to the systems below a place, and no system is ahead of it
+pub record AreTicked (w : network.World) (place : ℕ) : Type 0 where
+  pub behind : IsBehind w
+  pub current : AllByRecursion (λ (s : SystemState). s.moment ≡ w.clock) (take place w.systems)
+
+ticked_set : (w : network.World) (place : ℕ) (after : SystemState) → AreTicked w place → after.moment ≡ w.clock
+    → AreTicked (record w { systems = slice_set w.systems place after }) (place + 1)
+ticked_set w place after h e = record {
+  behind = all_set (λ (s : SystemState). s.moment ≤ w.clock) w.systems place after h.behind (omega arith);
+  current = all_take_set (λ (s : SystemState). s.moment ≡ w.clock) w.systems place after h.current e;
+}
+
+ticked_same : (w v : network.World) (place : ℕ) → AreTicked w place → v.systems ≡ w.systems → v.clock ≡ w.clock → AreTicked v place
+ticked_same w v place h systems clock = record {
+  behind = subst (λ (t : ℕ). AllByRecursion (λ (s : SystemState). s.moment ≤ t) v.systems) (sym clock)
+      (subst (λ (ss : List SystemState). AllByRecursion (λ (s : SystemState). s.moment ≤ w.clock) ss) (sym systems) h.behind);
+  current = subst (λ (t : ℕ). AllByRecursion (λ (s : SystemState). s.moment ≡ t) (take place v.systems)) (sym clock)
+      (subst (λ (ss : List SystemState). AllByRecursion (λ (s : SystemState). s.moment ≡ w.clock) (take place ss)) (sym systems) h.current);
+}
+
+ticked_at : (w : network.World) (place : ℕ) (system : SystemState) → slice_get w.systems place ≡ Some system → AreTicked w place
+    → AreTicked (tick_at w place).world (place + 1)
+ticked_at w place system there h =
+    let effect = tick system w.clock in
+    let v : network.World = record w { systems = slice_set w.systems place effect.after } in
+    subst (λ (s : Option SystemState). AreTicked (network.at_system w place (λ t. tick t w.clock) s).world (place + 1)) (sym there)
+    (ticked_same v (network.takes_effect w place effect).world (place + 1) (ticked_set w place effect.after h (ticked system w.clock))
+    (systems-put_all_out effect.after.configuration v effect.outputs) (clock-put_all_out effect.after.configuration v effect.outputs))
+
+-- the code's network after the ticks of the systems below a place
+pub record Ticked (code : Network) (before after : List ℕ) (part : network.Step) (place : ℕ) : Type 0 where
+  pub puts : Puts code before after part
+  pub are : AreTicked part.world place
+
+abbrev pub TicksTo : Network → Network → List ℕ → List ℕ → ℕ → Type 0
+TicksTo start code before after place =
+    (model : network.World) → Shows start model → IsBehind model → Ticked code before after (network.tick_each model (range_with_len 0 place)) place
+
+pub ticks_none : (code : Network) (lines : List ℕ) → TicksTo code code lines lines 0
+ticks_none code lines model h behind =
+    record { puts = puts_nothing code model lines h; are = record { behind = behind; current = tt } }
+
+pub ticks_more : (start mid code : Network) (before between after : List ℕ) (place : ℕ) → TicksTo start mid before between place
+    → place < length mid.hosts.items
+    → ((model : network.World) → Shows mid model → Puts code between after (tick_at model place))
+    → TicksTo start code before after (place + 1)
+ticks_more start mid code before between after place so_far within next model h behind =
+    let w = network.tick_each model (range_with_len 0 place) in
+    let front = so_far model h behind in
+    let same = each_length mid.hosts.items w.world.systems front.puts.shows.systems in
+    let there = slice_get_within w.world.systems place (omega arith) in
+    subst (λ (s : network.Step). Ticked code before after s (place + 1)) (sym (tick_each-more model place))
+    record {
+      puts = puts_then code before between after w (λ v. tick_at v place) front.puts.lines (next w.world front.puts.shows);
+      are = ticked_at w.world place there.0 there.1 front.are;
+    }
+
+-- no host's moment is ahead of the clock
+pub not_ahead : (start code : Network) (before after : List ℕ) (place : ℕ) → (model : network.World) × Shows start model × IsBehind model
+    → TicksTo start code before after place
+    → (at : ℕ) (host : HostState) → slice_get code.hosts.items at ≡ Some host → host.moment ≤ code.clock
+not_ahead start code before after place running so_far at host here =
+    let model = running.0 in
+    let w = network.tick_each model (range_with_len 0 place) in
+    let part = so_far model running.1 running.2 in
+    let there = is_there code w.world at host part.puts.shows here in
+    let behind : there.system.moment ≤ w.world.clock
+    = all_at (λ (s : SystemState). s.moment ≤ w.world.clock) w.world.systems at there.system part.are.behind there.at in
+    omega (arith, there.stands.moment, part.puts.shows.clock)
+
+pub ticks_all : (start code : Network) (before after : List ℕ) (place : ℕ) → TicksTo start code before after place
+    → place ≡ length start.hosts.items → length code.hosts.items ≡ length start.hosts.items
+    → (model : network.World) → Shows start model → IsBehind model
+    → Follows code before after (network.tick_each model (range_with_len 0 (length model.systems)))
+ticks_all start code before after place so_far all length_is model h behind =
+    let w = network.tick_each model (range_with_len 0 place) in
+    let part = so_far model h behind in
+    let old = each_length start.hosts.items model.systems h.systems in
+    let new = each_length code.hosts.items w.world.systems part.puts.shows.systems in
+    subst (λ (n : ℕ). Follows code before after (network.tick_each model (range_with_len 0 n))) (all ∙ old)
+    record {
+      holds = record {
+        shows = part.puts.shows;
+        current = subst (λ (ss : List SystemState). AllByRecursion (λ (s : SystemState). s.moment ≡ w.world.clock) ss)
+            (take_all place w.world.systems (omega arith)) part.are.current;
+      };
+      lines = part.puts.lines;
+    }

@@ -1,0 +1,10 @@
+use Rattle.std.proofs.Common.{◌≡◌, ◌≤◌, vec_len}
+use Rattle.clnp_world.proofs.GiveSteps.{Gives}
+use Rattle.clnp_world.proofs.network.Network.give_each.Given as goal
+
+abbrev pub invariant-loop-place : goal.invariant-loop-place
+invariant-loop-place l = record {
+  gives : Gives l.initial.self l.self l.initial.lines.items l.lines.items l.limits l.at l.place;
+  hosts : vec_len l.self.hosts ≡ vec_len l.initial.self.hosts;
+  copies : vec_len l.initial.self.copies ≤ vec_len l.self.copies;
+}

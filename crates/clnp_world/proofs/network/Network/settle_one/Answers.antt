@@ -1,0 +1,17 @@
+-- The copy at the cursor is given, and the cursor moves on.
+use Rattle.std.proofs.Common.{◌+◌, arith}
+use Rattle.std.proofs.lemmas.Result.{on_ok_weaker}
+use Rattle.clnp_world.proofs.GiveSteps.{moves_on, settles}
+use Rattle.clnp_world.proofs.network.Network.settle_one.Goals as goal
+
+pub give_each-requires-clause-running : goal.give_each-requires-clause-running
+give_each-requires-clause-running c =
+    let model = c.requires.0 in
+    (record model { cursor = model.cursor + 1 }, moves_on c.args.self.now model c.requires.1)
+
+pub returns : goal.returns
+returns c =
+    on_ok_weaker c.give_each.result
+    (settles c.args.self.now c.give_each.new.self c.args.lines.now.items c.give_each.new.lines.items c.args.limits
+    (omega (arith, c.args.self.now.copies.ok.0)))
+    c.give_each.ensures

@@ -1,0 +1,10 @@
+use Rattle.std.proofs.Common.{◌≡◌, vec_len}
+use Rattle.clnp_world.proofs.TickSteps.{TicksTo}
+use Rattle.clnp_world.proofs.network.Network.tick_each.Given as goal
+
+abbrev pub invariant-loop-place : goal.invariant-loop-place
+invariant-loop-place l = record {
+  ticks : TicksTo l.initial.self l.self l.initial.lines.items l.lines.items l.place;
+  hosts : vec_len l.self.hosts ≡ vec_len l.initial.self.hosts;
+  clock : l.self.clock ≡ l.initial.self.clock;
+}

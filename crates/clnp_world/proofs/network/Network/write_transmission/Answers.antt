@@ -1,0 +1,16 @@
+-- The next copy's number is one more than the copies that there are.
+use Rattle.std.proofs.Common.{◌≡◌, ◌∙◌, ap, arith, length}
+use Rattle.std.proofs.lemmas.Result.{on_ok_weaker}
+use Rattle.clnp_plan.specs.Configuration.{SystemConfiguration}
+use Rattle.clnp_world.proofs.PutSteps.{same_transmission, counted}
+use Rattle.clnp_world.proofs.network.Network.write_transmission.Goals as goal
+
+pub returns : goal.returns
+returns c =
+    on_ok_weaker c.transmission_text.result (λ written model system h there.
+    let length_is : c.len.result ≡ length c.args.self.now.copies.items = omega (arith, c.len.ensures, c.args.self.now.copies.ok.0) in
+    same_transmission c.args.lines.now.items c.transmission_text.new.out.items c.args.self.now.clock model.clock c.name-name.result.now
+    system.configuration.name c.len.result (length model.copies) c.args.port c.args.target c.args.frame.now c.bytes.result.now h.clock
+    (c.name-name.ensures ∙ ap (λ (s : SystemConfiguration). s.name) (c.config_at.ensures model system h there))
+    (length_is ∙ counted c.args.self.now model h) c.bytes.ensures written)
+    c.transmission_text.ensures.written

@@ -1,0 +1,17 @@
+-- What a contract sees of a simulated network.
+use Rattle.std.specs.Prelude.{ℕ, List, Bool}
+use Rattle.end_system.specs.State.{HostState}
+use Rattle.clnp_world.specs.declared.copy.FrameCopy.{FrameCopy}
+
+pub record WorldState : Type 0 where
+  pub clock : ℕ
+  -- in the order of the declarations
+  pub hosts : List HostState
+  -- in the order of their numbers, which count from 1
+  pub copies : List FrameCopy
+  -- how many of the copies were settled or lost
+  pub cursor : ℕ
+  -- the octets of all copies, and 64 for each
+  pub weight : ℕ
+  -- memory was refused in a move
+  pub spent : Bool

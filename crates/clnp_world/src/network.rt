@@ -1,0 +1,61 @@
+//! The network between its moves: hosts, and the copies of frames on the subnetworks.
+ghost use Rattle.std.specs.Prelude.{IfOk};
+ghost use Rattle.clnp_network.specs.World as network;
+ghost use Rattle.clnp_world.specs.Parts.{Holds};
+ghost use Rattle.clnp_world.specs.Stands.{StandEach};
+
+use crate::copy::FrameCopy;
+use clnp_base::NoMemory;
+use end_system::EndSystem;
+use scenario::Scenario;
+use std::alloc::Global;
+
+mod giving;
+mod moves;
+mod outputs;
+mod sending;
+
+/// The hosts, the copies that were ever put on a subnetwork, and the clock. After memory was refused in a move it is in no
+/// known state.
+#[derive(Debug, Drop)]
+pub(crate) struct Network {
+    /// In ticks of 500 ms.
+    pub(crate) clock: u64,
+    pub(crate) hosts: Vec<EndSystem>,
+    pub(crate) copies: Vec<FrameCopy>,
+    /// How many of the copies were settled or lost.
+    pub(crate) cursor: usize,
+    /// The octets of all copies, and 64 for each.
+    pub(crate) weight: u64,
+}
+
+impl Network {
+    /// The network of a scenario's declarations, at the start.
+    pub(crate) fn new(alloc: Global, scenario: &Scenario) -> Result<Network, NoMemory>
+        ensures { IfOk result (λ code. Holds code (network.first_world scenario.now)) }
+    {
+        let hosts = hosts_of(alloc, scenario)?;
+        Ok(Network {
+            clock: 0,
+            hosts,
+            copies: Vec::new(alloc),
+            cursor: 0,
+            weight: 0,
+        })
+    }
+}
+
+/// The hosts that a scenario declares, at the start.
+fn hosts_of(alloc: Global, scenario: &Scenario) -> Result<Vec<EndSystem>, NoMemory>
+    ensures { IfOk result (λ hosts. StandEach hosts.items (network.states_from scenario.now.limits 0 scenario.now.systems)) }
+{
+    scenario.is_fit();
+    let limits = scenario.limits();
+    let systems = scenario.systems();
+    let mut hosts = Vec::new(alloc);
+    for system in systems {
+        let host = EndSystem::new(alloc, system, limits, 0, 0)?;
+        hosts.push(host)?;
+    }
+    Ok(hosts)
+}

@@ -1,0 +1,193 @@
+//! Copies that are given to the systems that they are for.
+ghost use Rattle.std.specs.Prelude.{◌≡◌, ◌+◌, ◌<◌, ◌≤◌, ◌++◌, OnOk, Some, slice_get, vec_len};
+ghost use Rattle.clnp_machine.specs.System.{SystemState};
+ghost use Rattle.clnp_machine.specs.Host as machine;
+ghost use Rattle.clnp_network.specs.World as network;
+ghost use Rattle.clnp_plan.specs.Journal.{Late, Void, line_text};
+ghost use Rattle.clnp_world.specs.Parts.{Follows, Holds, IsRunning, Shows};
+
+use super::Network;
+use crate::copy::is_addressee;
+use clnp_base::NoMemory;
+use clnp_plan::{Limits, late_text, void_text};
+use nsap::Target;
+use std::alloc::Global;
+
+/// The number of a host's one port.
+const PORT: u8 = 0;
+
+impl Network {
+    /// Gives the copy with a number to the host at a place, where it is for it; else a line says that
+    /// there is none for it.
+    pub(super) fn deliver(
+        &mut self,
+        alloc: Global,
+        limits: Limits,
+        number: u32,
+        place: usize,
+        lines: &mut Vec<u8>,
+    ) -> Result<(), NoMemory>
+        requires { IsRunning self.old }
+        ensures { OnOk result ((model : network.World) → Holds self.old model
+            → Follows self.new lines.old.items lines.new.items (network.deliver limits model number place)) }
+    {
+        if place >= self.hosts.len() {
+            return Ok(());
+        }
+        let at = number.saturating_sub(1) as usize;
+        if at >= self.copies.len() {
+            return self.write_void(alloc, number, place, lines);
+        }
+        if !self.is_for(at, place) {
+            return self.write_void(alloc, number, place, lines);
+        }
+        self.give(alloc, limits, u64::from(number), at, place, lines)
+    }
+
+    /// Gives the copy at the cursor to each of its addressees.
+    pub(super) fn settle_one(
+        &mut self,
+        alloc: Global,
+        limits: Limits,
+        lines: &mut Vec<u8>,
+    ) -> Result<(), NoMemory>
+        requires { IsRunning self.old }
+        ensures { OnOk result ((model : network.World) → Holds self.old model
+            → Follows self.new lines.old.items lines.new.items (network.settle_one limits model)) }
+    {
+        let at = self.cursor;
+        if at >= self.copies.len() {
+            return Ok(());
+        }
+        self.cursor = at + 1;
+        self.give_each(alloc, limits, at, lines)
+    }
+
+    /// Gives a copy to each of its addressees, in the order of the declarations.
+    fn give_each(
+        &mut self,
+        alloc: Global,
+        limits: Limits,
+        at: usize,
+        lines: &mut Vec<u8>,
+    ) -> Result<(), NoMemory>
+        requires at_in { at < vec_len self.old.copies }
+        requires running { IsRunning self.old }
+        ensures { OnOk result ((model : network.World) (copy : network.Copy) → Holds self.old model
+            → slice_get model.copies at ≡ Some copy
+            → Follows self.new lines.old.items lines.new.items
+            (network.give_each limits (record { number = at + 1; copy = copy }) model (network.addressees_from 0 copy model.systems))) }
+    {
+        let number = at as u64 + 1;
+        for place in 0..self.hosts.len() {
+            if self.is_for(at, place) {
+                self.give(alloc, limits, number, at, place, lines)?;
+            }
+        }
+        Ok(())
+    }
+
+    /// Whether a copy is for the host at a place.
+    fn is_for(&self, at: usize, place: usize) -> bool
+        requires at_in { at < vec_len self.now.copies }
+        requires place_in { place < vec_len self.now.hosts }
+        ensures { (model : network.World) (copy : network.Copy) (system : SystemState) → Shows self.now model
+            → slice_get model.copies at ≡ Some copy → slice_get model.systems place ≡ Some system
+            → result ≡ network.is_addressee copy system.configuration }
+    {
+        is_addressee(&self.copies[at], self.config_at(place))
+    }
+
+    /// Gives a copy to the host at a place, unless it is late; then a line says so.
+    fn give(
+        &mut self,
+        alloc: Global,
+        limits: Limits,
+        number: u64,
+        at: usize,
+        place: usize,
+        lines: &mut Vec<u8>,
+    ) -> Result<(), NoMemory>
+        requires at_in { at < vec_len self.old.copies }
+        requires place_in { place < vec_len self.old.hosts }
+        requires running { IsRunning self.old }
+        ensures follows { OnOk result ((model : network.World) (copy : network.Copy) → Holds self.old model
+            → slice_get model.copies at ≡ Some copy
+            → Follows self.new lines.old.items lines.new.items (network.give limits (record { number = number; copy = copy }) model place)) }
+        ensures hosts { vec_len self.new.hosts ≡ vec_len self.old.hosts }
+        ensures copies { vec_len self.old.copies ≤ vec_len self.new.copies }
+    {
+        if self.is_late(limits, at) {
+            return self.write_late(alloc, number, place, lines);
+        }
+        self.hand(alloc, at, place, lines)
+    }
+
+    /// Whether a copy is older than one may be that is given.
+    fn is_late(&self, limits: Limits, at: usize) -> bool
+        requires { at < vec_len self.now.copies }
+        ensures { (model : network.World) (copy : network.Copy) → Shows self.now model → slice_get model.copies at ≡ Some copy
+            → result ≡ network.is_late limits model copy }
+    {
+        let birth = self.copies[at].birth;
+        self.clock.saturating_sub(birth) > u64::from(limits.age)
+    }
+
+    /// Hands a copy to the host at a place.
+    fn hand(
+        &mut self,
+        alloc: Global,
+        at: usize,
+        place: usize,
+        lines: &mut Vec<u8>,
+    ) -> Result<(), NoMemory>
+        requires at_in { at < vec_len self.old.copies }
+        requires place_in { place < vec_len self.old.hosts }
+        requires running { IsRunning self.old }
+        ensures follows { OnOk result ((model : network.World) (copy : network.Copy) (system : SystemState) → Holds self.old model
+            → slice_get model.copies at ≡ Some copy → slice_get model.systems place ≡ Some system
+            → Follows self.new lines.old.items lines.new.items (network.takes_effect model place (machine.arrive system copy.content))) }
+        ensures hosts { vec_len self.new.hosts ≡ vec_len self.old.hosts }
+        ensures copies { vec_len self.old.copies ≤ vec_len self.new.copies }
+    {
+        let copy = &self.copies[at];
+        let group = !matches!(copy.target, Target::System(_));
+        let mut outputs = Vec::new(alloc);
+        self.hosts[place].frame(alloc, PORT, copy.sender, group, &copy.frame, &mut outputs)?;
+        self.put_all_out(alloc, place, outputs, lines)
+    }
+
+    /// Appends the line of a copy that isn't there for the host at a place.
+    fn write_void(
+        &self,
+        alloc: Global,
+        number: u32,
+        place: usize,
+        lines: &mut Vec<u8>,
+    ) -> Result<(), NoMemory>
+        requires { place < vec_len self.now.hosts }
+        ensures { OnOk result ((model : network.World) (system : SystemState) → Shows self.now model
+            → slice_get model.systems place ≡ Some system
+            → lines.new.items ≡ lines.old.items ++ line_text (Void model.clock system.configuration.name number)) }
+    {
+        let name = self.config_at(place).name();
+        void_text(alloc, self.clock, name, number, lines)
+    }
+
+    /// Appends the line of a copy that is too old for the host at a place.
+    fn write_late(
+        &self,
+        alloc: Global,
+        number: u64,
+        place: usize,
+        lines: &mut Vec<u8>,
+    ) -> Result<(), NoMemory>
+        requires { place < vec_len self.now.hosts }
+        ensures { OnOk result ((model : network.World) (system : SystemState) → Shows self.now model
+            → slice_get model.systems place ≡ Some system
+            → lines.new.items ≡ lines.old.items ++ line_text (Late model.clock system.configuration.name number)) }
+    {
+        let name = self.config_at(place).name();
+        late_text(alloc, self.clock, name, number, lines)
+    }
+}

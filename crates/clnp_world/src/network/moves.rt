@@ -1,0 +1,179 @@
+//! The moves, and what an event does.
+ghost use Rattle.std.specs.Prelude.{◌≡◌, ◌+◌, ◌<◌, ◌≤◌, ◌^◌, ℕ, List, ◌++◌, OnOk, OnErr, Some, length, slice_get, vec_len};
+ghost use Rattle.std.specs.List.{AllByRecursion, range_with_len};
+ghost use Rattle.clnp_machine.specs.System.{SystemState};
+ghost use Rattle.clnp_machine.specs.Host as machine;
+ghost use Rattle.clnp_network.specs.World as network;
+ghost use Rattle.clnp_world.specs.Parts.{Follows, Holds, IsBehind, IsRunning, Puts, Shows};
+ghost use Rattle.end_system.specs.State.{HostState};
+ghost use Rattle.scenario.specs.Scenario.{AsksFairly};
+
+use super::Network;
+use clnp_base::NoMemory;
+use clnp_plan::{Limits, Note};
+use scenario::{Event, Move, Scenario};
+use std::alloc::Global;
+
+impl Network {
+    /// Makes one move, and appends its lines to the journal, all of them or none.
+    pub(crate) fn write_move(
+        &mut self,
+        alloc: Global,
+        scenario: &Scenario,
+        mv: &Move,
+        journal: &mut Vec<u8>,
+    ) -> Result<(), NoMemory>
+        requires clock { self.old.clock + 1 < 2 ^ 62 }
+        requires running { IsRunning self.old }
+        ensures follows { OnOk result ((model : network.World) → Holds self.old model
+            → Follows self.new journal.old.items journal.new.items (network.after scenario.now model mv.now)) }
+        ensures same { OnErr result (journal.new.items ≡ journal.old.items) }
+    {
+        let mut lines = Vec::new(alloc);
+        self.make_move(alloc, scenario, mv, &mut lines)?;
+        journal.extend_from_slice(lines.as_slice())?;
+        Ok(())
+    }
+
+    /// Makes one move, and appends its lines.
+    fn make_move(
+        &mut self,
+        alloc: Global,
+        scenario: &Scenario,
+        mv: &Move,
+        lines: &mut Vec<u8>,
+    ) -> Result<(), NoMemory>
+        requires clock { self.old.clock + 1 < 2 ^ 62 }
+        requires running { IsRunning self.old }
+        ensures { OnOk result ((model : network.World) → Holds self.old model
+            → Follows self.new lines.old.items lines.new.items (network.after scenario.now model mv.now)) }
+    {
+        scenario.is_fit();
+        let limits = *scenario.limits();
+        match mv {
+            Move::One(place) => self.event_at(alloc, limits, scenario.events(), *place, lines),
+            Move::SettleOne => self.settle_one(alloc, limits, lines),
+            Move::LoseOne => {
+                self.lose_one();
+                Ok(())
+            }
+            Move::TickOne => self.tick_one(alloc, lines),
+        }
+    }
+
+    /// What the event at a place does, where there is one.
+    fn event_at(
+        &mut self,
+        alloc: Global,
+        limits: Limits,
+        events: &[Event],
+        place: usize,
+        lines: &mut Vec<u8>,
+    ) -> Result<(), NoMemory>
+        requires running { IsRunning self.old }
+        requires fair { AllByRecursion AsksFairly events.now }
+        ensures { OnOk result ((model : network.World) → Holds self.old model
+            → Follows self.new lines.old.items lines.new.items (network.event_happens limits model (slice_get events.now place))) }
+    {
+        if place >= events.len() {
+            return Ok(());
+        }
+        self.event_happens(alloc, limits, &events[place], lines)
+    }
+
+    /// What an event of one move does.
+    fn event_happens(
+        &mut self,
+        alloc: Global,
+        limits: Limits,
+        event: &Event,
+        lines: &mut Vec<u8>,
+    ) -> Result<(), NoMemory>
+        requires running { IsRunning self.old }
+        requires fair { AsksFairly event.now }
+        ensures { OnOk result ((model : network.World) → Holds self.old model
+            → Follows self.new lines.old.items lines.new.items (network.event_happens limits model (Some event.now))) }
+    {
+        match event {
+            Event::Send {
+                system,
+                from,
+                to,
+                body,
+                ask,
+            } => self.send(alloc, usize::from(*system), *from, *to, body, ask, lines),
+            Event::Deliver { copy, system } => {
+                self.deliver(alloc, limits, *copy, usize::from(*system), lines)
+            }
+            Event::Restart { system } => self.restart(alloc, usize::from(*system), lines),
+            Event::Settle { .. } | Event::Lose { .. } | Event::Tick { .. } => Ok(()),
+        }
+    }
+
+    /// Passes over the copy at the cursor: it is given to nobody.
+    fn lose_one(&mut self)
+        ensures { (model : network.World) → Holds self.old model
+            → (lines : List ℕ) → Follows self.new lines lines (network.lose_one model) }
+    {
+        if self.cursor >= self.copies.len() {
+            return;
+        }
+        self.cursor += 1;
+    }
+
+    /// Restarts the host at a place.
+    fn restart(&mut self, alloc: Global, place: usize, lines: &mut Vec<u8>) -> Result<(), NoMemory>
+        ensures { OnOk result ((model : network.World) → Holds self.old model
+            → Follows self.new lines.old.items lines.new.items (network.system_does model place machine.restart)) }
+    {
+        if place >= self.hosts.len() {
+            return Ok(());
+        }
+        self.hosts[place].restart();
+        self.write_note(alloc, place, &Note::Restart, lines)
+    }
+
+    /// One tick passes.
+    fn tick_one(&mut self, alloc: Global, lines: &mut Vec<u8>) -> Result<(), NoMemory>
+        requires clock { self.old.clock + 1 < 2 ^ 62 }
+        requires running { IsRunning self.old }
+        ensures { OnOk result ((model : network.World) → Holds self.old model
+            → Follows self.new lines.old.items lines.new.items (network.tick_one model)) }
+    {
+        self.clock += 1;
+        self.tick_each(alloc, lines)
+    }
+
+    /// The clock's moment comes to each host, in the order of the declarations.
+    fn tick_each(&mut self, alloc: Global, lines: &mut Vec<u8>) -> Result<(), NoMemory>
+        requires clock { self.old.clock < 2 ^ 62 }
+        requires running { (model : network.World) × Shows self.old model × IsBehind model }
+        ensures { OnOk result ((model : network.World) → Shows self.old model → IsBehind model
+            → Follows self.new lines.old.items lines.new.items (network.tick_each model (range_with_len 0 (length model.systems)))) }
+    {
+        for place in 0..self.hosts.len() {
+            self.tick_host(alloc, place, lines)?;
+        }
+        Ok(())
+    }
+
+    /// The clock's moment comes to the host at a place.
+    fn tick_host(
+        &mut self,
+        alloc: Global,
+        place: usize,
+        lines: &mut Vec<u8>,
+    ) -> Result<(), NoMemory>
+        requires clock { self.old.clock < 2 ^ 62 }
+        requires place_in { place < vec_len self.old.hosts }
+        requires later { (host : HostState) → slice_get self.old.hosts.items place ≡ Some host → host.moment ≤ self.old.clock }
+        ensures puts { OnOk result ((model : network.World) → Shows self.old model
+            → Puts self.new lines.old.items lines.new.items (network.system_does model place (λ system. machine.tick system model.clock))) }
+        ensures hosts { vec_len self.new.hosts ≡ vec_len self.old.hosts }
+        ensures clock { self.new.clock ≡ self.old.clock }
+    {
+        let mut outputs = Vec::new(alloc);
+        self.hosts[place].tick(alloc, self.clock, &mut outputs)?;
+        self.put_all_out(alloc, place, outputs, lines)
+    }
+}

@@ -1,0 +1,183 @@
+//! What systems give out: frames become copies on a subnetwork, and notes lines.
+ghost use Rattle.std.specs.Prelude.{◌≡◌, ◌+◌, ◌<◌, ◌≤◌, ◌++◌, List, IfOk, IfSome, OnOk, Some, length, slice_get, vec_len};
+ghost use Rattle.clnp_machine.specs.System as machine;
+ghost use Rattle.clnp_machine.specs.System.{SystemState};
+ghost use Rattle.clnp_network.specs.World as network;
+ghost use Rattle.clnp_plan.specs.Journal.{Noted, Transmitted, line_text};
+ghost use Rattle.clnp_world.specs.Parts.{Puts, PutsCopies, Shows};
+ghost use Rattle.clnp_world.specs.Seen.{frame_copies};
+ghost use Rattle.end_system.specs.Stands.{GiveAll, Gives, body_of};
+
+use super::Network;
+use crate::copy::FrameCopy;
+use clnp_base::NoMemory;
+use clnp_plan::{Note, Output, Sending, SystemConfig, journal_text, transmission_text};
+use clnp_views::Frame;
+use nsap::Target;
+use std::alloc::Global;
+
+/// What a copy weighs beside the octets of its frame.
+const COPY_WEIGHT: u64 = 64;
+
+impl Network {
+    /// Puts the outputs of the host at a place on the network, in their order.
+    pub(super) fn put_all_out(
+        &mut self,
+        alloc: Global,
+        place: usize,
+        outputs: Vec<Output>,
+        lines: &mut Vec<u8>,
+    ) -> Result<(), NoMemory>
+        requires { place < vec_len self.old.hosts }
+        ensures puts { OnOk result ((model : network.World) (system : SystemState) (others : List machine.Output) → Shows self.old model
+            → slice_get model.systems place ≡ Some system → GiveAll self.old.clock outputs.items others
+            → Puts self.new lines.old.items lines.new.items (network.put_all_out system.configuration model others)) }
+        ensures hosts { self.new.hosts ≡ self.old.hosts }
+        ensures clock { self.new.clock ≡ self.old.clock }
+        ensures copies { vec_len self.old.copies ≤ vec_len self.new.copies }
+    {
+        for output in outputs {
+            self.put_out(alloc, place, output, lines)?;
+        }
+        Ok(())
+    }
+
+    /// Puts an output of the host at a place on the network: its note is written, or its frame put on
+    /// the port's subnetwork.
+    fn put_out(
+        &mut self,
+        alloc: Global,
+        place: usize,
+        output: Output,
+        lines: &mut Vec<u8>,
+    ) -> Result<(), NoMemory>
+        requires { place < vec_len self.old.hosts }
+        ensures puts { OnOk result ((model : network.World) (system : SystemState) (other : machine.Output) → Shows self.old model
+            → slice_get model.systems place ≡ Some system → Gives self.old.clock output other
+            → Puts self.new lines.old.items lines.new.items (network.put_out system.configuration model other)) }
+        ensures hosts { self.new.hosts ≡ self.old.hosts }
+        ensures clock { self.new.clock ≡ self.old.clock }
+        ensures copies { vec_len self.old.copies ≤ vec_len self.new.copies }
+    {
+        match output {
+            Output::Note(note) => self.write_note(alloc, place, &note, lines),
+            Output::Transmit(sending) => {
+                let frame = frame_of(alloc, &sending)?;
+                self.write_transmission(alloc, place, sending.port, sending.to, &frame, lines)?;
+                self.put_copy(place, sending.port, sending.to, frame)
+            }
+        }
+    }
+
+    /// Appends the line of a note of the host at a place.
+    pub(super) fn write_note(
+        &self,
+        alloc: Global,
+        place: usize,
+        note: &Note,
+        lines: &mut Vec<u8>,
+    ) -> Result<(), NoMemory>
+        requires { place < vec_len self.now.hosts }
+        ensures { OnOk result ((model : network.World) (system : SystemState) → Shows self.now model
+            → slice_get model.systems place ≡ Some system
+            → lines.new.items ≡ lines.old.items ++ line_text (Noted model.clock system.configuration.name note.now)) }
+    {
+        journal_text(alloc, self.clock, self.config_at(place).name(), note, lines)
+    }
+
+    /// Appends the line of a frame that the host at a place transmits as the next copy.
+    fn write_transmission(
+        &self,
+        alloc: Global,
+        place: usize,
+        port: u8,
+        target: Target,
+        frame: &Frame,
+        lines: &mut Vec<u8>,
+    ) -> Result<(), NoMemory>
+        requires { place < vec_len self.now.hosts }
+        ensures { OnOk result ((model : network.World) (system : SystemState) → Shows self.now model
+            → slice_get model.systems place ≡ Some system
+            → lines.new.items ≡ lines.old.items ++ line_text (Transmitted model.clock system.configuration.name
+            (length model.copies + 1) port target frame.now)) }
+    {
+        let name = self.config_at(place).name();
+        let number = self.copies.len() as u64 + 1;
+        transmission_text(
+            alloc,
+            self.clock,
+            name,
+            number,
+            port,
+            target,
+            frame.bytes(),
+            lines,
+        )
+    }
+
+    /// Puts a frame of the host at a place on the subnetwork of its port, where it has that port. Its unit was made at this
+    /// moment, since no system carries on a frame that came.
+    fn put_copy(
+        &mut self,
+        place: usize,
+        port: u8,
+        target: Target,
+        frame: Frame,
+    ) -> Result<(), NoMemory>
+        requires { place < vec_len self.old.hosts }
+        ensures puts { OnOk result ((model : network.World) (system : SystemState) → Shows self.old model
+            → slice_get model.systems place ≡ Some system
+            → PutsCopies self.old self.new (frame_copies (slice_get system.configuration.ports port) target self.old.clock frame)) }
+        ensures others { self.new ≡ record self.old { copies = self.new.copies; weight = self.new.weight } }
+        ensures more { vec_len self.old.copies ≤ vec_len self.new.copies }
+    {
+        let ports = self.config_at(place).ports();
+        let number = usize::from(port);
+        if number >= ports.len() {
+            return Ok(());
+        }
+        let at = ports[number];
+        let Some(weight) = weight_with(self.weight, &frame) else {
+            return Err(NoMemory);
+        };
+        let copy = FrameCopy {
+            subnet: at.subnet,
+            sender: at.snpa,
+            target,
+            birth: self.clock,
+            frame,
+        };
+        self.copies.push(copy)?;
+        self.weight = weight;
+        Ok(())
+    }
+
+    /// What the scenario says of the host at a place.
+    pub(super) fn config_at(&self, place: usize) -> &SystemConfig
+        requires { place < vec_len self.now.hosts }
+        ensures { (model : network.World) (system : SystemState) → Shows self.now model → slice_get model.systems place ≡ Some system
+            → result.now ≡ system.configuration }
+    {
+        self.hosts[place].config()
+    }
+}
+
+/// The weight of some copies and of one more; none where no number is so great, and so no memory.
+fn weight_with(weight: u64, frame: &Frame) -> Option<u64>
+    ensures { IfSome result (λ more. more ≡ weight + (length frame.now + 64)) }
+{
+    weight
+        .checked_add(frame.bytes().len() as u64)?
+        .checked_add(COPY_WEIGHT)
+}
+
+/// The frame that goes out: the header's octets, and the data that follow them.
+fn frame_of(alloc: Global, sending: &Sending) -> Result<Frame, NoMemory>
+    ensures { IfOk result (λ frame. frame ≡ sending.now.head ++ body_of sending.now.body) }
+{
+    let mut octets = Vec::from_slice(alloc, sending.head.as_bytes())?;
+    if let Some(body) = &sending.body {
+        octets.extend_from_slice(body.bytes())?;
+    }
+    Frame::copy(alloc, &octets)
+}

@@ -1,0 +1,108 @@
+//! Data units that a host is asked to send.
+ghost use Rattle.std.specs.Prelude.{◌≡◌, ◌+◌, ◌/◌, ◌%◌, IfOk, OnOk, Some, false};
+ghost use Rattle.clnp_machine.specs.Host as machine;
+ghost use Rattle.clnp_network.specs.World as network;
+ghost use Rattle.clnp_options.specs.Grammar.{FitsKind};
+ghost use Rattle.clnp_options.specs.Parameter.{parameters};
+ghost use Rattle.clnp_world.specs.Parts.{Follows, Holds};
+ghost use Rattle.local_entity.specs.Local as entity;
+ghost use Rattle.scenario.specs.Scenario.{octets_of};
+ghost use Rattle.scenario.specs.declared.event.Body.TheVariants.{Pattern};
+
+use super::Network;
+use clnp_base::NoMemory;
+use clnp_plan::{Ask, Note, SendRefusal, Why};
+use nsap::Address;
+use scenario::Body;
+use std::alloc::Global;
+
+impl Network {
+    /// Asks the host at a place to send a unit.
+    pub(super) fn send(
+        &mut self,
+        alloc: Global,
+        place: usize,
+        from: Address,
+        to: Address,
+        body: &Body,
+        ask: &Ask,
+        lines: &mut Vec<u8>,
+    ) -> Result<(), NoMemory>
+        requires { FitsKind false (parameters ask.now.options) }
+        ensures { OnOk result ((model : network.World) → Holds self.old model
+            → Follows self.new lines.old.items lines.new.items
+            (network.system_does model place (λ s. machine.send s from to (octets_of body.now) ask.now))) }
+    {
+        match body {
+            Body::Hex(octets) => {
+                self.send_octets(alloc, place, from, to, octets.as_bytes(), ask, lines)
+            }
+            Body::Pattern { len, start } => {
+                let octets = pattern(alloc, *len, *start)?;
+                self.send_octets(alloc, place, from, to, &octets, ask, lines)
+            }
+        }
+    }
+
+    /// Asks the host at a place to send a unit of these octets.
+    fn send_octets(
+        &mut self,
+        alloc: Global,
+        place: usize,
+        from: Address,
+        to: Address,
+        body: &[u8],
+        ask: &Ask,
+        lines: &mut Vec<u8>,
+    ) -> Result<(), NoMemory>
+        requires { FitsKind false (parameters ask.now.options) }
+        ensures { OnOk result ((model : network.World) → Holds self.old model
+            → Follows self.new lines.old.items lines.new.items
+            (network.system_does model place (λ s. machine.send s from to body.now ask.now))) }
+    {
+        if place >= self.hosts.len() {
+            return Ok(());
+        }
+        let mut outputs = Vec::new(alloc);
+        match self.hosts[place].send(alloc, from, to, body, ask, &mut outputs) {
+            Ok(_unit) => self.put_all_out(alloc, place, outputs, lines),
+            Err(refusal) => {
+                let note = refusal_note(refusal)?;
+                self.write_note(alloc, place, &note, lines)
+            }
+        }
+    }
+}
+
+/// What is noted where a unit isn't made.
+fn refusal_note(refusal: SendRefusal) -> Result<Note, NoMemory>
+    ensures { IfOk result (λ note. entity.refusal_note refusal ≡ Some note) }
+{
+    let (why, value) = match refusal {
+        SendRefusal::NotMine => (Why::NotMine, 0),
+        SendRefusal::TooLong { octets } => (Why::TooLong, octets as u64),
+        SendRefusal::IdsBusy { used } => (Why::IdsBusy, used),
+        SendRefusal::Quiet { until } => (Why::Quiet, until),
+        SendRefusal::NoMemory => return Err(NoMemory),
+    };
+    Ok(Note::Refused { why, value })
+}
+
+/// The octets of a pattern.
+fn pattern(alloc: Global, len: u32, start: u8) -> Result<Vec<u8>, NoMemory>
+    ensures { IfOk result (λ octets. octets.items ≡ octets_of (Pattern len start)) }
+{
+    let mut octets = Vec::new(alloc);
+    for place in 0..len {
+        octets.push(pattern_octet(place, start))?;
+    }
+    Ok(octets)
+}
+
+/// The octet at a place of a pattern.
+fn pattern_octet(place: u32, start: u8) -> u8
+    ensures { result ≡ (place + place / 256 + start) % 256 }
+{
+    let place = u64::from(place);
+    ((place + place / 256 + u64::from(start)) % 256) as u8
+}

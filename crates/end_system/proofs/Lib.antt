@@ -1,0 +1,8 @@
+pub mod Arrivals
+pub mod Deeds
+pub mod Given
+pub mod Outputs
+pub mod Packets
+pub mod Pieces
+pub mod Ports
+pub mod Sent

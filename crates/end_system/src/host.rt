@@ -1,0 +1,401 @@
+//! The steps of a host.
+ghost use Rattle.std.specs.Prelude.{[], ◌∷◌, ◌++◌, List, ◌≡◌, ◌≤◌, ◌<◌, ◌+◌, ◌^◌, ℕ, IfErr, IfOk, OnOk, OnErr, IsErr, MatchResult, None, false, true, length};
+ghost use Rattle.clnp_options.specs.Grammar.{FitsKind};
+ghost use Rattle.clnp_options.specs.Parameter.{parameters};
+ghost use Rattle.pdu_header.specs.Grammar.{BeginsWith};
+ghost use Rattle.pdu_header.specs.Value.{PduValue};
+ghost use Rattle.pdu_header.specs.declared.kind.Kind.TheVariants.{Dt};
+ghost use Rattle.reassembly.specs.Buffer.{held};
+ghost use Rattle.clnp_plan.specs.declared.config.Role.TheVariants.{Host};
+ghost use Rattle.clnp_machine.specs.System.{Content, IsCarried, SystemState, first_state, frame_of, next_number};
+ghost use Rattle.clnp_machine.specs.Local.{refusal, unit_of};
+ghost use Rattle.clnp_machine.specs.Host as machine;
+ghost use Rattle.clnp_machine.specs.Unit.{IsCarriable, Packet, wire};
+ghost use Rattle.local_entity.specs.declared.action.Action.TheVariants.{Note as Noted};
+ghost use Rattle.local_entity.specs.Local as entity;
+ghost use Rattle.local_entity.specs.Local.{IsWhy};
+ghost use Rattle.end_system.specs.Deeds.{AppendsSome, LeavesSame, arrival_deed, has_address, note_of, packet_deed};
+ghost use Rattle.end_system.specs.Stands.{Appends, IsLeftBy, Stands};
+
+use clnp_base::NoMemory;
+use clnp_plan::{Ask, Limits, Note, Output, SendRefusal, SystemConfig};
+use clnp_views::Frame;
+use local_entity::{Action, Local};
+use nsap::{Address, Snpa, Target};
+use pdu_header::{Kind, Refusal, decode, laws};
+use std::alloc::Global;
+use std::marker::Model;
+
+mod sending;
+#[cfg(test)]
+mod tests;
+
+/// ISO 8473, section 7.9.5: the lifetime expired in transit.
+const LIFETIME_EXPIRED: u8 = 0xA0;
+
+/// ISO 8473, section 7.9.5: the reason isn't specified.
+const NOT_SPECIFIED: u8 = 0x00;
+
+/// A host. Its moment is that of its last `tick`, or of its start.
+///
+/// Once memory was refused in `tick`, `frame` or `send` it is spent: from then on each of them answers `NoMemory`.
+///
+/// A contract says by `Stands` which states of a system it stands for.
+#[derive(Debug, Drop)]
+pub struct EndSystem {
+    entity: Local,
+    moment: u64,
+    spent: bool,
+}
+
+impl Model for EndSystem {
+    ghost use Rattle.end_system.specs.State.{HostState, IsSound};
+
+    ghost Value = { HostState };
+
+    ghost view = { λ h. record { entity = h.entity; moment = h.moment; spent = h.spent } };
+
+    ghost invariant = { λ h. IsSound (record { entity = h.entity; moment = h.moment; spent = h.spent }) };
+}
+
+impl EndSystem {
+    /// A host at its start, at a moment. It makes no unit with an identifier before the moment `quiet`.
+    ///
+    /// # Errors
+    ///
+    /// `NoMemory`.
+    pub fn new(
+        alloc: Global,
+        config: &SystemConfig,
+        limits: &Limits,
+        now: u64,
+        quiet: u64,
+    ) -> Result<EndSystem, NoMemory>
+        requires role { config.now.role ≡ Host }
+        requires hold { 1 ≤ limits.now.hold }
+        requires moment { now < 2 ^ 62 }
+        requires quiet { quiet ≤ 2 ^ 62 + 16384 }
+        ensures { IfOk result (λ host. (place : ℕ) → Stands host (first_state place config.now limits.now now quiet)) }
+    {
+        let entity = Local::new(alloc, config, limits, quiet)?;
+        Ok(EndSystem {
+            entity,
+            moment: now,
+            spent: false,
+        })
+    }
+
+    /// A moment has come: what was waiting for it happens, and what it gives out is appended.
+    ///
+    /// # Errors
+    ///
+    /// `NoMemory`: `out` is then as it was, and the host is spent.
+    pub fn tick(&mut self, alloc: Global, now: u64, out: &mut Vec<Output>) -> Result<(), NoMemory>
+        requires later { self.old.moment ≤ now }
+        requires moment { now < 2 ^ 62 }
+        ensures stands { OnOk result ((s : SystemState) → Stands self.old s → Stands self.new (machine.tick s now).after) }
+        ensures outputs { OnOk result ((s : SystemState) → Stands self.old s
+            → Appends now out.old.items out.new.items (machine.tick s now).outputs) }
+        ensures none { OnErr result (out.new.items ≡ out.old.items) }
+        ensures spent { OnErr result (self.new.spent ≡ true) }
+        ensures refused { self.old.spent ≡ true → IsErr result }
+        ensures config { self.new.entity.config ≡ self.old.entity.config }
+    {
+        if self.spent {
+            return Err(NoMemory);
+        }
+        match self.come_to(alloc, now, out) {
+            Ok(()) => Ok(()),
+            Err(NoMemory) => {
+                self.spent = true;
+                Err(NoMemory)
+            }
+        }
+    }
+
+    /// A frame comes at a port, from a system of this subnetwork, to the host alone or through a group; what the host gives
+    /// out is appended.
+    ///
+    /// # Errors
+    ///
+    /// `NoMemory`: `out` is then as it was, and the host is spent.
+    pub fn frame(
+        &mut self,
+        alloc: Global,
+        port: u8,
+        from: Snpa,
+        group: bool,
+        frame: &Frame,
+        out: &mut Vec<Output>,
+    ) -> Result<(), NoMemory>
+        requires port { port ≡ 0 }
+        requires few { length frame.now ≤ 70000 }
+        ensures stands { OnOk result ((s : SystemState) (content : Content) → Stands self.old s → IsCarried content
+            → frame_of content ≡ frame.now → Stands self.new (machine.arrive s content).after) }
+        ensures outputs { OnOk result ((s : SystemState) (content : Content) → Stands self.old s → IsCarried content
+            → frame_of content ≡ frame.now → Appends self.old.moment out.old.items out.new.items (machine.arrive s content).outputs) }
+        ensures none { OnErr result (out.new.items ≡ out.old.items) }
+        ensures spent { OnErr result (self.new.spent ≡ true) }
+        ensures refused { self.old.spent ≡ true → IsErr result }
+        ensures config { self.new.entity.config ≡ self.old.entity.config }
+    {
+        if self.spent {
+            return Err(NoMemory);
+        }
+        match self.frame_comes(alloc, frame, out) {
+            Ok(()) => Ok(()),
+            Err(NoMemory) => {
+                self.spent = true;
+                Err(NoMemory)
+            }
+        }
+    }
+
+    /// Makes a data unit of some octets and sends it, cut for the MTU where it may be; what the host gives out is
+    /// appended. Gives the unit's number.
+    ///
+    /// # Errors
+    ///
+    /// The first of these that holds: `NotMine` exactly where the source isn't one of the host's addresses; `TooLong`
+    /// exactly where the body has more than 64,512 octets, or else its header would have more than 254; `Quiet` or
+    /// `IdsBusy` exactly where it may be segmented and no identifier can be drawn for it. Nothing changes then. At
+    /// `NoMemory` `out` is as it was, and the host is spent.
+    pub fn send(
+        &mut self,
+        alloc: Global,
+        from: Address,
+        to: Address,
+        body: &[u8],
+        ask: &Ask,
+        out: &mut Vec<Output>,
+    ) -> Result<u64, SendRefusal>
+        requires { FitsKind false (parameters ask.now.options) }
+        ensures answer { (s : SystemState) → Stands self.old s → MatchResult result
+            (λ unit. (refusal s (unit_of s Dt from to body.now ask.now) ≡ None) × (unit ≡ next_number s))
+            (λ e. IsWhy e (refusal s (unit_of s Dt from to body.now ask.now))) }
+        ensures stands { OnOk result ((s : SystemState) → Stands self.old s → Stands self.new (machine.send s from to body.now ask.now).after) }
+        ensures outputs { OnOk result ((s : SystemState) → Stands self.old s
+            → Appends self.old.moment out.old.items out.new.items (machine.send s from to body.now ask.now).outputs) }
+        ensures none { OnErr result (out.new.items ≡ out.old.items) }
+        ensures left { IfErr result (λ e. IsLeftBy e self.old self.new) }
+        ensures refused { self.old.spent ≡ true → IsErr result }
+        ensures config { self.new.entity.config ≡ self.old.entity.config }
+    {
+        if self.spent {
+            return Err(SendRefusal::NoMemory);
+        }
+        match self.make_unit(alloc, from, to, body, ask, out) {
+            Ok(unit) => Ok(unit),
+            Err(SendRefusal::NoMemory) => {
+                self.spent = true;
+                Err(SendRefusal::NoMemory)
+            }
+            Err(refusal) => Err(refusal),
+        }
+    }
+
+    /// Forgets all that it keeps, and is quiet as long as an identifier rests; the count of its units goes on.
+    pub fn restart(&mut self)
+        ensures stands { (s : SystemState) → Stands self.old s → Stands self.new (machine.restart s).after }
+        ensures spent { self.new.spent ≡ self.old.spent }
+        ensures config { self.new.entity.config ≡ self.old.entity.config }
+    {
+        self.entity.restart(self.moment);
+    }
+
+    /// How many octets are held for reassembly: of the whole frames in which kept segments came.
+    pub fn held(&self) -> u32
+        ensures { (s : SystemState) → Stands self.now s → result ≡ held s.buffers }
+    {
+        self.entity.held()
+    }
+
+    /// Where it sends a PDU for an address: no system is known to it, so to all end systems (ISO 9542, section 6.5).
+    pub fn next_hop(&self, to: &Address) -> Target
+        ensures { (s : SystemState) → Stands self.now s → result ≡ machine.next_hop s to.now }
+    {
+        Target::EndSystems
+    }
+
+    /// What the scenario says of it.
+    pub fn config(&self) -> &SystemConfig
+        ensures config { result.now ≡ self.now.entity.config }
+        ensures role { result.now.role ≡ Host }
+    {
+        self.entity.config()
+    }
+
+    /// A moment has come: all that it gives out is appended, or nothing.
+    fn come_to(&mut self, alloc: Global, now: u64, out: &mut Vec<Output>) -> Result<(), NoMemory>
+        requires spent { self.old.spent ≡ false }
+        requires moment { now < 2 ^ 62 }
+        ensures stands { OnOk result ((s : SystemState) → Stands self.old s → Stands self.new (machine.tick s now).after) }
+        ensures outputs { OnOk result ((s : SystemState) → Stands self.old s
+            → Appends now out.old.items out.new.items (machine.tick s now).outputs) }
+        ensures none { OnErr result (out.new.items ≡ out.old.items) }
+        ensures config { self.new.entity.config ≡ self.old.entity.config }
+    {
+        let mut actions = Vec::new(alloc);
+        self.entity.tick(alloc, now, &mut actions)?;
+        self.moment = now;
+        self.give_out(alloc, actions, out)
+    }
+
+    /// A frame comes: all that it gives out is appended, or nothing.
+    fn frame_comes(
+        &mut self,
+        alloc: Global,
+        frame: &Frame,
+        out: &mut Vec<Output>,
+    ) -> Result<(), NoMemory>
+        requires spent { self.old.spent ≡ false }
+        requires few { length frame.now ≤ 70000 }
+        ensures stands { OnOk result ((s : SystemState) (content : Content) → Stands self.old s → IsCarried content
+            → frame_of content ≡ frame.now → Stands self.new (machine.arrive s content).after) }
+        ensures outputs { OnOk result ((s : SystemState) (content : Content) → Stands self.old s → IsCarried content
+            → frame_of content ≡ frame.now → Appends self.old.moment out.old.items out.new.items (machine.arrive s content).outputs) }
+        ensures none { OnErr result (out.new.items ≡ out.old.items) }
+        ensures config { self.new.entity.config ≡ self.old.entity.config }
+    {
+        let mut actions = Vec::new(alloc);
+        self.arrive(alloc, frame, &mut actions)?;
+        self.give_out(alloc, actions, out)
+    }
+
+    /// What is done where a frame comes.
+    fn arrive(
+        &mut self,
+        alloc: Global,
+        frame: &Frame,
+        actions: &mut Vec<Action>,
+    ) -> Result<(), NoMemory>
+        requires spent { self.old.spent ≡ false }
+        requires few { length frame.now ≤ 70000 }
+        ensures stands { OnOk result ((s : SystemState) (content : Content) → Stands self.old s → IsCarried content
+            → frame_of content ≡ frame.now → Stands self.new (arrival_deed s content).after) }
+        ensures actions { OnOk result ((s : SystemState) (content : Content) → Stands self.old s → IsCarried content
+            → frame_of content ≡ frame.now → entity.Appends actions.old.items actions.new.items (arrival_deed s content).actions) }
+        ensures done { OnOk result (AppendsSome actions.old.items actions.new.items) }
+        ensures moment { self.new.moment ≡ self.old.moment }
+        ensures config { self.new.entity.config ≡ self.old.entity.config }
+    {
+        laws::one_value();
+        match decode(frame.bytes()) {
+            Ok(pdu) => self.receive(alloc, pdu.life, pdu.to, frame, actions),
+            Err(refusal) => note(refused(refusal), actions),
+        }
+    }
+
+    /// What is done where a PDU comes: its lifetime is over (ISO 8473, section 6.4), or it is for the host (section 6.2),
+    /// or it is for another address.
+    fn receive(
+        &mut self,
+        alloc: Global,
+        life: u8,
+        to: Address,
+        frame: &Frame,
+        actions: &mut Vec<Action>,
+    ) -> Result<(), NoMemory>
+        requires spent { self.old.spent ≡ false }
+        requires few { length frame.now ≤ 70000 }
+        requires pdu { (v : PduValue) × (rest : List ℕ) × BeginsWith frame.now v rest × (v.lifetime ≡ life) }
+        ensures stands { OnOk result ((s : SystemState) (p : Packet) (following : List ℕ) → Stands self.old s → IsCarriable p
+            → frame.now ≡ wire p ++ following → p.lifetime ≡ life → p.unit.destination ≡ to
+            → Stands self.new (packet_deed s p following).after) }
+        ensures actions { OnOk result ((s : SystemState) (p : Packet) (following : List ℕ) → Stands self.old s → IsCarriable p
+            → frame.now ≡ wire p ++ following → p.lifetime ≡ life → p.unit.destination ≡ to
+            → entity.Appends actions.old.items actions.new.items (packet_deed s p following).actions) }
+        ensures done { OnOk result (AppendsSome actions.old.items actions.new.items) }
+        ensures moment { self.new.moment ≡ self.old.moment }
+        ensures config { self.new.entity.config ≡ self.old.entity.config }
+    {
+        if life == 0 {
+            return note(
+                Note::Discard {
+                    reason: LIFETIME_EXPIRED,
+                    place: 0,
+                },
+                actions,
+            );
+        }
+        if !self.is_own(&to) {
+            return note(Note::NotMine { to }, actions);
+        }
+        self.entity.receive(alloc, self.moment, frame, actions)
+    }
+
+    /// Makes a unit: all that it gives out is appended, or nothing.
+    fn make_unit(
+        &mut self,
+        alloc: Global,
+        from: Address,
+        to: Address,
+        body: &[u8],
+        ask: &Ask,
+        out: &mut Vec<Output>,
+    ) -> Result<u64, SendRefusal>
+        requires spent { self.old.spent ≡ false }
+        requires options { FitsKind false (parameters ask.now.options) }
+        ensures answer { (s : SystemState) → Stands self.old s → MatchResult result
+            (λ unit. (refusal s (unit_of s Dt from to body.now ask.now) ≡ None) × (unit ≡ next_number s))
+            (λ e. IsWhy e (refusal s (unit_of s Dt from to body.now ask.now))) }
+        ensures stands { OnOk result ((s : SystemState) → Stands self.old s → Stands self.new (machine.send s from to body.now ask.now).after) }
+        ensures outputs { OnOk result ((s : SystemState) → Stands self.old s
+            → Appends self.old.moment out.old.items out.new.items (machine.send s from to body.now ask.now).outputs) }
+        ensures none { OnErr result (out.new.items ≡ out.old.items) }
+        ensures left { IfErr result (λ e. LeavesSame e self.old self.new) }
+        ensures config { self.new.entity.config ≡ self.old.entity.config }
+    {
+        let Ok(frame) = Frame::copy(alloc, body) else {
+            return Err(SendRefusal::NoMemory);
+        };
+        let body = frame.into_view();
+        let mut actions = Vec::new(alloc);
+        let unit = self.entity.make(
+            alloc,
+            self.moment,
+            Kind::Dt,
+            from,
+            to,
+            &body,
+            ask,
+            &mut actions,
+        )?;
+        match self.give_out(alloc, actions, out) {
+            Ok(()) => Ok(unit),
+            Err(NoMemory) => Err(SendRefusal::NoMemory),
+        }
+    }
+
+    /// Whether an address is the host's.
+    fn is_own(&self, address: &Address) -> bool
+        ensures { result ≡ has_address self.now.entity.config address.now }
+    {
+        let config = self.entity.config();
+        config.addresses().iter().any(|own| own == address)
+    }
+}
+
+/// What is noted of a frame that is no PDU.
+fn refused(refusal: Refusal) -> Note
+    ensures { result ≡ note_of refusal }
+{
+    match refusal {
+        Refusal::NotClnp => Note::Discard {
+            reason: NOT_SPECIFIED,
+            place: 0,
+        },
+        Refusal::Broken(broken) => Note::Discard {
+            reason: broken.reason,
+            place: broken.place,
+        },
+    }
+}
+
+/// Something is noted.
+fn note(note: Note, actions: &mut Vec<Action>) -> Result<(), NoMemory>
+    ensures { OnOk result (actions.new.items ≡ actions.old.items ++ Noted note ∷ []) }
+{
+    actions.push(Action::Note(note))?;
+    Ok(())
+}

@@ -1,0 +1,83 @@
+-- By what the frame begins with.
+use Rattle.std.proofs.Common.{◌≤◌, ◌∷◌, [], ℕ, List, length, ap, sym, ◌∙◌, subst, arith, refl}
+use Rattle.std.proofs.lemmas.Result.{on_ok_weaker}
+use Rattle.pdu_header.specs.Grammar.{BeginsWith}
+use Rattle.pdu_header.specs.Value.{PduValue}
+use Rattle.pdu_header.specs.View.{pdu_value}
+use Rattle.pdu_header.proofs.Written.{length-header}
+use Rattle.reassembly.specs.declared.segment.Segment.{Segment}
+use Rattle.reassembly.specs.Offered.{MayCome}
+use Rattle.clnp_plan.specs.declared.note.Note.TheVariants.{Got}
+use Rattle.clnp_machine.specs.Local.{Deed, offered}
+use Rattle.local_entity.specs.declared.action.Action.TheVariants.{Note as Noted}
+use Rattle.local_entity.specs.Local.{Appends, Stands}
+use Rattle.local_entity.specs.Receipt.{IsShown}
+use Rattle.local_entity.proofs.Receiving.{is_shown, may_come, receives_segment, receives_whole, value_is}
+use Rattle.local_entity.proofs.local.Local.receive.Goals as goal
+
+pub unreachable-requires : goal.unreachable-requires
+unreachable-requires c =
+    let alive = c.requires.alive in
+    c.in_default.ensures.none alive.0 alive.1 (subst (λ (frame : List ℕ). BeginsWith frame alive.0 alive.1) (sym c.bytes.ensures) alive.2)
+
+pub returns-in_default-segment_part-clause-stands :
+    goal.returns-in_default-segment_part-clause-stands
+returns-in_default-segment_part-clause-stands c =
+    on_ok_weaker c.hand_up.result
+    (λ got s p following stands moment carriable split.
+    let e = value_is c.one_value.ensures c.bytes.result.now (pdu_value c.in-Ok.pdu) c.in-Ok.pdu.rest.now c.in-Ok.ensures.found p following carriable (c.bytes.ensures ∙ split) in
+    subst (λ (deed : Deed). Stands c.args.self.now deed.after)
+    (sym (receives_whole c.in-Ok.pdu s p following e (sym c.segment_part.ensures ∙ c.in_default-segment_part.is))) stands)
+    c.hand_up.ensures.got
+
+pub returns-in_default-segment_part-clause-actions :
+    goal.returns-in_default-segment_part-clause-actions
+returns-in_default-segment_part-clause-actions c =
+    on_ok_weaker c.hand_up.result
+    (λ got s p following stands moment carriable split.
+    let e = value_is c.one_value.ensures c.bytes.result.now (pdu_value c.in-Ok.pdu) c.in-Ok.pdu.rest.now c.in-Ok.ensures.found p following carriable (c.bytes.ensures ∙ split) in
+    subst (λ (deed : Deed). Appends c.args.out.now.items c.hand_up.new.out.items deed.actions)
+    (sym (receives_whole c.in-Ok.pdu s p following e (sym c.segment_part.ensures ∙ c.in_default-segment_part.is)))
+    (record { actions = Noted (Got c.in-Ok.pdu.from c.in-Ok.pdu.to c.in-Ok.pdu.body.now) ∷ []; appended = got; do_all = (refl, tt) }))
+    c.hand_up.ensures.got
+
+pub segment_in-requires-clause-head : goal.segment_in-requires-clause-head
+segment_in-requires-clause-head c =
+    let fits = c.in-Ok.ensures.found.spells.pdu.header_fits in
+    omega (arith, ap length c.in-Ok.ensures.header, length-header (pdu_value c.in-Ok.pdu))
+
+pub offer-requires-clause-offered : goal.offer-requires-clause-offered
+offer-requires-clause-offered c =
+    let pdu = c.in-Ok.pdu in
+    let alive = c.requires.alive in
+    let begins = subst (λ (frame : List ℕ). BeginsWith frame (pdu_value pdu) pdu.rest.now) c.bytes.ensures c.in-Ok.ensures.found in
+    let same = (c.one_value.ensures c.args.frame.now alive.0 (pdu_value pdu) alive.1 pdu.rest.now alive.2 begins).0 in
+    subst MayCome (sym c.in_ok-segment.ensures)
+    (may_come c.args.frame.now pdu c.in-Some.part c.in-Ok.ensures.header (sym c.segment_part.ensures ∙ c.in-Some.is) pdu.rest.now begins c.requires.few
+    (subst (λ (v : PduValue). 1 ≤ v.lifetime) same alive.3))
+
+pub returns-clause-stands : goal.returns-clause-stands
+returns-clause-stands c =
+    on_ok_weaker c.offer.result
+    (λ offers s p following stands moment carriable split.
+    let pdu = c.in-Ok.pdu in
+    let some = sym c.segment_part.ensures ∙ c.in-Some.is in
+    let e = value_is c.one_value.ensures c.bytes.result.now (pdu_value pdu) pdu.rest.now c.in-Ok.ensures.found p following carriable (c.bytes.ensures ∙ split) in
+    let shows = subst (λ (segment : Segment). IsShown segment (offered p following)) (sym c.in_ok-segment.ensures)
+    (is_shown c.args.frame.now pdu c.in-Some.part c.in-Ok.ensures.header some p following carriable split e) in
+    subst (λ (deed : Deed). Stands c.offer.new.self deed.after) (sym (receives_segment pdu c.in-Some.part s p following e some))
+    (offers s (offered p following) stands moment shows))
+    c.offer.ensures.stands
+
+pub returns-clause-actions : goal.returns-clause-actions
+returns-clause-actions c =
+    on_ok_weaker c.offer.result
+    (λ offers s p following stands moment carriable split.
+    let pdu = c.in-Ok.pdu in
+    let some = sym c.segment_part.ensures ∙ c.in-Some.is in
+    let e = value_is c.one_value.ensures c.bytes.result.now (pdu_value pdu) pdu.rest.now c.in-Ok.ensures.found p following carriable (c.bytes.ensures ∙ split) in
+    let shows = subst (λ (segment : Segment). IsShown segment (offered p following)) (sym c.in_ok-segment.ensures)
+    (is_shown c.args.frame.now pdu c.in-Some.part c.in-Ok.ensures.header some p following carriable split e) in
+    subst (λ (deed : Deed). Appends c.args.out.now.items c.offer.new.out.items deed.actions) (sym (receives_segment pdu c.in-Some.part s p following e some))
+    (offers s (offered p following) stands moment shows))
+    c.offer.ensures.actions

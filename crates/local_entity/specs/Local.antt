@@ -1,0 +1,73 @@
+-- What the entity of a system at its own addresses stands for, and what it does.
+use Rattle.std.specs.Prelude.{◌≡◌, ℕ, List, [], ◌∷◌, ◌++◌, Option, None, Some}
+use Rattle.std.specs.List.{AllByRecursion}
+use Rattle.clnp_views.specs.Extent.{Extent, seen}
+use Rattle.pdu_header.specs.Headers.{SpellsHeader}
+use Rattle.reassembly.specs.Arrival.{Arrival}
+use Rattle.reassembly.specs.Buffer.{Buffer}
+use Rattle.reassembly.specs.Mapped.{map_buffers}
+use Rattle.reassembly.specs.State as table
+use Rattle.clnp_plan.specs.declared.ask.SendRefusal.{SendRefusal}
+use Rattle.clnp_plan.specs.declared.ask.SendRefusal.TheVariants as refusal
+use Rattle.clnp_plan.specs.declared.note.Note.{Note}
+use Rattle.clnp_plan.specs.declared.note.Note.TheVariants.{Refused}
+use Rattle.clnp_plan.specs.declared.note.Why.TheVariants as why
+use Rattle.clnp_machine.specs.Unit.{Packet, wire, value_of, whole_packet, IsCarriable}
+use Rattle.clnp_machine.specs.System.{SystemState, table_limits}
+use Rattle.clnp_machine.specs.Local as machine
+use Rattle.clnp_machine.specs.Local.{offered}
+use Rattle.local_entity.specs.Pool as pool
+use Rattle.local_entity.specs.declared.action.Action.{Action}
+use Rattle.local_entity.specs.declared.action.Action.TheVariants.{Send, Note as Noted}
+use Rattle.local_entity.specs.declared.local.Local.{Local}
+
+-- a kept segment is as it was offered, and a PDU can carry it
+pub record IsAsOffered (arrival : Arrival Packet) : Type 0 where
+  pub following : List ℕ
+  pub is_offered : arrival ≡ offered arrival.carried following
+  pub carriable : IsCarriable arrival.carried
+
+-- An entity stands for the state of a system, whatever its place and its moment.
+pub record Stands (local : Local) (s : SystemState) : Type 0 where
+  pub configuration : local.config ≡ s.configuration
+  pub limits : local.table.limits ≡ table_limits s
+  pub count : local.units ≡ s.count
+  pub identifiers : pool.Stands local.pool s.identifiers
+  -- the table stands for buffers whose segments show the very octets that the packets spell
+  pub buffers : List (Buffer Extent)
+  pub table : table.Stands local.table buffers
+  pub shown : map_buffers seen buffers ≡ map_buffers wire s.buffers
+  pub packets : AllByRecursion (λ (buffer : Buffer Packet). AllByRecursion IsAsOffered buffer.kept) s.buffers
+
+-- an action of the code is one of the model
+abbrev pub Does : Action → machine.Action → Type 0
+Does (Noted note) (machine.Tells told) = note ≡ told
+Does (Send made) (machine.Sends u) =
+    (made.unit ≡ u.number) × SpellsHeader (value_of (whole_packet u)) made.head × (seen made.body ≡ u.octets)
+Does (Noted note) (machine.Sends u) = ⊥
+Does (Send made) (machine.Tells told) = ⊥
+
+abbrev pub DoAll : List Action → List machine.Action → Type 0
+DoAll [] [] = Unit {0}
+DoAll (action ∷ actions) (other ∷ others) = Does action other × DoAll actions others
+DoAll [] (other ∷ others) = ⊥
+DoAll (action ∷ actions) [] = ⊥
+
+-- actions that are these ones of the model were appended
+pub record Appends (before after : List Action) (others : List machine.Action) : Type 0 where
+  pub actions : List Action
+  pub appended : after ≡ before ++ actions
+  pub do_all : DoAll actions others
+
+-- what a refusal says; want of memory says nothing
+abbrev pub refusal_note : SendRefusal → Option Note
+refusal_note refusal.NotMine = Some (Refused why.NotMine 0)
+refusal_note (refusal.TooLong octets) = Some (Refused why.TooLong octets)
+refusal_note (refusal.IdsBusy used) = Some (Refused why.IdsBusy used)
+refusal_note (refusal.Quiet until) = Some (Refused why.Quiet until)
+refusal_note refusal.NoMemory = None
+
+-- the refusal is why the unit isn't made; want of memory alone is free
+abbrev pub IsWhy : SendRefusal → Option Note → Type 0
+IsWhy refusal.NoMemory answer = Unit {0}
+IsWhy e answer = answer ≡ refusal_note e

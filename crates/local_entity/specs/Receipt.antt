@@ -1,0 +1,32 @@
+-- PDUs that come: whether one is all of its unit, the segment of the code that it is, and the arrival of the model.
+use Rattle.std.specs.Prelude.{◌≡◌, ℕ, ◌+◌, ◌==◌, ◌&&◌, not, if◌then◌else◌, Bool, List, length, Option, None, Some}
+use Rattle.clnp_views.specs.Extent.{part, seen, whole}
+use Rattle.pdu_header.specs.declared.pdu.Pdu.{Pdu}
+use Rattle.pdu_header.specs.declared.pdu.SegPart.{SegPart}
+use Rattle.pdu_header.specs.Spelling.{type_code}
+use Rattle.reassembly.specs.declared.segment.Segment.{Segment}
+use Rattle.reassembly.specs.Arrival.{Arrival, arrival_of}
+use Rattle.reassembly.specs.Mapped.{map_arrival}
+use Rattle.clnp_machine.specs.Unit.{Packet, wire}
+use Rattle.local_entity.specs.Local.{IsAsOffered}
+
+-- the segmentation part of a PDU that isn't all of its unit
+abbrev pub segment_part : Option SegPart → Bool → Option SegPart
+segment_part None more = None
+segment_part (Some part) more = if (part.offset == 0) && not more then None else Some part
+
+-- the segment that a PDU at the front of a frame is
+abbrev pub segment_in : List ℕ → Pdu → SegPart → Segment
+segment_in frame pdu seg =
+    record {
+      key = record { from = pdu.from; to = pdu.to; id = seg.id };
+      shape = record { total = seg.total; head_len = length pdu.head.now; kind = type_code pdu.kind };
+      offset = seg.offset;
+      life = pdu.life;
+      pdu = part 0 (length pdu.head.now + length pdu.body.now) (whole frame);
+    }
+
+-- a segment of the code shows the very octets that the packet of an arrival spells
+pub record IsShown (segment : Segment) (arrival : Arrival Packet) : Type 0 where
+  pub as_offered : IsAsOffered arrival
+  pub shown : map_arrival seen (arrival_of segment) ≡ map_arrival wire arrival

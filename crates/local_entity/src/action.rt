@@ -1,0 +1,21 @@
+//! What the entity of a system does at the system's own addresses.
+use clnp_plan::Note;
+use clnp_views::View;
+use pdu_header::Header;
+
+/// A data unit that was made: its number among the system's units, the header of its initial PDU, and its data.
+#[derive(Debug, Drop)]
+pub struct Made {
+    pub unit: u64,
+    pub head: Header,
+    pub body: View,
+}
+
+/// What is done.
+#[derive(Debug, Drop)]
+pub enum Action {
+    /// The unit goes out.
+    Send(Made),
+    /// Something is noted.
+    Note(Note),
+}

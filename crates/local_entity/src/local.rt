@@ -1,0 +1,305 @@
+//! What a system does at its own addresses: it makes units, and receives what is for it (ISO/IEC 8473, sections 6.1, 6.2,
+//! 6.8 and 6.9).
+ghost use Rattle.std.specs.Prelude.{◌≡◌, ◌≤◌, ◌<◌, ◌+◌, ◌^◌, ℕ, IfOk, OnOk, OnErr, List, MatchResult, None, Some, if◌then◌else◌, length};
+ghost use Rattle.std.specs.List.{list_any};
+ghost use Rattle.std.specs.Str.{bytes_eq};
+ghost use Rattle.clnp_options.specs.Grammar.{FitsKind};
+ghost use Rattle.clnp_options.specs.Parameter.{parameters, spelled};
+ghost use Rattle.clnp_views.specs.Extent.{seen};
+ghost use Rattle.clnp_plan.specs.declared.ask.SendRefusal.TheVariants.{TooLong};
+ghost use Rattle.pdu_header.specs.Grammar.{is_report};
+ghost use Rattle.pdu_header.specs.Headers.{SpellsHeader};
+ghost use Rattle.pdu_header.specs.Parts.{AreFit, parts_value};
+ghost use Rattle.reassembly.specs.Buffer.{held};
+ghost use Rattle.reassembly.specs.State.{IsReady};
+ghost use Rattle.clnp_machine.specs.System.{SystemState, first_state, next_number};
+ghost use Rattle.clnp_machine.specs.Local as machine;
+ghost use Rattle.clnp_machine.specs.Unit.{value_of, whole_packet};
+ghost use Rattle.local_entity.specs.Local.{Appends, IsWhy, Stands};
+ghost use Rattle.local_entity.specs.Pool.{Stands as StandsFor};
+
+use crate::action::{Action, Made};
+use crate::pool::{DrawRefusal, IdPool};
+use clnp_base::NoMemory;
+use clnp_plan::{Ask, Limits, Note, SendRefusal, SystemConfig};
+use clnp_views::View;
+use nsap::Address;
+use pdu_header::{Header, HeaderRefusal, Kind, Parts, SegPart};
+use reassembly::{Table, TableLimits};
+use std::alloc::Global;
+
+mod receipt;
+
+/// The most octets that a unit may have.
+const MOST_OCTETS: usize = 64_512;
+
+/// The entity of a system that serves the system's own addresses.
+///
+/// A contract says by `Stands` which states of a system it stands for.
+#[derive(Debug, Drop)]
+pub struct Local {
+    config: SystemConfig,
+    pool: IdPool,
+    table: Table,
+    /// The number of the last unit that it made.
+    units: u64,
+}
+
+impl Local {
+    /// The entity of a system at its start, which makes no unit with an identifier before the moment `quiet`. It reserves
+    /// all the room that its identifiers and buffers will need.
+    ///
+    /// # Errors
+    ///
+    /// `NoMemory`.
+    pub fn new(
+        alloc: Global,
+        config: &SystemConfig,
+        limits: &Limits,
+        quiet: u64,
+    ) -> Result<Local, NoMemory>
+        requires { quiet ≤ 2 ^ 62 + 16384 }
+        ensures stands { IfOk result (λ local. (place now : ℕ) → Stands local (first_state place config.now limits.now now quiet)) }
+        ensures ready { IfOk result (λ local. (now : ℕ) → IsReady now local.table) }
+        ensures hold { IfOk result (λ local. local.table.limits.hold ≡ limits.now.hold) }
+    {
+        let settings = config.settings();
+        let table_limits = TableLimits {
+            slots: settings.slots,
+            segments: settings.segments,
+            budget: settings.budget,
+            hold: limits.hold,
+        };
+        let config = config.copy(alloc)?;
+        let pool = IdPool::new(alloc, limits.reuse, quiet)?;
+        let table = Table::new(alloc, table_limits)?;
+        Ok(Local {
+            config,
+            pool,
+            table,
+            units: 0,
+        })
+    }
+
+    /// Makes a unit of some octets, and appends its note and then the unit itself.
+    ///
+    /// # Errors
+    ///
+    /// The first of these that holds: `NotMine` exactly where the source isn't one of the system's addresses; `TooLong`
+    /// exactly where the body has more than 64,512 octets, or else its header would have more than 254; `Quiet` or
+    /// `IdsBusy` exactly where it may be segmented and no identifier can be drawn for it. Nothing changes then, nor at
+    /// `NoMemory`.
+    pub fn make(
+        &mut self,
+        alloc: Global,
+        now: u64,
+        kind: Kind,
+        from: Address,
+        to: Address,
+        body: &View,
+        ask: &Ask,
+        out: &mut Vec<Action>,
+    ) -> Result<u64, SendRefusal>
+        requires moment { now < 2 ^ 62 }
+        requires options { FitsKind (is_report kind) (parameters ask.now.options) }
+        ensures answer { (s : SystemState) → Stands self.old s → s.moment ≡ now → MatchResult result
+            (λ unit. (machine.refusal s (machine.unit_of s kind from to (seen body.now) ask.now) ≡ None) × (unit ≡ next_number s))
+            (λ e. IsWhy e (machine.refusal s (machine.unit_of s kind from to (seen body.now) ask.now))) }
+        ensures stands { OnOk result ((s : SystemState) → Stands self.old s → s.moment ≡ now
+            → Stands self.new (machine.make s kind from to (seen body.now) ask.now).after) }
+        ensures actions { OnOk result ((s : SystemState) → Stands self.old s → s.moment ≡ now
+            → Appends out.old.items out.new.items (machine.make s kind from to (seen body.now) ask.now).actions) }
+        ensures same { OnErr result (self.new ≡ self.old) }
+        ensures none { OnErr result (out.new.items ≡ out.old.items) }
+        ensures config { self.new.config ≡ self.old.config }
+        ensures table { self.new.table ≡ self.old.table }
+    {
+        let len = body.bytes().len();
+        let head = self.next_header(now, kind, from, to, len, ask)?;
+        let Ok(body) = body.share() else {
+            return Err(SendRefusal::NoMemory);
+        };
+        let Ok(()) = out.try_reserve(2) else {
+            return Err(SendRefusal::NoMemory);
+        };
+        let id = drawn(&mut self.pool, now, ask.segment);
+        let unit = self.units.saturating_add(1);
+        self.units = unit;
+        let sent = Note::Sent {
+            kind,
+            unit,
+            id,
+            from,
+            to,
+            len: len as u32,
+        };
+        out.push_reserved(Action::Note(sent));
+        out.push_reserved(Action::Send(Made { unit, head, body }));
+        Ok(unit)
+    }
+
+    /// The header of the next unit's initial PDU, unless the unit is refused.
+    fn next_header(
+        &self,
+        now: u64,
+        kind: Kind,
+        from: Address,
+        to: Address,
+        body_len: usize,
+        ask: &Ask,
+    ) -> Result<Header, SendRefusal>
+        requires moment { now < 2 ^ 62 }
+        requires options { FitsKind (is_report kind) (parameters ask.now.options) }
+        ensures answer { (s : SystemState) (octets : List ℕ) → Stands self.now s → s.moment ≡ now → length octets ≡ body_len
+            → MatchResult result
+            (λ head. (machine.refusal s (machine.unit_of s kind from to octets ask.now) ≡ None)
+            × SpellsHeader (value_of (whole_packet (machine.unit_of s kind from to octets ask.now))) head)
+            (λ e. IsWhy e (machine.refusal s (machine.unit_of s kind from to octets ask.now))) }
+        ensures few { OnOk result (body_len ≤ 64512) }
+    {
+        if !self.is_own(&from) {
+            return Err(SendRefusal::NotMine);
+        }
+        if body_len > MOST_OCTETS {
+            return Err(SendRefusal::TooLong { octets: body_len });
+        }
+        let head = self.header(kind, from, to, body_len, ask)?;
+        may_draw(&self.pool, now, ask.segment)?;
+        Ok(head)
+    }
+
+    /// The header of the next unit's initial PDU, unless it is too long.
+    fn header(
+        &self,
+        kind: Kind,
+        from: Address,
+        to: Address,
+        body_len: usize,
+        ask: &Ask,
+    ) -> Result<Header, SendRefusal>
+        requires few { body_len ≤ 64512 }
+        requires options { FitsKind (is_report kind) (parameters ask.now.options) }
+        ensures { (s : SystemState) (octets : List ℕ) → Stands self.now s → length octets ≡ body_len → MatchResult result
+            (λ head. SpellsHeader (value_of (whole_packet (machine.unit_of s kind from to octets ask.now))) head)
+            (λ e. (e ≡ TooLong (machine.header_size (machine.unit_of s kind from to octets ask.now)))
+            × (254 < machine.header_size (machine.unit_of s kind from to octets ask.now))) }
+    {
+        let parts = self.parts(kind, from, to, body_len, ask);
+        match Header::make(&parts, body_len) {
+            Ok(head) => Ok(head),
+            Err(HeaderRefusal::HeaderTooLong { octets }) => Err(SendRefusal::TooLong { octets }),
+            Err(HeaderRefusal::TotalTooLong { .. }) => unreachable!(),
+        }
+    }
+
+    /// What the header of the next unit's initial PDU is made from.
+    fn parts(&self, kind: Kind, from: Address, to: Address, body_len: usize, ask: &Ask) -> Parts
+        requires few { body_len ≤ 64512 }
+        requires options { FitsKind (is_report kind) (parameters ask.now.options) }
+        ensures fit { AreFit result body_len }
+        ensures value { (s : SystemState) (octets : List ℕ) → Stands self.now s → length octets ≡ body_len
+            → parts_value result octets ≡ value_of (whole_packet (machine.unit_of s kind from to octets ask.now)) }
+    {
+        Parts {
+            kind,
+            life: ask.life,
+            report: ask.report,
+            more: false,
+            to,
+            from,
+            seg: self.segmentation(&from, &to, body_len, ask),
+            options: ask.options,
+            sealed: self.config.settings().sealed,
+        }
+    }
+
+    /// The segmentation part of the next unit's initial PDU, where the unit may be segmented (section 7.4).
+    fn segmentation(
+        &self,
+        from: &Address,
+        to: &Address,
+        body_len: usize,
+        ask: &Ask,
+    ) -> Option<SegPart>
+        requires { body_len ≤ 64512 }
+        ensures { result ≡ (if ask.now.segment then Some (record {
+          id = self.now.pool.next;
+          offset = 0;
+          total = 17 + length to.now + length from.now + length (spelled (parameters ask.now.options)) + body_len;
+        }) else None) }
+    {
+        if !ask.segment {
+            return None;
+        }
+        let addresses = 2 + to.as_bytes().len() + from.as_bytes().len();
+        let head_len = 9 + addresses + 6 + ask.options.as_bytes().len();
+        Some(SegPart {
+            id: self.pool.next(),
+            offset: 0,
+            total: (head_len + body_len) as u16,
+        })
+    }
+
+    /// Whether an address is one of the system's.
+    fn is_own(&self, address: &Address) -> bool
+        ensures { result ≡ list_any (λ own. bytes_eq own address.now) self.now.config.addresses }
+    {
+        self.config.addresses().iter().any(|own| own == address)
+    }
+
+    /// Forgets the identifiers that were used and all segments, and is quiet as long as an identifier rests. The count of
+    /// units goes on.
+    pub fn restart(&mut self, now: u64)
+        requires { now < 2 ^ 62 }
+        ensures stands { (s : SystemState) → Stands self.old s → s.moment ≡ now → Stands self.new (machine.restarted s) }
+        ensures config { self.new.config ≡ self.old.config }
+        ensures limits { self.new.table.limits ≡ self.old.table.limits }
+        ensures ready { (moment : ℕ) → IsReady moment self.new.table }
+    {
+        self.pool.restart(now);
+        self.table.clear();
+    }
+
+    /// How many octets are held for reassembly: of the whole frames in which kept segments came.
+    pub fn held(&self) -> u32
+        ensures held { (s : SystemState) → Stands self.now s → result ≡ held s.buffers }
+    {
+        self.table.held()
+    }
+
+    /// What the scenario says of the system.
+    pub fn config(&self) -> &SystemConfig
+        ensures { result.now ≡ self.now.config }
+    {
+        &self.config
+    }
+}
+
+/// Whether an identifier can be drawn, where one is needed.
+fn may_draw(pool: &IdPool, now: u64, segment: bool) -> Result<(), SendRefusal>
+    requires { now < 2 ^ 62 }
+    ensures { (s : SystemState) → StandsFor pool.now s.identifiers → s.moment ≡ now → MatchResult result
+        (λ _. machine.identifier_refusal s (machine.identifier_for s segment) ≡ None)
+        (λ e. IsWhy e (machine.identifier_refusal s (machine.identifier_for s segment))) }
+{
+    if !segment {
+        return Ok(());
+    }
+    match pool.ready(now) {
+        Ok(()) => Ok(()),
+        Err(DrawRefusal::Quiet { until }) => Err(SendRefusal::Quiet { until }),
+        Err(DrawRefusal::IdsBusy { used }) => Err(SendRefusal::IdsBusy { used }),
+    }
+}
+
+/// The identifier of the next unit, where it needs one.
+fn drawn(pool: &mut IdPool, now: u64, segment: bool) -> Option<u16>
+    ensures id { (s : SystemState) → StandsFor pool.old s.identifiers → result ≡ machine.identifier_for s segment }
+    ensures stands { (s : SystemState) → StandsFor pool.old s.identifiers → s.moment ≡ now
+        → StandsFor pool.new (machine.with_use s (machine.identifier_for s segment)) }
+{
+    if !segment {
+        return None;
+    }
+    Some(pool.use_next(now))
+}

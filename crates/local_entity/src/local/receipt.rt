@@ -1,0 +1,134 @@
+//! Receipt: PDUs for the system's own addresses, and reassembly buffers whose time has ended.
+ghost use Rattle.std.specs.Prelude.{◌≡◌, ◌≤◌, ◌<◌, ◌+◌, ◌^◌, ◌++◌, ◌∷◌, [], ℕ, List, IfOk, OnOk, OnErr, length};
+ghost use Rattle.pdu_header.specs.Grammar.{BeginsWith};
+ghost use Rattle.pdu_header.specs.Spelling.{type_code};
+ghost use Rattle.pdu_header.specs.Value.{PduValue};
+ghost use Rattle.reassembly.specs.State.{IsReady};
+ghost use Rattle.clnp_plan.specs.declared.note.Note.TheVariants.{Got};
+ghost use Rattle.clnp_machine.specs.Unit.{Packet, IsCarriable, wire};
+ghost use Rattle.clnp_machine.specs.System.{SystemState};
+ghost use Rattle.clnp_machine.specs.Local as machine;
+ghost use Rattle.local_entity.specs.declared.action.Action.TheVariants.{Note as Noted};
+ghost use Rattle.local_entity.specs.Local.{Appends, Stands};
+ghost use Rattle.local_entity.specs.Receipt.{segment_in, segment_part};
+
+use super::Local;
+use crate::action::Action;
+use clnp_base::{NoMemory, Octets};
+use clnp_plan::Note;
+use clnp_views::Frame;
+use nsap::Address;
+use pdu_header::{Kind, Pdu, SegPart, decode, laws};
+use reassembly::{Key, Segment, Shape};
+use std::alloc::Global;
+
+mod expiry;
+mod noting;
+mod offering;
+
+impl Local {
+    /// Receives a PDU for one of the system's addresses, and appends what is noted: a whole unit is handed up, a segment is
+    /// offered to the buffers.
+    ///
+    /// # Errors
+    ///
+    /// `NoMemory`: nothing changes then.
+    pub fn receive(
+        &mut self,
+        alloc: Global,
+        now: u64,
+        frame: &Frame,
+        out: &mut Vec<Action>,
+    ) -> Result<(), NoMemory>
+        requires moment { now < 2 ^ 62 }
+        requires few { length frame.now ≤ 70000 }
+        requires alive { (v : PduValue) × (rest : List ℕ) × BeginsWith frame.now v rest × (1 ≤ v.lifetime) }
+        requires ready { IsReady now self.old.table }
+        ensures stands { OnOk result ((s : SystemState) (p : Packet) (following : List ℕ) → Stands self.old s → s.moment ≡ now
+            → IsCarriable p → frame.now ≡ wire p ++ following → Stands self.new (machine.receive s p following).after) }
+        ensures actions { OnOk result ((s : SystemState) (p : Packet) (following : List ℕ) → Stands self.old s → s.moment ≡ now
+            → IsCarriable p → frame.now ≡ wire p ++ following
+            → Appends out.old.items out.new.items (machine.receive s p following).actions) }
+        ensures same { OnErr result (self.new ≡ self.old) }
+        ensures none { OnErr result (out.new.items ≡ out.old.items) }
+        ensures config { self.new.config ≡ self.old.config }
+        ensures limits { self.new.table.limits ≡ self.old.table.limits }
+        // A buffer that is kept no time is due at once.
+        ensures ready { 1 ≤ self.old.table.limits.hold → IsReady now self.new.table }
+    {
+        laws::one_value();
+        let Ok(pdu) = decode(frame.bytes()) else {
+            unreachable!()
+        };
+        let Some(part) = segment_part(pdu.seg, pdu.more) else {
+            return hand_up(alloc, pdu.from, pdu.to, pdu.body, out);
+        };
+        let segment = segment_in(frame, &pdu, part)?;
+        self.offer(alloc, now, segment, out)
+    }
+}
+
+/// The segmentation part of a PDU that isn't all of its unit (ISO/IEC 8473, section 7.4).
+fn segment_part(part: Option<SegPart>, more: bool) -> Option<SegPart>
+    ensures { result ≡ segment_part part more }
+{
+    let part = part?;
+    if part.offset == 0 && !more {
+        return None;
+    }
+    Some(part)
+}
+
+/// The segment that a PDU at the front of a frame is.
+fn segment_in(frame: &Frame, pdu: &Pdu<'_>, part: SegPart) -> Result<Segment, NoMemory>
+    requires head { length pdu.now.head.now ≤ 254 }
+    requires octets { length pdu.now.head.now + length pdu.now.body.now ≤ length frame.now }
+    ensures { IfOk result (λ segment. segment ≡ segment_in frame.now pdu.now part) }
+{
+    let key = Key {
+        from: pdu.from,
+        to: pdu.to,
+        id: part.id,
+    };
+    let shape = Shape {
+        total: part.total,
+        head_len: pdu.head.len() as u8,
+        kind: type_code(pdu.kind),
+    };
+    let octets = pdu.head.len() + pdu.body.len();
+    Ok(Segment {
+        key,
+        shape,
+        offset: part.offset,
+        life: pdu.life,
+        pdu: frame.view()?.narrow(0, octets),
+    })
+}
+
+/// Notes that a whole unit is handed up.
+fn hand_up(
+    alloc: Global,
+    from: Address,
+    to: Address,
+    body: &[u8],
+    out: &mut Vec<Action>,
+) -> Result<(), NoMemory>
+    ensures got { OnOk result (out.new.items ≡ out.old.items ++ Noted (Got from to body.now) ∷ []) }
+    ensures none { OnErr result (out.new.items ≡ out.old.items) }
+{
+    let octets = Octets::copy(alloc, body)?;
+    out.push(Action::Note(Note::Got { from, to, octets }))?;
+    Ok(())
+}
+
+/// The type of a PDU of this kind, as its octet says (ISO/IEC 8473, section 7.2.7; RFC 1575, section 4).
+fn type_code(kind: Kind) -> u8
+    ensures { result ≡ type_code kind }
+{
+    match kind {
+        Kind::Er => 1,
+        Kind::Dt => 28,
+        Kind::Erq => 30,
+        Kind::Erp => 31,
+    }
+}

@@ -1,0 +1,89 @@
+//! Reassembly buffers whose time has ended (ISO/IEC 8473, section 6.9).
+ghost use Rattle.std.specs.Prelude.{◌≡◌, ◌<◌, ◌≤◌, ◌+◌, ◌^◌, ◌++◌, ◌∷◌, [], if◌then◌else◌, ℕ, List, None, OnOk, OnErr, is_some, vec_capacity, vec_len};
+ghost use Rattle.clnp_views.specs.Extent.{Extent};
+ghost use Rattle.reassembly.specs.Buffer as buffer;
+ghost use Rattle.reassembly.specs.Buffer.{Buffer};
+ghost use Rattle.reassembly.specs.State as table;
+ghost use Rattle.reassembly.specs.State.{IsReady};
+ghost use Rattle.clnp_plan.specs.declared.note.Note.TheVariants.{Discard, Expired};
+ghost use Rattle.clnp_machine.specs.System.{SystemState};
+ghost use Rattle.clnp_machine.specs.Local as machine;
+ghost use Rattle.local_entity.specs.declared.action.Action.TheVariants.{Note as Noted};
+ghost use Rattle.local_entity.specs.Local.{Appends, Stands};
+
+use super::super::Local;
+use super::noting::{discard, note};
+use crate::action::Action;
+use clnp_base::NoMemory;
+use clnp_plan::Note;
+use std::alloc::Global;
+
+/// ISO/IEC 8473, section 7.9.5: the lifetime expired in reassembly.
+const EXPIRED_IN_REASSEMBLY: u8 = 0xA1;
+
+impl Local {
+    /// Takes out the buffers whose time has ended by a moment, and appends what is noted.
+    ///
+    /// # Errors
+    ///
+    /// `NoMemory`: nothing changes then.
+    pub fn tick(&mut self, alloc: Global, now: u64, out: &mut Vec<Action>) -> Result<(), NoMemory>
+        requires moment { now < 2 ^ 62 }
+        requires ready { (before : ℕ) × IsReady before self.old.table }
+        ensures stands { OnOk result ((s : SystemState) → Stands self.old s → Stands self.new (machine.tick s now).after) }
+        ensures actions { OnOk result ((s : SystemState) → Stands self.old s
+            → Appends out.old.items out.new.items (machine.tick s now).actions) }
+        ensures same { OnErr result (self.new ≡ self.old) }
+        ensures none { OnErr result (out.new.items ≡ out.old.items) }
+        ensures config { self.new.config ≡ self.old.config }
+        ensures limits { self.new.table.limits ≡ self.old.table.limits }
+        ensures ready { OnOk result (IsReady now self.new.table) }
+    {
+        let live = usize::from(self.table.live());
+        // A buffer's end is noted, and perhaps a discard.
+        let Ok(()) = out.reserve(2 * live) else {
+            return Err(NoMemory);
+        };
+        for _ in 0..live {
+            if !self.give_up(now, out) {
+                return Ok(());
+            }
+        }
+        Ok(())
+    }
+
+    /// Takes out the buffer whose time ended first by a moment, and appends what is noted. Says whether there is one.
+    fn give_up(&mut self, now: u64, out: &mut Vec<Action>) -> bool
+        requires { vec_len out.old + 2 ≤ vec_capacity out.old }
+        ensures stands { (s : SystemState) → Stands self.old s → s.moment ≡ now → Stands self.new (machine.expire 1 s).after }
+        ensures actions { (s : SystemState) → Stands self.old s → s.moment ≡ now
+            → Appends out.old.items out.new.items (machine.expire 1 s).actions }
+        ensures given { (buffers : List (Buffer Extent)) → table.Stands self.old.table buffers
+            → (result ≡ is_some (buffer.due now buffers))
+            × table.Stands self.new.table (buffer.without_due (buffer.due now buffers) buffers) }
+        ensures len { vec_len out.new ≤ vec_len out.old + 2 }
+        ensures capacity { vec_capacity out.old ≤ vec_capacity out.new }
+        ensures config { self.new.config ≡ self.old.config }
+        ensures limits { self.new.table.limits ≡ self.old.table.limits }
+    {
+        let Some(ended) = self.table.expire(now) else {
+            return false;
+        };
+        tell(ended.key.id, self.table.held(), ended.first.is_some(), out);
+        true
+    }
+}
+
+/// Appends what is noted of a buffer whose time has ended, where so many octets are held after it: the PDU at the
+/// beginning of the unit, if it came, is discarded.
+fn tell(id: u16, held: u32, began: bool, out: &mut Vec<Action>)
+    requires { vec_len out.old + 2 ≤ vec_capacity out.old }
+    ensures told { out.new.items ≡ out.old.items ++ Noted (Expired id held) ∷ (if began then Noted (Discard 0xA1 0) ∷ [] else []) }
+    ensures len { vec_len out.new ≤ vec_len out.old + 2 }
+    ensures capacity { vec_capacity out.old ≤ vec_capacity out.new }
+{
+    note(out, Note::Expired { id, held });
+    if began {
+        discard(out, EXPIRED_IN_REASSEMBLY);
+    }
+}

@@ -1,0 +1,108 @@
+-- A text that the grammar accepts is a scenario that is fit to be run.
+use Rattle.std.proofs.Common.{◌≡◌, ℕ, ◌+◌, ◌≤◌, ◌&&◌, true, nat_le, List, [], ◌∷◌, map, codes, Ok, IfOk, refl, arith}
+use Rattle.std.specs.List.{AllByRecursion, sum}
+use Rattle.std.proofs.lemmas.Bool.{leb-true, and_parts}
+use Rattle.std.proofs.lemmas.List.Sums.{sum_by-cons}
+use Rattle.std.proofs.lemmas.Result.{IfOk-at_ok}
+use Rattle.clnp_base.specs.Text.{lines_of, words_of}
+use Rattle.clnp_plan.specs.Configuration.{SystemConfiguration, IsSystem}
+use Rattle.clnp_plan.specs.declared.config.Limits.{Limits}
+use Rattle.clnp_plan.specs.declared.config.Role.TheVariants.{Host}
+use Rattle.scenario.specs.Scenario.{Plan, Subnetwork, IsFit, AsksFairly, ticks_of}
+use Rattle.scenario.specs.Words.{is_skipped}
+use Rattle.scenario.specs.Declarations.{Declarations, DeclaredSystem, nothing_declared, limits_of, host_of}
+use Rattle.scenario.specs.Events.{event_line, counted, are_few, nothing_counted}
+use Rattle.scenario.specs.Grammar.{is_line_of, header_from, declarations_from, nothing_after, counted_event, events_from, plan_at, plan_of}
+use Rattle.scenario.specs.declared.counts.Counts.{Counts}
+use Rattle.scenario.specs.declared.event.Event.{Event}
+use Rattle.scenario.proofs.Behind.{behind_result, behind_wanted, behind_such, behind_line_such, either_way}
+use Rattle.scenario.proofs.Apart.{addresses_of, distinct_of, host_addresses}
+use Rattle.scenario.proofs.Asks.{SpellsWhatItAccepts, event_fair}
+use Rattle.scenario.proofs.Lists.{host_names}
+use Rattle.scenario.proofs.Fit.{AreDeclared, declarations_fit, nothing_fit, hosts_fit}
+
+few_ticks : (counts : Counts) → are_few counts ≡ true → counts.ticks ≤ 1000000
+few_ticks counts h =
+    let p = and_parts (nat_le counts.events 100000) (nat_le counts.passed 10000000 && nat_le counts.ticks 1000000) h in
+    let q = and_parts (nat_le counts.passed 10000000) (nat_le counts.ticks 1000000) p.1 in
+    leb-true counts.ticks 1000000 q.1
+
+-- an event that is counted, behind others
+record IsCounted (counts : Counts) (event : Event) : Type 0 where
+  pub few : are_few (counted counts event) ≡ true
+  pub fair : AsksFairly event
+
+event_fit : SpellsWhatItAccepts → (names : List (List ℕ)) (systems : List SystemConfiguration) (counts : Counts) (words : List (List ℕ))
+    → IfOk (counted_event names systems counts words) (IsCounted counts)
+unfolding counted_event
+event_fit law names systems counts words =
+    behind_such (event_line names systems words) _ AsksFairly (IsCounted counts) (event_fair law names systems words) (λ event fair.
+    behind_wanted (are_few (counted counts event)) _ _ (IsCounted counts) (λ few. record { few = few; fair = fair }))
+
+-- events behind so many ticks
+record AreCounted (before : ℕ) (events : List Event) : Type 0 where
+  pub ticks : before + sum (map ticks_of events) ≤ 1000000
+  pub fair : AllByRecursion AsksFairly events
+
+events_fit : SpellsWhatItAccepts → (names : List (List ℕ)) (systems : List SystemConfiguration) (n : ℕ) (counts : Counts) (lines : List (List ℕ))
+    → counts.ticks ≤ 1000000 → IfOk (events_from names systems n counts lines) (AreCounted counts.ticks)
+unfolding events_from
+events_fit law names systems n counts [] h = tt
+events_fit law names systems n counts (line ∷ lines) h =
+    either_way (is_skipped line) _ _ (AreCounted counts.ticks) (events_fit law names systems (n + 1) counts lines h)
+    (either_way (is_line_of (codes "end") (words_of line)) _ _ (AreCounted counts.ticks)
+    (behind_result (nothing_after (n + 1) lines) _ (AreCounted counts.ticks) (λ _ _. record { ticks = omega (arith, h); fair = tt }))
+    (behind_line_such n (counted_event names systems counts (words_of line)) _ (IsCounted counts) (AreCounted counts.ticks)
+    (event_fit law names systems counts (words_of line)) (λ event first.
+    behind_such (events_from names systems (n + 1) (counted counts event) lines) _ (AreCounted (counts.ticks + ticks_of event)) (AreCounted counts.ticks)
+    (events_fit law names systems (n + 1) (counted counts event) lines (few_ticks (counted counts event) first.few)) (λ others rest.
+    record {
+      ticks = rw (sum_by-cons (λ x. x) (ticks_of event) (map ticks_of others)) (omega (arith, rest.ticks));
+      fair = (first.fair, rest.fair);
+    }))))
+
+all_hosts : (systems : List DeclaredSystem) → AllByRecursion (λ (system : SystemConfiguration). system.role ≡ Host) (map host_of systems)
+all_hosts [] = tt
+all_hosts (system ∷ systems) = (refl, all_hosts systems)
+
+plan_fit : SpellsWhatItAccepts → (lines : List (List ℕ)) → IfOk (plan_at lines) IsFit
+unfolding plan_at
+plan_fit law lines =
+    behind_result (header_from 1 lines) _ IsFit (λ header _.
+    behind_such (declarations_from header.number nothing_declared header.lines) _ AreDeclared IsFit
+    (declarations_fit header.number nothing_declared header.lines nothing_fit) (λ declared fits.
+    let systems : List SystemConfiguration = map host_of declared.value.systems in
+    let names : List (List ℕ) = map (λ (system : DeclaredSystem). system.name) declared.value.systems in
+    behind_such (events_from names systems declared.number nothing_counted declared.lines) _ (AreCounted 0) IsFit
+    (events_fit law names systems declared.number nothing_counted declared.lines (omega arith)) (λ events counted.
+    record {
+      limits = fits.fit.limits;
+      systems = hosts_fit declared fits;
+      hosts = all_hosts declared.value.systems;
+      addresses = rw (host_addresses declared.value.systems) (distinct_of (addresses_of declared.value.systems) fits.fit.addresses);
+      ticks = omega (arith, counted.ticks);
+      asks = counted.fair;
+    })))
+
+pub accepted : SpellsWhatItAccepts → (text : List ℕ) (plan : Plan) → plan_of text ≡ Ok plan → IsFit plan
+accepted law text plan e = IfOk-at_ok IsFit e (plan_fit law (lines_of text))
+
+-- the systems that were declared up to `events` are what each host must be
+pub declared_hosts : (n : ℕ) (lines : List (List ℕ)) (d : Declarations) (number : ℕ) (others : List (List ℕ))
+    → declarations_from n nothing_declared lines ≡ Ok (record { value = d; number = number; lines = others })
+    → AllByRecursion IsSystem (map host_of d.systems)
+declared_hosts n lines d number others e =
+    hosts_fit (record { value = d; number = number; lines = others }) (IfOk-at_ok AreDeclared e (declarations_fit n nothing_declared lines nothing_fit))
+
+-- the parts that are read make the plan
+pub plan_is : (text : List ℕ) (n m : ℕ) (left rest : List (List ℕ)) (d : Declarations) (limits : Limits) (subnets : List Subnetwork) (systems : List SystemConfiguration) (events : List Event)
+    → header_from 1 (lines_of text) ≡ Ok (record { value = tt; number = n; lines = left })
+    → declarations_from n nothing_declared left ≡ Ok (record { value = d; number = m; lines = rest })
+    → limits ≡ limits_of d.limits → subnets ≡ d.subnets → systems ≡ map host_of d.systems
+    → events_from (map (λ (system : SystemConfiguration). system.name) systems) systems m nothing_counted rest ≡ Ok events
+    → plan_of text ≡ Ok (record { limits = limits; subnets = subnets; systems = systems; events = events })
+unfolding plan_at
+plan_is text n m left rest d limits subnets systems events header declared limits_is subnets_is systems_is happens =
+    let named : events_from (map (λ (system : DeclaredSystem). system.name) d.systems) (map host_of d.systems) m nothing_counted rest ≡ Ok events
+    = rw (systems_is, host_names d.systems) at happens in
+    rw (header, declared, named, limits_is, subnets_is, systems_is) refl

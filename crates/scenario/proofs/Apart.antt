@@ -1,0 +1,109 @@
+-- Addresses of which no two are the same.
+use Rattle.std.proofs.Common.{◌≡◌, ◌≢◌, ℕ, zero, suc, ◌||◌, Bool, true, false, nat_eq, List, [], ◌∷◌, ◌++◌, map, refl, sym, ◌∙◌, ap, arith, append_assoc}
+use Rattle.std.specs.List.{AllByRecursion, flat_map}
+use Rattle.std.specs.Cmp.Lexicographic.{pointwise, nat_list_eq_equiv}
+use Rattle.std.proofs.lemmas.Bool.{true≢false}
+use Rattle.std.proofs.lemmas.List.Elements.{All-from_recursion}
+use Rattle.std.proofs.lemmas.List.Kept.{AllPairs-cons}
+use Rattle.clnp_plan.specs.Configuration.{AreDistinct}
+use Rattle.scenario.specs.Declarations.{DeclaredSystem, changed_at, is_among, with_address, with_port, NumberedPort, host_of}
+
+-- all addresses of some systems
+abbrev pub addresses_of : List DeclaredSystem → List (List ℕ)
+addresses_of systems = flat_map (λ system. system.addresses) systems
+
+-- an address is none of some
+abbrev pub IsNew : List ℕ → List (List ℕ) → Type 0
+IsNew address others = AllByRecursion (λ other. (address ≢ other) × (other ≢ address)) others
+
+-- each address is none of those behind it
+abbrev pub AreApart : List (List ℕ) → Type 0
+AreApart [] = Unit {0}
+AreApart (address ∷ others) = IsNew address others × AreApart others
+
+weaker : (address : List ℕ) (others : List (List ℕ)) → IsNew address others → AllByRecursion (λ other. address ≢ other) others
+weaker address [] h = tt
+weaker address (other ∷ others) h = (h.0.0, weaker address others h.1)
+
+pub distinct_of : (addresses : List (List ℕ)) → AreApart addresses → AreDistinct addresses
+distinct_of [] h = λ i j d before within. absurd (omega (arith, within))
+distinct_of (address ∷ others) h =
+    AllPairs-cons (λ a b. a ≢ b) address others (All-from_recursion (λ other. address ≢ other) others (weaker address others h.0)) (distinct_of others h.1)
+
+either_false : (a b : Bool) → (a || b) ≡ false → (a ≡ false) × (b ≡ false)
+either_false true b h = absurd (true≢false h)
+either_false false b h = (refl, h)
+
+differ : (address other : List ℕ) → pointwise nat_eq other address ≡ false → (address ≢ other) × (other ≢ address)
+differ address other h = (
+  λ e. absurd (true≢false (sym (nat_list_eq_equiv.refl address) ∙ (ap (λ x. pointwise nat_eq x address) e ∙ h))),
+  λ e. absurd (true≢false (sym (nat_list_eq_equiv.refl address) ∙ (ap (λ x. pointwise nat_eq x address) (sym e) ∙ h))),
+)
+
+pub new_of : (address : List ℕ) (others : List (List ℕ)) → is_among address others ≡ false → IsNew address others
+new_of address [] h = tt
+new_of address (other ∷ others) h =
+    let p = either_false (pointwise nat_eq other address) (is_among address others) h in
+    (differ address other p.0, new_of address others p.1)
+
+-- an address that is none of a list, anywhere in the list
+
+all_put : {X : Type 0} (P : X → Type 0) (xs : List X) (x : X) (ys : List X) → P x → AllByRecursion P (xs ++ ys) → AllByRecursion P (xs ++ x ∷ ys)
+all_put P [] x ys p h = (p, h)
+all_put P (y ∷ xs) x ys p h = (h.0, all_put P xs x ys p h.1)
+
+pub put : (xs : List (List ℕ)) (address : List ℕ) (ys : List (List ℕ)) → IsNew address (xs ++ ys) → AreApart (xs ++ ys) → AreApart (xs ++ address ∷ ys)
+put [] address ys new h = (new, h)
+put (x ∷ xs) address ys new h =
+    (all_put (λ other. (x ≢ other) × (other ≢ x)) xs address ys (new.0.1, new.0.0) h.0, put xs address ys new.1 h.1)
+
+add : (front : List (List ℕ)) (address : List ℕ) (place : ℕ) (systems : List DeclaredSystem)
+    → IsNew address (front ++ addresses_of systems) → AreApart (front ++ addresses_of systems)
+    → AreApart (front ++ addresses_of (changed_at (with_address address) place systems))
+add front address place [] new h = h
+add front address zero (system ∷ systems) new h =
+    let e : front ++ ((system.addresses ++ address ∷ []) ++ addresses_of systems) ≡ (front ++ system.addresses) ++ (address ∷ addresses_of systems) = simp append_assoc in
+    let old : (front ++ system.addresses) ++ addresses_of systems ≡ front ++ (system.addresses ++ addresses_of systems) = simp append_assoc in
+    rw e (put (front ++ system.addresses) address (addresses_of systems) (rw old new) (rw old h))
+add front address (suc place) (system ∷ systems) new h =
+    let old : (front ++ system.addresses) ++ addresses_of systems ≡ front ++ (system.addresses ++ addresses_of systems) = simp append_assoc in
+    let e : (front ++ system.addresses) ++ addresses_of (changed_at (with_address address) place systems)
+    ≡ front ++ (system.addresses ++ addresses_of (changed_at (with_address address) place systems)) = simp append_assoc in
+    rw e at (add (front ++ system.addresses) address place systems (rw old new) (rw old h))
+
+-- a system gets an address that no system has
+pub add_address : (address : List ℕ) (place : ℕ) (systems : List DeclaredSystem)
+    → is_among address (addresses_of systems) ≡ false → AreApart (addresses_of systems)
+    → AreApart (addresses_of (changed_at (with_address address) place systems))
+add_address address place systems new h = add [] address place systems (new_of address (addresses_of systems) new) h
+
+-- what leaves the addresses
+
+pub port_leaves : (numbered : NumberedPort) (place : ℕ) (systems : List DeclaredSystem)
+    → addresses_of (changed_at (with_port numbered) place systems) ≡ addresses_of systems
+port_leaves numbered place [] = refl
+port_leaves numbered zero (system ∷ systems) = refl
+port_leaves numbered (suc place) (system ∷ systems) = ap (λ others. system.addresses ++ others) (port_leaves numbered place systems)
+
+pub system_leaves : (systems : List DeclaredSystem) (system : DeclaredSystem) → system.addresses ≡ []
+    → addresses_of (systems ++ system ∷ []) ≡ addresses_of systems
+system_leaves [] system none = rw none refl
+system_leaves (first ∷ systems) system none = ap (λ others. first.addresses ++ others) (system_leaves systems system none)
+
+pub host_addresses : (systems : List DeclaredSystem) → flat_map (λ host. host.addresses) (map host_of systems) ≡ addresses_of systems
+host_addresses [] = refl
+host_addresses (system ∷ systems) = ap (λ others. system.addresses ++ others) (host_addresses systems)
+
+-- each system's own addresses, and those of the others
+
+all_front : {X : Type 0} (P : X → Type 0) (xs ys : List X) → AllByRecursion P (xs ++ ys) → AllByRecursion P xs
+all_front P [] ys h = tt
+all_front P (x ∷ xs) ys h = (h.0, all_front P xs ys h.1)
+
+pub front_apart : (xs ys : List (List ℕ)) → AreApart (xs ++ ys) → AreApart xs
+front_apart [] ys h = tt
+front_apart (x ∷ xs) ys h = (all_front (λ other. (x ≢ other) × (other ≢ x)) xs ys h.0, front_apart xs ys h.1)
+
+pub back_apart : (xs ys : List (List ℕ)) → AreApart (xs ++ ys) → AreApart ys
+back_apart [] ys h = h
+back_apart (x ∷ xs) ys h = back_apart xs ys h.1

@@ -1,0 +1,302 @@
+-- Each scenario that the grammar accepts is fit: what its lines declare stays fit, line by line.
+use Rattle.std.proofs.Common.{◌≡◌, ℕ, zero, suc, ◌+◌, ◌<◌, ◌≤◌, ◌&&◌, true, not, nat_le, nat_lt, List, [], ◌∷◌, ◌++◌, map, length, slice_get, codes, Option, Some, is_some, Ok, IfOk, refl, sym, arith, length-append}
+use Rattle.std.specs.List.{AllByRecursion, flat_map, list_any, list_all}
+use Rattle.std.specs.Str.{bytes_eq}
+use Rattle.std.proofs.lemmas.Bool.{leb-true, ltb-true, and_parts, not-true, true≢false}
+use Rattle.std.proofs.lemmas.List.{length-map}
+use Rattle.clnp_base.specs.Text.{decimal_of, words_of}
+use Rattle.clnp_plan.specs.Configuration.{IsWithin, IsPort, IsSystem, AreSettings, AreLimits}
+use Rattle.clnp_plan.specs.declared.config.Settings.{Settings}
+use Rattle.scenario.specs.Scenario.{Subnetwork}
+use Rattle.scenario.specs.Words.{◌>>=◌, wanted, found, literal, name_word, declared_word, number_within, number_word, number_behind, has_prefix, address_word, is_digits, is_taken, is_one_at_most, is_skipped, each_once, two_words, three_words, first_two, first_four}
+use Rattle.scenario.specs.Declarations.{Declarations, DeclaredSystem, NumberedPort, nothing_declared, subnet_names, system_names, changed_at, with_address, with_port, is_among, counted_in, has_port, snpas_on, mtu_at, limits_of, limits_line, subnet_line, checksum_word, room_word, setting_word, setting_words, key_of, is_hello, with_setting, settings_of, system_line, address_line, transit_word, port_line, declaration_line, is_complete, is_port_zero, host_of}
+use Rattle.scenario.specs.Grammar.{ReadTo, is_line_of, declarations_from}
+use Rattle.scenario.specs.declared.code.TheConstants.{SYNTAX, MTU, COUNT}
+use Rattle.scenario.specs.declared.setting.Setting.{Setting}
+use Rattle.scenario.specs.declared.setting.Setting.TheVariants.{HelloOff, Checksum, Life, RedirectHold, Slots, Segments, Budget, Neighbours, Routers, Redirects}
+use Rattle.scenario.proofs.Behind.{behind_result, behind_line, behind_found, behind_wanted, behind_such, behind_line_such, wanted_holds, either_way, found_is_within, number_is_within, number_behind_is_within, declared_is_within}
+use Rattle.scenario.proofs.Apart.{addresses_of, AreApart, add_address, port_leaves, system_leaves, distinct_of, front_apart, back_apart}
+
+-- what the lines so far say of a system is within bounds
+pub record IsDeclared (system : DeclaredSystem) : Type 0 where
+  pub addresses : length system.addresses ≤ 8
+  pub ports : AllByRecursion (λ (numbered : NumberedPort). IsPort numbered.port) system.ports
+  pub settings : AreSettings system.settings
+
+-- what the lines so far declare is within bounds, and no address belongs to two systems
+pub record AreFit (d : Declarations) : Type 0 where
+  pub limits : AreLimits (limits_of d.limits)
+  pub subnets : AllByRecursion (λ (subnet : Subnetwork). IsWithin 512 65535 subnet.mtu) d.subnets
+  pub systems : AllByRecursion IsDeclared d.systems
+  pub addresses : AreApart (addresses_of d.systems)
+
+one_more : {X : Type 0} (P : X → Type 0) (xs : List X) (x : X) → AllByRecursion P xs → P x → AllByRecursion P (xs ++ x ∷ [])
+one_more P [] x h p = (p, tt)
+one_more P (y ∷ xs) x h p = (h.0, one_more P xs x h.1 p)
+
+changed : {X : Type 0} (P : X → Type 0) (change : X → X) (place : ℕ) (xs : List X) → AllByRecursion P xs
+    → ((x : X) → slice_get xs place ≡ Some x → P x → P (change x)) → AllByRecursion P (changed_at change place xs)
+changed P change place [] h keeps = tt
+changed P change zero (x ∷ xs) h keeps = (keeps x refl h.0, h.1)
+changed P change (suc place) (x ∷ xs) h keeps = (h.0, changed P change place xs h.1 keeps)
+
+pub limits_fit : (d : Declarations) (words : List (List ℕ)) → AreFit d → IfOk (limits_line d words) AreFit
+unfolding limits_line
+limits_fit d words h =
+    behind_found (three_words words) _ _ AreFit (λ w _.
+    behind_such (number_word 1 4096 w.0) _ (IsWithin 1 4096) AreFit (number_is_within 1 4096 w.0) (λ age age_in.
+    behind_such (number_word 1 255 w.1) _ (IsWithin 1 255) AreFit (number_is_within 1 255 w.1) (λ hold hold_in.
+    behind_such (number_word 1 16384 w.2) _ (IsWithin 1 16384) AreFit (number_is_within 1 16384 w.2) (λ reuse reuse_in.
+    behind_wanted (not (is_some d.limits)) _ _ AreFit (λ _.
+    behind_wanted (nat_le (age + hold) reuse) _ _ AreFit (λ rests.
+    record {
+      limits = record { age = age_in; hold = hold_in; reuse = reuse_in; rests = leb-true (age + hold) reuse rests };
+      subnets = h.subnets;
+      systems = h.systems;
+      addresses = h.addresses;
+    }))))))
+
+pub subnet_fit : (d : Declarations) (words : List (List ℕ)) → AreFit d → IfOk (subnet_line d words) AreFit
+unfolding subnet_line
+subnet_fit d words h =
+    behind_found (two_words words) _ _ AreFit (λ w _.
+    behind_result (name_word w.0) _ AreFit (λ name _.
+    behind_wanted (is_digits w.1) _ _ AreFit (λ _.
+    behind_wanted (not (is_taken (subnet_names d) name)) _ _ AreFit (λ _.
+    behind_such (found (number_within 512 65535 (decimal_of w.1)) MTU) _ (IsWithin 512 65535) AreFit (found_is_within 512 65535 (decimal_of w.1) MTU) (λ mtu mtu_in.
+    behind_wanted (nat_lt (length d.subnets) 64) _ _ AreFit (λ _.
+    record {
+      limits = h.limits;
+      subnets = one_more (λ (subnet : Subnetwork). IsWithin 512 65535 subnet.mtu) d.subnets (record { name = name; mtu = mtu }) h.subnets mtu_in;
+      systems = h.systems;
+      addresses = h.addresses;
+    }))))))
+
+-- what a setting says is within bounds
+abbrev pub SaysWithin : Setting → Type 0
+SaysWithin HelloOff = Unit {0}
+SaysWithin (Checksum on) = Unit {0}
+SaysWithin (Life life) = IsWithin 1 255 life
+SaysWithin (RedirectHold seconds) = IsWithin 0 65535 seconds
+SaysWithin (Slots slots) = IsWithin 1 1024 slots
+SaysWithin (Segments segments) = IsWithin 1 16384 segments
+SaysWithin (Budget budget) = IsWithin 512 4194304 budget
+SaysWithin (Neighbours neighbours) = IsWithin 1 1024 neighbours
+SaysWithin (Routers routers) = IsWithin 1 64 routers
+SaysWithin (Redirects redirects) = IsWithin 1 1024 redirects
+
+number_says : (key : List ℕ) (low high : ℕ) (word : List ℕ) (f : ℕ → Setting)
+    → ((n : ℕ) → IsWithin low high n → SaysWithin (f n)) → IfOk (number_behind key low high word >>= λ n. Ok (f n)) SaysWithin
+number_says key low high word f h =
+    behind_such (number_behind key low high word) (λ n. Ok (f n)) (IsWithin low high) SaysWithin (number_behind_is_within key low high word) h
+
+room_fit : (word : List ℕ) → IfOk (room_word word) SaysWithin
+unfolding room_word
+room_fit word =
+    either_way (has_prefix (codes "slots=") word) _ _ SaysWithin (number_says (codes "slots=") 1 1024 word (λ n. Slots n) (λ n h. h))
+    (either_way (has_prefix (codes "segments=") word) _ _ SaysWithin (number_says (codes "segments=") 1 16384 word (λ n. Segments n) (λ n h. h))
+    (either_way (has_prefix (codes "budget=") word) _ _ SaysWithin (number_says (codes "budget=") 512 4194304 word (λ n. Budget n) (λ n h. h))
+    (either_way (has_prefix (codes "neighbours=") word) _ _ SaysWithin (number_says (codes "neighbours=") 1 1024 word (λ n. Neighbours n) (λ n h. h))
+    (either_way (has_prefix (codes "routers=") word) _ _ SaysWithin (number_says (codes "routers=") 1 64 word (λ n. Routers n) (λ n h. h))
+    (number_says (codes "redirects=") 1 1024 word (λ n. Redirects n) (λ n h. h))))))
+
+checksum_fit : (word : List ℕ) → IfOk (checksum_word word) SaysWithin
+checksum_fit word =
+    either_way (bytes_eq word (codes "checksum=on")) _ _ SaysWithin tt (either_way (bytes_eq word (codes "checksum=off")) _ _ SaysWithin tt tt)
+
+setting_fit : (word : List ℕ) → IfOk (setting_word word) SaysWithin
+unfolding setting_word
+setting_fit word =
+    either_way (has_prefix (codes "life=") word) _ _ SaysWithin (number_says (codes "life=") 1 255 word (λ n. Life n) (λ n h. h))
+    (either_way (has_prefix (codes "checksum=") word) _ _ SaysWithin (checksum_fit word)
+    (either_way (has_prefix (codes "rhold=") word) _ _ SaysWithin (number_says (codes "rhold=") 0 65535 word (λ n. RedirectHold n) (λ n h. h))
+    (either_way (has_prefix (codes "hello=") word) _ _ SaysWithin
+    (behind_wanted (bytes_eq word (codes "hello=0")) SYNTAX (λ _. Ok HelloOff) SaysWithin (λ _. tt))
+    (room_fit word))))
+
+with_fit : (setting : Setting) (settings : Settings) → SaysWithin setting → AreSettings settings → AreSettings (with_setting setting settings)
+with_fit HelloOff settings fits h = let none : IsWithin 0 600 0 = record { least = omega arith; most = omega arith } in assumption (none, h)
+with_fit (Checksum on) settings fits h = assumption h
+with_fit (Life life) settings fits h = assumption (fits, h)
+with_fit (RedirectHold seconds) settings fits h = assumption (fits, h)
+with_fit (Slots slots) settings fits h = assumption (fits, h)
+with_fit (Segments segments) settings fits h = assumption (fits, h)
+with_fit (Budget budget) settings fits h = assumption (fits, h)
+with_fit (Neighbours neighbours) settings fits h = assumption (fits, h)
+with_fit (Routers routers) settings fits h = assumption (fits, h)
+with_fit (Redirects redirects) settings fits h = assumption (fits, h)
+
+usual_within : (low high n : ℕ) → low ≤ n → n ≤ high → IsWithin low high n
+usual_within low high n least most = record { least = least; most = most }
+
+usual_fit : AreSettings (settings_of [])
+usual_fit =
+    record {
+      hello = usual_within 0 600 60 (omega arith) (omega arith);
+      suggest = usual_within 0 32767 0 (omega arith) (omega arith);
+      rhold = usual_within 0 65535 120 (omega arith) (omega arith);
+      slots = usual_within 1 1024 16 (omega arith) (omega arith);
+      segments = usual_within 1 16384 1024 (omega arith) (omega arith);
+      budget = usual_within 512 4194304 262144 (omega arith) (omega arith);
+      neighbours = usual_within 1 1024 64 (omega arith) (omega arith);
+      routers = usual_within 1 64 8 (omega arith) (omega arith);
+      redirects = usual_within 1 1024 64 (omega arith) (omega arith);
+      life = usual_within 1 255 64 (omega arith) (omega arith);
+    }
+
+settings_fit : (settings : List Setting) → AllByRecursion SaysWithin settings → AreSettings (settings_of settings)
+settings_fit [] h = usual_fit
+settings_fit (setting ∷ others) h = with_fit setting (settings_of others) h.0 (settings_fit others h.1)
+
+words_fit : (words : List (List ℕ)) → IfOk (setting_words words) (λ settings. AllByRecursion SaysWithin settings)
+words_fit [] = tt
+words_fit (word ∷ words) =
+    behind_such (setting_word word) _ SaysWithin (λ settings. AllByRecursion SaysWithin settings) (setting_fit word) (λ setting fits.
+    behind_such (setting_words words) _ (λ settings. AllByRecursion SaysWithin settings) (λ settings. AllByRecursion SaysWithin settings) (words_fit words) (λ settings rest.
+    (fits, rest)))
+
+pub system_fit : (d : Declarations) (words : List (List ℕ)) → AreFit d → IfOk (system_line d words) AreFit
+unfolding system_line
+system_fit d words h =
+    behind_found (first_two words) _ _ AreFit (λ w _.
+    behind_result (name_word w.0) _ AreFit (λ name _.
+    behind_result (literal (codes "host") w.1) _ AreFit (λ _ _.
+    behind_such (setting_words w.2) _ (λ settings. AllByRecursion SaysWithin settings) AreFit (words_fit w.2) (λ settings fits.
+    behind_wanted (list_any is_hello settings) _ _ AreFit (λ _.
+    behind_wanted (not (is_taken (system_names d) name) && each_once key_of settings) _ _ AreFit (λ _.
+    behind_wanted (nat_lt (length d.systems) 64) _ _ AreFit (λ _.
+    let system : DeclaredSystem = record { name = name; settings = settings_of settings; addresses = []; ports = [] } in
+    record {
+      limits = h.limits;
+      subnets = h.subnets;
+      systems = one_more IsDeclared d.systems system h.systems (record { addresses = omega arith; ports = tt; settings = settings_fit settings fits });
+      addresses = rw (system_leaves d.systems system refl) h.addresses;
+    })))))))
+
+counted_at : {X : Type 0} (items : DeclaredSystem → List X) (o : Option DeclaredSystem) (most : ℕ) (system : DeclaredSystem)
+    → o ≡ Some system → nat_lt (counted_in items o) most ≡ true → length (items system) < most
+counted_at items o most system e h = ltb-true (length (items system)) most (rw e at h)
+
+pub address_fit : (d : Declarations) (words : List (List ℕ)) → AreFit d → IfOk (address_line d words) AreFit
+unfolding address_line
+address_fit d words h =
+    behind_found (two_words words) _ _ AreFit (λ w _.
+    behind_result (declared_word (system_names d) w.0) _ AreFit (λ place _.
+    behind_result (address_word w.1) _ AreFit (λ address _.
+    behind_wanted (not (is_among address (addresses_of d.systems))) _ _ AreFit (λ new.
+    behind_wanted (nat_lt (counted_in (λ (system : DeclaredSystem). system.addresses) (slice_get d.systems place)) 8) _ _ AreFit (λ few.
+    record {
+      limits = h.limits;
+      subnets = h.subnets;
+      systems = changed IsDeclared (with_address address) place d.systems h.systems (λ system is fits. record {
+        addresses = rw length-append (omega (arith, counted_at (λ (system : DeclaredSystem). system.addresses) (slice_get d.systems place) 8 system is few));
+        ports = fits.ports;
+        settings = fits.settings;
+      });
+      addresses = add_address address place d.systems (not-true (is_among address (addresses_of d.systems)) new) h.addresses;
+    })))))
+
+mtu_fit : (subnets : List Subnetwork) (place : ℕ) → AllByRecursion (λ (subnet : Subnetwork). IsWithin 512 65535 subnet.mtu) subnets
+    → place < length subnets → IsWithin 512 65535 (mtu_at (slice_get subnets place))
+mtu_fit [] place h within = absurd (omega (arith, within))
+mtu_fit (subnet ∷ subnets) zero h within = h.0
+mtu_fit (subnet ∷ subnets) (suc place) h within = mtu_fit subnets place h.1 (omega (arith, within))
+
+transit_fit : (words : List (List ℕ)) → IfOk (transit_word words) (IsWithin 1 255)
+transit_fit [] = record { least = omega arith; most = omega arith }
+transit_fit (word ∷ words) = number_is_within 1 255 word
+
+pub port_fit : (d : Declarations) (words : List (List ℕ)) → AreFit d → IfOk (port_line d words) AreFit
+unfolding port_line
+port_fit d words h =
+    behind_found (first_four words) _ _ AreFit (λ w _.
+    behind_wanted (is_one_at_most w.4) _ _ AreFit (λ _.
+    behind_result (declared_word (system_names d) w.0) _ AreFit (λ place _.
+    behind_result (number_word 0 7 w.1) _ AreFit (λ number _.
+    behind_such (declared_word (subnet_names d) w.2) _ (λ subnet. subnet < length (subnet_names d)) AreFit (declared_is_within (subnet_names d) w.2) (λ subnet within.
+    behind_result (address_word w.3) _ AreFit (λ snpa _.
+    behind_such (transit_word w.4) _ (IsWithin 1 255) AreFit (transit_fit w.4) (λ transit transit_in.
+    behind_wanted (not (has_port number subnet (slice_get d.systems place))) _ _ AreFit (λ _.
+    behind_wanted (not (is_among snpa (flat_map (snpas_on subnet) d.systems))) _ _ AreFit (λ _.
+    behind_wanted (nat_lt (counted_in (λ (system : DeclaredSystem). system.ports) (slice_get d.systems place)) 1) _ _ AreFit (λ _.
+    let numbered : NumberedPort = record { number = number; port = record { subnet = subnet; snpa = snpa; transit = transit; mtu = mtu_at (slice_get d.subnets subnet) } } in
+    record {
+      limits = h.limits;
+      subnets = h.subnets;
+      systems = changed IsDeclared (with_port numbered) place d.systems h.systems (λ system _ fits. record {
+        addresses = fits.addresses;
+        ports = one_more (λ (numbered : NumberedPort). IsPort numbered.port) system.ports numbered fits.ports
+            (record { transit = transit_in; mtu = mtu_fit d.subnets subnet h.subnets (rw (length-map d.subnets (λ (subnet : Subnetwork). subnet.name)) at within) });
+        settings = fits.settings;
+      });
+      addresses = rw (port_leaves numbered place d.systems) h.addresses;
+    }))))))))))
+
+line_fit : (d : Declarations) (words : List (List ℕ)) → AreFit d → IfOk (declaration_line d words) AreFit
+unfolding declaration_line
+line_fit d [] h = tt
+line_fit d (keyword ∷ words) h =
+    either_way (bytes_eq keyword (codes "limits")) _ _ AreFit (limits_fit d words h)
+    (either_way (bytes_eq keyword (codes "subnet")) _ _ AreFit (subnet_fit d words h)
+    (either_way (bytes_eq keyword (codes "system")) _ _ AreFit (system_fit d words h)
+    (either_way (bytes_eq keyword (codes "address")) _ _ AreFit (address_fit d words h)
+    (either_way (bytes_eq keyword (codes "port")) _ _ AreFit (port_fit d words h) tt))))
+
+-- what is declared up to `events` is fit, and each system is complete
+pub record AreDeclared (r : ReadTo Declarations) : Type 0 where
+  pub fit : AreFit r.value
+  pub complete : list_all is_complete r.value.systems ≡ true
+
+pub declarations_fit : (n : ℕ) (d : Declarations) (lines : List (List ℕ)) → AreFit d → IfOk (declarations_from n d lines) AreDeclared
+declarations_fit n d [] h = tt
+declarations_fit n d (line ∷ lines) h =
+    either_way (is_skipped line) _ _ AreDeclared (declarations_fit (n + 1) d lines h)
+    (either_way (is_line_of (codes "events") (words_of line)) _ _ AreDeclared
+    (behind_line n (wanted (list_all is_complete d.systems) COUNT) _ AreDeclared (λ _ e. record { fit = h; complete = wanted_holds (list_all is_complete d.systems) COUNT e }))
+    (behind_line_such n (declaration_line d (words_of line)) _ AreFit AreDeclared (line_fit d (words_of line) h) (λ declared fits.
+    declarations_fit (n + 1) declared lines fits)))
+
+pub nothing_fit : AreFit nothing_declared
+nothing_fit =
+    record {
+      limits = record {
+        age = usual_within 1 4096 256 (omega arith) (omega arith);
+        hold = usual_within 1 255 60 (omega arith) (omega arith);
+        reuse = usual_within 1 16384 320 (omega arith) (omega arith);
+        rests = omega arith;
+      };
+      subnets = tt;
+      systems = tt;
+      addresses = tt;
+    }
+
+one_port : (ports : List NumberedPort) → is_port_zero ports ≡ true → length (map (λ (numbered : NumberedPort). numbered.port) ports) ≡ 1
+one_port [] h = absurd (true≢false (sym h))
+one_port (numbered ∷ []) h = refl
+one_port (numbered ∷ other ∷ others) h = absurd (true≢false (sym h))
+
+ports_fit : (ports : List NumberedPort) → AllByRecursion (λ (numbered : NumberedPort). IsPort numbered.port) ports
+    → AllByRecursion IsPort (map (λ (numbered : NumberedPort). numbered.port) ports)
+ports_fit [] h = tt
+ports_fit (numbered ∷ others) h = (h.0, ports_fit others h.1)
+
+-- complete systems as hosts
+pub systems_fit : (systems : List DeclaredSystem) → AllByRecursion IsDeclared systems → AreApart (addresses_of systems)
+    → list_all is_complete systems ≡ true → AllByRecursion IsSystem (map host_of systems)
+systems_fit [] h apart complete = tt
+systems_fit (system ∷ systems) h apart complete =
+    let both = and_parts (is_complete system) (list_all is_complete systems) complete in
+    let own = and_parts (nat_le 1 (length system.addresses)) (is_port_zero system.ports) both.0 in (
+      record {
+        addresses = record { least = leb-true 1 (length system.addresses) own.0; most = h.0.addresses };
+        distinct = distinct_of system.addresses (front_apart system.addresses (addresses_of systems) apart);
+        ports = one_port system.ports own.1;
+        each_port = ports_fit system.ports h.0.ports;
+        settings = h.0.settings;
+      },
+      systems_fit systems h.1 (back_apart system.addresses (addresses_of systems) apart) both.1,
+    )
+
+-- the declared systems are what a host must be
+pub hosts_fit : (r : ReadTo Declarations) → AreDeclared r → AllByRecursion IsSystem (map host_of r.value.systems)
+hosts_fit r h = systems_fit r.value.systems h.fit.systems h.fit.addresses h.complete

@@ -1,0 +1,14 @@
+//! Laws of the grammar. Each law is the clause of a function that does nothing.
+
+ghost use Rattle.std.specs.Prelude.{◌≡◌, ℕ, List, Ok};
+ghost use Rattle.scenario.specs.Grammar.{plan_of};
+ghost use Rattle.scenario.specs.Scenario.{IsFit, Plan};
+
+/// What the grammar accepts is fit to be run: its limits, settings and numbers are in their ranges,
+/// each host has an address and a port, no address belongs to two systems, few ticks pass, and no
+/// unit is asked to have an option that an error report alone may have.
+pub fn accepted_is_fit()
+    ensures { (text : List ℕ) (plan : Plan) → plan_of text ≡ Ok plan → IsFit plan }
+{
+    clnp_options::laws::spelled_where_no_rule_is_broken();
+}
