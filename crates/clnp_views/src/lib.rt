@@ -3,8 +3,6 @@
 
 mod frame;
 mod head;
-#[cfg(test)]
-mod tests;
 mod view;
 
 pub use frame::Frame;

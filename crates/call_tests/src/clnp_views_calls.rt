@@ -1,4 +1,4 @@
-use super::{Frame, Head};
+use clnp_views::{Frame, Head};
 use std::test::Fail;
 
 #[test]

@@ -1,0 +1,6 @@
+//! Tests of the public calls of the crates: worked examples, and a happy path of each call that
+//! takes memory. A module for each crate.
+#![tactic(auto)]
+
+#[cfg(test)]
+mod clnp_views_calls;
