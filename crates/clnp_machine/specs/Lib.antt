@@ -1,5 +1,7 @@
 pub mod Unit
 pub mod Identifiers
+pub mod Content
 pub mod System
 pub mod Local
-pub mod Host
+pub mod Step
+pub mod Steps

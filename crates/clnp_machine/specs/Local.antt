@@ -2,7 +2,7 @@
 use Rattle.std.specs.Prelude.{ℕ, zero, suc, ◌+◌, ◌-◌, ◌==◌, ◌&&◌, ◌||◌, not, nat_lt, Bool, if◌then◌else◌, List, [], ◌∷◌, ◌++◌, length, slice_index, Option, None, Some, option_map, is_none}
 use Rattle.std.specs.List.{list_any}
 use Rattle.std.specs.Str.{bytes_eq}
-use Rattle.clnp_options.specs.Parameter.{parameters}
+use Rattle.clnp_options.specs.Parameter.{Parameter, parameters}
 use Rattle.pdu_header.specs.declared.kind.Kind.{Kind}
 use Rattle.pdu_header.specs.Spelling.{header_length, type_code}
 use Rattle.reassembly.specs.Arrival.{Arrival}
@@ -15,6 +15,7 @@ use Rattle.clnp_plan.specs.declared.note.Why.TheVariants as why
 use Rattle.clnp_machine.specs.Identifiers as ids
 use Rattle.clnp_machine.specs.Identifiers.{Identifiers, NotDrawn, IsQuiet, IsBusy, not_drawn}
 use Rattle.clnp_machine.specs.Unit.{DeclaredAt, Unit, Packet, value_of, wire, whole_packet}
+use Rattle.clnp_machine.specs.Content.{Content, Labelled}
 use Rattle.clnp_machine.specs.System.{SystemState, next_number, table_limits}
 
 -- it sends a unit that it made, or notes something
@@ -27,17 +28,37 @@ pub record Deed : Type 0 where
   pub after : SystemState
   pub actions : List Action
 
+-- nothing is done
+abbrev pub rests : SystemState → Deed
+rests s = record { after = s; actions = [] }
+
 -- nothing changes but that something is noted
-abbrev pub tells : SystemState → List Action → Deed
-tells s actions = record { after = s; actions = actions }
+abbrev pub tells : SystemState → Note → Deed
+tells s told = record { after = s; actions = Tells told ∷ [] }
 
 -- one deed, and then the next
 abbrev pub and_then : Deed → (SystemState → Deed) → Deed
 and_then deed next = record { after = (next deed.after).after; actions = deed.actions ++ (next deed.after).actions }
 
+-- the units that are sent
+abbrev pub made_in : List Action → List Unit
+made_in [] = []
+made_in (Sends u ∷ actions) = u ∷ made_in actions
+made_in (Tells told ∷ actions) = made_in actions
+
 -- whether an address is one of the system's
 abbrev pub is_own : SystemState → List ℕ → Bool
 is_own s address = list_any (λ own. bytes_eq own address) s.configuration.addresses
+
+-- What comes of PDUs.
+
+-- A PDU that came in a frame is discarded (ISO 8473, section 6.9), for a reason and with the place of the octet at fault.
+abbrev pub discard : SystemState → (frame : Content) → (reason place : ℕ) → Deed
+discard s frame reason place = tells s (note.Discard reason place)
+
+-- The data of a unit of a kind are handed up, once they are whole; the options are those of the PDU that made them whole.
+abbrev pub hand_up : SystemState → Kind → (source destination octets : List ℕ) → (options : List Parameter) → Deed
+hand_up s kind source destination octets options = tells s (note.Got source destination octets)
 
 -- Units that it makes.
 
@@ -109,7 +130,7 @@ makes s u =
 
 -- a refused unit leaves nothing but its note
 abbrev pub unless_refused : Option Note → SystemState → Unit → Deed
-unless_refused (Some refused) s u = tells s (Tells refused ∷ [])
+unless_refused (Some refused) s u = tells s refused
 unless_refused None s u = makes s u
 
 -- a unit of these octets is asked for
@@ -148,58 +169,55 @@ abbrev pub data_in : Option (Buffer Packet) → List ℕ
 data_in None = []
 data_in (Some whole) = buffer.data_of octet_of whole
 
-abbrev pub discards : (reason : ℕ) → List Action
-discards reason = Tells (note.Discard reason 0) ∷ []
+-- what comes of a segment in a frame, where the buffers are these once it was kept
+abbrev pub takes_in : SystemState → Content → Arrival Packet → List (Buffer Packet) → Answer → Deed
+takes_in s frame arrival kept buffer.Held =
+    tells (record s { buffers = kept }) (note.Held arrival.key.id arrival.offset (buffer.held kept))
+takes_in s frame arrival kept buffer.Whole =
+    hand_up (record s { buffers = buffer.without arrival.key kept }) arrival.carried.unit.kind arrival.key.from arrival.key.to
+    (data_in (buffer.buffer_of arrival.key kept)) arrival.carried.options
+takes_in s frame arrival kept (buffer.Interference there other) =
+    and_then (tells s (note.Interference arrival.key.id)) (λ t. discard t frame 0xC0 0)
+takes_in s frame arrival kept buffer.Repeat = tells s (note.Repeat arrival.key.id arrival.offset)
+takes_in s frame arrival kept (buffer.NoSlot live) =
+    and_then (tells s (note.NoSlot live)) (λ t. discard t frame 0x03 0)
+takes_in s frame arrival kept (buffer.Crowded held size) =
+    and_then (tells s (note.Crowded held size)) (λ t. discard t frame 0x03 0)
+takes_in s frame arrival kept (buffer.Many segments) =
+    and_then (tells s (note.Many segments)) (λ t. discard t frame 0x03 0)
 
--- what comes of a segment, where the buffers are these once it was kept
-abbrev pub takes_in : SystemState → Arrival Packet → List (Buffer Packet) → Answer → Deed
-takes_in s arrival kept buffer.Held =
-    record { after = record s { buffers = kept }; actions = Tells (note.Held arrival.key.id arrival.offset (buffer.held kept)) ∷ [] }
-takes_in s arrival kept buffer.Whole =
-    record {
-      after = record s { buffers = buffer.without arrival.key kept };
-      actions = Tells (note.Got arrival.key.from arrival.key.to (data_in (buffer.buffer_of arrival.key kept))) ∷ [];
-    }
-takes_in s arrival kept (buffer.Interference there other) = tells s (Tells (note.Interference arrival.key.id) ∷ discards 0xC0)
-takes_in s arrival kept buffer.Repeat = tells s (Tells (note.Repeat arrival.key.id arrival.offset) ∷ [])
-takes_in s arrival kept (buffer.NoSlot live) = tells s (Tells (note.NoSlot live) ∷ discards 0x03)
-takes_in s arrival kept (buffer.Crowded held size) = tells s (Tells (note.Crowded held size) ∷ discards 0x03)
-takes_in s arrival kept (buffer.Many segments) = tells s (Tells (note.Many segments) ∷ discards 0x03)
-
--- a segment is offered to the buffers
-abbrev pub offer : SystemState → Arrival Packet → Deed
-offer s arrival =
-    takes_in s arrival (buffer.after (table_limits s) s.moment arrival s.buffers)
+-- a segment in a frame is offered to the buffers
+abbrev pub offer : SystemState → Content → Arrival Packet → Deed
+offer s frame arrival =
+    takes_in s frame arrival (buffer.after (table_limits s) s.moment arrival s.buffers)
     (buffer.answer (table_limits s) s.moment arrival s.buffers)
 
 -- a packet for one of the system's addresses comes: a whole unit is handed up, a segment is offered to the buffers
 abbrev pub receive : SystemState → Packet → (following : List ℕ) → Deed
 receive s p following =
-    if is_all p then tells s (Tells (note.Got p.unit.source p.unit.destination (value_of p).body) ∷ [])
-    else offer s (offered p following)
+    if is_all p then hand_up s p.unit.kind p.unit.source p.unit.destination (value_of p).body p.options
+    else offer s (Labelled p following) (offered p following)
 
 -- Buffers whose time has ended.
 
 -- the packet at the beginning of the unit, if one came, is discarded: its lifetime expired in reassembly
-abbrev pub discards_first : Option Packet → List Action
-discards_first None = []
-discards_first (Some p) = discards 0xA1
+abbrev pub discard_first : SystemState → Option Packet → Deed
+discard_first s None = rests s
+discard_first s (Some p) = discard s (Labelled p []) 0xA1 0
 
 -- a buffer is taken out
 abbrev pub gives_up : SystemState → Buffer Packet → Deed
 gives_up s ended =
-    record {
-      after = record s { buffers = buffer.without ended.key s.buffers };
-      actions = Tells (note.Expired ended.key.id (buffer.held (buffer.without ended.key s.buffers))) ∷ discards_first (buffer.first_carried ended);
-    }
+    and_then (tells (record s { buffers = buffer.without ended.key s.buffers }) (note.Expired ended.key.id (buffer.held (buffer.without ended.key s.buffers))))
+    (λ t. discard_first t (buffer.first_carried ended))
 
 -- the buffers that are due are taken out, one after another, so many at most
 abbrev pub give_up_due : Option (Buffer Packet) → SystemState → (SystemState → Deed) → Deed
-give_up_due None s next = tells s []
+give_up_due None s next = rests s
 give_up_due (Some ended) s next = and_then (gives_up s ended) next
 
 abbrev pub expire : ℕ → SystemState → Deed
-expire zero s = tells s []
+expire zero s = rests s
 expire (suc most) s = give_up_due (buffer.due s.moment s.buffers) s (expire most)
 
 -- a moment has come

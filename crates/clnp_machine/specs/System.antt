@@ -1,14 +1,14 @@
 -- One system: its state, what comes to it, and what it does.
-use Rattle.std.specs.Prelude.{ℕ, ◌+◌, ◌-◌, ◌^◌, min, List, [], ◌++◌}
+use Rattle.std.specs.Prelude.{ℕ, ◌+◌, ◌-◌, ◌^◌, min, Bool, List, []}
 use Rattle.nsap.specs.declared.target.Target.{Target}
 use Rattle.reassembly.specs.declared.table.TableLimits.{TableLimits}
 use Rattle.reassembly.specs.Buffer.{Buffer}
 use Rattle.clnp_plan.specs.Configuration.{SystemConfiguration}
 use Rattle.clnp_plan.specs.declared.config.Limits.{Limits}
+use Rattle.clnp_plan.specs.declared.ask.Ask.{Ask}
 use Rattle.clnp_plan.specs.declared.note.Note.{Note}
-use Rattle.pdu_header.specs.Value.{PduValue}
-use Rattle.pdu_header.specs.Grammar.{BeginsWith}
-use Rattle.clnp_machine.specs.Unit.{Packet, wire, IsCarriable}
+use Rattle.clnp_machine.specs.Unit.{Unit, Packet}
+use Rattle.clnp_machine.specs.Content.{Content}
 use Rattle.clnp_machine.specs.Identifiers.{Identifiers, opening}
 
 pub record SystemState : Type 0 where
@@ -47,30 +47,24 @@ table_limits s =
       hold = s.hold;
     }
 
--- What a frame carries: a packet and the octets that follow its PDU in the frame, or octets that
--- spell no PDU.
-pub data Content : Type 0 where
-  Labelled : (packet : Packet) (following : List ℕ) → Content
-  Unlabelled : (octets : List ℕ) → Content
+-- What comes to a system: it is asked to send octets; a frame comes in at a port, from an address there, to a group of
+-- systems or to it alone; a moment comes; it is restarted.
+pub data Input : Type 0 where
+  AsksToSend : (from to octets : List ℕ) (ask : Ask) → Input
+  FrameComes : (port : ℕ) (sender : List ℕ) (to_group : Bool) (content : Content) → Input
+  MomentComes : (now : ℕ) → Input
+  IsRestarted : Input
 
-abbrev pub frame_of : Content → List ℕ
-frame_of (Labelled packet following) = wire packet ++ following
-frame_of (Unlabelled octets) = octets
-
--- what a frame may carry: a packet that a PDU can carry, or octets that don't begin with a PDU
-abbrev pub IsCarried : Content → Type 0
-IsCarried (Labelled packet following) = IsCarriable packet
-IsCarried (Unlabelled octets) = (value : PduValue) (rest : List ℕ) → BeginsWith octets value rest → ⊥
-
--- what a system does: it sends a packet on a port, or notes something
+-- what a system gives out: it sends a packet on a port, or notes something
 pub data Output : Type 0 where
   Transmits : (port : ℕ) (target : Target) (packet : Packet) → Output
   Notes : (note : Note) → Output
 
--- one step of a system: its state after it, and its outputs in their order
+-- one step of a system: its state after it, its outputs in their order, and the units that it made
 pub record Effect : Type 0 where
   pub after : SystemState
   pub outputs : List Output
+  pub units : List Unit
 
 -- the number of the next unit: one more than the last, and the greatest one for ever
 abbrev pub next_number : SystemState → ℕ

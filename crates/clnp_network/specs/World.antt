@@ -1,5 +1,5 @@
 -- The simulated network: its systems, the copies of frames that were ever put on a subnetwork, and its moves.
-use Rattle.std.specs.Prelude.{ℕ, ◌+◌, ◌-◌, ◌==◌, ◌&&◌, not, nat_le, nat_lt, Bool, false, if◌then◌else◌, List, [], ◌∷◌, ◌++◌, length, map, sum, slice_get, slice_set, Option, None, Some}
+use Rattle.std.specs.Prelude.{ℕ, ◌+◌, ◌-◌, ◌==◌, ◌&&◌, not, nat_le, nat_lt, Bool, true, false, if◌then◌else◌, List, [], ◌∷◌, ◌++◌, length, map, sum, slice_get, slice_set, Option, None, Some}
 use Rattle.std.specs.List.{list_any, range_with_len}
 use Rattle.std.specs.Str.{bytes_eq}
 use Rattle.nsap.specs.declared.target.Target.{Target}
@@ -15,9 +15,10 @@ use Rattle.scenario.specs.declared.event.Event.{Event}
 use Rattle.scenario.specs.declared.event.Event.TheVariants.{Send, Deliver, Settle, Lose, Tick, Restart}
 use Rattle.scenario.specs.declared.event.Move.{Move}
 use Rattle.scenario.specs.declared.event.Move.TheVariants.{One, SettleOne, LoseOne, TickOne}
-use Rattle.clnp_machine.specs.Unit.{Packet, wire}
-use Rattle.clnp_machine.specs.System.{SystemState, first_state, Content, Labelled, frame_of, Output, Transmits, Notes, Effect}
-use Rattle.clnp_machine.specs.Host as host
+use Rattle.clnp_machine.specs.Unit.{Maker, Unit, Packet, wire}
+use Rattle.clnp_machine.specs.Content.{Content, Labelled, frame_of}
+use Rattle.clnp_machine.specs.System.{SystemState, first_state, Input, AsksToSend, FrameComes, MomentComes, IsRestarted, Output, Transmits, Notes, Effect}
+use Rattle.clnp_machine.specs.Step.{step}
 
 -- a frame on a subnetwork, for good
 pub record Copy : Type 0 where
@@ -25,13 +26,16 @@ pub record Copy : Type 0 where
   -- the sender's address there
   pub sender : List ℕ
   pub target : Target
-  -- the moment of its unit's making
+  -- who made what it carries, and when
+  pub maker : Maker
   pub birth : ℕ
   pub content : Content
 
 pub record World : Type 0 where
   pub clock : ℕ
   pub systems : List SystemState
+  -- all units that were made, in the order of their making
+  pub units : List Unit
   -- in the order of their numbers, which count from 1
   pub copies : List Copy
   -- how many of the copies were settled or lost
@@ -57,7 +61,14 @@ followed_by step next = record { world = (next step.world).world; lines = step.l
 abbrev pub copy_from : Option PortConfig → Target → Packet → List Copy
 copy_from None target packet = []
 copy_from (Some port) target packet =
-    record { subnet = port.subnet; sender = port.snpa; target = target; birth = packet.unit.made; content = Labelled packet [] } ∷ []
+    record {
+      subnet = port.subnet;
+      sender = port.snpa;
+      target = target;
+      maker = packet.unit.maker;
+      birth = packet.unit.made;
+      content = Labelled packet [];
+    } ∷ []
 
 -- one output of a system: its note, or the copy that it puts on a port's subnetwork
 abbrev pub put_out : SystemConfiguration → World → Output → Step
@@ -72,18 +83,21 @@ abbrev pub put_all_out : SystemConfiguration → World → List Output → Step
 put_all_out system w [] = nothing w
 put_all_out system w (output ∷ outputs) = followed_by (put_out system w output) (λ v. put_all_out system v outputs)
 
--- the system at a place takes a step
+-- the system at a place has taken a step
+abbrev pub with_effect : World → ℕ → Effect → World
+with_effect w place effect = record w { systems = slice_set w.systems place effect.after; units = w.units ++ effect.units }
+
+-- and what it gives out goes out
 abbrev pub takes_effect : World → ℕ → Effect → Step
-takes_effect w place effect =
-    put_all_out effect.after.configuration (record w { systems = slice_set w.systems place effect.after }) effect.outputs
+takes_effect w place effect = put_all_out effect.after.configuration (with_effect w place effect) effect.outputs
 
--- the system at a place does something, where there is one
-abbrev pub at_system : World → ℕ → (SystemState → Effect) → Option SystemState → Step
-at_system w place does None = nothing w
-at_system w place does (Some system) = takes_effect w place (does system)
+-- something comes to the system at a place, where there is one
+abbrev pub comes_to : World → ℕ → Input → Option SystemState → Step
+comes_to w place input None = nothing w
+comes_to w place input (Some system) = takes_effect w place (step system input)
 
-abbrev pub system_does : World → ℕ → (SystemState → Effect) → Step
-system_does w place does = at_system w place does (slice_get w.systems place)
+abbrev pub comes : World → ℕ → Input → Step
+comes w place input = comes_to w place input (slice_get w.systems place)
 
 -- whether a port with this address on this subnetwork is one that a copy is for; a group is not its sender
 abbrev pub reaches : Role → Target → List ℕ → List ℕ → Bool
@@ -93,9 +107,28 @@ reaches Router EndSystems sender own = false
 reaches Host Routers sender own = false
 reaches Router Routers sender own = not (bytes_eq own sender)
 
+abbrev pub enters : Copy → Role → PortConfig → Bool
+enters copy role port = (port.subnet == copy.subnet) && reaches role copy.target copy.sender port.snpa
+
+-- whether a copy is for a system: one of its ports is one that it is for
 abbrev pub is_addressee : Copy → SystemConfiguration → Bool
-is_addressee copy system =
-    list_any (λ port. (port.subnet == copy.subnet) && reaches system.role copy.target copy.sender port.snpa) system.ports
+is_addressee copy system = list_any (enters copy system.role) system.ports
+
+-- the least of a system's ports by which a copy comes in
+abbrev pub first_port : Copy → Role → List PortConfig → ℕ
+first_port copy role [] = 0
+first_port copy role (port ∷ ports) = if enters copy role port then 0 else first_port copy role ports + 1
+
+-- whether a target is a group of systems
+abbrev pub is_group : Target → Bool
+is_group (System snpa) = false
+is_group EndSystems = true
+is_group Routers = true
+
+-- what a copy is to a system that it is for
+abbrev pub frame_to : SystemState → Copy → Input
+frame_to system copy =
+    FrameComes (first_port copy system.configuration.role system.configuration.ports) copy.sender (is_group copy.target) copy.content
 
 -- the places of the systems that a copy is for, counted from a number on
 abbrev pub addressees_from : ℕ → Copy → List SystemState → List ℕ
@@ -109,7 +142,7 @@ pub record Numbered : Type 0 where
   pub number : ℕ
   pub copy : Copy
 
--- whether a copy is older than one may be that is given
+-- whether a copy is older than one may be that is given: links keep nothing so long
 abbrev pub is_late : Limits → World → Copy → Bool
 is_late limits w copy = nat_lt (copy.birth + limits.age) w.clock
 
@@ -118,7 +151,7 @@ abbrev pub give_to : Limits → Numbered → World → ℕ → Option SystemStat
 give_to limits given w place None = nothing w
 give_to limits given w place (Some system) =
     if is_late limits w given.copy then writes w (Late w.clock system.configuration.name given.number)
-    else takes_effect w place (host.arrive system given.copy.content)
+    else takes_effect w place (step system (frame_to system given.copy))
 
 abbrev pub give : Limits → Numbered → World → ℕ → Step
 give limits given w place = give_to limits given w place (slice_get w.systems place)
@@ -166,7 +199,7 @@ deliver limits w number place = deliver_at limits w number place (slice_get w.sy
 abbrev pub tick_each : World → List ℕ → Step
 tick_each w [] = nothing w
 tick_each w (place ∷ places) =
-    followed_by (system_does w place (λ system. host.tick system w.clock)) (λ v. tick_each v places)
+    followed_by (comes w place (MomentComes w.clock)) (λ v. tick_each v places)
 
 -- the clock goes on, and its moment comes to each system in the order of the declarations
 abbrev pub tick_one : World → Step
@@ -179,8 +212,8 @@ event_happens limits w (Some (Settle count)) = nothing w
 event_happens limits w (Some (Lose count)) = nothing w
 event_happens limits w (Some (Tick count)) = nothing w
 event_happens limits w (Some (Deliver copy system)) = deliver limits w copy system
-event_happens limits w (Some (Restart system)) = system_does w system host.restart
-event_happens limits w (Some (Send system from to body ask)) = system_does w system (λ s. host.send s from to (octets_of body) ask)
+event_happens limits w (Some (Restart system)) = comes w system IsRestarted
+event_happens limits w (Some (Send system from to body ask)) = comes w system (AsksToSend from to (octets_of body) ask)
 
 -- one move of the network
 abbrev pub after : Plan → World → Move → Step
@@ -197,7 +230,7 @@ states_from limits place (system ∷ systems) =
 
 -- the world of a scenario's declarations
 abbrev pub first_world : Plan → World
-first_world plan = record { clock = 0; systems = states_from plan.limits 0 plan.systems; copies = []; cursor = 0 }
+first_world plan = record { clock = 0; systems = states_from plan.limits 0 plan.systems; units = []; copies = []; cursor = 0 }
 
 -- what a copy weighs: its octets, and 64
 abbrev pub copy_weight : Copy → ℕ

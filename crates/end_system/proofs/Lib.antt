@@ -3,6 +3,5 @@ pub mod Deeds
 pub mod Given
 pub mod Outputs
 pub mod Packets
-pub mod Pieces
 pub mod Ports
 pub mod Sent

@@ -16,6 +16,7 @@ use Rattle.segmenter.proofs.Claims.{segments_tile}
 use Rattle.segmenter.proofs.Lists.{length_part, part_of_part}
 use Rattle.segmenter.proofs.Segments.{segment_is_pdu}
 use Rattle.segmenter.proofs.Tiles.{tiles_within}
+use Rattle.clnp_machine.specs.Steps.{AreCarriable}
 use Rattle.clnp_machine.specs.Unit.{IsCarriable, Packet, cut, more_follows, piece_of, pieces, segmentation_of, value_of, value_with, wire}
 
 -- ---- one piece
@@ -38,7 +39,7 @@ header_length-piece p range =
     ∙ ap octets (part_length p.unit.identifier (p.offset + range.from) p.offset p.unit.total)
     ∙ sym (header_length-is (value_of p))
 
-with_parts : (v : PduValue) (s t : Option SegmentationPart) (more flag : Bool) (body octets : List ℕ) → s ≡ t → more ≡ flag → body ≡ octets
+pub with_parts : (v : PduValue) (s t : Option SegmentationPart) (more flag : Bool) (body octets : List ℕ) → s ≡ t → more ≡ flag → body ≡ octets
     → record v { segmentation = s; more = more; body = body } ≡ record v { segmentation = t; more = flag; body = octets }
 with_parts v s t more flag body octets e m b =
     ap (λ x. record v { segmentation = x; more = more; body = body }) e
@@ -146,3 +147,42 @@ cut_both p mtu h m =
         let n : ℕ = length (value_of p).body in
         subst (λ places. AreThese p (segments (value_of p) mtu (part_of p identifier)) (map (piece_of p) (ranges room places))) (body_length p h)
         (pieces_are p identifier (ranges room n) e h (tiles_within (ranges room n) 0 n (segments_tile (value_of p) mtu h.pdu m)))
+
+-- ---- what that says of them
+
+values_are : (p : Packet) (pieces : List Piece) (packets : List Packet) → AreThese p pieces packets
+    → map value_of packets ≡ map (λ (piece : Piece). piece.value) pieces
+values_are p [] [] these = refl
+values_are p (piece ∷ others) (packet ∷ packets) these =
+    ap (λ (v : PduValue). v ∷ map value_of packets) these.0.value
+    ∙ ap (λ (vs : List PduValue). piece.value ∷ vs) (values_are p others packets these.1)
+values_are p [] (packet ∷ packets) these = absurd these
+values_are p (piece ∷ others) [] these = absurd these
+
+both_values : (p : Packet) (pieces : Option (List Piece)) (packets : Option (List Packet)) → AreBoth p pieces packets
+    → option_map (map value_of) packets ≡ option_map (map (λ (piece : Piece). piece.value)) pieces
+both_values p None None both = refl
+both_values p (Some pieces) (Some packets) both = ap Some (values_are p pieces packets both)
+both_values p None (Some packets) both = absurd both
+both_values p (Some pieces) None both = absurd both
+
+-- the pieces have the values of the pieces of the value
+pub cut_values : (p : Packet) (mtu : ℕ) → IsCarriable p → 512 ≤ mtu
+    → option_map (map value_of) (cut p mtu) ≡ option_map (map (λ (piece : Piece). piece.value)) (segmenter.cut (value_of p) mtu)
+cut_values p mtu h m = both_values p (segmenter.cut (value_of p) mtu) (cut p mtu) (cut_both p mtu h m)
+
+each_carriable : (p : Packet) (pieces : List Piece) (packets : List Packet) → AreThese p pieces packets → AllByRecursion IsCarriable packets
+each_carriable p [] [] these = tt
+each_carriable p (piece ∷ others) (packet ∷ packets) these = (these.0.carriable, each_carriable p others packets these.1)
+each_carriable p [] (packet ∷ packets) these = absurd these
+each_carriable p (piece ∷ others) [] these = absurd these
+
+both_carriable : (p : Packet) (pieces : Option (List Piece)) (packets : Option (List Packet)) → AreBoth p pieces packets → AreCarriable packets
+both_carriable p None None both = tt
+both_carriable p (Some pieces) (Some packets) both = each_carriable p pieces packets both
+both_carriable p None (Some packets) both = absurd both
+both_carriable p (Some pieces) None both = absurd both
+
+-- and PDUs can carry them
+pub cut_carriable : (p : Packet) (mtu : ℕ) → IsCarriable p → 512 ≤ mtu → AreCarriable (cut p mtu)
+cut_carriable p mtu h m = both_carriable p (segmenter.cut (value_of p) mtu) (cut p mtu) (cut_both p mtu h m)

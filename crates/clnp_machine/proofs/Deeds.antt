@@ -1,0 +1,226 @@
+-- What each deed of a system leaves: the same system at the same moment, within its budget, and units that are fresh.
+use Rattle.std.proofs.Common.{◌≡◌, ◌∙◌, sym, ap, subst, refl, ℕ, zero, suc, ◌≤◌, Bool, true, false, not, List, [], ◌∷◌, ◌++◌, length, Option, None, Some, arith}
+use Rattle.std.specs.Prelude.{◌==◌, if◌then◌else◌}
+use Rattle.std.specs.List.{AllByRecursion, list_any}
+use Rattle.std.specs.Str.{bytes_eq}
+use Rattle.pdu_header.specs.declared.kind.Kind.{Kind}
+use Rattle.pdu_header.specs.declared.kind.Kind.TheVariants.{Dt}
+use Rattle.pdu_header.specs.Rules.{octet, refusal as rule_broken}
+use Rattle.clnp_options.specs.declared.judge.OptionRefusal.{OptionRefusal}
+use Rattle.reassembly.specs.Arrival.{Arrival, same_key}
+use Rattle.reassembly.specs.Buffer as buffer
+use Rattle.reassembly.specs.Buffer.{Answer, Buffer, held, size_of}
+use Rattle.reassembly.proofs.LawSums.{sum_filter}
+use Rattle.clnp_plan.specs.Configuration.{SystemConfiguration}
+use Rattle.clnp_plan.specs.declared.ask.Ask.{Ask}
+use Rattle.clnp_plan.specs.declared.config.Role.{Role}
+use Rattle.clnp_plan.specs.declared.config.Role.TheVariants.{Host, Router}
+use Rattle.clnp_plan.specs.declared.note.Note.{Note}
+use Rattle.clnp_plan.specs.declared.note.Note.TheVariants as note
+use Rattle.clnp_machine.specs.Unit as unit
+use Rattle.clnp_machine.specs.Unit.{DeclaredAt, Packet}
+use Rattle.clnp_machine.specs.Content.{Content, Labelled, Unlabelled}
+use Rattle.clnp_machine.specs.System.{SystemState, Input, AsksToSend, FrameComes, MomentComes, IsRestarted, table_limits}
+use Rattle.clnp_machine.specs.Local.{Action, Sends, Tells, Deed, tells, and_then, made_in, is_own, is_all, offered, takes_in, offer, receive, refusal, unit_of, makes, unless_refused, discard_first, gives_up, give_up_due, expire, at_moment, tick}
+use Rattle.clnp_machine.specs.Step.{passes_by, packet_comes, discard_refused, octets_come, content_comes, restart, deed, step}
+use Rattle.clnp_machine.specs.Steps.{AsksNothing, StaysItself, moment_after, IsFresh, IsWithinBudget}
+use Rattle.clnp_machine.proofs.Lists.{AllByRecursion-implies}
+use Rattle.clnp_machine.proofs.Kept.{held_after}
+use Rattle.clnp_machine.proofs.Making.{allowed, total_is}
+
+-- the same system, at the same moment, within its budget where it was
+pub record Goes (s t : SystemState) : Type 0 where
+  pub itself : StaysItself s t
+  pub moment : t.moment ≡ s.moment
+  pub budget : IsWithinBudget s → IsWithinBudget t
+
+goes-nowhere : (s : SystemState) → Goes s s
+goes-nowhere s = record { itself = record { place = refl; configuration = refl; hold = refl }; moment = refl; budget = λ h. h }
+
+goes-on : (s t u : SystemState) → Goes s t → Goes t u → Goes s u
+goes-on s t u h k = record {
+  itself = record {
+    place = k.itself.place ∙ h.itself.place;
+    configuration = k.itself.configuration ∙ h.itself.configuration;
+    hold = k.itself.hold ∙ h.itself.hold;
+  };
+  moment = k.moment ∙ h.moment;
+  budget = λ within. k.budget (h.budget within);
+}
+
+pub record Does (s : SystemState) (deed : Deed) : Type 0 where
+  pub goes : Goes s deed.after
+  pub makes_none : made_in deed.actions ≡ []
+
+made_in-append : (xs ys : List Action) → made_in (xs ++ ys) ≡ made_in xs ++ made_in ys
+made_in-append [] ys = refl
+made_in-append (Tells told ∷ xs) ys = made_in-append xs ys
+made_in-append (Sends u ∷ xs) ys = ap (λ us. u ∷ us) (made_in-append xs ys)
+
+does_both : (s : SystemState) (first : Deed) (next : SystemState → Deed) → Does s first → ((t : SystemState) → Does t (next t)) → Does s (and_then first next)
+does_both s first next h k =
+    let second = k first.after in
+    record {
+      goes = goes-on s first.after (next first.after).after h.goes second.goes;
+      makes_none = made_in-append first.actions (next first.after).actions
+          ∙ ap (λ (us : List unit.Unit). us ++ made_in (next first.after).actions) h.makes_none ∙ second.makes_none;
+    }
+
+-- only something is noted
+does_tell : (s : SystemState) (told : Note) → Does s (record { after = s; actions = Tells told ∷ [] })
+does_tell s told = record { goes = goes-nowhere s; makes_none = refl }
+
+-- Units that are asked for.
+
+stays : (s : SystemState) (u : unit.Unit) (refused : Option Note) → Goes s (unless_refused refused s u).after
+stays s u None = record { itself = record { place = refl; configuration = refl; hold = refl }; moment = refl; budget = λ h. h }
+stays s u (Some told) = goes-nowhere s
+
+asked_is_fresh : (s : SystemState) (kind : Kind) (from to octets : List ℕ) (ask : Ask) (refused : Option Note)
+    → refusal s (unit_of s kind from to octets ask) ≡ refused
+    → AllByRecursion (IsFresh s s.moment) (made_in (unless_refused refused s (unit_of s kind from to octets ask)).actions)
+asked_is_fresh s kind from to octets ask None e = (
+  record {
+    maker = refl;
+    made = refl;
+    source = (allowed s (unit_of s kind from to octets ask) e).own;
+    first_position = refl;
+    total = total_is s kind from to octets ask;
+  },
+  tt,
+)
+asked_is_fresh s kind from to octets ask (Some told) e = tt
+
+-- Packets that come.
+
+with_buffers : (s : SystemState) (buffers : List (Buffer Packet)) → (IsWithinBudget s → held buffers ≤ s.configuration.settings.budget)
+    → Goes s (record s { buffers = buffers })
+with_buffers s buffers within = record { itself = record { place = refl; configuration = refl; hold = refl }; moment = refl; budget = within }
+
+does_take_in : (s : SystemState) (frame : Content) (arrival : Arrival Packet) (kept : List (Buffer Packet)) (answer : Answer)
+    → (IsWithinBudget s → held kept ≤ s.configuration.settings.budget) → Does s (takes_in s frame arrival kept answer)
+does_take_in s frame arrival kept buffer.Held within = record { goes = with_buffers s kept within; makes_none = refl }
+does_take_in s frame arrival kept buffer.Whole within = record {
+  goes = with_buffers s (buffer.without arrival.key kept)
+      (λ h.
+      let less = sum_filter size_of (λ (b : Buffer Packet). not (same_key b.key arrival.key)) kept in
+      let most = within h in
+      omega arith);
+  makes_none = refl;
+}
+does_take_in s frame arrival kept (buffer.Interference there other) within = record { goes = goes-nowhere s; makes_none = refl }
+does_take_in s frame arrival kept buffer.Repeat within = does_tell s _
+does_take_in s frame arrival kept (buffer.NoSlot live) within = record { goes = goes-nowhere s; makes_none = refl }
+does_take_in s frame arrival kept (buffer.Crowded held size) within = record { goes = goes-nowhere s; makes_none = refl }
+does_take_in s frame arrival kept (buffer.Many segments) within = record { goes = goes-nowhere s; makes_none = refl }
+
+does_offer : (s : SystemState) (frame : Content) (arrival : Arrival Packet) → Does s (offer s frame arrival)
+does_offer s frame arrival =
+    does_take_in s frame arrival (buffer.after (table_limits s) s.moment arrival s.buffers) (buffer.answer (table_limits s) s.moment arrival s.buffers)
+    (held_after (table_limits s) s.moment arrival s.buffers)
+
+does_one_of : (s : SystemState) (test : Bool) (first second : Deed) → Does s first → Does s second → Does s (if test then first else second)
+does_one_of s true first second h k = h
+does_one_of s false first second h k = k
+
+does_receive : (s : SystemState) (p : Packet) (following : List ℕ) → Does s (receive s p following)
+does_receive s p following =
+    does_one_of s (is_all p) _ (offer s (Labelled p following) (offered p following)) (does_tell s _) (does_offer s (Labelled p following) (offered p following))
+
+does_pass_by : (role : Role) (s : SystemState) (p : Packet) (following : List ℕ) → Does s (passes_by role s p following)
+does_pass_by Host s p following = does_tell s _
+does_pass_by Router s p following = does_tell s _
+
+does_with_packet : (s : SystemState) (p : Packet) (following : List ℕ) → Does s (packet_comes s p following)
+does_with_packet s p following =
+    does_one_of s (p.lifetime == 0) _ _ (does_tell s _)
+    (does_one_of s (is_own s p.unit.destination) (receive s p following) _ (does_receive s p following)
+    (does_pass_by s.configuration.role s p following))
+
+does_discard_refused : (s : SystemState) (octets : List ℕ) (broken : Option OptionRefusal) → Does s (discard_refused s octets broken)
+does_discard_refused s octets None = does_tell s _
+does_discard_refused s octets (Some broken) = does_tell s _
+
+does_with_octets : (s : SystemState) (octets : List ℕ) → Does s (octets_come s octets)
+does_with_octets s octets =
+    does_one_of s (octet octets 1 == 0x81) (discard_refused s octets (rule_broken octets)) _ (does_discard_refused s octets (rule_broken octets))
+    (does_one_of s (octet octets 1 == 0x82) _ _ (does_tell s _) (does_tell s _))
+
+does_with_content : (s : SystemState) (content : Content) → Does s (content_comes s content)
+does_with_content s (Labelled p following) = does_with_packet s p following
+does_with_content s (Unlabelled octets) = does_with_octets s octets
+
+-- Moments that come.
+
+does_discard_first : (s : SystemState) (first : Option Packet) → Does s (discard_first s first)
+does_discard_first s None = record { goes = goes-nowhere s; makes_none = refl }
+does_discard_first s (Some p) = does_tell s _
+
+does_give_up : (s : SystemState) (ended : Buffer Packet) → Does s (gives_up s ended)
+does_give_up s ended =
+    let rest : List (Buffer Packet) = buffer.without ended.key s.buffers in
+    does_both s (tells (record s { buffers = rest }) (note.Expired ended.key.id (held rest))) (λ t. discard_first t (buffer.first_carried ended))
+    (record {
+      goes = with_buffers s (buffer.without ended.key s.buffers)
+          (λ h.
+          let less = sum_filter size_of (λ (b : Buffer Packet). not (same_key b.key ended.key)) s.buffers in
+          omega arith);
+      makes_none = refl;
+    })
+    (λ t. does_discard_first t (buffer.first_carried ended))
+
+does_give_up_due : (s : SystemState) (found : Option (Buffer Packet)) (next : SystemState → Deed) → ((t : SystemState) → Does t (next t))
+    → Does s (give_up_due found s next)
+does_give_up_due s None next h = record { goes = goes-nowhere s; makes_none = refl }
+does_give_up_due s (Some ended) next h = does_both s (gives_up s ended) next (does_give_up s ended) h
+
+does_expire : (most : ℕ) (s : SystemState) → Does s (expire most s)
+does_expire zero s = record { goes = goes-nowhere s; makes_none = refl }
+does_expire (suc most) s = does_give_up_due s (buffer.due s.moment s.buffers) (expire most) (does_expire most)
+
+-- the state in which a deed is done: a moment that comes has come
+abbrev pub begun : SystemState → Input → SystemState
+begun s input = at_moment (moment_after s input) s
+
+does_restart : (s : SystemState) → Does s (restart s)
+does_restart s = record {
+  goes = record { itself = record { place = refl; configuration = refl; hold = refl }; moment = refl; budget = λ h. omega arith };
+  makes_none = refl;
+}
+
+pub goes : (s : SystemState) (input : Input) → Goes (begun s input) (step s input).after
+goes s (AsksToSend from to octets ask) = stays s (unit_of s Dt from to octets ask) (refusal s (unit_of s Dt from to octets ask))
+goes s (FrameComes port sender to_group content) = (does_with_content s content).goes
+goes s (MomentComes now) = (does_expire (length s.buffers) (at_moment now s)).goes
+goes s IsRestarted = (does_restart s).goes
+
+-- a unit that isn't asked for isn't made
+pub makes_none : (s : SystemState) (input : Input) → AsksNothing input → (step s input).units ≡ []
+makes_none s (AsksToSend from to octets ask) asks = absurd asks
+makes_none s (FrameComes port sender to_group content) asks = (does_with_content s content).makes_none
+makes_none s (MomentComes now) asks = (does_expire (length s.buffers) (at_moment now s)).makes_none
+makes_none s IsRestarted asks = refl
+
+none_fresh : (s : SystemState) (now : ℕ) (units : List unit.Unit) → units ≡ [] → AllByRecursion (IsFresh s now) units
+none_fresh s now [] none = tt
+none_fresh s now (u ∷ units) none = absurd (cc)
+
+-- What that says of a step.
+
+pub step_itself : (s : SystemState) (input : Input) → StaysItself s (step s input).after
+step_itself s input =
+    let went = (goes s input).itself in
+    record { place = went.place; configuration = went.configuration; hold = went.hold }
+
+pub step_moment : (s : SystemState) (input : Input) → (step s input).after.moment ≡ moment_after s input
+step_moment s input = (goes s input).moment
+
+pub step_fresh : (s : SystemState) (input : Input) → AllByRecursion (IsFresh s (moment_after s input)) (step s input).units
+step_fresh s (AsksToSend from to octets ask) = asked_is_fresh s Dt from to octets ask (refusal s (unit_of s Dt from to octets ask)) refl
+step_fresh s (FrameComes port sender to_group content) =
+    none_fresh s s.moment (step s (FrameComes port sender to_group content)).units (makes_none s (FrameComes port sender to_group content) tt)
+step_fresh s (MomentComes now) = none_fresh s now (step s (MomentComes now)).units (makes_none s (MomentComes now) tt)
+step_fresh s IsRestarted = tt
+
+pub step_budget : (s : SystemState) (input : Input) → IsWithinBudget s → IsWithinBudget (step s input).after
+step_budget s input within = (goes s input).budget within

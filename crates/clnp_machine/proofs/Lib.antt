@@ -1,0 +1,9 @@
+pub mod Lists
+pub mod BufferLists
+pub mod Kept
+pub mod Making
+pub mod Deeds
+pub mod Sent
+pub mod Gained
+pub mod Pieces
+pub mod Outside

@@ -1,0 +1,96 @@
+-- What octets from outside carry: they are the frame of their content.
+use Rattle.std.proofs.Common.{◌≡◌, ◌∙◌, refl, sym, ap, subst, ℕ, ◌+◌, ◌-◌, ◌≤◌, inl, inr, Bool, true, false, Option, None, Some, List, ◌++◌, length, take, drop, arith}
+use Rattle.std.specs.Prelude.{◌==◌, ◌&&◌, if◌then◌else◌, is_none, nat_lt}
+use Rattle.std.proofs.lemmas.Bool.{and_parts, cases_Bool, eqb-true}
+use Rattle.std.proofs.lemmas.Bool.Decides.{nat_tests}
+use Rattle.std.proofs.lemmas.List.{take_all}
+use Rattle.hex.specs.Hex.{IsBytes}
+use Rattle.clnp_options.specs.declared.judge.OptionRefusal.{OptionRefusal}
+use Rattle.pdu_header.specs.Value.{SegmentationPart, PduValue}
+use Rattle.pdu_header.specs.Spelling.{header_length, spelling}
+use Rattle.pdu_header.specs.Grammar.{BeginsWith, IsPdu}
+use Rattle.pdu_header.specs.Rules.{octet, refusal}
+use Rattle.pdu_header.specs.Reading.{rest_of}
+use Rattle.pdu_header.proofs.Frames.{front, nothing_spelled, other_protocol}
+use Rattle.clnp_machine.specs.Unit.{Packet, IsCarriable, segmentation_of, value_of, wire}
+use Rattle.clnp_machine.specs.Content.{Content, Labelled, Unlabelled, IsCarried, content_of, frame_of, is_accepted, packet_from_outside, value_in}
+use Rattle.clnp_machine.proofs.Pieces.{with_parts}
+
+follows : (end all : ℕ) (more : Bool) → end ≤ all → (more ≡ false → end ≡ all) → (end ≡ all → more ≡ false) → nat_lt end all ≡ more
+follows end all true within ends last = grind (arith, nat_tests)
+follows end all false within ends last = grind (arith, nat_tests)
+
+body_again : (at : ℕ) (octets : List ℕ) → take (length octets) (drop (at - at) octets) ≡ octets
+body_again at octets =
+    let none : at - at ≡ 0 = omega arith in
+    ap (λ n. take (length octets) (drop n octets)) none ∙ take_all (length octets) octets (omega arith)
+
+-- a value is again that of all of the unit of which nobody knows more
+value_again : (number moment : ℕ) (w : PduValue) (part : Option SegmentationPart) → IsPdu (record w { segmentation = part })
+    → value_of (packet_from_outside number moment (record w { segmentation = part })) ≡ record w { segmentation = part }
+value_again number moment w None pdu =
+    with_parts w None None false w.more (take (length w.body) (drop 0 w.body)) w.body refl (sym pdu.segmentation) (take_all (length w.body) w.body (omega arith))
+value_again number moment w (Some part) pdu =
+    let v : PduValue = record w { segmentation = Some part } in
+    let fits = pdu.segmentation in
+    with_parts w (Some part) (Some part) (nat_lt (part.offset + length w.body) (part.total - header_length v)) w.more
+    (take (length w.body) (drop (part.offset - part.offset) w.body)) w.body refl
+    (follows (part.offset + length w.body) (part.total - header_length v) w.more fits.within fits.ends.0 fits.ends.1) (body_again part.offset w.body)
+
+carriable : (number moment : ℕ) (v : PduValue) → IsPdu v → IsCarriable (packet_from_outside number moment v)
+carriable number moment v pdu = record {
+  pdu = subst IsPdu (sym (value_again number moment v v.segmentation pdu)) pdu;
+  from = omega arith;
+  to = omega arith;
+}
+
+-- octets are the frame of what they carry, and a frame may carry it
+pub record Carries (octets : List ℕ) (content : Content) : Type 0 where
+  pub frame : frame_of content ≡ octets
+  pub carried : IsCarried content
+
+carries_packet : (number moment : ℕ) (octets : List ℕ) → BeginsWith octets (value_in octets) (rest_of octets)
+    → Carries octets (Labelled (packet_from_outside number moment (value_in octets)) (rest_of octets))
+carries_packet number moment octets begins =
+    let v = value_in octets in
+    record {
+      frame = ap (λ (w : PduValue). spelling w ++ rest_of octets) (value_again number moment v v.segmentation begins.spells.pdu)
+          ∙ ap (λ (front : List ℕ). front ++ rest_of octets) (sym begins.spells.octets_are)
+          ∙ sym begins.split;
+      carried = carriable number moment v begins.spells.pdu;
+    }
+
+accepted_is : (octets : List ℕ) → is_accepted octets ≡ true → (octet octets 1 ≡ 0x81) × (refusal octets ≡ None)
+accepted_is octets passes =
+    let parts = and_parts (octet octets 1 == 0x81) (is_none (refusal octets)) passes in
+    (eqb-true (octet octets 1) 0x81 parts.0, none_is (refusal octets) parts.1)
+  where
+    none_is : (found : Option OptionRefusal) → is_none found ≡ true → found ≡ None
+    none_is None h = refl
+    none_is (Some broken) h = absurd (cc)
+
+not_accepted : (octets : List ℕ) → is_accepted octets ≡ false → (v : PduValue) (rest : List ℕ) → BeginsWith octets v rest → ⊥
+not_accepted octets fails v rest begins =
+    elim (cases_Bool (octet octets 1 == 0x81)) [
+      | inr other ↦ other_protocol octets other v rest begins
+      | inl begun ↦ refused (refusal octets) refl (subst (λ (b : Bool). (b && is_none (refusal octets)) ≡ false) begun fails)
+    ]
+  where
+    refused : (found : Option OptionRefusal) → refusal octets ≡ found → (true && is_none (refusal octets)) ≡ false → ⊥
+    refused None e h = absurd (let none = subst (λ (f : Option OptionRefusal). (true && is_none f) ≡ false) e h in cc)
+    refused (Some broken) e h = nothing_spelled octets broken e v rest begins
+
+pub has_content : (number moment : ℕ) (octets : List ℕ) → IsBytes octets → Carries octets (content_of number moment octets)
+has_content number moment octets bytes =
+    elim (cases_Bool (is_accepted octets)) [
+      | inl passes ↦ (
+          let told = accepted_is octets passes in
+          rw passes (carries_packet number moment octets (front octets bytes told.0 told.1)))
+      | inr fails ↦ rw fails (record { frame = refl; carried = not_accepted octets fails })
+    ]
+
+pub content_frame : (number moment : ℕ) (octets : List ℕ) → IsBytes octets → frame_of (content_of number moment octets) ≡ octets
+content_frame number moment octets bytes = (has_content number moment octets bytes).frame
+
+pub content_carried : (number moment : ℕ) (octets : List ℕ) → IsBytes octets → IsCarried (content_of number moment octets)
+content_carried number moment octets bytes = (has_content number moment octets bytes).carried

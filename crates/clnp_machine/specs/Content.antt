@@ -1,0 +1,80 @@
+-- What a frame carries.
+use Rattle.std.specs.Prelude.{ℕ, ◌==◌, ◌&&◌, if◌then◌else◌, List, ◌++◌, length, Option, None, Some, is_none, option_map, Bool}
+use Rattle.pdu_header.specs.Value.{SegmentationPart, PduValue}
+use Rattle.pdu_header.specs.Spelling.{segment_length}
+use Rattle.pdu_header.specs.Grammar.{BeginsWith}
+use Rattle.pdu_header.specs.Rules.{octet, header_of, refusal}
+use Rattle.pdu_header.specs.Reading.{value_of, body_of, rest_of}
+use Rattle.clnp_machine.specs.Unit.{Outside, Unit, Packet, wire, IsCarriable}
+
+-- A packet and the octets that follow its PDU in the frame, or octets that spell no PDU.
+pub data Content : Type 0 where
+  Labelled : (packet : Packet) (following : List ℕ) → Content
+  Unlabelled : (octets : List ℕ) → Content
+
+abbrev pub frame_of : Content → List ℕ
+frame_of (Labelled packet following) = wire packet ++ following
+frame_of (Unlabelled octets) = octets
+
+-- what a frame may carry: a packet that a PDU can carry, or octets that don't begin with a PDU
+abbrev pub IsCarried : Content → Type 0
+IsCarried (Labelled packet following) = IsCarriable packet
+IsCarried (Unlabelled octets) = (value : PduValue) (rest : List ℕ) → BeginsWith octets value rest → ⊥
+
+-- Frames from outside: nobody knows more of the unit than the PDU tells.
+
+-- where the data of a PDU begin in those of its unit's initial PDU
+abbrev pub first_place : Option SegmentationPart → ℕ
+first_place None = 0
+first_place (Some part) = part.offset
+
+-- header and data of the initial PDU
+abbrev pub whole_length : PduValue → Option SegmentationPart → ℕ
+whole_length v None = segment_length v
+whole_length v (Some part) = part.total
+
+-- the part of a data unit that a PDU from outside has, as a unit by itself, which came at a moment
+abbrev pub unit_from_outside : (number moment : ℕ) → PduValue → Unit
+unit_from_outside number moment v =
+    record {
+      maker = Outside;
+      number = number;
+      made = moment;
+      kind = v.kind;
+      report = v.report;
+      sealed = v.sealed;
+      source = v.source;
+      destination = v.destination;
+      identifier = option_map (λ part. part.identifier) v.segmentation;
+      options = v.options;
+      lifetime = v.lifetime;
+      first_position = first_place v.segmentation;
+      total = whole_length v v.segmentation;
+      octets = v.body;
+    }
+
+-- all of such a unit
+abbrev pub packet_from_outside : (number moment : ℕ) → PduValue → Packet
+packet_from_outside number moment v =
+    record {
+      unit = unit_from_outside number moment v;
+      offset = first_place v.segmentation;
+      length = length v.body;
+      lifetime = v.lifetime;
+      options = v.options;
+      hops = 0;
+    }
+
+-- the value of the PDU with which octets begin
+abbrev pub value_in : List ℕ → PduValue
+value_in octets = value_of (header_of octets) (body_of octets)
+
+-- whether octets begin as a PDU, and break no rule of PDUs
+abbrev pub is_accepted : List ℕ → Bool
+is_accepted octets = (octet octets 1 == 0x81) && is_none (refusal octets)
+
+-- What octets from outside carry: a packet of the unit with a number that came at a moment, where they begin with a PDU.
+abbrev pub content_of : (number moment : ℕ) → List ℕ → Content
+content_of number moment octets =
+    if is_accepted octets then Labelled (packet_from_outside number moment (value_in octets)) (rest_of octets)
+    else Unlabelled octets

@@ -1,0 +1,76 @@
+-- What is so of every step of a system.
+use Rattle.std.specs.Prelude.{◌≡◌, ℕ, ◌+◌, ◌≤◌, ◌⊎◌, true, List, length, Option, None, Some}
+use Rattle.std.specs.List.{AllByRecursion, Contains, flat_map}
+use Rattle.reassembly.specs.Arrival.{Arrival}
+use Rattle.reassembly.specs.Buffer.{Buffer, held}
+use Rattle.clnp_machine.specs.Unit as unit
+use Rattle.clnp_machine.specs.Unit.{DeclaredAt, Packet, IsCarriable}
+use Rattle.clnp_machine.specs.Content.{Content, Labelled, Unlabelled}
+use Rattle.clnp_machine.specs.System.{SystemState, Input, AsksToSend, FrameComes, MomentComes, IsRestarted, Output, Transmits, Notes, Effect}
+use Rattle.clnp_machine.specs.Local.{is_own, header_size, offered}
+
+-- it is still the same system, at its place, of the same configuration
+pub record StaysItself (before after : SystemState) : Type 0 where
+  pub place : after.place ≡ before.place
+  pub configuration : after.configuration ≡ before.configuration
+  pub hold : after.hold ≡ before.hold
+
+-- a system's moment is the last that came to it
+abbrev pub moment_after : SystemState → Input → ℕ
+moment_after s (AsksToSend from to octets ask) = s.moment
+moment_after s (FrameComes port sender to_group content) = s.moment
+moment_after s (MomentComes now) = now
+moment_after s IsRestarted = s.moment
+
+-- nothing is asked of the system
+abbrev pub AsksNothing : Input → Type 0
+AsksNothing (AsksToSend from to octets ask) = ⊥
+AsksNothing _ = Unit {0}
+
+-- a unit that a system makes at a moment: of a source that is its own, and all that its initial PDU carries
+pub record IsFresh (s : SystemState) (now : ℕ) (u : unit.Unit) : Type 0 where
+  pub maker : u.maker ≡ DeclaredAt s.place
+  pub made : u.made ≡ now
+  pub source : is_own s u.source ≡ true
+  pub first_position : u.first_position ≡ 0
+  pub total : u.total ≡ header_size u + length u.octets
+
+-- What holds of a packet of one of some units: it is a range of the unit, and all of it where the unit may not be
+-- segmented; it was forwarded no more often than its lifetime allowed, and its options are as the unit's.
+pub record IsRangeOf (units : List unit.Unit) (p : Packet) : Type 0 where
+  pub unit : Contains units p.unit
+  pub options : p.options ≡ p.unit.options
+  pub lifetime : p.hops + p.lifetime ≤ p.unit.lifetime
+  pub within : p.offset + p.length ≤ length p.unit.octets
+  pub whole : p.unit.identifier ≡ None → (p.offset ≡ 0) × (p.length ≡ length p.unit.octets)
+
+-- what is sent is a range of one of some units
+abbrev pub SendsRangesOf : List unit.Unit → Output → Type 0
+SendsRangesOf units (Transmits port target packet) = IsRangeOf units packet
+SendsRangesOf units (Notes note) = Unit {0}
+
+-- no more octets are held for reassembly than the system may
+abbrev pub IsWithinBudget : SystemState → Type 0
+IsWithinBudget s = held s.buffers ≤ s.configuration.settings.budget
+
+-- all segments that are kept
+abbrev pub segments_in : List (Buffer Packet) → List (Arrival Packet)
+segments_in buffers = flat_map (λ buffer. buffer.kept) buffers
+
+-- the segment that comes in a frame
+abbrev pub CarriesSegment : Content → Arrival Packet → Type 0
+CarriesSegment (Labelled packet following) arrival = arrival ≡ offered packet following
+CarriesSegment (Unlabelled octets) arrival = ⊥
+
+abbrev pub ComesWith : Input → Arrival Packet → Type 0
+ComesWith (FrameComes port sender to_group content) arrival = CarriesSegment content arrival
+ComesWith _ arrival = ⊥
+
+-- a segment that is kept after a step was kept before, or came in it
+abbrev pub WasKeptOrComes : SystemState → Input → Arrival Packet → Type 0
+WasKeptOrComes s input arrival = Contains (segments_in s.buffers) arrival ⊎ ComesWith input arrival
+
+-- PDUs can carry all of some packets
+abbrev pub AreCarriable : Option (List Packet) → Type 0
+AreCarriable None = Unit {0}
+AreCarriable (Some packets) = AllByRecursion IsCarriable packets
