@@ -5,5 +5,6 @@ pub mod Making
 pub mod Deeds
 pub mod Sent
 pub mod Gained
+pub mod Own
 pub mod Pieces
 pub mod Outside

@@ -81,7 +81,7 @@ module _ (units : List unit.Unit) (u : unit.Unit) (made : Contains units u) wher
   first_sent_is_ranges s (Some hop) =
       transmitted hop (cut (whole_packet u) (mtu_at s hop.port)) (λ packets gives. cut_is_ranges (mtu_at s hop.port) packets gives)
 
-range_later : (units more : List unit.Unit) (p : Packet) → IsRangeOf more p → IsRangeOf (units ++ more) p
+pub range_later : (units more : List unit.Unit) (p : Packet) → IsRangeOf more p → IsRangeOf (units ++ more) p
 range_later units more p h = record {
   unit = Contains-append_right units more p.unit h.unit;
   options = h.options;

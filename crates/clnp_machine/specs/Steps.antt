@@ -3,6 +3,8 @@ use Rattle.std.specs.Prelude.{◌≡◌, ℕ, ◌+◌, ◌≤◌, ◌⊎◌, tru
 use Rattle.std.specs.List.{AllByRecursion, Contains, flat_map}
 use Rattle.reassembly.specs.Arrival.{Arrival}
 use Rattle.reassembly.specs.Buffer.{Buffer, held}
+use Rattle.clnp_plan.specs.declared.note.Note.{Note}
+use Rattle.clnp_plan.specs.declared.note.Note.TheVariants.{Got}
 use Rattle.clnp_machine.specs.Unit as unit
 use Rattle.clnp_machine.specs.Unit.{DeclaredAt, Packet, IsCarriable}
 use Rattle.clnp_machine.specs.Content.{Content, Labelled, Unlabelled}
@@ -48,6 +50,16 @@ pub record IsRangeOf (units : List unit.Unit) (p : Packet) : Type 0 where
 abbrev pub SendsRangesOf : List unit.Unit → Output → Type 0
 SendsRangesOf units (Transmits port target packet) = IsRangeOf units packet
 SendsRangesOf units (Notes note) = Unit {0}
+
+-- what is noted is such as Q says
+abbrev pub NotesOnly : (Note → Type 0) → Output → Type 0
+NotesOnly Q (Transmits port target packet) = Unit {0}
+NotesOnly Q (Notes note) = Q note
+
+-- what a note hands up is for an address of the system
+abbrev pub IsForOwn : SystemState → Note → Type 0
+IsForOwn s (Got from to octets) = is_own s to ≡ true
+IsForOwn s _ = Unit {0}
 
 -- no more octets are held for reassembly than the system may
 abbrev pub IsWithinBudget : SystemState → Type 0

@@ -8,7 +8,7 @@ ghost use Rattle.clnp_machine.specs.Unit.{Packet, IsCarriable, cut, value_of};
 ghost use Rattle.clnp_machine.specs.Content.{IsCarried, content_of, frame_of};
 ghost use Rattle.clnp_machine.specs.System.{SystemState, Input};
 ghost use Rattle.clnp_machine.specs.Step.{step};
-ghost use Rattle.clnp_machine.specs.Steps.{AreCarriable, AsksNothing, IsFresh, IsWithinBudget, SendsRangesOf, StaysItself, WasKeptOrComes, moment_after, segments_in};
+ghost use Rattle.clnp_machine.specs.Steps.{AreCarriable, AsksNothing, IsForOwn, IsFresh, IsWithinBudget, NotesOnly, SendsRangesOf, StaysItself, WasKeptOrComes, moment_after, segments_in};
 
 /// A step leaves a system at its place with its configuration, at the moment that came last.
 pub fn a_system_stays_itself()
@@ -27,6 +27,11 @@ pub fn new_units_are_fresh()
 /// on hops and lifetime.
 pub fn ranges_of_units_are_sent()
     ensures { (s : SystemState) (input : Input) → AllByRecursion (SendsRangesOf (step s input).units) (step s input).outputs }
+{}
+
+/// What a step hands up is for one of the system's own addresses.
+pub fn only_owners_hand_up()
+    ensures { (s : SystemState) (input : Input) → AllByRecursion (NotesOnly (IsForOwn s)) (step s input).outputs }
 {}
 
 /// A system that keeps its budget for reassembly keeps it after each step.

@@ -14,14 +14,20 @@ use Rattle.reassembly.proofs.Removing.{AllByRecursion-filter, AllByRecursion-fin
 use Rattle.reassembly.proofs.SameKey.{same_from_same_key}
 use Rattle.clnp_machine.specs.Unit as unit
 use Rattle.clnp_machine.specs.Unit.{Packet, value_of}
-use Rattle.clnp_machine.specs.System.{Content, Effect, Labelled, SystemState, Unlabelled, table_limits}
-use Rattle.clnp_machine.specs.Local.{data_in, is_all, is_own, octet_of, offer, offered, receive, takes_in}
-use Rattle.clnp_machine.specs.Host.{arrive, effect_of, packet_comes}
+use Rattle.clnp_machine.specs.Content.{Content, Labelled, Unlabelled}
+use Rattle.clnp_machine.specs.System.{SystemState, table_limits}
+use Rattle.clnp_machine.specs.Local.{Deed, data_in, is_all, is_own, octet_of, offer, offered, receive, takes_in}
+use Rattle.clnp_machine.specs.Step.{content_comes, packet_comes, passes_by}
+use Rattle.clnp_machine.specs.Steps.{IsRangeOf}
+use Rattle.clnp_machine.proofs.Own.{TellsOnly}
+use Rattle.clnp_plan.specs.declared.config.Role.{Role}
+use Rattle.clnp_plan.specs.declared.config.Role.TheVariants.{Host, Router}
+use Rattle.clnp_network.specs.Safe.{WasSent}
 use Rattle.clnp_network.specs.Run.{Entry}
-use Rattle.clnp_safety.specs.Invariant.{BufferIsSound, Carries, IsBornWithUnit, NoteIsSound, PacketIsSound, SystemIsSound, UnitsAreSound}
-use Rattle.clnp_safety.specs.Outputs.{OutputIsSound}
-use Rattle.clnp_safety.proofs.BufferLists.{all_both}
-use Rattle.clnp_safety.proofs.BufferKept.{TellsNoInterference, all_after, answer_without, find_passes, held_after, others_with_kept}
+use Rattle.clnp_safety.specs.Invariant.{BufferIsSound, Carries, IsBornWithUnit, NoteIsHonest, SystemIsSound, UnitsAreSound}
+use Rattle.clnp_safety.proofs.Lines.{sent_alike}
+use Rattle.clnp_machine.proofs.BufferLists.{all_both}
+use Rattle.clnp_machine.proofs.Kept.{TellsNoInterference, all_after, answer_without, find_passes, held_after, others_with_kept}
 use Rattle.clnp_safety.proofs.BufferOffers.{IsLive, clashes_with_none, stay_live, unit_sound}
 use Rattle.clnp_safety.proofs.Joining.{joined_is_unit, whole_is_unit}
 
@@ -35,10 +41,10 @@ pub comes_young : (age now birth : ℕ) (content : Content) → IsBornWithUnit b
 comes_young age now birth (Labelled packet following) born young = subst (λ moment. now ≤ moment + age) born young
 comes_young age now birth (Unlabelled octets) born young = tt
 
-module _ (plan : Plan) (units : List unit.Unit) (now place : ℕ) where
-  -- what a step leaves is sound, and what it gives out
-  abbrev pub EffectIsSound : Effect → Type 0
-  EffectIsSound effect = SystemIsSound plan units now place effect.after × AllByRecursion (OutputIsSound units now) effect.outputs
+module _ (plan : Plan) (past : List Entry) (units : List unit.Unit) (now place : ℕ) where
+  -- what a deed leaves is sound, and what it tells is honest
+  abbrev pub DeedIsSound : Deed → Type 0
+  DeedIsSound deed = SystemIsSound plan units now place deed.after × AllByRecursion (TellsOnly (NoteIsHonest plan past)) deed.actions
 
   pub live_buffers : (s : SystemState) → SystemIsSound plan units now place s → AllByRecursion (IsLive plan units now) s.buffers
   live_buffers s sound =
@@ -62,8 +68,8 @@ module _ (plan : Plan) (units : List unit.Unit) (now place : ℕ) where
     budget = within;
   }
 
-  module _ (fit : IsFit plan) (past : List Entry) (made : UnitsAreSound plan past now units) (s : SystemState) (sound : SystemIsSound plan units now place s)
-      (p : Packet) (packet : PacketIsSound units p) (young : now ≤ p.unit.made + plan.limits.age) (alive : 1 ≤ p.lifetime) where
+  module _ (fit : IsFit plan) (made : UnitsAreSound plan past now units) (s : SystemState) (sound : SystemIsSound plan units now place s)
+      (p : Packet) (packet : IsRangeOf units p) (young : now ≤ p.unit.made + plan.limits.age) (alive : 1 ≤ p.lifetime) where
     module _ (identifier : ℕ) (identified : p.unit.identifier ≡ Some identifier) where
       abbrev kept : List (Buffer Packet)
       kept = buffer.after (table_limits s) s.moment (offered p []) s.buffers
@@ -71,14 +77,14 @@ module _ (plan : Plan) (units : List unit.Unit) (now place : ℕ) where
       kept_live : AllByRecursion (IsLive plan units now) kept
       kept_live =
           all_after (table_limits s) s.moment (offered p []) (IsLive plan units now)
-          (stay_live plan fit.limits past now units made p packet young identifier identified (table_limits s) sound.hold s.moment sound.moment alive)
+          (stay_live plan fit past now units made p packet young identifier identified (table_limits s) sound.hold s.moment sound.moment alive)
           s.buffers (live_buffers s sound)
 
       kept_within : held kept ≤ s.configuration.settings.budget
       kept_within = held_after (table_limits s) s.moment (offered p []) s.buffers sound.budget
 
       is_held : buffer.answer (table_limits s) s.moment (offered p []) s.buffers ≡ buffer.Held
-          → EffectIsSound (effect_of (takes_in s (offered p []) kept buffer.Held))
+          → DeedIsSound (takes_in s (Labelled p []) (offered p []) kept buffer.Held)
       is_held told = (
         with_buffers s kept sound kept_live
             (none_whole-after (table_limits s) s.moment (offered p []) s.buffers sound.not_whole (λ whole. absurd (let e : buffer.Held ≡ buffer.Whole = sym told ∙ whole in cc)))
@@ -87,16 +93,17 @@ module _ (plan : Plan) (units : List unit.Unit) (now place : ℕ) where
       )
 
       got_is_sound : (joined : Buffer Packet) → IsLive plan units now joined → same_key joined.key (offered p []).key ≡ true → is_whole joined ≡ true
-          → NoteIsSound units (note.Got (offered p []).key.from (offered p []).key.to (buffer.data_of octet_of joined))
+          → NoteIsHonest plan past (note.Got (offered p []).key.from (offered p []).key.to (buffer.data_of octet_of joined))
       got_is_sound joined live same whole =
           let u = live.sound.unit in
           let it = unit_sound plan past now units u made live.sound.made in
           let keys = sym live.sound.key ∙ same_from_same_key joined.key (offered p []).key same in
           let len : data_len joined.shape ≡ length u.octets = ap data_len live.sound.shape ∙ (let total = it.total in omega arith) in
-          (u, live.sound.made, ap (λ key. key.from) keys, ap (λ key. key.to) keys, sym (joined_is_unit units u it.first_position joined live.sound.kept len whole))
+          sent_alike plan past u.source u.destination u.octets (offered p []).key.from (offered p []).key.to (buffer.data_of octet_of joined)
+          (ap (λ key. key.from) keys) (ap (λ key. key.to) keys) (sym (joined_is_unit units u it.first_position joined live.sound.kept len whole)) it.sent
 
       is_joined : buffer.answer (table_limits s) s.moment (offered p []) s.buffers ≡ buffer.Whole
-          → EffectIsSound (effect_of (takes_in s (offered p []) kept buffer.Whole))
+          → DeedIsSound (takes_in s (Labelled p []) (offered p []) kept buffer.Whole)
       is_joined told =
           let whole = made_whole (table_limits s) s.moment (offered p []) s.buffers told in
           let key = (offered p []).key in
@@ -108,56 +115,61 @@ module _ (plan : Plan) (units : List unit.Unit) (now place : ℕ) where
                 (others_with_kept (table_limits s) s.moment (offered p []) (λ (b : Buffer Packet). is_whole b ≡ false) s.buffers sound.not_whole))
                 (let less = sum_filter size_of (λ (b : Buffer Packet). not (same_key b.key key)) kept in let within = kept_within in omega arith),
             (
-              subst (λ found. NoteIsSound units (note.Got key.from key.to (data_in found))) (sym whole.found)
+              subst (λ found. NoteIsHonest plan past (note.Got key.from key.to (data_in found))) (sym whole.found)
                   (got_is_sound whole.buffer live (find_passes has_key kept whole.buffer whole.found) whole.whole),
               tt,
             ),
           )
 
       taken : (told : Answer) → buffer.answer (table_limits s) s.moment (offered p []) s.buffers ≡ told
-          → EffectIsSound (effect_of (takes_in s (offered p []) kept told))
+          → DeedIsSound (takes_in s (Labelled p []) (offered p []) kept told)
       taken buffer.Held told = is_held told
       taken buffer.Whole told = is_joined told
       taken (buffer.Interference there other) told =
           absurd (subst TellsNoInterference told (answer_without (table_limits s) s.moment (offered p []) s.buffers
-          (clashes_with_none plan fit.limits past now units made p packet young identifier identified s.buffers (live_buffers s sound))))
+          (clashes_with_none plan fit past now units made p packet young identifier identified s.buffers (live_buffers s sound))))
       taken buffer.Repeat told = (sound, (tt, tt))
       taken (buffer.NoSlot live) told = (sound, (tt, (tt, tt)))
       taken (buffer.Crowded held size) told = (sound, (tt, (tt, tt)))
       taken (buffer.Many segments) told = (sound, (tt, (tt, tt)))
 
-    offer_is_sound : (identifier : Option ℕ) → p.unit.identifier ≡ identifier → is_all p ≡ false → EffectIsSound (effect_of (offer s (offered p [])))
+    offer_is_sound : (identifier : Option ℕ) → p.unit.identifier ≡ identifier → is_all p ≡ false → DeedIsSound (offer s (Labelled p []) (offered p []))
     offer_is_sound None is part =
         absurd (true≢false (sym (ap (λ i. is_none i || ((p.offset == 0) && not (value_of p).more)) is) ∙ part))
     offer_is_sound (Some identifier) is part =
         taken identifier is (buffer.answer (table_limits s) s.moment (offered p []) s.buffers) refl
 
-    receive_is_sound : EffectIsSound (effect_of (receive s p []))
+    receive_is_sound : DeedIsSound (receive s p [])
     receive_is_sound =
         let it = unit_sound plan past now units p.unit made packet.unit in
         elim (cases_Bool (is_all p)) [
-          | inl all ↦ rw all (sound, ((p.unit, packet.unit, refl, refl, sym (whole_is_unit units p packet it.first_position it.total all)), tt))
+          | inl all ↦ (
+              let sent : WasSent plan past p.unit.source p.unit.destination (value_of p).body =
+              sent_alike plan past p.unit.source p.unit.destination p.unit.octets p.unit.source p.unit.destination (value_of p).body refl refl
+              (sym (whole_is_unit units p packet it.first_position it.total all)) it.sent in
+              rw all (sound, (sent, tt)))
           | inr part ↦ rw part (offer_is_sound p.unit.identifier refl part)
         ]
 
-  packet_is_sound : IsFit plan → (past : List Entry) → UnitsAreSound plan past now units → (s : SystemState) → SystemIsSound plan units now place s
-      → (p : Packet) → PacketIsSound units p → now ≤ p.unit.made + plan.limits.age → EffectIsSound (packet_comes s p [])
-  packet_is_sound fit past made s sound p packet young =
+  passes_soundly : (role : Role) (s : SystemState) (p : Packet) → SystemIsSound plan units now place s → DeedIsSound (passes_by role s p [])
+  passes_soundly Host s p sound = (sound, (tt, tt))
+  passes_soundly Router s p sound = (sound, (tt, tt))
+
+  packet_is_sound : IsFit plan → UnitsAreSound plan past now units → (s : SystemState) → SystemIsSound plan units now place s
+      → (p : Packet) → IsRangeOf units p → now ≤ p.unit.made + plan.limits.age → DeedIsSound (packet_comes s p [])
+  packet_is_sound fit made s sound p packet young =
       elim (cases_Bool (p.lifetime == 0)) [
         | inl over ↦ rw over (sound, (tt, tt))
         | inr lives ↦
             rw lives
             (elim (cases_Bool (is_own s p.unit.destination)) [
-              | inl own ↦ rw own (receive_is_sound fit past made s sound p packet young (let some = eqb-false p.lifetime 0 lives in omega arith))
-              | inr other ↦ rw other (sound, (tt, tt))
+              | inl own ↦ rw own (receive_is_sound fit made s sound p packet young (let some = eqb-false p.lifetime 0 lives in omega arith))
+              | inr other ↦ rw other (passes_soundly s.configuration.role s p sound)
             ])
       ]
 
-pub arrival_is_sound : (plan : Plan) → IsFit plan → (past : List Entry) (units : List unit.Unit) (now place : ℕ) (s : SystemState) (content : Content)
-    → UnitsAreSound plan past now units → SystemIsSound plan units now place s
-    → Carries (PacketIsSound units) content → ComesYoung plan.limits.age now content
-    → SystemIsSound plan units now place (arrive s content).after × AllByRecursion (OutputIsSound units now) (arrive s content).outputs
-arrival_is_sound plan fit past units now place s (Labelled p following) made sound carries young =
-    subst (λ rest. EffectIsSound plan units now place (packet_comes s p rest)) (sym carries.1)
-    (packet_is_sound plan units now place fit past made s sound p carries.0 young)
-arrival_is_sound plan fit past units now place s (Unlabelled octets) made sound carries young = absurd carries
+  pub arrival_is_sound : IsFit plan → (s : SystemState) (content : Content) → UnitsAreSound plan past now units → SystemIsSound plan units now place s
+      → Carries (IsRangeOf units) content → ComesYoung plan.limits.age now content → DeedIsSound (content_comes s content)
+  arrival_is_sound fit s (Labelled p following) made sound carries young =
+      subst (λ rest. DeedIsSound (packet_comes s p rest)) (sym carries.1) (packet_is_sound fit made s sound p carries.0 young)
+  arrival_is_sound fit s (Unlabelled octets) made sound carries young = absurd carries

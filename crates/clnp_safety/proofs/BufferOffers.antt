@@ -1,11 +1,10 @@
 -- A segment that is offered belongs to the unit whose buffer has its key.
-use Rattle.std.proofs.Common.{◌≡◌, ◌∙◌, sym, ap, refl, ℕ, ◌+◌, ◌<◌, ◌≤◌, inl, inr, Bool, true, false, not, List, [], ◌∷◌, ◌++◌, Option, None, Some, arith}
+use Rattle.std.proofs.Common.{◌≡◌, ◌∙◌, sym, ap, subst, refl, ℕ, ◌+◌, ◌<◌, ◌≤◌, inl, inr, Bool, true, false, not, List, [], ◌∷◌, ◌++◌, Option, None, Some, arith}
 use Rattle.std.specs.Prelude.{◌==◌, ◌&&◌}
 use Rattle.std.specs.List.{AllByRecursion, Contains}
 use Rattle.std.proofs.lemmas.Bool.{and_from, eq-eqb}
 use Rattle.std.proofs.lemmas.List.Elements.{All-contains, All-from_recursion}
-use Rattle.clnp_plan.specs.Configuration.{AreLimits}
-use Rattle.scenario.specs.Scenario.{Plan}
+use Rattle.scenario.specs.Scenario.{IsFit, Plan}
 use Rattle.pdu_header.specs.Spelling.{type_code}
 use Rattle.reassembly.specs.declared.segment.Shape.{Shape}
 use Rattle.reassembly.specs.declared.table.TableLimits.{TableLimits}
@@ -17,10 +16,12 @@ use Rattle.clnp_machine.specs.Unit as unit
 use Rattle.clnp_machine.specs.Unit.{Packet, value_of}
 use Rattle.clnp_machine.specs.Local.{header_size, identifier_in, offered}
 use Rattle.clnp_network.specs.Run.{Entry}
-use Rattle.clnp_safety.specs.Invariant.{BufferIsSound, IsOfUnit, PacketIsSound, UnitIsSound, UnitsAreSound}
-use Rattle.clnp_safety.proofs.BufferLists.{all_push}
-use Rattle.clnp_safety.proofs.BufferUnits.{header_of_unit, same_unit}
-use Rattle.clnp_safety.proofs.BufferKept.{KeptIn, find_passes}
+use Rattle.clnp_safety.specs.Invariant.{BufferIsSound, IsOfUnit, Owns, UnitIsSound, UnitsAreSound}
+use Rattle.clnp_machine.specs.Steps.{IsRangeOf}
+use Rattle.clnp_machine.proofs.BufferLists.{all_push}
+use Rattle.clnp_safety.proofs.BufferUnits.{header_of_unit}
+use Rattle.clnp_safety.proofs.Units.{different_makers, same_unit}
+use Rattle.clnp_machine.proofs.Kept.{KeptIn, find_passes}
 
 pub unit_sound : (plan : Plan) (past : List Entry) (now : ℕ) (units : List unit.Unit) (u : unit.Unit) → UnitsAreSound plan past now units
     → Contains units u → UnitIsSound plan past now u
@@ -45,16 +46,16 @@ pub record IsLive (plan : Plan) (units : List unit.Unit) (now : ℕ) (buffer : B
   pub sound : BufferIsSound plan units buffer
   pub lasts : now < buffer.deadline
 
-module _ (plan : Plan) (limits : AreLimits plan.limits) (past : List Entry) (now : ℕ) (units : List unit.Unit) (made : UnitsAreSound plan past now units)
-    (p : Packet) (packet : PacketIsSound units p) (young : now ≤ p.unit.made + plan.limits.age) (identifier : ℕ)
+module _ (plan : Plan) (fit : IsFit plan) (past : List Entry) (now : ℕ) (units : List unit.Unit) (made : UnitsAreSound plan past now units)
+    (p : Packet) (packet : IsRangeOf units p) (young : now ≤ p.unit.made + plan.limits.age) (identifier : ℕ)
     (identified : p.unit.identifier ≡ Some identifier) where
   -- a unit that was made so long before or after it isn't that of a buffer that lasts
   not_another : (buffer : Buffer Packet) (v : unit.Unit) → Contains units v → now < buffer.deadline
       → buffer.opened ≤ v.made + plan.limits.age → buffer.deadline ≤ buffer.opened + plan.limits.hold
       → (p.unit.made + plan.limits.reuse ≤ v.made → ⊥) × (v.made + plan.limits.reuse ≤ p.unit.made → ⊥)
   not_another buffer v within lasts opened deadline =
-      let rests = limits.rests in
-      let hold = limits.hold.least in
+      let rests = fit.limits.rests in
+      let hold = fit.limits.hold.least in
       let before = (unit_sound plan past now units p.unit made packet.unit).made in
       let other = (unit_sound plan past now units v made within).made in
       ((λ e. omega arith), (λ e. omega arith))
@@ -67,7 +68,12 @@ module _ (plan : Plan) (limits : AreLimits plan.limits) (past : List Entry) (now
       = sym live.sound.key ∙ same_from_same_key buffer.key (offered p []).key same in
       let number : live.sound.identifier ≡ identifier = ap (λ key. key.id) keys ∙ ap identifier_in identified in
       let apart = not_another buffer v live.sound.made live.lasts live.sound.opened live.sound.deadline in
-      elim (same_unit plan.limits.reuse units made.rest v p.unit live.sound.made packet.unit (ap (λ key. key.from) keys) identifier (live.sound.identified ∙ ap Some number) identified) [
+      let first = unit_sound plan past now units v made live.sound.made in
+      let second = unit_sound plan past now units p.unit made packet.unit in
+      let owner : Owns plan second.place v.source = subst (Owns plan second.place) (sym (ap (λ key. key.from) keys)) second.owner in
+      let one_place : first.place ≡ second.place = different_makers plan first.place second.place v.source fit first.owner owner in
+      let maker : v.maker ≡ p.unit.maker = first.maker ∙ ap unit.DeclaredAt one_place ∙ sym second.maker in
+      elim (same_unit plan.limits.reuse units v p.unit identifier made.rest live.sound.made packet.unit maker (live.sound.identified ∙ ap Some number) identified) [
         | inl one ↦ one
         | inr (inl before) ↦ absurd (apart.1 before)
         | inr (inr behind) ↦ absurd (apart.0 behind)
@@ -109,7 +115,7 @@ module _ (plan : Plan) (limits : AreLimits plan.limits) (past : List Entry) (now
         deadline = omega arith;
         kept = (of_unit p.unit refl, tt);
       };
-      lasts = let least = limits.hold.least in omega arith;
+      lasts = let least = fit.limits.hold.least in omega arith;
     }
 
     more_is_live : (buffer : Buffer Packet) → IsLive plan units now buffer → same_key buffer.key (offered p []).key ≡ true

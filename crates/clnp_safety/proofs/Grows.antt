@@ -11,14 +11,14 @@ use Rattle.scenario.specs.declared.event.Event.{Event}
 use Rattle.scenario.specs.declared.event.Event.TheVariants.{Send, Deliver, Settle, Lose, Tick, Restart}
 use Rattle.scenario.specs.declared.event.Move.{Move}
 use Rattle.scenario.specs.declared.event.Move.TheVariants.{One, SettleOne, LoseOne, TickOne}
-use Rattle.clnp_machine.specs.System.{SystemState, Output, Transmits, Notes, Effect}
-use Rattle.clnp_machine.specs.Host.{send, arrive, tick, restart}
-use Rattle.clnp_network.specs.World.{World, Copy, copy_from, put_out, takes_effect, system_does, addressees_from, settle_copy, deliver, lose_copy, tick_each, tick_one, event_happens, after, first_world}
+use Rattle.clnp_machine.specs.System.{SystemState, Input, AsksToSend, MomentComes, IsRestarted, Output, Transmits, Notes, Effect}
+use Rattle.clnp_machine.specs.Step.{step}
+use Rattle.clnp_network.specs.World.{World, Copy, copy_from, put_out, with_effect, takes_effect, comes, frame_to, addressees_from, settle_copy, deliver, lose_copy, tick_each, tick_one, event_happens, after, first_world}
 use Rattle.clnp_network.specs.Run.{world_after}
 use Rattle.clnp_safety.specs.Growth.{IsFront, IsWithinCopies}
-use Rattle.clnp_safety.proofs.Lists.{AllByRecursion-any}
+use Rattle.clnp_machine.proofs.Lists.{AllByRecursion-any}
 use Rattle.clnp_safety.proofs.Lines.{AnyLine}
-use Rattle.clnp_safety.proofs.Steps.{Keeps, NotGivenIsFine, keeps-nothing, keeps-followed_by, keeps-put_all_out, keeps-at_system, keeps-give_each, keeps-deliver}
+use Rattle.clnp_safety.proofs.Steps.{Keeps, NotGivenIsFine, keeps-nothing, keeps-followed_by, keeps-put_all_out, keeps-comes_to, keeps-give_each, keeps-deliver}
 
 -- a world with more copies behind these, and this cursor
 record Grown (copies : List Copy) (cursor : ℕ) (w : World) : Type 0 where
@@ -45,18 +45,17 @@ module _ (copies : List Copy) (cursor : ℕ) where
       keeps-put_all_out (Grown copies cursor) AnyLine effect.after.configuration effect.outputs
       (AllByRecursion-any (λ output. (v : World) → Grown copies cursor v → Keeps (Grown copies cursor) AnyLine (put_out effect.after.configuration v output))
       (put_out_grows effect.after.configuration) effect.outputs)
-      (record w { systems = slice_set w.systems place effect.after }) (record { front = k.front; at = k.at })
+      (with_effect w place effect) (record { front = k.front; at = k.at })
 
-  system_does_grows : (w : World) (place : ℕ) (does : SystemState → Effect) → Grown copies cursor w
-      → Keeps (Grown copies cursor) AnyLine (system_does w place does)
-  system_does_grows w place does k =
-      keeps-at_system (Grown copies cursor) AnyLine w place does (slice_get w.systems place) (λ none. k) (λ s there. takes_effect_grows w place (does s) k)
+  comes_grows : (w : World) (place : ℕ) (input : Input) → Grown copies cursor w → Keeps (Grown copies cursor) AnyLine (comes w place input)
+  comes_grows w place input k =
+      keeps-comes_to (Grown copies cursor) AnyLine w place input (slice_get w.systems place) (λ none. k) (λ s there. takes_effect_grows w place (step s input) k)
 
   tick_each_grows : (places : List ℕ) (w : World) → Grown copies cursor w → Keeps (Grown copies cursor) AnyLine (tick_each w places)
   tick_each_grows [] w k = keeps-nothing (Grown copies cursor) AnyLine w k
   tick_each_grows (place ∷ places) w k =
-      keeps-followed_by (Grown copies cursor) AnyLine (Grown copies cursor) (system_does w place (λ s. tick s w.clock)) (λ v. tick_each v places)
-      (system_does_grows w place (λ s. tick s w.clock) k) (tick_each_grows places)
+      keeps-followed_by (Grown copies cursor) AnyLine (Grown copies cursor) (comes w place (MomentComes w.clock)) (λ v. tick_each v places)
+      (comes_grows w place (MomentComes w.clock) k) (tick_each_grows places)
 
 -- the world after a move, with the copies before it as a front, and the cursor within them
 record GrowsFrom (w v : World) : Type 0 where
@@ -79,9 +78,8 @@ stays w = record { front = ([], sym (append-nil w.copies)); at = refl }
 nothing_grows : (w : World) → GrowsFrom w w
 nothing_grows w = grows_to w w w.cursor (λ k. k) (stays w)
 
-does_grow : (w : World) (place : ℕ) (does : SystemState → Effect) → GrowsFrom w (system_does w place does).world
-does_grow w place does =
-    grows_to w (system_does w place does).world w.cursor (λ k. k) (system_does_grows w.copies w.cursor w place does (stays w)).world
+does_grow : (w : World) (place : ℕ) (input : Input) → GrowsFrom w (comes w place input).world
+does_grow w place input = grows_to w (comes w place input).world w.cursor (λ k. k) (comes_grows w.copies w.cursor w place input (stays w)).world
 
 event_grows : (limits : Limits) (w : World) (asked : Option Event) → GrowsFrom w (event_happens limits w asked).world
 event_grows limits w None = nothing_grows w
@@ -91,9 +89,9 @@ event_grows limits w (Some (Tick count)) = nothing_grows w
 event_grows limits w (Some (Deliver number place)) =
     grows_to w (deliver limits w number place).world w.cursor (λ k. k)
     (keeps-deliver (Grown w.copies w.cursor) AnyLine any_line_is_fine limits w number place (stays w)
-    (λ copy e s there soon. takes_effect_grows w.copies w.cursor w place (arrive s copy.content) (stays w))).world
-event_grows limits w (Some (Restart system)) = does_grow w system restart
-event_grows limits w (Some (Send system from to body ask)) = does_grow w system (λ s. send s from to (octets_of body) ask)
+    (λ copy e s there soon. takes_effect_grows w.copies w.cursor w place (step s (frame_to s copy)) (stays w))).world
+event_grows limits w (Some (Restart system)) = does_grow w system IsRestarted
+event_grows limits w (Some (Send system from to body ask)) = does_grow w system (AsksToSend from to (octets_of body) ask)
 
 settle_copy_grows : (limits : Limits) (w : World) (found : Option Copy) → ((copy : Copy) → found ≡ Some copy → w.cursor + 1 ≤ length w.copies)
     → GrowsFrom w (settle_copy limits w found).world
@@ -101,7 +99,7 @@ settle_copy_grows limits w None bound = nothing_grows w
 settle_copy_grows limits w (Some copy) bound =
     grows_to w (settle_copy limits w (Some copy)).world (w.cursor + 1) (λ k. bound copy refl)
     (keeps-give_each (Grown w.copies (w.cursor + 1)) AnyLine any_line_is_fine limits (record { number = w.cursor + 1; copy = copy }) (addressees_from 0 copy w.systems)
-    (λ v place k s there soon. takes_effect_grows w.copies (w.cursor + 1) v place (arrive s copy.content) k)
+    (λ v place k s there soon. takes_effect_grows w.copies (w.cursor + 1) v place (step s (frame_to s copy)) k)
     (record w { cursor = w.cursor + 1 }) (record { front = ([], sym (append-nil w.copies)); at = refl })).world
 
 lose_copy_grows : (w : World) (found : Option Copy) → ((copy : Copy) → found ≡ Some copy → w.cursor + 1 ≤ length w.copies)

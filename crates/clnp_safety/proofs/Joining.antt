@@ -13,7 +13,8 @@ use Rattle.reassembly.proofs.Removing.{AllByRecursion-find}
 use Rattle.clnp_machine.specs.Unit as unit
 use Rattle.clnp_machine.specs.Unit.{Packet, more_follows, value_of, value_with}
 use Rattle.clnp_machine.specs.Local.{header_size, is_all, octet_of}
-use Rattle.clnp_safety.specs.Invariant.{IsOfUnit, PacketIsSound}
+use Rattle.clnp_safety.specs.Invariant.{IsOfUnit}
+use Rattle.clnp_machine.specs.Steps.{IsRangeOf}
 use Rattle.clnp_safety.proofs.BufferUnits.{header_of_unit}
 
 -- the octet at a place of a unit's data
@@ -41,7 +42,7 @@ module _ (units : List unit.Unit) (u : unit.Unit) (first : u.first_position ≡ 
       get_or-map-range_with_len read 0 (data_len buffer.shape) place place 0 low (omega arith)
       ∙ octet_of_unit buffer.kept place all (each_place (is_covered buffer.kept) (data_len buffer.shape) whole place low))
 
-module _ (units : List unit.Unit) (p : Packet) (sound : PacketIsSound units p) (first : p.unit.first_position ≡ 0)
+module _ (units : List unit.Unit) (p : Packet) (sound : IsRangeOf units p) (first : p.unit.first_position ≡ 0)
     (total : p.unit.total ≡ header_size p.unit + length p.unit.octets) where
   body_of_all : p.offset ≡ 0 → length p.unit.octets ≤ p.length → (value_of p).body ≡ p.unit.octets
   body_of_all start most =

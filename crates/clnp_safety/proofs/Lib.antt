@@ -1,13 +1,8 @@
-pub mod Lists
 pub mod Units
 pub mod Uses
-pub mod Pieces
 pub mod SendUnits
 pub mod SendAsked
-pub mod Sending
-pub mod BufferLists
 pub mod BufferUnits
-pub mod BufferKept
 pub mod BufferOffers
 pub mod Joining
 pub mod Arriving
@@ -17,6 +12,7 @@ pub mod Lines
 pub mod Steps
 pub mod Outputs
 pub mod Past
+pub mod Effects
 pub mod Moves
 pub mod Settles
 pub mod Ticks
@@ -25,6 +21,5 @@ pub mod Opens
 pub mod Runs
 pub mod Grows
 pub mod Refusals
-pub mod Owners
 pub mod Owned
 pub mod Stops

@@ -45,7 +45,7 @@ first_is_sound plan place configuration declared = record {
   budget = omega arith;
 }
 
-pub first_world_is_sound : (plan : Plan) → WorldIsSound plan [] [] (first_world plan)
+pub first_world_is_sound : (plan : Plan) → WorldIsSound plan [] (first_world plan)
 first_world_is_sound plan = record {
   made = record { each = tt; rest = λ i j d below within. absurd (omega arith) };
   copies = tt;

@@ -4,13 +4,10 @@ use Rattle.std.proofs.lemmas.List.{append-nil}
 use Rattle.std.specs.List.{AllByRecursion}
 use Rattle.scenario.specs.Scenario.{Plan}
 use Rattle.clnp_machine.specs.Unit as unit
-use Rattle.clnp_machine.specs.Unit.{Packet}
-use Rattle.clnp_network.specs.World.{Copy}
 use Rattle.clnp_network.specs.Run.{Entry}
 use Rattle.clnp_network.specs.Safe.{IsSend, NoRefusal, WasSent}
-use Rattle.clnp_safety.specs.Invariant.{UnitIsSound, UnitsAreSound, CopyIsSound}
-use Rattle.clnp_safety.proofs.Lists.{AllByRecursion-implies}
-use Rattle.clnp_safety.proofs.Units.{copy_later}
+use Rattle.clnp_safety.specs.Invariant.{UnitIsSound, UnitsAreSound}
+use Rattle.clnp_machine.proofs.Lists.{AllByRecursion-implies}
 
 sent_before : (plan : Plan) (past more : List Entry) (from to octets : List ℕ) → WasSent plan past from to octets → WasSent plan (past ++ more) from to octets
 sent_before plan [] more from to octets h = absurd h
@@ -47,9 +44,3 @@ pub units_stay : (plan : Plan) (past : List Entry) (before now : ℕ) (units : L
     → UnitsAreSound plan past now units
 units_stay plan past before now units later h =
     subst (λ entries. UnitsAreSound plan entries now units) (append-nil past) (units_later plan past [] before now units later h)
-
--- copies stay sound as units are made
-pub copies_later : (units more : List unit.Unit) (copies : List Copy) → AllByRecursion (CopyIsSound units) copies
-    → AllByRecursion (CopyIsSound (units ++ more)) copies
-copies_later units more copies h =
-    AllByRecursion-implies (CopyIsSound units) (CopyIsSound (units ++ more)) (copy_later units more) copies h

@@ -1,5 +1,5 @@
 -- A send that is refused leaves the world as it was.
-use Rattle.std.proofs.Common.{◌≡◌, ℕ, List, refl, ap}
+use Rattle.std.proofs.Common.{◌≡◌, ℕ, List, [], ◌++◌, ◌∙◌, refl, ap}
 use Rattle.std.specs.Prelude.{slice_get, Option, None, Some}
 use Rattle.pdu_header.specs.declared.kind.Kind.TheVariants.{Dt}
 use Rattle.clnp_plan.specs.declared.ask.Ask.{Ask}
@@ -11,30 +11,33 @@ use Rattle.scenario.specs.declared.event.Event.TheVariants.{Send}
 use Rattle.scenario.specs.declared.event.Move.{Move}
 use Rattle.scenario.specs.declared.event.Move.TheVariants.{One}
 use Rattle.clnp_machine.specs.Unit as unit
-use Rattle.clnp_machine.specs.System.{SystemState}
+use Rattle.clnp_machine.specs.System.{SystemState, AsksToSend}
 use Rattle.clnp_machine.specs.Local.{refusal, unit_of, unless_refused}
-use Rattle.clnp_machine.specs.Host.{effect_of, send}
-use Rattle.clnp_network.specs.World.{World, after, at_system, takes_effect, event_happens}
+use Rattle.clnp_machine.specs.Step.{effect_of}
+use Rattle.std.proofs.lemmas.List.{append-nil}
+use Rattle.clnp_network.specs.World.{World, after, comes_to, takes_effect, event_happens}
 use Rattle.clnp_network.specs.Safe.{AsksFor, IsSend, NoRefusal}
 use Rattle.clnp_plan.specs.declared.note.Note.{Note}
 use Rattle.clnp_safety.specs.Refusal.{LeavesNothing}
-use Rattle.clnp_safety.proofs.Lists.{slice_set-same}
+use Rattle.clnp_machine.proofs.Lists.{slice_set-same}
 use Rattle.clnp_safety.proofs.Lines.{quiet_lines_refuse_nothing}
-use Rattle.clnp_safety.proofs.Asked.{IsRefusal, refusal_refuses, sending, lines_are_quiet}
+use Rattle.clnp_machine.proofs.Own.{IsRefusal, refusal_refuses}
+use Rattle.clnp_safety.proofs.Asked.{sending, lines_are_quiet}
 
 refused_leaves : (w : World) (place : ℕ) (s : SystemState) (u : unit.Unit) (refused : Option Note) → IsRefusal refused → slice_get w.systems place ≡ Some s
     → ¬ (NoRefusal (takes_effect w place (effect_of (unless_refused refused s u))).lines)
     → LeavesNothing w (takes_effect w place (effect_of (unless_refused refused s u)))
 refused_leaves w place s u None refuses e told = absurd (told (quiet_lines_refuse_nothing (sending w place s u).lines (lines_are_quiet w place s u)))
 refused_leaves w place s u (Some (Refused why value)) refuses e told = record {
-  world = ap (λ (systems : List SystemState). record w { systems = systems }) (slice_set-same w.systems place s e);
+  world = ap (λ (systems : List SystemState). record w { systems = systems; units = w.units ++ [] }) (slice_set-same w.systems place s e)
+      ∙ ap (λ (units : List unit.Unit). record w { units = units }) (append-nil w.units);
   lines = λ from to octets up. up;
 }
 refused_leaves w place s u (Some _) refuses e told = absurd refuses
 
 send_leaves : (w : World) (place : ℕ) (from to octets : List ℕ) (ask : Ask) (found : Option SystemState) → slice_get w.systems place ≡ found
-    → ¬ (NoRefusal (at_system w place (λ s. send s from to octets ask) found).lines)
-    → LeavesNothing w (at_system w place (λ s. send s from to octets ask) found)
+    → ¬ (NoRefusal (comes_to w place (AsksToSend from to octets ask) found).lines)
+    → LeavesNothing w (comes_to w place (AsksToSend from to octets ask) found)
 send_leaves w place from to octets ask None e told = absurd (told tt)
 send_leaves w place from to octets ask (Some s) e told =
     refused_leaves w place s (unit_of s Dt from to octets ask) (refusal s (unit_of s Dt from to octets ask)) (refusal_refuses s (unit_of s Dt from to octets ask)) e told

@@ -6,10 +6,9 @@ use Rattle.clnp_machine.specs.Identifiers as ids
 use Rattle.clnp_machine.specs.Identifiers.{Use}
 use Rattle.clnp_machine.specs.Unit as unit
 use Rattle.clnp_machine.specs.System.{SystemState}
-use Rattle.clnp_machine.specs.Host.{restart}
+use Rattle.clnp_machine.specs.Step.{restart}
 use Rattle.clnp_network.specs.Run.{Entry}
 use Rattle.clnp_safety.specs.Invariant.{AreUsesUntil, IsInUses, SystemIsSound, UnitsAreSound}
-use Rattle.clnp_safety.specs.Outputs.{OutputIsSound}
 use Rattle.clnp_safety.proofs.BufferOffers.{unit_sound}
 
 no_uses : (now : ℕ) → AreUsesUntil now []
@@ -24,8 +23,8 @@ rests_in_quiet plan past units now place s made sound u within identifier is =
 
 pub restart_is_sound : (plan : Plan) (past : List Entry) (units : List unit.Unit) (now place : ℕ) (s : SystemState)
     → UnitsAreSound plan past now units → SystemIsSound plan units now place s
-    → SystemIsSound plan units now place (restart s).after × AllByRecursion (OutputIsSound units now) (restart s).outputs
-restart_is_sound plan past units now place s made sound = (
+    → SystemIsSound plan units now place (restart s).after
+restart_is_sound plan past units now place s made sound =
   record {
     stands_at = sound.stands_at;
     declared = sound.declared;
@@ -38,6 +37,4 @@ restart_is_sound plan past units now place s made sound = (
     not_due = tt;
     not_whole = tt;
     budget = omega arith;
-  },
-  (tt, tt),
-)
+  }

@@ -8,14 +8,12 @@ use Rattle.scenario.specs.declared.event.Event.TheVariants.{Send, Deliver, Settl
 use Rattle.scenario.specs.declared.event.Move.{Move}
 use Rattle.scenario.specs.declared.event.Move.TheVariants.{One, SettleOne, LoseOne, TickOne}
 use Rattle.reassembly.specs.Buffer.{held}
-use Rattle.clnp_machine.specs.Unit as unit
-use Rattle.clnp_machine.specs.Host.{restart}
-use Rattle.clnp_network.specs.World.{World, after, event_happens, system_does, deliver, settle_one, lose_one, tick_one, first_world}
+use Rattle.clnp_machine.specs.System.{IsRestarted}
+use Rattle.clnp_network.specs.World.{World, after, event_happens, comes, deliver, settle_one, lose_one, tick_one, first_world}
 use Rattle.clnp_network.specs.Run.{Entry, entries_of, moves_made, run, world_after}
 use Rattle.clnp_network.specs.Safe.{AsksFor, IsSend, EachWasSent, IsHonest, IsWithinBudgets, NoInterference}
 use Rattle.clnp_safety.specs.Invariant.{WorldIsSound}
-use Rattle.clnp_safety.proofs.Lists.{all_at}
-use Rattle.clnp_safety.proofs.Past.{units_stay}
+use Rattle.clnp_machine.proofs.Lists.{all_at}
 use Rattle.clnp_safety.proofs.Moves.{MoveIsSound, sound_at_clock, kept_is_sound, nothing_is_sound}
 use Rattle.clnp_safety.proofs.Settles.{settle_one_is_sound, deliver_is_sound, lose_one_is_sound, restarted_is_sound}
 use Rattle.clnp_safety.proofs.Ticks.{tick_one_is_sound}
@@ -23,67 +21,65 @@ use Rattle.clnp_safety.proofs.Asked.{system_is_asked}
 use Rattle.clnp_safety.proofs.Opens.{first_world_is_sound}
 
 module _ (plan : Plan) (fit : IsFit plan) where
-  module _ (past : List Entry) (units : List unit.Unit) (w : World) (h : WorldIsSound plan past units w) where
+  module _ (past : List Entry) (w : World) (h : WorldIsSound plan past w) where
     event_is_sound : (move : Move) (asked : Option Event)
         → ((from to octets : List ℕ) → AsksFor asked from to octets → IsSend plan move from to octets)
         → MoveIsSound plan past move (event_happens plan.limits w asked)
-    event_is_sound move None asks = nothing_is_sound plan past move units w h
-    event_is_sound move (Some (Settle count)) asks = nothing_is_sound plan past move units w h
-    event_is_sound move (Some (Lose count)) asks = nothing_is_sound plan past move units w h
-    event_is_sound move (Some (Tick count)) asks = nothing_is_sound plan past move units w h
+    event_is_sound move None asks = nothing_is_sound plan past move w h
+    event_is_sound move (Some (Settle count)) asks = nothing_is_sound plan past move w h
+    event_is_sound move (Some (Lose count)) asks = nothing_is_sound plan past move w h
+    event_is_sound move (Some (Tick count)) asks = nothing_is_sound plan past move w h
     event_is_sound move (Some (Deliver copy system)) asks =
-        kept_is_sound plan past move units w.clock (deliver plan.limits w copy system) h.made
-        (deliver_is_sound plan fit past units w.clock h.made w copy system (sound_at_clock plan past units w h))
+        kept_is_sound plan past move w.clock (deliver plan.limits w copy system)
+        (deliver_is_sound plan fit past w.clock w copy system (sound_at_clock plan past w h))
     event_is_sound move (Some (Restart system)) asks =
-        kept_is_sound plan past move units w.clock (system_does w system restart) h.made
-        (restarted_is_sound plan fit past units w.clock h.made w system (sound_at_clock plan past units w h))
+        kept_is_sound plan past move w.clock (comes w system IsRestarted)
+        (restarted_is_sound plan fit past w.clock w system (sound_at_clock plan past w h))
     event_is_sound move (Some (Send system from to body ask)) asks =
-        system_is_asked plan fit past move units w h system from to (octets_of body) ask (asks from to (octets_of body) (refl, refl, refl))
+        system_is_asked plan fit past move w h system from to (octets_of body) ask (asks from to (octets_of body) (refl, refl, refl))
 
     move_is_sound : (move : Move) → MoveIsSound plan past move (after plan w move)
     move_is_sound (One place) = event_is_sound (One place) (slice_get plan.events place) (λ from to octets asked. asked)
     move_is_sound SettleOne =
-        kept_is_sound plan past SettleOne units w.clock (settle_one plan.limits w) h.made
-        (settle_one_is_sound plan fit past units w.clock h.made w (sound_at_clock plan past units w h))
+        kept_is_sound plan past SettleOne w.clock (settle_one plan.limits w)
+        (settle_one_is_sound plan fit past w.clock w (sound_at_clock plan past w h))
     move_is_sound LoseOne =
-        kept_is_sound plan past LoseOne units w.clock (lose_one w) h.made
-        (lose_one_is_sound plan fit past units w.clock h.made w (sound_at_clock plan past units w h))
+        kept_is_sound plan past LoseOne w.clock (lose_one w)
+        (lose_one_is_sound plan fit past w.clock w (sound_at_clock plan past w h))
     move_is_sound TickOne =
-        kept_is_sound plan past TickOne units (w.clock + 1) (tick_one w)
-        (units_stay plan past w.clock (w.clock + 1) units (omega arith) h.made)
-        (tick_one_is_sound plan units w (sound_at_clock plan past units w h))
+        kept_is_sound plan past TickOne (w.clock + 1) (tick_one w) (tick_one_is_sound plan past w (sound_at_clock plan past w h))
 
-  moves_are_honest : (moves : List Move) (past : List Entry) (units : List unit.Unit) (w : World) → WorldIsSound plan past units w
+  moves_are_honest : (moves : List Move) (past : List Entry) (w : World) → WorldIsSound plan past w
       → EachWasSent plan past (entries_of plan w moves)
-  moves_are_honest [] past units w h = tt
-  moves_are_honest (move ∷ moves) past units w h =
-      let this = move_is_sound past units w h move in
-      (this.honest, moves_are_honest moves (past ++ record { move = move; lines = (after plan w move).lines } ∷ []) this.units (after plan w move).world this.world)
+  moves_are_honest [] past w h = tt
+  moves_are_honest (move ∷ moves) past w h =
+      let this = move_is_sound past w h move in
+      (this.honest, moves_are_honest moves (past ++ record { move = move; lines = (after plan w move).lines } ∷ []) (after plan w move).world this.world)
 
-  moves_are_apart : (moves : List Move) (past : List Entry) (units : List unit.Unit) (w : World) → WorldIsSound plan past units w
+  moves_are_apart : (moves : List Move) (past : List Entry) (w : World) → WorldIsSound plan past w
       → AllByRecursion (λ (entry : Entry). NoInterference entry.lines) (entries_of plan w moves)
-  moves_are_apart [] past units w h = tt
-  moves_are_apart (move ∷ moves) past units w h =
-      let this = move_is_sound past units w h move in
-      (this.apart, moves_are_apart moves (past ++ record { move = move; lines = (after plan w move).lines } ∷ []) this.units (after plan w move).world this.world)
+  moves_are_apart [] past w h = tt
+  moves_are_apart (move ∷ moves) past w h =
+      let this = move_is_sound past w h move in
+      (this.apart, moves_are_apart moves (past ++ record { move = move; lines = (after plan w move).lines } ∷ []) (after plan w move).world this.world)
 
-  moves_keep_budgets : (moves : List Move) (past : List Entry) (units : List unit.Unit) (w : World) → WorldIsSound plan past units w
+  moves_keep_budgets : (moves : List Move) (past : List Entry) (w : World) → WorldIsSound plan past w
       → IsWithinBudgets (world_after plan w moves)
-  moves_keep_budgets [] past units w h =
+  moves_keep_budgets [] past w h =
       all_at (λ system. held system.buffers ≤ system.configuration.settings.budget) w.systems (λ place s there. (h.systems.each place s there).budget)
-  moves_keep_budgets (move ∷ moves) past units w h =
-      let this = move_is_sound past units w h move in
-      moves_keep_budgets moves (past ++ record { move = move; lines = (after plan w move).lines } ∷ []) this.units (after plan w move).world this.world
+  moves_keep_budgets (move ∷ moves) past w h =
+      let this = move_is_sound past w h move in
+      moves_keep_budgets moves (past ++ record { move = move; lines = (after plan w move).lines } ∷ []) (after plan w move).world this.world
 
 pub each_was_sent : (plan : Plan) → IsFit plan → (moves : List Move) → EachWasSent plan [] (entries_of plan (first_world plan) moves)
-each_was_sent plan fit moves = moves_are_honest plan fit moves [] [] (first_world plan) (first_world_is_sound plan)
+each_was_sent plan fit moves = moves_are_honest plan fit moves [] (first_world plan) (first_world_is_sound plan)
 
 pub run_is_honest : (plan : Plan) → IsFit plan → IsHonest plan (run plan)
 run_is_honest plan fit = each_was_sent plan fit (moves_made plan)
 
 pub none_interferes : (plan : Plan) → IsFit plan → (moves : List Move)
     → AllByRecursion (λ (entry : Entry). NoInterference entry.lines) (entries_of plan (first_world plan) moves)
-none_interferes plan fit moves = moves_are_apart plan fit moves [] [] (first_world plan) (first_world_is_sound plan)
+none_interferes plan fit moves = moves_are_apart plan fit moves [] (first_world plan) (first_world_is_sound plan)
 
 pub budgets_hold : (plan : Plan) → IsFit plan → (moves : List Move) → IsWithinBudgets (world_after plan (first_world plan) moves)
-budgets_hold plan fit moves = moves_keep_budgets plan fit moves [] [] (first_world plan) (first_world_is_sound plan)
+budgets_hold plan fit moves = moves_keep_budgets plan fit moves [] (first_world plan) (first_world_is_sound plan)

@@ -11,8 +11,8 @@ use Rattle.clnp_machine.specs.System.{SystemState}
 use Rattle.clnp_machine.specs.Local.{with_use, makes}
 use Rattle.clnp_network.specs.Run.{Entry}
 use Rattle.clnp_safety.specs.Invariant.{Owns, UnitIsSound, UnitsAreSound, Rests, EachRests, AreUsesUntil, IsInUses, BufferIsSound, SystemIsSound}
-use Rattle.clnp_safety.proofs.Units.{different_makers, buffer_later}
-use Rattle.clnp_safety.proofs.Lists.{AllByRecursion-implies}
+use Rattle.clnp_safety.proofs.Units.{buffer_later}
+use Rattle.clnp_machine.proofs.Lists.{AllByRecursion-implies}
 use Rattle.clnp_safety.proofs.Uses.{made_long_ago, uses_after, used_before, used_now}
 
 -- the identifier of a unit is the next one of the system, and may be drawn
@@ -51,25 +51,22 @@ new_is_used now s (Some identifier) u has made drawn =
     used_now s.moment s.identifiers u (has ∙ ap Some (drawn identifier has).is_next) made
 
 module _ (plan : Plan) (units : List unit.Unit) (now place : ℕ) (s : SystemState) (u : unit.Unit) (new : IsNew plan now place s u) where
-  -- a unit with its source and identifier was made long before
-  rests_before : (past : List Entry) (v : unit.Unit) → IsFit plan → UnitsAreSound plan past now units → SystemIsSound plan units now place s
+  -- a unit of its maker with its identifier was made long before
+  rests_before : (past : List Entry) (v : unit.Unit) → UnitsAreSound plan past now units → SystemIsSound plan units now place s
       → Contains units v → Rests plan.limits.reuse v u
-  rests_before past v fit made system has source identifier id_v id_u =
-      let sound = All-contains (UnitIsSound plan past now) units v (All-from_recursion (UnitIsSound plan past now) units made.each) has in
-      let owner : Owns plan place v.source = subst (Owns plan place) (sym source) new.owner in
-      let here : sound.place ≡ place = different_makers plan sound.place place v.source fit sound.owner owner in
-      let used = system.used v has (sound.maker ∙ ap DeclaredAt here) in
+  rests_before past v made system has maker identifier id_v id_u =
+      let used = system.used v has (maker ∙ new.maker) in
       let drawn = new.drawn identifier id_u in
       let long_ago = made_long_ago now s.identifiers v system.uses used (id_v ∙ ap Some drawn.is_next) drawn.idle in
       let reuse : s.identifiers.reuse ≡ plan.limits.reuse = system.reuse in
       let at : u.made ≡ now = new.made in
       omega arith
 
-  pub new_rests : (past : List Entry) → IsFit plan → UnitsAreSound plan past now units → SystemIsSound plan units now place s
+  pub new_rests : (past : List Entry) → UnitsAreSound plan past now units → SystemIsSound plan units now place s
       → EachRests plan.limits.reuse (units ++ u ∷ [])
-  new_rests past fit made system =
+  new_rests past made system =
       all_pairs_push (Rests plan.limits.reuse) units u made.rest
-      (λ k d within. rests_before past (get_or units k d) fit made system (Contains-get_or units k d within))
+      (λ k d within. rests_before past (get_or units k d) made system (Contains-get_or units k d within))
 
   buffers_later : (s : SystemState) (at : ℕ) → SystemIsSound plan units now at s → AllByRecursion (BufferIsSound plan (units ++ u ∷ [])) s.buffers
   buffers_later s at h =

@@ -4,16 +4,19 @@ use Rattle.std.specs.Prelude.{if◌then◌else◌, Option, None, Some, slice_get
 use Rattle.clnp_plan.specs.Configuration.{SystemConfiguration}
 use Rattle.clnp_plan.specs.Journal.{Line, Void, Late}
 use Rattle.clnp_plan.specs.declared.config.Limits.{Limits}
-use Rattle.clnp_machine.specs.System.{SystemState, Output, Effect}
-use Rattle.clnp_machine.specs.Host.{arrive}
-use Rattle.clnp_network.specs.World.{World, Copy, Numbered, Step, nothing, writes, followed_by, put_out, put_all_out, takes_effect, at_system, is_late, give_to, give, give_each, is_void, is_addressee, deliver_to, deliver_at, deliver}
+use Rattle.clnp_machine.specs.System.{SystemState, Input, Output, Effect}
+use Rattle.clnp_machine.specs.Step.{step}
+use Rattle.clnp_network.specs.World.{World, Copy, Numbered, Step, nothing, writes, followed_by, put_out, put_all_out, takes_effect, comes_to, frame_to, is_late, give_to, give, give_each, is_void, is_addressee, deliver_to, deliver_at, deliver}
 use Rattle.std.specs.List.{AllByRecursion}
-use Rattle.clnp_safety.proofs.Lists.{AllByRecursion-append}
+use Rattle.clnp_machine.proofs.Lists.{AllByRecursion-append}
 
 -- K holds of the world after a step, and Q of each of its lines
-pub record Keeps (K : World → Type 0) (Q : Line → Type 0) (step : Step) : Type 0 where
-  pub world : K step.world
-  pub lines : AllByRecursion Q step.lines
+pub record Keeps (K : World → Type 0) (Q : Line → Type 0) (taken : Step) : Type 0 where
+  pub world : K taken.world
+  pub lines : AllByRecursion Q taken.lines
+
+pub keeps-map : (K J : World → Type 0) (Q : Line → Type 0) (taken : Step) → ((w : World) → K w → J w) → Keeps K Q taken → Keeps J Q taken
+keeps-map K J Q taken f h = record { world = f taken.world h.world; lines = h.lines }
 
 -- the lines of copies that aren't given are fine
 pub record NotGivenIsFine (Q : Line → Type 0) : Type 0 where
@@ -25,11 +28,11 @@ module _ (K : World → Type 0) (Q : Line → Type 0) where
   keeps-nothing w h = record { world = h; lines = tt }
 
   -- of the world between the parts J holds
-  pub keeps-followed_by : (J : World → Type 0) (step : Step) (next : World → Step) → Keeps J Q step → ((v : World) → J v → Keeps K Q (next v))
-      → Keeps K Q (followed_by step next)
-  keeps-followed_by J step next h k = record {
-    world = (k step.world h.world).world;
-    lines = AllByRecursion-append Q step.lines (next step.world).lines h.lines (k step.world h.world).lines;
+  pub keeps-followed_by : (J : World → Type 0) (first : Step) (next : World → Step) → Keeps J Q first → ((v : World) → J v → Keeps K Q (next v))
+      → Keeps K Q (followed_by first next)
+  keeps-followed_by J first next h k = record {
+    world = (k first.world h.world).world;
+    lines = AllByRecursion-append Q first.lines (next first.world).lines h.lines (k first.world h.world).lines;
   }
 
   pub keeps-put_all_out : (system : SystemConfiguration) (outputs : List Output)
@@ -39,20 +42,20 @@ module _ (K : World → Type 0) (Q : Line → Type 0) where
   keeps-put_all_out system (output ∷ outputs) h w k =
       keeps-followed_by K (put_out system w output) (λ v. put_all_out system v outputs) (h.0 w k) (keeps-put_all_out system outputs h.1)
 
-  pub keeps-at_system : (w : World) (place : ℕ) (does : SystemState → Effect) (found : Option SystemState) → (found ≡ None → K w)
-      → ((s : SystemState) → found ≡ Some s → Keeps K Q (takes_effect w place (does s))) → Keeps K Q (at_system w place does found)
-  keeps-at_system w place does None h k = keeps-nothing w (h refl)
-  keeps-at_system w place does (Some s) h k = k s refl
+  pub keeps-comes_to : (w : World) (place : ℕ) (input : Input) (found : Option SystemState) → (found ≡ None → K w)
+      → ((s : SystemState) → found ≡ Some s → Keeps K Q (takes_effect w place (step s input))) → Keeps K Q (comes_to w place input found)
+  keeps-comes_to w place input None h k = keeps-nothing w (h refl)
+  keeps-comes_to w place input (Some s) h k = k s refl
 
   module _ (fine : NotGivenIsFine Q) (limits : Limits) (given : Numbered) where
     -- the system takes in the copy that is given to it
     abbrev Takes : World → ℕ → Type 0
     Takes w place =
         (s : SystemState) → slice_get w.systems place ≡ Some s → is_late limits w given.copy ≡ false
-        → Keeps K Q (takes_effect w place (arrive s given.copy.content))
+        → Keeps K Q (takes_effect w place (step s (frame_to s given.copy)))
 
-    keeps-late : (w : World) (place : ℕ) (s : SystemState) (late : Bool) → K w → (late ≡ false → Keeps K Q (takes_effect w place (arrive s given.copy.content)))
-        → Keeps K Q (if late then writes w (Late w.clock s.configuration.name given.number) else takes_effect w place (arrive s given.copy.content))
+    keeps-late : (w : World) (place : ℕ) (s : SystemState) (late : Bool) → K w → (late ≡ false → Keeps K Q (takes_effect w place (step s (frame_to s given.copy))))
+        → Keeps K Q (if late then writes w (Late w.clock s.configuration.name given.number) else takes_effect w place (step s (frame_to s given.copy)))
     keeps-late w place s true h k = record { world = h; lines = (fine.late w.clock s.configuration.name given.number, tt) }
     keeps-late w place s false h k = k refl
 

@@ -15,28 +15,18 @@ use Rattle.clnp_machine.specs.Identifiers.{Use}
 use Rattle.clnp_machine.specs.Unit as unit
 use Rattle.clnp_machine.specs.Unit.{DeclaredAt, Packet}
 use Rattle.clnp_machine.specs.System.{SystemState}
-use Rattle.clnp_machine.specs.Local as local
-use Rattle.clnp_machine.specs.Local.{Action, Deed, Sends, Tells, at_moment, discards_first, expire, give_up_due, gives_up}
-use Rattle.clnp_machine.specs.Host.{outputs_of, tick}
-use Rattle.clnp_safety.specs.Invariant.{AreUsesUntil, BufferIsSound, IsInUses, NoteIsSound, SystemIsSound}
-use Rattle.clnp_safety.specs.Outputs.{OutputIsSound}
-use Rattle.clnp_safety.proofs.BufferLists.{all_of_none, fewer_pass}
-use Rattle.clnp_safety.proofs.Lists.{AllByRecursion-append}
+use Rattle.clnp_machine.specs.Local.{at_moment, discard_first, expire, give_up_due, gives_up, tick}
+use Rattle.clnp_safety.specs.Invariant.{AreUsesUntil, BufferIsSound, IsInUses, SystemIsSound}
+use Rattle.clnp_machine.proofs.BufferLists.{all_of_none, fewer_pass}
+use Rattle.clnp_machine.proofs.Lists.{AllByRecursion-append}
 
--- what it does is to note what is so
-abbrev NotesSoundly : List unit.Unit → Action → Type 0
-NotesSoundly units (Tells told) = NoteIsSound units told
-NotesSoundly units (Sends u) = ⊥
+-- a buffer that is taken out leaves the others
+discard_first_after : (s : SystemState) (first : Option Packet) → (discard_first s first).after ≡ s
+discard_first_after s None = refl
+discard_first_after s (Some p) = refl
 
-notes_are_sound : (units : List unit.Unit) (now : ℕ) (s : SystemState) (actions : List Action) → AllByRecursion (NotesSoundly units) actions
-    → AllByRecursion (OutputIsSound units now) (flat_map (outputs_of s) actions)
-notes_are_sound units now s [] all = tt
-notes_are_sound units now s (Tells told ∷ actions) all = (all.0, notes_are_sound units now s actions all.1)
-notes_are_sound units now s (Sends u ∷ actions) all = absurd all.0
-
-discards_soundly : (units : List unit.Unit) (first : Option Packet) → AllByRecursion (NotesSoundly units) (discards_first first)
-discards_soundly units None = tt
-discards_soundly units (Some p) = (tt, tt)
+given_up_after : (s : SystemState) (ended : Buffer Packet) → (gives_up s ended).after ≡ record s { buffers = without ended.key s.buffers }
+given_up_after s ended = discard_first_after (record s { buffers = without ended.key s.buffers }) (first_carried ended)
 
 -- there are fewer without the due one
 without_fewer : (key : Key) (buffers before behind : List (Buffer Packet)) (ended : Buffer Packet) → buffers ≡ before ++ ended ∷ behind → ended.key ≡ key
@@ -89,23 +79,21 @@ module _ (plan : Plan) (units : List unit.Unit) (now place : ℕ) where
     budget = let less = sum_filter size_of (λ (b : Buffer Packet). not (same_key b.key key)) s.buffers in let within = is.budget in omega arith;
   }
 
-  -- what a deed leaves is sound, and what it does
-  abbrev DeedIsSound : Deed → Type 0
-  DeedIsSound deed = SystemIsSound plan units now place deed.after × AllByRecursion (NotesSoundly units) deed.actions
-
   give_up_is_sound : (most : ℕ) (s : SystemState) (found : Option (Buffer Packet)) → due s.moment s.buffers ≡ found → length s.buffers ≤ most + 1 → IsExpiring s
-      → ((t : SystemState) → length t.buffers ≤ most → IsExpiring t → DeedIsSound (expire most t)) → DeedIsSound (give_up_due found s (expire most))
+      → ((t : SystemState) → length t.buffers ≤ most → IsExpiring t → SystemIsSound plan units now place (expire most t).after)
+      → SystemIsSound plan units now place (give_up_due found s (expire most)).after
   give_up_is_sound most s None e few is rest =
       let later = recursion_from_All (λ (b : Buffer Packet). s.moment < b.deadline) s.buffers (none_due s.moment s.buffers e) in
-      (none_left s is (subst (λ n. AllByRecursion (λ (b : Buffer Packet). n < b.deadline) s.buffers) is.moment later), tt)
+      none_left s is (subst (λ n. AllByRecursion (λ (b : Buffer Packet). n < b.deadline) s.buffers) is.moment later)
   give_up_is_sound most s (Some ended) e few is rest =
       let there = due_is s.moment s.buffers ended e in
       let fewer = without_fewer ended.key s.buffers there.before there.behind ended there.stands_there refl in
-      let left = rest (gives_up s ended).after (omega arith) (taken_out s ended.key is) in
-      (left.0, AllByRecursion-append (NotesSoundly units) (gives_up s ended).actions (expire most (gives_up s ended).after).actions (tt, discards_soundly units (first_carried ended)) left.1)
+      let left : SystemState = record s { buffers = without ended.key s.buffers } in
+      subst (λ (t : SystemState). SystemIsSound plan units now place (expire most t).after) (sym (given_up_after s ended))
+      (rest left (omega arith) (taken_out s ended.key is))
 
-  expire_is_sound : (most : ℕ) (s : SystemState) → length s.buffers ≤ most → IsExpiring s → DeedIsSound (expire most s)
-  expire_is_sound zero s few is = (none_left s is (all_of_none (λ (b : Buffer Packet). now < b.deadline) s.buffers few), tt)
+  expire_is_sound : (most : ℕ) (s : SystemState) → length s.buffers ≤ most → IsExpiring s → SystemIsSound plan units now place (expire most s).after
+  expire_is_sound zero s few is = none_left s is (all_of_none (λ (b : Buffer Packet). now < b.deadline) s.buffers few)
   expire_is_sound (suc most) s few is = give_up_is_sound most s (due s.moment s.buffers) refl (omega arith) is (expire_is_sound most)
 
 uses_later : (before now : ℕ) (uses : List Use) → before ≤ now → AreUsesUntil before uses → AreUsesUntil now uses
@@ -130,7 +118,6 @@ at_moment_is plan units before now place s later sound = record {
 }
 
 pub tick_is_sound : (plan : Plan) (units : List unit.Unit) (before now place : ℕ) (s : SystemState) → SystemIsSound plan units before place s → before ≤ now
-    → SystemIsSound plan units now place (tick s now).after × AllByRecursion (OutputIsSound units now) (tick s now).outputs
+    → SystemIsSound plan units now place (tick s now).after
 tick_is_sound plan units before now place s sound later =
-    let deed = expire_is_sound plan units now place (length s.buffers) (at_moment now s) (omega arith) (at_moment_is plan units before now place s later sound) in
-    (deed.0, notes_are_sound units now (tick s now).after (local.tick s now).actions deed.1)
+    expire_is_sound plan units now place (length s.buffers) (at_moment now s) (omega arith) (at_moment_is plan units before now place s later sound)

@@ -9,10 +9,12 @@ use Rattle.scenario.specs.Scenario.{Plan, IsFit}
 use Rattle.clnp_plan.specs.Configuration.{SystemConfiguration, AreDistinct}
 use Rattle.clnp_machine.specs.Unit as unit
 use Rattle.clnp_machine.specs.Unit.{Packet}
-use Rattle.clnp_machine.specs.System.{Content, Labelled, Unlabelled}
+use Rattle.clnp_machine.specs.Content.{Content, Labelled, Unlabelled}
+use Rattle.clnp_machine.specs.Steps.{IsRangeOf}
+use Rattle.std.specs.List.{AllByRecursion}
 use Rattle.clnp_network.specs.World.{Copy}
-use Rattle.clnp_safety.specs.Invariant.{Owns, PacketIsSound, CopyIsSound, Carries, IsOfUnit, BufferIsSound, Rests, EachRests}
-use Rattle.clnp_safety.proofs.Lists.{AllByRecursion-implies}
+use Rattle.clnp_safety.specs.Invariant.{Owns, CopyIsSound, Carries, IsOfUnit, BufferIsSound, Rests, EachRests}
+use Rattle.clnp_machine.proofs.Lists.{AllByRecursion-implies}
 
 -- Pairs of elements.
 
@@ -54,15 +56,15 @@ module _ {X : Type 0} (R : X → X → Type 0) where
       subst (λ z. R (get_or ys i d) z) at_j
       (subst (λ z. R z (get_or (xs ++ ys) (length xs + j) d)) at_i (pairs (length xs + i) (length xs + j) d (omega arith) (omega arith)))
 
--- one of two units with a source and an identifier rests behind the other
+-- one of two units with a maker and an identifier rests behind the other
 pub same_unit : (reuse : ℕ) (units : List unit.Unit) (u v : unit.Unit) (i : ℕ) → EachRests reuse units → Contains units u → Contains units v
-    → u.source ≡ v.source → u.identifier ≡ Some i → v.identifier ≡ Some i
+    → u.maker ≡ v.maker → u.identifier ≡ Some i → v.identifier ≡ Some i
     → (u ≡ v) ⊎ (u.made + reuse ≤ v.made) ⊎ (v.made + reuse ≤ u.made)
-same_unit reuse units u v i rests has_u has_v source id_u id_v =
+same_unit reuse units u v i rests has_u has_v maker id_u id_v =
     elim (pair_cases (Rests reuse) units u v rests has_u has_v) [
       | inl same ↦ inl same
-      | inr (inl before) ↦ inr (inl (before source i id_u id_v))
-      | inr (inr after) ↦ inr (inr (after (sym source) i id_v id_u))
+      | inr (inl before) ↦ inr (inl (before maker i id_u id_v))
+      | inr (inr after) ↦ inr (inr (after (sym maker) i id_v id_u))
     ]
 
 -- Owners of addresses.
@@ -108,7 +110,7 @@ different_makers plan place other address fit own owns =
 -- What is sound stays so as more units are made.
 
 module _ (units more : List unit.Unit) where
-  pub packet_later : (p : Packet) → PacketIsSound units p → PacketIsSound (units ++ more) p
+  pub packet_later : (p : Packet) → IsRangeOf units p → IsRangeOf (units ++ more) p
   packet_later p h = record {
     unit = Contains-append_left units more p.unit h.unit;
     options = h.options;
@@ -117,7 +119,7 @@ module _ (units more : List unit.Unit) where
     whole = h.whole;
   }
 
-  content_later : (content : Content) → Carries (PacketIsSound units) content → Carries (PacketIsSound (units ++ more)) content
+  content_later : (content : Content) → Carries (IsRangeOf units) content → Carries (IsRangeOf (units ++ more)) content
   content_later (Labelled packet following) h = (packet_later packet h.0, h.1)
   content_later (Unlabelled octets) h = absurd h
 
@@ -139,3 +141,9 @@ module _ (units more : List unit.Unit) where
     deadline = h.deadline;
     kept = AllByRecursion-implies (IsOfUnit units h.unit) (IsOfUnit (units ++ more) h.unit) (segment_later h.unit) buffer.kept h.kept;
   }
+
+-- copies stay sound as units are made
+pub copies_later : (units more : List unit.Unit) (copies : List Copy) → AllByRecursion (CopyIsSound units) copies
+    → AllByRecursion (CopyIsSound (units ++ more)) copies
+copies_later units more copies h =
+    AllByRecursion-implies (CopyIsSound units) (CopyIsSound (units ++ more)) (copy_later units more) copies h

@@ -11,7 +11,9 @@ use Rattle.reassembly.specs.Buffer.{Buffer, held, is_whole}
 use Rattle.clnp_machine.specs.Identifiers.{Identifiers, Use}
 use Rattle.clnp_machine.specs.Unit as unit
 use Rattle.clnp_machine.specs.Unit.{DeclaredAt, Packet}
-use Rattle.clnp_machine.specs.System.{SystemState, Content, Labelled, Unlabelled}
+use Rattle.clnp_machine.specs.Content.{Content, Labelled, Unlabelled}
+use Rattle.clnp_machine.specs.System.{SystemState}
+use Rattle.clnp_machine.specs.Steps.{IsRangeOf}
 use Rattle.clnp_machine.specs.Local.{header_size, offered}
 use Rattle.clnp_network.specs.World.{World, Copy}
 use Rattle.clnp_network.specs.Run.{Entry}
@@ -34,18 +36,10 @@ pub record UnitIsSound (plan : Plan) (past : List Entry) (now : ℕ) (u : unit.U
   pub total : u.total ≡ header_size u + length u.octets
   pub made : u.made ≤ now
 
--- What holds of a packet: it is a range of a unit that was made, and all of it where the unit may not be segmented.
-pub record PacketIsSound (units : List unit.Unit) (p : Packet) : Type 0 where
-  pub unit : Contains units p.unit
-  pub options : p.options ≡ p.unit.options
-  pub lifetime : p.hops + p.lifetime ≤ p.unit.lifetime
-  pub within : p.offset + p.length ≤ length p.unit.octets
-  pub whole : p.unit.identifier ≡ None → (p.offset ≡ 0) × (p.length ≡ length p.unit.octets)
-
--- a later unit of the same source and identifier was made so much later
+-- a later unit of the same maker and identifier was made so much later
 abbrev pub Rests : ℕ → unit.Unit → unit.Unit → Type 0
 Rests reuse u v =
-    u.source ≡ v.source → (identifier : ℕ) → u.identifier ≡ Some identifier → v.identifier ≡ Some identifier → u.made + reuse ≤ v.made
+    u.maker ≡ v.maker → (identifier : ℕ) → u.identifier ≡ Some identifier → v.identifier ≡ Some identifier → u.made + reuse ≤ v.made
 
 abbrev pub EachRests : ℕ → List unit.Unit → Type 0
 EachRests reuse units = AllPairs (Rests reuse) units
@@ -60,12 +54,12 @@ IsBornWithUnit birth (Labelled packet following) = birth ≡ packet.unit.made
 IsBornWithUnit birth (Unlabelled octets) = ⊥
 
 pub record CopyIsSound (units : List unit.Unit) (copy : Copy) : Type 0 where
-  pub carries : Carries (PacketIsSound units) copy.content
+  pub carries : Carries (IsRangeOf units) copy.content
   pub birth : IsBornWithUnit copy.birth copy.content
 
 -- a kept segment is a packet of the unit, as it was offered
 pub record IsOfUnit (units : List unit.Unit) (u : unit.Unit) (arrival : Arrival Packet) : Type 0 where
-  pub packet : PacketIsSound units arrival.carried
+  pub packet : IsRangeOf units arrival.carried
   pub unit : arrival.carried.unit ≡ u
   pub offered : arrival ≡ offered arrival.carried []
 
@@ -118,14 +112,13 @@ pub record SystemsAreSound (plan : Plan) (units : List unit.Unit) (now : ℕ) (s
   pub each : (place : ℕ) (s : SystemState) → slice_get systems place ≡ Some s → SystemIsSound plan units now place s
 
 -- What holds of a network beside the entries that led to it.
-pub record WorldIsSound (plan : Plan) (past : List Entry) (units : List unit.Unit) (w : World) : Type 0 where
-  pub made : UnitsAreSound plan past w.clock units
-  pub copies : AllByRecursion (CopyIsSound units) w.copies
-  pub systems : SystemsAreSound plan units w.clock w.systems
+pub record WorldIsSound (plan : Plan) (past : List Entry) (w : World) : Type 0 where
+  pub made : UnitsAreSound plan past w.clock w.units
+  pub copies : AllByRecursion (CopyIsSound w.units) w.copies
+  pub systems : SystemsAreSound plan w.units w.clock w.systems
 
--- A note says only what is so of the units that were made: what is handed up is one of them, and nothing interferes.
-abbrev pub NoteIsSound : List unit.Unit → Note → Type 0
-NoteIsSound units (Got from to octets) =
-    (u : unit.Unit) × Contains units u × (u.source ≡ from) × (u.destination ≡ to) × (u.octets ≡ octets)
-NoteIsSound units (Interference id) = ⊥
-NoteIsSound units _ = Unit {0}
+-- A note says only what is so: what is handed up was sent before, and nothing interferes.
+abbrev pub NoteIsHonest : Plan → List Entry → Note → Type 0
+NoteIsHonest plan past (Got from to octets) = WasSent plan past from to octets
+NoteIsHonest plan past (Interference id) = ⊥
+NoteIsHonest plan past _ = Unit {0}

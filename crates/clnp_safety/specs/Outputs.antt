@@ -1,9 +1,11 @@
 -- What a system gives out in a run.
 use Rattle.std.specs.Prelude.{◌≡◌, ℕ, List}
+use Rattle.clnp_plan.specs.declared.note.Note.{Note}
 use Rattle.clnp_machine.specs.Unit as unit
 use Rattle.clnp_machine.specs.System.{Output, Transmits, Notes}
-use Rattle.clnp_safety.specs.Invariant.{PacketIsSound, NoteIsSound}
+use Rattle.clnp_machine.specs.Steps.{IsRangeOf}
 
-abbrev pub OutputIsSound : List unit.Unit → ℕ → Output → Type 0
-OutputIsSound units now (Transmits port target packet) = PacketIsSound units packet × (packet.unit.made ≡ now)
-OutputIsSound units now (Notes note) = NoteIsSound units note
+-- it sends packets of units that are made now, and notes what Q holds of
+abbrev pub OutputIsSound : (Note → Type 0) → List unit.Unit → ℕ → Output → Type 0
+OutputIsSound Q units now (Transmits port target packet) = IsRangeOf units packet × (packet.unit.made ≡ now)
+OutputIsSound Q units now (Notes note) = Q note

@@ -1,0 +1,189 @@
+-- A system hands up only what is for its own addresses.
+use Rattle.std.proofs.Common.{◌≡◌, ℕ, zero, suc, List, [], ◌∷◌, ◌++◌, length, map, Bool, true, false, refl, subst}
+use Rattle.std.specs.Prelude.{◌==◌, if◌then◌else◌, not, nat_lt, Option, None, Some, option_map}
+use Rattle.std.specs.List.{AllByRecursion, flat_map, list_any}
+use Rattle.std.specs.Str.{bytes_eq}
+use Rattle.pdu_header.specs.declared.kind.Kind.TheVariants.{Dt}
+use Rattle.pdu_header.specs.Rules.{octet, refusal as rule_broken}
+use Rattle.clnp_options.specs.declared.judge.OptionRefusal.{OptionRefusal}
+use Rattle.reassembly.specs.Arrival.{Arrival}
+use Rattle.reassembly.specs.Buffer as buffer
+use Rattle.reassembly.specs.Buffer.{Answer, Buffer}
+use Rattle.clnp_plan.specs.Configuration.{SystemConfiguration}
+use Rattle.clnp_plan.specs.declared.ask.Ask.{Ask}
+use Rattle.clnp_plan.specs.declared.config.Role.{Role}
+use Rattle.clnp_plan.specs.declared.config.Role.TheVariants.{Host, Router}
+use Rattle.clnp_plan.specs.declared.note.Note.{Note}
+use Rattle.clnp_plan.specs.declared.note.Note.TheVariants.{Refused, Got, Interference}
+use Rattle.clnp_plan.specs.declared.note.Why.TheVariants as why
+use Rattle.clnp_machine.specs.Identifiers.{NotDrawn, IsQuiet, IsBusy, not_drawn}
+use Rattle.clnp_machine.specs.Unit as unit
+use Rattle.clnp_machine.specs.Unit.{Packet, value_of, whole_packet, cut}
+use Rattle.clnp_machine.specs.Content.{Content, Labelled, Unlabelled}
+use Rattle.clnp_machine.specs.System.{SystemState, Input, AsksToSend, FrameComes, MomentComes, IsRestarted, Output, Transmits, Notes, table_limits}
+use Rattle.clnp_machine.specs.Local.{Action, Sends, Tells, Deed, and_then, tells, hand_up, is_own, is_all, most_octets, header_size, not_drawn_note, identifier_refusal, offered, takes_in, offer, receive, refusal, unit_of, unless_refused, discard_first, gives_up, give_up_due, expire, at_moment}
+use Rattle.clnp_machine.specs.Step.{Hop, next_hop, mtu_at, transmissions, first_sent, outputs_of, effect_of, passes_by, packet_comes, discard_refused, octets_come, content_comes, deed, step}
+use Rattle.clnp_machine.specs.Steps.{IsForOwn, NotesOnly}
+use Rattle.clnp_machine.proofs.Lists.{AllByRecursion-append, AllByRecursion-implies}
+
+-- a note that neither hands up nor refuses, and tells of no interference
+abbrev pub NoteIsQuiet : Note → Type 0
+NoteIsQuiet (Got from to octets) = ⊥
+NoteIsQuiet (Refused why value) = ⊥
+NoteIsQuiet (Interference id) = ⊥
+NoteIsQuiet _ = Unit {0}
+
+-- an action tells only what Q holds of
+abbrev pub TellsOnly : (Note → Type 0) → Action → Type 0
+TellsOnly Q (Tells told) = Q told
+TellsOnly Q (Sends u) = Unit {0}
+
+-- Sending tells of nothing but of units that are dropped.
+
+pieces_are_quiet : (hop : Hop) (pieces : List Packet) → AllByRecursion (NotesOnly NoteIsQuiet) (map (λ piece. Transmits hop.port hop.target piece) pieces)
+pieces_are_quiet hop [] = tt
+pieces_are_quiet hop (piece ∷ pieces) = (tt, pieces_are_quiet hop pieces)
+
+transmissions_are_quiet : (hop : Hop) (pieces : Option (List Packet)) → AllByRecursion (NotesOnly NoteIsQuiet) (transmissions hop pieces)
+transmissions_are_quiet hop None = (tt, tt)
+transmissions_are_quiet hop (Some pieces) = pieces_are_quiet hop pieces
+
+pub first_sent_is_quiet : (s : SystemState) (u : unit.Unit) (hop : Option Hop) → AllByRecursion (NotesOnly NoteIsQuiet) (first_sent s u hop)
+first_sent_is_quiet s u None = (tt, tt)
+first_sent_is_quiet s u (Some hop) = transmissions_are_quiet hop (cut (whole_packet u) (mtu_at s hop.port))
+
+output_notes : (P Q : Note → Type 0) → ((note : Note) → P note → Q note) → (output : Output) → NotesOnly P output → NotesOnly Q output
+output_notes P Q f (Transmits port target packet) h = tt
+output_notes P Q f (Notes note) h = f note h
+
+-- what is noted where a system does this
+pub outputs_note : (Q : Note → Type 0) → ((note : Note) → NoteIsQuiet note → Q note) → (s : SystemState) (actions : List Action)
+    → AllByRecursion (TellsOnly Q) actions → AllByRecursion (NotesOnly Q) (flat_map (outputs_of s) actions)
+outputs_note Q quiet s [] h = tt
+outputs_note Q quiet s (Tells told ∷ actions) h = (h.0, outputs_note Q quiet s actions h.1)
+outputs_note Q quiet s (Sends u ∷ actions) h =
+    AllByRecursion-append (NotesOnly Q) (first_sent s u (next_hop s u.destination)) (flat_map (outputs_of s) actions)
+    (AllByRecursion-implies (NotesOnly NoteIsQuiet) (NotesOnly Q) (output_notes NoteIsQuiet Q quiet) (first_sent s u (next_hop s u.destination))
+    (first_sent_is_quiet s u (next_hop s u.destination)))
+    (outputs_note Q quiet s actions h.1)
+
+pub quiet_is_own : (s : SystemState) (note : Note) → NoteIsQuiet note → IsForOwn s note
+quiet_is_own s (Got from to octets) h = absurd h
+quiet_is_own s _ h = tt
+
+-- Why a unit isn't made.
+
+abbrev pub IsRefusal : Option Note → Type 0
+IsRefusal None = Unit {0}
+IsRefusal (Some (Refused why value)) = Unit {0}
+IsRefusal (Some _) = ⊥
+
+first_of_two : (refused : Note) (next : Option Note) (holds : Bool) → IsRefusal (Some refused) → IsRefusal next
+    → IsRefusal (if holds then Some refused else next)
+first_of_two refused next true h k = h
+first_of_two refused next false h k = k
+
+not_drawn_is_refused : (why : Option NotDrawn) → IsRefusal (option_map not_drawn_note why)
+not_drawn_is_refused None = tt
+not_drawn_is_refused (Some (IsQuiet until)) = tt
+not_drawn_is_refused (Some (IsBusy used)) = tt
+
+drawing_is_refused : (s : SystemState) (identifier : Option ℕ) → IsRefusal (identifier_refusal s identifier)
+drawing_is_refused s None = tt
+drawing_is_refused s (Some identifier) = not_drawn_is_refused (not_drawn s.moment s.identifiers)
+
+pub refusal_refuses : (s : SystemState) (u : unit.Unit) → IsRefusal (refusal s u)
+refusal_refuses s u =
+    first_of_two (Refused why.NotMine 0) _ (not (is_own s u.source)) tt
+    (first_of_two (Refused why.TooLong (length u.octets)) _ (nat_lt most_octets (length u.octets)) tt
+    (first_of_two (Refused why.TooLong (header_size u)) _ (nat_lt 254 (header_size u)) tt (drawing_is_refused s u.identifier)))
+
+-- What is told of what comes.
+
+abbrev TellOnly : (Note → Type 0) → Deed → Type 0
+TellOnly Q deed = AllByRecursion (TellsOnly Q) deed.actions
+
+asked_is_own : (s : SystemState) (u : unit.Unit) (refused : Option Note) → IsRefusal refused → TellOnly (IsForOwn s) (unless_refused refused s u)
+asked_is_own s u None h = (tt, (tt, tt))
+asked_is_own s u (Some (Refused why value)) h = (tt, tt)
+asked_is_own s u (Some _) h = absurd h
+
+takes_in_own : (s : SystemState) (frame : Content) (arrival : Arrival Packet) (kept : List (Buffer Packet)) (answer : Answer)
+    → is_own s arrival.key.to ≡ true → TellOnly (IsForOwn s) (takes_in s frame arrival kept answer)
+takes_in_own s frame arrival kept buffer.Held own = (tt, tt)
+takes_in_own s frame arrival kept buffer.Whole own = (own, tt)
+takes_in_own s frame arrival kept (buffer.Interference there other) own = (tt, (tt, tt))
+takes_in_own s frame arrival kept buffer.Repeat own = (tt, tt)
+takes_in_own s frame arrival kept (buffer.NoSlot live) own = (tt, (tt, tt))
+takes_in_own s frame arrival kept (buffer.Crowded held size) own = (tt, (tt, tt))
+takes_in_own s frame arrival kept (buffer.Many segments) own = (tt, (tt, tt))
+
+received_is_own : (s : SystemState) (p : Packet) (following : List ℕ) (all : Bool) → is_own s p.unit.destination ≡ true
+    → TellOnly (IsForOwn s)
+    (if all then hand_up s p.unit.kind p.unit.source p.unit.destination (value_of p).body p.options
+    else offer s (Labelled p following) (offered p following))
+received_is_own s p following true own = (own, tt)
+received_is_own s p following false own =
+    takes_in_own s (Labelled p following) (offered p following) (buffer.after (table_limits s) s.moment (offered p following) s.buffers)
+    (buffer.answer (table_limits s) s.moment (offered p following) s.buffers) own
+
+passed_is_own : (role : Role) (s : SystemState) (p : Packet) (following : List ℕ) → TellOnly (IsForOwn s) (passes_by role s p following)
+passed_is_own Host s p following = (tt, tt)
+passed_is_own Router s p following = (tt, tt)
+
+one_is_own : (s : SystemState) (test : Bool) (first second : Deed) → (test ≡ true → TellOnly (IsForOwn s) first) → TellOnly (IsForOwn s) second
+    → TellOnly (IsForOwn s) (if test then first else second)
+one_is_own s true first second h k = h refl
+one_is_own s false first second h k = k
+
+packet_is_own : (s : SystemState) (p : Packet) (following : List ℕ) → TellOnly (IsForOwn s) (packet_comes s p following)
+packet_is_own s p following =
+    one_is_own s (p.lifetime == 0) _ _ (λ over. (tt, tt))
+    (one_is_own s (is_own s p.unit.destination) (receive s p following) (passes_by s.configuration.role s p following) (received_is_own s p following (is_all p))
+    (passed_is_own s.configuration.role s p following))
+
+refused_is_own : (s : SystemState) (octets : List ℕ) (broken : Option OptionRefusal) → TellOnly (IsForOwn s) (discard_refused s octets broken)
+refused_is_own s octets None = (tt, tt)
+refused_is_own s octets (Some broken) = (tt, tt)
+
+content_is_own : (s : SystemState) (content : Content) → TellOnly (IsForOwn s) (content_comes s content)
+content_is_own s (Labelled p following) = packet_is_own s p following
+content_is_own s (Unlabelled octets) =
+    one_is_own s (octet octets 1 == 0x81) (discard_refused s octets (rule_broken octets)) _ (λ begun. refused_is_own s octets (rule_broken octets))
+    (one_is_own s (octet octets 1 == 0x82) _ _ (λ begun. (tt, tt)) (tt, tt))
+
+-- where buffers end, nothing is handed up
+
+discarded_is_quiet : (s : SystemState) (first : Option Packet) → TellOnly NoteIsQuiet (discard_first s first)
+discarded_is_quiet s None = tt
+discarded_is_quiet s (Some p) = (tt, tt)
+
+given_up_is_quiet : (due : Option (Buffer Packet)) (s : SystemState) (next : SystemState → Deed) → ((t : SystemState) → TellOnly NoteIsQuiet (next t))
+    → TellOnly NoteIsQuiet (give_up_due due s next)
+given_up_is_quiet None s next h = tt
+given_up_is_quiet (Some ended) s next h = (
+  tt,
+  AllByRecursion-append (TellsOnly NoteIsQuiet) (discard_first (record s { buffers = buffer.without ended.key s.buffers }) (buffer.first_carried ended)).actions
+      (next (gives_up s ended).after).actions
+      (discarded_is_quiet (record s { buffers = buffer.without ended.key s.buffers }) (buffer.first_carried ended)) (h (gives_up s ended).after),
+)
+
+pub expiry_is_quiet : (most : ℕ) (s : SystemState) → TellOnly NoteIsQuiet (expire most s)
+expiry_is_quiet zero s = tt
+expiry_is_quiet (suc most) s = given_up_is_quiet (buffer.due s.moment s.buffers) s (expire most) (expiry_is_quiet most)
+
+quiet_action_is_own : (s : SystemState) (action : Action) → TellsOnly NoteIsQuiet action → TellsOnly (IsForOwn s) action
+quiet_action_is_own s (Tells told) h = quiet_is_own s told h
+quiet_action_is_own s (Sends u) h = tt
+
+deed_is_own : (s : SystemState) (input : Input) → TellOnly (IsForOwn s) (deed s input)
+deed_is_own s (AsksToSend from to octets ask) =
+    asked_is_own s (unit_of s Dt from to octets ask) (refusal s (unit_of s Dt from to octets ask)) (refusal_refuses s (unit_of s Dt from to octets ask))
+deed_is_own s (FrameComes port sender to_group content) = content_is_own s content
+deed_is_own s (MomentComes now) =
+    AllByRecursion-implies (TellsOnly NoteIsQuiet) (TellsOnly (IsForOwn s)) (quiet_action_is_own s) (expire (length s.buffers) (at_moment now s)).actions
+    (expiry_is_quiet (length s.buffers) (at_moment now s))
+deed_is_own s IsRestarted = (tt, tt)
+
+pub step_is_own : (s : SystemState) (input : Input) → AllByRecursion (NotesOnly (IsForOwn s)) (step s input).outputs
+step_is_own s input = outputs_note (IsForOwn s) (quiet_is_own s) (deed s input).after (deed s input).actions (deed_is_own s input)
