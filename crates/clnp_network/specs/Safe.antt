@@ -1,6 +1,6 @@
 -- What a safe run is: each data unit handed up is one that was sent before, and no system holds more octets for
 -- reassembly than it may.
-use Rattle.std.specs.Prelude.{◌≡◌, ℕ, ◌≤◌, ◌⊎◌, List, [], ◌∷◌, ◌++◌, slice_get, Option, Some}
+use Rattle.std.specs.Prelude.{◌≡◌, ℕ, ◌+◌, ◌≤◌, ◌⊎◌, List, [], ◌∷◌, ◌++◌, slice_get, Option, Some}
 use Rattle.clnp_plan.specs.Journal.{Line, Noted}
 use Rattle.clnp_plan.specs.declared.note.Note.TheVariants.{Refused, Got, Interference}
 use Rattle.scenario.specs.Scenario.{Plan, octets_of}
@@ -8,6 +8,7 @@ use Rattle.scenario.specs.declared.event.Event.{Event}
 use Rattle.scenario.specs.declared.event.Event.TheVariants.{Send}
 use Rattle.scenario.specs.declared.event.Move.{Move}
 use Rattle.scenario.specs.declared.event.Move.TheVariants.{One, SettleOne, LoseOne, TickOne}
+use Rattle.clnp_machine.specs.Content.{Labelled, Unlabelled, Content}
 use Rattle.clnp_network.specs.World.{World}
 use Rattle.clnp_network.specs.Run.{Entry}
 use Rattle.reassembly.specs.Buffer.{held}
@@ -59,6 +60,15 @@ IsHonest plan entries = EachWasSent plan [] entries
 -- no system of the network holds more octets for reassembly than its budget
 abbrev pub IsWithinBudgets : World → Type 0
 IsWithinBudgets w = AllByRecursion (λ system. held system.buffers ≤ system.configuration.settings.budget) w.systems
+
+-- a packet's hops and its lifetime are together at most its unit's lifetime
+abbrev pub MeetsLifetime : Content → Type 0
+MeetsLifetime (Labelled packet following) = packet.hops + packet.lifetime ≤ packet.unit.lifetime
+MeetsLifetime (Unlabelled octets) = Unit {0}
+
+-- no PDU of the network was forwarded more often than its lifetime allowed
+abbrev pub IsWithinLifetimes : World → Type 0
+IsWithinLifetimes w = AllByRecursion (λ copy. MeetsLifetime copy.content) w.copies
 
 -- no segment of a unit meets another unit's in a buffer
 abbrev pub NoInterference : List Line → Type 0

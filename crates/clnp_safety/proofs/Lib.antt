@@ -10,6 +10,8 @@ pub mod Ticking
 pub mod Restarting
 pub mod Lines
 pub mod Steps
+pub mod EveryMove
+pub mod Bounds
 pub mod Outputs
 pub mod Past
 pub mod Effects

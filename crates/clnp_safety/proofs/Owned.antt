@@ -21,6 +21,7 @@ use Rattle.clnp_machine.proofs.Own.{step_is_own}
 use Rattle.clnp_network.specs.World.{World, Copy, put_out, with_effect, takes_effect, comes, frame_to, addressees_from, settle_copy, lose_copy, tick_each, event_happens, after}
 use Rattle.clnp_safety.specs.Owners.{IsByOwner}
 use Rattle.clnp_machine.proofs.Lists.{AllByRecursion-implies, set_each}
+use Rattle.clnp_safety.proofs.EveryMove.{EachStepKeeps, keeps-move}
 use Rattle.clnp_safety.proofs.Steps.{Keeps, NotGivenIsFine, keeps-nothing, keeps-followed_by, keeps-put_all_out, keeps-comes_to, keeps-give_each, keeps-deliver}
 
 module _ (systems : List SystemState) where
@@ -71,42 +72,11 @@ module _ (systems : List SystemState) where
       (set_each WasConfigured WasConfigured w.systems place effect.after k (λ other t apart h. h)
       (record { before = was.before; there = was.there; same = same ∙ was.same }))
 
-  comes_by_owner : (w : World) (place : ℕ) (input : Input) → AreConfigured w → Keeps AreConfigured ByOwner (comes w place input)
-  comes_by_owner w place input k =
-      keeps-comes_to AreConfigured ByOwner w place input (slice_get w.systems place) (λ none. k) (λ s there. takes_effect_by_owner w place s input there k)
-
-  tick_each_by_owner : (places : List ℕ) (w : World) → AreConfigured w → Keeps AreConfigured ByOwner (tick_each w places)
-  tick_each_by_owner [] w k = keeps-nothing AreConfigured ByOwner w k
-  tick_each_by_owner (place ∷ places) w k =
-      keeps-followed_by AreConfigured ByOwner AreConfigured (comes w place (MomentComes w.clock)) (λ v. tick_each v places)
-      (comes_by_owner w place (MomentComes w.clock) k) (tick_each_by_owner places)
+  each_by_owner : EachStepKeeps AreConfigured ByOwner
+  each_by_owner = record { steps = takes_effect_by_owner; cursor = λ w next k. k; clock = λ w now k. k; fine = fine }
 
 unchanged : (w : World) → AreConfigured w.systems w
 unchanged w place s there = record { before = s; there = there; same = refl }
 
-event_by_owner : (limits : Limits) (w : World) (asked : Option Event) → AllByRecursion (IsByOwner w.systems) (event_happens limits w asked).lines
-event_by_owner limits w (Some (Deliver number system)) =
-    (keeps-deliver (AreConfigured w.systems) (IsByOwner w.systems) (fine w.systems) limits w number system (unchanged w)
-    (λ copy e s there soon. takes_effect_by_owner w.systems w system s (frame_to s copy) there (unchanged w))).lines
-event_by_owner limits w (Some (Restart system)) = (comes_by_owner w.systems w system IsRestarted (unchanged w)).lines
-event_by_owner limits w (Some (Send system from to body ask)) =
-    (comes_by_owner w.systems w system (AsksToSend from to (octets_of body) ask) (unchanged w)).lines
-event_by_owner limits w _ = tt
-
-settle_by_owner : (limits : Limits) (w : World) (found : Option Copy) → AllByRecursion (IsByOwner w.systems) (settle_copy limits w found).lines
-settle_by_owner limits w None = tt
-settle_by_owner limits w (Some copy) =
-    (keeps-give_each (AreConfigured w.systems) (IsByOwner w.systems) (fine w.systems) limits (record { number = w.cursor + 1; copy = copy }) (addressees_from 0 copy w.systems)
-    (λ v place k s there soon. takes_effect_by_owner w.systems v place s (frame_to s copy) there k)
-    (record w { cursor = w.cursor + 1 }) (unchanged w)).lines
-
-lose_by_owner : (w : World) (found : Option Copy) → AllByRecursion (IsByOwner w.systems) (lose_copy w found).lines
-lose_by_owner w None = tt
-lose_by_owner w (Some copy) = tt
-
 pub move_by_owner : (plan : Plan) (w : World) (move : Move) → AllByRecursion (IsByOwner w.systems) (after plan w move).lines
-move_by_owner plan w (One place) = event_by_owner plan.limits w (slice_get plan.events place)
-move_by_owner plan w SettleOne = settle_by_owner plan.limits w (slice_get w.copies w.cursor)
-move_by_owner plan w LoseOne = lose_by_owner w (slice_get w.copies w.cursor)
-move_by_owner plan w TickOne =
-    (tick_each_by_owner w.systems (range_with_len 0 (length w.systems)) (record w { clock = w.clock + 1 }) (unchanged w)).lines
+move_by_owner plan w move = (keeps-move (AreConfigured w.systems) (IsByOwner w.systems) (each_by_owner w.systems) plan w move (unchanged w)).lines

@@ -7,13 +7,11 @@ use Rattle.scenario.specs.declared.event.Event.{Event}
 use Rattle.scenario.specs.declared.event.Event.TheVariants.{Send, Deliver, Settle, Lose, Tick, Restart}
 use Rattle.scenario.specs.declared.event.Move.{Move}
 use Rattle.scenario.specs.declared.event.Move.TheVariants.{One, SettleOne, LoseOne, TickOne}
-use Rattle.reassembly.specs.Buffer.{held}
 use Rattle.clnp_machine.specs.System.{IsRestarted}
 use Rattle.clnp_network.specs.World.{World, after, event_happens, comes, deliver, settle_one, lose_one, tick_one, first_world}
 use Rattle.clnp_network.specs.Run.{Entry, entries_of, moves_made, run, world_after}
-use Rattle.clnp_network.specs.Safe.{AsksFor, IsSend, EachWasSent, IsHonest, IsWithinBudgets, NoInterference}
+use Rattle.clnp_network.specs.Safe.{AsksFor, IsSend, EachWasSent, IsHonest, NoInterference}
 use Rattle.clnp_safety.specs.Invariant.{WorldIsSound}
-use Rattle.clnp_machine.proofs.Lists.{all_at}
 use Rattle.clnp_safety.proofs.Moves.{MoveIsSound, sound_at_clock, kept_is_sound, nothing_is_sound}
 use Rattle.clnp_safety.proofs.Settles.{settle_one_is_sound, deliver_is_sound, lose_one_is_sound, restarted_is_sound}
 use Rattle.clnp_safety.proofs.Ticks.{tick_one_is_sound}
@@ -63,14 +61,6 @@ module _ (plan : Plan) (fit : IsFit plan) where
       let this = move_is_sound past w h move in
       (this.apart, moves_are_apart moves (past ++ record { move = move; lines = (after plan w move).lines } ∷ []) (after plan w move).world this.world)
 
-  moves_keep_budgets : (moves : List Move) (past : List Entry) (w : World) → WorldIsSound plan past w
-      → IsWithinBudgets (world_after plan w moves)
-  moves_keep_budgets [] past w h =
-      all_at (λ system. held system.buffers ≤ system.configuration.settings.budget) w.systems (λ place s there. (h.systems.each place s there).budget)
-  moves_keep_budgets (move ∷ moves) past w h =
-      let this = move_is_sound past w h move in
-      moves_keep_budgets moves (past ++ record { move = move; lines = (after plan w move).lines } ∷ []) (after plan w move).world this.world
-
 pub each_was_sent : (plan : Plan) → IsFit plan → (moves : List Move) → EachWasSent plan [] (entries_of plan (first_world plan) moves)
 each_was_sent plan fit moves = moves_are_honest plan fit moves [] (first_world plan) (first_world_is_sound plan)
 
@@ -80,6 +70,3 @@ run_is_honest plan fit = each_was_sent plan fit (moves_made plan)
 pub none_interferes : (plan : Plan) → IsFit plan → (moves : List Move)
     → AllByRecursion (λ (entry : Entry). NoInterference entry.lines) (entries_of plan (first_world plan) moves)
 none_interferes plan fit moves = moves_are_apart plan fit moves [] (first_world plan) (first_world_is_sound plan)
-
-pub budgets_hold : (plan : Plan) → IsFit plan → (moves : List Move) → IsWithinBudgets (world_after plan (first_world plan) moves)
-budgets_hold plan fit moves = moves_keep_budgets plan fit moves [] (first_world plan) (first_world_is_sound plan)

@@ -5,7 +5,7 @@ ghost use Rattle.scenario.specs.Scenario.{Plan, IsFit};
 ghost use Rattle.scenario.specs.declared.event.Move.{Move};
 ghost use Rattle.clnp_network.specs.World.{World, after, first_world};
 ghost use Rattle.clnp_network.specs.Run.{Entry, entries_of, full_weight, run, text_of, until_full, world_after};
-ghost use Rattle.clnp_network.specs.Safe.{IsSend, NoRefusal, EachWasSent, IsHonest, IsWithinBudgets, NoInterference};
+ghost use Rattle.clnp_network.specs.Safe.{IsSend, NoRefusal, EachWasSent, IsHonest, IsWithinBudgets, IsWithinLifetimes, NoInterference};
 ghost use Rattle.clnp_safety.specs.Growth.{IsFront, IsFullAt, IsWithinCopies};
 ghost use Rattle.clnp_safety.specs.Owners.{IsByOwner};
 ghost use Rattle.clnp_safety.specs.Refusal.{LeavesNothing};
@@ -25,9 +25,16 @@ pub fn no_unit_meets_another()
         → AllByRecursion (λ (entry : Entry). NoInterference entry.lines) (entries_of plan (first_world plan) moves) }
 {}
 
-/// No system ever holds more octets for reassembly than its budget.
+/// No system ever holds more octets for reassembly than its budget, whatever the moves of whatever
+/// plan.
 pub fn budgets_are_kept()
-    ensures { (plan : Plan) → IsFit plan → (moves : List Move) → IsWithinBudgets (world_after plan (first_world plan) moves) }
+    ensures { (plan : Plan) (moves : List Move) → IsWithinBudgets (world_after plan (first_world plan) moves) }
+{}
+
+/// No PDU is forwarded more often than its lifetime allowed: hops and lifetime of each packet are
+/// together at most the lifetime of its unit, whatever the moves of whatever plan.
+pub fn hops_are_within_lifetimes()
+    ensures { (plan : Plan) (moves : List Move) → IsWithinLifetimes (world_after plan (first_world plan) moves) }
 {}
 
 /// The copies of a world stay, in their order, and no more of them are settled than there are.

@@ -1,4 +1,4 @@
-use Rattle.clnp_safety.proofs.Runs.{budgets_hold}
+use Rattle.clnp_safety.proofs.Bounds.{budgets_hold}
 use Rattle.clnp_safety.proofs.laws.budgets_are_kept.Goals as goal
 
 pub returns : goal.returns
