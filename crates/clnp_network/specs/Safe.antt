@@ -1,6 +1,6 @@
 -- What a safe run is: each data unit handed up is one that was sent before, and no system holds more octets for
 -- reassembly than it may.
-use Rattle.std.specs.Prelude.{◌≡◌, ℕ, ◌+◌, ◌≤◌, ◌⊎◌, List, [], ◌∷◌, ◌++◌, slice_get, Option, Some}
+use Rattle.std.specs.Prelude.{◌≡◌, ℕ, ◌+◌, ◌≤◌, ◌⊎◌, List, [], ◌∷◌, ◌++◌, slice_get, Option, Some, AllPairs}
 use Rattle.clnp_plan.specs.Journal.{Line, Noted}
 use Rattle.clnp_plan.specs.declared.note.Note.TheVariants.{Refused, Got, Interference}
 use Rattle.scenario.specs.Scenario.{Plan, octets_of}
@@ -9,10 +9,14 @@ use Rattle.scenario.specs.declared.event.Event.TheVariants.{Send}
 use Rattle.scenario.specs.declared.event.Move.{Move}
 use Rattle.scenario.specs.declared.event.Move.TheVariants.{One, SettleOne, LoseOne, TickOne}
 use Rattle.clnp_machine.specs.Content.{Labelled, Unlabelled, Content}
+use Rattle.clnp_machine.specs.Unit as unit
+use Rattle.clnp_machine.specs.Unit.{Packet}
+use Rattle.clnp_machine.specs.Steps.{IsRangeOf}
+use Rattle.reassembly.specs.Arrival.{Arrival}
 use Rattle.clnp_network.specs.World.{World}
 use Rattle.clnp_network.specs.Run.{Entry}
-use Rattle.reassembly.specs.Buffer.{held}
-use Rattle.std.specs.List.{AllByRecursion}
+use Rattle.reassembly.specs.Buffer.{Buffer, held}
+use Rattle.std.specs.List.{AllByRecursion, Contains}
 
 -- some line says that a unit from here to there was handed up with these octets
 abbrev pub HandsUp : List Line → List ℕ → List ℕ → List ℕ → Type 0
@@ -69,6 +73,33 @@ MeetsLifetime (Unlabelled octets) = Unit {0}
 -- no PDU of the network was forwarded more often than its lifetime allowed
 abbrev pub IsWithinLifetimes : World → Type 0
 IsWithinLifetimes w = AllByRecursion (λ copy. MeetsLifetime copy.content) w.copies
+
+-- a frame carries a range of a unit that was made, and nothing behind its PDU; its copy is as old as the unit
+abbrev pub RangeIn : List unit.Unit → (birth : ℕ) → Content → Type 0
+RangeIn units birth (Labelled packet following) = IsRangeOf units packet × (following ≡ []) × (birth ≡ packet.unit.made)
+RangeIn units birth (Unlabelled octets) = ⊥
+
+-- each frame on the network does
+abbrev pub CarriesRanges : World → Type 0
+CarriesRanges w = AllByRecursion (λ copy. RangeIn w.units copy.birth copy.content) w.copies
+
+-- all segments of a buffer are of one unit that was made
+abbrev pub HoldsOneUnit : List unit.Unit → Buffer Packet → Type 0
+HoldsOneUnit units buffer =
+    (u : unit.Unit) × Contains units u × AllByRecursion (λ (arrival : Arrival Packet). arrival.carried.unit ≡ u) buffer.kept
+
+-- each buffer of each system does
+abbrev pub HoldsUnitsApart : World → Type 0
+HoldsUnitsApart w = AllByRecursion (λ system. AllByRecursion (HoldsOneUnit w.units) system.buffers) w.systems
+
+-- of two units of one maker with one identifier the later was made so much later
+abbrev pub Rests : ℕ → (earlier later : unit.Unit) → Type 0
+Rests reuse earlier later =
+    earlier.maker ≡ later.maker → (identifier : ℕ) → earlier.identifier ≡ Some identifier → later.identifier ≡ Some identifier
+    → earlier.made + reuse ≤ later.made
+
+abbrev pub IdentifiersRest : ℕ → World → Type 0
+IdentifiersRest reuse w = AllPairs (Rests reuse) w.units
 
 -- no segment of a unit meets another unit's in a buffer
 abbrev pub NoInterference : List Line → Type 0

@@ -1,5 +1,5 @@
 -- Each move keeps the world sound, and so does each series of moves.
-use Rattle.std.proofs.Common.{ℕ, List, [], ◌∷◌, ◌++◌, ◌+◌, ◌≤◌, refl, arith}
+use Rattle.std.proofs.Common.{◌≡◌, ℕ, List, [], ◌∷◌, ◌++◌, ◌+◌, ◌≤◌, refl, arith}
 use Rattle.std.specs.Prelude.{slice_get, Option, None, Some}
 use Rattle.std.specs.List.{AllByRecursion}
 use Rattle.scenario.specs.Scenario.{Plan, IsFit, octets_of}
@@ -7,11 +7,18 @@ use Rattle.scenario.specs.declared.event.Event.{Event}
 use Rattle.scenario.specs.declared.event.Event.TheVariants.{Send, Deliver, Settle, Lose, Tick, Restart}
 use Rattle.scenario.specs.declared.event.Move.{Move}
 use Rattle.scenario.specs.declared.event.Move.TheVariants.{One, SettleOne, LoseOne, TickOne}
-use Rattle.clnp_machine.specs.System.{IsRestarted}
-use Rattle.clnp_network.specs.World.{World, after, event_happens, comes, deliver, settle_one, lose_one, tick_one, first_world}
+use Rattle.clnp_machine.specs.Unit as unit
+use Rattle.clnp_machine.specs.Unit.{Packet}
+use Rattle.clnp_machine.specs.Content.{Content, Labelled, Unlabelled}
+use Rattle.clnp_machine.specs.System.{SystemState, IsRestarted}
+use Rattle.clnp_machine.specs.Steps.{IsRangeOf}
+use Rattle.clnp_machine.proofs.Lists.{AllByRecursion-implies, all_at}
+use Rattle.reassembly.specs.Arrival.{Arrival}
+use Rattle.reassembly.specs.Buffer.{Buffer}
+use Rattle.clnp_network.specs.World.{World, Copy, after, event_happens, comes, deliver, settle_one, lose_one, tick_one, first_world}
 use Rattle.clnp_network.specs.Run.{Entry, entries_of, moves_made, run, world_after}
-use Rattle.clnp_network.specs.Safe.{AsksFor, IsSend, EachWasSent, IsHonest, NoInterference}
-use Rattle.clnp_safety.specs.Invariant.{WorldIsSound}
+use Rattle.clnp_network.specs.Safe.{AsksFor, CarriesRanges, EachWasSent, HoldsOneUnit, HoldsUnitsApart, IdentifiersRest, IsHonest, IsSend, NoInterference, RangeIn}
+use Rattle.clnp_safety.specs.Invariant.{BufferIsSound, Carries, CopyIsSound, IsBornWithUnit, IsOfUnit, WorldIsSound}
 use Rattle.clnp_safety.proofs.Moves.{MoveIsSound, sound_at_clock, kept_is_sound, nothing_is_sound}
 use Rattle.clnp_safety.proofs.Settles.{settle_one_is_sound, deliver_is_sound, lose_one_is_sound, restarted_is_sound}
 use Rattle.clnp_safety.proofs.Ticks.{tick_one_is_sound}
@@ -61,6 +68,13 @@ module _ (plan : Plan) (fit : IsFit plan) where
       let this = move_is_sound past w h move in
       (this.apart, moves_are_apart moves (past ++ record { move = move; lines = (after plan w move).lines } ∷ []) (after plan w move).world this.world)
 
+  -- a world that moves lead to is sound beside some past
+  moves_are_sound : (moves : List Move) (past : List Entry) (w : World) → WorldIsSound plan past w
+      → (later : List Entry) × WorldIsSound plan later (world_after plan w moves)
+  moves_are_sound [] past w h = (past, h)
+  moves_are_sound (move ∷ moves) past w h =
+      moves_are_sound moves (past ++ record { move = move; lines = (after plan w move).lines } ∷ []) (after plan w move).world (move_is_sound past w h move).world
+
 pub each_was_sent : (plan : Plan) → IsFit plan → (moves : List Move) → EachWasSent plan [] (entries_of plan (first_world plan) moves)
 each_was_sent plan fit moves = moves_are_honest plan fit moves [] (first_world plan) (first_world_is_sound plan)
 
@@ -70,3 +84,30 @@ run_is_honest plan fit = each_was_sent plan fit (moves_made plan)
 pub none_interferes : (plan : Plan) → IsFit plan → (moves : List Move)
     → AllByRecursion (λ (entry : Entry). NoInterference entry.lines) (entries_of plan (first_world plan) moves)
 none_interferes plan fit moves = moves_are_apart plan fit moves [] (first_world plan) (first_world_is_sound plan)
+
+-- What is so of each world of a run.
+
+range_in : (units : List unit.Unit) (birth : ℕ) (content : Content) → Carries (IsRangeOf units) content → IsBornWithUnit birth content → RangeIn units birth content
+range_in units birth (Labelled packet following) carries born = (carries.0, carries.1, born)
+range_in units birth (Unlabelled octets) carries born = absurd carries
+
+pub ranges_are_carried : (plan : Plan) → IsFit plan → (moves : List Move) → CarriesRanges (world_after plan (first_world plan) moves)
+ranges_are_carried plan fit moves =
+    let w = world_after plan (first_world plan) moves in
+    AllByRecursion-implies (CopyIsSound w.units) (λ (copy : Copy). RangeIn w.units copy.birth copy.content)
+    (λ copy h. range_in w.units copy.birth copy.content h.carries h.birth) w.copies
+    (moves_are_sound plan fit moves [] (first_world plan) (first_world_is_sound plan)).1.copies
+
+one_unit : (plan : Plan) (units : List unit.Unit) (buffer : Buffer Packet) → BufferIsSound plan units buffer → HoldsOneUnit units buffer
+one_unit plan units buffer h =
+    (h.unit, h.made, AllByRecursion-implies (IsOfUnit units h.unit) (λ (arrival : Arrival Packet). arrival.carried.unit ≡ h.unit) (λ arrival of. of.unit) buffer.kept h.kept)
+
+pub units_are_held_apart : (plan : Plan) → IsFit plan → (moves : List Move) → HoldsUnitsApart (world_after plan (first_world plan) moves)
+units_are_held_apart plan fit moves =
+    let w = world_after plan (first_world plan) moves in
+    let sound = (moves_are_sound plan fit moves [] (first_world plan) (first_world_is_sound plan)).1 in
+    all_at (λ (system : SystemState). AllByRecursion (HoldsOneUnit w.units) system.buffers) w.systems
+    (λ place s there. AllByRecursion-implies (BufferIsSound plan w.units) (HoldsOneUnit w.units) (one_unit plan w.units) s.buffers (sound.systems.each place s there).buffers)
+
+pub identifiers_rest : (plan : Plan) → IsFit plan → (moves : List Move) → IdentifiersRest plan.limits.reuse (world_after plan (first_world plan) moves)
+identifiers_rest plan fit moves = (moves_are_sound plan fit moves [] (first_world plan) (first_world_is_sound plan)).1.made.rest

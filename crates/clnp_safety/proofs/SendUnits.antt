@@ -10,7 +10,8 @@ use Rattle.clnp_machine.specs.Unit.{DeclaredAt}
 use Rattle.clnp_machine.specs.System.{SystemState}
 use Rattle.clnp_machine.specs.Local.{with_use, makes}
 use Rattle.clnp_network.specs.Run.{Entry}
-use Rattle.clnp_safety.specs.Invariant.{Owns, UnitIsSound, UnitsAreSound, Rests, EachRests, AreUsesUntil, IsInUses, BufferIsSound, SystemIsSound}
+use Rattle.clnp_network.specs.Safe.{Rests}
+use Rattle.clnp_safety.specs.Invariant.{Owns, UnitIsSound, UnitsAreSound, EachRests, AreUsesUntil, IsInUses, BufferIsSound, SystemIsSound}
 use Rattle.clnp_safety.proofs.Units.{buffer_later}
 use Rattle.clnp_machine.proofs.Lists.{AllByRecursion-implies}
 use Rattle.clnp_safety.proofs.Uses.{made_long_ago, uses_after, used_before, used_now}

@@ -13,7 +13,8 @@ use Rattle.clnp_machine.specs.Content.{Content, Labelled, Unlabelled}
 use Rattle.clnp_machine.specs.Steps.{IsRangeOf}
 use Rattle.std.specs.List.{AllByRecursion}
 use Rattle.clnp_network.specs.World.{Copy}
-use Rattle.clnp_safety.specs.Invariant.{Owns, CopyIsSound, Carries, IsOfUnit, BufferIsSound, Rests, EachRests}
+use Rattle.clnp_network.specs.Safe.{Rests}
+use Rattle.clnp_safety.specs.Invariant.{Owns, CopyIsSound, Carries, IsOfUnit, BufferIsSound, EachRests}
 use Rattle.clnp_machine.proofs.Lists.{AllByRecursion-implies}
 
 -- Pairs of elements.

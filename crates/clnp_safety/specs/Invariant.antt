@@ -17,7 +17,7 @@ use Rattle.clnp_machine.specs.Steps.{IsRangeOf}
 use Rattle.clnp_machine.specs.Local.{header_size, offered}
 use Rattle.clnp_network.specs.World.{World, Copy}
 use Rattle.clnp_network.specs.Run.{Entry}
-use Rattle.clnp_network.specs.Safe.{WasSent}
+use Rattle.clnp_network.specs.Safe.{Rests, WasSent}
 
 -- the system declared at a place has an address
 pub record Owns (plan : Plan) (place : ℕ) (address : List ℕ) : Type 0 where
@@ -36,11 +36,7 @@ pub record UnitIsSound (plan : Plan) (past : List Entry) (now : ℕ) (u : unit.U
   pub total : u.total ≡ header_size u + length u.octets
   pub made : u.made ≤ now
 
--- a later unit of the same maker and identifier was made so much later
-abbrev pub Rests : ℕ → unit.Unit → unit.Unit → Type 0
-Rests reuse u v =
-    u.maker ≡ v.maker → (identifier : ℕ) → u.identifier ≡ Some identifier → v.identifier ≡ Some identifier → u.made + reuse ≤ v.made
-
+-- each unit rests behind those before it
 abbrev pub EachRests : ℕ → List unit.Unit → Type 0
 EachRests reuse units = AllPairs (Rests reuse) units
 

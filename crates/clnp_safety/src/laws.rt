@@ -5,7 +5,7 @@ ghost use Rattle.scenario.specs.Scenario.{Plan, IsFit};
 ghost use Rattle.scenario.specs.declared.event.Move.{Move};
 ghost use Rattle.clnp_network.specs.World.{World, after, first_world};
 ghost use Rattle.clnp_network.specs.Run.{Entry, entries_of, full_weight, run, text_of, until_full, world_after};
-ghost use Rattle.clnp_network.specs.Safe.{IsSend, NoRefusal, EachWasSent, IsHonest, IsWithinBudgets, IsWithinLifetimes, NoInterference};
+ghost use Rattle.clnp_network.specs.Safe.{CarriesRanges, EachWasSent, HoldsUnitsApart, IdentifiersRest, IsHonest, IsSend, NoRefusal, IsWithinBudgets, IsWithinLifetimes, NoInterference};
 ghost use Rattle.clnp_safety.specs.Growth.{IsFront, IsFullAt, IsWithinCopies};
 ghost use Rattle.clnp_safety.specs.Owners.{IsByOwner};
 ghost use Rattle.clnp_safety.specs.Refusal.{LeavesNothing};
@@ -23,6 +23,23 @@ pub fn handed_up_was_sent()
 pub fn no_unit_meets_another()
     ensures { (plan : Plan) → IsFit plan → (moves : List Move)
         → AllByRecursion (λ (entry : Entry). NoInterference entry.lines) (entries_of plan (first_world plan) moves) }
+{}
+
+/// Each frame of a run carries a range of a unit that was made, however often it was cut, and
+/// nothing behind its PDU.
+pub fn ranges_of_units_are_carried()
+    ensures { (plan : Plan) → IsFit plan → (moves : List Move) → CarriesRanges (world_after plan (first_world plan) moves) }
+{}
+
+/// Each reassembly buffer of a run holds segments of one unit that was made.
+pub fn units_are_held_apart()
+    ensures { (plan : Plan) → IsFit plan → (moves : List Move) → HoldsUnitsApart (world_after plan (first_world plan) moves) }
+{}
+
+/// Two units that one system made with one identifier were made at least so long apart as an
+/// identifier rests.
+pub fn identifiers_rest()
+    ensures { (plan : Plan) → IsFit plan → (moves : List Move) → IdentifiersRest plan.limits.reuse (world_after plan (first_world plan) moves) }
 {}
 
 /// No system ever holds more octets for reassembly than its budget, whatever the moves of whatever

@@ -1,0 +1,5 @@
+use Rattle.clnp_safety.proofs.Runs.{identifiers_rest}
+use Rattle.clnp_safety.proofs.laws.identifiers_rest.Goals as goal
+
+pub returns : goal.returns
+returns c = identifiers_rest
