@@ -8,7 +8,7 @@ use Rattle.pdu_header.specs.Spelling.{pair_of}
 use Rattle.pdu_header.specs.declared.kind.Kind.{Kind}
 use Rattle.pdu_header.specs.declared.kind.Kind.TheVariants.{Dt, Er, Erq, Erp}
 use Rattle.clnp_plan.specs.declared.note.Note.{Note}
-use Rattle.clnp_plan.specs.declared.note.Note.TheVariants.{Sent, Refused, Got, Discard, Held, Repeat, Crowded, Many, NoSlot, Interference, Expired, NotMine, Restart}
+use Rattle.clnp_plan.specs.declared.note.Note.TheVariants.{Sent, Refused, Got, Discard, Held, Repeat, Crowded, Many, NoSlot, Interference, Expired, NotMine, Alien, Restart}
 use Rattle.clnp_plan.specs.declared.note.Why.{Why}
 use Rattle.clnp_plan.specs.declared.note.Why.TheVariants as why
 
@@ -60,6 +60,7 @@ note_text (NoSlot live) = codes "noslot " ++ decimal live
 note_text (Interference id) = codes "interference " ++ hex_text (pair_of id)
 note_text (Expired id held) = codes "expired " ++ (hex_text (pair_of id) ++ (codes " " ++ decimal held))
 note_text (NotMine to) = codes "notmine " ++ hex_text to
+note_text Alien = codes "alien"
 note_text Restart = codes "restart"
 
 -- A line: what a system notes, a frame that it transmits as a copy with a number on a port, a copy that isn't there

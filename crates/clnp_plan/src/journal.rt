@@ -201,6 +201,7 @@ fn push_note(alloc: Global, note: &Note, line: &mut Vec<u8>) -> Result<(), NoMem
             push(b"notmine ", line)?;
             push_hex(alloc, to.as_bytes(), line)
         }
+        Note::Alien => push(b"alien", line),
         Note::Restart => push(b"restart", line),
     }
 }

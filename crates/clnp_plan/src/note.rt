@@ -81,6 +81,8 @@ pub enum Note {
     NotMine {
         to: Address,
     },
+    /// A frame came that begins neither as a CLNP PDU nor as an ES-IS PDU.
+    Alien,
     /// The system was restarted.
     Restart,
 }
