@@ -21,7 +21,7 @@ use Rattle.clnp_machine.specs.Unit as unit
 use Rattle.clnp_machine.specs.Unit.{DeclaredAt, Packet}
 use Rattle.clnp_machine.specs.Content.{Content, Labelled, Unlabelled}
 use Rattle.clnp_machine.specs.System.{SystemState, Input, AsksToSend, FrameComes, MomentComes, IsRestarted, table_limits}
-use Rattle.clnp_machine.specs.Local.{Action, Sends, Tells, Deed, tells, and_then, made_in, is_own, is_all, offered, takes_in, offer, receive, refusal, unit_of, makes, unless_refused, discard_first, gives_up, give_up_due, expire, at_moment, tick}
+use Rattle.clnp_machine.specs.Local.{Action, Sends, Tells, Deed, tells, and_then, made_in, is_own, is_all, offered, takes_in, offer, receive, refusal, unit_of, makes, unless_refused, with_use, discard_first, gives_up, give_up_due, expire, at_moment, tick}
 use Rattle.clnp_machine.specs.Step.{passes_by, packet_comes, discard_refused, octets_come, content_comes, restart, deed, step}
 use Rattle.clnp_machine.specs.Steps.{AsksNothing, StaysItself, moment_after, IsFresh, IsWithinBudget}
 use Rattle.clnp_machine.proofs.Lists.{AllByRecursion-implies}
@@ -35,7 +35,7 @@ pub record Goes (s t : SystemState) : Type 0 where
   pub budget : IsWithinBudget s → IsWithinBudget t
 
 goes-nowhere : (s : SystemState) → Goes s s
-goes-nowhere s = record { itself = record { place = refl; configuration = refl; hold = refl }; moment = refl; budget = λ h. h }
+goes-nowhere s = record { itself = record { place = refl; configuration = refl; hold = refl; reuse = refl }; moment = refl; budget = λ h. h }
 
 goes-on : (s t u : SystemState) → Goes s t → Goes t u → Goes s u
 goes-on s t u h k = record {
@@ -43,6 +43,7 @@ goes-on s t u h k = record {
     place = k.itself.place ∙ h.itself.place;
     configuration = k.itself.configuration ∙ h.itself.configuration;
     hold = k.itself.hold ∙ h.itself.hold;
+    reuse = k.itself.reuse ∙ h.itself.reuse;
   };
   moment = k.moment ∙ h.moment;
   budget = λ within. k.budget (h.budget within);
@@ -72,8 +73,12 @@ does_tell s told = record { goes = goes-nowhere s; makes_none = refl }
 
 -- Units that are asked for.
 
+reuse_kept : (s : SystemState) (identifier : Option ℕ) → (with_use s identifier).reuse ≡ s.identifiers.reuse
+reuse_kept s None = refl
+reuse_kept s (Some identifier) = refl
+
 stays : (s : SystemState) (u : unit.Unit) (refused : Option Note) → Goes s (unless_refused refused s u).after
-stays s u None = record { itself = record { place = refl; configuration = refl; hold = refl }; moment = refl; budget = λ h. h }
+stays s u None = record { itself = record { place = refl; configuration = refl; hold = refl; reuse = reuse_kept s u.identifier }; moment = refl; budget = λ h. h }
 stays s u (Some told) = goes-nowhere s
 
 asked_is_fresh : (s : SystemState) (kind : Kind) (from to octets : List ℕ) (ask : Ask) (refused : Option Note)
@@ -82,6 +87,7 @@ asked_is_fresh : (s : SystemState) (kind : Kind) (from to octets : List ℕ) (as
 asked_is_fresh s kind from to octets ask None e = (
   record {
     maker = refl;
+    number = refl;
     made = refl;
     source = (allowed s (unit_of s kind from to octets ask) e).own;
     first_position = refl;
@@ -95,7 +101,7 @@ asked_is_fresh s kind from to octets ask (Some told) e = tt
 
 with_buffers : (s : SystemState) (buffers : List (Buffer Packet)) → (IsWithinBudget s → held buffers ≤ s.configuration.settings.budget)
     → Goes s (record s { buffers = buffers })
-with_buffers s buffers within = record { itself = record { place = refl; configuration = refl; hold = refl }; moment = refl; budget = within }
+with_buffers s buffers within = record { itself = record { place = refl; configuration = refl; hold = refl; reuse = refl }; moment = refl; budget = within }
 
 does_take_in : (s : SystemState) (frame : Content) (arrival : Arrival Packet) (kept : List (Buffer Packet)) (answer : Answer)
     → (IsWithinBudget s → held kept ≤ s.configuration.settings.budget) → Does s (takes_in s frame arrival kept answer)
@@ -184,7 +190,7 @@ begun s input = at_moment (moment_after s input) s
 
 does_restart : (s : SystemState) → Does s (restart s)
 does_restart s = record {
-  goes = record { itself = record { place = refl; configuration = refl; hold = refl }; moment = refl; budget = λ h. omega arith };
+  goes = record { itself = record { place = refl; configuration = refl; hold = refl; reuse = refl }; moment = refl; budget = λ h. omega arith };
   makes_none = refl;
 }
 
@@ -210,7 +216,7 @@ none_fresh s now (u ∷ units) none = absurd (cc)
 pub step_itself : (s : SystemState) (input : Input) → StaysItself s (step s input).after
 step_itself s input =
     let went = (goes s input).itself in
-    record { place = went.place; configuration = went.configuration; hold = went.hold }
+    record { place = went.place; configuration = went.configuration; hold = went.hold; reuse = went.reuse }
 
 pub step_moment : (s : SystemState) (input : Input) → (step s input).after.moment ≡ moment_after s input
 step_moment s input = (goes s input).moment

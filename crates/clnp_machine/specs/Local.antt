@@ -8,6 +8,7 @@ use Rattle.pdu_header.specs.Spelling.{header_length, type_code}
 use Rattle.reassembly.specs.Arrival.{Arrival}
 use Rattle.reassembly.specs.Buffer as buffer
 use Rattle.reassembly.specs.Buffer.{Answer, Buffer}
+use Rattle.clnp_plan.specs.Configuration.{SystemConfiguration}
 use Rattle.clnp_plan.specs.declared.ask.Ask.{Ask}
 use Rattle.clnp_plan.specs.declared.note.Note.{Note}
 use Rattle.clnp_plan.specs.declared.note.Note.TheVariants as note
@@ -46,9 +47,13 @@ made_in [] = []
 made_in (Sends u ∷ actions) = u ∷ made_in actions
 made_in (Tells told ∷ actions) = made_in actions
 
+-- whether an address is one of those of a configuration
+abbrev pub has_address : SystemConfiguration → List ℕ → Bool
+has_address configuration address = list_any (λ own. bytes_eq own address) configuration.addresses
+
 -- whether an address is one of the system's
 abbrev pub is_own : SystemState → List ℕ → Bool
-is_own s address = list_any (λ own. bytes_eq own address) s.configuration.addresses
+is_own s address = has_address s.configuration address
 
 -- What comes of PDUs.
 

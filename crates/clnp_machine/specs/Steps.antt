@@ -1,14 +1,16 @@
 -- What is so of every step of a system.
-use Rattle.std.specs.Prelude.{◌≡◌, ℕ, ◌+◌, ◌≤◌, ◌⊎◌, true, List, length, Option, None, Some}
+use Rattle.std.specs.Prelude.{◌≡◌, ℕ, ◌+◌, ◌≤◌, ◌⊎◌, true, List, ◌++◌, length, Option, None, Some}
 use Rattle.std.specs.List.{AllByRecursion, Contains, flat_map}
+use Rattle.pdu_header.specs.Grammar.{BeginsWith}
+use Rattle.pdu_header.specs.Value.{PduValue}
 use Rattle.reassembly.specs.Arrival.{Arrival}
 use Rattle.reassembly.specs.Buffer.{Buffer, held}
 use Rattle.clnp_plan.specs.declared.note.Note.{Note}
 use Rattle.clnp_plan.specs.declared.note.Note.TheVariants.{Got}
 use Rattle.clnp_machine.specs.Unit as unit
-use Rattle.clnp_machine.specs.Unit.{DeclaredAt, Packet, IsCarriable}
+use Rattle.clnp_machine.specs.Unit.{DeclaredAt, Packet, IsCarriable, value_of, wire}
 use Rattle.clnp_machine.specs.Content.{Content, Labelled, Unlabelled}
-use Rattle.clnp_machine.specs.System.{SystemState, Input, AsksToSend, FrameComes, MomentComes, IsRestarted, Output, Transmits, Notes, Effect}
+use Rattle.clnp_machine.specs.System.{SystemState, next_number, Input, AsksToSend, FrameComes, MomentComes, IsRestarted, Output, Transmits, Notes, Effect}
 use Rattle.clnp_machine.specs.Local.{is_own, header_size, offered}
 
 -- it is still the same system, at its place, of the same configuration
@@ -16,6 +18,7 @@ pub record StaysItself (before after : SystemState) : Type 0 where
   pub place : after.place ≡ before.place
   pub configuration : after.configuration ≡ before.configuration
   pub hold : after.hold ≡ before.hold
+  pub reuse : after.identifiers.reuse ≡ before.identifiers.reuse
 
 -- a system's moment is the last that came to it
 abbrev pub moment_after : SystemState → Input → ℕ
@@ -29,9 +32,10 @@ abbrev pub AsksNothing : Input → Type 0
 AsksNothing (AsksToSend from to octets ask) = ⊥
 AsksNothing _ = Unit {0}
 
--- a unit that a system makes at a moment: of a source that is its own, and all that its initial PDU carries
+-- a unit that a system makes at a moment: its next one, of a source that is its own, and all that its initial PDU carries
 pub record IsFresh (s : SystemState) (now : ℕ) (u : unit.Unit) : Type 0 where
   pub maker : u.maker ≡ DeclaredAt s.place
+  pub number : u.number ≡ next_number s
   pub made : u.made ≡ now
   pub source : is_own s u.source ≡ true
   pub first_position : u.first_position ≡ 0
@@ -86,3 +90,9 @@ WasKeptOrComes s input arrival = Contains (segments_in s.buffers) arrival ⊎ Co
 abbrev pub AreCarriable : Option (List Packet) → Type 0
 AreCarriable None = Unit {0}
 AreCarriable (Some packets) = AllByRecursion IsCarriable packets
+
+-- the PDU at the front of a frame that carries a packet is the packet's, and what follows it is what follows the packet
+abbrev pub CarriesOnePacket : Type 0
+CarriesOnePacket =
+    (p : Packet) (following : List ℕ) (v : PduValue) (rest : List ℕ) → IsCarriable p → BeginsWith (wire p ++ following) v rest
+    → (v ≡ value_of p) × (rest ≡ following)

@@ -8,7 +8,7 @@ ghost use Rattle.clnp_machine.specs.Unit.{Packet, IsCarriable, cut, value_of};
 ghost use Rattle.clnp_machine.specs.Content.{IsCarried, content_of, frame_of};
 ghost use Rattle.clnp_machine.specs.System.{SystemState, Input};
 ghost use Rattle.clnp_machine.specs.Step.{step};
-ghost use Rattle.clnp_machine.specs.Steps.{AreCarriable, AsksNothing, IsForOwn, IsFresh, IsWithinBudget, NotesOnly, SendsRangesOf, StaysItself, WasKeptOrComes, moment_after, segments_in};
+ghost use Rattle.clnp_machine.specs.Steps.{AreCarriable, AsksNothing, CarriesOnePacket, IsForOwn, IsFresh, IsWithinBudget, NotesOnly, SendsRangesOf, StaysItself, WasKeptOrComes, moment_after, segments_in};
 
 /// A step leaves a system at its place with its configuration, at the moment that came last.
 pub fn a_system_stays_itself()
@@ -57,3 +57,11 @@ pub fn octets_have_a_content()
     ensures frame { (number moment : ℕ) (octets : List ℕ) → IsBytes octets → frame_of (content_of number moment octets) ≡ octets }
     ensures carried { (number moment : ℕ) (octets : List ℕ) → IsBytes octets → IsCarried (content_of number moment octets) }
 {}
+
+/// The PDU at the front of a frame that carries a packet is the packet's, and what follows it is what
+/// follows the packet.
+pub fn a_frame_carries_one_packet()
+    ensures { CarriesOnePacket }
+{
+    pdu_header::laws::one_value();
+}

@@ -84,7 +84,7 @@ module _ (plan : Plan) (fit : IsFit plan) (past : List Entry) (move : Move) (w :
 
       fresh : AllByRecursion (IsFresh s w.clock) (this ∷ [])
       fresh = (
-        record { maker = refl; made = sound.moment; source = (allowed s this none).own; first_position = refl; total = total_is s Dt from to octets ask },
+        record { maker = refl; number = refl; made = sound.moment; source = (allowed s this none).own; first_position = refl; total = total_is s Dt from to octets ask },
         tt,
       )
 
