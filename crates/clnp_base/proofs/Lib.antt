@@ -1,4 +1,5 @@
 pub mod Decimals
+pub mod Hexadecimal
 pub mod Pouring
 pub mod Reading
 pub mod Supplying

@@ -1,4 +1,5 @@
 pub mod Cuts
+pub mod Hexadecimal
 pub mod Left
 pub mod Memory
 pub mod Streams

@@ -3,6 +3,7 @@
 
 mod memory;
 mod octets;
+mod put;
 mod standard;
 mod streams;
 #[cfg(test)]
@@ -11,6 +12,7 @@ mod text;
 
 pub use memory::{MemSink, MemSource};
 pub use octets::{NoMemory, Octets};
+pub use put::{HexFault, push, push_decimal, push_hex, push_unhex};
 pub use standard::{StdSink, StdSource};
 pub use streams::{Failed, ReadStop, Sink, Source, read_all, write_all};
 pub use text::{LineIter, WordIter, decimal, lines, next_line, next_word, words};
