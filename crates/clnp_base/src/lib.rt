@@ -1,6 +1,7 @@
 //! Octets, their sources and sinks, and the lines, words and decimals of a text.
 #![tactic(auto)]
 
+mod inline;
 mod memory;
 mod octets;
 mod put;
@@ -10,6 +11,7 @@ mod streams;
 mod tests;
 mod text;
 
+pub use inline::InlineOctets;
 pub use memory::{MemSink, MemSource};
 pub use octets::{NoMemory, Octets};
 pub use put::{HexFault, push, push_decimal, push_hex, push_unhex};
