@@ -1,6 +1,5 @@
 -- Octets that lie at the front of a fixed number of cells, with zeros behind them.
 use Rattle.std.specs.Prelude.{◌≡◌, ℕ, ◌-◌, ◌≤◌, ◌++◌, List, length, take, drop, replicate}
-use Rattle.std.proofs.Common.{◌∙◌}
 use Rattle.std.proofs.lemmas.List.{length-take-le, take-append-drop}
 
 -- the first `len` of `most` cells are the octets, and the others are 0
