@@ -1,4 +1,13 @@
+pub mod Choices
 pub mod Decimals
+pub mod Filters
+pub mod Found
+pub mod Hexadecimal
+pub mod Laid
+pub mod Lists
+pub mod Maps
 pub mod Pouring
+pub mod Ranges
 pub mod Reading
+pub mod Sums
 pub mod Supplying

@@ -4,7 +4,7 @@ use Rattle.std.proofs.lemmas.List.{take_all}
 use Rattle.std.proofs.Math.Seq.{take-add}
 use Rattle.std.proofs.KnownBytes.{Consumes-nil, Consumes-trans, Consumes-kept, Appends-trans}
 use Rattle.std.specs.Io.KnownBytes.{Appends, Consumes, IsAtEnd, Keeps}
-use Rattle.clnp_base.specs.Streams.{Pours, PoursCount, PoursAll, PoursMore}
+use Rattle.clnp_base.specs.Streams.{Pours, PoursCount, PoursAll, PoursMore, PoursWithin}
 
 -- what came so far, with room for so many more octets
 pub record Poured (room limit : ℕ) (old new : List ℕ) (before after : Option (List ℕ)) : Type 0 where
@@ -48,6 +48,21 @@ Poured-kept room limit o m n a b c p e k = record {
   came = p.pours.came;
   appended = e ∙ p.pours.appended;
   consumed = Consumes-kept a b c p.pours.came p.pours.consumed k;
+}
+
+pub Poured-within : (room limit : ℕ) (o m n : List ℕ) (a b c : Option (List ℕ)) → Poured room limit o m a b → n ≡ m → Keeps b c → PoursWithin limit o n a c
+Poured-within room limit o m n a b c p e k = record {
+  pours = record { came = p.pours.came; appended = e ∙ p.pours.appended; consumed = Consumes-kept a b c p.pours.came p.pours.consumed k };
+  within = omega (arith, p.counted);
+}
+
+pub Poured-end : (limit : ℕ) (o n : List ℕ) (a c : Option (List ℕ)) → PoursAll limit o n a c → PoursWithin limit o n a c
+Poured-end limit o n a c p = record { pours = p.pours; within = p.within }
+
+pub Within-none : (limit : ℕ) (o : List ℕ) (a : Option (List ℕ)) → PoursWithin limit o o a a
+Within-none limit o a = record {
+  pours = record { came = []; appended = sym (append-nil o); consumed = Consumes-nil a };
+  within = omega arith;
 }
 
 pub poured_by : (o m n cs : List ℕ) (k : ℕ) (a b : Option (List ℕ)) → m ≡ o → n ≡ m ++ cs → Consumes a b cs → k ≡ length cs → PoursCount k o n a b

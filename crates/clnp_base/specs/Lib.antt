@@ -1,5 +1,6 @@
 pub mod Cuts
-pub mod Left
+pub mod Hexadecimal
+pub mod Inline
 pub mod Memory
 pub mod Streams
 pub mod Text

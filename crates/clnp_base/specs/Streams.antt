@@ -27,6 +27,11 @@ pub record PoursAll (limit : ℕ) (old new : List ℕ) (before after : Option (L
   pub within : length pours.came ≤ limit
   pub at_end : IsAtEnd after
 
+-- At most `limit` octets came.
+pub record PoursWithin (limit : ℕ) (old new : List ℕ) (before after : Option (List ℕ)) : Type 0 where
+  pub pours : Pours old new before after
+  pub within : length pours.came ≤ limit
+
 -- More than `limit` octets came: one more, and no further one.
 pub record PoursMore (limit : ℕ) (old new : List ℕ) (before after : Option (List ℕ)) : Type 0 where
   pub pours : Pours old new before after

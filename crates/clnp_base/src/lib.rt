@@ -1,16 +1,20 @@
 //! Octets, their sources and sinks, and the lines, words and decimals of a text.
 #![tactic(auto)]
 
+mod inline;
 mod memory;
 mod octets;
+mod put;
 mod standard;
 mod streams;
 #[cfg(test)]
 mod tests;
 mod text;
 
+pub use inline::InlineOctets;
 pub use memory::{MemSink, MemSource};
 pub use octets::{NoMemory, Octets};
+pub use put::{HexFault, push, push_decimal, push_hex, push_unhex};
 pub use standard::{StdSink, StdSource};
 pub use streams::{Failed, ReadStop, Sink, Source, read_all, write_all};
 pub use text::{LineIter, WordIter, decimal, lines, next_line, next_word, words};

@@ -65,6 +65,7 @@ impl Source for MemSource {
 
         ensures fails { IsErr result ↔ IsTrue (read_fails self.old) }
         ensures after_fault { OnErr result (self.new ≡ after_failed_read self.old) }
+        ensures buffer { OnErr result (buf.new ≡ buf.old) }
         ensures amount { IfOk result (λ came. came ≡ read_amount self.old (length buf.new)) }
         ensures after { IfOk result (λ came. self.new ≡ after_read self.old came) }
     {

@@ -1,3 +1,8 @@
+ghost use Rattle.std.specs.Prelude.{◌≡◌, ◌<◌, ◌≤◌, length, IfOk, OnErr, OnOk};
+ghost use Rattle.std.specs.Io.{ReadsAtMost, WritesAtMost};
+ghost use Rattle.std.specs.Io.KnownBytes.{ReadConsumes, WriteAppends};
+ghost use Rattle.clnp_base.specs.Streams.{Rose};
+
 use crate::streams::{Failed, Sink, Source};
 use std::io::{Read, Write};
 
@@ -10,8 +15,6 @@ pub struct StdSource<R> {
 }
 
 impl<R: Read> StdSource<R> {
-    ghost use Rattle.std.specs.Prelude.{◌≡◌};
-
     /// A source over this reader.
     pub fn new(reader: R) -> StdSource<R>
         ensures left { ⟦<StdSource<R> as Source>⟧.left result ≡ R.remaining reader }
@@ -34,7 +37,14 @@ impl<R: Read> Source for StdSource<R> {
 
     ghost faults = { λ s. s.faults };
 
-    fn read(&mut self, buf: &mut [u8]) -> Result<usize, Failed> {
+    /// Fails where the reader fails, and raises the count of faults in no other call.
+    fn read(&mut self, buf: &mut [u8]) -> Result<usize, Failed>
+        ensures bound { ReadsAtMost result buf.new }
+        ensures octets { ReadConsumes (R.remaining self.old.reader) (R.remaining self.new.reader) result buf.new }
+        ensures later { self.old.faults ≤ self.new.faults }
+        ensures failed { OnErr result (Rose self.old.faults self.new.faults) }
+        ensures count { OnOk result (self.new.faults ≡ self.old.faults) }
+    {
         match self.reader.read(buf) {
             Ok(came) => Ok(came),
             Err(_) => {
@@ -54,8 +64,6 @@ pub struct StdSink<W> {
 }
 
 impl<W: Write> StdSink<W> {
-    ghost use Rattle.std.specs.Prelude.{◌≡◌};
-
     /// A sink over this writer.
     pub fn new(writer: W) -> StdSink<W>
         ensures written { ⟦<StdSink<W> as Sink>⟧.written result ≡ W.contents writer }
@@ -78,7 +86,16 @@ impl<W: Write> Sink for StdSink<W> {
 
     ghost faults = { λ s. s.faults };
 
-    fn write(&mut self, piece: &[u8]) -> Result<usize, Failed> {
+    /// Fails where the writer fails or takes nothing of a piece with octets, and raises the count of
+    /// faults in no other call.
+    fn write(&mut self, piece: &[u8]) -> Result<usize, Failed>
+        ensures bound { WritesAtMost result piece.now }
+        ensures some { IfOk result (λ taken. 0 < length piece.now → 0 < taken) }
+        ensures octets { WriteAppends (W.contents self.old.writer) (W.contents self.new.writer) result piece.now }
+        ensures later { self.old.faults ≤ self.new.faults }
+        ensures failed { OnErr result (Rose self.old.faults self.new.faults) }
+        ensures count { OnOk result (self.new.faults ≡ self.old.faults) }
+    {
         match self.writer.write(piece) {
             Ok(taken) if taken > 0 || piece.is_empty() => Ok(taken),
             _ => {

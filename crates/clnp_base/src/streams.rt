@@ -1,7 +1,7 @@
 ghost use Rattle.std.specs.Prelude.{◌≡◌, ◌≢◌, ◌<◌, ◌≤◌, ℕ, List, Option, length, IfOk, OnOk, OnErr};
 ghost use Rattle.std.specs.Io.{ReadsAtMost, WritesAtMost};
 ghost use Rattle.std.specs.Io.KnownBytes.{Appends, IsAtEnd, Keeps, ReadConsumes, WriteAppends};
-ghost use Rattle.clnp_base.specs.Streams.{Rose, Pours, PoursCount, PoursAll, PoursMore, AppendsFront};
+ghost use Rattle.clnp_base.specs.Streams.{Rose, Pours, PoursCount, PoursAll, PoursMore, PoursWithin, AppendsFront};
 
 use std::alloc::Global;
 
@@ -84,6 +84,8 @@ pub fn read_all<S: Source>(
     ensures done { OnOk result (PoursAll limit into.old.items into.new.items
         (S.left source.old) (S.left source.new)) }
     ensures too_long { result ≡ Err ReadStop.TooLong → PoursMore limit into.old.items into.new.items
+        (S.left source.old) (S.left source.new) }
+    ensures within { result ≢ Err ReadStop.TooLong → PoursWithin limit into.old.items into.new.items
         (S.left source.old) (S.left source.new) }
     ensures failed { result ≡ Err ReadStop.Failed → Rose (S.faults source.old) (S.faults source.new) }
 {

@@ -1,7 +1,8 @@
 ghost use Rattle.std.specs.Prelude.{◌≡◌, ◌<◌, ◌≤◌, ◌∷◌, [], length, false, MatchOption, IfSome};
 ghost use Rattle.clnp_base.specs.Text.{lines_of, words_of, begins_with, decimal_of};
-ghost use Rattle.clnp_base.specs.Left.{lines_left, words_left};
 ghost use Rattle.clnp_base.specs.Cuts.{index_of, without_return, with_digit};
+
+use std::marker::Model;
 
 /// The first line of a text and what follows it, where the text has a line.
 ///
@@ -40,7 +41,7 @@ pub fn next_word(line: &[u8]) -> Option<(&[u8], &[u8])>
 
 /// The lines of a text, in order.
 pub fn lines(text: &[u8]) -> LineIter<'_>
-    ensures lines { lines_left result ≡ lines_of text.now }
+    ensures lines { result ≡ lines_of text.now }
     ensures few { length (lines_of text.now) ≤ length text.now }
 {
     LineIter { text }
@@ -48,33 +49,50 @@ pub fn lines(text: &[u8]) -> LineIter<'_>
 
 /// The words of a line, in order.
 pub fn words(line: &[u8]) -> WordIter<'_>
-    ensures words { words_left result ≡ words_of line.now }
+    ensures words { result ≡ words_of line.now }
     ensures few { length (words_of line.now) ≤ length line.now }
 {
     WordIter { line }
 }
 
 /// The lines of a text that are left.
-#[derive(Clone, Copy, Debug)]
+#[derive(Debug, Drop)]
 pub struct LineIter<'a> {
     text: &'a [u8],
 }
 
+impl<'a> Model for LineIter<'a> {
+    ghost use Rattle.std.specs.Prelude.{List, ℕ};
+    ghost use Rattle.clnp_base.specs.Text.{lines_of};
+
+    ghost Value = { List (List ℕ) };
+
+    ghost view = { λ it. lines_of it.text.now };
+}
+
 /// The words of a line that are left.
-#[derive(Clone, Copy, Debug)]
+#[derive(Debug, Drop)]
 pub struct WordIter<'a> {
     line: &'a [u8],
 }
 
+impl<'a> Model for WordIter<'a> {
+    ghost use Rattle.std.specs.Prelude.{List, ℕ};
+    ghost use Rattle.clnp_base.specs.Text.{words_of};
+
+    ghost Value = { List (List ℕ) };
+
+    ghost view = { λ it. words_of it.line.now };
+}
+
 impl<'a> Iterator for LineIter<'a> {
     ghost use Rattle.std.specs.Iterator.{YieldsFirstRef, item_count};
-    ghost use Rattle.clnp_base.specs.Left.{lines_left};
 
     type Item = &'a [u8];
 
-    ghost next_gives = { YieldsFirstRef lines_left };
+    ghost next_gives = { YieldsFirstRef (λ left. left) };
 
-    ghost remaining = { item_count lines_left };
+    ghost remaining = { item_count (λ left. left) };
 
     fn next(&mut self) -> Option<&'a [u8]> {
         let (line, rest) = next_line(self.text)?;
@@ -85,13 +103,12 @@ impl<'a> Iterator for LineIter<'a> {
 
 impl<'a> Iterator for WordIter<'a> {
     ghost use Rattle.std.specs.Iterator.{YieldsFirstRef, item_count};
-    ghost use Rattle.clnp_base.specs.Left.{words_left};
 
     type Item = &'a [u8];
 
-    ghost next_gives = { YieldsFirstRef words_left };
+    ghost next_gives = { YieldsFirstRef (λ left. left) };
 
-    ghost remaining = { item_count words_left };
+    ghost remaining = { item_count (λ left. left) };
 
     fn next(&mut self) -> Option<&'a [u8]> {
         let (word, rest) = next_word(self.line)?;

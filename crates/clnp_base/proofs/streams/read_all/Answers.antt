@@ -1,5 +1,5 @@
 use Rattle.std.proofs.Common.{arith, length-take, refl}
-use Rattle.clnp_base.proofs.Pouring.{Poured-none, Poured-more, Poured-all, Poured-beyond, Poured-kept}
+use Rattle.clnp_base.proofs.Pouring.{Poured-none, Poured-more, Poured-all, Poured-beyond, Poured-end, Poured-kept, Poured-within, Within-none}
 use Rattle.clnp_base.proofs.streams.read_all.Goals as goal
 
 pub loop-chunk-init : goal.loop-chunk-init
@@ -37,3 +37,15 @@ loop-chunk-preserved g c = (
       c.loop-chunk.invariant.0 c.in_ok-came.ensures.pours c.if-came-room.false,
   omega (arith, c.loop-chunk.invariant.1, c.in_ok-came.ensures.later),
 )
+
+pub returns-in_err-came-clause-within : goal.returns-in_err-came-clause-within
+returns-in_err-came-clause-within g c = λ _.
+    Poured-within c.loop-chunk.room c.args.limit c.args.into.now.items c.loop-chunk.into.items c.read_chunk.new.into.items
+    (g.S.Source.left c.args.source.now) (g.S.Source.left c.loop-chunk.source) (g.S.Source.left c.read_chunk.new.source)
+    c.loop-chunk.invariant.0 c.in_err-came.ensures.kept c.in_err-came.ensures.left
+
+pub returns-then-came-eq0-clause-within : goal.returns-then-came-eq0-clause-within
+returns-then-came-eq0-clause-within g c = λ _. Poured-end _ _ _ _ _ (returns-then-came-eq0-clause-done g c)
+
+pub returns-in_default-clause-within : goal.returns-in_default-clause-within
+returns-in_default-clause-within g c = λ _. Within-none c.args.limit c.args.into.now.items (g.S.Source.left c.args.source.now)

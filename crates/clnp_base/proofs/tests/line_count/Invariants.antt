@@ -1,8 +1,7 @@
 use Rattle.std.proofs.Common.{◌≡◌, ◌≤◌, ◌+◌, length}
 use Rattle.clnp_base.specs.Text.{lines_of}
-use Rattle.clnp_base.specs.Left.{lines_left}
 use Rattle.clnp_base.proofs.tests.line_count.Given as goal
 
 abbrev pub invariant-loop-line : goal.invariant-loop-line
 invariant-loop-line l =
-    (l.count + length (lines_left l._line-iterator) ≡ length (lines_of l.text)) × (length (lines_of l.text) ≤ length l.text)
+    (l.count + length l._line-iterator ≡ length (lines_of l.text)) × (length (lines_of l.text) ≤ length l.text)

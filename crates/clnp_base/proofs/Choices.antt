@@ -1,0 +1,62 @@
+-- Tests, choices and options.
+use Rattle.std.proofs.Common.{◌≡◌, ◌≢◌, ℕ, ◌≤◌, ◌==◌, nat_lt, Bool, true, false, Option, None, Some, is_some, if◌then◌else◌, refl, sym, arith}
+use Rattle.std.specs.Option.{option_or}
+use Rattle.std.proofs.lemmas.Bool.Decides.{nat_tests}
+
+pub same_true : (b c : Bool) → (b ≡ true → c ≡ true) → (c ≡ true → b ≡ true) → b ≡ c
+same_true true c f g = sym (f refl)
+same_true false true f g = g refl
+same_true false false f g = refl
+
+pub is_equal : (a b : ℕ) → (a == b) ≡ true → a ≡ b
+is_equal a b e = grind (arith, nat_tests)
+
+pub not_equal : (a b : ℕ) → (a == b) ≡ false → a ≢ b
+not_equal a b e = grind (arith, nat_tests)
+
+pub equal_is : (a b : ℕ) → a ≡ b → (a == b) ≡ true
+equal_is a b e = grind (arith, nat_tests)
+
+pub not_below : (a b : ℕ) → nat_lt a b ≡ false → b ≤ a
+not_below a b e = grind (arith, nat_tests)
+
+pub below_not : (a b : ℕ) → b ≤ a → nat_lt a b ≡ false
+below_not a b le = grind (arith, nat_tests)
+
+module _ {A : Type 0} where
+  -- a choice that gives nothing
+  pub if_none : (b : Bool) (answer : A) (rest : Option A) → (if b then Some answer else rest) ≡ None → (b ≡ false) × (rest ≡ None)
+  if_none true answer rest e = absurd (cc)
+  if_none false answer rest e = (refl, e)
+
+  pub none_if : (b : Bool) (answer : A) (rest : Option A) → b ≡ false → rest ≡ None → (if b then Some answer else rest) ≡ None
+  none_if b answer rest e h = rw e h
+
+  -- an option that isn't some value is none
+  pub none_since : (option : Option A) → ((x : A) → option ≡ Some x → ⊥) → option ≡ None
+  none_since None not = refl
+  none_since (Some x) not = absurd (not x refl)
+
+  pub option_or-some : (a b : Option A) (x : A) → a ≡ Some x → option_or a b ≡ Some x
+  option_or-some a b x e = rw e refl
+
+  pub option_or-none : (a b o : Option A) → a ≡ None → b ≡ o → option_or a b ≡ o
+  option_or-none a b o e h = rw e h
+
+  pub option_or-parts : (a b : Option A) → option_or a b ≡ None → (a ≡ None) × (b ≡ None)
+  option_or-parts None b h = (refl, h)
+  option_or-parts (Some x) b h = absurd (cc)
+
+  pub option_or-nothing : (a : Option A) → a ≡ option_or a None
+  option_or-nothing None = refl
+  option_or-nothing (Some x) = refl
+
+  pub option_or-assoc : (a b c : Option A) → option_or (option_or a b) c ≡ option_or a (option_or b c)
+  option_or-assoc None b c = refl
+  option_or-assoc (Some x) b c = refl
+
+  pub is_some-option_or : (a b c d : Option A) → is_some a ≡ is_some b → is_some c ≡ is_some d → is_some (option_or a c) ≡ is_some (option_or b d)
+  is_some-option_or None None c d h k = k
+  is_some-option_or (Some x) (Some y) c d h k = refl
+  is_some-option_or (Some x) None c d h k = cc
+  is_some-option_or None (Some y) c d h k = cc

@@ -1,0 +1,108 @@
+//! Octets that lie in the value itself.
+ghost use Rattle.std.specs.Prelude.{◌≡◌, ◌+◌, ◌<◌, ◌≤◌, ◌++◌, [], length, take, drop, nat_eq};
+ghost use Rattle.std.specs.List.{slice_set};
+ghost use Rattle.std.specs.Cmp.{partial_equiv_from_equiv};
+ghost use Rattle.std.specs.Cmp.Lexicographic.{nat_list_eq_equiv, pointwise};
+
+use std::marker::Model;
+
+/// Up to `MOST` octets in order, at most 255, which contracts see as their list. The cells past them are 0, so that one
+/// list of octets is one value.
+#[derive(Clone, Copy, Debug)]
+pub struct InlineOctets<const MOST: usize> {
+    len: u8,
+    cells: [u8; MOST],
+}
+
+impl<const MOST: usize> Model for InlineOctets<MOST> {
+    ghost use Rattle.std.specs.Prelude.{◌-◌, ◌++◌, List, ℕ, length, take, replicate};
+    ghost use Rattle.clnp_base.specs.Inline.{IsInline, len_again, cells_again};
+
+    ghost Value = { List ℕ };
+
+    ghost view = { λ s. take s.len s.cells };
+
+    ghost invariant = { λ s. IsInline MOST s.len s.cells };
+
+    ghost inverse = { λ v. record { len = length v; cells = v ++ replicate (MOST - length v) 0 } };
+
+    ghost inverse_ok = { λ s h i. record {
+      len = len_again MOST s.len s.cells h i;
+      cells = cells_again MOST s.len s.cells h i;
+    } };
+}
+
+impl<const MOST: usize> InlineOctets<MOST> {
+    /// No octets.
+    pub fn new() -> Self
+        requires { MOST ≤ 255 }
+        ensures { result ≡ [] }
+    {
+        InlineOctets {
+            len: 0,
+            cells: [0; MOST],
+        }
+    }
+
+    /// A copy of these octets.
+    pub fn of(octets: &[u8]) -> Self
+        requires few { MOST ≤ 255 }
+        requires within { length octets.now ≤ MOST }
+        ensures { result ≡ octets.now }
+    {
+        let mut cells = [0; MOST];
+        lay(&mut cells, 0, octets);
+        InlineOctets {
+            len: octets.len() as u8,
+            cells,
+        }
+    }
+
+    /// The octets.
+    pub fn as_bytes(&self) -> &[u8]
+        ensures octets { result.now ≡ self.now }
+        ensures few { length result.now ≤ MOST }
+    {
+        &self.cells[..self.len as usize]
+    }
+
+    /// Puts a piece behind the octets.
+    pub fn push(&mut self, piece: &[u8])
+        requires { length self.old + length piece.now ≤ MOST }
+        ensures { self.new ≡ self.old ++ piece.now }
+    {
+        let start = self.len as usize;
+        lay(&mut self.cells, start, piece);
+        self.len = (start + piece.len()) as u8;
+    }
+
+    /// Puts an octet in the place of the one at this index.
+    pub fn set(&mut self, index: usize, octet: u8)
+        requires { index < length self.old }
+        ensures { self.new ≡ slice_set self.old index octet }
+    {
+        self.cells[index] = octet;
+    }
+}
+
+impl<const MOST: usize> PartialEq for InlineOctets<MOST> {
+    ghost eq = { λ a b. pointwise nat_eq a b };
+
+    ghost laws = { partial_equiv_from_equiv nat_list_eq_equiv };
+
+    fn eq(&self, other: &Self) -> bool {
+        self.as_bytes() == other.as_bytes()
+    }
+}
+
+impl<const MOST: usize> Eq for InlineOctets<MOST> {
+    ghost laws = { nat_list_eq_equiv };
+}
+
+/// Writes the piece over the cells from an index on.
+fn lay(cells: &mut [u8], at: usize, piece: &[u8])
+    requires { at + length piece.now ≤ length cells.old }
+    ensures { cells.new ≡ take at cells.old ++ (piece.now ++ drop (at + length piece.now) cells.old) }
+{
+    cells[at..at + piece.len()].copy_from_slice(piece);
+}
