@@ -1,4 +1,6 @@
 -- What each deed of a system leaves: the same system at the same moment, within its budget, and units that are fresh.
+use Rattle.clnp_base.proofs.Lists.{AllByRecursion-implies}
+use Rattle.clnp_base.proofs.Sums.{sum_filter}
 use Rattle.std.proofs.Common.{◌≡◌, ◌∙◌, sym, ap, subst, refl, ℕ, zero, suc, ◌≤◌, Bool, true, false, not, List, [], ◌∷◌, ◌++◌, length, Option, None, Some, arith}
 use Rattle.std.specs.Prelude.{◌==◌, if◌then◌else◌}
 use Rattle.std.specs.List.{AllByRecursion, list_any}
@@ -10,7 +12,6 @@ use Rattle.clnp_options.specs.declared.judge.OptionRefusal.{OptionRefusal}
 use Rattle.reassembly.specs.Arrival.{Arrival, same_key}
 use Rattle.reassembly.specs.Buffer as buffer
 use Rattle.reassembly.specs.Buffer.{Answer, Buffer, held, size_of}
-use Rattle.reassembly.proofs.LawSums.{sum_filter}
 use Rattle.clnp_plan.specs.Configuration.{SystemConfiguration}
 use Rattle.clnp_plan.specs.declared.ask.Ask.{Ask}
 use Rattle.clnp_plan.specs.declared.config.Role.{Role}
@@ -24,7 +25,6 @@ use Rattle.clnp_machine.specs.System.{SystemState, Input, AsksToSend, FrameComes
 use Rattle.clnp_machine.specs.Local.{Action, Sends, Tells, Deed, tells, and_then, made_in, is_own, is_all, offered, takes_in, offer, receive, refusal, unit_of, makes, unless_refused, with_use, discard_first, gives_up, give_up_due, expire, at_moment, tick}
 use Rattle.clnp_machine.specs.Step.{passes_by, packet_comes, discard_refused, octets_come, content_comes, restart, deed, step}
 use Rattle.clnp_machine.specs.Steps.{AsksNothing, StaysItself, moment_after, IsFresh, IsWithinBudget}
-use Rattle.clnp_machine.proofs.Lists.{AllByRecursion-implies}
 use Rattle.clnp_machine.proofs.Kept.{held_after}
 use Rattle.clnp_machine.proofs.Making.{allowed, total_is}
 

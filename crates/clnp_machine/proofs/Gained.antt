@@ -1,4 +1,6 @@
 -- A system keeps only segments that it kept before, or that come in a frame.
+use Rattle.clnp_base.proofs.Filters.{AllByRecursion-filter}
+use Rattle.clnp_base.proofs.Lists.{AllByRecursion-append, AllByRecursion-implies, AllByRecursion-push}
 use Rattle.std.proofs.Common.{◌≡◌, refl, ℕ, zero, suc, inl, inr, Bool, true, false, not, List, [], ◌∷◌, ◌++◌, Option, None, Some, Contains, length, get_or, arith}
 use Rattle.std.specs.Prelude.{◌==◌, if◌then◌else◌}
 use Rattle.std.specs.List.{AllByRecursion, flat_map}
@@ -9,7 +11,6 @@ use Rattle.pdu_header.specs.declared.kind.Kind.TheVariants.{Dt}
 use Rattle.reassembly.specs.Arrival.{Arrival, same_key}
 use Rattle.reassembly.specs.Buffer as buffer
 use Rattle.reassembly.specs.Buffer.{Answer, Buffer}
-use Rattle.reassembly.proofs.Removing.{AllByRecursion-filter}
 use Rattle.clnp_plan.specs.declared.config.Role.{Role}
 use Rattle.clnp_plan.specs.declared.config.Role.TheVariants.{Host, Router}
 use Rattle.clnp_plan.specs.declared.note.Note.{Note}
@@ -20,8 +21,6 @@ use Rattle.clnp_machine.specs.System.{SystemState, Input, AsksToSend, FrameComes
 use Rattle.clnp_machine.specs.Local.{Deed, is_own, is_all, offered, takes_in, offer, receive, refusal, unit_of, unless_refused, discard_first, gives_up, give_up_due, expire, at_moment}
 use Rattle.clnp_machine.specs.Step.{passes_by, packet_comes, discard_refused, octets_come, content_comes, deed, step}
 use Rattle.clnp_machine.specs.Steps.{segments_in, CarriesSegment, ComesWith, WasKeptOrComes}
-use Rattle.clnp_machine.proofs.Lists.{AllByRecursion-append, AllByRecursion-implies}
-use Rattle.clnp_machine.proofs.BufferLists.{all_push}
 use Rattle.clnp_machine.proofs.Kept.{KeptIn, all_after}
 
 module _ (P : Arrival Packet → Type 0) where
@@ -48,7 +47,7 @@ module _ (P : Arrival Packet → Type 0) where
   keeps_offer s frame arrival h comes =
       keeps_take_in s frame arrival (buffer.after (table_limits s) s.moment arrival s.buffers) (buffer.answer (table_limits s) s.moment arrival s.buffers) h
       (all_after (table_limits s) s.moment arrival (λ (b : Buffer Packet). AllByRecursion P b.kept)
-      (record { new = (comes, tt); more = λ b all same. all_push P b.kept arrival all comes }) s.buffers h)
+      (record { new = (comes, tt); more = λ b all same. AllByRecursion-push P b.kept arrival all comes }) s.buffers h)
 
   keeps_one_of : (test : Bool) (first second : Deed) → KeepsOnly first.after.buffers → KeepsOnly second.after.buffers
       → KeepsOnly (if test then first else second).after.buffers

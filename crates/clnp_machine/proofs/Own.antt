@@ -1,4 +1,5 @@
 -- A system hands up only what is for its own addresses.
+use Rattle.clnp_base.proofs.Lists.{AllByRecursion-append, AllByRecursion-implies}
 use Rattle.std.proofs.Common.{◌≡◌, ℕ, zero, suc, List, [], ◌∷◌, ◌++◌, length, map, Bool, true, false, refl, subst}
 use Rattle.std.specs.Prelude.{◌==◌, if◌then◌else◌, not, nat_lt, Option, None, Some, option_map}
 use Rattle.std.specs.List.{AllByRecursion, flat_map, list_any}
@@ -24,7 +25,6 @@ use Rattle.clnp_machine.specs.System.{SystemState, Input, AsksToSend, FrameComes
 use Rattle.clnp_machine.specs.Local.{Action, Sends, Tells, Deed, and_then, tells, hand_up, is_own, is_all, most_octets, header_size, not_drawn_note, identifier_refusal, offered, takes_in, offer, receive, refusal, unit_of, unless_refused, discard_first, gives_up, give_up_due, expire, at_moment}
 use Rattle.clnp_machine.specs.Step.{Hop, next_hop, mtu_at, transmissions, first_sent, outputs_of, effect_of, passes_by, packet_comes, discard_refused, octets_come, content_comes, deed, step}
 use Rattle.clnp_machine.specs.Steps.{IsForOwn, NotesOnly}
-use Rattle.clnp_machine.proofs.Lists.{AllByRecursion-append, AllByRecursion-implies}
 
 -- a note that neither hands up nor refuses, and tells of no interference
 abbrev pub NoteIsQuiet : Note → Type 0

@@ -1,4 +1,5 @@
 -- What a system sends of a unit that it makes: ranges of it.
+use Rattle.clnp_base.proofs.Lists.{AllByRecursion-append, AllByRecursion-implies}
 use Rattle.std.proofs.Common.{◌≡◌, ℕ, zero, suc, ◌+◌, ◌-◌, ◌*◌, ◌/◌, ◌<◌, ◌≤◌, Bool, true, false, List, [], ◌∷◌, ◌++◌, length, map, Option, None, Some, nat_le, option_map, if◌then◌else◌, Contains, refl, subst, arith}
 use Rattle.std.specs.List.{AllByRecursion, flat_map, range_with_len}
 use Rattle.std.proofs.lemmas.List.Elements.{Contains-append_left, Contains-append_right}
@@ -10,7 +11,6 @@ use Rattle.clnp_machine.specs.System.{SystemState, Input, Output, Transmits, Not
 use Rattle.clnp_machine.specs.Local.{Action, Sends, Tells, header_size, made_in}
 use Rattle.clnp_machine.specs.Step.{Hop, next_hop, mtu_at, transmissions, first_sent, outputs_of, deed, step}
 use Rattle.clnp_machine.specs.Steps.{IsRangeOf, SendsRangesOf}
-use Rattle.clnp_machine.proofs.Lists.{AllByRecursion-append, AllByRecursion-implies}
 
 -- a range of so many places
 abbrev Within : ℕ → Range → Type 0

@@ -1,4 +1,7 @@
 -- What comes of a frame that carries a sound packet.
+use Rattle.clnp_base.proofs.Filters.{AllByRecursion-filter}
+use Rattle.clnp_base.proofs.Lists.{AllByRecursion-both, AllByRecursion-find, AllByRecursion-implies}
+use Rattle.clnp_base.proofs.Sums.{sum_filter}
 use Rattle.std.proofs.Common.{◌≡◌, ◌∙◌, sym, ap, subst, refl, ℕ, ◌+◌, ◌<◌, ◌≤◌, inl, inr, Bool, true, false, not, List, [], length, Option, None, Some, arith}
 use Rattle.std.specs.Prelude.{◌==◌, ◌&&◌, ◌||◌, is_none}
 use Rattle.std.specs.List.{AllByRecursion}
@@ -8,9 +11,7 @@ use Rattle.scenario.specs.Scenario.{IsFit, Plan}
 use Rattle.reassembly.specs.Arrival.{data_len, same_key}
 use Rattle.reassembly.specs.Buffer as buffer
 use Rattle.reassembly.specs.Buffer.{Answer, Buffer, buffer_of, held, is_whole, size_of, with_kept, without}
-use Rattle.reassembly.proofs.LawSums.{sum_filter}
 use Rattle.reassembly.proofs.Ready.{made_whole, none_whole-after}
-use Rattle.reassembly.proofs.Removing.{AllByRecursion-filter, AllByRecursion-find, AllByRecursion-weaker}
 use Rattle.reassembly.proofs.SameKey.{same_from_same_key}
 use Rattle.clnp_machine.specs.Unit as unit
 use Rattle.clnp_machine.specs.Unit.{Packet, value_of}
@@ -26,7 +27,6 @@ use Rattle.clnp_network.specs.Safe.{WasSent}
 use Rattle.clnp_network.specs.Run.{Entry}
 use Rattle.clnp_safety.specs.Invariant.{BufferIsSound, Carries, IsBornWithUnit, NoteIsHonest, SystemIsSound, UnitsAreSound}
 use Rattle.clnp_safety.proofs.Lines.{sent_alike}
-use Rattle.clnp_machine.proofs.BufferLists.{all_both}
 use Rattle.clnp_machine.proofs.Kept.{TellsNoInterference, all_after, answer_without, find_passes, held_after, others_with_kept}
 use Rattle.clnp_safety.proofs.BufferOffers.{IsLive, clashes_with_none, stay_live, unit_sound}
 use Rattle.clnp_safety.proofs.Joining.{joined_is_unit, whole_is_unit}
@@ -48,7 +48,7 @@ module _ (plan : Plan) (past : List Entry) (units : List unit.Unit) (now place :
 
   pub live_buffers : (s : SystemState) → SystemIsSound plan units now place s → AllByRecursion (IsLive plan units now) s.buffers
   live_buffers s sound =
-      all_both (BufferIsSound plan units) (λ (b : Buffer Packet). now < b.deadline) (IsLive plan units now) (λ b h k. record { sound = h; lasts = k })
+      AllByRecursion-both (BufferIsSound plan units) (λ (b : Buffer Packet). now < b.deadline) (IsLive plan units now) (λ b h k. record { sound = h; lasts = k })
       s.buffers sound.buffers sound.not_due
 
   pub with_buffers : (s : SystemState) (buffers : List (Buffer Packet)) → SystemIsSound plan units now place s → AllByRecursion (IsLive plan units now) buffers
@@ -62,8 +62,8 @@ module _ (plan : Plan) (past : List Entry) (units : List unit.Unit) (now place :
     reuse = sound.reuse;
     uses = sound.uses;
     used = sound.used;
-    buffers = AllByRecursion-weaker (IsLive plan units now) (BufferIsSound plan units) (λ b h. h.sound) buffers live;
-    not_due = AllByRecursion-weaker (IsLive plan units now) (λ (b : Buffer Packet). now < b.deadline) (λ b h. h.lasts) buffers live;
+    buffers = AllByRecursion-implies (IsLive plan units now) (BufferIsSound plan units) (λ b h. h.sound) buffers live;
+    not_due = AllByRecursion-implies (IsLive plan units now) (λ (b : Buffer Packet). now < b.deadline) (λ b h. h.lasts) buffers live;
     not_whole = not_whole;
     budget = within;
   }

@@ -1,4 +1,5 @@
 -- A host is asked to send: a unit is made, or refused, and none is handed up.
+use Rattle.clnp_base.proofs.Lists.{AllByRecursion-append}
 use Rattle.std.proofs.Common.{◌≡◌, ℕ, List, [], ◌∷◌, ◌++◌, length, refl, arith}
 use Rattle.std.specs.Prelude.{slice_get, Option, None, Some}
 use Rattle.std.specs.List.{AllByRecursion}
@@ -13,7 +14,6 @@ use Rattle.clnp_machine.specs.System.{SystemState, AsksToSend}
 use Rattle.clnp_machine.specs.Local.{refusal, unit_of, makes, unless_refused}
 use Rattle.clnp_machine.specs.Step.{effect_of, step}
 use Rattle.clnp_machine.specs.Steps.{IsFresh}
-use Rattle.clnp_machine.proofs.Lists.{AllByRecursion-append}
 use Rattle.clnp_machine.proofs.Making.{allowed, total_is}
 use Rattle.clnp_machine.proofs.Sent.{sends_ranges}
 use Rattle.clnp_machine.proofs.Own.{IsRefusal, NoteIsQuiet, outputs_note, refusal_refuses}

@@ -1,4 +1,5 @@
 -- Whatever the moves: packets meet the bound on hops and lifetime, and systems keep their budgets.
+use Rattle.clnp_base.proofs.Lists.{AllByRecursion-any, AllByRecursion-append, AllByRecursion-implies, AllByRecursion-slice_get}
 use Rattle.std.proofs.Common.{◌≡◌, ◌≤◌, ◌+◌, ℕ, zero, suc, List, [], ◌∷◌, ◌++◌, refl, ap, subst, ◌∙◌, sym, arith}
 use Rattle.std.specs.Prelude.{slice_get, slice_set, Option, None, Some}
 use Rattle.std.specs.List.{AllByRecursion}
@@ -14,7 +15,6 @@ use Rattle.clnp_machine.specs.Unit.{Packet}
 use Rattle.clnp_machine.specs.System.{SystemState, Input, Output, Transmits, Notes, Effect}
 use Rattle.clnp_machine.specs.Step.{step}
 use Rattle.clnp_machine.specs.Steps.{IsWithinBudget, SendsRangesOf}
-use Rattle.clnp_machine.proofs.Lists.{AllByRecursion-append, AllByRecursion-any, AllByRecursion-implies, AllByRecursion-slice_get}
 use Rattle.clnp_machine.proofs.Deeds.{step_budget}
 use Rattle.clnp_machine.proofs.Sent.{step_sends_ranges}
 use Rattle.clnp_network.specs.World.{World, Copy, copy_from, put_out, takes_effect, with_effect, states_from, first_world}

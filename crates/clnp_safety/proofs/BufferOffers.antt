@@ -1,4 +1,5 @@
 -- A segment that is offered belongs to the unit whose buffer has its key.
+use Rattle.clnp_base.proofs.Lists.{AllByRecursion-find, AllByRecursion-push}
 use Rattle.std.proofs.Common.{◌≡◌, ◌∙◌, sym, ap, subst, refl, ℕ, ◌+◌, ◌<◌, ◌≤◌, inl, inr, Bool, true, false, not, List, [], ◌∷◌, ◌++◌, Option, None, Some, arith}
 use Rattle.std.specs.Prelude.{◌==◌, ◌&&◌}
 use Rattle.std.specs.List.{AllByRecursion, Contains}
@@ -10,7 +11,6 @@ use Rattle.reassembly.specs.declared.segment.Shape.{Shape}
 use Rattle.reassembly.specs.declared.table.TableLimits.{TableLimits}
 use Rattle.reassembly.specs.Arrival.{same_key, same_shape}
 use Rattle.reassembly.specs.Buffer.{Buffer, buffer_of, clashes, opened_by}
-use Rattle.reassembly.proofs.Removing.{AllByRecursion-find}
 use Rattle.reassembly.proofs.SameKey.{same_from_same_key}
 use Rattle.clnp_machine.specs.Unit as unit
 use Rattle.clnp_machine.specs.Unit.{Packet, value_of}
@@ -18,7 +18,6 @@ use Rattle.clnp_machine.specs.Local.{header_size, identifier_in, offered}
 use Rattle.clnp_network.specs.Run.{Entry}
 use Rattle.clnp_safety.specs.Invariant.{BufferIsSound, IsOfUnit, Owns, UnitIsSound, UnitsAreSound}
 use Rattle.clnp_machine.specs.Steps.{IsRangeOf}
-use Rattle.clnp_machine.proofs.BufferLists.{all_push}
 use Rattle.clnp_safety.proofs.BufferUnits.{header_of_unit}
 use Rattle.clnp_safety.proofs.Units.{different_makers, same_unit}
 use Rattle.clnp_machine.proofs.Kept.{KeptIn, find_passes}
@@ -130,7 +129,7 @@ module _ (plan : Plan) (fit : IsFit plan) (past : List Entry) (now : ℕ) (units
         shape = live.sound.shape;
         opened = live.sound.opened;
         deadline = live.sound.deadline;
-        kept = all_push (IsOfUnit units live.sound.unit) buffer.kept (offered p []) live.sound.kept
+        kept = AllByRecursion-push (IsOfUnit units live.sound.unit) buffer.kept (offered p []) live.sound.kept
             (of_unit live.sound.unit (unit_in buffer live same));
       };
       lasts = live.lasts;

@@ -1,4 +1,5 @@
 -- A step of a system that is asked nothing keeps a world sound.
+use Rattle.clnp_base.proofs.Lists.{AllByRecursion-contains}
 use Rattle.std.proofs.Common.{◌≡◌, ◌≢◌, ◌∙◌, sym, ap, subst, refl, ℕ, List, [], ◌∷◌, ◌++◌, length}
 use Rattle.std.specs.Prelude.{slice_get, Some}
 use Rattle.std.specs.List.{AllByRecursion}
@@ -12,7 +13,6 @@ use Rattle.clnp_machine.specs.Unit.{Packet}
 use Rattle.clnp_machine.specs.System.{SystemState, Input, Output, Transmits, Notes, Effect}
 use Rattle.clnp_machine.specs.Step.{deed, step}
 use Rattle.clnp_machine.specs.Steps.{AsksNothing, IsFresh, IsRangeOf, NotesOnly, SendsRangesOf, moment_after}
-use Rattle.clnp_machine.proofs.Lists.{AllByRecursion-contains}
 use Rattle.clnp_machine.proofs.Deeds.{makes_none, step_fresh}
 use Rattle.clnp_machine.proofs.Sent.{step_sends_ranges, range_later}
 use Rattle.clnp_machine.proofs.Own.{TellsOnly, outputs_note}

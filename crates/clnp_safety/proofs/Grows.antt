@@ -1,4 +1,5 @@
 -- The copies of a world stay as a front of those after each move, and the cursor stays within them.
+use Rattle.clnp_base.proofs.Lists.{AllByRecursion-any}
 use Rattle.std.proofs.Common.{◌≡◌, ◌≤◌, ℕ, List, [], ◌∷◌, ◌++◌, ◌+◌, length, refl, sym, ap, ◌∙◌, arith, length-append, append_assoc}
 use Rattle.std.specs.Prelude.{slice_get, slice_set, Option, None, Some}
 use Rattle.std.specs.List.{range_with_len}
@@ -16,7 +17,6 @@ use Rattle.clnp_machine.specs.Step.{step}
 use Rattle.clnp_network.specs.World.{World, Copy, copy_from, put_out, with_effect, takes_effect, comes, frame_to, addressees_from, settle_copy, deliver, lose_copy, tick_each, tick_one, event_happens, after, first_world}
 use Rattle.clnp_network.specs.Run.{world_after}
 use Rattle.clnp_safety.specs.Growth.{IsFront, IsWithinCopies}
-use Rattle.clnp_machine.proofs.Lists.{AllByRecursion-any}
 use Rattle.clnp_safety.proofs.Lines.{AnyLine}
 use Rattle.clnp_safety.proofs.Steps.{Keeps, NotGivenIsFine, keeps-nothing, keeps-followed_by, keeps-put_all_out, keeps-comes_to, keeps-give_each, keeps-deliver}
 

@@ -1,4 +1,5 @@
 -- What lines say where each of their notes is honest, and lines of no refusal.
+use Rattle.clnp_base.proofs.Lists.{AllByRecursion-implies}
 use Rattle.std.proofs.Common.{◌≡◌, ℕ, List, [], ◌∷◌, inl, inr, subst}
 use Rattle.clnp_plan.specs.Journal.{Line, Noted}
 use Rattle.clnp_plan.specs.declared.note.Note.{Note}
@@ -7,7 +8,6 @@ use Rattle.scenario.specs.Scenario.{Plan}
 use Rattle.clnp_network.specs.Run.{Entry}
 use Rattle.clnp_network.specs.Safe.{HandsUp, NoRefusal, NoInterference, WasSent}
 use Rattle.std.specs.List.{AllByRecursion}
-use Rattle.clnp_machine.proofs.Lists.{AllByRecursion-implies}
 use Rattle.clnp_machine.proofs.Own.{NoteIsQuiet}
 use Rattle.clnp_safety.specs.Invariant.{NoteIsHonest}
 

@@ -1,4 +1,5 @@
 -- What the outputs of a system leave of a world, and what their lines are.
+use Rattle.clnp_base.proofs.Lists.{AllByRecursion-append, AllByRecursion-implies, set_each}
 use Rattle.std.proofs.Common.{◌≡◌, ◌≢◌, ℕ, List, ◌++◌, length, refl, ap, ◌∙◌, length-set}
 use Rattle.std.specs.Prelude.{slice_get, slice_set, Option, None, Some}
 use Rattle.nsap.specs.declared.target.Target.{Target}
@@ -11,7 +12,6 @@ use Rattle.clnp_machine.specs.System.{SystemState, Output, Transmits, Notes, Eff
 use Rattle.clnp_machine.specs.Steps.{IsRangeOf, NotesOnly}
 use Rattle.clnp_network.specs.World.{World, copy_from, put_out, with_effect, takes_effect}
 use Rattle.std.specs.List.{AllByRecursion}
-use Rattle.clnp_machine.proofs.Lists.{AllByRecursion-append, AllByRecursion-implies, set_each}
 use Rattle.clnp_safety.specs.Invariant.{CopyIsSound}
 use Rattle.clnp_safety.specs.Outputs.{OutputIsSound}
 use Rattle.clnp_safety.proofs.Units.{copies_later}

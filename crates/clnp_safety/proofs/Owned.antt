@@ -1,4 +1,5 @@
 -- Only a system that has the destination among its addresses hands up a unit.
+use Rattle.clnp_base.proofs.Lists.{AllByRecursion-implies, set_each}
 use Rattle.std.proofs.Common.{◌≡◌, ℕ, List, [], ◌∷◌, ◌+◌, length, true, refl, sym, ap, ◌∙◌, subst}
 use Rattle.std.specs.Prelude.{slice_get, slice_set, Option, None, Some}
 use Rattle.std.specs.List.{AllByRecursion, list_any, range_with_len}
@@ -20,7 +21,6 @@ use Rattle.clnp_machine.proofs.Deeds.{step_itself}
 use Rattle.clnp_machine.proofs.Own.{step_is_own}
 use Rattle.clnp_network.specs.World.{World, Copy, put_out, with_effect, takes_effect, comes, frame_to, addressees_from, settle_copy, lose_copy, tick_each, event_happens, after}
 use Rattle.clnp_safety.specs.Owners.{IsByOwner}
-use Rattle.clnp_machine.proofs.Lists.{AllByRecursion-implies, set_each}
 use Rattle.clnp_safety.proofs.EveryMove.{EachStepKeeps, keeps-move}
 use Rattle.clnp_safety.proofs.Steps.{Keeps, NotGivenIsFine, keeps-nothing, keeps-followed_by, keeps-put_all_out, keeps-comes_to, keeps-give_each, keeps-deliver}
 

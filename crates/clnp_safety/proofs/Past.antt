@@ -1,4 +1,5 @@
 -- What was sent stays sent, a last entry that sends counts, and units stay sound as time goes on.
+use Rattle.clnp_base.proofs.Lists.{AllByRecursion-implies}
 use Rattle.std.proofs.Common.{◌≤◌, ℕ, List, [], ◌∷◌, ◌++◌, inl, inr, subst, arith}
 use Rattle.std.proofs.lemmas.List.{append-nil}
 use Rattle.std.specs.List.{AllByRecursion}
@@ -7,7 +8,6 @@ use Rattle.clnp_machine.specs.Unit as unit
 use Rattle.clnp_network.specs.Run.{Entry}
 use Rattle.clnp_network.specs.Safe.{IsSend, NoRefusal, WasSent}
 use Rattle.clnp_safety.specs.Invariant.{UnitIsSound, UnitsAreSound}
-use Rattle.clnp_machine.proofs.Lists.{AllByRecursion-implies}
 
 sent_before : (plan : Plan) (past more : List Entry) (from to octets : List ℕ) → WasSent plan past from to octets → WasSent plan (past ++ more) from to octets
 sent_before plan [] more from to octets h = absurd h

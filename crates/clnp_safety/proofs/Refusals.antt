@@ -1,4 +1,5 @@
 -- A send that is refused leaves the world as it was.
+use Rattle.clnp_base.proofs.Lists.{slice_set-same}
 use Rattle.std.proofs.Common.{◌≡◌, ℕ, List, [], ◌++◌, ◌∙◌, refl, ap}
 use Rattle.std.specs.Prelude.{slice_get, Option, None, Some}
 use Rattle.pdu_header.specs.declared.kind.Kind.TheVariants.{Dt}
@@ -19,7 +20,6 @@ use Rattle.clnp_network.specs.World.{World, after, comes_to, takes_effect, event
 use Rattle.clnp_network.specs.Safe.{AsksFor, IsSend, NoRefusal}
 use Rattle.clnp_plan.specs.declared.note.Note.{Note}
 use Rattle.clnp_safety.specs.Refusal.{LeavesNothing}
-use Rattle.clnp_machine.proofs.Lists.{slice_set-same}
 use Rattle.clnp_safety.proofs.Lines.{quiet_lines_refuse_nothing}
 use Rattle.clnp_machine.proofs.Own.{IsRefusal, refusal_refuses}
 use Rattle.clnp_safety.proofs.Asked.{sending, lines_are_quiet}

@@ -1,4 +1,5 @@
 -- Each move keeps the world sound, and so does each series of moves.
+use Rattle.clnp_base.proofs.Lists.{AllByRecursion-from_places, AllByRecursion-implies}
 use Rattle.std.proofs.Common.{◌≡◌, ℕ, List, [], ◌∷◌, ◌++◌, ◌+◌, ◌≤◌, refl, arith}
 use Rattle.std.specs.Prelude.{slice_get, Option, None, Some}
 use Rattle.std.specs.List.{AllByRecursion}
@@ -12,7 +13,6 @@ use Rattle.clnp_machine.specs.Unit.{Packet}
 use Rattle.clnp_machine.specs.Content.{Content, Labelled, Unlabelled}
 use Rattle.clnp_machine.specs.System.{SystemState, IsRestarted}
 use Rattle.clnp_machine.specs.Steps.{IsRangeOf}
-use Rattle.clnp_machine.proofs.Lists.{AllByRecursion-implies, all_at}
 use Rattle.reassembly.specs.Arrival.{Arrival}
 use Rattle.reassembly.specs.Buffer.{Buffer}
 use Rattle.clnp_network.specs.World.{World, Copy, after, event_happens, comes, deliver, settle_one, lose_one, tick_one, first_world}
@@ -106,7 +106,7 @@ pub units_are_held_apart : (plan : Plan) → IsFit plan → (moves : List Move) 
 units_are_held_apart plan fit moves =
     let w = world_after plan (first_world plan) moves in
     let sound = (moves_are_sound plan fit moves [] (first_world plan) (first_world_is_sound plan)).1 in
-    all_at (λ (system : SystemState). AllByRecursion (HoldsOneUnit w.units) system.buffers) w.systems
+    AllByRecursion-from_places (λ (system : SystemState). AllByRecursion (HoldsOneUnit w.units) system.buffers) w.systems
     (λ place s there. AllByRecursion-implies (BufferIsSound plan w.units) (HoldsOneUnit w.units) (one_unit plan w.units) s.buffers (sound.systems.each place s there).buffers)
 
 pub identifiers_rest : (plan : Plan) → IsFit plan → (moves : List Move) → IdentifiersRest plan.limits.reuse (world_after plan (first_world plan) moves)

@@ -1,4 +1,5 @@
 -- What stays sound of units and systems where a system makes one more unit.
+use Rattle.clnp_base.proofs.Lists.{AllByRecursion-implies}
 use Rattle.std.proofs.Common.{◌≡◌, ℕ, ◌≢◌, inl, inr, List, [], ◌∷◌, ◌++◌, get_or, Option, None, Some, Contains, refl, sym, ap, subst, ◌∙◌, arith}
 use Rattle.std.specs.List.{AllByRecursion}
 use Rattle.std.proofs.lemmas.List.Elements.{All-from_recursion, All-contains, Contains-get_or, Contains-push_cases}
@@ -13,7 +14,6 @@ use Rattle.clnp_network.specs.Run.{Entry}
 use Rattle.clnp_network.specs.Safe.{Rests}
 use Rattle.clnp_safety.specs.Invariant.{Owns, UnitIsSound, UnitsAreSound, EachRests, AreUsesUntil, IsInUses, BufferIsSound, SystemIsSound}
 use Rattle.clnp_safety.proofs.Units.{buffer_later}
-use Rattle.clnp_machine.proofs.Lists.{AllByRecursion-implies}
 use Rattle.clnp_safety.proofs.Uses.{made_long_ago, uses_after, used_before, used_now}
 
 -- the identifier of a unit is the next one of the system, and may be drawn

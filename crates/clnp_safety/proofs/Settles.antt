@@ -1,4 +1,5 @@
 -- Settling, delivering and losing copies, and a restart.
+use Rattle.clnp_base.proofs.Lists.{AllByRecursion-slice_get}
 use Rattle.std.proofs.Common.{◌≡◌, ◌≤◌, ℕ, List, ◌+◌, ◌-◌, length, false, refl, sym, subst, arith}
 use Rattle.std.specs.Prelude.{slice_get, Option, None, Some}
 use Rattle.scenario.specs.Scenario.{Plan, IsFit}
@@ -6,7 +7,6 @@ use Rattle.clnp_plan.specs.Journal.{Line}
 use Rattle.clnp_machine.specs.Unit as unit
 use Rattle.clnp_machine.specs.System.{SystemState, IsRestarted}
 use Rattle.clnp_machine.specs.Step.{step}
-use Rattle.clnp_machine.proofs.Lists.{AllByRecursion-slice_get}
 use Rattle.clnp_network.specs.World.{World, Copy, Numbered, is_late, frame_to, takes_effect, comes, addressees_from, settle_copy, settle_one, deliver, lose_copy, lose_one}
 use Rattle.clnp_network.specs.Run.{Entry}
 use Rattle.clnp_safety.specs.Invariant.{CopyIsSound, NoteIsHonest, SystemIsSound}

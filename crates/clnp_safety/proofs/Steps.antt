@@ -1,4 +1,5 @@
 -- What the parts of a step keep of the worlds, and what their lines are.
+use Rattle.clnp_base.proofs.Lists.{AllByRecursion-append}
 use Rattle.std.proofs.Common.{◌≡◌, ℕ, ◌-◌, List, [], ◌∷◌, refl, Bool, true, false}
 use Rattle.std.specs.Prelude.{if◌then◌else◌, Option, None, Some, slice_get}
 use Rattle.clnp_plan.specs.Configuration.{SystemConfiguration}
@@ -8,7 +9,6 @@ use Rattle.clnp_machine.specs.System.{SystemState, Input, Output, Effect}
 use Rattle.clnp_machine.specs.Step.{step}
 use Rattle.clnp_network.specs.World.{World, Copy, Numbered, Step, nothing, writes, followed_by, put_out, put_all_out, takes_effect, comes_to, frame_to, is_late, give_to, give, give_each, is_void, is_addressee, deliver_to, deliver_at, deliver}
 use Rattle.std.specs.List.{AllByRecursion}
-use Rattle.clnp_machine.proofs.Lists.{AllByRecursion-append}
 
 -- K holds of the world after a step, and Q of each of its lines
 pub record Keeps (K : World → Type 0) (Q : Line → Type 0) (taken : Step) : Type 0 where

@@ -1,4 +1,7 @@
 -- When a moment comes, the buffers that are due are taken out, and what is left is sound.
+use Rattle.clnp_base.proofs.Filters.{AllByRecursion-filter, filter-fewer}
+use Rattle.clnp_base.proofs.Lists.{AllByRecursion-append, AllByRecursion-implies, AllByRecursion-no_element}
+use Rattle.clnp_base.proofs.Sums.{sum_filter}
 use Rattle.std.proofs.Common.{◌≡◌, sym, ap, subst, refl, ℕ, zero, suc, ◌+◌, ◌<◌, ◌≤◌, true, false, not, List, [], ◌∷◌, ◌++◌, length, Option, None, Some, arith}
 use Rattle.std.specs.Prelude.{slice_get}
 use Rattle.std.specs.List.{AllByRecursion, Contains, flat_map}
@@ -8,8 +11,6 @@ use Rattle.reassembly.specs.declared.segment.Key.{Key}
 use Rattle.reassembly.specs.Arrival.{same_key}
 use Rattle.reassembly.specs.Buffer.{Buffer, due, first_carried, held, is_whole, size_of, without}
 use Rattle.reassembly.proofs.LawDue.{due_is, none_due}
-use Rattle.reassembly.proofs.LawSums.{sum_filter}
-use Rattle.reassembly.proofs.Removing.{AllByRecursion-filter, AllByRecursion-weaker}
 use Rattle.reassembly.proofs.SameKey.{same_key-refl}
 use Rattle.clnp_machine.specs.Identifiers.{Use}
 use Rattle.clnp_machine.specs.Unit as unit
@@ -17,8 +18,6 @@ use Rattle.clnp_machine.specs.Unit.{DeclaredAt, Packet}
 use Rattle.clnp_machine.specs.System.{SystemState}
 use Rattle.clnp_machine.specs.Local.{at_moment, discard_first, expire, give_up_due, gives_up, tick}
 use Rattle.clnp_safety.specs.Invariant.{AreUsesUntil, BufferIsSound, IsInUses, SystemIsSound}
-use Rattle.clnp_machine.proofs.BufferLists.{all_of_none, fewer_pass}
-use Rattle.clnp_machine.proofs.Lists.{AllByRecursion-append}
 
 -- a buffer that is taken out leaves the others
 discard_first_after : (s : SystemState) (first : Option Packet) → (discard_first s first).after ≡ s
@@ -30,10 +29,10 @@ given_up_after s ended = discard_first_after (record s { buffers = without ended
 
 -- there are fewer without the due one
 without_fewer : (key : Key) (buffers before behind : List (Buffer Packet)) (ended : Buffer Packet) → buffers ≡ before ++ ended ∷ behind → ended.key ≡ key
-    → length (without key buffers) + 1 ≤ length buffers
+    → length (without key buffers) < length buffers
 without_fewer key buffers before behind ended stands is =
-    subst (λ l. length (without key l) + 1 ≤ length l) (sym stands)
-    (fewer_pass (λ (b : Buffer Packet). not (same_key b.key key)) before behind ended (ap not (subst (λ k. same_key ended.key k ≡ true) is (same_key-refl ended.key))))
+    subst (λ l. length (without key l) < length l) (sym stands)
+    (filter-fewer (λ (b : Buffer Packet). not (same_key b.key key)) before ended behind (ap not (subst (λ k. same_key ended.key k ≡ true) is (same_key-refl ended.key))))
 
 module _ (plan : Plan) (units : List unit.Unit) (now place : ℕ) where
   -- what is so of the system while buffers are taken out: that which makes it sound, but that some may be due
@@ -93,12 +92,12 @@ module _ (plan : Plan) (units : List unit.Unit) (now place : ℕ) where
       (rest left (omega arith) (taken_out s ended.key is))
 
   expire_is_sound : (most : ℕ) (s : SystemState) → length s.buffers ≤ most → IsExpiring s → SystemIsSound plan units now place (expire most s).after
-  expire_is_sound zero s few is = none_left s is (all_of_none (λ (b : Buffer Packet). now < b.deadline) s.buffers few)
+  expire_is_sound zero s few is = none_left s is (AllByRecursion-no_element (λ (b : Buffer Packet). now < b.deadline) s.buffers few)
   expire_is_sound (suc most) s few is = give_up_is_sound most s (due s.moment s.buffers) refl (omega arith) is (expire_is_sound most)
 
 uses_later : (before now : ℕ) (uses : List Use) → before ≤ now → AreUsesUntil before uses → AreUsesUntil now uses
 uses_later before now uses later are = record {
-  until_now = AllByRecursion-weaker (λ (given : Use). given.moment ≤ before) (λ (given : Use). given.moment ≤ now) (λ given h. omega arith) uses are.until_now;
+  until_now = AllByRecursion-implies (λ (given : Use). given.moment ≤ before) (λ (given : Use). given.moment ≤ now) (λ given h. omega arith) uses are.until_now;
   in_order = are.in_order;
 }
 

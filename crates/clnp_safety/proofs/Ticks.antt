@@ -1,4 +1,5 @@
 -- A tick of the clock comes to each system in turn.
+use Rattle.clnp_base.proofs.Lists.{AllByRecursion-implies, slice_get_none}
 use Rattle.std.proofs.Common.{◌≡◌, ◌≤◌, ◌<◌, ℕ, zero, suc, List, ◌+◌, length, refl, sym, subst, arith}
 use Rattle.std.specs.Prelude.{slice_get}
 use Rattle.std.specs.List.{AllByRecursion, range_with_len}
@@ -9,7 +10,6 @@ use Rattle.clnp_machine.specs.Unit as unit
 use Rattle.clnp_machine.specs.System.{SystemState, MomentComes}
 use Rattle.clnp_machine.specs.Local.{Action, Sends, Tells, at_moment, tick}
 use Rattle.clnp_machine.specs.Step.{step}
-use Rattle.clnp_machine.proofs.Lists.{AllByRecursion-implies, slice_get_none}
 use Rattle.clnp_machine.proofs.Own.{NoteIsQuiet, TellsOnly, expiry_is_quiet}
 use Rattle.clnp_network.specs.Run.{Entry}
 use Rattle.clnp_network.specs.World.{World, comes, takes_effect, tick_each, tick_one}

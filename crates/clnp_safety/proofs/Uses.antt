@@ -1,4 +1,5 @@
 -- Uses of identifiers: where one may be drawn, each earlier use of it is long ago.
+use Rattle.clnp_base.proofs.Lists.{pairs_behind}
 use Rattle.std.proofs.Common.{◌≡◌, ℕ, zero, suc, ◌+◌, ◌<◌, ◌≤◌, cond, inl, inr, List, [], ◌∷◌, ◌++◌, length, get_or, Option, None, Some, nat_eq, nat_lt, AllPairs, Contains, refl, sym, ap, subst, ◌∙◌, arith}
 use Rattle.std.specs.List.{AllByRecursion}
 use Rattle.std.specs.Option.{option_or}
@@ -8,7 +9,6 @@ use Rattle.std.proofs.lemmas.List.Quantifiers.{all_pairs_push}
 use Rattle.clnp_machine.specs.Identifiers.{Use, Identifiers, NotDrawn, IsQuiet, last_use, next, busy, not_drawn, after_use}
 use Rattle.clnp_machine.specs.Unit as unit
 use Rattle.clnp_safety.specs.Invariant.{AreUsesUntil, IsInUses}
-use Rattle.clnp_safety.proofs.Units.{pairs_behind}
 
 abbrev InOrder : Use → Use → Type 0
 InOrder earlier later = earlier.moment ≤ later.moment
