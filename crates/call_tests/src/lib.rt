@@ -3,4 +3,10 @@
 #![tactic(auto)]
 
 #[cfg(test)]
+mod clnp_base_calls;
+#[cfg(test)]
+mod clnp_options_calls;
+#[cfg(test)]
 mod clnp_views_calls;
+#[cfg(test)]
+mod nsap_calls;
