@@ -4,3 +4,9 @@
 
 #[cfg(test)]
 mod clnp_views_calls;
+#[cfg(test)]
+mod clnp_world_calls;
+#[cfg(test)]
+mod end_system_calls;
+#[cfg(test)]
+mod local_entity_calls;

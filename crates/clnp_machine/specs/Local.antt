@@ -8,6 +8,7 @@ use Rattle.pdu_header.specs.Spelling.{header_length, type_code}
 use Rattle.reassembly.specs.Arrival.{Arrival}
 use Rattle.reassembly.specs.Buffer as buffer
 use Rattle.reassembly.specs.Buffer.{Answer, Buffer}
+use Rattle.clnp_plan.specs.Configuration.{SystemConfiguration}
 use Rattle.clnp_plan.specs.declared.ask.Ask.{Ask}
 use Rattle.clnp_plan.specs.declared.note.Note.{Note}
 use Rattle.clnp_plan.specs.declared.note.Note.TheVariants as note
@@ -31,13 +32,21 @@ pub record Deed : Type 0 where
 abbrev pub tells : SystemState → List Action → Deed
 tells s actions = record { after = s; actions = actions }
 
+-- nothing is done but that something is noted
+abbrev pub notes : SystemState → Note → Deed
+notes s note = tells s (Tells note ∷ [])
+
 -- one deed, and then the next
 abbrev pub and_then : Deed → (SystemState → Deed) → Deed
 and_then deed next = record { after = (next deed.after).after; actions = deed.actions ++ (next deed.after).actions }
 
+-- whether an address is one of those of a configuration
+abbrev pub has_address : SystemConfiguration → List ℕ → Bool
+has_address configuration address = list_any (λ own. bytes_eq own address) configuration.addresses
+
 -- whether an address is one of the system's
 abbrev pub is_own : SystemState → List ℕ → Bool
-is_own s address = list_any (λ own. bytes_eq own address) s.configuration.addresses
+is_own s address = has_address s.configuration address
 
 -- Units that it makes.
 

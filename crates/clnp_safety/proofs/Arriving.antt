@@ -141,7 +141,7 @@ module _ (plan : Plan) (units : List unit.Unit) (now place : ℕ) where
         ]
 
   packet_is_sound : IsFit plan → (past : List Entry) → UnitsAreSound plan past now units → (s : SystemState) → SystemIsSound plan units now place s
-      → (p : Packet) → PacketIsSound units p → now ≤ p.unit.made + plan.limits.age → EffectIsSound (packet_comes s p [])
+      → (p : Packet) → PacketIsSound units p → now ≤ p.unit.made + plan.limits.age → EffectIsSound (effect_of (packet_comes s p []))
   packet_is_sound fit past made s sound p packet young =
       elim (cases_Bool (p.lifetime == 0)) [
         | inl over ↦ rw over (sound, (tt, tt))
@@ -158,6 +158,6 @@ pub arrival_is_sound : (plan : Plan) → IsFit plan → (past : List Entry) (uni
     → Carries (PacketIsSound units) content → ComesYoung plan.limits.age now content
     → SystemIsSound plan units now place (arrive s content).after × AllByRecursion (OutputIsSound units now) (arrive s content).outputs
 arrival_is_sound plan fit past units now place s (Labelled p following) made sound carries young =
-    subst (λ rest. EffectIsSound plan units now place (packet_comes s p rest)) (sym carries.1)
+    subst (λ rest. EffectIsSound plan units now place (effect_of (packet_comes s p rest))) (sym carries.1)
     (packet_is_sound plan units now place fit past made s sound p carries.0 young)
 arrival_is_sound plan fit past units now place s (Unlabelled octets) made sound carries young = absurd carries

@@ -19,7 +19,8 @@ use Rattle.clnp_machine.specs.Local.{header_size, identifier_in, offered}
 use Rattle.clnp_network.specs.Run.{Entry}
 use Rattle.clnp_safety.specs.Invariant.{BufferIsSound, IsOfUnit, PacketIsSound, UnitIsSound, UnitsAreSound}
 use Rattle.clnp_safety.proofs.BufferLists.{all_push}
-use Rattle.clnp_safety.proofs.BufferUnits.{header_of_unit, same_unit}
+use Rattle.clnp_safety.proofs.BufferUnits.{header_of_unit}
+use Rattle.clnp_safety.proofs.Units.{same_unit}
 use Rattle.clnp_safety.proofs.BufferKept.{KeptIn, find_passes}
 
 pub unit_sound : (plan : Plan) (past : List Entry) (now : ℕ) (units : List unit.Unit) (u : unit.Unit) → UnitsAreSound plan past now units
@@ -67,7 +68,7 @@ module _ (plan : Plan) (limits : AreLimits plan.limits) (past : List Entry) (now
       = sym live.sound.key ∙ same_from_same_key buffer.key (offered p []).key same in
       let number : live.sound.identifier ≡ identifier = ap (λ key. key.id) keys ∙ ap identifier_in identified in
       let apart = not_another buffer v live.sound.made live.lasts live.sound.opened live.sound.deadline in
-      elim (same_unit plan.limits.reuse units made.rest v p.unit live.sound.made packet.unit (ap (λ key. key.from) keys) identifier (live.sound.identified ∙ ap Some number) identified) [
+      elim (same_unit plan.limits.reuse units v p.unit identifier made.rest live.sound.made packet.unit (ap (λ key. key.from) keys) (live.sound.identified ∙ ap Some number) identified) [
         | inl one ↦ one
         | inr (inl before) ↦ absurd (apart.1 before)
         | inr (inr behind) ↦ absurd (apart.0 behind)

@@ -7,7 +7,8 @@ use Rattle.clnp_machine.specs.System.{SystemState}
 use Rattle.clnp_machine.specs.Host.{tick}
 use Rattle.clnp_network.specs.World as network
 use Rattle.end_system.specs.State.{HostState}
-use Rattle.clnp_world.specs.Parts.{Shows, IsBehind, IsCurrent, Holds, Puts, Follows}
+use Rattle.clnp_world.specs.Stands.{IsCurrent}
+use Rattle.clnp_world.specs.Parts.{Shows, IsBehind, Holds, Puts, Follows}
 use Rattle.clnp_world.specs.declared.network.Network.{Network}
 use Rattle.clnp_world.proofs.ListSteps.{slice_get_within, all_at, all_set, all_weaker, all_take_set}
 use Rattle.clnp_world.proofs.EachSteps.{each_length}

@@ -6,7 +6,6 @@ pub mod Held
 pub mod Parts
 pub mod Refusals
 pub mod Making
-pub mod Accepted
 pub mod Shown
 pub mod Offers
 pub mod Joined

@@ -22,7 +22,7 @@ use Rattle.clnp_machine.specs.Local as machine
 use Rattle.clnp_machine.specs.Local.{data_in, octet_of, offer, takes_in}
 use Rattle.local_entity.specs.declared.action.Action.{Action}
 use Rattle.local_entity.specs.declared.action.Action.TheVariants.{Note as Noted}
-use Rattle.local_entity.specs.declared.local.Local.{Local}
+use Rattle.local_entity.specs.State.{EntityState}
 use Rattle.local_entity.specs.Local.{Appends, IsAsOffered, Stands}
 use Rattle.local_entity.specs.Receipt.{IsShown}
 use Rattle.local_entity.proofs.Joined.{data_shown}
@@ -31,7 +31,7 @@ use Rattle.local_entity.proofs.Offers.{AllKept, all_after, all_found, all_withou
 use Rattle.local_entity.proofs.Shown.{Show, after_shown, answer_shown, buffer_of_shown, held_shown, without_shown}
 
 -- the entity with another table stands for the system with other buffers
-pub stands_with : (local : Local) (later : TableState) (s : SystemState) → Stands local s → later.limits ≡ local.table.limits
+pub stands_with : (local : EntityState) (later : TableState) (s : SystemState) → Stands local s → later.limits ≡ local.table.limits
     → (buffers : List (Buffer Extent)) (others : List (Buffer Packet)) → table.Stands later buffers → Show buffers others → AllKept IsAsOffered others
     → Stands (record local { table = later }) (record s { buffers = others })
 stands_with local later s stands limits buffers others table_stands shown all = record {
@@ -45,7 +45,7 @@ stands_with local later s stands limits buffers others table_stands shown all = 
   packets = all;
 }
 
-module _ (local : Local) (now : ℕ) (segment : Segment) (s : SystemState) (arrival : Arrival Packet)
+module _ (local : EntityState) (now : ℕ) (segment : Segment) (s : SystemState) (arrival : Arrival Packet)
     (stands : Stands local s) (moment : s.moment ≡ now) (shows : IsShown segment arrival) where
   -- the buffers once the segment was kept, in the code and in the model
   abbrev pub later : List (Buffer Extent)

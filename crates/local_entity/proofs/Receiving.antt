@@ -16,20 +16,16 @@ use Rattle.reassembly.specs.Mapped.{map_arrival}
 use Rattle.reassembly.specs.Offered.{MayCome}
 use Rattle.clnp_plan.specs.declared.note.Note.TheVariants.{Got}
 use Rattle.clnp_machine.specs.Unit.{Packet, IsCarriable, value_of, wire}
+use Rattle.clnp_machine.specs.Steps.{CarriesOnePacket}
 use Rattle.clnp_machine.specs.System.{SystemState}
 use Rattle.clnp_machine.specs.Local.{Tells, identifier_in, is_all, offer, offered, receive, tells}
 use Rattle.local_entity.specs.Receipt.{IsShown, segment_in, segment_part}
 
--- a frame has one PDU at most
-abbrev pub OneValue : Type 0
-OneValue = (frame : List ℕ) (v w : PduValue) (rest others : List ℕ) → BeginsWith frame v rest → BeginsWith frame w others → (v ≡ w) × (rest ≡ others)
-
 -- the PDU at the front of a frame is that of the packet with whose octets the frame begins
-pub value_is : OneValue → (frame : List ℕ) (v : PduValue) (rest : List ℕ) → BeginsWith frame v rest → (p : Packet) (following : List ℕ) → IsCarriable p
+pub value_is : CarriesOnePacket → (frame : List ℕ) (v : PduValue) (rest : List ℕ) → BeginsWith frame v rest → (p : Packet) (following : List ℕ) → IsCarriable p
     → frame ≡ wire p ++ following → v ≡ value_of p
 value_is one frame v rest begins p following carriable split =
-    (one frame v (value_of p) rest following begins
-    (record { octets = wire p; spells = record { pdu = carriable.pdu; octets_are = refl }; split = split })).0
+    (one p following v rest carriable (subst (λ (f : List ℕ). BeginsWith f v rest) split begins)).0
 
 -- ---- whether it is all of its unit
 

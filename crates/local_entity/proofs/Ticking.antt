@@ -16,7 +16,7 @@ use Rattle.clnp_machine.specs.System.{SystemState}
 use Rattle.clnp_machine.specs.Local as machine
 use Rattle.clnp_machine.specs.Local.{Deed, and_then, at_moment, expire, tick}
 use Rattle.local_entity.specs.declared.action.Action.{Action}
-use Rattle.local_entity.specs.declared.local.Local.{Local}
+use Rattle.local_entity.specs.State.{EntityState}
 use Rattle.local_entity.specs.Local.{Appends, DoAll, Stands}
 use Rattle.local_entity.proofs.Expiry.{expire-ended, expire-moment, expire-more, none_due}
 use Rattle.local_entity.proofs.Shown.{length_shown}
@@ -35,7 +35,7 @@ appends-more old mid new others rest here there = record {
 }
 
 -- at another moment it stands for the same
-at_that_moment : (local : Local) (s : SystemState) (now : ℕ) → Stands local s → Stands local (at_moment now s)
+at_that_moment : (local : EntityState) (s : SystemState) (now : ℕ) → Stands local s → Stands local (at_moment now s)
 at_that_moment local s now stands = record {
   configuration = stands.configuration;
   limits = stands.limits;
@@ -48,7 +48,7 @@ at_that_moment local s now stands = record {
 }
 
 -- what so many steps come to
-pub record IsAfter (before after : Local) (old new : List Action) (now n : ℕ) : Type 0 where
+pub record IsAfter (before after : EntityState) (old new : List Action) (now n : ℕ) : Type 0 where
   pub stands : (s : SystemState) → Stands before s → s.moment ≡ now → Stands after (expire n s).after
   pub actions : (s : SystemState) → Stands before s → s.moment ≡ now → Appends old new (expire n s).actions
 
@@ -59,13 +59,13 @@ pub record IsLeft (later : TableState) (n live : ℕ) : Type 0 where
   pub none_whole : AllByRecursion (λ (buffer : Buffer Extent). is_whole buffer ≡ false) buffers
   pub fewer : length buffers + n ≤ live
 
-pub after_none : (local : Local) (old new : List Action) (now : ℕ) → new ≡ old → IsAfter local local old new now 0
+pub after_none : (local : EntityState) (old new : List Action) (now : ℕ) → new ≡ old → IsAfter local local old new now 0
 after_none local old new now same = record {
   stands = λ s stands moment. stands;
   actions = λ s stands moment. record { actions = []; appended = same ∙ sym (append-nil old); do_all = tt };
 }
 
-module _ (before mid after : Local) (old out new : List Action) (now n : ℕ) (so_far : IsAfter before mid old out now n) where
+module _ (before mid after : EntityState) (old out new : List Action) (now n : ℕ) (so_far : IsAfter before mid old out now n) where
   pub after_more : ((s : SystemState) → Stands mid s → s.moment ≡ now → Stands after (expire 1 s).after)
       → ((s : SystemState) → Stands mid s → s.moment ≡ now → Appends out new (expire 1 s).actions) → IsAfter before after old new now (n + 1)
   after_more stands actions =
@@ -93,7 +93,7 @@ module _ (before mid after : Local) (old out new : List Action) (now n : ℕ) (s
       let none_then : due s.moment (expire n s).after.buffers ≡ None = ap (λ m. due m (expire n s).after.buffers) (sym (expire-moment n s)) ∙ none_there in
       expire-ended n live s (omega arith) none_then ∙ sym (expire-ended n (n + 1) s (omega arith) none_then)
 
-module _ (before after : Local) (old new : List Action) (now n live : ℕ) (done : IsAfter before after old new now n)
+module _ (before after : EntityState) (old new : List Action) (now n live : ℕ) (done : IsAfter before after old new now n)
     (all : (s : SystemState) → Stands before s → s.moment ≡ now → expire live s ≡ expire n s)
     (live_is : (buffers : List (Buffer Extent)) → table.Stands before.table buffers → live ≡ length buffers) where
   tick_is : (s : SystemState) → Stands before s → tick s now ≡ expire n (at_moment now s)

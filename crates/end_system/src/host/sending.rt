@@ -39,7 +39,7 @@ impl EndSystem {
         out: &mut Vec<Output>,
     ) -> Result<(), NoMemory>
         requires { (others : List local.Action) × DoAll actions.items others }
-        ensures outputs { OnOk result ((s : SystemState) (others : List local.Action) → self.now.entity.config ≡ s.configuration
+        ensures outputs { OnOk result ((s : SystemState) (others : List local.Action) → self.now.entity.configuration ≡ s.configuration
             → DoAll actions.items others → AllByRecursion (IsFresh self.now.moment) others
             → Appends self.now.moment out.old.items out.new.items (flat_map (machine.outputs_of s) others)) }
         ensures none { OnErr result (out.new.items ≡ out.old.items) }
@@ -55,7 +55,7 @@ impl EndSystem {
     /// Gives out one thing that was done.
     fn give(&self, action: Action, out: &mut Vec<Output>) -> Result<(), NoMemory>
         requires { (other : local.Action) × Does action other }
-        ensures { OnOk result ((s : SystemState) (other : local.Action) → self.now.entity.config ≡ s.configuration
+        ensures { OnOk result ((s : SystemState) (other : local.Action) → self.now.entity.configuration ≡ s.configuration
             → Does action other → IsFresh self.now.moment other
             → Appends self.now.moment out.old.items out.new.items (machine.outputs_of s other)) }
     {
@@ -69,7 +69,7 @@ impl EndSystem {
     /// systems, as `next_hop` says.
     fn transmit(&self, made: &Made, out: &mut Vec<Output>) -> Result<(), NoMemory>
         requires { (u : Unit) × Does (Send made.now) (Sends u) }
-        ensures { OnOk result ((s : SystemState) (u : Unit) → self.now.entity.config ≡ s.configuration
+        ensures { OnOk result ((s : SystemState) (u : Unit) → self.now.entity.configuration ≡ s.configuration
             → Does (Send made.now) (Sends u) → IsFresh self.now.moment (Sends u)
             → Appends self.now.moment out.old.items out.new.items (machine.outputs_of s (Sends u))) }
     {
@@ -88,7 +88,7 @@ impl EndSystem {
 
     /// The most octets of a frame on the port.
     fn mtu(&self) -> u16
-        ensures port { result ≡ machine.port_mtu self.now.entity.config.ports }
+        ensures port { result ≡ machine.port_mtu self.now.entity.configuration.ports }
         ensures least { 512 ≤ result }
     {
         let config = self.entity.config();

@@ -35,7 +35,7 @@ impl Local {
             → Appends out.old.items out.new.items (machine.tick s now).actions) }
         ensures same { OnErr result (self.new ≡ self.old) }
         ensures none { OnErr result (out.new.items ≡ out.old.items) }
-        ensures config { self.new.config ≡ self.old.config }
+        ensures config { self.new.configuration ≡ self.old.configuration }
         ensures limits { self.new.table.limits ≡ self.old.table.limits }
         ensures ready { OnOk result (IsReady now self.new.table) }
     {
@@ -63,7 +63,7 @@ impl Local {
             × table.Stands self.new.table (buffer.without_due (buffer.due now buffers) buffers) }
         ensures len { vec_len out.new ≤ vec_len out.old + 2 }
         ensures capacity { vec_capacity out.old ≤ vec_capacity out.new }
-        ensures config { self.new.config ≡ self.old.config }
+        ensures config { self.new.configuration ≡ self.old.configuration }
         ensures limits { self.new.table.limits ≡ self.old.table.limits }
     {
         let Some(ended) = self.table.expire(now) else {

@@ -49,7 +49,7 @@ impl Local {
             → IsShown segment arrival → Appends out.old.items out.new.items (machine.offer s arrival).actions) }
         ensures same { OnErr result (self.new ≡ self.old) }
         ensures none { OnErr result (out.new.items ≡ out.old.items) }
-        ensures config { self.new.config ≡ self.old.config }
+        ensures config { self.new.configuration ≡ self.old.configuration }
         ensures limits { self.new.table.limits ≡ self.old.table.limits }
         ensures ready { 1 ≤ self.old.table.limits.hold → IsReady now self.new.table }
     {
