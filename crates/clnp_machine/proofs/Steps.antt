@@ -2,6 +2,7 @@
 use Rattle.std.proofs.Common.{◌≡◌, ◌∙◌, refl, ℕ, zero, suc, Bool, true, false, not, Option, None, Some, List, [], ◌∷◌, ◌++◌, length}
 use Rattle.std.specs.Prelude.{◌==◌, if◌then◌else◌}
 use Rattle.std.specs.List.{AllByRecursion}
+use Rattle.clnp_base.proofs.Lists.{AllByRecursion-append}
 use Rattle.clnp_plan.specs.declared.ask.Ask.{Ask}
 use Rattle.clnp_plan.specs.declared.note.Note.{Note}
 use Rattle.clnp_plan.specs.declared.note.Note.TheVariants as note
@@ -57,10 +58,6 @@ comes s (Unlabelled octets) = record { keeps = same s; sends = (tt, tt) }
 
 -- Buffers whose time has ended.
 
-all_append : {X : Type 0} (P : X → Type 0) (xs ys : List X) → AllByRecursion P xs → AllByRecursion P ys → AllByRecursion P (xs ++ ys)
-all_append P [] ys h k = k
-all_append P (x ∷ xs) ys h k = (h.0, all_append P xs ys h.1 k)
-
 -- what is done beside sending
 abbrev OnlyTells : SystemState → Deed → Type 0
 OnlyTells s deed = Keeps s deed.after × ((t : SystemState) → AllByRecursion (SendsItsNext t) deed.actions)
@@ -80,7 +77,7 @@ then_told s deed next h each =
         reuse = k.0.reuse ∙ h.0.reuse;
         moment = k.0.moment ∙ h.0.moment;
       },
-      λ t. all_append (SendsItsNext t) deed.actions (next deed.after).actions (h.1 t) (k.1 t),
+      λ t. AllByRecursion-append (SendsItsNext t) deed.actions (next deed.after).actions (h.1 t) (k.1 t),
     )
 
 due_told : (s : SystemState) (due : Option (Buffer Packet)) (next : SystemState → Deed) → ((t : SystemState) → OnlyTells t (next t))

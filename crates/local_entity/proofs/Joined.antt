@@ -2,15 +2,15 @@
 use Rattle.std.proofs.Common.{◌≡◌, ℕ, Bool, false, ◌+◌, ◌-◌, ◌<◌, ◌≤◌, true, List, [], ◌∷◌, ◌++◌, length, take, drop, refl, sym, ap, ◌∙◌, inl, inr, arith, nat_le, nat_lt, ◌&&◌}
 use Rattle.std.specs.Prelude.{slice_index}
 use Rattle.std.specs.List.{AllByRecursion, range_with_len}
-use Rattle.std.proofs.lemmas.Bool.{cases_Bool, leb-true, ltb-true}
-use Rattle.std.proofs.lemmas.List.{get_or-append_right, get_or-take, get_or-drop}
+use Rattle.std.proofs.lemmas.Bool.{and_parts, cases_Bool, leb-true, ltb-true}
+use Rattle.clnp_base.proofs.Lists.{get_or-behind_part}
+use Rattle.clnp_base.proofs.Maps.{map-agree}
 use Rattle.pdu_header.specs.Spelling.{header, header_length}
 use Rattle.pdu_header.proofs.Written.{length-header}
 use Rattle.clnp_views.specs.Extent.{Extent, seen}
 use Rattle.reassembly.specs.Arrival.{Arrival, data_len, earliest, has, octet_in}
 use Rattle.reassembly.specs.Buffer.{Buffer, data_of, octet_by}
 use Rattle.reassembly.specs.Mapped.{map_arrival, map_buffer}
-use Rattle.reassembly.proofs.LawCovered.{map_agree}
 use Rattle.reassembly.proofs.Mapped.{data_of-mapped}
 use Rattle.clnp_machine.specs.Unit.{Packet, value_of, wire, IsCarriable}
 use Rattle.clnp_machine.specs.Local.{octet_of, offered}
@@ -55,6 +55,6 @@ data_shown buffer other same all =
     sym (data_of-mapped seen octet_in octet_at buffer (λ a place. refl))
     ∙ ap (data_of octet_at) same
     ∙ data_of-mapped wire (λ (a : Arrival Packet) (k : ℕ). octet_at (map_arrival wire a) k) octet_at other (λ a place. refl)
-    ∙ map_agree (λ (place : ℕ). octet_by (λ (a : Arrival Packet) (k : ℕ). octet_at (map_arrival wire a) k) place (earliest other.kept place))
+    ∙ map-agree (λ (place : ℕ). octet_by (λ (a : Arrival Packet) (k : ℕ). octet_at (map_arrival wire a) k) place (earliest other.kept place))
     (λ (place : ℕ). octet_by octet_of place (earliest other.kept place)) (range_with_len 0 (data_len other.shape))
     (λ place. in_earliest other.kept place all)

@@ -2,6 +2,7 @@
 use Rattle.std.proofs.Common.{◌≡◌, ℕ, zero, suc, ◌≢◌, ◌==◌, List, [], ◌∷◌, ◌++◌, Option, Some, None, slice_get, refl, ap, ◌∙◌, arith, if◌then◌else◌}
 use Rattle.std.proofs.lemmas.Bool.Decides.{eqb_tells}
 use Rattle.std.specs.Option.{option_or}
+use Rattle.clnp_base.proofs.Choices.{option_or-assoc, option_or-nothing}
 use Rattle.clnp_machine.specs.Identifiers.{Use, last_use}
 
 -- the moment of a use, where it is one of this identifier
