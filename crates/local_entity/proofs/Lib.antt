@@ -1,4 +1,3 @@
-pub mod Places
 pub mod Uses
 pub mod Pools
 pub mod Rest

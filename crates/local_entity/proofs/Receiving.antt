@@ -2,7 +2,7 @@
 use Rattle.std.proofs.Common.{◌≡◌, ℕ, zero, suc, ◌+◌, ◌-◌, ◌<◌, ◌≤◌, Bool, true, false, not, ◌&&◌, ◌||◌, cond, List, [], ◌∷◌, ◌++◌, Option, Some, None, length, take, drop, refl, sym, ap, ◌∙◌, subst, inl, inr, arith, length-append, length-drop}
 use Rattle.std.specs.Prelude.{◌==◌, is_none, nat_lt, option_map}
 use Rattle.std.proofs.lemmas.Bool.{cases_Bool, ltb-false, ltb-true}
-use Rattle.std.proofs.lemmas.List.{length-take-le}
+use Rattle.std.proofs.lemmas.List.{length-take-le, take_at}
 use Rattle.clnp_views.specs.Extent.{seen}
 use Rattle.pdu_header.specs.declared.pdu.Pdu.{Pdu}
 use Rattle.pdu_header.specs.declared.pdu.SegPart.{SegPart}
@@ -96,12 +96,6 @@ part_by seg p (Some i) has e =
       total = ap (λ (s : SegmentationPart). s.total) f;
     }
 
-take_front : (front behind : List ℕ) (n : ℕ) → length front ≡ n → take n (front ++ behind) ≡ front
-take_front [] behind zero e = refl
-take_front [] behind (suc n) e = absurd (omega arith)
-take_front (x ∷ front) behind zero e = absurd (omega arith)
-take_front (x ∷ front) behind (suc n) e = ap (λ (l : List ℕ). x ∷ l) (take_front front behind n (omega arith))
-
 module _ (frame : List ℕ) (pdu : Pdu) (seg : SegPart) (head : pdu.head.now ≡ header (pdu_value pdu)) (some : segment_part pdu.seg pdu.more ≡ Some seg) where
   head_length : length pdu.head.now ≡ header_length (pdu_value pdu)
   head_length = ap length head ∙ length-header (pdu_value pdu)
@@ -121,7 +115,7 @@ module _ (frame : List ℕ) (pdu : Pdu) (seg : SegPart) (head : pdu.head.now ≡
     octets_seen : seen (arrival_of (segment_in frame pdu seg)).carried ≡ wire p
     octets_seen =
         ap (λ (octets : List ℕ). take (length pdu.head.now + length pdu.body.now) octets) split
-        ∙ take_front (wire p) following (length pdu.head.now + length pdu.body.now)
+        ∙ take_at (wire p) following (length pdu.head.now + length pdu.body.now)
         (length-append (header (value_of p)) (value_of p).body
         ∙ ap (λ (v : PduValue). length (header v) + length v.body) (sym e)
         ∙ ap (λ (h : List ℕ). length h + length pdu.body.now) (sym head))

@@ -3,6 +3,7 @@ use Rattle.std.proofs.Common.{◌≡◌, ℕ, ◌+◌, ◌<◌, ◌≤◌, Bool,
 use Rattle.std.specs.Prelude.{filter, is_some}
 use Rattle.std.specs.List.{AllByRecursion}
 use Rattle.std.proofs.lemmas.Bool.{cases_Bool}
+use Rattle.clnp_base.proofs.Filters.{filter-fewer}
 use Rattle.clnp_views.specs.Extent.{Extent}
 use Rattle.reassembly.specs.Arrival.{same_key}
 use Rattle.reassembly.specs.Buffer.{Buffer, due, is_whole, without, without_due}
@@ -10,7 +11,6 @@ use Rattle.reassembly.specs.State as table
 use Rattle.reassembly.specs.State.{IsReady, TableState}
 use Rattle.reassembly.proofs.Keys.{same_key-like}
 use Rattle.reassembly.proofs.LawDue.{due_is}
-use Rattle.reassembly.proofs.LawSums.{length_filter}
 use Rattle.reassembly.proofs.NoWhole.{none_whole-without_due}
 use Rattle.clnp_machine.specs.System.{SystemState}
 use Rattle.clnp_machine.specs.Local as machine
@@ -111,19 +111,13 @@ module _ (before after : EntityState) (old new : List Action) (now n live : ℕ)
 
 -- ---- what is left
 
-filter_less : {X : Type 0} (test : X → Bool) (front : List X) (x : X) (behind : List X) → test x ≡ false → length (filter test (front ++ x ∷ behind)) < length (front ++ x ∷ behind)
-filter_less test [] x behind e = rw e (let l = length_filter test behind in omega arith)
-filter_less test (y ∷ front) x behind e =
-    let rest = filter_less test front x behind e in
-    elim (cases_Bool (test y)) [ inl t ↦ rw t (omega arith) | inr f ↦ rw f (omega arith) ]
-
 fewer-without_due : (now : ℕ) (buffers : List (Buffer Extent)) (found : Option (Buffer Extent)) → due now buffers ≡ found → true ≡ is_some found
     → length (without_due found buffers) < length buffers
 fewer-without_due now buffers None e some = absurd (cc)
 fewer-without_due now buffers (Some ended) e some =
     let is = due_is now buffers ended e in
     subst (λ (l : List (Buffer Extent)). length (without ended.key l) < length l) (sym is.stands_there)
-    (filter_less (λ (b : Buffer Extent). not (same_key b.key ended.key)) is.before ended is.behind (ap not (same_key-like ended.key ended.key refl)))
+    (filter-fewer (λ (b : Buffer Extent). not (same_key b.key ended.key)) is.before ended is.behind (ap not (same_key-like ended.key ended.key refl)))
 
 pub left_first : (before : ℕ) (now_table : TableState) (live : ℕ) → IsReady before now_table
     → ((buffers : List (Buffer Extent)) → table.Stands now_table buffers → live ≡ length buffers) → IsLeft now_table 0 live
