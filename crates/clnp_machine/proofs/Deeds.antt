@@ -158,6 +158,15 @@ does_with_content s (Unlabelled octets) = does_with_octets s octets
 
 -- Moments that come.
 
+-- where the PDU at the beginning of a unit is discarded the system stays as it is
+discard_first_after : (s : SystemState) (first : Option Packet) → (discard_first s first).after ≡ s
+discard_first_after s None = refl
+discard_first_after s (Some p) = refl
+
+-- a buffer that is taken out leaves the others
+pub given_up_after : (s : SystemState) (ended : Buffer Packet) → (gives_up s ended).after ≡ record s { buffers = buffer.without ended.key s.buffers }
+given_up_after s ended = discard_first_after (record s { buffers = buffer.without ended.key s.buffers }) (buffer.first_carried ended)
+
 does_discard_first : (s : SystemState) (first : Option Packet) → Does s (discard_first s first)
 does_discard_first s None = record { goes = goes-nowhere s; makes_none = refl }
 does_discard_first s (Some p) = does_tell s _

@@ -9,23 +9,16 @@ use Rattle.std.proofs.lemmas.List.Elements.{recursion_from_All}
 use Rattle.scenario.specs.Scenario.{Plan}
 use Rattle.reassembly.specs.declared.segment.Key.{Key}
 use Rattle.reassembly.specs.Arrival.{same_key}
-use Rattle.reassembly.specs.Buffer.{Buffer, due, first_carried, held, is_whole, size_of, without}
+use Rattle.reassembly.specs.Buffer.{Buffer, due, held, is_whole, size_of, without}
 use Rattle.reassembly.proofs.LawDue.{due_is, none_due}
 use Rattle.reassembly.proofs.SameKey.{same_key-refl}
 use Rattle.clnp_machine.specs.Identifiers.{Use}
 use Rattle.clnp_machine.specs.Unit as unit
 use Rattle.clnp_machine.specs.Unit.{DeclaredAt, Packet}
 use Rattle.clnp_machine.specs.System.{SystemState}
-use Rattle.clnp_machine.specs.Local.{at_moment, discard_first, expire, give_up_due, gives_up, tick}
+use Rattle.clnp_machine.proofs.Deeds.{given_up_after}
+use Rattle.clnp_machine.specs.Local.{at_moment, expire, give_up_due, gives_up, tick}
 use Rattle.clnp_safety.specs.Invariant.{AreUsesUntil, BufferIsSound, IsInUses, SystemIsSound}
-
--- a buffer that is taken out leaves the others
-discard_first_after : (s : SystemState) (first : Option Packet) → (discard_first s first).after ≡ s
-discard_first_after s None = refl
-discard_first_after s (Some p) = refl
-
-given_up_after : (s : SystemState) (ended : Buffer Packet) → (gives_up s ended).after ≡ record s { buffers = without ended.key s.buffers }
-given_up_after s ended = discard_first_after (record s { buffers = without ended.key s.buffers }) (first_carried ended)
 
 -- there are fewer without the due one
 without_fewer : (key : Key) (buffers before behind : List (Buffer Packet)) (ended : Buffer Packet) → buffers ≡ before ++ ended ∷ behind → ended.key ≡ key

@@ -14,7 +14,8 @@ use Rattle.clnp_plan.specs.declared.note.Note.TheVariants.{Discard, Expired as E
 use Rattle.clnp_machine.specs.Unit.{Packet, wire}
 use Rattle.clnp_machine.specs.System.{SystemState}
 use Rattle.clnp_machine.specs.Local as machine
-use Rattle.clnp_machine.specs.Local.{Deed, and_then, at_moment, discards_first, expire, give_up_due, gives_up, tells}
+use Rattle.clnp_machine.proofs.Deeds.{given_up_after}
+use Rattle.clnp_machine.specs.Local.{Deed, and_then, at_moment, discard_first, expire, give_up_due, gives_up, rests}
 use Rattle.local_entity.specs.declared.action.Action.{Action}
 use Rattle.local_entity.specs.declared.action.Action.TheVariants.{Note as Noted}
 use Rattle.local_entity.specs.State.{EntityState}
@@ -49,9 +50,9 @@ expire-moment (suc n) s = by (due s.moment s.buffers) (λ t. expire-moment n t)
   where
     by : (found : Option (Buffer Packet)) → ((t : SystemState) → (expire n t).after.moment ≡ t.moment) → (give_up_due found s (expire n)).after.moment ≡ s.moment
     by None same = refl
-    by (Some ended) same = same (gives_up s ended).after
+    by (Some ended) same = same (gives_up s ended).after ∙ ap (λ (t : SystemState). t.moment) (given_up_after s ended)
 
-expire-none : (k : ℕ) (s : SystemState) → due s.moment s.buffers ≡ None → expire k s ≡ tells s []
+expire-none : (k : ℕ) (s : SystemState) → due s.moment s.buffers ≡ None → expire k s ≡ rests s
 expire-none zero s none = refl
 expire-none (suc k) s none = ap (λ (f : Option (Buffer Packet)). give_up_due f s (expire k)) none
 
@@ -66,17 +67,19 @@ expire-ended (suc n) (suc k) s fewer none = by (due s.moment s.buffers) none (λ
         → give_up_due found s (expire k) ≡ give_up_due found s (expire n)
     by None none same = refl
     by (Some ended) none same =
-        ap (λ (deed : Deed). and_then (gives_up s ended) (λ (t : SystemState). deed)) (same (gives_up s ended).after none)
+        let moment : (gives_up s ended).after.moment ≡ s.moment = ap (λ (t : SystemState). t.moment) (given_up_after s ended) in
+        ap (λ (deed : Deed). and_then (gives_up s ended) (λ (t : SystemState). deed))
+        (same (gives_up s ended).after (ap (λ (m : ℕ). due m (expire n (gives_up s ended).after).after.buffers) moment ∙ none))
 
 -- ---- one
 
 -- the PDU at the beginning of a unit is discarded
-discards_by : (first : Option Extent) (other : Option Packet) → option_map seen first ≡ option_map wire other
-    → DoAll (cond (is_some first) (Noted (Discard 0xA1 0) ∷ []) []) (discards_first other ++ [])
-discards_by None None same = tt
-discards_by None (Some p) same = absurd (cc)
-discards_by (Some extent) None same = absurd (cc)
-discards_by (Some extent) (Some p) same = (refl, tt)
+discards_by : (s : SystemState) (first : Option Extent) (other : Option Packet) → option_map seen first ≡ option_map wire other
+    → DoAll (cond (is_some first) (Noted (Discard 0xA1 0) ∷ []) []) ((discard_first s other).actions ++ [])
+discards_by s None None same = tt
+discards_by s None (Some p) same = absurd (cc)
+discards_by s (Some extent) None same = absurd (cc)
+discards_by s (Some extent) (Some p) same = (refl, tt)
 
 both_none : (found : Option (Buffer Extent)) (other : Option (Buffer Packet)) → option_map (map_buffer seen) found ≡ option_map (map_buffer wire) other
     → found ≡ None → other ≡ None
@@ -103,9 +106,10 @@ module _ (local : EntityState) (now : ℕ) (s : SystemState) (stands : Stands lo
     stands_by (Some ended) (Some other) same table_stands =
         let e : map_buffer seen ended ≡ map_buffer wire other = cc in
         let key = ap (λ (b : Buffer (List ℕ)). b.key) e in
-        stands_with local table_later s stands limits (without ended.key stands.buffers) (without other.key s.buffers) table_stands
+        subst (λ (t : SystemState). Stands (record local { table = table_later }) t) (sym (given_up_after s other))
+        (stands_with local table_later s stands limits (without ended.key stands.buffers) (without other.key s.buffers) table_stands
         (without_shown stands.buffers s.buffers stands.shown ended.key ∙ ap (λ (k : Key). map_buffers wire (without k s.buffers)) key)
-        (all_without IsAsOffered other.key s.buffers stands.packets)
+        (all_without IsAsOffered other.key s.buffers stands.packets))
 
     pub expired_stands : table.Stands table_later (without_due (due now stands.buffers) stands.buffers)
         → Stands (record local { table = table_later }) (expire 1 s).after
@@ -131,7 +135,7 @@ module _ (local : EntityState) (now : ℕ) (s : SystemState) (stands : Stands lo
       record {
         actions = Noted (Ended result.key.id held) ∷ cond (is_some result.first) (Noted (Discard 0xA1 0) ∷ []) [];
         appended = appended;
-        do_all = (cc, discards_by result.first (first_carried other) first);
+        do_all = (cc, discards_by (record s { buffers = without other.key s.buffers }) result.first (first_carried other) first);
       }
 
   pub none_appends : (before : List Action)

@@ -17,6 +17,7 @@ use Rattle.reassembly.specs.State.{IsReady, TableState, said, was_kept}
 use Rattle.reassembly.proofs.Ready.{none_whole-after}
 use Rattle.clnp_plan.specs.declared.note.Note.TheVariants.{Got}
 use Rattle.clnp_machine.specs.Unit.{Packet, wire}
+use Rattle.clnp_machine.specs.Content.{Content}
 use Rattle.clnp_machine.specs.System.{SystemState, table_limits}
 use Rattle.clnp_machine.specs.Local as machine
 use Rattle.clnp_machine.specs.Local.{data_in, octet_of, offer, takes_in}
@@ -45,7 +46,7 @@ stands_with local later s stands limits buffers others table_stands shown all = 
   packets = all;
 }
 
-module _ (local : EntityState) (now : ℕ) (segment : Segment) (s : SystemState) (arrival : Arrival Packet)
+module _ (local : EntityState) (now : ℕ) (segment : Segment) (s : SystemState) (frame : Content) (arrival : Arrival Packet)
     (stands : Stands local s) (moment : s.moment ≡ now) (shows : IsShown segment arrival) where
   -- the buffers once the segment was kept, in the code and in the model
   abbrev pub later : List (Buffer Extent)
@@ -73,13 +74,13 @@ module _ (local : EntityState) (now : ℕ) (segment : Segment) (s : SystemState)
   same_key = ap (λ (a : Arrival (List ℕ)). a.key) shows.shown
 
   -- what comes of it, by its answer
-  pub offer_is : (told : Answer) → told ≡ answer local.table.limits now (arrival_of segment) stands.buffers → offer s arrival ≡ takes_in s arrival others told
-  offer_is told e = ap (takes_in s arrival others) (sym (e ∙ same_answer))
+  pub offer_is : (told : Answer) → told ≡ answer local.table.limits now (arrival_of segment) stands.buffers → offer s frame arrival ≡ takes_in s frame arrival others told
+  offer_is told e = ap (takes_in s frame arrival others) (sym (e ∙ same_answer))
 
   -- the entity where the unit isn't whole
   pub told_stands : (told : Accept) (table_later : TableState) → said told ≡ answer local.table.limits now (arrival_of segment) stands.buffers
       → ((said told ≡ buffer.Whole) → ⊥) → (was_kept told ≡ false → table_later ≡ local.table) → table_later.limits ≡ local.table.limits
-      → table.Stands table_later later → Stands (record local { table = table_later }) (offer s arrival).after
+      → table.Stands table_later later → Stands (record local { table = table_later }) (offer s frame arrival).after
   told_stands told table_later e not_whole same limits table_stands =
       subst (λ (deed : machine.Deed). Stands (record local { table = table_later }) deed.after) (sym (offer_is (said told) e)) (by told not_whole same)
     where
@@ -87,7 +88,7 @@ module _ (local : EntityState) (now : ℕ) (segment : Segment) (s : SystemState)
       unchanged same = subst (λ (t : TableState). Stands (record local { table = t }) s) (sym same) stands
 
       by : (told : Accept) → ((said told ≡ buffer.Whole) → ⊥) → (was_kept told ≡ false → table_later ≡ local.table)
-          → Stands (record local { table = table_later }) (takes_in s arrival others (said told)).after
+          → Stands (record local { table = table_later }) (takes_in s frame arrival others (said told)).after
       by accept.Held not_whole same = stands_with local table_later s stands limits later others table_stands later_shown all_others
       by (accept.Whole slot) not_whole same = absurd (not_whole refl)
       by accept.Repeat not_whole same = unchanged (same refl)
@@ -101,18 +102,18 @@ module _ (local : EntityState) (now : ℕ) (segment : Segment) (s : SystemState)
       → said told ≡ answer local.table.limits now (arrival_of segment) stands.buffers
       → ((buffers : List (Buffer Extent)) → table.Stands table_later buffers → held ≡ buffer.held buffers)
       → table.Stands table_later later
-      → ((s : SystemState) (arrival : Arrival Packet) (kept : List (Buffer Packet)) → arrival.key.id ≡ segment.key.id → arrival.offset ≡ segment.offset
-      → buffer.held kept ≡ held → Appends before behind (takes_in s arrival kept (said told)).actions)
-      → Appends before behind (offer s arrival).actions
+      → ((s : SystemState) (frame : Content) (arrival : Arrival Packet) (kept : List (Buffer Packet)) → arrival.key.id ≡ segment.key.id → arrival.offset ≡ segment.offset
+      → buffer.held kept ≡ held → Appends before behind (takes_in s frame arrival kept (said told)).actions)
+      → Appends before behind (offer s frame arrival).actions
   told_appends told held table_later before behind e held_is table_stands appends =
       subst (λ (deed : machine.Deed). Appends before behind deed.actions) (sym (offer_is (said told) e))
-      (appends s arrival others (ap (λ (k : Key). k.id) (sym same_key)) (ap (λ (a : Arrival (List ℕ)). a.offset) (sym shows.shown))
+      (appends s frame arrival others (ap (λ (k : Key). k.id) (sym same_key)) (ap (λ (a : Arrival (List ℕ)). a.offset) (sym shows.shown))
       (sym (held_is later table_stands ∙ held_shown later others later_shown)))
 
   -- the entity where the unit is whole
   pub whole_stands : (table_later : TableState) → buffer.Whole ≡ answer local.table.limits now (arrival_of segment) stands.buffers
       → table_later.limits ≡ local.table.limits → table.Stands table_later (without segment.key later)
-      → Stands (record local { table = table_later }) (offer s arrival).after
+      → Stands (record local { table = table_later }) (offer s frame arrival).after
   whole_stands table_later e limits table_stands =
       subst (λ (deed : machine.Deed). Stands (record local { table = table_later }) deed.after) (sym (offer_is buffer.Whole e))
       (stands_with local table_later s stands limits (without segment.key later) (without arrival.key others) table_stands
@@ -134,7 +135,7 @@ module _ (local : EntityState) (now : ℕ) (segment : Segment) (s : SystemState)
 
   pub whole_appends : (octets : List ℕ) (whole : Buffer Extent) (before behind : List Action) → buffer.Whole ≡ answer local.table.limits now (arrival_of segment) stands.buffers
       → buffer_of segment.key later ≡ Some whole → octets ≡ data_of octet_in whole → behind ≡ before ++ Noted (Got segment.key.from segment.key.to octets) ∷ []
-      → Appends before behind (offer s arrival).actions
+      → Appends before behind (offer s frame arrival).actions
   whole_appends octets whole before behind e found octets_are appended =
       let from = ap (λ (k : Key). k.from) same_key in
       let to = ap (λ (k : Key). k.to) same_key in

@@ -17,8 +17,9 @@ use Rattle.reassembly.specs.Offered.{MayCome}
 use Rattle.clnp_plan.specs.declared.note.Note.TheVariants.{Got}
 use Rattle.clnp_machine.specs.Unit.{Packet, IsCarriable, value_of, wire}
 use Rattle.clnp_machine.specs.Steps.{CarriesOnePacket}
+use Rattle.clnp_machine.specs.Content.{Labelled}
 use Rattle.clnp_machine.specs.System.{SystemState}
-use Rattle.clnp_machine.specs.Local.{Tells, identifier_in, is_all, offer, offered, receive, tells}
+use Rattle.clnp_machine.specs.Local.{identifier_in, is_all, offer, offered, receive, tells}
 use Rattle.local_entity.specs.Receipt.{IsShown, segment_in, segment_part}
 
 -- the PDU at the front of a frame is that of the packet with whose octets the frame begins
@@ -53,17 +54,17 @@ is_all_by pdu p e =
 
 -- a whole unit is handed up
 pub receives_whole : (pdu : Pdu) (s : SystemState) (p : Packet) (following : List ℕ) → pdu_value pdu ≡ value_of p → segment_part pdu.seg pdu.more ≡ None
-    → receive s p following ≡ tells s (Tells (Got pdu.from pdu.to pdu.body.now) ∷ [])
+    → receive s p following ≡ tells s (Got pdu.from pdu.to pdu.body.now)
 receives_whole pdu s p following e none =
-    ap (λ (b : Bool). cond b (tells s (Tells (Got p.unit.source p.unit.destination (value_of p).body) ∷ [])) (offer s (offered p following)))
+    ap (λ (b : Bool). cond b (tells s (Got p.unit.source p.unit.destination (value_of p).body)) (offer s (Labelled p following) (offered p following)))
     (is_all_by pdu p e ∙ ap is_none none)
-    ∙ ap (λ (v : PduValue). tells s (Tells (Got v.source v.destination v.body) ∷ [])) (sym e)
+    ∙ ap (λ (v : PduValue). tells s (Got v.source v.destination v.body)) (sym e)
 
 -- a segment is offered
 pub receives_segment : (pdu : Pdu) (seg : SegPart) (s : SystemState) (p : Packet) (following : List ℕ) → pdu_value pdu ≡ value_of p
-    → segment_part pdu.seg pdu.more ≡ Some seg → receive s p following ≡ offer s (offered p following)
+    → segment_part pdu.seg pdu.more ≡ Some seg → receive s p following ≡ offer s (Labelled p following) (offered p following)
 receives_segment pdu seg s p following e some =
-    ap (λ (b : Bool). cond b (tells s (Tells (Got p.unit.source p.unit.destination (value_of p).body) ∷ [])) (offer s (offered p following)))
+    ap (λ (b : Bool). cond b (tells s (Got p.unit.source p.unit.destination (value_of p).body)) (offer s (Labelled p following) (offered p following)))
     (is_all_by pdu p e ∙ ap is_none some)
 
 -- ---- the segment that it is

@@ -6,6 +6,7 @@ ghost use Rattle.pdu_header.specs.Value.{PduValue};
 ghost use Rattle.reassembly.specs.State.{IsReady};
 ghost use Rattle.clnp_plan.specs.declared.note.Note.TheVariants.{Got};
 ghost use Rattle.clnp_machine.specs.Unit.{Packet, IsCarriable, wire};
+ghost use Rattle.clnp_machine.specs.Content.{Content, IsCarried, frame_of};
 ghost use Rattle.clnp_machine.specs.System.{SystemState};
 ghost use Rattle.clnp_machine.specs.Local as machine;
 ghost use Rattle.local_entity.specs.declared.action.Action.TheVariants.{Note as Noted};
@@ -67,6 +68,39 @@ impl Local {
         };
         let segment = segment_in(frame, &pdu, part)?;
         self.offer(alloc, now, segment, out)
+    }
+}
+
+impl Local {
+    /// Discards a PDU that came in a frame, for a reason and with the place of the octet at fault, and appends what is noted
+    /// (ISO/IEC 8473, section 6.9).
+    ///
+    /// # Errors
+    ///
+    /// `NoMemory`: nothing changes then.
+    pub fn discard(
+        &mut self,
+        alloc: Global,
+        now: u64,
+        frame: &Frame,
+        reason: u8,
+        place: u8,
+        out: &mut Vec<Action>,
+    ) -> Result<(), NoMemory>
+        requires moment { now < 2 ^ 62 }
+        requires few { length frame.now ≤ 70000 }
+        ensures stands { OnOk result ((s : SystemState) (content : Content) → Stands self.old s → s.moment ≡ now
+            → IsCarried content → frame_of content ≡ frame.now → Stands self.new (machine.discard s content reason place).after) }
+        ensures actions { OnOk result ((s : SystemState) (content : Content) → Stands self.old s → s.moment ≡ now
+            → IsCarried content → frame_of content ≡ frame.now
+            → Appends out.old.items out.new.items (machine.discard s content reason place).actions) }
+        ensures same { OnErr result (self.new ≡ self.old) }
+        ensures none { OnErr result (out.new.items ≡ out.old.items) }
+        ensures config { self.new.configuration ≡ self.old.configuration }
+        ensures table { self.new.table ≡ self.old.table }
+    {
+        out.push(Action::Note(Note::Discard { reason, place }))?;
+        Ok(())
     }
 }
 

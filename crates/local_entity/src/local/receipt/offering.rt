@@ -7,6 +7,7 @@ ghost use Rattle.reassembly.specs.Buffer.{Buffer};
 ghost use Rattle.reassembly.specs.Offered.{MayCome};
 ghost use Rattle.reassembly.specs.State.{IsReady, IsWholeSlot, Names, Stands as TableStands, said};
 ghost use Rattle.clnp_machine.specs.Unit.{Packet};
+ghost use Rattle.clnp_machine.specs.Content.{Content};
 ghost use Rattle.clnp_machine.specs.System.{SystemState};
 ghost use Rattle.clnp_machine.specs.Local as machine;
 ghost use Rattle.local_entity.specs.Local.{Appends, Stands};
@@ -43,10 +44,10 @@ impl Local {
         requires moment { now < 2 ^ 62 }
         requires offered { MayCome segment }
         requires ready { IsReady now self.old.table }
-        ensures stands { OnOk result ((s : SystemState) (arrival : Arrival Packet) → Stands self.old s → s.moment ≡ now
-            → IsShown segment arrival → Stands self.new (machine.offer s arrival).after) }
-        ensures actions { OnOk result ((s : SystemState) (arrival : Arrival Packet) → Stands self.old s → s.moment ≡ now
-            → IsShown segment arrival → Appends out.old.items out.new.items (machine.offer s arrival).actions) }
+        ensures stands { OnOk result ((s : SystemState) (frame : Content) (arrival : Arrival Packet) → Stands self.old s → s.moment ≡ now
+            → IsShown segment arrival → Stands self.new (machine.offer s frame arrival).after) }
+        ensures actions { OnOk result ((s : SystemState) (frame : Content) (arrival : Arrival Packet) → Stands self.old s → s.moment ≡ now
+            → IsShown segment arrival → Appends out.old.items out.new.items (machine.offer s frame arrival).actions) }
         ensures same { OnErr result (self.new ≡ self.old) }
         ensures none { OnErr result (out.new.items ≡ out.old.items) }
         ensures config { self.new.configuration ≡ self.old.configuration }
@@ -112,9 +113,9 @@ fn joined(table: &Table, slot: SlotNo, room: Vec<u8>) -> Octets
 fn tell(answer: Accept, id: u16, offset: u16, held: u32, out: &mut Vec<Action>)
     requires room { vec_len out.old + 2 ≤ vec_capacity out.old }
     requires not_whole { said answer ≢ buffer.Whole }
-    ensures { (s : SystemState) (arrival : Arrival Packet) (kept : List (Buffer Packet)) → arrival.key.id ≡ id
+    ensures { (s : SystemState) (frame : Content) (arrival : Arrival Packet) (kept : List (Buffer Packet)) → arrival.key.id ≡ id
         → arrival.offset ≡ offset → buffer.held kept ≡ held
-        → Appends out.old.items out.new.items (machine.takes_in s arrival kept (said answer)).actions }
+        → Appends out.old.items out.new.items (machine.takes_in s frame arrival kept (said answer)).actions }
 {
     match answer {
         Accept::Held => note(out, Note::Held { id, offset, held }),

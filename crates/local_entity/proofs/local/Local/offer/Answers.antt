@@ -31,19 +31,19 @@ release-requires c =
     (sym (c.in-Whole.ensures.answered ready.buffers ready.stands))
 
 pub returns-in-Whole-clause-stands : goal.returns-in-Whole-clause-stands
-returns-in-Whole-clause-stands c s arrival stands moment shows =
+returns-in-Whole-clause-stands c s frame arrival stands moment shows =
     let here = subst (λ (e : EntityState). Stands e s) (sym c.self.view_is) stands in
-    whole_stands (state_of c.self.inside) c.args.now c.args.segment s arrival here moment shows c.release.new.self
+    whole_stands (state_of c.self.inside) c.args.now c.args.segment s frame arrival here moment shows c.release.new.self
     (c.in-Whole.ensures.answered here.buffers here.table) (c.release.ensures.limits ∙ c.accept.ensures.limits)
     (c.release.ensures.stands (after c.self.inside.table.limits c.args.now (arrival_of c.args.segment) here.buffers) c.args.segment.key
     (c.in-Whole.ensures.stands here.buffers here.table) (c.accept.ensures.slot c.in-Whole.slot c.in-Whole.is))
 
 pub returns-in-Whole-clause-actions : goal.returns-in-Whole-clause-actions
-returns-in-Whole-clause-actions c s arrival stands moment shows =
+returns-in-Whole-clause-actions c s frame arrival stands moment shows =
     let here = subst (λ (e : EntityState). Stands e s) (sym c.self.view_is) stands in
     let told = c.in-Whole.ensures.answered here.buffers here.table in
     let done = completed c.self.inside.table.limits c.args.now (arrival_of c.args.segment) here.buffers (sym told) in
-    whole_appends (state_of c.self.inside) c.args.now c.args.segment s arrival here moment shows c.joined-octets.result done.buffer c.args.out.now.items c.note.new.out.items
+    whole_appends (state_of c.self.inside) c.args.now c.args.segment s frame arrival here moment shows c.joined-octets.result done.buffer c.args.out.now.items c.note.new.out.items
     told done.found
     (c.joined-octets.ensures (after c.self.inside.table.limits c.args.now (arrival_of c.args.segment) here.buffers) done.buffer
     (c.in-Whole.ensures.stands here.buffers here.table) done.found_by_key
@@ -61,17 +61,17 @@ returns-in-Whole-clause-ready c hold =
     (c.in-Whole.ensures.stands ready.buffers ready.stands) (c.accept.ensures.slot c.in-Whole.slot c.in-Whole.is))
 
 pub returns-in_default-accept-clause-stands : goal.returns-in_default-accept-clause-stands
-returns-in_default-accept-clause-stands c s arrival stands moment shows =
+returns-in_default-accept-clause-stands c s frame arrival stands moment shows =
     let here = subst (λ (e : EntityState). Stands e s) (sym c.self.view_is) stands in
-    told_stands (state_of c.self.inside) c.args.now c.args.segment s arrival here moment shows c.accept.result c.accept.new.self
+    told_stands (state_of c.self.inside) c.args.now c.args.segment s frame arrival here moment shows c.accept.result c.accept.new.self
     (c.accept.ensures.answered here.buffers here.table) (said_not_whole c.accept.result c.in_default-accept.not-Whole) c.accept.ensures.same
     c.accept.ensures.limits (c.accept.ensures.stands here.buffers here.table)
 
 pub returns-in_default-accept-clause-actions : goal.returns-in_default-accept-clause-actions
-returns-in_default-accept-clause-actions c s arrival stands moment shows =
+returns-in_default-accept-clause-actions c s frame arrival stands moment shows =
     let here = subst (λ (e : EntityState). Stands e s) (sym c.self.view_is) stands in
-    subst (λ (before : List Action). Appends before c.tell.new.out.items (offer s arrival).actions) c.reserve.ensures.items
-    (told_appends (state_of c.self.inside) c.args.now c.args.segment s arrival here moment shows c.accept.result c.held.result c.accept.new.self
+    subst (λ (before : List Action). Appends before c.tell.new.out.items (offer s frame arrival).actions) c.reserve.ensures.items
+    (told_appends (state_of c.self.inside) c.args.now c.args.segment s frame arrival here moment shows c.accept.result c.held.result c.accept.new.self
     c.reserve.new.self.items c.tell.new.out.items (c.accept.ensures.answered here.buffers here.table) c.held.ensures.held
     (c.accept.ensures.stands here.buffers here.table) c.tell.ensures)
 

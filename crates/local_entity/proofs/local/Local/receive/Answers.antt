@@ -8,6 +8,7 @@ use Rattle.pdu_header.proofs.Written.{length-header}
 use Rattle.reassembly.specs.declared.segment.Segment.{Segment}
 use Rattle.reassembly.specs.Offered.{MayCome}
 use Rattle.clnp_plan.specs.declared.note.Note.TheVariants.{Got}
+use Rattle.clnp_machine.specs.Content.{Labelled}
 use Rattle.clnp_machine.specs.Local.{Deed, offered}
 use Rattle.local_entity.specs.declared.action.Action.TheVariants.{Note as Noted}
 use Rattle.local_entity.specs.Local.{Appends, Stands}
@@ -66,7 +67,7 @@ returns-clause-stands c =
     let shows = subst (λ (segment : Segment). IsShown segment (offered p following)) (sym c.in_ok-segment.ensures)
     (is_shown c.args.frame.now pdu c.in-Some.part c.in-Ok.ensures.header some p following carriable split e) in
     subst (λ (deed : Deed). Stands c.offer.new.self deed.after) (sym (receives_segment pdu c.in-Some.part s p following e some))
-    (offers s (offered p following) stands moment shows))
+    (offers s (Labelled p following) (offered p following) stands moment shows))
     c.offer.ensures.stands
 
 pub returns-clause-actions : goal.returns-clause-actions
@@ -79,5 +80,5 @@ returns-clause-actions c =
     let shows = subst (λ (segment : Segment). IsShown segment (offered p following)) (sym c.in_ok-segment.ensures)
     (is_shown c.args.frame.now pdu c.in-Some.part c.in-Ok.ensures.header some p following carriable split e) in
     subst (λ (deed : Deed). Appends c.args.out.now.items c.offer.new.out.items deed.actions) (sym (receives_segment pdu c.in-Some.part s p following e some))
-    (offers s (offered p following) stands moment shows))
+    (offers s (Labelled p following) (offered p following) stands moment shows))
     c.offer.ensures.actions
