@@ -8,9 +8,10 @@ use Rattle.scenario.specs.Scenario.{IsFit, Plan}
 use Rattle.reassembly.specs.Arrival.{data_len, same_key}
 use Rattle.reassembly.specs.Buffer as buffer
 use Rattle.reassembly.specs.Buffer.{Answer, Buffer, buffer_of, held, is_whole, size_of, with_kept, without}
-use Rattle.reassembly.proofs.LawSums.{sum_filter}
+use Rattle.clnp_base.proofs.Sums.{sum_filter}
 use Rattle.reassembly.proofs.Ready.{made_whole, none_whole-after}
-use Rattle.reassembly.proofs.Removing.{AllByRecursion-filter, AllByRecursion-find, AllByRecursion-weaker}
+use Rattle.clnp_base.proofs.Filters.{AllByRecursion-filter}
+use Rattle.clnp_base.proofs.Lists.{AllByRecursion-find, AllByRecursion-implies}
 use Rattle.reassembly.proofs.SameKey.{same_from_same_key}
 use Rattle.clnp_machine.specs.Unit as unit
 use Rattle.clnp_machine.specs.Unit.{Packet, value_of}
@@ -20,7 +21,7 @@ use Rattle.clnp_machine.specs.Host.{arrive, effect_of, packet_comes}
 use Rattle.clnp_network.specs.Run.{Entry}
 use Rattle.clnp_safety.specs.Invariant.{BufferIsSound, Carries, IsBornWithUnit, NoteIsSound, PacketIsSound, SystemIsSound, UnitsAreSound}
 use Rattle.clnp_safety.specs.Outputs.{OutputIsSound}
-use Rattle.clnp_safety.proofs.BufferLists.{all_both}
+use Rattle.clnp_base.proofs.Lists.{AllByRecursion-both}
 use Rattle.clnp_safety.proofs.BufferKept.{TellsNoInterference, all_after, answer_without, find_passes, held_after, others_with_kept}
 use Rattle.clnp_safety.proofs.BufferOffers.{IsLive, clashes_with_none, stay_live, unit_sound}
 use Rattle.clnp_safety.proofs.Joining.{joined_is_unit, whole_is_unit}
@@ -42,7 +43,7 @@ module _ (plan : Plan) (units : List unit.Unit) (now place : ℕ) where
 
   pub live_buffers : (s : SystemState) → SystemIsSound plan units now place s → AllByRecursion (IsLive plan units now) s.buffers
   live_buffers s sound =
-      all_both (BufferIsSound plan units) (λ (b : Buffer Packet). now < b.deadline) (IsLive plan units now) (λ b h k. record { sound = h; lasts = k })
+      AllByRecursion-both (BufferIsSound plan units) (λ (b : Buffer Packet). now < b.deadline) (IsLive plan units now) (λ b h k. record { sound = h; lasts = k })
       s.buffers sound.buffers sound.not_due
 
   pub with_buffers : (s : SystemState) (buffers : List (Buffer Packet)) → SystemIsSound plan units now place s → AllByRecursion (IsLive plan units now) buffers
@@ -56,8 +57,8 @@ module _ (plan : Plan) (units : List unit.Unit) (now place : ℕ) where
     reuse = sound.reuse;
     uses = sound.uses;
     used = sound.used;
-    buffers = AllByRecursion-weaker (IsLive plan units now) (BufferIsSound plan units) (λ b h. h.sound) buffers live;
-    not_due = AllByRecursion-weaker (IsLive plan units now) (λ (b : Buffer Packet). now < b.deadline) (λ b h. h.lasts) buffers live;
+    buffers = AllByRecursion-implies (IsLive plan units now) (BufferIsSound plan units) (λ b h. h.sound) buffers live;
+    not_due = AllByRecursion-implies (IsLive plan units now) (λ (b : Buffer Packet). now < b.deadline) (λ b h. h.lasts) buffers live;
     not_whole = not_whole;
     budget = within;
   }

@@ -11,14 +11,14 @@ use Rattle.reassembly.specs.declared.segment.Shape.{Shape}
 use Rattle.reassembly.specs.declared.table.TableLimits.{TableLimits}
 use Rattle.reassembly.specs.Arrival.{same_key, same_shape}
 use Rattle.reassembly.specs.Buffer.{Buffer, buffer_of, clashes, opened_by}
-use Rattle.reassembly.proofs.Removing.{AllByRecursion-find}
+use Rattle.clnp_base.proofs.Lists.{AllByRecursion-find}
 use Rattle.reassembly.proofs.SameKey.{same_from_same_key}
 use Rattle.clnp_machine.specs.Unit as unit
 use Rattle.clnp_machine.specs.Unit.{Packet, value_of}
 use Rattle.clnp_machine.specs.Local.{header_size, identifier_in, offered}
 use Rattle.clnp_network.specs.Run.{Entry}
 use Rattle.clnp_safety.specs.Invariant.{BufferIsSound, IsOfUnit, PacketIsSound, UnitIsSound, UnitsAreSound}
-use Rattle.clnp_safety.proofs.BufferLists.{all_push}
+use Rattle.clnp_base.proofs.Lists.{AllByRecursion-push}
 use Rattle.clnp_safety.proofs.BufferUnits.{header_of_unit}
 use Rattle.clnp_safety.proofs.Units.{same_unit}
 use Rattle.clnp_safety.proofs.BufferKept.{KeptIn, find_passes}
@@ -125,7 +125,7 @@ module _ (plan : Plan) (limits : AreLimits plan.limits) (past : List Entry) (now
         shape = live.sound.shape;
         opened = live.sound.opened;
         deadline = live.sound.deadline;
-        kept = all_push (IsOfUnit units live.sound.unit) buffer.kept (offered p []) live.sound.kept
+        kept = AllByRecursion-push (IsOfUnit units live.sound.unit) buffer.kept (offered p []) live.sound.kept
             (of_unit live.sound.unit (unit_in buffer live same));
       };
       lasts = live.lasts;

@@ -16,7 +16,7 @@ use Rattle.clnp_machine.specs.Unit.{Packet, value_of, whole_packet, cut}
 use Rattle.clnp_machine.specs.System.{SystemState, Content, Labelled, Unlabelled, Output, Transmits, Notes, Effect, table_limits}
 use Rattle.clnp_machine.specs.Local.{Action, Sends, Tells, Deed, tells, notes, is_own, is_all, offered, takes_in, offer, receive, refusal, unit_of, unless_refused, discards_first, gives_up, give_up_due, expire, at_moment}
 use Rattle.clnp_machine.specs.Host.{next_hop, port_mtu, outputs_of, effect_of, other_note, refused_note, arrive, send, tick, restart}
-use Rattle.clnp_safety.proofs.Lists.{AllByRecursion-append, AllByRecursion-implies}
+use Rattle.clnp_base.proofs.Lists.{AllByRecursion-append, AllByRecursion-implies}
 use Rattle.clnp_safety.proofs.Lines.{NoteIsQuiet}
 use Rattle.clnp_safety.proofs.Outputs.{NotesOnly}
 use Rattle.clnp_safety.proofs.Asked.{IsRefusal, refusal_refuses, transmissions_are_quiet}
