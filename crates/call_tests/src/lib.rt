@@ -3,6 +3,10 @@
 #![tactic(auto)]
 
 #[cfg(test)]
+mod clnp_base_calls;
+#[cfg(test)]
+mod clnp_options_calls;
+#[cfg(test)]
 mod clnp_views_calls;
 #[cfg(test)]
 mod clnp_world_calls;
@@ -10,3 +14,5 @@ mod clnp_world_calls;
 mod end_system_calls;
 #[cfg(test)]
 mod local_entity_calls;
+#[cfg(test)]
+mod nsap_calls;

@@ -58,6 +58,14 @@ impl<const MOST: usize> InlineOctets<MOST> {
         }
     }
 
+    /// How many octets there are.
+    pub fn len(&self) -> usize
+        ensures count { result ≡ length self.now }
+        ensures few { result ≤ MOST }
+    {
+        self.as_bytes().len()
+    }
+
     /// The octets.
     pub fn as_bytes(&self) -> &[u8]
         ensures octets { result.now ≡ self.now }

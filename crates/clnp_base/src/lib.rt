@@ -7,8 +7,6 @@ mod octets;
 mod put;
 mod standard;
 mod streams;
-#[cfg(test)]
-mod tests;
 mod text;
 
 pub use inline::InlineOctets;

@@ -15,6 +15,8 @@ use Rattle.clnp_options.proofs.Parts.{split_of, parameters-of_spelled}
 use Rattle.clnp_options.proofs.Places.{is_some-place_of}
 use Rattle.clnp_options.proofs.Least.{option_or-none_left, option_or-none_right, same-refusal, same-form_refusal}
 use Rattle.clnp_options.proofs.Forms.{has_form, passes}
+use Rattle.clnp_options.specs.declared.reasons.Reason.{Reason}
+use Rattle.clnp_options.specs.declared.reasons.Reason.TheVariants.{DuplicateOption, HeaderSyntaxError, SourceRoutingSyntaxError, UnsupportedOption, UnsupportedSecurity}
 
 -- no code but padding comes twice
 abbrev pub Differs : Parameter → Parameter → Type 0
@@ -79,11 +81,11 @@ pub none_picked : (test : Parameter → Bool) (os : List Parameter) → list_any
 none_picked test os h k d within =
     false_from_ne_true _ (λ t. false≢true (sym h ∙ list_any_at test os k d within t))
 
-pub is_none-at_rule : (rule reason : ℕ) (place : Option ℕ) → IsNone (at_rule rule reason place) → IsNone place
+pub is_none-at_rule : (rule : ℕ) (cause : Reason) (place : Option ℕ) → IsNone (at_rule rule cause place) → IsNone place
 is_none-at_rule rule cause None h = refl
 is_none-at_rule rule cause (Some p) h = h
 
-pub at_rule-is_none : (rule reason : ℕ) (place : Option ℕ) → IsNone place → IsNone (at_rule rule reason place)
+pub at_rule-is_none : (rule : ℕ) (cause : Reason) (place : Option ℕ) → IsNone place → IsNone (at_rule rule cause place)
 at_rule-is_none rule cause None h = refl
 at_rule-is_none rule cause (Some p) h = h
 
@@ -95,13 +97,13 @@ pub none_of : {A : Type 0} (o : Option A) → IsNone o → o ≡ None
 none_of None h = refl
 none_of (Some x) h = absurd (true≢false h)
 
-picked_none : (rule reason place : ℕ) (test : Parameter → Bool) (os : List Parameter) → IsNone (at_rule rule reason (place_of test place os)) → All (λ o. test o ≡ false) os
-picked_none rule reason place test os h =
-    none_picked test os (sym (is_some-place_of test place os) ∙ is_none-at_rule rule reason (place_of test place os) h)
+picked_none : (rule : ℕ) (cause : Reason) (place : ℕ) (test : Parameter → Bool) (os : List Parameter) → IsNone (at_rule rule cause (place_of test place os)) → All (λ o. test o ≡ false) os
+picked_none rule cause place test os h =
+    none_picked test os (sym (is_some-place_of test place os) ∙ is_none-at_rule rule cause (place_of test place os) h)
 
-none_at : (rule reason place : ℕ) (test : Parameter → Bool) (os : List Parameter) → All (λ o. test o ≡ false) os → IsNone (at_rule rule reason (place_of test place os))
-none_at rule reason place test os h =
-    at_rule-is_none rule reason (place_of test place os) (is_some-place_of test place os ∙ list_any_none test os h)
+none_at : (rule : ℕ) (cause : Reason) (place : ℕ) (test : Parameter → Bool) (os : List Parameter) → All (λ o. test o ≡ false) os → IsNone (at_rule rule cause (place_of test place os))
+none_at rule cause place test os h =
+    at_rule-is_none rule cause (place_of test place os) (is_some-place_of test place os ∙ list_any_none test os h)
 
 -- the rules for lists and the grammar's relation agree
 pub are_formed : (os : List Parameter) → AreWellFormed os → AreFormed os
@@ -111,23 +113,23 @@ are_formed os h =
     let h17 = option_or-none_right _ _ h16 in
     let h18 = option_or-none_right _ _ h17 in
     let h19 = option_or-none_right _ _ h18 in
-    let unknown = picked_none 16 0xb0 1 is_unknown os (option_or-none_left _ _ h16) in
-    let bad_security = picked_none 17 0xb2 1 has_bad_security os (option_or-none_left _ _ h17) in
-    let bad_route = picked_none 18 0x91 1 has_bad_route os (option_or-none_left _ _ h18) in
-    let bad_form = picked_none 19 0x04 1 has_bad_form os h19 in
+    let unknown = picked_none 16 UnsupportedOption 1 is_unknown os (option_or-none_left _ _ h16) in
+    let bad_security = picked_none 17 UnsupportedSecurity 1 has_bad_security os (option_or-none_left _ _ h17) in
+    let bad_route = picked_none 18 SourceRoutingSyntaxError 1 has_bad_route os (option_or-none_left _ _ h18) in
+    let bad_form = picked_none 19 HeaderSyntaxError 1 has_bad_form os h19 in
     record {
       formed = λ k d within. has_form (get_or os k d) (record { known = unknown k d within; security_form = bad_security k d within; route_form = bad_route k d within; other_forms = bad_form k d within });
-      distinct = (distinct_of [] 1 os (is_none-at_rule 15 0x07 _ (option_or-none_left _ _ h))).0;
+      distinct = (distinct_of [] 1 os (is_none-at_rule 15 DuplicateOption _ (option_or-none_left _ _ h))).0;
     }
 
 pub are_well_formed : (os : List Parameter) → AreFormed os → AreWellFormed os
 unfolding list_refusal
 are_well_formed os h =
-    option_or-is_none _ _ (at_rule-is_none 15 0x07 _ (no_repeat [] 1 os h.distinct (fresh_of_none os)))
-    (option_or-is_none _ _ (none_at 16 0xb0 1 is_unknown os (All-weaker HasForm _ (λ o f. (passes o f).known) os h.formed))
-    (option_or-is_none _ _ (none_at 17 0xb2 1 has_bad_security os (All-weaker HasForm _ (λ o f. (passes o f).security_form) os h.formed))
-    (option_or-is_none _ _ (none_at 18 0x91 1 has_bad_route os (All-weaker HasForm _ (λ o f. (passes o f).route_form) os h.formed))
-    (none_at 19 0x04 1 has_bad_form os (All-weaker HasForm _ (λ o f. (passes o f).other_forms) os h.formed)))))
+    option_or-is_none _ _ (at_rule-is_none 15 DuplicateOption _ (no_repeat [] 1 os h.distinct (fresh_of_none os)))
+    (option_or-is_none _ _ (none_at 16 UnsupportedOption 1 is_unknown os (All-weaker HasForm _ (λ o f. (passes o f).known) os h.formed))
+    (option_or-is_none _ _ (none_at 17 UnsupportedSecurity 1 has_bad_security os (All-weaker HasForm _ (λ o f. (passes o f).security_form) os h.formed))
+    (option_or-is_none _ _ (none_at 18 SourceRoutingSyntaxError 1 has_bad_route os (All-weaker HasForm _ (λ o f. (passes o f).route_form) os h.formed))
+    (none_at 19 HeaderSyntaxError 1 has_bad_form os (All-weaker HasForm _ (λ o f. (passes o f).other_forms) os h.formed)))))
 
 -- where all octets are of whole options, the part is what they spell
 pub spelled_of : (first : ℕ) (part : List ℕ) → IsNone (place_of_unfit first part) → part ≡ spelled (parameters part)
@@ -146,7 +148,7 @@ fits first part e = rw (eq-eqb _ _ (ap length (sym e))) refl
 pub forms_of : (part : List ℕ) → IsWellFormed part → Forms (parameters part) part
 unfolding form_refusal
 forms_of part h = record {
-  octets = spelled_of 1 part (is_none-at_rule 14 0x04 (place_of_unfit 1 part) (option_or-none_left _ _ h));
+  octets = spelled_of 1 part (is_none-at_rule 14 HeaderSyntaxError (place_of_unfit 1 part) (option_or-none_left _ _ h));
   formed = are_formed (parameters part) (option_or-none_right _ _ h);
 }
 
@@ -158,7 +160,7 @@ unfolding form_refusal
 well_formed_from os part h =
     let e = parameters-Forms os part h.octets in
     option_or-is_none _ _
-    (at_rule-is_none 14 0x04 (place_of_unfit 1 part) (fits 1 part (h.octets ∙ ap spelled (sym e))))
+    (at_rule-is_none 14 HeaderSyntaxError (place_of_unfit 1 part) (fits 1 part (h.octets ∙ ap spelled (sym e))))
     (rw e (are_well_formed os h.formed))
 
 -- a reason for discard in a report and in no other PDU
@@ -188,7 +190,7 @@ spells_of is_report part h =
     record {
       octets = f.octets;
       formed = f.formed;
-      kind = fits_kind_of is_report (parameters part) (is_none-at_rule 20 0x04 (place_of_reason is_report 1 (parameters part)) (option_or-none_right _ _ h));
+      kind = fits_kind_of is_report (parameters part) (is_none-at_rule 20 HeaderSyntaxError (place_of_reason is_report 1 (parameters part)) (option_or-none_right _ _ h));
     }
 
 pub accepts_from : (is_report : Bool) (os : List Parameter) (part : List ℕ) → Spells is_report os part → Accepts is_report part
@@ -196,7 +198,7 @@ unfolding refusal
 accepts_from is_report os part h =
     option_or-is_none _ _
     (well_formed_from os part (record { octets = h.octets; formed = h.formed }))
-    (at_rule-is_none 20 0x04 (place_of_reason is_report 1 (parameters part)) (rw (parameters-Forms os part h.octets) (reason_fits is_report os h.kind)))
+    (at_rule-is_none 20 HeaderSyntaxError (place_of_reason is_report 1 (parameters part)) (rw (parameters-Forms os part h.octets) (reason_fits is_report os h.kind)))
 
 pub accepted_anywhere : (is_report : Bool) (part : List ℕ) (first : ℕ) → (refusal part first is_report ≡ None) ↔ Accepts is_report part
 accepted_anywhere is_report part first =

@@ -6,6 +6,8 @@ use Rattle.clnp_options.specs.Parameter.{Parameter, padding, spelled, size_of, p
 use Rattle.clnp_options.specs.Rules.{place_of, place_of_repeat, place_of_unfit, place_of_reason, is_unknown, has_bad_security, has_bad_route, has_bad_form, is_reason, at_rule, list_refusal, form_refusal, refusal, contains_code, Gives, Accepts, IsWellFormed}
 use Rattle.clnp_options.specs.declared.judge.OptionRefusal.{OptionRefusal}
 use Rattle.clnp_options.proofs.Places.{is_some-place_of}
+use Rattle.clnp_options.specs.declared.reasons.Reason.{Reason}
+use Rattle.clnp_options.specs.declared.reasons.Reason.TheVariants.{DuplicateOption, HeaderSyntaxError, SourceRoutingSyntaxError, UnsupportedOption, UnsupportedSecurity}
 
 pub option_or-some : {A : Type 0} (a b : Option A) (x : A) → a ≡ Some x → option_or a b ≡ Some x
 option_or-some a b x e = rw e refl
@@ -14,14 +16,14 @@ pub option_or-none : {A : Type 0} (a b o : Option A) → a ≡ None → b ≡ o 
 option_or-none a b o e h = rw e h
 
 -- what a rule says at the place that was found
-pub at_rule-found : (rule reason : ℕ) (found place : Option ℕ) (o : Option OptionRefusal) → found ≡ place → at_rule rule reason found ≡ o → at_rule rule reason place ≡ o
-at_rule-found rule reason found place o e h = sym (ap (at_rule rule reason) e) ∙ h
+pub at_rule-found : (rule : ℕ) (cause : Reason) (found place : Option ℕ) (o : Option OptionRefusal) → found ≡ place → at_rule rule cause found ≡ o → at_rule rule cause place ≡ o
+at_rule-found rule cause found place o e h = sym (ap (at_rule rule cause) e) ∙ h
 
-pub is_some-at_rule : (rule reason : ℕ) (a b : Option ℕ) → is_some a ≡ is_some b → is_some (at_rule rule reason a) ≡ is_some (at_rule rule reason b)
-is_some-at_rule rule reason None None h = refl
-is_some-at_rule rule reason (Some x) (Some y) h = refl
-is_some-at_rule rule reason (Some x) None h = h
-is_some-at_rule rule reason None (Some y) h = h
+pub is_some-at_rule : (rule : ℕ) (cause : Reason) (a b : Option ℕ) → is_some a ≡ is_some b → is_some (at_rule rule cause a) ≡ is_some (at_rule rule cause b)
+is_some-at_rule rule cause None None h = refl
+is_some-at_rule rule cause (Some x) (Some y) h = refl
+is_some-at_rule rule cause (Some x) None h = h
+is_some-at_rule rule cause None (Some y) h = h
 
 pub is_some-option_or : {A : Type 0} (a b c d : Option A) → is_some a ≡ is_some b → is_some c ≡ is_some d → is_some (option_or a c) ≡ is_some (option_or b d)
 is_some-option_or None None c d h k = k
@@ -55,48 +57,48 @@ same-place_of_reason false p q os = same-place_of is_reason p q os
 pub same-list_refusal : (p q : ℕ) (os : List Parameter) → is_some (list_refusal p os) ≡ is_some (list_refusal q os)
 unfolding list_refusal
 same-list_refusal p q os =
-    is_some-option_or _ _ _ _ (is_some-at_rule 15 0x07 _ _ (same-place_of_repeat [] p q os))
-    (is_some-option_or _ _ _ _ (is_some-at_rule 16 0xb0 _ _ (same-place_of is_unknown p q os))
-    (is_some-option_or _ _ _ _ (is_some-at_rule 17 0xb2 _ _ (same-place_of has_bad_security p q os))
-    (is_some-option_or _ _ _ _ (is_some-at_rule 18 0x91 _ _ (same-place_of has_bad_route p q os))
-    (is_some-at_rule 19 0x04 _ _ (same-place_of has_bad_form p q os)))))
+    is_some-option_or _ _ _ _ (is_some-at_rule 15 DuplicateOption _ _ (same-place_of_repeat [] p q os))
+    (is_some-option_or _ _ _ _ (is_some-at_rule 16 UnsupportedOption _ _ (same-place_of is_unknown p q os))
+    (is_some-option_or _ _ _ _ (is_some-at_rule 17 UnsupportedSecurity _ _ (same-place_of has_bad_security p q os))
+    (is_some-option_or _ _ _ _ (is_some-at_rule 18 SourceRoutingSyntaxError _ _ (same-place_of has_bad_route p q os))
+    (is_some-at_rule 19 HeaderSyntaxError _ _ (same-place_of has_bad_form p q os)))))
 
 pub same-form_refusal : (p q : ℕ) (part : List ℕ) → is_some (form_refusal p part) ≡ is_some (form_refusal q part)
 unfolding form_refusal
 same-form_refusal p q part =
-    is_some-option_or _ _ _ _ (is_some-at_rule 14 0x04 _ _ (same-place_of_unfit p q part)) (same-list_refusal p q (parameters part))
+    is_some-option_or _ _ _ _ (is_some-at_rule 14 HeaderSyntaxError _ _ (same-place_of_unfit p q part)) (same-list_refusal p q (parameters part))
 
 pub same-refusal : (p q : ℕ) (part : List ℕ) (is_report : Bool) → is_some (refusal part p is_report) ≡ is_some (refusal part q is_report)
 unfolding refusal
 same-refusal p q part is_report =
-    is_some-option_or _ _ _ _ (same-form_refusal p q part) (is_some-at_rule 20 0x04 _ _ (same-place_of_reason is_report p q (parameters part)))
+    is_some-option_or _ _ _ _ (same-form_refusal p q part) (is_some-at_rule 20 HeaderSyntaxError _ _ (same-place_of_reason is_report p q (parameters part)))
 
 -- form_refusal, rule by rule
-pub refused_at_14 : (first : ℕ) (part : List ℕ) (r : OptionRefusal) → at_rule 14 0x04 (place_of_unfit first part) ≡ Some r → form_refusal first part ≡ Some r
+pub refused_at_14 : (first : ℕ) (part : List ℕ) (r : OptionRefusal) → at_rule 14 HeaderSyntaxError (place_of_unfit first part) ≡ Some r → form_refusal first part ≡ Some r
 unfolding form_refusal
 refused_at_14 first part r e = option_or-some _ _ r e
 
-pub passed_14 : (first : ℕ) (part : List ℕ) (o : Option OptionRefusal) → at_rule 14 0x04 (place_of_unfit first part) ≡ None → list_refusal first (parameters part) ≡ o → form_refusal first part ≡ o
+pub passed_14 : (first : ℕ) (part : List ℕ) (o : Option OptionRefusal) → at_rule 14 HeaderSyntaxError (place_of_unfit first part) ≡ None → list_refusal first (parameters part) ≡ o → form_refusal first part ≡ o
 unfolding form_refusal
 passed_14 first part o e h = option_or-none _ _ o e h
 
-pub refused_at_15 : (first : ℕ) (os : List Parameter) (r : OptionRefusal) → at_rule 15 0x07 (place_of_repeat [] first os) ≡ Some r → list_refusal first os ≡ Some r
+pub refused_at_15 : (first : ℕ) (os : List Parameter) (r : OptionRefusal) → at_rule 15 DuplicateOption (place_of_repeat [] first os) ≡ Some r → list_refusal first os ≡ Some r
 unfolding list_refusal
 refused_at_15 first os r e = option_or-some _ _ r e
 
-pub refused_at_16 : (first : ℕ) (os : List Parameter) (r : OptionRefusal) → at_rule 15 0x07 (place_of_repeat [] first os) ≡ None → at_rule 16 0xb0 (place_of is_unknown first os) ≡ Some r → list_refusal first os ≡ Some r
+pub refused_at_16 : (first : ℕ) (os : List Parameter) (r : OptionRefusal) → at_rule 15 DuplicateOption (place_of_repeat [] first os) ≡ None → at_rule 16 UnsupportedOption (place_of is_unknown first os) ≡ Some r → list_refusal first os ≡ Some r
 unfolding list_refusal
 refused_at_16 first os r e15 e = option_or-none _ _ _ e15 (option_or-some _ _ r e)
 
-pub refused_at_17 : (first : ℕ) (os : List Parameter) (r : OptionRefusal) → at_rule 15 0x07 (place_of_repeat [] first os) ≡ None → at_rule 16 0xb0 (place_of is_unknown first os) ≡ None → at_rule 17 0xb2 (place_of has_bad_security first os) ≡ Some r → list_refusal first os ≡ Some r
+pub refused_at_17 : (first : ℕ) (os : List Parameter) (r : OptionRefusal) → at_rule 15 DuplicateOption (place_of_repeat [] first os) ≡ None → at_rule 16 UnsupportedOption (place_of is_unknown first os) ≡ None → at_rule 17 UnsupportedSecurity (place_of has_bad_security first os) ≡ Some r → list_refusal first os ≡ Some r
 unfolding list_refusal
 refused_at_17 first os r e15 e16 e = option_or-none _ _ _ e15 (option_or-none _ _ _ e16 (option_or-some _ _ r e))
 
-pub refused_at_18 : (first : ℕ) (os : List Parameter) (r : OptionRefusal) → at_rule 15 0x07 (place_of_repeat [] first os) ≡ None → at_rule 16 0xb0 (place_of is_unknown first os) ≡ None → at_rule 17 0xb2 (place_of has_bad_security first os) ≡ None → at_rule 18 0x91 (place_of has_bad_route first os) ≡ Some r → list_refusal first os ≡ Some r
+pub refused_at_18 : (first : ℕ) (os : List Parameter) (r : OptionRefusal) → at_rule 15 DuplicateOption (place_of_repeat [] first os) ≡ None → at_rule 16 UnsupportedOption (place_of is_unknown first os) ≡ None → at_rule 17 UnsupportedSecurity (place_of has_bad_security first os) ≡ None → at_rule 18 SourceRoutingSyntaxError (place_of has_bad_route first os) ≡ Some r → list_refusal first os ≡ Some r
 unfolding list_refusal
 refused_at_18 first os r e15 e16 e17 e = option_or-none _ _ _ e15 (option_or-none _ _ _ e16 (option_or-none _ _ _ e17 (option_or-some _ _ r e)))
 
-pub passed_18 : (first : ℕ) (os : List Parameter) → at_rule 15 0x07 (place_of_repeat [] first os) ≡ None → at_rule 16 0xb0 (place_of is_unknown first os) ≡ None → at_rule 17 0xb2 (place_of has_bad_security first os) ≡ None → at_rule 18 0x91 (place_of has_bad_route first os) ≡ None → list_refusal first os ≡ at_rule 19 0x04 (place_of has_bad_form first os)
+pub passed_18 : (first : ℕ) (os : List Parameter) → at_rule 15 DuplicateOption (place_of_repeat [] first os) ≡ None → at_rule 16 UnsupportedOption (place_of is_unknown first os) ≡ None → at_rule 17 UnsupportedSecurity (place_of has_bad_security first os) ≡ None → at_rule 18 SourceRoutingSyntaxError (place_of has_bad_route first os) ≡ None → list_refusal first os ≡ at_rule 19 HeaderSyntaxError (place_of has_bad_form first os)
 unfolding list_refusal
 passed_18 first os e15 e16 e17 e18 = option_or-none _ _ _ e15 (option_or-none _ _ _ e16 (option_or-none _ _ _ e17 (option_or-none _ _ _ e18 refl)))
 
@@ -104,7 +106,7 @@ pub refused_by_form : (first : ℕ) (part : List ℕ) (is_report : Bool) (r : Op
 unfolding refusal
 refused_by_form first part is_report r e = option_or-some _ _ r e
 
-pub passed_form : (first : ℕ) (part : List ℕ) (is_report : Bool) (o : Option OptionRefusal) → form_refusal first part ≡ None → at_rule 20 0x04 (place_of_reason is_report first (parameters part)) ≡ o → refusal part first is_report ≡ o
+pub passed_form : (first : ℕ) (part : List ℕ) (is_report : Bool) (o : Option OptionRefusal) → form_refusal first part ≡ None → at_rule 20 HeaderSyntaxError (place_of_reason is_report first (parameters part)) ≡ o → refusal part first is_report ≡ o
 unfolding refusal
 passed_form first part is_report o e h = option_or-none _ _ o e h
 

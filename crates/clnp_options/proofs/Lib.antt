@@ -5,6 +5,6 @@ pub mod Located
 pub mod Least
 pub mod Forms
 pub mod Agree
-pub mod Holds
+pub mod Pushed
 pub mod Edited
 pub mod Values

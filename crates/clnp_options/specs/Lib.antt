@@ -1,9 +1,9 @@
-pub mod Parameter
-pub mod Grammar
-pub mod Rules
 pub mod Edits
-pub mod View
-pub mod Tests
-pub mod Reading
+pub mod Grammar
 pub mod Located
-pub mod Filled
+pub mod Parameter
+pub mod Reading
+pub mod Reasons
+pub mod Rules
+pub mod Tests
+pub mod View

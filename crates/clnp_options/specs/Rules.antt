@@ -5,6 +5,9 @@ use Rattle.std.specs.List.{list_any}
 use Rattle.std.specs.Option.{option_or}
 use Rattle.clnp_options.specs.Parameter.{Parameter, padding, security, source_route, recording, quality, priority, reason, known_codes, spelled, size_of, parameters}
 use Rattle.clnp_options.specs.declared.judge.OptionRefusal.{OptionRefusal}
+use Rattle.clnp_options.specs.declared.reasons.Reason.{Reason}
+use Rattle.clnp_options.specs.declared.reasons.Reason.TheVariants.{DuplicateOption, HeaderSyntaxError, SourceRoutingSyntaxError, UnsupportedOption, UnsupportedSecurity}
+use Rattle.clnp_options.specs.Reasons.{reason_code}
 
 -- whether whole titles, each of 1 to 20 octets after its length octet, fill what follows the first `skipped` octets
 unfoldable pub are_titles_after : ℕ → List ℕ → Bool
@@ -96,27 +99,27 @@ place_of_reason is_report first options =
     else place_of is_reason first options
 
 -- a broken rule with its reason, at a place if there is one
-abbrev pub at_rule : ℕ → ℕ → Option ℕ → Option OptionRefusal
-at_rule rule reason place = option_map (λ p. record { rule = rule; reason = reason; place = p }) place
+abbrev pub at_rule : ℕ → Reason → Option ℕ → Option OptionRefusal
+at_rule rule cause place = option_map (λ p. record { rule = rule; reason = reason_code cause; place = p }) place
 
 -- the least of G15 to G19 that a list of options breaks, where the first option stands at `first`
 unfoldable pub list_refusal : ℕ → List Parameter → Option OptionRefusal
 list_refusal first options =
-    option_or (at_rule 15 0x07 (place_of_repeat [] first options))
-    (option_or (at_rule 16 0xb0 (place_of is_unknown first options))
-    (option_or (at_rule 17 0xb2 (place_of has_bad_security first options))
-    (option_or (at_rule 18 0x91 (place_of has_bad_route first options))
-    (at_rule 19 0x04 (place_of has_bad_form first options)))))
+    option_or (at_rule 15 DuplicateOption (place_of_repeat [] first options))
+    (option_or (at_rule 16 UnsupportedOption (place_of is_unknown first options))
+    (option_or (at_rule 17 UnsupportedSecurity (place_of has_bad_security first options))
+    (option_or (at_rule 18 SourceRoutingSyntaxError (place_of has_bad_route first options))
+    (at_rule 19 HeaderSyntaxError (place_of has_bad_form first options)))))
 
 -- the least of G14 to G19 that a part breaks
 unfoldable pub form_refusal : ℕ → List ℕ → Option OptionRefusal
 form_refusal first part =
-    option_or (at_rule 14 0x04 (place_of_unfit first part)) (list_refusal first (parameters part))
+    option_or (at_rule 14 HeaderSyntaxError (place_of_unfit first part)) (list_refusal first (parameters part))
 
 -- the least of G14 to G20 that a part breaks, where its first octet has place `first` in the header
 unfoldable pub refusal : List ℕ → ℕ → Bool → Option OptionRefusal
 refusal part first is_report =
-    option_or (form_refusal first part) (at_rule 20 0x04 (place_of_reason is_report first (parameters part)))
+    option_or (form_refusal first part) (at_rule 20 HeaderSyntaxError (place_of_reason is_report first (parameters part)))
 
 -- a list of options breaks none of G15 to G19
 abbrev pub AreWellFormed : List Parameter → Type 0

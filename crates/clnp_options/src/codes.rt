@@ -1,5 +1,4 @@
-//! The codes of the table of options (ISO/IEC 8473, section 7.5), and the reasons for discard
-//! (section 7.9.5) that a broken rule of the options part gives.
+//! The codes of the table of options (ISO/IEC 8473, section 7.5).
 
 /// Padding, any octets; the only option that may be repeated.
 pub const PADDING: u8 = 0xcc;
@@ -15,14 +14,3 @@ pub const QUALITY: u8 = 0xc3;
 pub const PRIORITY: u8 = 0xcd;
 /// Reason for discard, in an error report alone.
 pub const REASON: u8 = 0xc1;
-
-/// Header syntax error.
-pub const HEADER_SYNTAX: u8 = 0x04;
-/// Duplicate option.
-pub const DUPLICATE_OPTION: u8 = 0x07;
-/// Source routing syntax error.
-pub const ROUTE_SYNTAX: u8 = 0x91;
-/// Unsupported option.
-pub const UNSUPPORTED_OPTION: u8 = 0xb0;
-/// Unsupported security.
-pub const UNSUPPORTED_SECURITY: u8 = 0xb2;

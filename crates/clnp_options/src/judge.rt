@@ -6,12 +6,10 @@ ghost use Rattle.clnp_options.specs.Rules as rules;
 ghost use Rattle.clnp_options.specs.Rules.{refusal, Accepts, IsWellFormed, Gives};
 ghost use Rattle.clnp_options.specs.Tests.{test_of};
 
-use crate::codes::{
-    DUPLICATE_OPTION, HEADER_SYNTAX, PADDING, ROUTE_SYNTAX, UNSUPPORTED_OPTION,
-    UNSUPPORTED_SECURITY,
-};
+use crate::codes::PADDING;
 use crate::form::{Test, picks};
 use crate::read::first_option;
+use crate::reasons::Reason;
 
 /// Why an options part is refused: the least broken rule, 14 to 20, the reason for discard that it
 /// gives (ISO/IEC 8473, section 7.9.5), and the place in the header, from 1, of the octet at fault.
@@ -43,7 +41,7 @@ pub fn check(part: &[u8], first: u8, is_report: bool) -> Result<(), OptionRefusa
     ensures well_formed { OnOk result (IsWellFormed part.now) }
 {
     check_form(part, first)?;
-    at_rule(20, HEADER_SYNTAX, place_of_reason(part, first, is_report))
+    at_rule(20, Reason::HeaderSyntaxError, place_of_reason(part, first, is_report))
 }
 
 /// The rules that don't depend on the kind of the PDU, G14 to G19.
@@ -51,27 +49,27 @@ fn check_form(part: &[u8], first: u8) -> Result<(), OptionRefusal>
     requires { first + length part.now ≤ 255 }
     ensures { Gives result (rules.form_refusal first part.now) }
 {
-    at_rule(14, HEADER_SYNTAX, place_of_unfit(part, first))?;
-    at_rule(15, DUPLICATE_OPTION, place_of_repeat(part, first))?;
-    at_rule(16, UNSUPPORTED_OPTION, place_of(Test::Unknown, part, first))?;
+    at_rule(14, Reason::HeaderSyntaxError, place_of_unfit(part, first))?;
+    at_rule(15, Reason::DuplicateOption, place_of_repeat(part, first))?;
+    at_rule(16, Reason::UnsupportedOption, place_of(Test::Unknown, part, first))?;
     at_rule(
         17,
-        UNSUPPORTED_SECURITY,
+        Reason::UnsupportedSecurity,
         place_of(Test::Security, part, first),
     )?;
-    at_rule(18, ROUTE_SYNTAX, place_of(Test::Route, part, first))?;
-    at_rule(19, HEADER_SYNTAX, place_of(Test::Form, part, first))
+    at_rule(18, Reason::SourceRoutingSyntaxError, place_of(Test::Route, part, first))?;
+    at_rule(19, Reason::HeaderSyntaxError, place_of(Test::Form, part, first))
 }
 
 /// Refuses by this rule where there is a place at which it is broken.
-fn at_rule(rule: u8, reason: u8, broken_at: Option<u8>) -> Result<(), OptionRefusal>
+fn at_rule(rule: u8, reason: Reason, broken_at: Option<u8>) -> Result<(), OptionRefusal>
     ensures { Gives result (rules.at_rule rule reason broken_at) }
 {
     match broken_at {
         None => Ok(()),
         Some(place) => Err(OptionRefusal {
             rule,
-            reason,
+            reason: reason.code(),
             place,
         }),
     }

@@ -10,10 +10,11 @@ mod kinds;
 pub mod laws;
 mod list;
 mod read;
-#[cfg(test)]
-mod tests;
+mod reasons;
 
 pub use edit::{advance_route, level, mark_congestion, record_title, route_target};
 pub use judge::{OptionRefusal, check};
 pub use kinds::{OptionRef, Options, walk};
 pub use list::{OptionList, OptionTooLong};
+pub use read::first_option;
+pub use reasons::Reason;

@@ -1,6 +1,6 @@
 //! A list of options in octets of its own.
 
-ghost use Rattle.std.specs.Prelude.{◌≡◌, ◌+◌, ◌≤◌, ◌↔◌, ◌∷◌, ◌++◌, [], false, length, take, drop, IsOk, IfOk, OnOk, OnErr, IfErr, Some};
+ghost use Rattle.std.specs.Prelude.{◌≡◌, ◌+◌, ◌≤◌, ◌↔◌, ◌∷◌, ◌++◌, [], false, length, IsOk, IfOk, OnOk, OnErr, IfErr, Some};
 ghost use Rattle.clnp_options.specs.Parameter.{Parameter, parameters, spelling, size_of};
 ghost use Rattle.clnp_options.specs.Rules.{refusal, AreWellFormed, IsWellFormed, Accepts};
 ghost use Rattle.clnp_options.specs.View.{parameter_of};
@@ -8,6 +8,7 @@ ghost use Rattle.clnp_options.specs.View.{parameter_of};
 use crate::codes::{PADDING, PRIORITY, QUALITY, REASON, RECORDING, SECURITY, SOURCE_ROUTE};
 use crate::judge::{OptionRefusal, check};
 use crate::kinds::OptionRef;
+use clnp_base::InlineOctets;
 use std::marker::Model;
 
 /// The most octets that a list holds.
@@ -23,23 +24,20 @@ pub struct OptionTooLong {
 /// A list of options as the octets that spell it, 0 to 254, that breaks none of the rules G14 to G19.
 #[derive(Clone, Copy, PartialEq, Eq, Debug)]
 pub struct OptionList {
-    len: u8,
-    octets: [u8; 254],
+    octets: InlineOctets<ROOM>,
 }
 
 impl Model for OptionList {
-    ghost use Rattle.std.specs.Prelude.{◌-◌, ◌++◌, List, ℕ, length, take, replicate};
-    ghost use Rattle.clnp_options.specs.Filled.{IsFilled, length-front, octets_again};
+    ghost use Rattle.std.specs.Prelude.{List, ℕ};
+    ghost use Rattle.clnp_options.specs.Rules.{IsWellFormed};
 
     ghost Value = { List ℕ };
 
-    ghost view = { λ s. take s.len s.octets };
+    ghost view = { λ list. list.octets };
 
-    ghost invariant = { λ s. IsFilled s.len s.octets };
+    ghost invariant = { λ list. IsWellFormed list.octets };
 
-    ghost inverse = { λ v. record { len = length v; octets = v ++ replicate (254 - length v) 0 } };
-
-    ghost inverse_ok = { λ s h i. record { len = length-front s.len s.octets h i; octets = octets_again s.len s.octets h i } };
+    ghost inverse = { λ octets. record { octets = octets } };
 }
 
 impl OptionList {
@@ -48,8 +46,7 @@ impl OptionList {
         ensures { result ≡ [] }
     {
         OptionList {
-            len: 0,
-            octets: [0; 254],
+            octets: InlineOctets::new(),
         }
     }
 
@@ -94,16 +91,14 @@ impl OptionList {
         ensures too_long { IfErr result (λ e. e.octets ≡ length self.old + (2 + length (front.now ++ back.now))) }
         ensures unchanged { OnErr result (self.new ≡ self.old) }
     {
-        let start = self.len as usize;
         let size = front.len() + back.len();
-        let end = start + 2 + size;
-        if end > ROOM {
-            return Err(OptionTooLong { octets: end });
+        let octets = self.octets.len() + 2 + size;
+        if octets > ROOM {
+            return Err(OptionTooLong { octets });
         }
-        write(&mut self.octets, start, &[code, size as u8]);
-        write(&mut self.octets, start + 2, front);
-        write(&mut self.octets, start + 2 + front.len(), back);
-        self.len = end as u8;
+        self.octets.push(&[code, size as u8]);
+        self.octets.push(front);
+        self.octets.push(back);
         Ok(())
     }
 
@@ -116,11 +111,8 @@ impl OptionList {
         ensures refused { IfErr result (λ r. refusal part.now 1 false ≡ Some r) }
     {
         check(part, 1, false)?;
-        let mut octets = [0; 254];
-        write(&mut octets, 0, part);
         Ok(OptionList {
-            len: part.len() as u8,
-            octets,
+            octets: InlineOctets::of(part),
         })
     }
 
@@ -130,14 +122,6 @@ impl OptionList {
         ensures short { length result.now ≤ 254 }
         ensures well_formed { IsWellFormed result.now }
     {
-        &self.octets[..self.len as usize]
+        self.octets.as_bytes()
     }
-}
-
-/// Writes the piece over the octets from a place on, counted from 0.
-fn write(octets: &mut [u8; 254], at: usize, piece: &[u8])
-    requires { at + length piece.now ≤ 254 }
-    ensures { octets.new ≡ take at octets.old ++ (piece.now ++ drop (at + length piece.now) octets.old) }
-{
-    octets[at..at + piece.len()].copy_from_slice(piece);
 }

@@ -1,33 +1,28 @@
 //! Up to 254 octets, which lie in the value itself.
 ghost use Rattle.std.specs.Prelude.{◌≡◌, ◌≤◌, length};
 
+use clnp_base::InlineOctets;
 use std::marker::Model;
 
 /// The most octets of a head, as the header of a PDU has at most 254 (ISO/IEC 8473, section 7.2.3).
 const MOST: usize = 254;
 
-/// 0 to 254 octets, as of a header. The cells past them are 0, so that one list of octets is one value.
+/// 0 to 254 octets, as of a header.
 ///
 /// A contract sees it as the list of its octets.
 #[derive(Clone, Copy, PartialEq, Eq, Debug)]
 pub struct Head {
-    len: u8,
-    cells: [u8; MOST],
+    octets: InlineOctets<MOST>,
 }
 
 impl Model for Head {
-    ghost use Rattle.std.specs.Prelude.{◌-◌, ◌++◌, List, ℕ, length, take, replicate};
-    ghost use Rattle.clnp_views.specs.Held.{IsHeld, length-front, cells_again};
+    ghost use Rattle.std.specs.Prelude.{List, ℕ};
 
     ghost Value = { List ℕ };
 
-    ghost view = { λ s. take s.len s.cells };
+    ghost view = { λ head. head.octets };
 
-    ghost invariant = { λ s. IsHeld s.len s.cells };
-
-    ghost inverse = { λ v. record { len = length v; cells = v ++ replicate (254 - length v) 0 } };
-
-    ghost inverse_ok = { λ s h i. record { len = length-front s.len s.cells h i; cells = cells_again s.len s.cells h i } };
+    ghost inverse = { λ octets. record { octets = octets } };
 }
 
 impl Head {
@@ -36,11 +31,8 @@ impl Head {
         requires { length octets.now ≤ 254 }
         ensures { result ≡ octets.now }
     {
-        let mut cells = [0; MOST];
-        cells[..octets.len()].copy_from_slice(octets);
         Head {
-            len: octets.len() as u8,
-            cells,
+            octets: InlineOctets::of(octets),
         }
     }
 
@@ -49,6 +41,6 @@ impl Head {
         ensures octets { result.now ≡ self.now }
         ensures few { length result.now ≤ 254 }
     {
-        &self.cells[..self.len as usize]
+        self.octets.as_bytes()
     }
 }

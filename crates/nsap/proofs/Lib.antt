@@ -1,3 +1,2 @@
-pub mod CellsFacts
 pub mod HexTextFacts
 pub mod TextFacts

@@ -8,8 +8,6 @@ pub mod laws;
 mod octets;
 mod snpa;
 mod target;
-#[cfg(test)]
-mod tests;
 
 pub use crate::address::Address;
 pub use crate::fault::NsapFault;

@@ -1,39 +1,37 @@
 //! One to twenty octets, which lie in the value itself.
-ghost use Rattle.std.specs.Prelude.{◌≡◌, ◌++◌, ◌<◌, ◌≤◌, length, take, IfOk, IfNone, IfSome, OnOk, OnErr};
+ghost use Rattle.std.specs.Prelude.{◌≡◌, ◌++◌, ◌<◌, ◌≤◌, length, take, IfOk, IfNone, IfSome, OnOk, OnErr, Some, nat_eq, refl};
+ghost use Rattle.std.specs.Cmp.{partial_equiv_from_equiv};
+ghost use Rattle.std.specs.Cmp.Lexicographic.{nat_list_cmp_total, nat_list_eq_equiv, pointwise, slice_cmp, texts_po, texts_ties};
+ghost use Rattle.std.specs.Ordering.{nat_cmp};
 ghost use Rattle.nsap.specs.Address.{IsAddress, address_of};
 ghost use Rattle.nsap.specs.Text.{bad_digit, hex_text, may_stand, octets_of, without_dots};
 
 use crate::fault::NsapFault;
-use clnp_base::NoMemory;
-use std::alloc::Global;
+use clnp_base::{InlineOctets, NoMemory, push_hex};
+use std::cmp::Ordering;
 use std::marker::Model;
 
 /// The most octets of an address.
 const MOST: usize = 20;
 
-/// One to twenty octets. The cells past them are 0, so that one list of octets is one value.
+/// One to twenty octets, which a contract sees as their list. They are ordered as lists are: the first
+/// octets that differ decide, and a beginning of a list comes before it.
 #[derive(Clone, Copy, Debug)]
 pub struct Octets {
-    cells: [u8; MOST],
-    len: usize,
+    octets: InlineOctets<MOST>,
 }
 
 impl Model for Octets {
-    ghost use Rattle.std.specs.Prelude.{◌-◌, ◌++◌, ℕ, List, length, take, replicate};
-    ghost use Rattle.nsap.specs.Cells.{IsPadded, cells_again, len_again};
+    ghost use Rattle.std.specs.Prelude.{ℕ, List};
+    ghost use Rattle.nsap.specs.Address.{IsAddress};
 
     ghost Value = { List ℕ };
 
-    ghost view = { λ s. take s.len s.cells };
+    ghost view = { λ s. s.octets };
 
-    ghost invariant = { λ s. IsPadded s.cells s.len };
+    ghost invariant = { λ s. IsAddress s.octets };
 
-    ghost inverse = { λ l. record { cells = l ++ replicate (20 - length l) 0; len = length l } };
-
-    ghost inverse_ok = { λ s h i. record {
-      cells = cells_again s.cells s.len h i;
-      len = len_again s.cells s.len h i;
-    } };
+    ghost inverse = { λ l. record { octets = l } };
 }
 
 impl Octets {
@@ -45,11 +43,8 @@ impl Octets {
         if octets.is_empty() || octets.len() > MOST {
             return Err(NsapFault::Length);
         }
-        let mut cells = [0; MOST];
-        cells[..octets.len()].copy_from_slice(octets);
         Ok(Octets {
-            cells,
-            len: octets.len(),
+            octets: InlineOctets::of(octets),
         })
     }
 
@@ -78,16 +73,53 @@ impl Octets {
         ensures octets { result.now ≡ self.now }
         ensures bounds { IsAddress self.now }
     {
-        &self.cells[..self.len]
+        self.octets.as_bytes()
     }
 
     /// Appends the octets as hexadecimal digits.
-    pub fn push_text(&self, alloc: Global, out: &mut Vec<u8>) -> Result<(), NoMemory>
+    pub fn push_text(&self, out: &mut Vec<u8>) -> Result<(), NoMemory>
         ensures written { OnOk result (out.new.items ≡ out.old.items ++ hex_text self.now) }
         ensures same { OnErr result (out.new.items ≡ out.old.items) }
     {
-        let text = hex::encode(alloc, self.as_bytes()).map_err(|_| NoMemory)?;
-        out.extend_from_slice(text.as_bytes()).map_err(|_| NoMemory)
+        push_hex(self.as_bytes(), out)
+    }
+}
+
+impl PartialEq for Octets {
+    ghost eq = { λ a b. pointwise nat_eq a b };
+
+    ghost laws = { partial_equiv_from_equiv nat_list_eq_equiv };
+
+    fn eq(&self, other: &Octets) -> bool {
+        self.as_bytes() == other.as_bytes()
+    }
+}
+
+impl Eq for Octets {
+    ghost laws = { nat_list_eq_equiv };
+}
+
+impl PartialOrd for Octets {
+    ghost partial_cmp = { λ a b. Some (slice_cmp nat_cmp a b) };
+
+    ghost laws = { texts_po };
+
+    fn partial_cmp(&self, other: &Octets) -> Option<Ordering> {
+        Some(self.cmp(other))
+    }
+}
+
+impl Ord for Octets {
+    ghost cmp = { λ a b. slice_cmp nat_cmp a b };
+
+    ghost total = { nat_list_cmp_total };
+
+    ghost matches_partial_cmp = { λ a b. refl };
+
+    ghost matches_eq = { λ a b. texts_ties a b };
+
+    fn cmp(&self, other: &Octets) -> Ordering {
+        self.as_bytes().cmp(other.as_bytes())
     }
 }
 

@@ -1,16 +1,11 @@
 //! Addresses on a subnetwork.
-ghost use Rattle.std.specs.Prelude.{◌≡◌, ◌++◌, IfOk, OnOk, OnErr, Some, nat_eq, refl};
-ghost use Rattle.std.specs.Cmp.{partial_equiv_from_equiv};
-ghost use Rattle.std.specs.Cmp.Lexicographic.{nat_list_cmp_total, nat_list_eq_equiv, pointwise, slice_cmp, texts_po, texts_ties};
-ghost use Rattle.std.specs.Ordering.{nat_cmp};
+ghost use Rattle.std.specs.Prelude.{◌≡◌, ◌++◌, IfOk, OnOk, OnErr};
 ghost use Rattle.nsap.specs.Address.{IsAddress, address_of};
 ghost use Rattle.nsap.specs.Text.{hex_text, octets_of};
 
 use crate::fault::NsapFault;
 use crate::octets::Octets;
 use clnp_base::NoMemory;
-use std::alloc::Global;
-use std::cmp::Ordering;
 use std::marker::Model;
 
 /// The address of a system's point of attachment to a subnetwork, its SNPA: 1 to 20 octets (ISO
@@ -18,7 +13,7 @@ use std::marker::Model;
 ///
 /// A contract sees it as the list of its octets, and it is ordered as they are: the first octets
 /// that differ decide, and a beginning of an address comes before it.
-#[derive(Clone, Copy, Debug)]
+#[derive(Clone, Copy, PartialEq, Eq, PartialOrd, Ord, Debug)]
 pub struct Snpa {
     octets: Octets,
 }
@@ -43,10 +38,8 @@ impl Snpa {
         ensures value { result ≡ address_of octets.now }
         ensures bounds { IfOk result IsAddress }
     {
-        match Octets::from_bytes(octets) {
-            Ok(octets) => Ok(Snpa { octets }),
-            Err(fault) => Err(fault),
-        }
+        let octets = Octets::from_bytes(octets)?;
+        Ok(Snpa { octets })
     }
 
     /// The address that a text spells: two hexadecimal digits an octet, in either case. Dots are
@@ -61,10 +54,8 @@ impl Snpa {
         ensures value { result ≡ octets_of text.now }
         ensures bounds { IfOk result IsAddress }
     {
-        match Octets::from_text(text) {
-            Ok(octets) => Ok(Snpa { octets }),
-            Err(fault) => Err(fault),
-        }
+        let octets = Octets::from_text(text)?;
+        Ok(Snpa { octets })
     }
 
     /// The octets, 1 to 20.
@@ -80,48 +71,10 @@ impl Snpa {
     /// # Errors
     ///
     /// `NoMemory`; `out` is then as it was.
-    pub fn push_text(&self, alloc: Global, out: &mut Vec<u8>) -> Result<(), NoMemory>
+    pub fn push_text(&self, out: &mut Vec<u8>) -> Result<(), NoMemory>
         ensures written { OnOk result (out.new.items ≡ out.old.items ++ hex_text self.now) }
         ensures same { OnErr result (out.new.items ≡ out.old.items) }
     {
-        self.octets.push_text(alloc, out)
-    }
-}
-
-impl PartialEq for Snpa {
-    ghost eq = { λ a b. pointwise nat_eq a b };
-
-    ghost laws = { partial_equiv_from_equiv nat_list_eq_equiv };
-
-    fn eq(&self, other: &Snpa) -> bool {
-        self.as_bytes() == other.as_bytes()
-    }
-}
-
-impl Eq for Snpa {
-    ghost laws = { nat_list_eq_equiv };
-}
-
-impl PartialOrd for Snpa {
-    ghost partial_cmp = { λ a b. Some (slice_cmp nat_cmp a b) };
-
-    ghost laws = { texts_po };
-
-    fn partial_cmp(&self, other: &Snpa) -> Option<Ordering> {
-        Some(self.cmp(other))
-    }
-}
-
-impl Ord for Snpa {
-    ghost cmp = { λ a b. slice_cmp nat_cmp a b };
-
-    ghost total = { nat_list_cmp_total };
-
-    ghost matches_partial_cmp = { λ a b. refl };
-
-    ghost matches_eq = { λ a b. texts_ties a b };
-
-    fn cmp(&self, other: &Snpa) -> Ordering {
-        self.as_bytes().cmp(other.as_bytes())
+        self.octets.push_text(out)
     }
 }

@@ -14,3 +14,6 @@ returns-clause-well_formed c = λ part. ((λ h. forms_of part h), (λ f. well_fo
 
 pub returns-clause-list : goal.returns-clause-list
 returns-clause-list c = λ options. ((λ h. are_formed options h), (λ f. are_well_formed options f))
+
+pub returns-clause-from_forms : goal.returns-clause-from_forms
+returns-clause-from_forms c = well_formed_from

@@ -17,3 +17,9 @@ returns-clause-accepts c =
 pub returns-clause-one_list : goal.returns-clause-one_list
 returns-clause-one_list c =
     λ kind other_kind part options others s t. sym (parameters-Forms options part s.octets) ∙ parameters-Forms others part t.octets
+
+pub returns-clause-from_spelling : goal.returns-clause-from_spelling
+returns-clause-from_spelling c = accepts_from
+
+pub returns-clause-anywhere : goal.returns-clause-anywhere
+returns-clause-anywhere c = accepted_anywhere

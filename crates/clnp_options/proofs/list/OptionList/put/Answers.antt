@@ -1,15 +1,21 @@
-use Rattle.std.proofs.Common.{arith}
-use Rattle.clnp_options.proofs.Holds.{three_writes}
+use Rattle.std.proofs.Common.{◌≡◌, ◌++◌, refl}
+use Rattle.clnp_options.specs.Parameter.{Parameter, spelling}
+use Rattle.clnp_options.specs.Rules.{IsWellFormed}
+use Rattle.clnp_options.proofs.Pushed.{put_behind, well_formed-pushed, parameters-pushed}
 use Rattle.clnp_options.proofs.list.OptionList.put.Goals as goal
 
 pub invariant_of-self : goal.invariant_of-self
 invariant_of-self c =
-    (three_writes c.self.inside.len c.args.code c.args.self.now c.self.inside.octets c.args.front.now c.args.back.now _ _ _ c.self.invariant c.self.view_is (omega arith) c.requires.well_formed c.write.ensures c.write-2.ensures c.write-3.ensures).filled
-
-pub returns-clause-pushed : goal.returns-clause-pushed
-returns-clause-pushed c =
-    (three_writes c.self.inside.len c.args.code c.args.self.now c.self.inside.octets c.args.front.now c.args.back.now _ _ _ c.self.invariant c.self.view_is (omega arith) c.requires.well_formed c.write.ensures c.write-2.ensures c.write-3.ensures).pushed
+    let option : Parameter = record { code = c.args.code; value = c.args.front.now ++ c.args.back.now } in
+    let before : IsWellFormed c.args.self.now = rw c.self.view_is at c.self.invariant in
+    let whole : c.push-3.new.self ≡ c.args.self.now ++ spelling option =
+    rw (c.push-3.ensures, c.push-2.ensures, c.push.ensures, c.self.view_is) (put_behind c.args.code _ c.args.self.now c.args.front.now c.args.back.now refl) in
+    rw whole (well_formed-pushed c.args.self.now option before c.requires.well_formed)
 
 pub returns-clause-options : goal.returns-clause-options
 returns-clause-options c =
-    (three_writes c.self.inside.len c.args.code c.args.self.now c.self.inside.octets c.args.front.now c.args.back.now _ _ _ c.self.invariant c.self.view_is (omega arith) c.requires.well_formed c.write.ensures c.write-2.ensures c.write-3.ensures).options
+    let option : Parameter = record { code = c.args.code; value = c.args.front.now ++ c.args.back.now } in
+    let before : IsWellFormed c.args.self.now = rw c.self.view_is at c.self.invariant in
+    let whole : c.push-3.new.self ≡ c.args.self.now ++ spelling option =
+    rw (c.push-3.ensures, c.push-2.ensures, c.push.ensures, c.self.view_is) (put_behind c.args.code _ c.args.self.now c.args.front.now c.args.back.now refl) in
+    rw whole (parameters-pushed c.args.self.now option before c.requires.well_formed)

@@ -1,4 +1,4 @@
-use super::*;
+use nsap::{Address, NsapFault, Snpa, Target};
 use std::cmp::Ordering;
 use std::test::Fail;
 
@@ -72,9 +72,9 @@ fn counts_octets(rt: HostRuntime) -> Result<(), Fail> {
 fn writes_texts(rt: HostRuntime) -> Result<(), Fail> {
     let alloc = rt.alloc();
     let mut out = Vec::new(alloc);
-    Address::from_text(b"47.00.FF")?.push_text(alloc, &mut out)?;
+    Address::from_text(b"47.00.FF")?.push_text(&mut out)?;
     out.push(b' ')?;
-    Snpa::from_bytes(&[0x02, 0xab])?.push_text(alloc, &mut out)?;
+    Snpa::from_bytes(&[0x02, 0xab])?.push_text(&mut out)?;
     assert_eq!(rt; out.as_slice(), b"4700ff 02ab".as_slice());
     Ok(())
 }
@@ -93,11 +93,4 @@ fn compares_octets(rt: HostRuntime) -> Result<(), Fail> {
     assert!(rt; target == target && target != Target::EndSystems);
     assert!(rt; Target::Routers != Target::EndSystems);
     Ok(())
-}
-
-#[test]
-fn laws_can_be_called() {
-    laws::text_reads_back();
-    laws::read_is_address();
-    laws::text_is_digits();
 }

@@ -1,9 +1,7 @@
-ghost use Rattle.std.specs.Prelude.{◌≡◌, length};
-ghost use Rattle.clnp_base.specs.Text.{lines_of};
-
-use crate::{
-    Failed, MemSink, MemSource, NoMemory, Octets, ReadStop, Sink, Source, StdSink, StdSource,
-    decimal, lines, next_line, next_word, read_all, words, write_all,
+use clnp_base::{
+    Failed, HexFault, InlineOctets, MemSink, MemSource, NoMemory, Octets, ReadStop, Sink, Source, StdSink,
+    StdSource, decimal, lines, next_line, next_word, push, push_decimal, push_hex, push_unhex, read_all, words,
+    write_all,
 };
 use std::alloc::Global;
 use std::io;
@@ -112,21 +110,7 @@ fn cuts_lines(rt: HostRuntime) {
         found = found.max(line.len());
     }
     assert_eq!(rt; found, 9);
-    assert_eq!(rt; line_count(text), 4);
-    assert_eq!(rt; line_count(b"a\nb\n"), 2);
-    assert_eq!(rt; line_count(b""), 0);
     assert!(rt; next_line(b"").is_none());
-}
-
-/// How many lines a text has.
-fn line_count(text: &[u8]) -> usize
-    ensures { result ≡ length (lines_of text.now) }
-{
-    let mut count = 0;
-    for _line in lines(text) {
-        count += 1;
-    }
-    count
 }
 
 #[test]
@@ -166,4 +150,43 @@ fn copies_octets(rt: HostRuntime) -> Result<(), Fail> {
     assert_eq!(rt; octets, Octets::copy(rt.alloc(), b"abc")?);
     assert_ne!(rt; octets, Octets::copy(rt.alloc(), b"ab")?);
     Ok(())
+}
+
+#[test]
+fn puts_text_out(rt: HostRuntime) -> Result<(), Fail> {
+    let mut out = Vec::new(rt.alloc());
+    push(b"id ", &mut out)?;
+    push_hex(&[0x00, 0x9f, 0xa0, 0xff], &mut out)?;
+    push(b" ", &mut out)?;
+    push_decimal(0, &mut out)?;
+    push(b" ", &mut out)?;
+    push_decimal(u64::MAX, &mut out)?;
+    assert_eq!(rt; out.as_slice(), b"id 009fa0ff 0 18446744073709551615".as_slice());
+    Ok(())
+}
+
+#[test]
+fn reads_hexadecimal_digits(rt: HostRuntime) -> Result<(), Fail> {
+    let mut out = Vec::from_slice(rt.alloc(), b"-")?;
+    assert_eq!(rt; push_unhex(b"009Fa0fF", &mut out), Ok(()));
+    assert_eq!(rt; push_unhex(b"", &mut out), Ok(()));
+    assert_eq!(rt; out.as_slice(), b"-\x00\x9f\xa0\xff".as_slice());
+    for digits in ["0", "0g0", "00/0", "0:00", "0@00", "0G00", "0`00", "000g", "\u{80}0"] {
+        let odd = digits.len() % 2 == 1;
+        let fault = if odd { HexFault::OddLength } else { HexFault::BadDigit };
+        assert_eq!(rt; push_unhex(digits.as_bytes(), &mut out), Err(fault), "at {digits}");
+    }
+    assert_eq!(rt; out.as_slice(), b"-\x00\x9f\xa0\xff".as_slice());
+    Ok(())
+}
+
+#[test]
+fn holds_octets_in_place(rt: HostRuntime) {
+    let mut octets = InlineOctets::<4>::new();
+    octets.push(b"abc");
+    octets.set(1, b'-');
+    let copy = octets;
+    octets.push(b"d");
+    assert!(rt; octets.as_bytes() == b"a-cd".as_slice() && octets.len() == 4);
+    assert!(rt; copy == InlineOctets::of(b"a-c") && copy != octets);
 }

@@ -1,7 +1,7 @@
 //! Parts whose judgement, reading and changes are known from elsewhere. A header with two addresses of
 //! four octets and no segmentation part has its options from place 20 on.
 
-use crate::{
+use clnp_options::{
     OptionList, OptionRef, advance_route, check, level, mark_congestion, record_title,
     route_target, walk,
 };
