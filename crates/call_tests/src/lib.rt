@@ -4,3 +4,5 @@
 
 #[cfg(test)]
 mod clnp_views_calls;
+#[cfg(test)]
+mod reassembly_calls;
