@@ -3,6 +3,8 @@ use Rattle.std.proofs.Common.{◌≡◌, ◌∙◌, refl, ℕ, zero, suc, Bool, 
 use Rattle.std.specs.Prelude.{◌==◌, if◌then◌else◌}
 use Rattle.std.specs.List.{AllByRecursion}
 use Rattle.clnp_base.proofs.Lists.{AllByRecursion-append}
+use Rattle.clnp_options.specs.Reasons.{reason_code}
+use Rattle.clnp_options.specs.declared.reasons.Reason.TheVariants.{LifetimeExpiredInTransit}
 use Rattle.clnp_plan.specs.declared.ask.Ask.{Ask}
 use Rattle.clnp_plan.specs.declared.note.Note.{Note}
 use Rattle.clnp_plan.specs.declared.note.Note.TheVariants as note
@@ -48,7 +50,7 @@ receives s p following =
 
 packet : (s : SystemState) (p : Packet) (following : List ℕ) → IsDeed s (packet_comes s p following)
 packet s p following =
-    either s (p.lifetime == 0) (notes s (note.Discard 0xA0 0)) _ (telling s (note.Discard 0xA0 0))
+    either s (p.lifetime == 0) (notes s (note.Discard (reason_code LifetimeExpiredInTransit) 0)) _ (telling s (note.Discard (reason_code LifetimeExpiredInTransit) 0))
     (either s (is_own s p.unit.destination) (receive s p following) (notes s (note.NotMine p.unit.destination)) (receives s p following)
     (telling s (note.NotMine p.unit.destination)))
 

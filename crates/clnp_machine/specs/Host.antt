@@ -4,7 +4,9 @@ use Rattle.std.specs.List.{flat_map}
 use Rattle.nsap.specs.declared.target.Target.{Target}
 use Rattle.nsap.specs.declared.target.Target.TheVariants.{EndSystems}
 use Rattle.pdu_header.specs.declared.kind.Kind.TheVariants.{Dt}
+use Rattle.clnp_options.specs.Reasons.{reason_code}
 use Rattle.clnp_options.specs.declared.judge.OptionRefusal.{OptionRefusal}
+use Rattle.clnp_options.specs.declared.reasons.Reason.TheVariants.{LifetimeExpiredInTransit, NotSpecified, SegmentationNotPermitted}
 use Rattle.pdu_header.specs.Rules.{octet, refusal as rule_broken}
 use Rattle.clnp_plan.specs.declared.ask.Ask.{Ask}
 use Rattle.clnp_plan.specs.declared.config.PortConfig.{PortConfig}
@@ -27,7 +29,7 @@ port_mtu (port ∷ ports) = port.mtu
 
 -- the pieces are sent on the one port; a unit that may not be cut is dropped (ISO 8473, section 6.9)
 abbrev pub transmissions : Target → Option (List Packet) → List Output
-transmissions target None = Notes (Discard 0x05 0) ∷ []
+transmissions target None = Notes (Discard (reason_code SegmentationNotPermitted) 0) ∷ []
 transmissions target (Some pieces) = map (λ piece. Transmits 0 target piece) pieces
 
 -- what a host gives out for what it does at its own addresses
@@ -46,19 +48,19 @@ send s from to octets ask = effect_of (local.make s Dt from to octets ask)
 -- address.
 abbrev pub packet_comes : SystemState → Packet → (following : List ℕ) → Deed
 packet_comes s p following =
-    if p.lifetime == 0 then notes s (Discard 0xA0 0)
+    if p.lifetime == 0 then notes s (Discard (reason_code LifetimeExpiredInTransit) 0)
     else if is_own s p.unit.destination then local.receive s p following
     else notes s (NotMine p.unit.destination)
 
 -- octets that break a rule of PDUs are discarded with its reason and place
 abbrev pub refused_note : Option OptionRefusal → Note
-refused_note None = Discard 0x00 0
+refused_note None = Discard (reason_code NotSpecified) 0
 refused_note (Some broken) = Discard broken.reason broken.place
 
 -- What is noted of octets that don't begin as a CLNP PDU: of those of ISO 9542's protocol nothing is said yet, so the reason
 -- is not specified (section 7.9.5); all others belong to neither protocol.
 abbrev pub other_note : List ℕ → Note
-other_note octets = if octet octets 1 == 0x82 then Discard 0x00 0 else Alien
+other_note octets = if octet octets 1 == 0x82 then Discard (reason_code NotSpecified) 0 else Alien
 
 -- what is noted of octets that spell no PDU
 abbrev pub octets_note : List ℕ → Note
