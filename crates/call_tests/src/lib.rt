@@ -16,3 +16,5 @@ mod end_system_calls;
 mod local_entity_calls;
 #[cfg(test)]
 mod nsap_calls;
+#[cfg(test)]
+mod reassembly_calls;

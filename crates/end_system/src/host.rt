@@ -2,12 +2,14 @@
 ghost use Rattle.std.specs.Prelude.{[], ◌∷◌, ◌++◌, List, ◌≡◌, ◌≤◌, ◌<◌, ◌+◌, ◌^◌, ℕ, IfErr, IfOk, OnOk, OnErr, IsErr, MatchResult, None, false, true, length};
 ghost use Rattle.clnp_options.specs.Grammar.{FitsKind};
 ghost use Rattle.clnp_options.specs.Parameter.{parameters};
+ghost use Rattle.clnp_options.specs.Reasons.{reason_code};
 ghost use Rattle.pdu_header.specs.Grammar.{BeginsWith};
 ghost use Rattle.pdu_header.specs.Value.{PduValue};
 ghost use Rattle.pdu_header.specs.declared.kind.Kind.TheVariants.{Dt};
 ghost use Rattle.reassembly.specs.Buffer.{held};
 ghost use Rattle.clnp_plan.specs.declared.ask.SendRefusal.TheVariants.{NoMemory as WantsMemory};
 ghost use Rattle.clnp_plan.specs.declared.config.Role.TheVariants.{Host};
+ghost use Rattle.clnp_plan.specs.declared.note.Note.TheVariants.{Discard};
 ghost use Rattle.clnp_machine.specs.System.{Content, IsCarried, SystemState, first_state, frame_of, next_number};
 ghost use Rattle.clnp_machine.specs.Local.{refusal, unit_of};
 ghost use Rattle.clnp_machine.specs.Host as machine;
@@ -21,6 +23,7 @@ ghost use Rattle.end_system.specs.Stands.{Appends, IsLeftBy, Stands};
 
 use clnp_base::NoMemory;
 use clnp_machine::laws;
+use clnp_options::Reason;
 use clnp_plan::{Ask, Limits, Note, Output, SendRefusal, SystemConfig};
 use clnp_views::Frame;
 use local_entity::{Action, Local};
@@ -30,12 +33,6 @@ use std::alloc::Global;
 use std::marker::Model;
 
 mod sending;
-
-/// ISO 8473, section 7.9.5: the lifetime expired in transit.
-const LIFETIME_EXPIRED: u8 = 0xA0;
-
-/// ISO 8473, section 7.9.5: the reason isn't specified.
-const NOT_SPECIFIED: u8 = 0x00;
 
 /// ISO 9542, section 7.2.2: the first octet of its PDUs.
 const ES_IS: u8 = 0x82;
@@ -320,13 +317,7 @@ impl EndSystem {
         ensures config { self.new.entity.configuration ≡ self.old.entity.configuration }
     {
         if life == 0 {
-            return note(
-                Note::Discard {
-                    reason: LIFETIME_EXPIRED,
-                    place: 0,
-                },
-                actions,
-            );
+            return note(discarded(Reason::LifetimeExpiredInTransit), actions);
         }
         if !self.entity.is_own(&to) {
             return note(Note::NotMine { to }, actions);
@@ -400,10 +391,15 @@ fn other(frame: &[u8]) -> Note
     if frame.is_empty() || frame[0] != ES_IS {
         return Note::Alien;
     }
-    Note::Discard {
-        reason: NOT_SPECIFIED,
-        place: 0,
-    }
+    discarded(Reason::NotSpecified)
+}
+
+/// What is noted of what is discarded for a reason, for which no place in it is told.
+fn discarded(reason: Reason) -> Note
+    ensures { result ≡ Discard (reason_code reason) 0 }
+{
+    let reason = reason.code();
+    Note::Discard { reason, place: 0 }
 }
 
 /// Something is noted.

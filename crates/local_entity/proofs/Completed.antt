@@ -8,9 +8,8 @@ use Rattle.reassembly.specs.declared.table.TableLimits.{TableLimits}
 use Rattle.reassembly.specs.Arrival.{Arrival, data_len, same_key, same_shape}
 use Rattle.reassembly.specs.Buffer.{Answer, Buffer, Whole, after, answer, answer_of, buffer_of, clashes, is_whole, refusal, with_kept}
 use Rattle.reassembly.specs.State.{IsWholeSlot, Names, Stands, TableState}
-use Rattle.reassembly.proofs.Keys.{same_key-like, same_key-true}
-use Rattle.reassembly.proofs.LawKept.{if_none}
-use Rattle.reassembly.proofs.Ready.{made_whole, refusal_not_whole}
+use Rattle.reassembly.proofs.Shared.{made_whole, refusal_not_whole, same_key-like, same_key-true}
+use Rattle.clnp_base.proofs.Choices.{if_none}
 
 same_data_len : (a b : Shape) → same_shape a b ≡ true → data_len a ≡ data_len b
 same_data_len a b same =

@@ -9,7 +9,7 @@ use Rattle.reassembly.specs.Buffer.{Buffer, due, first_carried, without, without
 use Rattle.reassembly.specs.Mapped.{map_buffer, map_buffers}
 use Rattle.reassembly.specs.State as table
 use Rattle.reassembly.specs.State.{TableState}
-use Rattle.reassembly.proofs.Mapped.{first_carried-mapped}
+use Rattle.reassembly.proofs.Shared.{first_carried-mapped}
 use Rattle.clnp_plan.specs.declared.note.Note.TheVariants.{Discard, Expired as Ended}
 use Rattle.clnp_machine.specs.Unit.{Packet, wire}
 use Rattle.clnp_machine.specs.System.{SystemState}

@@ -3,7 +3,7 @@ use Rattle.std.proofs.Common.{◌≡◌, ℕ, List, sym, ap, ◌∙◌}
 use Rattle.clnp_views.specs.Extent.{Extent, seen}
 use Rattle.reassembly.specs.Buffer.{Buffer, held}
 use Rattle.reassembly.specs.State as table
-use Rattle.reassembly.proofs.Mapped.{held-mapped}
+use Rattle.reassembly.proofs.Shared.{held-mapped}
 use Rattle.clnp_machine.specs.Unit.{wire}
 use Rattle.clnp_machine.specs.System.{SystemState}
 use Rattle.local_entity.specs.State.{EntityState}

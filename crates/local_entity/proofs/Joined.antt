@@ -11,7 +11,7 @@ use Rattle.clnp_views.specs.Extent.{Extent, seen}
 use Rattle.reassembly.specs.Arrival.{Arrival, data_len, earliest, has, octet_in}
 use Rattle.reassembly.specs.Buffer.{Buffer, data_of, octet_by}
 use Rattle.reassembly.specs.Mapped.{map_arrival, map_buffer}
-use Rattle.reassembly.proofs.Mapped.{data_of-mapped}
+use Rattle.reassembly.proofs.Shared.{data_of-mapped}
 use Rattle.clnp_machine.specs.Unit.{Packet, value_of, wire, IsCarriable}
 use Rattle.clnp_machine.specs.Local.{octet_of, offered}
 use Rattle.local_entity.specs.Local.{IsAsOffered}

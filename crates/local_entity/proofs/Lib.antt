@@ -8,7 +8,6 @@ pub mod Making
 pub mod Shown
 pub mod Offers
 pub mod Joined
-pub mod Keeping
 pub mod Completed
 pub mod Offering
 pub mod Receiving

@@ -9,9 +9,7 @@ use Rattle.reassembly.specs.Arrival.{same_key}
 use Rattle.reassembly.specs.Buffer.{Buffer, due, is_whole, without, without_due}
 use Rattle.reassembly.specs.State as table
 use Rattle.reassembly.specs.State.{IsReady, TableState}
-use Rattle.reassembly.proofs.Keys.{same_key-like}
-use Rattle.reassembly.proofs.LawDue.{due_is}
-use Rattle.reassembly.proofs.NoWhole.{none_whole-without_due}
+use Rattle.reassembly.proofs.Shared.{due_is, none_whole-without_due, same_key-like}
 use Rattle.clnp_machine.specs.System.{SystemState}
 use Rattle.clnp_machine.specs.Local as machine
 use Rattle.clnp_machine.specs.Local.{Deed, and_then, at_moment, expire, tick}

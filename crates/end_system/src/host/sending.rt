@@ -15,8 +15,9 @@ ghost use Rattle.local_entity.specs.Local.{DoAll, Does};
 ghost use Rattle.end_system.specs.Deeds.{IsFresh, transmission};
 ghost use Rattle.end_system.specs.Stands.{Appends};
 
-use super::EndSystem;
+use super::{EndSystem, discarded};
 use clnp_base::NoMemory;
+use clnp_options::Reason;
 use clnp_plan::{Note, Output, Sending};
 use clnp_views::View;
 use local_entity::{Action, Made};
@@ -26,9 +27,6 @@ use std::alloc::Global;
 
 /// The number of a host's one port.
 const PORT: u8 = 0;
-
-/// ISO 8473, section 7.9.5: segmentation is needed and not permitted.
-const NOT_PERMITTED: u8 = 0x05;
 
 impl EndSystem {
     /// Gives out what was done: all of it is appended, or nothing.
@@ -76,13 +74,9 @@ impl EndSystem {
         let octets = made.body.bytes().len();
         match Cuts::new(made.head, octets, self.mtu()) {
             Ok(cuts) => give_pieces(cuts, Target::EndSystems, &made.body, out),
-            Err(NotPermitted { .. }) => give_note(
-                Note::Discard {
-                    reason: NOT_PERMITTED,
-                    place: 0,
-                },
-                out,
-            ),
+            Err(NotPermitted { .. }) => {
+                give_note(discarded(Reason::SegmentationNotPermitted), out)
+            }
         }
     }
 

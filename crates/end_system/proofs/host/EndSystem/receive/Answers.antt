@@ -1,10 +1,11 @@
 -- The PDU is a packet's, and what is done is what the model does with it.
-use Rattle.std.proofs.Common.{◌≡◌, ◌∙◌, refl, sym, ap, subst}
+use Rattle.std.proofs.Common.{◌≡◌, ◌∙◌, [], ◌∷◌, refl, sym, ap, subst}
 use Rattle.std.proofs.lemmas.Result.{on_ok_weaker}
 use Rattle.clnp_plan.specs.Configuration.{SystemConfiguration}
-use Rattle.clnp_plan.specs.declared.note.Note.TheVariants.{Discard, NotMine}
+use Rattle.clnp_plan.specs.declared.note.Note.{Note}
+use Rattle.clnp_plan.specs.declared.note.Note.TheVariants.{NotMine}
 use Rattle.clnp_machine.specs.System.{SystemState}
-use Rattle.clnp_machine.specs.Local.{Deed, at_moment, receive}
+use Rattle.clnp_machine.specs.Local.{Deed, Tells, at_moment, receive}
 use Rattle.local_entity.specs.Local as entity
 use Rattle.end_system.specs.State.{HostState}
 use Rattle.end_system.specs.Stands.{Stands}
@@ -18,12 +19,13 @@ returns-then-life-eq0-clause-actions c =
     (λ written s p following h carriable frame life to.
     subst (λ (deed : Deed). entity.Appends c.args.actions.now.items c.note.new.actions.items deed.actions)
     (sym (deed_expired s p following c.args.life life c.if-life-eq0.true))
-    (appends_note c.args.actions.now.items c.note.new.actions.items (Discard 160 0) written))
+    (subst (λ (told : Note). entity.Appends c.args.actions.now.items c.note.new.actions.items (Tells told ∷ [])) c.discarded.ensures
+    (appends_note c.args.actions.now.items c.note.new.actions.items c.discarded.result written)))
     c.note.ensures
 
 pub returns-then-life-eq0-clause-done : goal.returns-then-life-eq0-clause-done
 returns-then-life-eq0-clause-done c =
-    on_ok_weaker c.note.result (some_note c.args.actions.now.items c.note.new.actions.items (Discard 160 0)) c.note.ensures
+    on_ok_weaker c.note.result (some_note c.args.actions.now.items c.note.new.actions.items c.discarded.result) c.note.ensures
 
 pub returns-then-not-is_own-clause-stands : goal.returns-then-not-is_own-clause-stands
 returns-then-not-is_own-clause-stands c =

@@ -3,7 +3,6 @@ use Rattle.std.proofs.Common.{◌≤◌, List, ◌∷◌, ◌++◌, [], ap, sym,
 use Rattle.reassembly.specs.Arrival.{arrival_of}
 use Rattle.reassembly.specs.Buffer.{after}
 use Rattle.reassembly.specs.State.{IsReady, Names}
-use Rattle.reassembly.proofs.Ready.{said_not_whole, whole_slot}
 use Rattle.clnp_plan.specs.declared.note.Note.TheVariants.{Got}
 use Rattle.clnp_machine.specs.Local.{offer}
 use Rattle.local_entity.specs.declared.action.Action.{Action}
@@ -12,7 +11,7 @@ use Rattle.local_entity.specs.Local.{Appends, Stands}
 use Rattle.local_entity.specs.State.{EntityState}
 use Rattle.local_entity.specs.Seen.{state_of}
 use Rattle.local_entity.proofs.Completed.{completed, completed_slot}
-use Rattle.local_entity.proofs.Offering.{told_appends, told_ready, told_stands, whole_appends, whole_ready, whole_stands}
+use Rattle.local_entity.proofs.Offering.{said_not_whole, told_appends, told_ready, told_stands, whole_appends, whole_ready, whole_stands}
 use Rattle.local_entity.proofs.local.Local.offer.Goals as goal
 
 pub joined-octets-requires-clause-whole : goal.joined-octets-requires-clause-whole
@@ -24,11 +23,7 @@ joined-octets-requires-clause-whole c =
     (slot.0, subst (λ n. n ≤ vec_capacity c.in_ok-room.room) (sym slot.1) c.in_ok-room.ensures.room)
 
 pub release-requires : goal.release-requires
-release-requires c =
-    let ready = subst (λ (e : EntityState). IsReady c.args.now e.table) (sym c.self.view_is) c.requires.ready in
-    whole_slot c.accept.new.self c.in-Whole.slot.0 c.self.inside.table.limits c.args.now c.args.segment ready.buffers
-    (c.in-Whole.ensures.stands ready.buffers ready.stands) (c.accept.ensures.slot c.in-Whole.slot c.in-Whole.is)
-    (sym (c.in-Whole.ensures.answered ready.buffers ready.stands))
+release-requires c = c.accept.ensures.whole c.in-Whole.slot c.in-Whole.is
 
 pub returns-in-Whole-clause-stands : goal.returns-in-Whole-clause-stands
 returns-in-Whole-clause-stands c s frame arrival stands moment shows =
