@@ -22,9 +22,9 @@ use Rattle.clnp_machine.specs.Unit as unit
 use Rattle.clnp_machine.specs.Unit.{DeclaredAt, Packet}
 use Rattle.clnp_machine.specs.Content.{Content, Labelled, Unlabelled}
 use Rattle.clnp_machine.specs.System.{SystemState, Input, AsksToSend, FrameComes, MomentComes, IsRestarted, table_limits}
-use Rattle.clnp_machine.specs.Local.{Action, Sends, Tells, Deed, tells, and_then, made_in, is_own, is_all, offered, takes_in, offer, receive, refusal, unit_of, makes, unless_refused, with_use, discard_first, gives_up, give_up_due, expire, at_moment, tick}
+use Rattle.clnp_machine.specs.Local.{Action, Sends, Tells, Deed, tells, and_then, made_in, is_own, is_all, offered, takes_in, offer, receive, refusal, unit_of, make, makes, unless_refused, with_use, discard_first, gives_up, give_up_due, expire, at_moment, tick}
 use Rattle.clnp_machine.specs.Step.{passes_by, packet_comes, discard_refused, octets_come, content_comes, restart, deed, step}
-use Rattle.clnp_machine.specs.Steps.{AsksNothing, StaysItself, moment_after, IsFresh, IsWithinBudget}
+use Rattle.clnp_machine.specs.Steps.{AsksNothing, IsDeed, StaysItself, moment_after, IsFresh, IsWithinBudget}
 use Rattle.clnp_machine.proofs.Kept.{held_after}
 use Rattle.clnp_machine.proofs.Making.{allowed, total_is}
 
@@ -239,3 +239,26 @@ step_fresh s IsRestarted = tt
 
 pub step_budget : (s : SystemState) (input : Input) → IsWithinBudget s → IsWithinBudget (step s input).after
 step_budget s input within = (goes s input).budget within
+
+-- What that says of a deed.
+
+is_deed : (s : SystemState) (deed : Deed) → Does s deed → IsDeed s deed
+is_deed s deed h = record { itself = h.goes.itself; moment = h.goes.moment; fresh = none_fresh s s.moment (made_in deed.actions) h.makes_none }
+
+pub make_is : (s : SystemState) (kind : Kind) (from to octets : List ℕ) (ask : Ask) → IsDeed s (make s kind from to octets ask)
+make_is s kind from to octets ask =
+    let went = stays s (unit_of s kind from to octets ask) (refusal s (unit_of s kind from to octets ask)) in
+    record {
+      itself = went.itself;
+      moment = went.moment;
+      fresh = asked_is_fresh s kind from to octets ask (refusal s (unit_of s kind from to octets ask)) refl;
+    }
+
+pub receive_is : (s : SystemState) (p : Packet) (following : List ℕ) → IsDeed s (receive s p following)
+receive_is s p following = is_deed s (receive s p following) (does_receive s p following)
+
+pub comes_is : (s : SystemState) (content : Content) → IsDeed s (content_comes s content)
+comes_is s content = is_deed s (content_comes s content) (does_with_content s content)
+
+pub tick_is : (s : SystemState) (now : ℕ) → IsDeed (at_moment now s) (tick s now)
+tick_is s now = is_deed (at_moment now s) (tick s now) (does_expire (length s.buffers) (at_moment now s))

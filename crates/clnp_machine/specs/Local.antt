@@ -3,6 +3,8 @@ use Rattle.std.specs.Prelude.{ℕ, zero, suc, ◌+◌, ◌-◌, ◌==◌, ◌&&�
 use Rattle.std.specs.List.{list_any}
 use Rattle.std.specs.Str.{bytes_eq}
 use Rattle.clnp_options.specs.Parameter.{Parameter, parameters}
+use Rattle.clnp_options.specs.Reasons.{reason_code}
+use Rattle.clnp_options.specs.declared.reasons.Reason.TheVariants.{Congestion, LifetimeExpiredInReassembly, ReassemblyInterference}
 use Rattle.pdu_header.specs.declared.kind.Kind.{Kind}
 use Rattle.pdu_header.specs.Spelling.{header_length, type_code}
 use Rattle.reassembly.specs.Arrival.{Arrival}
@@ -182,14 +184,14 @@ takes_in s frame arrival kept buffer.Whole =
     hand_up (record s { buffers = buffer.without arrival.key kept }) arrival.carried.unit.kind arrival.key.from arrival.key.to
     (data_in (buffer.buffer_of arrival.key kept)) arrival.carried.options
 takes_in s frame arrival kept (buffer.Interference there other) =
-    and_then (tells s (note.Interference arrival.key.id)) (λ t. discard t frame 0xC0 0)
+    and_then (tells s (note.Interference arrival.key.id)) (λ t. discard t frame (reason_code ReassemblyInterference) 0)
 takes_in s frame arrival kept buffer.Repeat = tells s (note.Repeat arrival.key.id arrival.offset)
 takes_in s frame arrival kept (buffer.NoSlot live) =
-    and_then (tells s (note.NoSlot live)) (λ t. discard t frame 0x03 0)
+    and_then (tells s (note.NoSlot live)) (λ t. discard t frame (reason_code Congestion) 0)
 takes_in s frame arrival kept (buffer.Crowded held size) =
-    and_then (tells s (note.Crowded held size)) (λ t. discard t frame 0x03 0)
+    and_then (tells s (note.Crowded held size)) (λ t. discard t frame (reason_code Congestion) 0)
 takes_in s frame arrival kept (buffer.Many segments) =
-    and_then (tells s (note.Many segments)) (λ t. discard t frame 0x03 0)
+    and_then (tells s (note.Many segments)) (λ t. discard t frame (reason_code Congestion) 0)
 
 -- a segment in a frame is offered to the buffers
 abbrev pub offer : SystemState → Content → Arrival Packet → Deed
@@ -208,7 +210,7 @@ receive s p following =
 -- the packet at the beginning of the unit, if one came, is discarded: its lifetime expired in reassembly
 abbrev pub discard_first : SystemState → Option Packet → Deed
 discard_first s None = rests s
-discard_first s (Some p) = discard s (Labelled p []) 0xA1 0
+discard_first s (Some p) = discard s (Labelled p []) (reason_code LifetimeExpiredInReassembly) 0
 
 -- a buffer is taken out
 abbrev pub gives_up : SystemState → Buffer Packet → Deed

@@ -6,6 +6,8 @@ use Rattle.nsap.specs.declared.target.Target.{Target}
 use Rattle.nsap.specs.declared.target.Target.TheVariants.{EndSystems}
 use Rattle.pdu_header.specs.declared.kind.Kind.TheVariants.{Dt}
 use Rattle.clnp_options.specs.declared.judge.OptionRefusal.{OptionRefusal}
+use Rattle.clnp_options.specs.Reasons.{reason_code}
+use Rattle.clnp_options.specs.declared.reasons.Reason.TheVariants.{DestinationUnknown, LifetimeExpiredInTransit, NotSpecified, SegmentationNotPermitted}
 use Rattle.pdu_header.specs.Rules.{octet, refusal as rule_broken}
 use Rattle.clnp_plan.specs.declared.ask.Ask.{Ask}
 use Rattle.clnp_plan.specs.declared.config.PortConfig.{PortConfig}
@@ -44,12 +46,12 @@ mtu_at s port = mtu_of (slice_get s.configuration.ports port)
 
 -- the pieces are sent; a unit that may not be cut is dropped (ISO 8473, section 6.9)
 abbrev pub transmissions : Hop → Option (List Packet) → List Output
-transmissions hop None = Notes (Discard 0x05 0) ∷ []
+transmissions hop None = Notes (Discard (reason_code SegmentationNotPermitted) 0) ∷ []
 transmissions hop (Some pieces) = map (λ piece. Transmits hop.port hop.target piece) pieces
 
 -- the first transmission of a unit; without a way it is dropped, its destination unknown
 abbrev pub first_sent : SystemState → Unit → Option Hop → List Output
-first_sent s u None = Notes (Discard 0x81 0) ∷ []
+first_sent s u None = Notes (Discard (reason_code DestinationUnknown) 0) ∷ []
 first_sent s u (Some hop) = transmissions hop (cut (whole_packet u) (mtu_at s hop.port))
 
 -- what a system gives out for what it does at its own addresses
@@ -66,18 +68,18 @@ effect_of deed =
 -- a packet for another address: no host is asked to carry it on, and a router without routes knows no way for it
 abbrev pub passes_by : Role → SystemState → Packet → (following : List ℕ) → Deed
 passes_by Host s p following = tells s (NotMine p.unit.destination)
-passes_by Router s p following = discard s (Labelled p following) 0x81 0
+passes_by Router s p following = discard s (Labelled p following) (reason_code DestinationUnknown) 0
 
 -- A packet comes: its lifetime is over (section 6.4), or it is for the system (section 6.2), or for another address.
 abbrev pub packet_comes : SystemState → Packet → (following : List ℕ) → Deed
 packet_comes s p following =
-    if p.lifetime == 0 then discard s (Labelled p following) 0xA0 0
+    if p.lifetime == 0 then discard s (Labelled p following) (reason_code LifetimeExpiredInTransit) 0
     else if is_own s p.unit.destination then receive s p following
     else passes_by s.configuration.role s p following
 
 -- octets that break a rule of PDUs are discarded with its reason and place
 abbrev pub discard_refused : SystemState → List ℕ → Option OptionRefusal → Deed
-discard_refused s octets None = discard s (Unlabelled octets) 0x00 0
+discard_refused s octets None = discard s (Unlabelled octets) (reason_code NotSpecified) 0
 discard_refused s octets (Some broken) = discard s (Unlabelled octets) broken.reason broken.place
 
 -- Octets come that spell no PDU. Of those that begin as an ES-IS PDU nothing is said as long as none is read, so the
@@ -85,7 +87,7 @@ discard_refused s octets (Some broken) = discard s (Unlabelled octets) broken.re
 abbrev pub octets_come : SystemState → List ℕ → Deed
 octets_come s octets =
     if octet octets 1 == 0x81 then discard_refused s octets (rule_broken octets)
-    else if octet octets 1 == 0x82 then discard s (Unlabelled octets) 0x00 0
+    else if octet octets 1 == 0x82 then discard s (Unlabelled octets) (reason_code NotSpecified) 0
     else tells s Alien
 
 abbrev pub content_comes : SystemState → Content → Deed

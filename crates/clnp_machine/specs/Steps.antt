@@ -11,7 +11,7 @@ use Rattle.clnp_machine.specs.Unit as unit
 use Rattle.clnp_machine.specs.Unit.{DeclaredAt, Packet, IsCarriable, value_of, wire}
 use Rattle.clnp_machine.specs.Content.{Content, Labelled, Unlabelled}
 use Rattle.clnp_machine.specs.System.{SystemState, next_number, Input, AsksToSend, FrameComes, MomentComes, IsRestarted, Output, Transmits, Notes, Effect}
-use Rattle.clnp_machine.specs.Local.{is_own, header_size, offered}
+use Rattle.clnp_machine.specs.Local.{Deed, made_in, is_own, header_size, offered}
 
 -- it is still the same system, at its place, of the same configuration
 pub record StaysItself (before after : SystemState) : Type 0 where
@@ -40,6 +40,12 @@ pub record IsFresh (s : SystemState) (now : ℕ) (u : unit.Unit) : Type 0 where
   pub source : is_own s u.source ≡ true
   pub first_position : u.first_position ≡ 0
   pub total : u.total ≡ header_size u + length u.octets
+
+-- what a deed of a system leaves and makes: the same system, at the same moment, and units that are fresh
+pub record IsDeed (s : SystemState) (deed : Deed) : Type 0 where
+  pub itself : StaysItself s deed.after
+  pub moment : deed.after.moment ≡ s.moment
+  pub fresh : AllByRecursion (IsFresh s s.moment) (made_in deed.actions)
 
 -- What holds of a packet of one of some units: it is a range of the unit, and all of it where the unit may not be
 -- segmented; it was forwarded no more often than its lifetime allowed, and its options are as the unit's.

@@ -3,17 +3,29 @@
 ghost use Rattle.std.specs.Prelude.{◌≡◌, ◌≤◌, ℕ, List, [], map, option_map};
 ghost use Rattle.std.specs.List.{AllByRecursion};
 ghost use Rattle.hex.specs.Hex.{IsBytes};
+ghost use Rattle.pdu_header.specs.declared.kind.Kind.{Kind};
 ghost use Rattle.segmenter.specs.Cut as segmenter;
+ghost use Rattle.clnp_plan.specs.declared.ask.Ask.{Ask};
 ghost use Rattle.clnp_machine.specs.Unit.{Packet, IsCarriable, cut, value_of};
-ghost use Rattle.clnp_machine.specs.Content.{IsCarried, content_of, frame_of};
+ghost use Rattle.clnp_machine.specs.Content.{Content, IsCarried, content_of, frame_of};
+ghost use Rattle.clnp_machine.specs.Local.{at_moment, make, receive, tick};
 ghost use Rattle.clnp_machine.specs.System.{SystemState, Input};
-ghost use Rattle.clnp_machine.specs.Step.{step};
-ghost use Rattle.clnp_machine.specs.Steps.{AreCarriable, AsksNothing, CarriesOnePacket, IsForOwn, IsFresh, IsWithinBudget, NotesOnly, SendsRangesOf, StaysItself, WasKeptOrComes, moment_after, segments_in};
+ghost use Rattle.clnp_machine.specs.Step.{content_comes, step};
+ghost use Rattle.clnp_machine.specs.Steps.{AreCarriable, AsksNothing, CarriesOnePacket, IsDeed, IsForOwn, IsFresh, IsWithinBudget, NotesOnly, SendsRangesOf, StaysItself, WasKeptOrComes, moment_after, segments_in};
 
 /// A step leaves a system at its place with its configuration, at the moment that came last.
 pub fn a_system_stays_itself()
     ensures itself { (s : SystemState) (input : Input) → StaysItself s (step s input).after }
     ensures moment { (s : SystemState) (input : Input) → (step s input).after.moment ≡ moment_after s input }
+{}
+
+/// Whatever a system does at its addresses, it stays the system that it is, at its moment, and the
+/// units that it makes are its own and new.
+pub fn deeds_are_of_their_moment()
+    ensures make { (s : SystemState) (kind : Kind) (from to octets : List ℕ) (ask : Ask) → IsDeed s (make s kind from to octets ask) }
+    ensures receive { (s : SystemState) (p : Packet) (following : List ℕ) → IsDeed s (receive s p following) }
+    ensures comes { (s : SystemState) (content : Content) → IsDeed s (content_comes s content) }
+    ensures tick { (s : SystemState) (now : ℕ) → IsDeed (at_moment now s) (tick s now) }
 {}
 
 /// The units that are made in a step are made now by the system, of a source that is its own, and

@@ -11,8 +11,8 @@ use Rattle.scenario.specs.Scenario.{IsFit, Plan}
 use Rattle.reassembly.specs.Arrival.{data_len, same_key}
 use Rattle.reassembly.specs.Buffer as buffer
 use Rattle.reassembly.specs.Buffer.{Answer, Buffer, buffer_of, held, is_whole, size_of, with_kept, without}
-use Rattle.reassembly.proofs.Ready.{made_whole, none_whole-after}
-use Rattle.reassembly.proofs.SameKey.{same_from_same_key}
+use Rattle.reassembly.proofs.Shared.{made_whole, none_whole-after}
+use Rattle.reassembly.proofs.Shared.{same_key-true}
 use Rattle.clnp_machine.specs.Unit as unit
 use Rattle.clnp_machine.specs.Unit.{Packet, value_of}
 use Rattle.clnp_machine.specs.Content.{Content, Labelled, Unlabelled}
@@ -97,7 +97,7 @@ module _ (plan : Plan) (past : List Entry) (units : List unit.Unit) (now place :
       got_is_sound joined live same whole =
           let u = live.sound.unit in
           let it = unit_sound plan past now units u made live.sound.made in
-          let keys = sym live.sound.key ∙ same_from_same_key joined.key (offered p []).key same in
+          let keys = sym live.sound.key ∙ same_key-true joined.key (offered p []).key same in
           let len : data_len joined.shape ≡ length u.octets = ap data_len live.sound.shape ∙ (let total = it.total in omega arith) in
           sent_alike plan past u.source u.destination u.octets (offered p []).key.from (offered p []).key.to (buffer.data_of octet_of joined)
           (ap (λ key. key.from) keys) (ap (λ key. key.to) keys) (sym (joined_is_unit units u it.first_position joined live.sound.kept len whole)) it.sent

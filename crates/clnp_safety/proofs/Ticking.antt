@@ -10,8 +10,8 @@ use Rattle.scenario.specs.Scenario.{Plan}
 use Rattle.reassembly.specs.declared.segment.Key.{Key}
 use Rattle.reassembly.specs.Arrival.{same_key}
 use Rattle.reassembly.specs.Buffer.{Buffer, due, held, is_whole, size_of, without}
-use Rattle.reassembly.proofs.LawDue.{due_is, none_due}
-use Rattle.reassembly.proofs.SameKey.{same_key-refl}
+use Rattle.reassembly.proofs.Shared.{due_is, none_due}
+use Rattle.reassembly.proofs.Shared.{same_key-refl}
 use Rattle.clnp_machine.specs.Identifiers.{Use}
 use Rattle.clnp_machine.specs.Unit as unit
 use Rattle.clnp_machine.specs.Unit.{DeclaredAt, Packet}

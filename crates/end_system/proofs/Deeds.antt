@@ -6,13 +6,19 @@ use Rattle.std.proofs.lemmas.Bool.Decides.{nat_tests}
 use Rattle.clnp_base.specs.declared.octets.NoMemory.{NoMemory}
 use Rattle.clnp_plan.specs.Configuration.{SystemConfiguration}
 use Rattle.clnp_plan.specs.declared.note.Note.{Note}
-use Rattle.clnp_plan.specs.declared.note.Note.TheVariants.{Discard, NotMine}
+use Rattle.clnp_plan.specs.declared.note.Note.TheVariants.{NotMine}
 use Rattle.clnp_machine.specs.Unit.{Packet}
 use Rattle.clnp_machine.specs.System.{SystemState}
-use Rattle.clnp_machine.specs.Steps.{IsDeed, SendsItsNext}
+use Rattle.clnp_machine.specs.Steps as fresh
+use Rattle.clnp_machine.specs.Steps.{IsDeed}
+use Rattle.clnp_machine.specs.Content.{Labelled}
+use Rattle.clnp_options.specs.Reasons.{reason_code}
+use Rattle.clnp_options.specs.declared.reasons.Reason.TheVariants.{LifetimeExpiredInTransit}
+use Rattle.clnp_plan.specs.declared.config.Role.{Role}
+use Rattle.clnp_plan.specs.declared.config.Role.TheVariants.{Host}
 use Rattle.clnp_machine.specs.Local as local
-use Rattle.clnp_machine.specs.Local.{Deed, Sends, Tells, and_then, at_moment, discards_first, expire, give_up_due, gives_up, has_address, is_all, is_own, notes, offer, offered, receive, refusal, takes_in, tells, unit_of, unless_refused}
-use Rattle.clnp_machine.specs.Host.{packet_comes}
+use Rattle.clnp_machine.specs.Local.{Deed, Sends, Tells, at_moment, discard, has_address, is_own, made_in, receive, tells}
+use Rattle.clnp_machine.specs.Step.{packet_comes, passes_by}
 use Rattle.local_entity.specs.declared.action.Action.{Action}
 use Rattle.local_entity.specs.declared.action.Action.TheVariants.{Note as Noted}
 use Rattle.local_entity.specs.State.{EntityState}
@@ -27,34 +33,37 @@ pub record IsPlain (s : SystemState) (deed : Deed) : Type 0 where
   pub moment : deed.after.moment ≡ s.moment
   pub fresh : AllByRecursion (IsFresh s.moment) deed.actions
 
-fresh_of : (s : SystemState) (actions : List local.Action) → AllByRecursion (SendsItsNext s) actions → AllByRecursion (IsFresh s.moment) actions
+fresh_of : (s : SystemState) (actions : List local.Action) → AllByRecursion (fresh.IsFresh s s.moment) (made_in actions) → AllByRecursion (IsFresh s.moment) actions
 fresh_of s [] all = tt
-fresh_of s (Tells note ∷ actions) all = (tt, fresh_of s actions all.1)
+fresh_of s (Tells note ∷ actions) all = (tt, fresh_of s actions all)
 fresh_of s (Sends u ∷ actions) all = ((all.0.made, all.0.first_position), fresh_of s actions all.1)
 
 pub plain_of : (s : SystemState) (deed : Deed) → IsDeed s deed → IsPlain s deed
-plain_of s deed h = record {
-  configuration = h.keeps.configuration;
-  moment = h.keeps.moment;
-  fresh = fresh_of s deed.actions h.sends;
-}
+plain_of s deed h = record { configuration = h.itself.configuration; moment = h.moment; fresh = fresh_of s deed.actions h.fresh }
 
 -- ---- the branches
 
 nonzero : (n : ℕ) → n ≢ 0 → (n == 0) ≡ false
 nonzero n h = grind (arith, nat_tests)
 
-pub deed_expired : (s : SystemState) (p : Packet) (following : List ℕ) (life : ℕ) → p.lifetime ≡ life → life ≡ 0 → packet_comes s p following ≡ notes s (Discard 0xA0 0)
+-- a packet whose lifetime is over
+abbrev pub over : SystemState → Packet → (following : List ℕ) → Deed
+over s p following = discard s (Labelled p following) (reason_code LifetimeExpiredInTransit) 0
+
+-- a packet for another address
+abbrev other : SystemState → Packet → (following : List ℕ) → Deed
+other s p following = passes_by s.configuration.role s p following
+
+pub deed_expired : (s : SystemState) (p : Packet) (following : List ℕ) (life : ℕ) → p.lifetime ≡ life → life ≡ 0 → packet_comes s p following ≡ over s p following
 deed_expired s p following life e none =
-    ap (λ (n : ℕ). if n == 0 then notes s (Discard 0xA0 0) else (if is_own s p.unit.destination then receive s p following else notes s (NotMine p.unit.destination)))
-    (e ∙ none)
+    ap (λ (n : ℕ). if n == 0 then over s p following else (if is_own s p.unit.destination then receive s p following else other s p following)) (e ∙ none)
 
 deed_alive : (s : SystemState) (p : Packet) (following : List ℕ) (life : ℕ) (own : Bool) → p.lifetime ≡ life → life ≢ 0 → is_own s p.unit.destination ≡ own
-    → packet_comes s p following ≡ (if own then receive s p following else notes s (NotMine p.unit.destination))
+    → packet_comes s p following ≡ (if own then receive s p following else other s p following)
 deed_alive s p following life own e some is =
-    ap (λ (b : Bool). if b then notes s (Discard 0xA0 0) else (if is_own s p.unit.destination then receive s p following else notes s (NotMine p.unit.destination)))
+    ap (λ (b : Bool). if b then over s p following else (if is_own s p.unit.destination then receive s p following else other s p following))
     (ap (λ (n : ℕ). n == 0) e ∙ nonzero life some)
-    ∙ ap (λ (b : Bool). if b then receive s p following else notes s (NotMine p.unit.destination)) is
+    ∙ ap (λ (b : Bool). if b then receive s p following else other s p following) is
 
 own_is : (s : SystemState) (configuration : SystemConfiguration) (p : Packet) (to : List ℕ) (own : Bool) → configuration ≡ s.configuration
     → p.unit.destination ≡ to → own ≡ has_address configuration to → is_own s p.unit.destination ≡ own
@@ -66,10 +75,14 @@ pub deed_own : (s : SystemState) (configuration : SystemConfiguration) (p : Pack
 deed_own s configuration p following life to same e some at own =
     deed_alive s p following life true e some (own_is s configuration p to true same at own)
 
+-- a host notes that it isn't for it
 pub deed_foreign : (s : SystemState) (configuration : SystemConfiguration) (p : Packet) (following : List ℕ) (life : ℕ) (to : List ℕ) → configuration ≡ s.configuration
-    → p.lifetime ≡ life → life ≢ 0 → p.unit.destination ≡ to → false ≡ has_address configuration to → packet_comes s p following ≡ notes s (NotMine to)
-deed_foreign s configuration p following life to same e some at own =
-    deed_alive s p following life false e some (own_is s configuration p to false same at own) ∙ ap (λ (a : List ℕ). notes s (NotMine a)) at
+    → configuration.role ≡ Host → p.lifetime ≡ life → life ≢ 0 → p.unit.destination ≡ to → false ≡ has_address configuration to
+    → packet_comes s p following ≡ tells s (NotMine to)
+deed_foreign s configuration p following life to same role e some at own =
+    deed_alive s p following life false e some (own_is s configuration p to false same at own)
+    ∙ ap (λ (r : Role). passes_by r s p following) (ap (λ (c : SystemConfiguration). c.role) (sym same) ∙ role)
+    ∙ ap (λ (a : List ℕ). tells s (NotMine a)) at
 
 -- ---- actions
 

@@ -5,7 +5,7 @@ use Rattle.clnp_plan.specs.Configuration.{SystemConfiguration}
 use Rattle.clnp_plan.specs.declared.output.Output.{Output}
 use Rattle.clnp_machine.specs.Local as local
 use Rattle.clnp_machine.specs.Local.{Deed}
-use Rattle.clnp_machine.specs.Host.{effect_of}
+use Rattle.clnp_machine.specs.Step.{effect_of}
 use Rattle.local_entity.specs.declared.action.Action.{Action}
 use Rattle.local_entity.specs.Local.{DoAll}
 use Rattle.local_entity.specs.Local as entity

@@ -10,7 +10,7 @@ use Rattle.clnp_machine.specs.System.{SystemState}
 use Rattle.clnp_machine.specs.Unit.{Unit as DataUnit}
 use Rattle.clnp_machine.specs.Local as local
 use Rattle.clnp_machine.specs.Local.{Sends, Tells}
-use Rattle.clnp_machine.specs.Host.{outputs_of}
+use Rattle.clnp_machine.specs.Step.{outputs_of}
 use Rattle.local_entity.specs.declared.action.Action.{Action}
 use Rattle.local_entity.specs.declared.action.Action.TheVariants.{Send}
 use Rattle.local_entity.specs.declared.action.Made.{Made}

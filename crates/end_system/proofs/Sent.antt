@@ -19,11 +19,15 @@ use Rattle.clnp_plan.specs.declared.output.Output.{Output}
 use Rattle.clnp_plan.specs.declared.output.Output.TheVariants.{Note as Noted}
 use Rattle.clnp_machine.specs.Unit.{IsCarriable, Packet, Unit as DataUnit, cut, value_of, whole_packet}
 use Rattle.clnp_machine.specs.System.{SystemState, Transmits}
-use Rattle.clnp_machine.specs.Host.{outputs_of, port_mtu, transmissions}
+use Rattle.clnp_options.specs.Reasons.{reason_code}
+use Rattle.clnp_options.specs.declared.reasons.Reason.TheVariants.{SegmentationNotPermitted}
+use Rattle.clnp_plan.specs.declared.config.Role.{Role}
+use Rattle.clnp_plan.specs.declared.config.Role.TheVariants.{Host}
+use Rattle.clnp_machine.specs.Step.{first_sent, hop_of, mtu_at, outputs_of, transmissions}
 use Rattle.clnp_machine.specs.Local.{Sends}
 use Rattle.end_system.specs.Deeds.{transmission}
 use Rattle.end_system.specs.Stands.{Appends, GiveAll, IsSentFor}
-use Rattle.end_system.proofs.Pieces.{AreBoth, AreThese, IsThis, cut_both}
+use Rattle.clnp_machine.proofs.Pieces.{AreBoth, AreThese, IsThis, cut_both}
 
 seen_of_part : (body : Extent) (from len : ℕ) → from + len ≤ body.len → seen (part from len body) ≡ take len (drop from (seen body))
 seen_of_part body from len within = sym (part_of_part body.frame body.from body.len from len within)
@@ -62,18 +66,18 @@ IsAnswer octets pieces result = MatchOption pieces (result ≡ Err (record { oct
 cuts_are_sent : (p : Packet) (pieces : Option (List Piece)) (packets : Option (List Packet)) (body : Extent) (moment : ℕ) (target : Target) (octets : ℕ)
     (result : Result (List Cut) NotPermitted) (cuts : List Cut) → AreBoth p pieces packets → IsAnswer octets pieces result → result ≡ Ok cuts
     → seen body ≡ (value_of p).body → length (seen body) ≡ body.len → p.unit.made ≡ moment
-    → GiveAll moment (map (transmission target body) cuts) (transmissions target packets)
+    → GiveAll moment (map (transmission target body) cuts) (transmissions (record { port = 0; target = target }) packets)
 cuts_are_sent p None None body moment target octets result cuts both answer ok shown whole made = absurd (cc)
 cuts_are_sent p (Some pieces) (Some packets) body moment target octets result cuts both answer ok shown whole made =
     let same : map given pieces ≡ cuts = cc in
-    subst (λ (cs : List Cut). GiveAll moment (map (transmission target body) cs) (transmissions target (Some packets))) same
+    subst (λ (cs : List Cut). GiveAll moment (map (transmission target body) cs) (transmissions (record { port = 0; target = target }) (Some packets))) same
     (pieces_are_sent p pieces packets body moment target both shown whole made)
 cuts_are_sent p None (Some packets) body moment target octets result cuts both answer ok shown whole made = absurd both
 cuts_are_sent p (Some pieces) None body moment target octets result cuts both answer ok shown whole made = absurd both
 
 none_is_sent : (p : Packet) (pieces : Option (List Piece)) (packets : Option (List Packet)) (moment : ℕ) (target : Target) (octets : ℕ)
     (result : Result (List Cut) NotPermitted) (refused : NotPermitted) → AreBoth p pieces packets → IsAnswer octets pieces result → result ≡ Err refused
-    → GiveAll moment (Noted (Discard 5 0) ∷ []) (transmissions target packets)
+    → GiveAll moment (Noted (Discard (reason_code SegmentationNotPermitted) 0) ∷ []) (transmissions (record { port = 0; target = target }) packets)
 none_is_sent p None None moment target octets result refused both answer err = (refl, tt)
 none_is_sent p (Some pieces) (Some packets) moment target octets result refused both answer err = absurd (cc)
 none_is_sent p None (Some packets) moment target octets result refused both answer err = absurd both
@@ -102,37 +106,44 @@ CutsSay head len mtu result = (v : PduValue) → SpellsHeader v head → length 
 pub unit_length : (u : DataUnit) (body : Extent) → seen body ≡ u.octets → (len : ℕ) → len ≡ length (seen body) → length (value_of (whole_packet u)).body ≡ len
 unit_length u body shown len e = ap length (whole_body u) ∙ ap length (sym shown) ∙ sym e
 
+-- a host sends what it sends first on its one port, to all end systems
+as_host : (s : SystemState) (u : DataUnit) (moment : ℕ) (given : List Output) → s.configuration.role ≡ Host
+    → GiveAll moment given (transmissions (record { port = 0; target = EndSystems }) (cut (whole_packet u) (mtu_at s 0)))
+    → GiveAll moment given (outputs_of s (Sends u))
+as_host s u moment given role h =
+    subst (λ (r : Role). GiveAll moment given (first_sent s u (hop_of r s u.destination))) (sym role) h
+
 -- the pieces of a unit are given out
 pub unit_is_sent : (s : SystemState) (u : DataUnit) (moment : ℕ) (head : List ℕ) (body : Extent) (len mtu : ℕ) (result : Result (List Cut) NotPermitted)
     (cuts : List Cut) (before after : List Output) → IsMadeOf u head body → len ≡ length (seen body) → CutsSay head len mtu result → result ≡ Ok cuts
-    → mtu ≡ port_mtu s.configuration.ports → 512 ≤ mtu → u.made ≡ moment → u.first_position ≡ 0
+    → mtu ≡ mtu_at s 0 → s.configuration.role ≡ Host → 512 ≤ mtu → u.made ≡ moment → u.first_position ≡ 0
     → after ≡ before ++ map (transmission EndSystems body) cuts
     → Appends moment before after (outputs_of s (Sends u))
-unit_is_sent s u moment head body len mtu result cuts before after made e say ok at least now first written =
+unit_is_sent s u moment head body len mtu result cuts before after made e say ok at role least now first written =
     let p : Packet = whole_packet u in
     let h : IsCarriable p = whole_carriable u made.spells.pdu first in
     record {
       outputs = map (transmission EndSystems body) cuts;
       appended = written;
-      give_all = subst (λ (n : ℕ). GiveAll moment (map (transmission EndSystems body) cuts) (transmissions EndSystems (cut p n))) at
+      give_all = as_host s u moment (map (transmission EndSystems body) cuts) role (subst (λ (n : ℕ). GiveAll moment (map (transmission EndSystems body) cuts) (transmissions (record { port = 0; target = EndSystems }) (cut p n))) at
           (cuts_are_sent p (segmenter.cut (value_of p) mtu) (cut p mtu) body moment EndSystems (segment_length (value_of p)) result cuts
           (cut_both p mtu h least) (say (value_of p) made.spells (unit_length u body made.shown len e)) ok
-          (made.shown ∙ sym (whole_body u)) made.whole now);
+          (made.shown ∙ sym (whole_body u)) made.whole now));
     }
 
 -- a unit that may not be cut is discarded
 pub unit_is_dropped : (s : SystemState) (u : DataUnit) (moment : ℕ) (head : List ℕ) (body : Extent) (len mtu : ℕ) (result : Result (List Cut) NotPermitted)
     (refused : NotPermitted) (before after : List Output) → IsMadeOf u head body → len ≡ length (seen body) → CutsSay head len mtu result → result ≡ Err refused
-    → mtu ≡ port_mtu s.configuration.ports → 512 ≤ mtu → u.first_position ≡ 0
-    → after ≡ before ++ Noted (Discard 5 0) ∷ []
+    → mtu ≡ mtu_at s 0 → s.configuration.role ≡ Host → 512 ≤ mtu → u.first_position ≡ 0
+    → after ≡ before ++ Noted (Discard (reason_code SegmentationNotPermitted) 0) ∷ []
     → Appends moment before after (outputs_of s (Sends u))
-unit_is_dropped s u moment head body len mtu result refused before after made e say err at least first written =
+unit_is_dropped s u moment head body len mtu result refused before after made e say err at role least first written =
     let p : Packet = whole_packet u in
     let h : IsCarriable p = whole_carriable u made.spells.pdu first in
     record {
-      outputs = Noted (Discard 5 0) ∷ [];
+      outputs = Noted (Discard (reason_code SegmentationNotPermitted) 0) ∷ [];
       appended = written;
-      give_all = subst (λ (n : ℕ). GiveAll moment (Noted (Discard 5 0) ∷ []) (transmissions EndSystems (cut p n))) at
+      give_all = as_host s u moment (Noted (Discard (reason_code SegmentationNotPermitted) 0) ∷ []) role (subst (λ (n : ℕ). GiveAll moment (Noted (Discard (reason_code SegmentationNotPermitted) 0) ∷ []) (transmissions (record { port = 0; target = EndSystems }) (cut p n))) at
           (none_is_sent p (segmenter.cut (value_of p) mtu) (cut p mtu) moment EndSystems (segment_length (value_of p)) result refused
-          (cut_both p mtu h least) (say (value_of p) made.spells (unit_length u body made.shown len e)) err);
+          (cut_both p mtu h least) (say (value_of p) made.spells (unit_length u body made.shown len e)) err));
     }

@@ -2,26 +2,16 @@
 use Rattle.std.specs.Prelude.{◌≡◌, ℕ, List, Some, false}
 use Rattle.nsap.specs.declared.target.Target.{Target}
 use Rattle.clnp_views.specs.Extent.{Extent, part}
-use Rattle.pdu_header.specs.declared.pdu.Refusal.{Refusal}
-use Rattle.pdu_header.specs.declared.pdu.Refusal.TheVariants.{NotClnp, Broken}
 use Rattle.segmenter.specs.declared.cuts.Cut.{Cut}
 use Rattle.clnp_plan.specs.declared.ask.SendRefusal.{SendRefusal}
 use Rattle.clnp_plan.specs.declared.ask.SendRefusal.TheVariants.{NoMemory}
-use Rattle.clnp_plan.specs.declared.note.Note.{Note}
-use Rattle.clnp_plan.specs.declared.note.Note.TheVariants.{Discard}
 use Rattle.clnp_plan.specs.declared.output.Output.{Output}
 use Rattle.clnp_plan.specs.declared.output.Output.TheVariants.{Transmit}
 use Rattle.clnp_machine.specs.Local as local
 use Rattle.clnp_machine.specs.Local.{Sends, Tells}
-use Rattle.clnp_machine.specs.Host.{other_note}
 use Rattle.local_entity.specs.Local.{Appends}
 use Rattle.local_entity.specs.declared.action.Action.{Action}
 use Rattle.end_system.specs.State.{HostState}
-
--- what is noted of a frame that is refused
-abbrev pub note_of : (frame : List ℕ) → Refusal → Note
-note_of frame NotClnp = other_note frame
-note_of frame (Broken broken) = Discard broken.reason broken.place
 
 -- actions that are some of the model's were appended
 abbrev pub AppendsSome : (before after : List Action) → Type 0

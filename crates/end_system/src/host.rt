@@ -1,24 +1,26 @@
 //! The steps of a host.
-ghost use Rattle.std.specs.Prelude.{[], ◌∷◌, ◌++◌, List, ◌≡◌, ◌≤◌, ◌<◌, ◌+◌, ◌^◌, ℕ, IfErr, IfOk, OnOk, OnErr, IsErr, MatchResult, None, false, true, length};
+ghost use Rattle.std.specs.Prelude.{[], ◌∷◌, ◌++◌, List, ◌≡◌, ◌≤◌, ◌<◌, ◌+◌, ◌^◌, ℕ, IfErr, IfOk, OnOk, OnErr, IsErr, MatchResult, None, Some, ◌≢◌, false, true, length};
 ghost use Rattle.clnp_options.specs.Grammar.{FitsKind};
 ghost use Rattle.clnp_options.specs.Parameter.{parameters};
 ghost use Rattle.clnp_options.specs.Reasons.{reason_code};
 ghost use Rattle.pdu_header.specs.Grammar.{BeginsWith};
+ghost use Rattle.pdu_header.specs.Rules.{octet};
 ghost use Rattle.pdu_header.specs.Value.{PduValue};
 ghost use Rattle.pdu_header.specs.declared.kind.Kind.TheVariants.{Dt};
 ghost use Rattle.reassembly.specs.Buffer.{held};
 ghost use Rattle.clnp_plan.specs.declared.ask.SendRefusal.TheVariants.{NoMemory as WantsMemory};
 ghost use Rattle.clnp_plan.specs.declared.config.Role.TheVariants.{Host};
 ghost use Rattle.clnp_plan.specs.declared.note.Note.TheVariants.{Discard};
-ghost use Rattle.clnp_machine.specs.System.{Content, IsCarried, SystemState, first_state, frame_of, next_number};
+ghost use Rattle.clnp_machine.specs.Content.{Content, IsCarried, Unlabelled, frame_of};
+ghost use Rattle.clnp_machine.specs.System.{SystemState, AsksToSend, FrameComes, IsRestarted, MomentComes, first_state, next_number};
 ghost use Rattle.clnp_machine.specs.Local.{refusal, unit_of};
-ghost use Rattle.clnp_machine.specs.Host as machine;
-ghost use Rattle.clnp_machine.specs.Host.{frame_comes, other_note, packet_comes};
+ghost use Rattle.clnp_machine.specs.Local as local;
+ghost use Rattle.clnp_machine.specs.Step.{content_comes, effect_of, next_hop, octets_come, packet_comes, step};
 ghost use Rattle.clnp_machine.specs.Unit.{IsCarriable, Packet, wire};
 ghost use Rattle.local_entity.specs.declared.action.Action.TheVariants.{Note as Noted};
 ghost use Rattle.local_entity.specs.Local as entity;
 ghost use Rattle.local_entity.specs.Local.{IsWhy};
-ghost use Rattle.end_system.specs.Deeds.{AppendsSome, LeavesSame, note_of};
+ghost use Rattle.end_system.specs.Deeds.{AppendsSome, LeavesSame};
 ghost use Rattle.end_system.specs.Stands.{Appends, IsLeftBy, Stands};
 
 use clnp_base::NoMemory;
@@ -95,9 +97,9 @@ impl EndSystem {
     pub fn tick(&mut self, alloc: Global, now: u64, out: &mut Vec<Output>) -> Result<(), NoMemory>
         requires later { self.old.moment ≤ now }
         requires moment { now < 2 ^ 62 }
-        ensures stands { OnOk result ((s : SystemState) → Stands self.old s → Stands self.new (machine.tick s now).after) }
+        ensures stands { OnOk result ((s : SystemState) → Stands self.old s → Stands self.new (step s (MomentComes now)).after) }
         ensures outputs { OnOk result ((s : SystemState) → Stands self.old s
-            → Appends now out.old.items out.new.items (machine.tick s now).outputs) }
+            → Appends now out.old.items out.new.items (step s (MomentComes now)).outputs) }
         ensures moment { OnOk result (self.new.moment ≡ now) }
         ensures none { OnErr result (out.new.items ≡ out.old.items) }
         ensures spent { OnErr result (self.new.spent ≡ true) }
@@ -134,9 +136,10 @@ impl EndSystem {
         requires port { port ≡ 0 }
         requires few { length frame.now ≤ 70000 }
         ensures stands { OnOk result ((s : SystemState) (content : Content) → Stands self.old s → IsCarried content
-            → frame_of content ≡ frame.now → Stands self.new (machine.arrive s content).after) }
+            → frame_of content ≡ frame.now → Stands self.new (step s (FrameComes port from group content)).after) }
         ensures outputs { OnOk result ((s : SystemState) (content : Content) → Stands self.old s → IsCarried content
-            → frame_of content ≡ frame.now → Appends self.old.moment out.old.items out.new.items (machine.arrive s content).outputs) }
+            → frame_of content ≡ frame.now
+            → Appends self.old.moment out.old.items out.new.items (step s (FrameComes port from group content)).outputs) }
         ensures none { OnErr result (out.new.items ≡ out.old.items) }
         ensures spent { OnErr result (self.new.spent ≡ true) }
         ensures refused { self.old.spent ≡ true → IsErr result }
@@ -176,9 +179,9 @@ impl EndSystem {
         ensures answer { (s : SystemState) → Stands self.old s → MatchResult result
             (λ unit. (refusal s (unit_of s Dt from to body.now ask.now) ≡ None) × (unit ≡ next_number s))
             (λ e. IsWhy e (refusal s (unit_of s Dt from to body.now ask.now))) }
-        ensures stands { OnOk result ((s : SystemState) → Stands self.old s → Stands self.new (machine.send s from to body.now ask.now).after) }
+        ensures stands { OnOk result ((s : SystemState) → Stands self.old s → Stands self.new (step s (AsksToSend from to body.now ask.now)).after) }
         ensures outputs { OnOk result ((s : SystemState) → Stands self.old s
-            → Appends self.old.moment out.old.items out.new.items (machine.send s from to body.now ask.now).outputs) }
+            → Appends self.old.moment out.old.items out.new.items (step s (AsksToSend from to body.now ask.now)).outputs) }
         ensures none { OnErr result (out.new.items ≡ out.old.items) }
         ensures left { IfErr result (λ e. IsLeftBy e self.old self.new) }
         ensures refused { self.old.spent ≡ true → result ≡ Err WantsMemory }
@@ -199,7 +202,7 @@ impl EndSystem {
 
     /// Forgets all that it keeps, and is quiet as long as an identifier rests; the count of its units goes on.
     pub fn restart(&mut self)
-        ensures stands { (s : SystemState) → Stands self.old s → Stands self.new (machine.restart s).after }
+        ensures stands { (s : SystemState) → Stands self.old s → Stands self.new (step s IsRestarted).after }
         ensures spent { self.new.spent ≡ self.old.spent }
         ensures config { self.new.entity.configuration ≡ self.old.entity.configuration }
     {
@@ -215,7 +218,7 @@ impl EndSystem {
 
     /// Where it sends a PDU for an address: no system is known to it, so to all end systems (ISO 9542, section 6.5).
     pub fn next_hop(&self, to: &Address) -> Target
-        ensures { (s : SystemState) → Stands self.now s → result ≡ machine.next_hop s to.now }
+        ensures { (s : SystemState) → Stands self.now s → next_hop s to.now ≡ Some (record { port = 0; target = result }) }
     {
         Target::EndSystems
     }
@@ -232,14 +235,14 @@ impl EndSystem {
     fn come_to(&mut self, alloc: Global, now: u64, out: &mut Vec<Output>) -> Result<(), NoMemory>
         requires spent { self.old.spent ≡ false }
         requires moment { now < 2 ^ 62 }
-        ensures stands { OnOk result ((s : SystemState) → Stands self.old s → Stands self.new (machine.tick s now).after) }
+        ensures stands { OnOk result ((s : SystemState) → Stands self.old s → Stands self.new (step s (MomentComes now)).after) }
         ensures outputs { OnOk result ((s : SystemState) → Stands self.old s
-            → Appends now out.old.items out.new.items (machine.tick s now).outputs) }
+            → Appends now out.old.items out.new.items (step s (MomentComes now)).outputs) }
         ensures moment { OnOk result (self.new.moment ≡ now) }
         ensures none { OnErr result (out.new.items ≡ out.old.items) }
         ensures config { self.new.entity.configuration ≡ self.old.entity.configuration }
     {
-        laws::a_deed_is_of_its_moment();
+        laws::deeds_are_of_their_moment();
         let mut actions = Vec::new(alloc);
         self.entity.tick(alloc, now, &mut actions)?;
         self.moment = now;
@@ -256,13 +259,13 @@ impl EndSystem {
         requires spent { self.old.spent ≡ false }
         requires few { length frame.now ≤ 70000 }
         ensures stands { OnOk result ((s : SystemState) (content : Content) → Stands self.old s → IsCarried content
-            → frame_of content ≡ frame.now → Stands self.new (machine.arrive s content).after) }
+            → frame_of content ≡ frame.now → Stands self.new (content_comes s content).after) }
         ensures outputs { OnOk result ((s : SystemState) (content : Content) → Stands self.old s → IsCarried content
-            → frame_of content ≡ frame.now → Appends self.old.moment out.old.items out.new.items (machine.arrive s content).outputs) }
+            → frame_of content ≡ frame.now → Appends self.old.moment out.old.items out.new.items (effect_of (content_comes s content)).outputs) }
         ensures none { OnErr result (out.new.items ≡ out.old.items) }
         ensures config { self.new.entity.configuration ≡ self.old.entity.configuration }
     {
-        laws::a_deed_is_of_its_moment();
+        laws::deeds_are_of_their_moment();
         let mut actions = Vec::new(alloc);
         self.arrive(alloc, frame, &mut actions)?;
         self.give_out(alloc, actions, out)
@@ -278,19 +281,70 @@ impl EndSystem {
         requires spent { self.old.spent ≡ false }
         requires few { length frame.now ≤ 70000 }
         ensures stands { OnOk result ((s : SystemState) (content : Content) → Stands self.old s → IsCarried content
-            → frame_of content ≡ frame.now → Stands self.new (frame_comes s content).after) }
+            → frame_of content ≡ frame.now → Stands self.new (content_comes s content).after) }
         ensures actions { OnOk result ((s : SystemState) (content : Content) → Stands self.old s → IsCarried content
-            → frame_of content ≡ frame.now → entity.Appends actions.old.items actions.new.items (frame_comes s content).actions) }
+            → frame_of content ≡ frame.now → entity.Appends actions.old.items actions.new.items (content_comes s content).actions) }
         ensures done { OnOk result (AppendsSome actions.old.items actions.new.items) }
         ensures moment { self.new.moment ≡ self.old.moment }
         ensures config { self.new.entity.configuration ≡ self.old.entity.configuration }
     {
         laws::a_frame_carries_one_packet();
-        let octets = frame.bytes();
-        match decode(octets) {
+        match decode(frame.bytes()) {
             Ok(pdu) => self.receive(alloc, pdu.life, pdu.to, frame, actions),
-            Err(refusal) => note(refused(octets, refusal), actions),
+            Err(Refusal::Broken(broken)) => {
+                self.discard(alloc, frame, broken.reason, broken.place, actions)
+            }
+            Err(Refusal::NotClnp) => self.pass_over(alloc, frame, actions),
         }
+    }
+
+    /// What is done where a frame comes that doesn't begin as a CLNP PDU: of one of ISO 9542's protocol nothing is read yet.
+    fn pass_over(
+        &mut self,
+        alloc: Global,
+        frame: &Frame,
+        actions: &mut Vec<Action>,
+    ) -> Result<(), NoMemory>
+        requires spent { self.old.spent ≡ false }
+        requires few { length frame.now ≤ 70000 }
+        requires other { octet frame.now 1 ≢ 0x81 }
+        requires carried { IsCarried (Unlabelled frame.now) }
+        ensures stands { OnOk result ((s : SystemState) → Stands self.old s → Stands self.new (octets_come s frame.now).after) }
+        ensures actions { OnOk result ((s : SystemState) → Stands self.old s
+            → entity.Appends actions.old.items actions.new.items (octets_come s frame.now).actions) }
+        ensures done { OnOk result (AppendsSome actions.old.items actions.new.items) }
+        ensures moment { self.new.moment ≡ self.old.moment }
+        ensures config { self.new.entity.configuration ≡ self.old.entity.configuration }
+    {
+        let octets = frame.bytes();
+        if octets.is_empty() || octets[0] != ES_IS {
+            return note(Note::Alien, actions);
+        }
+        self.discard(alloc, frame, Reason::NotSpecified.code(), 0, actions)
+    }
+
+    /// A frame that came is discarded, for a reason and with the place of the octet at fault.
+    fn discard(
+        &mut self,
+        alloc: Global,
+        frame: &Frame,
+        reason: u8,
+        place: u8,
+        actions: &mut Vec<Action>,
+    ) -> Result<(), NoMemory>
+        requires spent { self.old.spent ≡ false }
+        requires few { length frame.now ≤ 70000 }
+        requires content { (content : Content) × IsCarried content × (frame_of content ≡ frame.now) }
+        ensures stands { OnOk result ((s : SystemState) (content : Content) → Stands self.old s → IsCarried content
+            → frame_of content ≡ frame.now → Stands self.new (local.discard s content reason place).after) }
+        ensures actions { OnOk result ((s : SystemState) (content : Content) → Stands self.old s → IsCarried content
+            → frame_of content ≡ frame.now
+            → entity.Appends actions.old.items actions.new.items (local.discard s content reason place).actions) }
+        ensures done { OnOk result (AppendsSome actions.old.items actions.new.items) }
+        ensures moment { self.new.moment ≡ self.old.moment }
+        ensures config { self.new.entity.configuration ≡ self.old.entity.configuration }
+    {
+        self.entity.discard(alloc, self.moment, frame, reason, place, actions)
     }
 
     /// What is done where a PDU comes: its lifetime is over (ISO 8473, section 6.4), or it is for the host (section 6.2),
@@ -317,12 +371,18 @@ impl EndSystem {
         ensures config { self.new.entity.configuration ≡ self.old.entity.configuration }
     {
         if life == 0 {
-            return note(discarded(Reason::LifetimeExpiredInTransit), actions);
+            return self.discard(
+                alloc,
+                frame,
+                Reason::LifetimeExpiredInTransit.code(),
+                0,
+                actions,
+            );
         }
         if !self.entity.is_own(&to) {
             return note(Note::NotMine { to }, actions);
         }
-        laws::a_deed_is_of_its_moment();
+        laws::deeds_are_of_their_moment();
         self.entity.receive(alloc, self.moment, frame, actions)
     }
 
@@ -341,9 +401,9 @@ impl EndSystem {
         ensures answer { (s : SystemState) → Stands self.old s → MatchResult result
             (λ unit. (refusal s (unit_of s Dt from to body.now ask.now) ≡ None) × (unit ≡ next_number s))
             (λ e. IsWhy e (refusal s (unit_of s Dt from to body.now ask.now))) }
-        ensures stands { OnOk result ((s : SystemState) → Stands self.old s → Stands self.new (machine.send s from to body.now ask.now).after) }
+        ensures stands { OnOk result ((s : SystemState) → Stands self.old s → Stands self.new (step s (AsksToSend from to body.now ask.now)).after) }
         ensures outputs { OnOk result ((s : SystemState) → Stands self.old s
-            → Appends self.old.moment out.old.items out.new.items (machine.send s from to body.now ask.now).outputs) }
+            → Appends self.old.moment out.old.items out.new.items (step s (AsksToSend from to body.now ask.now)).outputs) }
         ensures none { OnErr result (out.new.items ≡ out.old.items) }
         ensures left { IfErr result (λ e. LeavesSame e self.old self.new) }
         ensures config { self.new.entity.configuration ≡ self.old.entity.configuration }
@@ -352,7 +412,7 @@ impl EndSystem {
             return Err(SendRefusal::NoMemory);
         };
         let body = frame.into_view();
-        laws::a_deed_is_of_its_moment();
+        laws::deeds_are_of_their_moment();
         let mut actions = Vec::new(alloc);
         let unit = self.entity.make(
             alloc,
@@ -369,29 +429,6 @@ impl EndSystem {
             Err(NoMemory) => Err(SendRefusal::NoMemory),
         }
     }
-}
-
-/// What is noted of a frame that is no PDU.
-fn refused(frame: &[u8], refusal: Refusal) -> Note
-    ensures { result ≡ note_of frame.now refusal }
-{
-    match refusal {
-        Refusal::NotClnp => other(frame),
-        Refusal::Broken(broken) => Note::Discard {
-            reason: broken.reason,
-            place: broken.place,
-        },
-    }
-}
-
-/// What is noted of a frame that doesn't begin as a CLNP PDU.
-fn other(frame: &[u8]) -> Note
-    ensures { result ≡ other_note frame.now }
-{
-    if frame.is_empty() || frame[0] != ES_IS {
-        return Note::Alien;
-    }
-    discarded(Reason::NotSpecified)
 }
 
 /// What is noted of what is discarded for a reason, for which no place in it is told.

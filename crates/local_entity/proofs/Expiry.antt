@@ -1,4 +1,6 @@
 -- Buffers whose time has ended are taken out, one after another.
+use Rattle.clnp_options.specs.Reasons.{reason_code}
+use Rattle.clnp_options.specs.declared.reasons.Reason.TheVariants.{LifetimeExpiredInReassembly}
 use Rattle.std.proofs.Common.{◌≡◌, ℕ, zero, suc, ◌≤◌, cond, List, [], ◌∷◌, ◌++◌, Option, Some, None, refl, sym, ap, ◌∙◌, subst, arith, append_assoc, append-nil}
 use Rattle.std.specs.Prelude.{is_some, option_map}
 use Rattle.clnp_views.specs.Extent.{Extent, seen}
@@ -75,7 +77,7 @@ expire-ended (suc n) (suc k) s fewer none = by (due s.moment s.buffers) none (λ
 
 -- the PDU at the beginning of a unit is discarded
 discards_by : (s : SystemState) (first : Option Extent) (other : Option Packet) → option_map seen first ≡ option_map wire other
-    → DoAll (cond (is_some first) (Noted (Discard 0xA1 0) ∷ []) []) ((discard_first s other).actions ++ [])
+    → DoAll (cond (is_some first) (Noted (Discard (reason_code LifetimeExpiredInReassembly) 0) ∷ []) []) ((discard_first s other).actions ++ [])
 discards_by s None None same = tt
 discards_by s None (Some p) same = absurd (cc)
 discards_by s (Some extent) None same = absurd (cc)
@@ -119,7 +121,7 @@ module _ (local : EntityState) (now : ℕ) (s : SystemState) (stands : Stands lo
       → option_map (map_buffer seen) found ≡ option_map (map_buffer wire) other
       → Some result ≡ option_map (λ (ended : Buffer Extent). let e : Expired = record { key = ended.key; first = first_carried ended } in e) found
       → held ≡ buffer.held (without_due found stands.buffers)
-      → behind ≡ before ++ Noted (Ended result.key.id held) ∷ cond (is_some result.first) (Noted (Discard 0xA1 0) ∷ []) []
+      → behind ≡ before ++ Noted (Ended result.key.id held) ∷ cond (is_some result.first) (Noted (Discard (reason_code LifetimeExpiredInReassembly) 0) ∷ []) []
       → Appends before behind (give_up_due other s (expire 0)).actions
   appends_by None other result held before behind same told held_is appended = absurd (cc)
   appends_by (Some ended) None result held before behind same told held_is appended = absurd (cc)
@@ -133,7 +135,7 @@ module _ (local : EntityState) (now : ℕ) (s : SystemState) (stands : Stands lo
       ∙ held_shown (without ended.key stands.buffers) (without ended.key s.buffers) (without_shown stands.buffers s.buffers stands.shown ended.key)
       ∙ ap (λ (k : Key). buffer.held (without k s.buffers)) key in
       record {
-        actions = Noted (Ended result.key.id held) ∷ cond (is_some result.first) (Noted (Discard 0xA1 0) ∷ []) [];
+        actions = Noted (Ended result.key.id held) ∷ cond (is_some result.first) (Noted (Discard (reason_code LifetimeExpiredInReassembly) 0) ∷ []) [];
         appended = appended;
         do_all = (cc, discards_by (record s { buffers = without other.key s.buffers }) result.first (first_carried other) first);
       }
@@ -154,7 +156,7 @@ module _ (local : EntityState) (now : ℕ) (s : SystemState) (stands : Stands lo
   pub expired_appends : (result : Expired) (held : ℕ) (before behind : List Action)
       → Some result ≡ option_map (λ (ended : Buffer Extent). let e : Expired = record { key = ended.key; first = first_carried ended } in e) (due now stands.buffers)
       → held ≡ buffer.held (without_due (due now stands.buffers) stands.buffers)
-      → behind ≡ before ++ Noted (Ended result.key.id held) ∷ cond (is_some result.first) (Noted (Discard 0xA1 0) ∷ []) []
+      → behind ≡ before ++ Noted (Ended result.key.id held) ∷ cond (is_some result.first) (Noted (Discard (reason_code LifetimeExpiredInReassembly) 0) ∷ []) []
       → Appends before behind (expire 1 s).actions
   expired_appends result held before behind told held_is appended =
       appends_by (due now stands.buffers) (due s.moment s.buffers) result held before behind same_due told held_is appended

@@ -1,10 +1,10 @@
 //! What a host gives out for what is done at its addresses: notes, and units cut into pieces for the MTU of its port (ISO/IEC
 //! 8473, section 6.7).
-ghost use Rattle.std.specs.Prelude.{[], ◌∷◌, ◌≡◌, ◌≤◌, ◌+◌, ◌++◌, List, IfOk, OnOk, OnErr, map};
+ghost use Rattle.std.specs.Prelude.{[], ◌∷◌, ◌≡◌, ◌≤◌, ◌+◌, ◌++◌, List, IfOk, OnOk, OnErr, map, slice_get};
 ghost use Rattle.std.specs.List.{AllByRecursion, flat_map};
 ghost use Rattle.nsap.specs.declared.target.Target.TheVariants.{EndSystems};
 ghost use Rattle.clnp_machine.specs.System.{SystemState};
-ghost use Rattle.clnp_machine.specs.Host as machine;
+ghost use Rattle.clnp_machine.specs.Step.{mtu_of, outputs_of};
 ghost use Rattle.clnp_machine.specs.Unit.{Unit};
 ghost use Rattle.clnp_machine.specs.Local as local;
 ghost use Rattle.clnp_machine.specs.Local.{Sends};
@@ -39,7 +39,7 @@ impl EndSystem {
         requires { (others : List local.Action) × DoAll actions.items others }
         ensures outputs { OnOk result ((s : SystemState) (others : List local.Action) → self.now.entity.configuration ≡ s.configuration
             → DoAll actions.items others → AllByRecursion (IsFresh self.now.moment) others
-            → Appends self.now.moment out.old.items out.new.items (flat_map (machine.outputs_of s) others)) }
+            → Appends self.now.moment out.old.items out.new.items (flat_map (outputs_of s) others)) }
         ensures none { OnErr result (out.new.items ≡ out.old.items) }
     {
         let mut outputs = Vec::new(alloc);
@@ -55,7 +55,7 @@ impl EndSystem {
         requires { (other : local.Action) × Does action other }
         ensures { OnOk result ((s : SystemState) (other : local.Action) → self.now.entity.configuration ≡ s.configuration
             → Does action other → IsFresh self.now.moment other
-            → Appends self.now.moment out.old.items out.new.items (machine.outputs_of s other)) }
+            → Appends self.now.moment out.old.items out.new.items (outputs_of s other)) }
     {
         match action {
             Action::Note(note) => give_note(note, out),
@@ -69,7 +69,7 @@ impl EndSystem {
         requires { (u : Unit) × Does (Send made.now) (Sends u) }
         ensures { OnOk result ((s : SystemState) (u : Unit) → self.now.entity.configuration ≡ s.configuration
             → Does (Send made.now) (Sends u) → IsFresh self.now.moment (Sends u)
-            → Appends self.now.moment out.old.items out.new.items (machine.outputs_of s (Sends u))) }
+            → Appends self.now.moment out.old.items out.new.items (outputs_of s (Sends u))) }
     {
         let octets = made.body.bytes().len();
         match Cuts::new(made.head, octets, self.mtu()) {
@@ -82,7 +82,7 @@ impl EndSystem {
 
     /// The most octets of a frame on the port.
     fn mtu(&self) -> u16
-        ensures port { result ≡ machine.port_mtu self.now.entity.configuration.ports }
+        ensures port { result ≡ mtu_of (slice_get self.now.entity.configuration.ports 0) }
         ensures least { 512 ≤ result }
     {
         let config = self.entity.config();

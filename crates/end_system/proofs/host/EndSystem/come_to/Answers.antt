@@ -34,7 +34,7 @@ pub returns-clause-stands : goal.returns-clause-stands
 returns-clause-stands c =
     on_ok_weaker c.give_out.result
     (λ gives s h.
-    let plain = plain_of (at_moment c.args.now s) (tick s c.args.now) (c.a_deed_is_of_its_moment.ensures.tick s c.args.now) in
+    let plain = plain_of (at_moment c.args.now s) (tick s c.args.now) (c.deeds_are_of_their_moment.ensures.tick s c.args.now) in
     record {
       not_spent = ap (λ (host : HostState). host.spent) c.self.view_is ∙ h.not_spent;
       entity = c.in_ok-tick.ensures.stands s
@@ -50,7 +50,7 @@ returns-clause-outputs c =
     let here : entity.Stands c.self.inside.entity s =
     subst (λ (here : EntityState). entity.Stands here s) (sym (ap (λ (host : HostState). host.entity) c.self.view_is)) h.entity in
     let after = c.in_ok-tick.ensures.stands s here in
-    let plain = plain_of (at_moment c.args.now s) (tick s c.args.now) (c.a_deed_is_of_its_moment.ensures.tick s c.args.now) in
+    let plain = plain_of (at_moment c.args.now s) (tick s c.args.now) (c.deeds_are_of_their_moment.ensures.tick s c.args.now) in
     deed_given c.tick.new.self.configuration c.args.now c.args.out.now.items c.give_out.new.out.items c.new-actions.result.items c.tick.new.out.items
     (tick s c.args.now) c.new-actions.ensures.items (c.in_ok-tick.ensures.actions s here) after.configuration plain.fresh gives)
     c.give_out.ensures.outputs

@@ -7,7 +7,7 @@ use Rattle.clnp_plan.specs.Configuration.{SystemConfiguration}
 use Rattle.pdu_header.specs.declared.kind.Kind.TheVariants.{Dt}
 use Rattle.clnp_machine.specs.System.{SystemState}
 use Rattle.clnp_machine.specs.Local.{Deed, at_moment, make}
-use Rattle.clnp_machine.specs.Host.{effect_of}
+use Rattle.clnp_machine.specs.Step.{effect_of}
 use Rattle.local_entity.specs.State.{EntityState}
 use Rattle.local_entity.specs.Local as entity
 use Rattle.end_system.specs.State.{HostState}
@@ -50,7 +50,7 @@ returns-in-Ok-give_out-clause-stands c =
     let here : entity.Stands c.self.inside.entity s =
     subst (λ (here : EntityState). entity.Stands here s) (sym (ap (λ (host : HostState). host.entity) c.self.view_is)) h.entity in
     let now : s.moment ≡ c.self.inside.moment = sym h.moment ∙ sym (ap (λ (host : HostState). host.moment) c.self.view_is) in
-    let plain = plain_of s (make s Dt c.args.from c.args.to c.args.body.now c.args.ask.now) (c.a_deed_is_of_its_moment.ensures.make s Dt c.args.from c.args.to c.args.body.now c.args.ask.now) in
+    let plain = plain_of s (make s Dt c.args.from c.args.to c.args.body.now c.args.ask.now) (c.deeds_are_of_their_moment.ensures.make s Dt c.args.from c.args.to c.args.body.now c.args.ask.now) in
     record {
       not_spent = ap (λ (host : HostState). host.spent) c.self.view_is ∙ h.not_spent;
       entity = subst (λ (body : List ℕ). entity.Stands c.make.new.self (make s Dt c.args.from c.args.to body c.args.ask.now).after) octets
@@ -66,7 +66,7 @@ returns-in-Ok-give_out-clause-outputs c =
     subst (λ (here : EntityState). entity.Stands here s) (sym (ap (λ (host : HostState). host.entity) c.self.view_is)) h.entity in
     let now : s.moment ≡ c.self.inside.moment = sym h.moment ∙ sym (ap (λ (host : HostState). host.moment) c.self.view_is) in
     let deed : Deed = make s Dt c.args.from c.args.to c.args.body.now c.args.ask.now in
-    let plain = plain_of s (make s Dt c.args.from c.args.to c.args.body.now c.args.ask.now) (c.a_deed_is_of_its_moment.ensures.make s Dt c.args.from c.args.to c.args.body.now c.args.ask.now) in
+    let plain = plain_of s (make s Dt c.args.from c.args.to c.args.body.now c.args.ask.now) (c.deeds_are_of_their_moment.ensures.make s Dt c.args.from c.args.to c.args.body.now c.args.ask.now) in
     let after : entity.Stands c.make.new.self deed.after =
     subst (λ (body : List ℕ). entity.Stands c.make.new.self (make s Dt c.args.from c.args.to body c.args.ask.now).after) octets
     (c.in_ok-unit.ensures.stands s here now) in

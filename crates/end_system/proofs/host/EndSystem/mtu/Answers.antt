@@ -3,7 +3,8 @@ use Rattle.std.proofs.Common.{◌≡◌, ◌∙◌, ◌<◌, ◌≤◌, ap, sym,
 use Rattle.clnp_plan.specs.Configuration.{SystemConfiguration}
 use Rattle.clnp_plan.specs.declared.config.PortConfig.{PortConfig}
 use Rattle.clnp_plan.specs.declared.config.Role.TheVariants.{Host}
-use Rattle.clnp_machine.specs.Host.{port_mtu}
+use Rattle.std.specs.Prelude.{slice_get}
+use Rattle.clnp_machine.specs.Step.{mtu_of}
 use Rattle.end_system.specs.State.{HostState}
 use Rattle.end_system.proofs.Ports.{has_port, mtu_is, mtu_least}
 use Rattle.end_system.proofs.host.EndSystem.mtu.Goals as goal
@@ -21,7 +22,7 @@ returns-clause-port c =
     let role : c.config-config.result.now.role ≡ Host = ap (λ (s : SystemConfiguration). s.role) c.config-config.ensures ∙ c.self.invariant.role in
     let same : c.config-config.result.now ≡ c.args.self.now.entity.configuration = c.config-config.ensures ∙ ap (λ (h : HostState). h.entity.configuration) c.self.view_is in
     mtu_is c.config-config.result.now c.ports.result.now c.index-ports-0.result c.ports.ensures c.is_system.ensures role
-    ∙ ap (λ (s : SystemConfiguration). port_mtu s.ports) same
+    ∙ ap (λ (s : SystemConfiguration). mtu_of (slice_get s.ports 0)) same
 
 pub returns-clause-least : goal.returns-clause-least
 returns-clause-least c =

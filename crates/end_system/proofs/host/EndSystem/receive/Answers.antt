@@ -81,7 +81,7 @@ returns-clause-stands c =
     let same : c.self.inside.entity ≡ c.args.self.now.entity = ap (λ (host : HostState). host.entity) c.self.view_is in
     let now : s.moment ≡ c.self.inside.moment = sym h.moment ∙ sym (ap (λ (host : HostState). host.moment) c.self.view_is) in
     let free : c.self.inside.spent ≡ _ = ap (λ (host : HostState). host.spent) c.self.view_is ∙ h.not_spent in
-    let plain = plain_of s (receive s p following) (c.a_deed_is_of_its_moment.ensures.receive s p following) in
+    let plain = plain_of s (receive s p following) (c.deeds_are_of_their_moment.ensures.receive s p following) in
     subst (λ (deed : Deed). Stands new deed.after)
     (sym (deed_own s c.self.inside.entity.configuration p following c.args.life c.args.to
     (ap (λ (host : HostState). host.entity.configuration) c.self.view_is ∙ h.entity.configuration) life c.if-life-eq0.false to c.if-not-is_own.ensures))
