@@ -189,4 +189,6 @@ fn holds_octets_in_place(rt: HostRuntime) {
     octets.push(b"d");
     assert!(rt; octets.as_bytes() == b"a-cd".as_slice() && octets.len() == 4);
     assert!(rt; copy == InlineOctets::of(b"a-c") && copy != octets);
+    octets.change(1, |part: &mut [u8]| part.reverse());
+    assert!(rt; octets.as_bytes() == b"adc-".as_slice());
 }
