@@ -1,5 +1,5 @@
 -- Lines and words, cut where the reader cuts them.
-use Rattle.std.proofs.Common.{◌≡◌, ◌≢◌, ℕ, ◌+◌, ◌<◌, ◌≤◌, ◌==◌, ◌⊎◌, inl, inr, List, [], ◌∷◌, ◌++◌, length, arith, take, drop, sym, ap, ◌∙◌, refl, Bool, true, false, add-one, zero, suc}
+use Rattle.std.proofs.Common.{◌≡◌, ◌≢◌, ℕ, ◌+◌, ◌<◌, ◌≤◌, ◌==◌, inl, inr, List, [], ◌∷◌, ◌++◌, length, arith, take, drop, sym, ap, ◌∙◌, refl, true, false, add-one, zero, suc}
 use Rattle.std.proofs.lemmas.Bool.{cases_Bool}
 use Rattle.std.proofs.lemmas.Grind.{common_steps}
 use Rattle.clnp_base.specs.Text.{lines_of, words_of, onto_first, begins_with}

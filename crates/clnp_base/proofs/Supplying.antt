@@ -1,7 +1,7 @@
 -- One read from a source in memory.
 use Rattle.std.proofs.Common.{◌≡◌, ℕ, ◌+◌, ◌-◌, ◌<◌, ◌≤◌, min, List, [], ◌++◌, length, take, drop, arith, sym, ap, ◌∙◌, length-append, length-drop, take-append-drop}
 use Rattle.std.proofs.Math.Seq.{take-append_seam}
-use Rattle.std.proofs.lemmas.List.{take_all, length-take-le, nil_from_length, drop-drop}
+use Rattle.std.proofs.lemmas.List.{length-take-le, nil_from_length, drop-drop}
 use Rattle.clnp_base.proofs.Lists.{part_to_end}
 
 take_exact : (xs ys : List ℕ) (n : ℕ) → length xs ≡ n → take n (xs ++ ys) ≡ xs

@@ -1,6 +1,6 @@
 use Rattle.std.proofs.Common.{◌≤◌, ap, arith, drop, length, sym, ◌∙◌}
 use Rattle.clnp_base.specs.Inline.{len_again}
-use Rattle.clnp_base.proofs.Laid.{behind_front, front_of, inline-put, part_of, part_size}
+use Rattle.clnp_base.proofs.Laid.{behind_front, inline-put, part_of, part_size}
 use Rattle.clnp_base.proofs.inline.InlineOctets.change.Goals as goal
 
 pub invariant_of-self : goal.invariant_of-self
