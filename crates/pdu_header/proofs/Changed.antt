@@ -47,7 +47,7 @@ life_set v life old new small h change = record {
 
 -- ---- places
 
-octet_in : (is_sealed : Bool) (plain : List ℕ) (i : ℕ) → i ≢ 7 → i ≢ 8 → get_or (checked is_sealed plain) i 0 ≡ get_or plain i 0
+pub octet_in : (is_sealed : Bool) (plain : List ℕ) (i : ℕ) → i ≢ 7 → i ≢ 8 → get_or (checked is_sealed plain) i 0 ≡ get_or plain i 0
 octet_in true plain i a b = sealed_other plain i a b
 octet_in false plain i a b = refl
 

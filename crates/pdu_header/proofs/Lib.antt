@@ -11,4 +11,5 @@ pub mod MoreFlag
 pub mod Changed
 pub mod Edited
 pub mod Samples
+pub mod Taken
 pub mod Told

@@ -7,8 +7,9 @@ ghost use Rattle.clnp_options.specs.Rules.{IsWellFormed};
 ghost use Rattle.clnp_options.specs.Grammar.{IsTitle};
 ghost use Rattle.clnp_options.specs.Edits.{edited, advanced, recorded, marked, target_of};
 ghost use Rattle.pdu_header.specs.Parts.{checked};
-ghost use Rattle.pdu_header.specs.Headers.{IsEdited, resealed};
+ghost use Rattle.pdu_header.specs.Headers.{IsEdited};
 
+use crate::adjusting::{adjust, adjust_each};
 use std::marker::Model;
 
 /// The most octets of a header (ISO 8473, section 7.2.3).
@@ -83,19 +84,19 @@ impl Cells {
         ensures changed { (is_sealed : Bool) (plain : List ℕ) → octet plain 8 ≡ 0 → self.old ≡ checked is_sealed plain → self.new ≡ checked is_sealed (slice_set plain (place - 1) new) }
         ensures len { length self.new ≡ length self.old }
     {
-        fletcher::adjust(&mut self.octets[..self.len], place, new);
+        adjust(&mut self.octets[..self.len], place, new);
     }
 
-    /// Makes the checksum anew where it is in use.
-    pub fn reseal(&mut self)
-        requires { 9 ≤ length self.old }
-        ensures value { self.new ≡ resealed self.old }
+    /// Takes over the octets of a changed copy from this index on, and adjusts the checksum, where it is in use,
+    /// by each octet that changes.
+    pub fn take_over(&mut self, changed: &[u8], start: usize)
+        requires behind { 9 ≤ start }
+        requires within { start ≤ length self.old }
+        requires len { length changed.now ≡ length self.old }
+        ensures changed { (is_sealed : Bool) (plain : List ℕ) → octet plain 8 ≡ 0 → self.old ≡ checked is_sealed plain → self.new ≡ checked is_sealed (take start plain ++ drop start changed.now) }
         ensures len { length self.new ≡ length self.old }
     {
-        if self.octets[7] == 0 {
-            return;
-        }
-        fletcher::seal(&mut self.octets[..self.len]);
+        adjust_each(&mut self.octets[..self.len], changed, start);
     }
 
     /// Moves the pointer of the source route in the options, which begin at this index.

@@ -158,8 +158,9 @@ impl Header {
         ensures len { length self.new ≡ length self.old }
     {
         let start = options_index(self.cells.as_bytes());
-        self.cells.advance_route(start);
-        self.cells.reseal();
+        let mut changed = self.cells;
+        changed.advance_route(start);
+        self.cells.take_over(changed.as_bytes(), start);
     }
 
     /// Notes a router's title in the recording of route (section 7.5.5): puts it where it fits, else ends
@@ -169,8 +170,9 @@ impl Header {
         ensures len { length self.new ≡ length self.old }
     {
         let start = options_index(self.cells.as_bytes());
-        self.cells.record_title(start, title.as_bytes());
-        self.cells.reseal();
+        let mut changed = self.cells;
+        changed.record_title(start, title.as_bytes());
+        self.cells.take_over(changed.as_bytes(), start);
     }
 
     /// Sets the bit "congestion experienced" in a quality of service of the globally unique format. Another
@@ -180,8 +182,9 @@ impl Header {
         ensures len { length self.new ≡ length self.old }
     {
         let start = options_index(self.cells.as_bytes());
-        self.cells.mark_congestion(start);
-        self.cells.reseal();
+        let mut changed = self.cells;
+        changed.mark_congestion(start);
+        self.cells.take_over(changed.as_bytes(), start);
     }
 }
 

@@ -1,6 +1,7 @@
 //! CLNP PDUs: their octets and their values.
 #![tactic(auto)]
 
+mod adjusting;
 mod cells;
 mod decoder;
 mod encoding;
