@@ -1,5 +1,5 @@
-//! Worked headers: the values were typed from outside, and are no output of this crate.
-use super::{adjust, is_right, seal};
+//! Worked headers: the values were typed from outside, and are no output of the program.
+use fletcher::{adjust, is_right, seal};
 
 /// Headers with the checksum that seals them.
 #[test]
