@@ -11,5 +11,7 @@ pub mod MoreFlag
 pub mod Changed
 pub mod Edited
 pub mod Samples
+pub mod Sealing
+pub mod Least
 pub mod Taken
 pub mod Told

@@ -7,3 +7,5 @@ pub mod View
 pub mod Parts
 pub mod Headers
 pub mod Encoding
+pub mod Account
+pub mod Table

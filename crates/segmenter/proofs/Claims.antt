@@ -9,8 +9,8 @@ use Rattle.pdu_header.specs.Grammar.{IsPdu}
 use Rattle.segmenter.specs.Range.{Range, Partition, Tiles}
 use Rattle.segmenter.specs.Cut.{Piece, cut, data_room, nth_range, ranges, segment, segments, uncut, whole_range}
 use Rattle.segmenter.specs.Pieces.{FillUp, Fits, KeepsUnit, marks, ranges_of}
-use Rattle.segmenter.proofs.Lists.{each_mapped, each_of_any, part_fits}
-use Rattle.segmenter.proofs.Quotients.{Ends, ends_all, ends_begins, ends_full, ends_next, ranges_tile, room_is_eights, room_fits}
+use Rattle.segmenter.proofs.Lists.{each_mapped, each_of_any, length_part, part_fits}
+use Rattle.segmenter.proofs.Quotients.{Ends, ends_all, ends_begins, ends_full, ends_next, ranges_tile, room_is_eights, room_is_full, room_fits}
 use Rattle.segmenter.proofs.Segments.{header_length-segment, more_is, segment_is_pdu, unit_fits}
 use Rattle.segmenter.proofs.Tiles.{tiles_partition, tiles_within}
 
@@ -76,22 +76,29 @@ pieces_keep_unit v mtu =
 
 -- ---- all but the last are full, and more follows them
 
-fill_from : (v : PduValue) (part : SegmentationPart) (room len first count : ℕ) → room % 8 ≡ 0 → 8 ≤ room → Ends room len first count
-    → FillUp (map (piece_of v part) (map (nth_range room len) (range_with_len first count)))
-fill_from v part room len first zero eights some h = tt
-fill_from v part room len first (suc zero) eights some h = tt
-fill_from v part room len first (suc (suc count)) eights some h =
-    let full = ends_full room len first count h in
-    let all : min room (len - first * room) ≡ room = omega arith in
-    (rw all eights, rw all some, fill_from v part room len (first + 1) (suc count) eights some (ends_next room len first (suc count) h))
+-- a segment with so many octets of data has that many behind its header
+long_segment : (v : PduValue) (part : SegmentationPart) (range : Range) (mtu room : ℕ) → v.segmentation ≡ Some part → range.from + range.len ≤ length v.body
+    → range.len ≡ room → mtu < header_length v + room + 8 → mtu < segment_length (segment v part range) + 8
+long_segment v part range mtu room has within full most =
+    omega (arith, header_length-segment v part range has, length_part v.body range.from range.len within)
 
-pub pieces_fill_up : (v : PduValue) (mtu : ℕ) → IsPdu v → 512 ≤ mtu → IfSome (cut v mtu) FillUp
+fill_from : (v : PduValue) (part : SegmentationPart) (mtu room first count : ℕ) → v.segmentation ≡ Some part → mtu < header_length v + room + 8 → room % 8 ≡ 0 → 8 ≤ room → Ends room (length v.body) first count
+    → FillUp mtu (map (piece_of v part) (map (nth_range room (length v.body)) (range_with_len first count)))
+fill_from v part mtu room first zero has most eights some h = tt
+fill_from v part mtu room first (suc zero) has most eights some h = tt
+fill_from v part mtu room first (suc (suc count)) has most eights some h =
+    let full = ends_full room (length v.body) first count h in
+    let all : min room (length v.body - first * room) ≡ room = omega arith in
+    let range : Range = nth_range room (length v.body) first in
+    (rw all eights, rw all some, long_segment v part range mtu room has (omega arith) all most, fill_from v part mtu room (first + 1) (suc count) has most eights some (ends_next room (length v.body) first (suc count) h))
+
+pub pieces_fill_up : (v : PduValue) (mtu : ℕ) → IsPdu v → 512 ≤ mtu → IfSome (cut v mtu) (FillUp mtu)
 pieces_fill_up v mtu h m =
     let room : ℕ = data_room (header_length v) mtu in
     let fits = (room_for_data v mtu h m).0 in
-    cut_gives v mtu FillUp
+    cut_gives v mtu (FillUp mtu)
     (λ fits. tt)
-    (λ part has. fill_from v part room (length v.body) 0 ((length v.body + room - 1) / room) (room_is_eights (header_length v) mtu) fits
+    (λ part has. fill_from v part mtu room 0 ((length v.body + room - 1) / room) has (room_is_full (header_length v) mtu) (room_is_eights (header_length v) mtu) fits
     (ends_all room (length v.body) (omega arith)))
 
 marks_from : (v : PduValue) (part : SegmentationPart) (room len first count : ℕ) → part.offset + len ≤ part.total - header_length v → v.more ≡ nat_lt (part.offset + len) (part.total - header_length v) → Ends room len first count

@@ -27,14 +27,14 @@ pub fn places_go_by_quotient()
     ensures { (room len place number : ℕ) → 8 ≤ room → HasRoomOf room len place number }
 {}
 
-/// Each piece is a PDU and fits the MTU; each but the last has data of a length that is a multiple of 8, and at
-/// least 8; the flag that more follows is set on each but the last, which has that of the PDU; identifier and total
+/// Each piece is a PDU and fits the MTU; each but the last has data of a length that is a multiple of 8, at least 8,
+/// and with 8 octets more it would not fit; the flag that more follows is set on each but the last, which has that of the PDU; identifier and total
 /// length stay.
 pub fn pieces_are_pdus_that_fit()
     ensures pdus { (v : PduValue) (mtu : ℕ) → IsPdu v → 512 ≤ mtu
         → IfSome (cut v mtu) (AllByRecursion (λ piece. IsPdu piece.value)) }
     ensures fit { (v : PduValue) (mtu : ℕ) → IsPdu v → 512 ≤ mtu → IfSome (cut v mtu) (AllByRecursion (Fits mtu)) }
-    ensures filled { (v : PduValue) (mtu : ℕ) → IsPdu v → 512 ≤ mtu → IfSome (cut v mtu) FillUp }
+    ensures filled { (v : PduValue) (mtu : ℕ) → IsPdu v → 512 ≤ mtu → IfSome (cut v mtu) (FillUp mtu) }
     ensures more { (v : PduValue) (mtu : ℕ) → IsPdu v → 512 ≤ mtu
         → IfSome (cut v mtu) (λ pieces. map (λ piece. piece.value.more) pieces ≡ marks v.more pieces) }
     ensures unit { (v : PduValue) (mtu : ℕ) → IsPdu v → 512 ≤ mtu → IfSome (cut v mtu) (AllByRecursion (KeepsUnit v)) }
