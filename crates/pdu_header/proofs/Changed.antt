@@ -25,9 +25,7 @@ segment_kept v life (Some part) h = record {
   identifier = h.identifier;
   offset = h.offset;
   total = h.total;
-  holds_header = h.holds_header;
-  within = h.within;
-  ends = h.ends;
+  range = record { holds_header = h.range.holds_header; within = h.range.within; ends = h.range.ends };
 }
 
 pub life_set : (v : PduValue) (life : ℕ) (old new : List ℕ) → life < 256 → SpellsHeader v old → Changes old new (λ plain. slice_set plain 3 life) → SpellsHeader (with_lifetime life v) new
@@ -159,9 +157,7 @@ segment_pdu v part old_more more old_body body offset h fits small =
         identifier = h.segmentation.identifier;
         offset = small;
         total = h.segmentation.total;
-        holds_header = range.holds_header;
-        within = range.within;
-        ends = range.ends;
+        range = range;
       };
       options = h.options;
       reason = h.reason;

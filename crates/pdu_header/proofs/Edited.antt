@@ -14,7 +14,8 @@ use Rattle.clnp_options.proofs.Agree.{forms_of, well_formed_from, spells_of, acc
 use Rattle.pdu_header.specs.declared.kind.Kind.{Kind}
 use Rattle.pdu_header.specs.declared.kind.Kind.TheVariants.{Dt, Er, Erq, Erp}
 use Rattle.pdu_header.specs.Value.{SegmentationPart, PduValue}
-use Rattle.pdu_header.specs.Spelling.{pair_of, counted, flags_and_type, header_length, segment_length, segmentation_octets, type_code, unsealed_header}
+use Rattle.pdu_header.specs.Layout.{type_code}
+use Rattle.pdu_header.specs.Spelling.{pair_of, counted, flags_and_type, header_length, segment_length, segmentation_octets, unsealed_header}
 use Rattle.pdu_header.specs.Grammar.{IsSegment, is_report}
 use Rattle.pdu_header.specs.Parts.{checked}
 use Rattle.pdu_header.specs.Headers.{IsHeader, SpellsHeader, IsEdited, with_options}
@@ -102,9 +103,11 @@ segment_kept v options (Some part) e h =
       identifier = h.identifier;
       offset = h.offset;
       total = h.total;
-      holds_header = rw (← e) h.holds_header;
-      within = rw (← e) h.within;
-      ends = rw (← e) h.ends;
+      range = record {
+        holds_header = rw (← e) h.range.holds_header;
+        within = rw (← e) h.range.within;
+        ends = rw (← e) h.range.ends;
+      };
     }
 
 pub edit_spells : (v : PduValue) (change : List Parameter → List Parameter) (old mid copy new : List ℕ) (start : ℕ)

@@ -11,6 +11,7 @@ pub mod MoreFlag
 pub mod Changed
 pub mod Edited
 pub mod Samples
+pub mod Ranges
 pub mod Sealing
 pub mod Least
 pub mod Taken

@@ -1,4 +1,6 @@
+pub mod Layout
 pub mod Value
+pub mod Segment
 pub mod Spelling
 pub mod Grammar
 pub mod Rules

@@ -5,6 +5,8 @@ use Rattle.std.specs.List.{AllByRecursion, slice_index_or}
 use Rattle.clnp_options.specs.declared.judge.OptionRefusal.{OptionRefusal}
 use Rattle.clnp_options.specs.Parameter.{parameters}
 use Rattle.clnp_options.specs.Rules.{place_of, place_of_reason, place_of_repeat, place_of_unfit, has_bad_form, has_bad_route, has_bad_security, is_unknown}
+use Rattle.pdu_header.specs.Layout.{version, fixed_size, type_code}
+use Rattle.pdu_header.specs.declared.kind.Kind.TheVariants.{Er}
 use Rattle.pdu_header.specs.Rules.{octet, header_of, header_size, has_more, has_right_checksum, is_bad_address, is_bad_range, is_segmented, kind_of, options_part, options_place, part_place, segment_size, source_place, type_of}
 
 -- a rule as it judges one frame
@@ -26,10 +28,10 @@ table frame =
     let head = header_of frame in
     let first = options_place head in
     let part = options_part head in
-    tests 0x06 (nat_lt (length frame) 9) 0
-    ∷ tests 0x04 (nat_lt (header_size frame) 9 || header_size frame == 255) 2
+    tests 0x06 (nat_lt (length frame) fixed_size) 0
+    ∷ tests 0x04 (nat_lt (header_size frame) fixed_size || header_size frame == 255) 2
     ∷ tests 0x06 (nat_lt (length frame) (header_size frame)) 2
-    ∷ tests 0xb1 (not (octet head 3 == 1)) 3
+    ∷ tests 0xb1 (not (octet head 3 == version)) 3
     ∷ tests 0x02 (not (has_right_checksum head)) 0
     ∷ tests 0x04 (not (is_some (kind_of (type_of head)))) 5
     ∷ tests 0x04 (has_more head && not (is_segmented head)) 5
@@ -45,7 +47,7 @@ table frame =
     ∷ finds 0xb2 (place_of has_bad_security first (parameters part))
     ∷ finds 0x91 (place_of has_bad_route first (parameters part))
     ∷ finds 0x04 (place_of has_bad_form first (parameters part))
-    ∷ finds 0x04 (place_of_reason (type_of head == 1) first (parameters part))
+    ∷ finds 0x04 (place_of_reason (type_of head == type_code Er) first (parameters part))
     ∷ []
 
 -- the rule with a number, from 1

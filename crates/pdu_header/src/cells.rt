@@ -10,16 +10,14 @@ ghost use Rattle.pdu_header.specs.Parts.{checked};
 ghost use Rattle.pdu_header.specs.Headers.{IsEdited};
 
 use crate::adjusting::{adjust, adjust_each};
+use crate::layout::MOST_HEADER;
 use std::marker::Model;
-
-/// The most octets of a header (ISO 8473, section 7.2.3).
-pub const MOST: usize = 254;
 
 /// Octets of a header. The cells past them are 0, so that one list of octets is one value.
 #[derive(Clone, Copy, PartialEq, Eq, Debug)]
 pub struct Cells {
     len: usize,
-    octets: [u8; MOST],
+    octets: [u8; MOST_HEADER],
 }
 
 impl Model for Cells {
@@ -44,7 +42,7 @@ impl Cells {
     {
         Cells {
             len: 0,
-            octets: [0; MOST],
+            octets: [0; MOST_HEADER],
         }
     }
 

@@ -12,37 +12,18 @@ ghost use Rattle.pdu_header.specs.View.{part_value, pdu_value, why_refused};
 ghost use Rattle.std.specs.Prelude.{IfSome, MatchResult, None, Some, ◌^◌, ◌≡◌, ◌+◌, ◌-◌, ◌==◌, ◌<◌, ◌≤◌, ◌↔◌, ℕ, Bool, true, false, List, IfOk, IsTrue, MatchOption, OnErr, OnOk, drop, length, not, option_map, take};
 
 use crate::kind::Kind;
+use crate::layout::{
+    ERROR_REPORT, FIXED_PART, MORE_SEGMENTS, PROTOCOL, SEGMENTATION_PART, SEGMENTATION_PERMITTED,
+    TYPES, VERSION,
+};
 use crate::pdu::{Broken, Pdu, Refusal, SegPart};
 use crate::report::reportable;
 use byteorder::{BigEndian, ByteOrder};
 use clnp_options::{OptionRefusal, check};
 use nsap::Address;
 
-/// The first octet: the network layer protocol identifier of ISO 8473 (section 7.2.2).
-const PROTOCOL: u8 = 0x81;
-
-/// The version of the protocol (section 7.2.4).
-const VERSION: u8 = 1;
-
-/// The octets of the header's fixed part (section 7.2).
-const FIXED_PART: usize = 9;
-
 /// The header length that is reserved (section 7.2.3).
 const RESERVED_LENGTH: u8 = 255;
-
-/// The octets of the segmentation part (section 7.4).
-const SEGMENTATION_PART: usize = 6;
-
-/// The flags in octet 5 (section 7.2.6): segmentation permitted, more segments, error report.
-const SEGMENTATION_PERMITTED: u8 = 0x80;
-
-const MORE_SEGMENTS: u8 = 0x40;
-
-const ERROR_REPORT: u8 = 0x20;
-
-/// The number of types, which stand in the low bits of octet 5.
-pub(crate) const TYPES: u8 = 0x20;
-
 /// Reasons for discard (section 7.9.5).
 const INCORRECT_CHECKSUM: u8 = 0x02;
 
@@ -196,13 +177,7 @@ pub(crate) fn kind_of(head: &[u8]) -> Option<Kind>
     requires { 9 ≤ length head.now }
     ensures { result ≡ rules.kind_of (type_of head.now) }
 {
-    match head[4] % TYPES {
-        1 => Some(Kind::Er),
-        28 => Some(Kind::Dt),
-        30 => Some(Kind::Erq),
-        31 => Some(Kind::Erp),
-        _ => None,
-    }
+    Kind::from_type(head[4] % TYPES)
 }
 
 /// Whether the header's checksum is right, or not in use.

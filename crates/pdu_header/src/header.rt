@@ -10,18 +10,18 @@ ghost use Rattle.pdu_header.specs.View.{part_value};
 ghost use Rattle.pdu_header.specs.Parts.{AreFit, checked, parts_length, parts_value, too_long};
 ghost use Rattle.pdu_header.specs.Headers.{IsHeader, SpellsHeader, with_pair, TakesSegment, MayCarry, LeadsOn, with_lifetime, with_segment, at_offset, with_options};
 
-use crate::cells::{Cells, MOST};
+use crate::cells::Cells;
 use crate::decoder::{has_more, is_segmented, segmentation_part};
+use crate::layout::{
+    MORE_SEGMENTS, MOST_HEADER, MOST_TOTAL, SEGMENTATION_PART, SEGMENTATION_PERMITTED,
+};
 use crate::parts::Parts;
 use crate::pdu::{Pdu, SegPart};
-use crate::write::{MORE_SEGMENTS, SEGMENTATION_PERMITTED, header_len, written};
+use crate::write::{header_len, written};
 use byteorder::{BigEndian, ByteOrder};
 use clnp_views::Head;
 use nsap::Address;
 use std::marker::Model;
-
-/// The most octets of a header and its data (ISO 8473, section 7.2.8).
-const MOST_TOTAL: usize = 65535;
 
 /// Why no header can be made.
 #[derive(Clone, Copy, Debug, PartialEq, Eq)]
@@ -79,7 +79,7 @@ impl Header {
         ensures refused { MatchResult result (λ _. too_long (parts_length parts.now) body_len ≡ None) (λ refusal. too_long (parts_length parts.now) body_len ≡ Some refusal) }
     {
         let octets = header_len(parts);
-        if octets > MOST {
+        if octets > MOST_HEADER {
             return Err(HeaderRefusal::HeaderTooLong { octets });
         }
         let total = octets + body_len;
@@ -195,7 +195,7 @@ fn options_index(octets: &[u8]) -> usize
 {
     let part = part_index(octets);
     if octets[4] >= SEGMENTATION_PERMITTED {
-        part + 6
+        part + SEGMENTATION_PART
     } else {
         part
     }

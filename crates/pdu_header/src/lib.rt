@@ -10,6 +10,7 @@ mod header;
 mod header_tests;
 mod kind;
 pub mod laws;
+mod layout;
 mod parts;
 mod pdu;
 mod report;

@@ -12,11 +12,11 @@ loop-index-preserved c =
     let P : List ℕ → Type 0 = λ t. TakesOver c.args.head.now t c.args.changed.now c.args.start (c.loop-index.index + 1) in
     elim c.if-head-index.branch [
       | then-head-index w ↦
-            subst P (sym w.head-is)
-            (one_more c.args.head.now c.loop-index.head _ c.args.changed.now c.args.start c.loop-index.index (c.loop-index.index + 1) c.requires.behind c.loop-index.auto.index c.loop-index-test.true c.requires.same refl w.adjust.ensures c.loop-index.invariant)
+          subst P (sym w.head-is)
+          (one_more c.args.head.now c.loop-index.head _ c.args.changed.now c.args.start c.loop-index.index (c.loop-index.index + 1) c.requires.behind c.loop-index.auto.index c.loop-index-test.true c.requires.same refl w.adjust.ensures c.loop-index.invariant)
       | else-head-index w ↦
-            subst P (sym w.head-is)
-            (one_same c.args.head.now c.loop-index.head c.args.changed.now c.args.start c.loop-index.index c.requires.behind c.loop-index.auto.index c.loop-index-test.true c.requires.same w.if-head-index.false c.loop-index.invariant)
+          subst P (sym w.head-is)
+          (one_same c.args.head.now c.loop-index.head c.args.changed.now c.args.start c.loop-index.index c.requires.behind c.loop-index.auto.index c.loop-index-test.true c.requires.same w.if-head-index.false c.loop-index.invariant)
     ]
 
 pub returns : goal.returns

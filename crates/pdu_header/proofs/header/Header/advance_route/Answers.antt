@@ -30,7 +30,6 @@ advance_route-requires-clause-target c =
     let start : StartsAt v c.options_index-start.result = c.options_index-start.ensures v read in
     options_lead v c.self.inside.cells c.options_index-start.result h start c.requires.2
 
-
 pub take_over-requires-clause-within : goal.take_over-requires-clause-within
 take_over-requires-clause-within c =
     let v : PduValue = c.requires.0 in

@@ -22,7 +22,6 @@ mark_congestion-requires-clause-well_formed c =
     let start : StartsAt v c.options_index-start.result = c.options_index-start.ensures v read in
     options_formed v c.self.inside.cells c.options_index-start.result h start
 
-
 pub take_over-requires-clause-within : goal.take_over-requires-clause-within
 take_over-requires-clause-within c =
     let v : PduValue = c.self.invariant.0 in
