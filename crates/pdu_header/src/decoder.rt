@@ -6,7 +6,8 @@ ghost use Rattle.pdu_header.specs.Reading as reading;
 ghost use Rattle.pdu_header.specs.Reading.{body_of, rest_of, segmentation_at, value_of};
 ghost use Rattle.pdu_header.specs.Rules as rules;
 ghost use Rattle.pdu_header.specs.Rules.{addresses_refusal, data_size, extent_refusal, fixed_part_refusal, header_size, is_unfit_range, is_bad_address, lengths_refusal, octet, options_part, options_place, part_place, refusal, source_place, type_of};
-ghost use Rattle.pdu_header.specs.Spelling.{header};
+ghost use Rattle.pdu_header.specs.Headers.{SpellsHeader};
+ghost use Rattle.pdu_header.specs.Spelling.{header, header_length};
 ghost use Rattle.pdu_header.specs.Value.{PduValue};
 ghost use Rattle.pdu_header.specs.View.{part_value, pdu_value, why_refused};
 ghost use Rattle.std.specs.Prelude.{IfSome, MatchResult, None, Some, ◌^◌, ◌≡◌, ◌+◌, ◌-◌, ◌==◌, ◌<◌, ◌≤◌, ◌↔◌, ℕ, Bool, true, false, List, IfOk, IsTrue, MatchOption, OnErr, OnOk, drop, length, not, option_map, take};
@@ -45,6 +46,8 @@ pub fn decode(frame: &[u8]) -> Result<Pdu<'_>, Refusal>
     ensures found { IfOk result (λ pdu. BeginsWith frame.now (pdu_value pdu) pdu.rest.now) }
     ensures none { OnErr result ((value : PduValue) (rest : List ℕ) → BeginsWith frame.now value rest → ⊥) }
     ensures header { IfOk result (λ pdu. pdu.head.now ≡ header (pdu_value pdu)) }
+    ensures spells { IfOk result (λ pdu. SpellsHeader (pdu_value pdu) pdu.head.now) }
+    ensures size { IfOk result (λ pdu. length pdu.head.now ≡ header_length (pdu_value pdu)) }
     ensures head { IfOk result (λ pdu. pdu.head.now ≡ rules.header_of frame.now) }
     ensures sum { IfOk result (λ pdu. pdu.sum ≡ rules.pair_at pdu.head.now 8) }
     ensures options { IfOk result (λ pdu. pdu.options.now ≡ options_part pdu.head.now) }

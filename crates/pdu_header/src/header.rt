@@ -4,7 +4,7 @@ ghost use Rattle.fletcher.specs.Checksum.{octet};
 ghost use Rattle.pdu_header.specs.Value.{SegmentationPart, PduValue};
 ghost use Rattle.clnp_options.specs.Parameter.{source_route, recording, quality};
 ghost use Rattle.clnp_options.specs.Edits.{edited, advanced, recorded, marked};
-ghost use Rattle.pdu_header.specs.Spelling.{segmentation_octets};
+ghost use Rattle.pdu_header.specs.Spelling.{header_length, segmentation_octets};
 ghost use Rattle.pdu_header.specs.Rules.{part_place};
 ghost use Rattle.pdu_header.specs.View.{part_value};
 ghost use Rattle.pdu_header.specs.Parts.{AreFit, checked, parts_length, parts_value, too_long};
@@ -94,6 +94,7 @@ impl Header {
     /// The octets.
     pub fn as_bytes(&self) -> &[u8]
         ensures octets { result.now ≡ self.now }
+        ensures size { (v : PduValue) → SpellsHeader v self.now → length result.now ≡ header_length v }
         ensures some { 9 ≤ length result.now }
         ensures few { length result.now ≤ 254 }
     {

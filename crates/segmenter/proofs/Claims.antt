@@ -124,6 +124,6 @@ pieces_say_more v mtu h m =
     (λ fits. refl)
     (λ part has.
     let fits = unit_fits v part has h in
-    marks_from v part room (length v.body) 0 ((length v.body + room - 1) / room) fits.within
-    (more_is v.more (part.offset + length v.body) (part.total - header_length v) fits.within fits.ends)
+    marks_from v part room (length v.body) 0 ((length v.body + room - 1) / room) fits.range.within
+    (more_is v.more (part.offset + length v.body) (part.total - header_length v) fits.range.within fits.range.ends)
     (ends_all room (length v.body) (omega arith)))
