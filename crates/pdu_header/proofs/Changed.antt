@@ -2,6 +2,7 @@
 use Rattle.std.proofs.Common.{◌≡◌, ◌≢◌, ◌∙◌, refl, sym, ap, subst, ℕ, suc, ◌+◌, ◌-◌, ◌^◌, ◌<◌, ◌≤◌, Bool, true, false, Option, None, Some, List, [], ◌∷◌, ◌++◌, length, get_or, arith, length-append, append_assoc, inl, inr}
 use Rattle.std.specs.Prelude.{◌⊎◌, if◌then◌else◌, bit_and, bit_or, slice_set, slice_index}
 use Rattle.std.proofs.lemmas.List.{get_or-append-add, get_or-set_other}
+use Rattle.clnp_base.proofs.Lists.{set_pair}
 use Rattle.fletcher.specs.Checksum.{octet}
 use Rattle.fletcher.proofs.ChecksumLaws.{sealed_other}
 use Rattle.clnp_options.specs.Parameter.{spelled}
@@ -109,10 +110,6 @@ split_at_offset head_len life flags size to from id offset total options =
     let rest : List ℕ = pair_of offset ++ (pair_of total ++ options) in
     ap (λ t. 0x81 ∷ head_len ∷ 1 ∷ life ∷ flags ∷ (pair_of size ++ (0 ∷ 0 ∷ t)))
     (append_assoc (counted to) (counted from ++ pair_of id) rest ∙ ap (λ t. counted to ++ t) (append_assoc (counted from) (pair_of id) rest))
-
-pub set_pair : (front rest : List ℕ) (x y a b : ℕ) → slice_set (slice_set (front ++ x ∷ y ∷ rest) (length front) a) (suc (length front)) b ≡ front ++ a ∷ b ∷ rest
-set_pair [] rest x y a b = refl
-set_pair (f ∷ front) rest x y a b = ap (λ t. f ∷ t) (set_pair front rest x y a b)
 
 pub set_pair_at : (front rest : List ℕ) (old number place : ℕ) → place ≡ length front + 1 → with_pair (front ++ (pair_of old ++ rest)) place number ≡ front ++ (pair_of number ++ rest)
 set_pair_at front rest old number place e =

@@ -4,6 +4,7 @@ use Rattle.std.proofs.lemmas.List.{drop-replicate, length-drop, length-take-le, 
 use Rattle.std.proofs.lemmas.Slice.{drop-put_mid, take-put_mid}
 use borrow.Rule.Slice.PartMut.{put_mid}
 use Rattle.std.proofs.lemmas.Grind.{common_steps}
+use Rattle.clnp_base.proofs.Lists.{take_drop_swap}
 use Rattle.clnp_options.specs.Parameter.{Parameter, parameters, spelled}
 use Rattle.clnp_options.specs.Rules.{Accepts, IsWellFormed}
 use Rattle.clnp_views.specs.Held.{IsHeld, length-front}
@@ -45,10 +46,6 @@ part_size start len cells part h within e =
     let r = h.room in
     e ∙ length-take-le (len - start) (drop start cells) (omega (arith, length-drop start cells))
 
-part_of : (start len : ℕ) (cells : List ℕ) → start ≤ len → take (len - start) (drop start cells) ≡ drop start (take len cells)
-part_of start len cells within =
-    sym (drop-take start (len - start) cells) ∙ ap (λ n. drop start (take n cells)) (omega arith)
-
 front_of : (start len : ℕ) (cells : List ℕ) → start ≤ len → take start cells ≡ take start (take len cells)
 front_of start len cells within = grind (arith, common_steps)
 
@@ -66,7 +63,7 @@ part_edited start len cells part self change held view within size octets formed
     let r = held.room in
     let long : length self ≡ len = ap length (sym view) ∙ length-front len cells held in
     let low : start ≤ len = omega (arith, long, within) in
-    let m : take (len - start) (drop start cells) ≡ drop start self = part_of start len cells low ∙ ap (drop start) view in
+    let m : take (len - start) (drop start cells) ≡ drop start self = take_drop_swap start len cells low ∙ ap (drop start) view in
     let e : part ≡ spelled (change (parameters (drop start self))) = octets ∙ ap (λ t. spelled (change (parameters t))) m in
     let new : take len (put_mid start (len - start) cells part) ≡ take start self ++ part =
     take-put_mid start (len - start) cells part len (omega arith) (omega arith) ∙ ap (λ t. t ++ part) (front_of start len cells low ∙ ap (take start) view) in

@@ -3,6 +3,7 @@ use Rattle.std.proofs.Common.{◌≡◌, ◌≢◌, ◌∙◌, refl, sym, ap, su
 use Rattle.std.specs.Prelude.{◌↔◌}
 use Rattle.std.specs.Option.{option_or}
 use Rattle.std.specs.List.{AllByRecursion}
+use Rattle.clnp_base.proofs.Choices.{option_or-assoc, option_or-nothing}
 use Rattle.clnp_options.specs.declared.judge.OptionRefusal.{OptionRefusal}
 use Rattle.clnp_options.specs.Rules.{at_rule, form_refusal, list_refusal, refusal as options_refusal}
 use Rattle.pdu_header.specs.Rules.{addresses_refusal, broken, extent_refusal, fixed_part_refusal, header_refusal, lengths_refusal, refusal}
@@ -16,12 +17,7 @@ least number (rule ∷ others) = option_or (at_rule number rule.reason rule.brok
 -- ---- the chain is the least
 
 or_none : (a : Option OptionRefusal) → option_or a None ≡ a
-or_none None = refl
-or_none (Some r) = refl
-
-or_or : (a b c : Option OptionRefusal) → option_or (option_or a b) c ≡ option_or a (option_or b c)
-or_or None b c = refl
-or_or (Some r) b c = refl
+or_none a = sym (option_or-nothing a)
 
 -- a test in the chain
 test_or : (number reason place : ℕ) (b : Bool) (others : Option OptionRefusal) → (if b then broken number reason place else others) ≡ option_or (at_rule number reason (tests reason b place).broken_at) others
@@ -30,7 +26,7 @@ test_or number reason place false others = refl
 
 chain_is_least : (frame : List ℕ) → refusal frame ≡ least 1 (table frame)
 unfolding refusal extent_refusal header_refusal fixed_part_refusal addresses_refusal lengths_refusal options_refusal form_refusal list_refusal table least
-chain_is_least frame = simp (test_or, or_or, or_none)
+chain_is_least frame = simp (test_or, option_or-assoc, or_none)
 
 -- ---- what the least is
 

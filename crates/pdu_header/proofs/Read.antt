@@ -17,7 +17,8 @@ use Rattle.pdu_header.specs.Grammar.{is_report, IsSegment, IsPdu}
 use Rattle.pdu_header.specs.Rules.{octet, pair_at, type_of, kind_of, is_segmented, has_more, has_right_checksum, wants_report, source_place, part_place, options_place, segment_size, is_bad_address, data_size, is_unfit_range, is_bad_range, options_part}
 use Rattle.pdu_header.specs.Reading.{address_at, segmentation_at, value_of}
 use Rattle.pdu_header.proofs.Fields.{HasAddress, address_here, pair_here, pair_again}
-use Rattle.pdu_header.proofs.Accepted.{IsAccepted, within_is, below_not, range_is_good, unused_is_right, sealed_is_right}
+use Rattle.clnp_base.proofs.Choices.{below_not}
+use Rattle.pdu_header.proofs.Accepted.{IsAccepted, within_is, range_is_good, unused_is_right, sealed_is_right}
 use Rattle.pdu_header.proofs.Flags.{kind_read, kind_of_code, code_is_small, report_of_code, AreFlags, flags_read}
 use Rattle.pdu_header.proofs.Shape.{sealed_layout, pair_is_zero, pair_is_used}
 

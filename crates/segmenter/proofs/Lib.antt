@@ -2,7 +2,6 @@ pub mod Again
 pub mod Claims
 pub mod Cutting
 pub mod Given
-pub mod Lists
 pub mod Quotients
 pub mod Samples
 pub mod Segments

@@ -10,7 +10,7 @@ use Rattle.pdu_header.specs.Grammar.{FitsUnit, IsSegment, IsPdu}
 use Rattle.pdu_header.specs.Headers.{at_offset, with_segment}
 use Rattle.segmenter.specs.Range.{Range}
 use Rattle.segmenter.specs.Cut.{segment, whole_range}
-use Rattle.segmenter.proofs.Lists.{part_of_part, length_part}
+use Rattle.clnp_base.proofs.Lists.{length_part, part_of_part}
 
 -- ---- the flag that more follows
 
