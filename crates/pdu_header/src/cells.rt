@@ -22,17 +22,17 @@ pub struct Cells {
 
 impl Model for Cells {
     ghost use Rattle.std.specs.Prelude.{◌-◌, ◌++◌, List, ℕ, length, take, replicate};
-    ghost use Rattle.clnp_views.specs.Held.{IsHeld, length-front, cells_again};
+    ghost use Rattle.clnp_base.specs.Inline.{IsInline, len_again, cells_again};
 
     ghost Value = { List ℕ };
 
     ghost view = { λ s. take s.len s.octets };
 
-    ghost invariant = { λ s. IsHeld s.len s.octets };
+    ghost invariant = { λ s. IsInline 254 s.len s.octets };
 
     ghost inverse = { λ v. record { len = length v; octets = v ++ replicate (254 - length v) 0 } };
 
-    ghost inverse_ok = { λ s h i. record { len = length-front s.len s.octets h i; octets = cells_again s.len s.octets h i } };
+    ghost inverse_ok = { λ s h i. record { len = len_again 254 s.len s.octets h i; octets = cells_again 254 s.len s.octets h i } };
 }
 
 impl Cells {
