@@ -12,3 +12,7 @@ mod clnp_views_calls;
 mod fletcher_calls;
 #[cfg(test)]
 mod nsap_calls;
+#[cfg(test)]
+mod pdu_header_calls;
+#[cfg(test)]
+mod segmenter_calls;

@@ -1,18 +1,22 @@
 -- The chain of the rules tells the least rule of the table that is broken.
 use Rattle.std.proofs.Common.{◌≡◌, ◌≢◌, ◌∙◌, refl, sym, ap, subst, ℕ, zero, suc, ◌+◌, ◌-◌, ◌<◌, ◌≤◌, Bool, true, false, if◌then◌else◌, List, [], ◌∷◌, length, get_or, Option, None, Some, inl, inr, arith}
-use Rattle.std.specs.Prelude.{◌↔◌}
+use Rattle.std.specs.Prelude.{◌↔◌, option_map}
 use Rattle.std.specs.Option.{option_or}
 use Rattle.std.specs.List.{AllByRecursion}
 use Rattle.clnp_base.proofs.Choices.{option_or-assoc, option_or-nothing}
 use Rattle.clnp_options.specs.declared.judge.OptionRefusal.{OptionRefusal}
-use Rattle.clnp_options.specs.Rules.{at_rule, form_refusal, list_refusal, refusal as options_refusal}
-use Rattle.pdu_header.specs.Rules.{addresses_refusal, broken, extent_refusal, fixed_part_refusal, header_refusal, lengths_refusal, refusal}
-use Rattle.pdu_header.specs.Table.{AreKept, IsLeastBroken, Rule, nth_rule, table, tests, finds}
+use Rattle.clnp_options.specs.Rules.{form_refusal, list_refusal, refusal as options_refusal}
+use Rattle.pdu_header.specs.Rules.{addresses_refusal, extent_refusal, fixed_part_refusal, header_refusal, lengths_refusal, refusal}
+use Rattle.pdu_header.specs.Table.{AreKept, IsLeastBroken, Rule, nth_rule, table}
+
+-- what a rule tells at a place
+abbrev at_place : (number reason : ℕ) → Option ℕ → Option OptionRefusal
+at_place number reason place = option_map (λ p. record { rule = number; reason = reason; place = p }) place
 
 -- the first rule that is broken, where the first of these has a number
 least : ℕ → List Rule → Option OptionRefusal
 least number [] = None
-least number (rule ∷ others) = option_or (at_rule number rule.reason rule.broken_at) (least (number + 1) others)
+least number (rule ∷ others) = option_or (at_place number rule.reason rule.broken_at) (least (number + 1) others)
 
 -- ---- the chain is the least
 
@@ -20,7 +24,7 @@ or_none : (a : Option OptionRefusal) → option_or a None ≡ a
 or_none a = sym (option_or-nothing a)
 
 -- a test in the chain
-test_or : (number reason place : ℕ) (b : Bool) (others : Option OptionRefusal) → (if b then broken number reason place else others) ≡ option_or (at_rule number reason (tests reason b place).broken_at) others
+test_or : (number reason place : ℕ) (b : Bool) (others : Option OptionRefusal) → (if b then Some (let s : OptionRefusal = record { rule = number; reason = reason; place = place } in s) else others) ≡ option_or (at_place number reason (if b then Some place else None)) others
 test_or number reason place true others = refl
 test_or number reason place false others = refl
 

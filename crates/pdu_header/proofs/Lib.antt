@@ -10,7 +10,6 @@ pub mod Written
 pub mod MoreFlag
 pub mod Changed
 pub mod Edited
-pub mod Samples
 pub mod Ranges
 pub mod Sealing
 pub mod Least

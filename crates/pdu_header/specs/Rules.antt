@@ -5,6 +5,9 @@ use Rattle.std.specs.Prelude.{ℕ, ◌+◌, ◌-◌, ◌*◌, ◌/◌, ◌%◌, 
 use Rattle.std.specs.Option.{option_or}
 pub use Rattle.fletcher.specs.Checksum.{octet, has_right_checksum}
 use Rattle.clnp_options.specs.declared.judge.OptionRefusal.{OptionRefusal}
+use Rattle.clnp_options.specs.declared.reasons.Reason.{Reason}
+use Rattle.clnp_options.specs.declared.reasons.Reason.TheVariants.{HeaderSyntaxError, IncompletePdu, IncorrectChecksum, UnsupportedVersion}
+use Rattle.clnp_options.specs.Reasons.{reason_code}
 use Rattle.clnp_options.specs.Rules.{refusal as options_refusal}
 use Rattle.pdu_header.specs.Layout.{protocol, version, segmentation_permitted, more_segments, error_report, type_code, fixed_size, part_size}
 use Rattle.pdu_header.specs.declared.kind.Kind.{Kind}
@@ -84,37 +87,37 @@ abbrev pub options_part : List ℕ → List ℕ
 options_part head = drop (options_place head - 1) head
 
 -- a broken rule, its reason and its place
-abbrev pub broken : ℕ → ℕ → ℕ → Option OptionRefusal
-broken rule reason place = Some (record { rule = rule; reason = reason; place = place })
+abbrev pub broken : ℕ → Reason → ℕ → Option OptionRefusal
+broken rule cause place = Some (record { rule = rule; reason = reason_code cause; place = place })
 
 -- the least of G1 to G3 that a frame breaks: the header lies in the frame
 unfoldable pub extent_refusal : List ℕ → Option OptionRefusal
 extent_refusal frame =
-    if nat_lt (length frame) fixed_size then broken 1 0x06 0
-    else (if nat_lt (header_size frame) fixed_size || header_size frame == 255 then broken 2 0x04 2
-    else (if nat_lt (length frame) (header_size frame) then broken 3 0x06 2 else None))
+    if nat_lt (length frame) fixed_size then broken 1 IncompletePdu 0
+    else (if nat_lt (header_size frame) fixed_size || header_size frame == 255 then broken 2 HeaderSyntaxError 2
+    else (if nat_lt (length frame) (header_size frame) then broken 3 IncompletePdu 2 else None))
 
 -- the least of G4 to G7 that a header breaks: its fixed part
 unfoldable pub fixed_part_refusal : List ℕ → Option OptionRefusal
 fixed_part_refusal head =
-    if not (octet head 3 == version) then broken 4 0xb1 3
-    else (if not (has_right_checksum head) then broken 5 0x02 0
-    else (if not (is_some (kind_of (type_of head))) then broken 6 0x04 5
-    else (if has_more head && not (is_segmented head) then broken 7 0x04 5 else None)))
+    if not (octet head 3 == version) then broken 4 UnsupportedVersion 3
+    else (if not (has_right_checksum head) then broken 5 IncorrectChecksum 0
+    else (if not (is_some (kind_of (type_of head))) then broken 6 HeaderSyntaxError 5
+    else (if has_more head && not (is_segmented head) then broken 7 HeaderSyntaxError 5 else None)))
 
 -- the least of G8 and G9 that a header breaks: its addresses
 unfoldable pub addresses_refusal : List ℕ → Option OptionRefusal
 addresses_refusal head =
-    if is_bad_address head 10 then broken 8 0x04 10
-    else (if is_bad_address head (source_place head) then broken 9 0x04 (source_place head) else None)
+    if is_bad_address head 10 then broken 8 HeaderSyntaxError 10
+    else (if is_bad_address head (source_place head) then broken 9 HeaderSyntaxError (source_place head) else None)
 
 -- the least of G10 to G13 that a header breaks in a frame of so many octets: its lengths
 unfoldable pub lengths_refusal : List ℕ → ℕ → Option OptionRefusal
 lengths_refusal head frame_length =
-    if is_segmented head && nat_lt (length head) (part_place head + 5) then broken 10 0x04 (part_place head)
-    else (if nat_lt (segment_size head) (length head) then broken 11 0x04 6
-    else (if nat_lt frame_length (segment_size head) then broken 12 0x06 6
-    else (if is_segmented head && is_bad_range head then broken 13 0x04 (part_place head + 4) else None)))
+    if is_segmented head && nat_lt (length head) (part_place head + 5) then broken 10 HeaderSyntaxError (part_place head)
+    else (if nat_lt (segment_size head) (length head) then broken 11 HeaderSyntaxError 6
+    else (if nat_lt frame_length (segment_size head) then broken 12 IncompletePdu 6
+    else (if is_segmented head && is_bad_range head then broken 13 HeaderSyntaxError (part_place head + 4) else None)))
 
 -- the least of G4 to G20 that a header breaks in a frame of so many octets
 unfoldable pub header_refusal : List ℕ → ℕ → Option OptionRefusal

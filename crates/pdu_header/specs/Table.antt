@@ -3,6 +3,9 @@
 use Rattle.std.specs.Prelude.{◌≡◌, ℕ, ◌+◌, ◌-◌, ◌==◌, ◌&&◌, ◌||◌, not, nat_lt, ◌<◌, ◌≤◌, Bool, if◌then◌else◌, List, [], ◌∷◌, length, Option, None, Some, is_some}
 use Rattle.std.specs.List.{AllByRecursion, slice_index_or}
 use Rattle.clnp_options.specs.declared.judge.OptionRefusal.{OptionRefusal}
+use Rattle.clnp_options.specs.declared.reasons.Reason.{Reason}
+use Rattle.clnp_options.specs.declared.reasons.Reason.TheVariants.{DuplicateOption, HeaderSyntaxError, IncompletePdu, IncorrectChecksum, SourceRoutingSyntaxError, UnsupportedOption, UnsupportedSecurity, UnsupportedVersion}
+use Rattle.clnp_options.specs.Reasons.{reason_code}
 use Rattle.clnp_options.specs.Parameter.{parameters}
 use Rattle.clnp_options.specs.Rules.{place_of, place_of_reason, place_of_repeat, place_of_unfit, has_bad_form, has_bad_route, has_bad_security, is_unknown}
 use Rattle.pdu_header.specs.Layout.{version, fixed_size, type_code}
@@ -15,12 +18,12 @@ pub record Rule : Type 0 where
   pub broken_at : Option ℕ
 
 -- a rule with a test, and the place at fault
-abbrev pub tests : ℕ → Bool → ℕ → Rule
-tests reason is_broken place = record { reason = reason; broken_at = if is_broken then Some place else None }
+abbrev pub tests : Reason → Bool → ℕ → Rule
+tests cause is_broken place = record { reason = reason_code cause; broken_at = if is_broken then Some place else None }
 
 -- a rule that finds the place at fault
-abbrev pub finds : ℕ → Option ℕ → Rule
-finds reason place = record { reason = reason; broken_at = place }
+abbrev pub finds : Reason → Option ℕ → Rule
+finds cause place = record { reason = reason_code cause; broken_at = place }
 
 -- all rules, in their order
 unfoldable pub table : List ℕ → List Rule
@@ -28,26 +31,26 @@ table frame =
     let head = header_of frame in
     let first = options_place head in
     let part = options_part head in
-    tests 0x06 (nat_lt (length frame) fixed_size) 0
-    ∷ tests 0x04 (nat_lt (header_size frame) fixed_size || header_size frame == 255) 2
-    ∷ tests 0x06 (nat_lt (length frame) (header_size frame)) 2
-    ∷ tests 0xb1 (not (octet head 3 == version)) 3
-    ∷ tests 0x02 (not (has_right_checksum head)) 0
-    ∷ tests 0x04 (not (is_some (kind_of (type_of head)))) 5
-    ∷ tests 0x04 (has_more head && not (is_segmented head)) 5
-    ∷ tests 0x04 (is_bad_address head 10) 10
-    ∷ tests 0x04 (is_bad_address head (source_place head)) (source_place head)
-    ∷ tests 0x04 (is_segmented head && nat_lt (length head) (part_place head + 5)) (part_place head)
-    ∷ tests 0x04 (nat_lt (segment_size head) (length head)) 6
-    ∷ tests 0x06 (nat_lt (length frame) (segment_size head)) 6
-    ∷ tests 0x04 (is_segmented head && is_bad_range head) (part_place head + 4)
-    ∷ finds 0x04 (place_of_unfit first part)
-    ∷ finds 0x07 (place_of_repeat [] first (parameters part))
-    ∷ finds 0xb0 (place_of is_unknown first (parameters part))
-    ∷ finds 0xb2 (place_of has_bad_security first (parameters part))
-    ∷ finds 0x91 (place_of has_bad_route first (parameters part))
-    ∷ finds 0x04 (place_of has_bad_form first (parameters part))
-    ∷ finds 0x04 (place_of_reason (type_of head == type_code Er) first (parameters part))
+    tests IncompletePdu (nat_lt (length frame) fixed_size) 0
+    ∷ tests HeaderSyntaxError (nat_lt (header_size frame) fixed_size || header_size frame == 255) 2
+    ∷ tests IncompletePdu (nat_lt (length frame) (header_size frame)) 2
+    ∷ tests UnsupportedVersion (not (octet head 3 == version)) 3
+    ∷ tests IncorrectChecksum (not (has_right_checksum head)) 0
+    ∷ tests HeaderSyntaxError (not (is_some (kind_of (type_of head)))) 5
+    ∷ tests HeaderSyntaxError (has_more head && not (is_segmented head)) 5
+    ∷ tests HeaderSyntaxError (is_bad_address head 10) 10
+    ∷ tests HeaderSyntaxError (is_bad_address head (source_place head)) (source_place head)
+    ∷ tests HeaderSyntaxError (is_segmented head && nat_lt (length head) (part_place head + 5)) (part_place head)
+    ∷ tests HeaderSyntaxError (nat_lt (segment_size head) (length head)) 6
+    ∷ tests IncompletePdu (nat_lt (length frame) (segment_size head)) 6
+    ∷ tests HeaderSyntaxError (is_segmented head && is_bad_range head) (part_place head + 4)
+    ∷ finds HeaderSyntaxError (place_of_unfit first part)
+    ∷ finds DuplicateOption (place_of_repeat [] first (parameters part))
+    ∷ finds UnsupportedOption (place_of is_unknown first (parameters part))
+    ∷ finds UnsupportedSecurity (place_of has_bad_security first (parameters part))
+    ∷ finds SourceRoutingSyntaxError (place_of has_bad_route first (parameters part))
+    ∷ finds HeaderSyntaxError (place_of has_bad_form first (parameters part))
+    ∷ finds HeaderSyntaxError (place_of_reason (type_of head == type_code Er) first (parameters part))
     ∷ []
 
 -- the rule with a number, from 1

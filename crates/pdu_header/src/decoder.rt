@@ -1,4 +1,5 @@
 //! Frames read as PDUs, by the rules G1 to G20.
+ghost use Rattle.clnp_options.specs.Reasons.{reason_code};
 ghost use Rattle.clnp_options.specs.Rules.{Gives, refusal as options_refusal};
 ghost use Rattle.pdu_header.specs.Grammar as grammar;
 ghost use Rattle.pdu_header.specs.Grammar.{BeginsWith};
@@ -20,20 +21,11 @@ use crate::layout::{
 use crate::pdu::{Broken, Pdu, Refusal, SegPart};
 use crate::report::reportable;
 use byteorder::{BigEndian, ByteOrder};
-use clnp_options::{OptionRefusal, check};
+use clnp_options::{OptionRefusal, Reason, check};
 use nsap::Address;
 
 /// The header length that is reserved (section 7.2.3).
 const RESERVED_LENGTH: u8 = 255;
-/// Reasons for discard (section 7.9.5).
-const INCORRECT_CHECKSUM: u8 = 0x02;
-
-const HEADER_SYNTAX: u8 = 0x04;
-
-const INCOMPLETE: u8 = 0x06;
-
-const UNSUPPORTED_VERSION: u8 = 0xb1;
-
 /// The PDU at the front of a frame (ISO 8473, section 7). What follows it in the frame is its `rest`.
 ///
 /// # Errors
@@ -109,12 +101,12 @@ fn read(frame: &[u8]) -> Result<Pdu<'_>, OptionRefusal>
 }
 
 /// A rule that is broken, its reason and its place.
-fn broken(rule: u8, reason: u8, place: u8) -> OptionRefusal
-    ensures { result ≡ record { rule = rule; reason = reason; place = place } }
+fn broken(rule: u8, reason: Reason, place: u8) -> OptionRefusal
+    ensures { result ≡ record { rule = rule; reason = reason_code reason; place = place } }
 {
     OptionRefusal {
         rule,
-        reason,
+        reason: reason.code(),
         place,
     }
 }
@@ -130,14 +122,14 @@ pub(crate) fn header_of(frame: &[u8]) -> Result<(&[u8], &[u8]), OptionRefusal>
     ensures at_most { IfOk result (λ r. length r.0.now ≤ 254) }
 {
     if frame.len() < FIXED_PART {
-        return Err(broken(1, INCOMPLETE, 0));
+        return Err(broken(1, Reason::IncompletePdu, 0));
     }
     let size = frame[1];
     if usize::from(size) < FIXED_PART || size == RESERVED_LENGTH {
-        return Err(broken(2, HEADER_SYNTAX, 2));
+        return Err(broken(2, Reason::HeaderSyntaxError, 2));
     }
     if frame.len() < usize::from(size) {
-        return Err(broken(3, INCOMPLETE, 2));
+        return Err(broken(3, Reason::IncompletePdu, 2));
     }
     Ok(frame.split_at(usize::from(size)))
 }
@@ -201,16 +193,16 @@ fn check_fixed_part(head: &[u8]) -> Result<Kind, OptionRefusal>
     ensures kind { IfOk result (λ kind. rules.kind_of (type_of head.now) ≡ Some kind) }
 {
     if head[2] != VERSION {
-        return Err(broken(4, UNSUPPORTED_VERSION, 3));
+        return Err(broken(4, Reason::UnsupportedVersion, 3));
     }
     if !has_right_checksum(head) {
-        return Err(broken(5, INCORRECT_CHECKSUM, 0));
+        return Err(broken(5, Reason::IncorrectChecksum, 0));
     }
     let Some(kind) = kind_of(head) else {
-        return Err(broken(6, HEADER_SYNTAX, 5));
+        return Err(broken(6, Reason::HeaderSyntaxError, 5));
     };
     if has_more(head) && !is_segmented(head) {
-        return Err(broken(7, HEADER_SYNTAX, 5));
+        return Err(broken(7, Reason::HeaderSyntaxError, 5));
     }
     Ok(kind)
 }
@@ -258,11 +250,11 @@ pub(crate) fn read_addresses(head: &[u8]) -> Result<Addresses, OptionRefusal>
     ensures within { IfOk result (λ addresses. addresses.end ≤ length head.now + 1) }
 {
     let Some(to) = address_at(head, FIXED_PART + 1) else {
-        return Err(broken(8, HEADER_SYNTAX, 10));
+        return Err(broken(8, Reason::HeaderSyntaxError, 10));
     };
     let place = FIXED_PART + 2 + to.as_bytes().len();
     let Some(from) = address_at(head, place) else {
-        return Err(broken(9, HEADER_SYNTAX, place as u8));
+        return Err(broken(9, Reason::HeaderSyntaxError, place as u8));
     };
     let end = place + 1 + from.as_bytes().len();
     Ok(Addresses { to, from, end })
@@ -319,14 +311,14 @@ fn read_lengths(head: &[u8], place: usize, frame_length: usize) -> Result<Length
 {
     let segmented = is_segmented(head);
     if segmented && head.len() < place + (SEGMENTATION_PART - 1) {
-        return Err(broken(10, HEADER_SYNTAX, place as u8));
+        return Err(broken(10, Reason::HeaderSyntaxError, place as u8));
     }
     let segment_length = usize::from(pair_at(head, 6));
     if segment_length < head.len() {
-        return Err(broken(11, HEADER_SYNTAX, 6));
+        return Err(broken(11, Reason::HeaderSyntaxError, 6));
     }
     if frame_length < segment_length {
-        return Err(broken(12, INCOMPLETE, 6));
+        return Err(broken(12, Reason::IncompletePdu, 6));
     }
     let data_length = segment_length - head.len();
     if !segmented {
@@ -337,7 +329,7 @@ fn read_lengths(head: &[u8], place: usize, frame_length: usize) -> Result<Length
     }
     let part = segmentation_part(head, place);
     if is_bad_range(part, head.len(), data_length, has_more(head)) {
-        return Err(broken(13, HEADER_SYNTAX, place as u8 + 4));
+        return Err(broken(13, Reason::HeaderSyntaxError, place as u8 + 4));
     }
     Ok(Lengths {
         seg: Some(part),

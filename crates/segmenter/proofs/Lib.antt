@@ -3,7 +3,6 @@ pub mod Claims
 pub mod Cutting
 pub mod Given
 pub mod Quotients
-pub mod Samples
 pub mod Segments
 pub mod Tiles
 mod Worked
