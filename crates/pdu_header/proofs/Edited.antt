@@ -1,10 +1,8 @@
 -- Headers after an edit of their options.
-use Rattle.std.proofs.Common.{◌≡◌, ◌≢◌, ◌∙◌, refl, sym, ap, subst, ℕ, ◌+◌, ◌<◌, ◌≤◌, Bool, true, false, Option, None, Some, List, ◌∷◌, ◌++◌, length, take, drop, arith, length-append, append_assoc, is_some, lit<}
+use Rattle.std.proofs.Common.{◌≡◌, ◌∙◌, refl, sym, ap, subst, ℕ, ◌+◌, ◌<◌, ◌≤◌, Bool, true, false, Option, None, Some, List, ◌∷◌, ◌++◌, length, take, drop, arith, length-append, append_assoc, is_some, lit<}
 use Rattle.std.specs.Prelude.{if◌then◌else◌, IsSome}
 use Rattle.std.proofs.lemmas.List.{take_at, drop_at, length-take-le}
-use Rattle.std.proofs.lemmas.Bool.{ne_eqb}
 use Rattle.fletcher.specs.Checksum.{sealed, checksum_x, checksum_y, with_checksum}
-use Rattle.fletcher.proofs.ChecksumLaws.{sealed_is, sealed-with_checksum}
 use Rattle.clnp_options.specs.Parameter.{Parameter, parameters, spelled}
 use Rattle.clnp_options.specs.Grammar.{FitsKind}
 use Rattle.clnp_options.specs.Rules.{Accepts, IsWellFormed}

@@ -1,5 +1,5 @@
 -- Where a PDU's data stand in those of its unit.
-use Rattle.std.proofs.Common.{◌≡◌, ◌∙◌, sym, subst, ℕ, ◌+◌, ◌-◌, ◌<◌, ◌≤◌, Bool, true, false, Option, Some, length, refl, arith, ⊎_elim}
+use Rattle.std.proofs.Common.{◌≡◌, sym, subst, ℕ, ◌+◌, ◌-◌, ◌<◌, ◌≤◌, Bool, true, false, Some, length, refl, arith, ⊎_elim}
 use Rattle.std.specs.Prelude.{◌↔◌, nat_lt}
 use Rattle.std.proofs.lemmas.Bool.{le-ltb, lt-ltb, cases_lt}
 use Rattle.pdu_header.specs.Value.{SegmentationPart, PduValue}

@@ -1,5 +1,5 @@
 -- The checksum of the header of a value is as the value wants it, and no other would do.
-use Rattle.std.proofs.Common.{◌≡◌, ◌≢◌, ◌∙◌, refl, sym, ap, subst, ℕ, ◌<◌, ◌≤◌, Bool, true, false, List, ◌++◌, length, arith}
+use Rattle.std.proofs.Common.{◌≡◌, ◌∙◌, refl, sym, ap, subst, ℕ, ◌<◌, ◌≤◌, Bool, true, false, List, ◌++◌, length, arith}
 use Rattle.std.specs.Prelude.{◌↔◌}
 use Rattle.fletcher.specs.Checksum.{octet, IsSealed, sealed, with_checksum}
 use Rattle.fletcher.specs.Laws.{HasChecksum, IsSealedOnce, SharesOthers}

@@ -1,12 +1,12 @@
 -- A header whose octets from a place on are taken over, one after another, from a changed copy.
-use Rattle.std.proofs.Common.{◌≡◌, ◌≢◌, ◌∙◌, sym, ap, refl, ℕ, ◌+◌, ◌-◌, ◌<◌, ◌≤◌, Bool, true, false, List, [], ◌++◌, length, get_or, take, drop, arith, length-append, append-nil}
+use Rattle.std.proofs.Common.{◌≡◌, ◌∙◌, sym, ap, refl, ℕ, ◌+◌, ◌-◌, ◌<◌, ◌≤◌, Bool, true, false, List, [], ◌++◌, length, get_or, take, drop, arith, append-nil}
 use Rattle.std.specs.Prelude.{slice_set}
 use Rattle.std.proofs.Math.ListN.{set}
-use Rattle.std.proofs.lemmas.List.{set-get_or, get_or-drop, length-drop, take-append-le, get_or_append_left, get_or-take, drop_all}
+use Rattle.std.proofs.lemmas.List.{set-get_or, get_or-drop, length-drop, drop_all}
 use Rattle.std.proofs.lemmas.List.Edits.{paste_none, paste_more, paste_all, length-paste}
 use Rattle.std.proofs.lemmas.Grind.{common_steps}
 use lib.Seq.{paste}
-use Rattle.fletcher.proofs.ChecksumLaws.{sealed_other, length-sealed}
+use Rattle.fletcher.proofs.ChecksumLaws.{length-sealed}
 use Rattle.pdu_header.specs.Parts.{checked}
 use Rattle.pdu_header.proofs.Changed.{octet_in}
 

@@ -1,5 +1,5 @@
 -- Which octets are a PDU: a relation between a value and its octets, by parts (ISO 8473, section 7).
-use Rattle.std.specs.Prelude.{◌≡◌, ◌↔◌, ℕ, ◌+◌, ◌-◌, ◌^◌, ◌<◌, ◌≤◌, Bool, true, false, List, ◌++◌, length, Option, None, Some}
+use Rattle.std.specs.Prelude.{◌≡◌, ℕ, ◌^◌, ◌<◌, ◌≤◌, Bool, true, false, List, ◌++◌, length, Option, None, Some}
 use Rattle.nsap.specs.Address.{IsAddress}
 use Rattle.clnp_options.specs.Grammar.{AreFormed, FitsKind}
 use Rattle.pdu_header.specs.declared.kind.Kind.{Kind}

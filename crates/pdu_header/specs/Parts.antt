@@ -1,5 +1,5 @@
 -- What a header is made from, as a value, and when it can't be made.
-use Rattle.std.specs.Prelude.{◌≡◌, ◌↔◌, ℕ, ◌+◌, ◌-◌, ◌^◌, ◌<◌, ◌≤◌, nat_lt, Bool, false, if◌then◌else◌, List, [], Option, None, Some, option_map}
+use Rattle.std.specs.Prelude.{ℕ, ◌+◌, ◌^◌, ◌<◌, nat_lt, Bool, if◌then◌else◌, List, [], Option, None, Some, option_map}
 use Rattle.fletcher.specs.Checksum.{sealed}
 use Rattle.clnp_options.specs.Parameter.{parameters}
 use Rattle.nsap.specs.Address.{IsAddress}

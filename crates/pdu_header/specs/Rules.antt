@@ -1,7 +1,7 @@
 -- The rules G1 to G20 of a frame that begins with 0x81, each with its reason (ISO 8473, section 7.9.5) and
 -- the place of the octet at fault. A rule is read under the premise that all before it hold; places count
 -- from 1, and 0 is no place. From G4 on a rule reads the header, the frame's first octets up to its header length.
-use Rattle.std.specs.Prelude.{ℕ, ◌+◌, ◌-◌, ◌*◌, ◌/◌, ◌%◌, ◌==◌, ◌&&◌, ◌||◌, not, nat_lt, nat_le, Bool, if◌then◌else◌, List, length, take, drop, slice_index, sum, Option, None, Some, is_some}
+use Rattle.std.specs.Prelude.{ℕ, ◌+◌, ◌-◌, ◌*◌, ◌/◌, ◌%◌, ◌==◌, ◌&&◌, ◌||◌, not, nat_lt, nat_le, Bool, if◌then◌else◌, List, length, take, drop, Option, None, Some, is_some}
 use Rattle.std.specs.Option.{option_or}
 pub use Rattle.fletcher.specs.Checksum.{octet, has_right_checksum}
 use Rattle.clnp_options.specs.declared.judge.OptionRefusal.{OptionRefusal}

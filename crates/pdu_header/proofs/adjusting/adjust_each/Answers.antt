@@ -1,4 +1,4 @@
-use Rattle.std.proofs.Common.{◌∙◌, refl, sym, ap, ℕ, ◌+◌, List, length, arith, subst, ◌≡◌, ◌≤◌}
+use Rattle.std.proofs.Common.{◌∙◌, refl, sym, ap, ℕ, ◌+◌, List, length, arith, subst, ◌≡◌}
 use Rattle.pdu_header.specs.Parts.{checked}
 use Rattle.pdu_header.proofs.Taken.{TakesOver, length-checked, taken, taken_none, taken_all, one_same, one_more}
 use Rattle.pdu_header.proofs.adjusting.adjust_each.Goals as goal

@@ -3,7 +3,7 @@ use Rattle.clnp_options.specs.Parameter.{source_route}
 use Rattle.clnp_options.specs.Edits.{edited, advanced}
 use Rattle.pdu_header.specs.Value.{PduValue}
 use Rattle.pdu_header.specs.Headers.{SpellsHeader, with_options}
-use Rattle.pdu_header.proofs.Edited.{StartsAt, start_within, options_formed, options_lead, edit_spells, nine_kept}
+use Rattle.pdu_header.proofs.Edited.{StartsAt, start_within, options_formed, options_lead, edit_spells}
 use Rattle.pdu_header.proofs.header.Header.advance_route.Goals as goal
 
 pub advance_route-requires-clause-start : goal.advance_route-requires-clause-start

@@ -3,7 +3,7 @@ use Rattle.clnp_options.specs.Parameter.{quality}
 use Rattle.clnp_options.specs.Edits.{edited, marked}
 use Rattle.pdu_header.specs.Value.{PduValue}
 use Rattle.pdu_header.specs.Headers.{SpellsHeader, with_options}
-use Rattle.pdu_header.proofs.Edited.{StartsAt, start_within, options_formed, edit_spells, nine_kept}
+use Rattle.pdu_header.proofs.Edited.{StartsAt, start_within, options_formed, edit_spells}
 use Rattle.pdu_header.proofs.header.Header.mark_congestion.Goals as goal
 
 pub mark_congestion-requires-clause-start : goal.mark_congestion-requires-clause-start

@@ -3,7 +3,7 @@ use Rattle.clnp_options.specs.Parameter.{recording}
 use Rattle.clnp_options.specs.Edits.{edited, recorded}
 use Rattle.pdu_header.specs.Value.{PduValue}
 use Rattle.pdu_header.specs.Headers.{SpellsHeader, IsEdited, with_options}
-use Rattle.pdu_header.proofs.Edited.{StartsAt, start_within, options_formed, edit_spells, nine_kept}
+use Rattle.pdu_header.proofs.Edited.{StartsAt, start_within, options_formed, edit_spells}
 use Rattle.pdu_header.proofs.header.Header.record_title.Goals as goal
 
 pub record_title-requires-clause-start : goal.record_title-requires-clause-start
