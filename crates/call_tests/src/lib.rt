@@ -9,4 +9,10 @@ mod clnp_options_calls;
 #[cfg(test)]
 mod clnp_views_calls;
 #[cfg(test)]
+mod fletcher_calls;
+#[cfg(test)]
 mod nsap_calls;
+#[cfg(test)]
+mod pdu_header_calls;
+#[cfg(test)]
+mod segmenter_calls;
