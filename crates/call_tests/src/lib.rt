@@ -15,4 +15,6 @@ mod nsap_calls;
 #[cfg(test)]
 mod pdu_header_calls;
 #[cfg(test)]
+mod reassembly_calls;
+#[cfg(test)]
 mod segmenter_calls;
