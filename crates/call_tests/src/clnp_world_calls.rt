@@ -72,7 +72,7 @@ end 1 1
     assert_eq!(rt; journal.as_slice(), text.as_slice());
     assert_eq!(rt; world.clock(), 1);
     assert_eq!(rt; world.weight(), 85);
-    assert!(rt; world.host(0).is_some_and(|host| host.config().name() == b"a"));
+    assert!(rt; world.host(0).is_some_and(|host| host.config().name() == b"a".as_slice()));
     assert!(rt; world.host(2).is_none());
     Ok(())
 }

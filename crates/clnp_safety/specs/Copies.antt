@@ -27,7 +27,7 @@ HoldsOneUnit buffer = (u : unit.Unit) × AllByRecursion (λ (arrival : Arrival P
 abbrev pub BuffersHoldOneUnit : World → Type 0
 BuffersHoldOneUnit w = AllByRecursion (λ (system : SystemState). AllByRecursion HoldsOneUnit system.buffers) w.systems
 
--- a packet wasn't forwarded more often than its unit's lifetime allowed, and may not be in what is left of it
+-- how often a packet was forwarded and the lifetime that it has left are together at most its unit's lifetime
 abbrev pub IsWithinLifetime : Packet → Type 0
 IsWithinLifetime p = p.hops + p.lifetime ≤ p.unit.lifetime
 
