@@ -13,8 +13,14 @@ mod clnp_world_calls;
 #[cfg(test)]
 mod end_system_calls;
 #[cfg(test)]
+mod fletcher_calls;
+#[cfg(test)]
 mod local_entity_calls;
 #[cfg(test)]
 mod nsap_calls;
 #[cfg(test)]
+mod pdu_header_calls;
+#[cfg(test)]
 mod reassembly_calls;
+#[cfg(test)]
+mod segmenter_calls;
