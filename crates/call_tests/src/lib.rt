@@ -9,7 +9,13 @@ mod clnp_options_calls;
 #[cfg(test)]
 mod clnp_views_calls;
 #[cfg(test)]
+mod clnp_world_calls;
+#[cfg(test)]
+mod end_system_calls;
+#[cfg(test)]
 mod fletcher_calls;
+#[cfg(test)]
+mod local_entity_calls;
 #[cfg(test)]
 mod nsap_calls;
 #[cfg(test)]

@@ -3,3 +3,4 @@ pub mod Identifiers
 pub mod System
 pub mod Local
 pub mod Host
+pub mod Steps

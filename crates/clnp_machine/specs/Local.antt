@@ -3,11 +3,15 @@ use Rattle.std.specs.Prelude.{ℕ, zero, suc, ◌+◌, ◌-◌, ◌==◌, ◌&&�
 use Rattle.std.specs.List.{list_any}
 use Rattle.std.specs.Str.{bytes_eq}
 use Rattle.clnp_options.specs.Parameter.{parameters}
+use Rattle.clnp_options.specs.Reasons.{reason_code}
+use Rattle.clnp_options.specs.declared.reasons.Reason.{Reason}
+use Rattle.clnp_options.specs.declared.reasons.Reason.TheVariants.{Congestion, LifetimeExpiredInReassembly, ReassemblyInterference}
 use Rattle.pdu_header.specs.declared.kind.Kind.{Kind}
 use Rattle.pdu_header.specs.Spelling.{header_length, type_code}
 use Rattle.reassembly.specs.Arrival.{Arrival}
 use Rattle.reassembly.specs.Buffer as buffer
 use Rattle.reassembly.specs.Buffer.{Answer, Buffer}
+use Rattle.clnp_plan.specs.Configuration.{SystemConfiguration}
 use Rattle.clnp_plan.specs.declared.ask.Ask.{Ask}
 use Rattle.clnp_plan.specs.declared.note.Note.{Note}
 use Rattle.clnp_plan.specs.declared.note.Note.TheVariants as note
@@ -31,13 +35,21 @@ pub record Deed : Type 0 where
 abbrev pub tells : SystemState → List Action → Deed
 tells s actions = record { after = s; actions = actions }
 
+-- nothing is done but that something is noted
+abbrev pub notes : SystemState → Note → Deed
+notes s note = tells s (Tells note ∷ [])
+
 -- one deed, and then the next
 abbrev pub and_then : Deed → (SystemState → Deed) → Deed
 and_then deed next = record { after = (next deed.after).after; actions = deed.actions ++ (next deed.after).actions }
 
+-- whether an address is one of those of a configuration
+abbrev pub has_address : SystemConfiguration → List ℕ → Bool
+has_address configuration address = list_any (λ own. bytes_eq own address) configuration.addresses
+
 -- whether an address is one of the system's
 abbrev pub is_own : SystemState → List ℕ → Bool
-is_own s address = list_any (λ own. bytes_eq own address) s.configuration.addresses
+is_own s address = has_address s.configuration address
 
 -- Units that it makes.
 
@@ -148,8 +160,8 @@ abbrev pub data_in : Option (Buffer Packet) → List ℕ
 data_in None = []
 data_in (Some whole) = buffer.data_of octet_of whole
 
-abbrev pub discards : (reason : ℕ) → List Action
-discards reason = Tells (note.Discard reason 0) ∷ []
+abbrev pub discards : Reason → List Action
+discards reason = Tells (note.Discard (reason_code reason) 0) ∷ []
 
 -- what comes of a segment, where the buffers are these once it was kept
 abbrev pub takes_in : SystemState → Arrival Packet → List (Buffer Packet) → Answer → Deed
@@ -160,11 +172,11 @@ takes_in s arrival kept buffer.Whole =
       after = record s { buffers = buffer.without arrival.key kept };
       actions = Tells (note.Got arrival.key.from arrival.key.to (data_in (buffer.buffer_of arrival.key kept))) ∷ [];
     }
-takes_in s arrival kept (buffer.Interference there other) = tells s (Tells (note.Interference arrival.key.id) ∷ discards 0xC0)
+takes_in s arrival kept (buffer.Interference there other) = tells s (Tells (note.Interference arrival.key.id) ∷ discards ReassemblyInterference)
 takes_in s arrival kept buffer.Repeat = tells s (Tells (note.Repeat arrival.key.id arrival.offset) ∷ [])
-takes_in s arrival kept (buffer.NoSlot live) = tells s (Tells (note.NoSlot live) ∷ discards 0x03)
-takes_in s arrival kept (buffer.Crowded held size) = tells s (Tells (note.Crowded held size) ∷ discards 0x03)
-takes_in s arrival kept (buffer.Many segments) = tells s (Tells (note.Many segments) ∷ discards 0x03)
+takes_in s arrival kept (buffer.NoSlot live) = tells s (Tells (note.NoSlot live) ∷ discards Congestion)
+takes_in s arrival kept (buffer.Crowded held size) = tells s (Tells (note.Crowded held size) ∷ discards Congestion)
+takes_in s arrival kept (buffer.Many segments) = tells s (Tells (note.Many segments) ∷ discards Congestion)
 
 -- a segment is offered to the buffers
 abbrev pub offer : SystemState → Arrival Packet → Deed
@@ -183,7 +195,7 @@ receive s p following =
 -- the packet at the beginning of the unit, if one came, is discarded: its lifetime expired in reassembly
 abbrev pub discards_first : Option Packet → List Action
 discards_first None = []
-discards_first (Some p) = discards 0xA1
+discards_first (Some p) = discards LifetimeExpiredInReassembly
 
 -- a buffer is taken out
 abbrev pub gives_up : SystemState → Buffer Packet → Deed

@@ -8,10 +8,10 @@ use Rattle.scenario.specs.Scenario.{IsFit, Plan}
 use Rattle.reassembly.specs.Arrival.{data_len, same_key}
 use Rattle.reassembly.specs.Buffer as buffer
 use Rattle.reassembly.specs.Buffer.{Answer, Buffer, buffer_of, held, is_whole, size_of, with_kept, without}
-use Rattle.reassembly.proofs.LawSums.{sum_filter}
-use Rattle.reassembly.proofs.Ready.{made_whole, none_whole-after}
-use Rattle.reassembly.proofs.Removing.{AllByRecursion-filter, AllByRecursion-find, AllByRecursion-weaker}
-use Rattle.reassembly.proofs.SameKey.{same_from_same_key}
+use Rattle.clnp_base.proofs.Sums.{sum_filter}
+use Rattle.reassembly.proofs.Shared.{made_whole, none_whole-after, same_key-true}
+use Rattle.clnp_base.proofs.Filters.{AllByRecursion-filter}
+use Rattle.clnp_base.proofs.Lists.{AllByRecursion-find, AllByRecursion-implies}
 use Rattle.clnp_machine.specs.Unit as unit
 use Rattle.clnp_machine.specs.Unit.{Packet, value_of}
 use Rattle.clnp_machine.specs.System.{Content, Effect, Labelled, SystemState, Unlabelled, table_limits}
@@ -20,7 +20,7 @@ use Rattle.clnp_machine.specs.Host.{arrive, effect_of, packet_comes}
 use Rattle.clnp_network.specs.Run.{Entry}
 use Rattle.clnp_safety.specs.Invariant.{BufferIsSound, Carries, IsBornWithUnit, NoteIsSound, PacketIsSound, SystemIsSound, UnitsAreSound}
 use Rattle.clnp_safety.specs.Outputs.{OutputIsSound}
-use Rattle.clnp_safety.proofs.BufferLists.{all_both}
+use Rattle.clnp_base.proofs.Lists.{AllByRecursion-both}
 use Rattle.clnp_safety.proofs.BufferKept.{TellsNoInterference, all_after, answer_without, find_passes, held_after, others_with_kept}
 use Rattle.clnp_safety.proofs.BufferOffers.{IsLive, clashes_with_none, stay_live, unit_sound}
 use Rattle.clnp_safety.proofs.Joining.{joined_is_unit, whole_is_unit}
@@ -42,7 +42,7 @@ module _ (plan : Plan) (units : List unit.Unit) (now place : ℕ) where
 
   pub live_buffers : (s : SystemState) → SystemIsSound plan units now place s → AllByRecursion (IsLive plan units now) s.buffers
   live_buffers s sound =
-      all_both (BufferIsSound plan units) (λ (b : Buffer Packet). now < b.deadline) (IsLive plan units now) (λ b h k. record { sound = h; lasts = k })
+      AllByRecursion-both (BufferIsSound plan units) (λ (b : Buffer Packet). now < b.deadline) (IsLive plan units now) (λ b h k. record { sound = h; lasts = k })
       s.buffers sound.buffers sound.not_due
 
   pub with_buffers : (s : SystemState) (buffers : List (Buffer Packet)) → SystemIsSound plan units now place s → AllByRecursion (IsLive plan units now) buffers
@@ -56,8 +56,8 @@ module _ (plan : Plan) (units : List unit.Unit) (now place : ℕ) where
     reuse = sound.reuse;
     uses = sound.uses;
     used = sound.used;
-    buffers = AllByRecursion-weaker (IsLive plan units now) (BufferIsSound plan units) (λ b h. h.sound) buffers live;
-    not_due = AllByRecursion-weaker (IsLive plan units now) (λ (b : Buffer Packet). now < b.deadline) (λ b h. h.lasts) buffers live;
+    buffers = AllByRecursion-implies (IsLive plan units now) (BufferIsSound plan units) (λ b h. h.sound) buffers live;
+    not_due = AllByRecursion-implies (IsLive plan units now) (λ (b : Buffer Packet). now < b.deadline) (λ b h. h.lasts) buffers live;
     not_whole = not_whole;
     budget = within;
   }
@@ -91,7 +91,7 @@ module _ (plan : Plan) (units : List unit.Unit) (now place : ℕ) where
       got_is_sound joined live same whole =
           let u = live.sound.unit in
           let it = unit_sound plan past now units u made live.sound.made in
-          let keys = sym live.sound.key ∙ same_from_same_key joined.key (offered p []).key same in
+          let keys = sym live.sound.key ∙ same_key-true joined.key (offered p []).key same in
           let len : data_len joined.shape ≡ length u.octets = ap data_len live.sound.shape ∙ (let total = it.total in omega arith) in
           (u, live.sound.made, ap (λ key. key.from) keys, ap (λ key. key.to) keys, sym (joined_is_unit units u it.first_position joined live.sound.kept len whole))
 
@@ -141,7 +141,7 @@ module _ (plan : Plan) (units : List unit.Unit) (now place : ℕ) where
         ]
 
   packet_is_sound : IsFit plan → (past : List Entry) → UnitsAreSound plan past now units → (s : SystemState) → SystemIsSound plan units now place s
-      → (p : Packet) → PacketIsSound units p → now ≤ p.unit.made + plan.limits.age → EffectIsSound (packet_comes s p [])
+      → (p : Packet) → PacketIsSound units p → now ≤ p.unit.made + plan.limits.age → EffectIsSound (effect_of (packet_comes s p []))
   packet_is_sound fit past made s sound p packet young =
       elim (cases_Bool (p.lifetime == 0)) [
         | inl over ↦ rw over (sound, (tt, tt))
@@ -158,6 +158,6 @@ pub arrival_is_sound : (plan : Plan) → IsFit plan → (past : List Entry) (uni
     → Carries (PacketIsSound units) content → ComesYoung plan.limits.age now content
     → SystemIsSound plan units now place (arrive s content).after × AllByRecursion (OutputIsSound units now) (arrive s content).outputs
 arrival_is_sound plan fit past units now place s (Labelled p following) made sound carries young =
-    subst (λ rest. EffectIsSound plan units now place (packet_comes s p rest)) (sym carries.1)
+    subst (λ rest. EffectIsSound plan units now place (effect_of (packet_comes s p rest))) (sym carries.1)
     (packet_is_sound plan units now place fit past made s sound p carries.0 young)
 arrival_is_sound plan fit past units now place s (Unlabelled octets) made sound carries young = absurd carries

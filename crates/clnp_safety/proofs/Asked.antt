@@ -20,9 +20,9 @@ use Rattle.clnp_network.specs.World.{World, Step, takes_effect, at_system, syste
 use Rattle.clnp_network.specs.Run.{Entry}
 use Rattle.clnp_network.specs.Safe.{IsSend, WasSent}
 use Rattle.clnp_safety.specs.Invariant.{NoteIsSound, SystemIsSound, UnitIsSound, UnitsAreSound, WorldIsSound}
-use Rattle.clnp_safety.proofs.Lists.{AllByRecursion-append}
+use Rattle.clnp_base.proofs.Lists.{AllByRecursion-append}
 use Rattle.clnp_safety.proofs.Past.{sent_last, units_later, copies_later}
-use Rattle.clnp_safety.proofs.Lines.{LineIs, NoteIsQuiet, sound_lines_are_honest, sound_lines_are_apart, quiet_lines_are_sound, quiet_lines_refuse_nothing}
+use Rattle.clnp_safety.proofs.Lines.{LineIs, NoteIsQuiet, sound_lines_are_honest, sound_lines_are_apart, sound_lines_are_known, quiet_lines_are_sound, quiet_lines_refuse_nothing}
 use Rattle.clnp_safety.proofs.Outputs.{NotesOnly, takes_effect_stands, takes_effect_notes}
 use Rattle.clnp_safety.proofs.Sending.{made_rests, made_is_sound, maker_stays_sound, others_stay_sound, outputs_are_sound}
 use Rattle.clnp_safety.proofs.Moves.{IsSoundAt, MoveIsSound, sound_at_clock, sound_from_clock, kept_is_sound, nothing_is_sound}
@@ -124,6 +124,7 @@ module _ (plan : Plan) (fit : IsFit plan) (past : List Entry) (move : Move) (uni
         world = sound_from_clock plan (past ++ entry ∷ []) later w.clock (sending w place s this).world units_are_sound world_is_sound;
         honest = sound_lines_are_honest plan past w.clock [] tt (sending w place s this).lines quiet;
         apart = sound_lines_are_apart [] (sending w place s this).lines quiet;
+        known = sound_lines_are_known [] (sending w place s this).lines quiet;
       }
 
     refusing_is_sound : (note : Note) → IsRefusal (Some note) → MoveIsSound plan past move (refusing w place s this note)

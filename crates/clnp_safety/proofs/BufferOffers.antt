@@ -11,15 +11,16 @@ use Rattle.reassembly.specs.declared.segment.Shape.{Shape}
 use Rattle.reassembly.specs.declared.table.TableLimits.{TableLimits}
 use Rattle.reassembly.specs.Arrival.{same_key, same_shape}
 use Rattle.reassembly.specs.Buffer.{Buffer, buffer_of, clashes, opened_by}
-use Rattle.reassembly.proofs.Removing.{AllByRecursion-find}
-use Rattle.reassembly.proofs.SameKey.{same_from_same_key}
+use Rattle.clnp_base.proofs.Lists.{AllByRecursion-find}
+use Rattle.reassembly.proofs.Shared.{same_key-true}
 use Rattle.clnp_machine.specs.Unit as unit
 use Rattle.clnp_machine.specs.Unit.{Packet, value_of}
 use Rattle.clnp_machine.specs.Local.{header_size, identifier_in, offered}
 use Rattle.clnp_network.specs.Run.{Entry}
 use Rattle.clnp_safety.specs.Invariant.{BufferIsSound, IsOfUnit, PacketIsSound, UnitIsSound, UnitsAreSound}
-use Rattle.clnp_safety.proofs.BufferLists.{all_push}
-use Rattle.clnp_safety.proofs.BufferUnits.{header_of_unit, same_unit}
+use Rattle.clnp_base.proofs.Lists.{AllByRecursion-push}
+use Rattle.clnp_safety.proofs.BufferUnits.{header_of_unit}
+use Rattle.clnp_safety.proofs.Units.{same_unit}
 use Rattle.clnp_safety.proofs.BufferKept.{KeptIn, find_passes}
 
 pub unit_sound : (plan : Plan) (past : List Entry) (now : ℕ) (units : List unit.Unit) (u : unit.Unit) → UnitsAreSound plan past now units
@@ -64,10 +65,10 @@ module _ (plan : Plan) (limits : AreLimits plan.limits) (past : List Entry) (now
   unit_in buffer live same =
       let v = live.sound.unit in
       let keys : record { from = v.source; to = v.destination; id = live.sound.identifier } ≡ (offered p []).key
-      = sym live.sound.key ∙ same_from_same_key buffer.key (offered p []).key same in
+      = sym live.sound.key ∙ same_key-true buffer.key (offered p []).key same in
       let number : live.sound.identifier ≡ identifier = ap (λ key. key.id) keys ∙ ap identifier_in identified in
       let apart = not_another buffer v live.sound.made live.lasts live.sound.opened live.sound.deadline in
-      elim (same_unit plan.limits.reuse units made.rest v p.unit live.sound.made packet.unit (ap (λ key. key.from) keys) identifier (live.sound.identified ∙ ap Some number) identified) [
+      elim (same_unit plan.limits.reuse units v p.unit identifier made.rest live.sound.made packet.unit (ap (λ key. key.from) keys) (live.sound.identified ∙ ap Some number) identified) [
         | inl one ↦ one
         | inr (inl before) ↦ absurd (apart.1 before)
         | inr (inr behind) ↦ absurd (apart.0 behind)
@@ -124,7 +125,7 @@ module _ (plan : Plan) (limits : AreLimits plan.limits) (past : List Entry) (now
         shape = live.sound.shape;
         opened = live.sound.opened;
         deadline = live.sound.deadline;
-        kept = all_push (IsOfUnit units live.sound.unit) buffer.kept (offered p []) live.sound.kept
+        kept = AllByRecursion-push (IsOfUnit units live.sound.unit) buffer.kept (offered p []) live.sound.kept
             (of_unit live.sound.unit (unit_in buffer live same));
       };
       lasts = live.lasts;

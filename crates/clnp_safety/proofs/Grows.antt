@@ -16,7 +16,7 @@ use Rattle.clnp_machine.specs.Host.{send, arrive, tick, restart}
 use Rattle.clnp_network.specs.World.{World, Copy, copy_from, put_out, takes_effect, system_does, addressees_from, settle_copy, deliver, lose_copy, tick_each, tick_one, event_happens, after, first_world}
 use Rattle.clnp_network.specs.Run.{world_after}
 use Rattle.clnp_safety.specs.Growth.{IsFront, IsWithinCopies}
-use Rattle.clnp_safety.proofs.Lists.{AllByRecursion-any}
+use Rattle.clnp_base.proofs.Lists.{AllByRecursion-any}
 use Rattle.clnp_safety.proofs.Lines.{AnyLine}
 use Rattle.clnp_safety.proofs.Steps.{Keeps, NotGivenIsFine, keeps-nothing, keeps-followed_by, keeps-put_all_out, keeps-at_system, keeps-give_each, keeps-deliver}
 

@@ -8,8 +8,9 @@ use Rattle.std.proofs.lemmas.List.FromFn.{length-map-range_with_len, get_or-map-
 use Rattle.pdu_header.specs.Spelling.{header_length}
 use Rattle.reassembly.specs.Arrival.{Arrival, data_len, has, is_covered, earliest}
 use Rattle.reassembly.specs.Buffer.{Buffer, data_of, is_whole, octet_by}
-use Rattle.reassembly.proofs.LawCovered.{each_place, find_any}
-use Rattle.reassembly.proofs.Removing.{AllByRecursion-find}
+use Rattle.clnp_base.proofs.Found.{find_any}
+use Rattle.clnp_base.proofs.Ranges.{each_place}
+use Rattle.clnp_base.proofs.Lists.{AllByRecursion-find}
 use Rattle.clnp_machine.specs.Unit as unit
 use Rattle.clnp_machine.specs.Unit.{Packet, more_follows, value_of, value_with}
 use Rattle.clnp_machine.specs.Local.{header_size, is_all, octet_of}

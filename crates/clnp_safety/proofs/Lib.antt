@@ -1,11 +1,9 @@
-pub mod Lists
 pub mod Units
 pub mod Uses
 pub mod Pieces
 pub mod SendUnits
 pub mod SendAsked
 pub mod Sending
-pub mod BufferLists
 pub mod BufferUnits
 pub mod BufferKept
 pub mod BufferOffers
@@ -24,6 +22,7 @@ pub mod Asked
 pub mod Opens
 pub mod Runs
 pub mod Grows
+pub mod Lifetimes
 pub mod Refusals
 pub mod Owners
 pub mod Owned

@@ -2,25 +2,27 @@
 use Rattle.std.proofs.Common.{◌≡◌, ℕ, List, [], ◌∷◌, inl, inr, subst}
 use Rattle.clnp_plan.specs.Journal.{Line, Noted}
 use Rattle.clnp_plan.specs.declared.note.Note.{Note}
-use Rattle.clnp_plan.specs.declared.note.Note.TheVariants.{Refused, Got, Interference}
+use Rattle.clnp_plan.specs.declared.note.Note.TheVariants.{Refused, Got, Interference, Alien}
 use Rattle.scenario.specs.Scenario.{Plan}
 use Rattle.clnp_machine.specs.Unit as unit
 use Rattle.clnp_network.specs.Run.{Entry}
 use Rattle.clnp_network.specs.Safe.{HandsUp, NoRefusal, NoInterference, WasSent}
 use Rattle.std.specs.List.{AllByRecursion}
+use Rattle.clnp_safety.specs.Copies.{IsNotAlien}
 use Rattle.clnp_safety.specs.Invariant.{UnitIsSound, NoteIsSound}
-use Rattle.clnp_safety.proofs.Lists.{AllByRecursion-implies, AllByRecursion-contains}
+use Rattle.clnp_base.proofs.Lists.{AllByRecursion-implies, AllByRecursion-contains}
 
 -- what a note hands up was sent
 abbrev NoteIsHonest : Plan → List Entry → Note → Type 0
 NoteIsHonest plan past (Got from to octets) = WasSent plan past from to octets
 NoteIsHonest plan past _ = Unit {0}
 
--- a note that neither hands up nor refuses, and tells of no interference
+-- a note that neither hands up nor refuses, and tells of no interference and of no foreign frame
 abbrev pub NoteIsQuiet : Note → Type 0
 NoteIsQuiet (Got from to octets) = ⊥
 NoteIsQuiet (Refused why value) = ⊥
 NoteIsQuiet (Interference id) = ⊥
+NoteIsQuiet Alien = ⊥
 NoteIsQuiet _ = Unit {0}
 
 -- a line notes only what Q holds of
@@ -76,9 +78,17 @@ sound_lines_are_apart units [] h = tt
 sound_lines_are_apart units (Noted now name (Interference id) ∷ lines) h = h.0
 sound_lines_are_apart units (_ ∷ lines) h = sound_lines_are_apart units lines h.1
 
+-- and no frame belongs to no protocol
+pub sound_lines_are_known : (units : List unit.Unit) (lines : List Line) → AllByRecursion (LineIs (NoteIsSound units)) lines → AllByRecursion IsNotAlien lines
+sound_lines_are_known units [] h = tt
+sound_lines_are_known units (Noted now name Alien ∷ lines) h = absurd h.0
+sound_lines_are_known units (Noted now name _ ∷ lines) h = (tt, sound_lines_are_known units lines h.1)
+sound_lines_are_known units (_ ∷ lines) h = (tt, sound_lines_are_known units lines h.1)
+
 quiet_is_sound : (note : Note) → NoteIsQuiet note → NoteIsSound [] note
 quiet_is_sound (Got from to octets) h = absurd h
 quiet_is_sound (Interference id) h = h
+quiet_is_sound Alien h = h
 quiet_is_sound _ h = tt
 
 -- quiet lines are sound, whatever was made

@@ -12,7 +12,7 @@ use Rattle.clnp_network.specs.World.{World, copy_from, put_out, takes_effect}
 use Rattle.std.specs.List.{AllByRecursion}
 use Rattle.clnp_safety.specs.Invariant.{PacketIsSound, CopyIsSound, NoteIsSound}
 use Rattle.clnp_safety.specs.Outputs.{OutputIsSound}
-use Rattle.clnp_safety.proofs.Lists.{AllByRecursion-append, AllByRecursion-implies, set_each}
+use Rattle.clnp_base.proofs.Lists.{AllByRecursion-append, AllByRecursion-implies, set_each}
 use Rattle.clnp_safety.proofs.Lines.{LineIs}
 use Rattle.clnp_safety.proofs.Steps.{Keeps, keeps-put_all_out}
 

@@ -17,7 +17,7 @@ use Rattle.clnp_machine.specs.System.{SystemState, Output, Transmits, Notes, Eff
 use Rattle.clnp_machine.specs.Host.{send, arrive, tick, restart}
 use Rattle.clnp_network.specs.World.{World, Copy, put_out, takes_effect, system_does, addressees_from, settle_copy, lose_copy, tick_each, event_happens, after}
 use Rattle.clnp_safety.specs.Owners.{IsByOwner}
-use Rattle.clnp_safety.proofs.Lists.{AllByRecursion-implies, set_each}
+use Rattle.clnp_base.proofs.Lists.{AllByRecursion-implies, set_each}
 use Rattle.clnp_safety.proofs.Outputs.{NotesOnly}
 use Rattle.clnp_safety.proofs.Steps.{Keeps, NotGivenIsFine, keeps-nothing, keeps-followed_by, keeps-put_all_out, keeps-at_system, keeps-give_each, keeps-deliver}
 use Rattle.clnp_safety.proofs.Owners.{IsForOwn, KeepsToOwn, arrival_keeps_to_own, send_keeps_to_own, restart_keeps_to_own, tick_keeps_to_own}

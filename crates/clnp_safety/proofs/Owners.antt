@@ -10,13 +10,13 @@ use Rattle.reassembly.specs.Buffer as buffer
 use Rattle.reassembly.specs.Buffer.{Answer, Buffer}
 use Rattle.clnp_plan.specs.declared.ask.Ask.{Ask}
 use Rattle.clnp_plan.specs.declared.note.Note.{Note}
-use Rattle.clnp_plan.specs.declared.note.Note.TheVariants.{Refused, Got, Discard, NotMine}
+use Rattle.clnp_plan.specs.declared.note.Note.TheVariants.{Refused, Got, Discard, NotMine, Alien}
 use Rattle.clnp_machine.specs.Unit as unit
 use Rattle.clnp_machine.specs.Unit.{Packet, value_of, whole_packet, cut}
 use Rattle.clnp_machine.specs.System.{SystemState, Content, Labelled, Unlabelled, Output, Transmits, Notes, Effect, table_limits}
-use Rattle.clnp_machine.specs.Local.{Action, Sends, Tells, Deed, tells, is_own, is_all, offered, takes_in, offer, receive, refusal, unit_of, unless_refused, discards_first, gives_up, give_up_due, expire, at_moment}
-use Rattle.clnp_machine.specs.Host.{next_hop, port_mtu, outputs_of, effect_of, notes, refused_note, arrive, send, tick, restart}
-use Rattle.clnp_safety.proofs.Lists.{AllByRecursion-append, AllByRecursion-implies}
+use Rattle.clnp_machine.specs.Local.{Action, Sends, Tells, Deed, tells, notes, is_own, is_all, offered, takes_in, offer, receive, refusal, unit_of, unless_refused, discards_first, gives_up, give_up_due, expire, at_moment}
+use Rattle.clnp_machine.specs.Host.{next_hop, port_mtu, outputs_of, effect_of, other_note, refused_note, arrive, send, tick, restart}
+use Rattle.clnp_base.proofs.Lists.{AllByRecursion-append, AllByRecursion-implies}
 use Rattle.clnp_safety.proofs.Lines.{NoteIsQuiet}
 use Rattle.clnp_safety.proofs.Outputs.{NotesOnly}
 use Rattle.clnp_safety.proofs.Asked.{IsRefusal, refusal_refuses, transmissions_are_quiet}
@@ -79,7 +79,7 @@ received_is_own s p following false own =
     (buffer.answer (table_limits s) s.moment (offered p following) s.buffers) own
 
 packet_is_own : (s : SystemState) (p : Packet) (following : List ℕ) (over own : Bool) → is_own s p.unit.destination ≡ own
-    → KeepsToOwn s (if over then notes s (Discard 0xA0 0) else (if own then effect_of (receive s p following) else notes s (NotMine p.unit.destination)))
+    → KeepsToOwn s (effect_of (if over then notes s (Discard 0xA0 0) else (if own then receive s p following else notes s (NotMine p.unit.destination))))
 packet_is_own s p following true own e = record { configuration = refl; outputs = (tt, tt) }
 packet_is_own s p following false true e = effect_keeps_to_own s (receive s p following) (received_is_own s p following (is_all p) e)
 packet_is_own s p following false false e = record { configuration = refl; outputs = (tt, tt) }
@@ -88,11 +88,20 @@ refused_note_is_own : (s : SystemState) (broken : Option OptionRefusal) → IsFo
 refused_note_is_own s None = tt
 refused_note_is_own s (Some broken) = tt
 
+other_note_is_own : (s : SystemState) (known : Bool) → IsForOwn s (if known then Discard 0x00 0 else Alien)
+other_note_is_own s true = tt
+other_note_is_own s false = tt
+
+octets_note_is_own : (s : SystemState) (octets : List ℕ) (clnp : Bool)
+    → IsForOwn s (if clnp then refused_note (rule_broken octets) else other_note octets)
+octets_note_is_own s octets true = refused_note_is_own s (rule_broken octets)
+octets_note_is_own s octets false = other_note_is_own s (octet octets 1 == 0x82)
+
 pub arrival_keeps_to_own : (s : SystemState) (content : Content) → KeepsToOwn s (arrive s content)
 arrival_keeps_to_own s (Labelled p following) = packet_is_own s p following (p.lifetime == 0) (is_own s p.unit.destination) refl
 arrival_keeps_to_own s (Unlabelled octets) = record {
   configuration = refl;
-  outputs = (refused_note_is_own s (if octet octets 1 == 0x81 then rule_broken octets else None), tt);
+  outputs = (octets_note_is_own s octets (octet octets 1 == 0x81), tt);
 }
 
 refusal_is_own : (s : SystemState) (u : unit.Unit) (refused : Option Note) → IsRefusal refused → DoesOwn (IsForOwn s) s (unless_refused refused s u)

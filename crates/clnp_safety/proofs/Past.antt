@@ -9,7 +9,7 @@ use Rattle.clnp_network.specs.World.{Copy}
 use Rattle.clnp_network.specs.Run.{Entry}
 use Rattle.clnp_network.specs.Safe.{IsSend, NoRefusal, WasSent}
 use Rattle.clnp_safety.specs.Invariant.{UnitIsSound, UnitsAreSound, CopyIsSound}
-use Rattle.clnp_safety.proofs.Lists.{AllByRecursion-implies}
+use Rattle.clnp_base.proofs.Lists.{AllByRecursion-implies}
 use Rattle.clnp_safety.proofs.Units.{copy_later}
 
 sent_before : (plan : Plan) (past more : List Entry) (from to octets : List ℕ) → WasSent plan past from to octets → WasSent plan (past ++ more) from to octets

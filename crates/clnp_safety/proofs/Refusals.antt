@@ -18,7 +18,7 @@ use Rattle.clnp_network.specs.World.{World, after, at_system, takes_effect, even
 use Rattle.clnp_network.specs.Safe.{AsksFor, IsSend, NoRefusal}
 use Rattle.clnp_plan.specs.declared.note.Note.{Note}
 use Rattle.clnp_safety.specs.Refusal.{LeavesNothing}
-use Rattle.clnp_safety.proofs.Lists.{slice_set-same}
+use Rattle.clnp_base.proofs.Lists.{slice_set-same}
 use Rattle.clnp_safety.proofs.Lines.{quiet_lines_refuse_nothing}
 use Rattle.clnp_safety.proofs.Asked.{IsRefusal, refusal_refuses, sending, lines_are_quiet}
 

@@ -1,5 +1,5 @@
 -- Each move keeps the world sound, and so does each series of moves.
-use Rattle.std.proofs.Common.{ℕ, List, [], ◌∷◌, ◌++◌, ◌+◌, ◌≤◌, refl, arith}
+use Rattle.std.proofs.Common.{◌≡◌, ℕ, List, [], ◌∷◌, ◌++◌, ◌+◌, ◌≤◌, refl, arith}
 use Rattle.std.specs.Prelude.{slice_get, Option, None, Some}
 use Rattle.std.specs.List.{AllByRecursion}
 use Rattle.scenario.specs.Scenario.{Plan, IsFit, octets_of}
@@ -7,14 +7,18 @@ use Rattle.scenario.specs.declared.event.Event.{Event}
 use Rattle.scenario.specs.declared.event.Event.TheVariants.{Send, Deliver, Settle, Lose, Tick, Restart}
 use Rattle.scenario.specs.declared.event.Move.{Move}
 use Rattle.scenario.specs.declared.event.Move.TheVariants.{One, SettleOne, LoseOne, TickOne}
-use Rattle.reassembly.specs.Buffer.{held}
+use Rattle.reassembly.specs.Arrival.{Arrival}
+use Rattle.reassembly.specs.Buffer.{Buffer, held}
 use Rattle.clnp_machine.specs.Unit as unit
+use Rattle.clnp_machine.specs.Unit.{Packet}
+use Rattle.clnp_machine.specs.System.{SystemState, Content, Labelled, Unlabelled}
 use Rattle.clnp_machine.specs.Host.{restart}
-use Rattle.clnp_network.specs.World.{World, after, event_happens, system_does, deliver, settle_one, lose_one, tick_one, first_world}
+use Rattle.clnp_network.specs.World.{World, Copy, after, event_happens, system_does, deliver, settle_one, lose_one, tick_one, first_world}
 use Rattle.clnp_network.specs.Run.{Entry, entries_of, moves_made, run, world_after}
 use Rattle.clnp_network.specs.Safe.{AsksFor, IsSend, EachWasSent, IsHonest, IsWithinBudgets, NoInterference}
-use Rattle.clnp_safety.specs.Invariant.{WorldIsSound}
-use Rattle.clnp_safety.proofs.Lists.{all_at}
+use Rattle.clnp_base.proofs.Lists.{AllByRecursion-from_places, AllByRecursion-implies}
+use Rattle.clnp_safety.specs.Copies.{BuffersHoldOneUnit, CopiesLieInUnits, HoldsOneUnit, IsNotAlien, LiesInUnit}
+use Rattle.clnp_safety.specs.Invariant.{BufferIsSound, Carries, CopyIsSound, IsOfUnit, PacketIsSound, WorldIsSound}
 use Rattle.clnp_safety.proofs.Past.{units_stay}
 use Rattle.clnp_safety.proofs.Moves.{MoveIsSound, sound_at_clock, kept_is_sound, nothing_is_sound}
 use Rattle.clnp_safety.proofs.Settles.{settle_one_is_sound, deliver_is_sound, lose_one_is_sound, restarted_is_sound}
@@ -67,13 +71,28 @@ module _ (plan : Plan) (fit : IsFit plan) where
       let this = move_is_sound past units w h move in
       (this.apart, moves_are_apart moves (past ++ record { move = move; lines = (after plan w move).lines } ∷ []) this.units (after plan w move).world this.world)
 
-  moves_keep_budgets : (moves : List Move) (past : List Entry) (units : List unit.Unit) (w : World) → WorldIsSound plan past units w
-      → IsWithinBudgets (world_after plan w moves)
-  moves_keep_budgets [] past units w h =
-      all_at (λ system. held system.buffers ≤ system.configuration.settings.budget) w.systems (λ place s there. (h.systems.each place s there).budget)
-  moves_keep_budgets (move ∷ moves) past units w h =
+  moves_are_known : (moves : List Move) (past : List Entry) (units : List unit.Unit) (w : World) → WorldIsSound plan past units w
+      → AllByRecursion (λ (entry : Entry). AllByRecursion IsNotAlien entry.lines) (entries_of plan w moves)
+  moves_are_known [] past units w h = tt
+  moves_are_known (move ∷ moves) past units w h =
       let this = move_is_sound past units w h move in
-      moves_keep_budgets moves (past ++ record { move = move; lines = (after plan w move).lines } ∷ []) this.units (after plan w move).world this.world
+      (this.known, moves_are_known moves (past ++ record { move = move; lines = (after plan w move).lines } ∷ []) this.units (after plan w move).world this.world)
+
+  -- the world after some moves is sound, whatever units were made in them
+  record IsSoundAfter (w : World) : Type 0 where
+    past : List Entry
+    units : List unit.Unit
+    sound : WorldIsSound plan past units w
+
+  moves_are_sound : (moves : List Move) (past : List Entry) (units : List unit.Unit) (w : World) → WorldIsSound plan past units w
+      → IsSoundAfter (world_after plan w moves)
+  moves_are_sound [] past units w h = record { past = past; units = units; sound = h }
+  moves_are_sound (move ∷ moves) past units w h =
+      let this = move_is_sound past units w h move in
+      moves_are_sound moves (past ++ record { move = move; lines = (after plan w move).lines } ∷ []) this.units (after plan w move).world this.world
+
+  sound_after : (moves : List Move) → IsSoundAfter (world_after plan (first_world plan) moves)
+  sound_after moves = moves_are_sound moves [] [] (first_world plan) (first_world_is_sound plan)
 
 pub each_was_sent : (plan : Plan) → IsFit plan → (moves : List Move) → EachWasSent plan [] (entries_of plan (first_world plan) moves)
 each_was_sent plan fit moves = moves_are_honest plan fit moves [] [] (first_world plan) (first_world_is_sound plan)
@@ -85,5 +104,34 @@ pub none_interferes : (plan : Plan) → IsFit plan → (moves : List Move)
     → AllByRecursion (λ (entry : Entry). NoInterference entry.lines) (entries_of plan (first_world plan) moves)
 none_interferes plan fit moves = moves_are_apart plan fit moves [] [] (first_world plan) (first_world_is_sound plan)
 
+pub none_is_alien : (plan : Plan) → IsFit plan → (moves : List Move)
+    → AllByRecursion (λ (entry : Entry). AllByRecursion IsNotAlien entry.lines) (entries_of plan (first_world plan) moves)
+none_is_alien plan fit moves = moves_are_known plan fit moves [] [] (first_world plan) (first_world_is_sound plan)
+
 pub budgets_hold : (plan : Plan) → IsFit plan → (moves : List Move) → IsWithinBudgets (world_after plan (first_world plan) moves)
-budgets_hold plan fit moves = moves_keep_budgets plan fit moves [] [] (first_world plan) (first_world_is_sound plan)
+budgets_hold plan fit moves =
+    let w = sound_after plan fit moves in
+    AllByRecursion-from_places (λ system. held system.buffers ≤ system.configuration.settings.budget) (world_after plan (first_world plan) moves).systems
+    (λ place s there. (w.sound.systems.each place s there).budget)
+
+carries_lying : (units : List unit.Unit) (content : Content) → Carries (PacketIsSound units) content → Carries LiesInUnit content
+carries_lying units (Labelled packet following) h = (record { within = h.0.within; whole = h.0.whole }, h.1)
+carries_lying units (Unlabelled octets) h = absurd h
+
+pub copies_lie : (plan : Plan) → IsFit plan → (moves : List Move) → CopiesLieInUnits (world_after plan (first_world plan) moves)
+copies_lie plan fit moves =
+    let w = sound_after plan fit moves in
+    AllByRecursion-implies (CopyIsSound w.units) (λ (copy : Copy). Carries LiesInUnit copy.content)
+    (λ copy h. carries_lying w.units copy.content h.carries) (world_after plan (first_world plan) moves).copies w.sound.copies
+
+one_unit : (plan : Plan) (units : List unit.Unit) (buffer : Buffer Packet) → BufferIsSound plan units buffer → HoldsOneUnit buffer
+one_unit plan units buffer h = (
+  h.unit,
+  AllByRecursion-implies (IsOfUnit units h.unit) (λ (arrival : Arrival Packet). arrival.carried.unit ≡ h.unit) (λ arrival is. is.unit) buffer.kept h.kept,
+)
+
+pub buffers_hold : (plan : Plan) → IsFit plan → (moves : List Move) → BuffersHoldOneUnit (world_after plan (first_world plan) moves)
+buffers_hold plan fit moves =
+    let w = sound_after plan fit moves in
+    AllByRecursion-from_places (λ (system : SystemState). AllByRecursion HoldsOneUnit system.buffers) (world_after plan (first_world plan) moves).systems
+    (λ place s there. AllByRecursion-implies (BufferIsSound plan w.units) HoldsOneUnit (one_unit plan w.units) s.buffers (w.sound.systems.each place s there).buffers)

@@ -12,7 +12,7 @@ use Rattle.clnp_machine.specs.Local.{with_use, makes}
 use Rattle.clnp_network.specs.Run.{Entry}
 use Rattle.clnp_safety.specs.Invariant.{Owns, UnitIsSound, UnitsAreSound, Rests, EachRests, AreUsesUntil, IsInUses, BufferIsSound, SystemIsSound}
 use Rattle.clnp_safety.proofs.Units.{different_makers, buffer_later}
-use Rattle.clnp_safety.proofs.Lists.{AllByRecursion-implies}
+use Rattle.clnp_base.proofs.Lists.{AllByRecursion-implies}
 use Rattle.clnp_safety.proofs.Uses.{made_long_ago, uses_after, used_before, used_now}
 
 -- the identifier of a unit is the next one of the system, and may be drawn

@@ -19,7 +19,7 @@ use Rattle.clnp_network.specs.Run.{Entry}
 use Rattle.clnp_network.specs.Safe.{WasSent}
 use Rattle.clnp_safety.specs.Invariant.{UnitIsSound, UnitsAreSound, EachRests, PacketIsSound, SystemIsSound}
 use Rattle.clnp_safety.specs.Outputs.{OutputIsSound}
-use Rattle.clnp_safety.proofs.Lists.{AllByRecursion-append, AllByRecursion-implies, AllByRecursion-slice_get}
+use Rattle.clnp_base.proofs.Lists.{AllByRecursion-append, AllByRecursion-implies, AllByRecursion-slice_get}
 use Rattle.clnp_safety.proofs.Pieces.{IsPiece, cut_is_pieces}
 use Rattle.clnp_safety.proofs.SendAsked.{allowed, asked_is_new, asked_is_sound}
 use Rattle.clnp_safety.proofs.SendUnits.{new_rests, maker_after, others_after}

@@ -10,7 +10,7 @@ use Rattle.clnp_machine.specs.Host.{arrive, restart}
 use Rattle.clnp_network.specs.World.{World, Copy, Numbered, is_late, takes_effect, system_does, addressees_from, settle_copy, settle_one, deliver, lose_copy, lose_one}
 use Rattle.clnp_network.specs.Run.{Entry}
 use Rattle.clnp_safety.specs.Invariant.{CopyIsSound, NoteIsSound, SystemIsSound, UnitsAreSound}
-use Rattle.clnp_safety.proofs.Lists.{AllByRecursion-slice_get}
+use Rattle.clnp_base.proofs.Lists.{AllByRecursion-slice_get}
 use Rattle.clnp_safety.proofs.Lines.{LineIs}
 use Rattle.clnp_safety.proofs.Steps.{Keeps, NotGivenIsFine, keeps-nothing, keeps-at_system, keeps-give_each, keeps-deliver}
 use Rattle.clnp_safety.proofs.Outputs.{takes_effect_stands}

@@ -8,7 +8,7 @@ use Rattle.clnp_machine.specs.System.{SystemState, Output, Effect}
 use Rattle.clnp_machine.specs.Host.{arrive}
 use Rattle.clnp_network.specs.World.{World, Copy, Numbered, Step, nothing, writes, followed_by, put_out, put_all_out, takes_effect, at_system, is_late, give_to, give, give_each, is_void, is_addressee, deliver_to, deliver_at, deliver}
 use Rattle.std.specs.List.{AllByRecursion}
-use Rattle.clnp_safety.proofs.Lists.{AllByRecursion-append}
+use Rattle.clnp_base.proofs.Lists.{AllByRecursion-append}
 
 -- K holds of the world after a step, and Q of each of its lines
 pub record Keeps (K : World → Type 0) (Q : Line → Type 0) (step : Step) : Type 0 where

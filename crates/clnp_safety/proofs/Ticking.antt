@@ -7,10 +7,10 @@ use Rattle.scenario.specs.Scenario.{Plan}
 use Rattle.reassembly.specs.declared.segment.Key.{Key}
 use Rattle.reassembly.specs.Arrival.{same_key}
 use Rattle.reassembly.specs.Buffer.{Buffer, due, first_carried, held, is_whole, size_of, without}
-use Rattle.reassembly.proofs.LawDue.{due_is, none_due}
-use Rattle.reassembly.proofs.LawSums.{sum_filter}
-use Rattle.reassembly.proofs.Removing.{AllByRecursion-filter, AllByRecursion-weaker}
-use Rattle.reassembly.proofs.SameKey.{same_key-refl}
+use Rattle.reassembly.proofs.Shared.{due_is, none_due, same_key-refl}
+use Rattle.clnp_base.proofs.Sums.{sum_filter}
+use Rattle.clnp_base.proofs.Filters.{AllByRecursion-filter}
+use Rattle.clnp_base.proofs.Lists.{AllByRecursion-implies}
 use Rattle.clnp_machine.specs.Identifiers.{Use}
 use Rattle.clnp_machine.specs.Unit as unit
 use Rattle.clnp_machine.specs.Unit.{DeclaredAt, Packet}
@@ -20,8 +20,9 @@ use Rattle.clnp_machine.specs.Local.{Action, Deed, Sends, Tells, at_moment, disc
 use Rattle.clnp_machine.specs.Host.{outputs_of, tick}
 use Rattle.clnp_safety.specs.Invariant.{AreUsesUntil, BufferIsSound, IsInUses, NoteIsSound, SystemIsSound}
 use Rattle.clnp_safety.specs.Outputs.{OutputIsSound}
-use Rattle.clnp_safety.proofs.BufferLists.{all_of_none, fewer_pass}
-use Rattle.clnp_safety.proofs.Lists.{AllByRecursion-append}
+use Rattle.clnp_base.proofs.Filters.{filter-fewer}
+use Rattle.clnp_base.proofs.Lists.{AllByRecursion-no_element}
+use Rattle.clnp_base.proofs.Lists.{AllByRecursion-append}
 
 -- what it does is to note what is so
 abbrev NotesSoundly : List unit.Unit → Action → Type 0
@@ -43,7 +44,8 @@ without_fewer : (key : Key) (buffers before behind : List (Buffer Packet)) (ende
     → length (without key buffers) + 1 ≤ length buffers
 without_fewer key buffers before behind ended stands is =
     subst (λ l. length (without key l) + 1 ≤ length l) (sym stands)
-    (fewer_pass (λ (b : Buffer Packet). not (same_key b.key key)) before behind ended (ap not (subst (λ k. same_key ended.key k ≡ true) is (same_key-refl ended.key))))
+    (let fewer = filter-fewer (λ (b : Buffer Packet). not (same_key b.key key)) before ended behind
+    (ap not (subst (λ k. same_key ended.key k ≡ true) is (same_key-refl ended.key))) in omega arith)
 
 module _ (plan : Plan) (units : List unit.Unit) (now place : ℕ) where
   -- what is so of the system while buffers are taken out: that which makes it sound, but that some may be due
@@ -105,12 +107,12 @@ module _ (plan : Plan) (units : List unit.Unit) (now place : ℕ) where
       (left.0, AllByRecursion-append (NotesSoundly units) (gives_up s ended).actions (expire most (gives_up s ended).after).actions (tt, discards_soundly units (first_carried ended)) left.1)
 
   expire_is_sound : (most : ℕ) (s : SystemState) → length s.buffers ≤ most → IsExpiring s → DeedIsSound (expire most s)
-  expire_is_sound zero s few is = (none_left s is (all_of_none (λ (b : Buffer Packet). now < b.deadline) s.buffers few), tt)
+  expire_is_sound zero s few is = (none_left s is (AllByRecursion-no_element (λ (b : Buffer Packet). now < b.deadline) s.buffers few), tt)
   expire_is_sound (suc most) s few is = give_up_is_sound most s (due s.moment s.buffers) refl (omega arith) is (expire_is_sound most)
 
 uses_later : (before now : ℕ) (uses : List Use) → before ≤ now → AreUsesUntil before uses → AreUsesUntil now uses
 uses_later before now uses later are = record {
-  until_now = AllByRecursion-weaker (λ (given : Use). given.moment ≤ before) (λ (given : Use). given.moment ≤ now) (λ given h. omega arith) uses are.until_now;
+  until_now = AllByRecursion-implies (λ (given : Use). given.moment ≤ before) (λ (given : Use). given.moment ≤ now) (λ given h. omega arith) uses are.until_now;
   in_order = are.in_order;
 }
 

@@ -10,7 +10,7 @@ use Rattle.clnp_machine.specs.System.{SystemState}
 use Rattle.clnp_machine.specs.Host.{tick}
 use Rattle.clnp_network.specs.World.{World, system_does, tick_each, tick_one}
 use Rattle.clnp_safety.specs.Invariant.{NoteIsSound, SystemIsSound}
-use Rattle.clnp_safety.proofs.Lists.{slice_get_none}
+use Rattle.clnp_base.proofs.Lists.{slice_get_none}
 use Rattle.clnp_safety.proofs.Lines.{LineIs}
 use Rattle.clnp_safety.proofs.Steps.{Keeps, keeps-nothing, keeps-followed_by, keeps-at_system}
 use Rattle.clnp_safety.proofs.Outputs.{Stands, takes_effect_stands}

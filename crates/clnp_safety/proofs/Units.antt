@@ -12,47 +12,7 @@ use Rattle.clnp_machine.specs.Unit.{Packet}
 use Rattle.clnp_machine.specs.System.{Content, Labelled, Unlabelled}
 use Rattle.clnp_network.specs.World.{Copy}
 use Rattle.clnp_safety.specs.Invariant.{Owns, PacketIsSound, CopyIsSound, Carries, IsOfUnit, BufferIsSound, Rests, EachRests}
-use Rattle.clnp_safety.proofs.Lists.{AllByRecursion-implies}
-
--- Pairs of elements.
-
-module _ {X : Type 0} (R : X → X → Type 0) where
-  pair_at : (xs : List X) (i j : ℕ) (x y : X) → AllPairs R xs → i < j → j < length xs → get_or xs i x ≡ x → get_or xs j y ≡ y → R x y
-  pair_at xs i j x y pairs before within at_i at_j =
-      let same : get_or xs j x ≡ y = get_or_default xs j x y within ∙ at_j in
-      subst (λ z. R x z) same (subst (λ z. R z (get_or xs j x)) at_i (pairs i j x before within))
-
-  same_place : (xs : List X) (i j : ℕ) (x y : X) → i ≡ j → j < length xs → get_or xs i x ≡ x → get_or xs j y ≡ y → x ≡ y
-  same_place xs i j x y e within at_i at_j =
-      sym at_i ∙ ap (λ k. get_or xs k x) e ∙ get_or_default xs j x y within ∙ at_j
-
-  -- two elements are one, or one of them is a later one
-  pub pair_cases : (xs : List X) (x y : X) → AllPairs R xs → Contains xs x → Contains xs y → (x ≡ y) ⊎ R x y ⊎ R y x
-  pair_cases xs x y pairs has_x has_y =
-      elim (cases_order has_x.0 has_y.0) [
-        | inl same ↦ inl (same_place xs has_x.0 has_y.0 x y same has_y.1 has_x.2 has_y.2)
-        | inr (inl before) ↦ inr (inl (pair_at xs has_x.0 has_y.0 x y pairs before has_y.1 has_x.2 has_y.2))
-        | inr (inr after) ↦ inr (inr (pair_at xs has_y.0 has_x.0 y x pairs after has_x.1 has_y.2 has_x.2))
-      ]
-
-  -- an element of a front and one of what follows it
-  pub pair_across : (xs ys : List X) (x y : X) → AllPairs R (xs ++ ys) → Contains xs x → Contains ys y → R x y
-  pair_across xs ys x y pairs has_x has_y =
-      let at_x : get_or (xs ++ ys) has_x.0 x ≡ x = get_or_append_left xs ys x has_x.0 has_x.1 ∙ has_x.2 in
-      let within : has_x.0 < length xs = has_x.1 in
-      let there : has_y.0 < length ys = has_y.1 in
-      let long = length-append xs ys in
-      pair_at (xs ++ ys) has_x.0 (length xs + has_y.0) x y pairs (omega arith) (omega arith) at_x
-      (get_or-append-add xs ys has_y.0 y ∙ has_y.2)
-
-  -- the pairs of what follows a front
-  pub pairs_behind : (xs ys : List X) → AllPairs R (xs ++ ys) → AllPairs R ys
-  pairs_behind xs ys pairs i j d before within =
-      let long = length-append xs ys in
-      let at_i : get_or (xs ++ ys) (length xs + i) d ≡ get_or ys i d = get_or-append-add xs ys i d in
-      let at_j : get_or (xs ++ ys) (length xs + j) d ≡ get_or ys j d = get_or-append-add xs ys j d in
-      subst (λ z. R (get_or ys i d) z) at_j
-      (subst (λ z. R z (get_or (xs ++ ys) (length xs + j) d)) at_i (pairs (length xs + i) (length xs + j) d (omega arith) (omega arith)))
+use Rattle.clnp_base.proofs.Lists.{AllByRecursion-implies, pair_across, pair_cases, pairs_behind}
 
 -- one of two units with a source and an identifier rests behind the other
 pub same_unit : (reuse : ℕ) (units : List unit.Unit) (u v : unit.Unit) (i : ℕ) → EachRests reuse units → Contains units u → Contains units v

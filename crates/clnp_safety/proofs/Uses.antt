@@ -8,7 +8,7 @@ use Rattle.std.proofs.lemmas.List.Quantifiers.{all_pairs_push}
 use Rattle.clnp_machine.specs.Identifiers.{Use, Identifiers, NotDrawn, IsQuiet, last_use, next, busy, not_drawn, after_use}
 use Rattle.clnp_machine.specs.Unit as unit
 use Rattle.clnp_safety.specs.Invariant.{AreUsesUntil, IsInUses}
-use Rattle.clnp_safety.proofs.Units.{pairs_behind}
+use Rattle.clnp_base.proofs.Lists.{pairs_behind}
 
 abbrev InOrder : Use → Use → Type 0
 InOrder earlier later = earlier.moment ≤ later.moment

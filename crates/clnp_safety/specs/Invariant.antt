@@ -4,7 +4,7 @@ use Rattle.std.specs.List.{AllByRecursion, Contains}
 use Rattle.scenario.specs.Scenario.{Plan}
 use Rattle.clnp_plan.specs.Configuration.{SystemConfiguration}
 use Rattle.clnp_plan.specs.declared.note.Note.{Note}
-use Rattle.clnp_plan.specs.declared.note.Note.TheVariants.{Got, Interference}
+use Rattle.clnp_plan.specs.declared.note.Note.TheVariants.{Got, Interference, Alien}
 use Rattle.pdu_header.specs.Spelling.{type_code}
 use Rattle.reassembly.specs.Arrival.{Arrival}
 use Rattle.reassembly.specs.Buffer.{Buffer, held, is_whole}
@@ -123,9 +123,11 @@ pub record WorldIsSound (plan : Plan) (past : List Entry) (units : List unit.Uni
   pub copies : AllByRecursion (CopyIsSound units) w.copies
   pub systems : SystemsAreSound plan units w.clock w.systems
 
--- A note says only what is so of the units that were made: what is handed up is one of them, and nothing interferes.
+-- A note says only what is so of the units that were made: what is handed up is one of them, nothing interferes, and no
+-- frame belongs to no protocol.
 abbrev pub NoteIsSound : List unit.Unit → Note → Type 0
 NoteIsSound units (Got from to octets) =
     (u : unit.Unit) × Contains units u × (u.source ≡ from) × (u.destination ≡ to) × (u.octets ≡ octets)
 NoteIsSound units (Interference id) = ⊥
+NoteIsSound units Alien = ⊥
 NoteIsSound units _ = Unit {0}

@@ -6,6 +6,7 @@ ghost use Rattle.scenario.specs.declared.event.Move.{Move};
 ghost use Rattle.clnp_network.specs.World.{World, after, first_world};
 ghost use Rattle.clnp_network.specs.Run.{Entry, entries_of, full_weight, run, text_of, until_full, world_after};
 ghost use Rattle.clnp_network.specs.Safe.{IsSend, NoRefusal, EachWasSent, IsHonest, IsWithinBudgets, NoInterference};
+ghost use Rattle.clnp_safety.specs.Copies.{BuffersHoldOneUnit, CopiesAreWithinLifetimes, CopiesLieInUnits, IsNotAlien};
 ghost use Rattle.clnp_safety.specs.Growth.{IsFront, IsFullAt, IsWithinCopies};
 ghost use Rattle.clnp_safety.specs.Owners.{IsByOwner};
 ghost use Rattle.clnp_safety.specs.Refusal.{LeavesNothing};
@@ -28,6 +29,25 @@ pub fn no_unit_meets_another()
 /// No system ever holds more octets for reassembly than its budget.
 pub fn budgets_are_kept()
     ensures { (plan : Plan) → IsFit plan → (moves : List Move) → IsWithinBudgets (world_after plan (first_world plan) moves) }
+{}
+
+/// Each copy is a packet whose range lies in its unit, however often it was cut, and nothing follows it in its frame: so
+/// none is refused for a rule of PDUs, and none belongs to another protocol.
+pub fn copies_lie_in_their_units()
+    ensures copies { (plan : Plan) → IsFit plan → (moves : List Move) → CopiesLieInUnits (world_after plan (first_world plan) moves) }
+    ensures alien { (plan : Plan) → IsFit plan → (moves : List Move)
+        → AllByRecursion (λ (entry : Entry). AllByRecursion IsNotAlien entry.lines) (entries_of plan (first_world plan) moves) }
+{}
+
+/// Each reassembly buffer holds packets of one unit only.
+pub fn buffers_hold_one_unit()
+    ensures { (plan : Plan) → IsFit plan → (moves : List Move) → BuffersHoldOneUnit (world_after plan (first_world plan) moves) }
+{}
+
+/// No packet was forwarded more often than its unit's lifetime allowed: how often it was and the lifetime that it has left
+/// are together at most its unit's, in every scenario.
+pub fn lifetimes_bound_forwarding()
+    ensures { (plan : Plan) (moves : List Move) → CopiesAreWithinLifetimes (world_after plan (first_world plan) moves) }
 {}
 
 /// The copies of a world stay, in their order, and no more of them are settled than there are.

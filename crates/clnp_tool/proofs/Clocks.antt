@@ -144,5 +144,5 @@ time_for_next plan old new all made next later time split stands =
     }
 
 -- where there is time for a move the clock may go on
-pub time_for_one : (world : WorldState) (moves : List Move) → HasTime world moves → world.clock + 1 < 2 ^ 62
-time_for_one world moves time = omega (arith, time.stands.clock, time.early)
+pub time_for_one : (world : WorldState) (moves : List Move) → HasTime world moves → world.network.clock + 1 < 2 ^ 62
+time_for_one world moves time = omega (arith, time.stands.holds.shows.clock, time.early)

@@ -14,7 +14,8 @@ use Rattle.clnp_world.specs.Seen.{frame_copy}
 use Rattle.clnp_world.specs.Parts.{Shows, Holds, IsRunning, Follows}
 use Rattle.clnp_world.specs.declared.network.Network.{Network}
 use Rattle.clnp_world.specs.declared.copy.FrameCopy.{FrameCopy}
-use Rattle.clnp_world.proofs.ListSteps.{slice_get_read, slice_get_map, slice_get_within, all_at}
+use Rattle.clnp_base.proofs.Lists.{AllByRecursion-slice_get, slice_get_some}
+use Rattle.clnp_world.proofs.ListSteps.{slice_get_read, slice_get_map}
 use Rattle.clnp_world.proofs.EachSteps.{each_length}
 use Rattle.clnp_world.proofs.ModelSteps.{configuration_of, configurations-give_each, copy-give_each, give_each-push, addressees_from-take}
 use Rattle.clnp_world.proofs.PutSteps.{puts_nothing, puts_line, puts_then, counted}
@@ -30,19 +31,19 @@ copy_at code model at seen copy h within e there =
 
 pub carried_at : (copies : List network.Copy) (at : ℕ) (copy : network.Copy) → AllByRecursion (λ (c : network.Copy). IsCarried c.content) copies
     → slice_get copies at ≡ Some copy → IsCarried copy.content
-carried_at copies at copy h e = all_at (λ (c : network.Copy). IsCarried c.content) copies at copy h e
+carried_at copies at copy h e = AllByRecursion-slice_get (λ (c : network.Copy). IsCarried c.content) copies at copy e h
 
 system_there : (code : Network) (model : network.World) (place : ℕ) → Shows code model → place < length code.hosts.items
     → (system : SystemState) × (slice_get model.systems place ≡ Some system)
 system_there code model place h within =
     let same = each_length code.hosts.items model.systems h.systems in
-    slice_get_within model.systems place (omega arith)
+    slice_get_some model.systems place (omega arith)
 
 copy_there : (code : Network) (model : network.World) (at : ℕ) → Shows code model → at < length code.copies.items
     → (copy : network.Copy) × (slice_get model.copies at ≡ Some copy)
 copy_there code model at h within =
     let same = counted code model h in
-    slice_get_within model.copies at (omega arith)
+    slice_get_some model.copies at (omega arith)
 
 follows_nothing : (code : Network) (lines : List ℕ) (model : network.World) → Holds code model → Follows code lines lines (network.nothing model)
 follows_nothing code lines model h =

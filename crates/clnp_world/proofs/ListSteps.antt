@@ -3,12 +3,6 @@ use Rattle.std.proofs.Common.{◌≡◌, ℕ, zero, suc, ◌+◌, ◌<◌, List,
 use Rattle.std.specs.Prelude.{slice_get, slice_set}
 use Rattle.std.specs.List.{AllByRecursion, range_with_len}
 
--- nothing is changed by writing what stands there
-pub slice_set_same : {X : Type 0} (xs : List X) (i : ℕ) (x : X) → slice_get xs i ≡ Some x → slice_set xs i x ≡ xs
-slice_set_same [] i x e = refl
-slice_set_same (y ∷ ys) zero x e = cc
-slice_set_same (y ∷ ys) (suc i) x e = ap (λ zs. y ∷ zs) (slice_set_same ys i x e)
-
 pub slice_get_front : {X : Type 0} (xs ys : List X) (i : ℕ) (x : X) → slice_get xs i ≡ Some x → slice_get (xs ++ ys) i ≡ Some x
 slice_get_front [] ys i x e = cc
 slice_get_front (z ∷ zs) ys zero x e = e
@@ -24,31 +18,12 @@ slice_get_map f [] i x e = absurd (cc)
 slice_get_map f (y ∷ ys) zero x e = cc
 slice_get_map f (y ∷ ys) (suc i) x e = slice_get_map f ys i x e
 
-pub slice_get_within : {X : Type 0} (xs : List X) (i : ℕ) → i < length xs → (x : X) × (slice_get xs i ≡ Some x)
-slice_get_within [] i h = absurd (omega arith)
-slice_get_within (y ∷ ys) zero h = (y, refl)
-slice_get_within (y ∷ ys) (suc i) h = slice_get_within ys i (omega arith)
-
-pub slice_get_set : {X : Type 0} (xs : List X) (i : ℕ) (x : X) → i < length xs → slice_get (slice_set xs i x) i ≡ Some x
-slice_get_set [] i x h = absurd (omega arith)
-slice_get_set (y ∷ ys) zero x h = refl
-slice_get_set (y ∷ ys) (suc i) x h = slice_get_set ys i x (omega arith)
-
-pub length_set : {X : Type 0} (xs : List X) (i : ℕ) (x : X) → length (slice_set xs i x) ≡ length xs
-length_set [] i x = refl
-length_set (y ∷ ys) zero x = refl
-length_set (y ∷ ys) (suc i) x = ap suc (length_set ys i x)
-
 -- what stands in its place looks the same
 pub map_set : {X Y : Type 0} (f : X → Y) (xs : List X) (i : ℕ) (x y : X) → slice_get xs i ≡ Some x → f y ≡ f x
     → map f (slice_set xs i y) ≡ map f xs
 map_set f [] i x y e h = refl
 map_set f (z ∷ zs) zero x y e h = let same : z ≡ x = cc in ap (λ v. v ∷ map f zs) (h ∙ ap f (sym same))
 map_set f (z ∷ zs) (suc i) x y e h = ap (λ vs. f z ∷ vs) (map_set f zs i x y e h)
-
-pub map_append : {X Y : Type 0} (f : X → Y) (xs ys : List X) → map f (xs ++ ys) ≡ map f xs ++ map f ys
-map_append f [] ys = refl
-map_append f (x ∷ xs) ys = ap (λ zs. f x ∷ zs) (map_append f xs ys)
 
 pub take_push : {X : Type 0} (xs : List X) (i : ℕ) (x : X) → slice_get xs i ≡ Some x → (take (i + 1) xs ≡ take i xs ++ x ∷ []) × (length (take i xs) ≡ i)
 take_push [] i x e = absurd (cc)
@@ -67,23 +42,10 @@ range_push a n = rw add-one (range_suc a n)
 
 -- All of some elements.
 
-pub all_append : {X : Type 0} (P : X → Type 0) (xs ys : List X) → AllByRecursion P xs → AllByRecursion P ys → AllByRecursion P (xs ++ ys)
-all_append P [] ys h k = k
-all_append P (x ∷ xs) ys h k = (h.0, all_append P xs ys h.1 k)
-
-pub all_at : {X : Type 0} (P : X → Type 0) (xs : List X) (i : ℕ) (x : X) → AllByRecursion P xs → slice_get xs i ≡ Some x → P x
-all_at P [] i x h e = absurd (cc)
-all_at P (y ∷ ys) zero x h e = let same : y ≡ x = cc in subst P same h.0
-all_at P (y ∷ ys) (suc i) x h e = all_at P ys i x h.1 e
-
 pub all_set : {X : Type 0} (P : X → Type 0) (xs : List X) (i : ℕ) (x : X) → AllByRecursion P xs → P x → AllByRecursion P (slice_set xs i x)
 all_set P [] i x h k = tt
 all_set P (y ∷ ys) zero x h k = (k, h.1)
 all_set P (y ∷ ys) (suc i) x h k = (h.0, all_set P ys i x h.1 k)
-
-pub all_weaker : {X : Type 0} (P Q : X → Type 0) (xs : List X) → ((x : X) → P x → Q x) → AllByRecursion P xs → AllByRecursion Q xs
-all_weaker P Q [] f h = tt
-all_weaker P Q (x ∷ xs) f h = (f x h.0, all_weaker P Q xs f h.1)
 
 -- those before a place, and the one that was written there
 pub all_take_set : {X : Type 0} (P : X → Type 0) (xs : List X) (i : ℕ) (x : X) → AllByRecursion P (take i xs) → P x

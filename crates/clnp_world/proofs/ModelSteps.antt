@@ -10,7 +10,8 @@ use Rattle.clnp_machine.specs.System.{SystemState, Output, Transmits, Notes, Eff
 use Rattle.clnp_machine.specs.Host.{arrive, tick}
 use Rattle.clnp_network.specs.World as network
 use Rattle.clnp_network.specs.Run.{lines_text}
-use Rattle.clnp_world.specs.Parts.{IsCurrent}
+use Rattle.clnp_world.specs.Stands.{IsCurrent}
+use Rattle.clnp_world.specs.Parts.{}
 use Rattle.clnp_world.proofs.EffectSteps.{keeps_arrive}
 use Rattle.clnp_world.proofs.ListSteps.{slice_get_front, take_push, map_set, all_set, range_push}
 

@@ -2,7 +2,7 @@
 use Rattle.std.proofs.Common.{◌≡◌, ℕ, ◌+◌, ◌<◌, ◌≤◌, List, [], ◌∷◌, ◌++◌, length, map, get_or, Option, Some, None, refl, sym, ap, ◌∙◌, subst, append-nil, append_assoc, length-append, arith}
 use Rattle.std.specs.Prelude.{slice_get, sum}
 use Rattle.std.specs.List.{AllByRecursion}
-use Rattle.std.proofs.lemmas.List.{length-map}
+use Rattle.std.proofs.lemmas.List.{length-map, map-append}
 use Rattle.std.proofs.lemmas.List.Sums.{sum_by-append}
 use Rattle.std.proofs.lemmas.Option.{slice_get_past}
 use Rattle.nsap.specs.declared.target.Target.{Target}
@@ -25,7 +25,8 @@ use Rattle.clnp_world.specs.Stands.{StandEach}
 use Rattle.clnp_world.specs.Parts.{Shows, Puts, PutsCopies}
 use Rattle.clnp_world.specs.declared.network.Network.{Network}
 use Rattle.clnp_world.specs.declared.copy.FrameCopy.{FrameCopy}
-use Rattle.clnp_world.proofs.ListSteps.{map_append, all_append, slice_get_read}
+use Rattle.clnp_base.proofs.Lists.{AllByRecursion-append}
+use Rattle.clnp_world.proofs.ListSteps.{slice_get_read}
 use Rattle.clnp_world.proofs.ModelSteps.{lines_text-append, put_all_out-push, systems-put_all_out}
 
 -- nothing happens
@@ -57,7 +58,7 @@ sum_append xs ys = sum_by-append (λ (n : ℕ). n) xs ys
 pub weight_append : (model : network.World) (copies : List network.Copy)
     → sum (map network.copy_weight (model.copies ++ copies)) ≡ network.weight model + sum (map network.copy_weight copies)
 weight_append model copies =
-    ap sum (map_append network.copy_weight model.copies copies) ∙ sum_append (map network.copy_weight model.copies) (map network.copy_weight copies)
+    ap sum (map-append network.copy_weight model.copies copies) ∙ sum_append (map network.copy_weight model.copies) (map network.copy_weight copies)
 
 weights_are : (copies : List network.Copy)
     → map (λ (copy : FrameCopy). length copy.frame + 64) (map frame_copy copies) ≡ map network.copy_weight copies
@@ -118,11 +119,11 @@ puts_frame old code before after port target packet system model h good line put
         systems = subst (λ (hs : List HostState). StandEach hs model.systems) (ap (λ (w : Network). w.hosts.items) (sym others)) h.systems;
         copies = put.copies ∙ ap (λ (cs : List FrameCopy). cs ++ frame_copies at target packet.unit.made (wire packet)) h.copies
             ∙ ap (λ (cs : List FrameCopy). map frame_copy model.copies ++ cs) seen
-            ∙ sym (map_append frame_copy model.copies made);
+            ∙ sym (map-append frame_copy model.copies made);
         cursor = ap (λ (w : Network). w.cursor) others ∙ h.cursor;
-        carried = all_append Carried model.copies made h.carried (copy_carried at target packet good);
+        carried = AllByRecursion-append Carried model.copies made h.carried (copy_carried at target packet good);
         short = subst (λ (cs : List FrameCopy). AllByRecursion Short cs) (sym put.copies)
-            (all_append Short old.copies.items (frame_copies at target packet.unit.made (wire packet)) h.short
+            (AllByRecursion-append Short old.copies.items (frame_copies at target packet.unit.made (wire packet)) h.short
             (copy_short at target packet.unit.made (wire packet) (wire_short packet good)));
         weight = put.weight ∙ ap (λ (n : ℕ). n + frames_weight (frame_copies at target packet.unit.made (wire packet))) h.weight
             ∙ ap (λ (cs : List FrameCopy). network.weight model + frames_weight cs) seen

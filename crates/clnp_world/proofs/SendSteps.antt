@@ -14,7 +14,7 @@ use Rattle.clnp_world.proofs.TakeSteps.{gives_note}
 -- the host's refusal is noted, and nothing else changes
 refuses : (s : SystemState) (from to octets : List ℕ) (ask : Ask) (note : Note)
     → local.refusal s (local.unit_of s Dt from to octets ask) ≡ Some note
-    → host.send s from to octets ask ≡ host.notes s note
+    → host.send s from to octets ask ≡ host.effect_of (local.notes s note)
 refuses s from to octets ask note e =
     ap (λ (refused : Option Note). host.effect_of (local.unless_refused refused s (local.unit_of s Dt from to octets ask))) e
 

@@ -18,7 +18,7 @@ use Rattle.end_system.specs.Stands.{Appends, GiveAll, IsLeftBy}
 use Rattle.local_entity.specs.Local.{IsWhy, refusal_note}
 use Rattle.clnp_world.specs.Parts.{Shows, Holds, Puts, Follows}
 use Rattle.clnp_world.specs.declared.network.Network.{Network}
-use Rattle.clnp_world.proofs.ListSteps.{slice_get_within, slice_get_set, all_at}
+use Rattle.clnp_base.proofs.Lists.{AllByRecursion-slice_get, slice_get-set, slice_get_some}
 use Rattle.clnp_world.proofs.EachSteps.{each_length, each_at, each_set}
 use Rattle.clnp_world.proofs.ModelSteps.{current-takes_effect}
 use Rattle.clnp_world.proofs.PutSteps.{PutsOut, puts_none, puts_more, puts_note, puts_nothing}
@@ -50,7 +50,7 @@ pub is_there : (code : Network) (model : network.World) (place : ℕ) (host : Ho
 is_there code model place host h here =
     let same = each_length code.hosts.items model.systems h.systems in
     let within = within_get code.hosts.items place host here in
-    let there = slice_get_within model.systems place (omega arith) in
+    let there = slice_get_some model.systems place (omega arith) in
     record { system = there.0; at = there.1; stands = each_at code.hosts.items model.systems place host there.0 h.systems here there.1 }
 
 -- a system takes a step, and what it gives out is put out
@@ -62,7 +62,7 @@ takes old code before after place host outputs effect within stands gives puts m
     let same = each_length old.hosts.items model.systems h.systems in
     puts (record model { systems = slice_set model.systems place effect.after }) effect.after effect.outputs
     (shows_with old place host model effect.after h stands)
-    (slice_get_set model.systems place effect.after (omega arith))
+    (slice_get-set model.systems place effect.after (omega arith))
     (subst (λ (os : List output.Output). GiveAll old.clock os effect.outputs) (sym gives.appended) gives.give_all)
 
 -- the system at a place does something, whatever its moment
@@ -88,7 +88,7 @@ pub takes_now : (old code : Network) (before after : List ℕ) (place : ℕ) (ho
 takes_now old code before after place host new outputs effect system here stands gives moment puts model h there =
     let within = within_get old.hosts.items place host here in
     let was = each_at old.hosts.items model.systems place host system h.shows.systems here there in
-    let now : system.moment ≡ model.clock = all_at (λ (s : SystemState). s.moment ≡ model.clock) model.systems place system h.current there in
+    let now : system.moment ≡ model.clock = AllByRecursion-slice_get (λ (s : SystemState). s.moment ≡ model.clock) model.systems place system there h.current in
     let clock : host.moment ≡ old.clock = was.moment ∙ now ∙ sym h.shows.clock in
     let part = takes old code before after place new outputs effect within stands
     (subst (λ (t : ℕ). Appends t [] outputs effect.outputs) clock gives) puts model h.shows in

@@ -7,9 +7,11 @@ use Rattle.clnp_machine.specs.System.{SystemState}
 use Rattle.clnp_machine.specs.Host.{tick}
 use Rattle.clnp_network.specs.World as network
 use Rattle.end_system.specs.State.{HostState}
-use Rattle.clnp_world.specs.Parts.{Shows, IsBehind, IsCurrent, Holds, Puts, Follows}
+use Rattle.clnp_world.specs.Stands.{IsCurrent}
+use Rattle.clnp_world.specs.Parts.{Shows, IsBehind, Holds, Puts, Follows}
 use Rattle.clnp_world.specs.declared.network.Network.{Network}
-use Rattle.clnp_world.proofs.ListSteps.{slice_get_within, all_at, all_set, all_weaker, all_take_set}
+use Rattle.clnp_base.proofs.Lists.{AllByRecursion-implies, AllByRecursion-slice_get, slice_get_some}
+use Rattle.clnp_world.proofs.ListSteps.{all_set, all_take_set}
 use Rattle.clnp_world.proofs.EachSteps.{each_length}
 use Rattle.clnp_world.proofs.EffectSteps.{ticked}
 use Rattle.clnp_world.proofs.ModelSteps.{tick_at, tick_each-more, systems-put_all_out, clock-put_all_out}
@@ -31,8 +33,8 @@ clock_goes_on code model h = record {
 
 pub all_behind : (model : network.World) → IsCurrent model → IsBehind (record model { clock = model.clock + 1 })
 all_behind model h =
-    all_weaker (λ (s : SystemState). s.moment ≡ model.clock) (λ (s : SystemState). s.moment ≤ model.clock + 1) model.systems
-    (λ s e. omega arith) h
+    AllByRecursion-implies (λ (s : SystemState). s.moment ≡ model.clock) (λ (s : SystemState). s.moment ≤ model.clock + 1) (λ s e. omega arith)
+    model.systems h
 
 -- the moment has come to the systems below a place, and no system is ahead of it
 pub record AreTicked (w : network.World) (place : ℕ) : Type 0 where
@@ -84,7 +86,7 @@ ticks_more start mid code before between after place so_far within next model h 
     let w = network.tick_each model (range_with_len 0 place) in
     let front = so_far model h behind in
     let same = each_length mid.hosts.items w.world.systems front.puts.shows.systems in
-    let there = slice_get_within w.world.systems place (omega arith) in
+    let there = slice_get_some w.world.systems place (omega arith) in
     subst (λ (s : network.Step). Ticked code before after s (place + 1)) (sym (tick_each-more model place))
     record {
       puts = puts_then code before between after w (λ v. tick_at v place) front.puts.lines (next w.world front.puts.shows);
@@ -101,7 +103,7 @@ not_ahead start code before after place running so_far at host here =
     let part = so_far model running.1 running.2 in
     let there = is_there code w.world at host part.puts.shows here in
     let behind : there.system.moment ≤ w.world.clock
-    = all_at (λ (s : SystemState). s.moment ≤ w.world.clock) w.world.systems at there.system part.are.behind there.at in
+    = AllByRecursion-slice_get (λ (s : SystemState). s.moment ≤ w.world.clock) w.world.systems at there.system there.at part.are.behind in
     omega (arith, there.stands.moment, part.puts.shows.clock)
 
 pub ticks_all : (start code : Network) (before after : List ℕ) (place : ℕ) → TicksTo start code before after place

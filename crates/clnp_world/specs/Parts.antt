@@ -1,36 +1,36 @@
 -- What the parts of a move do to the network of the code.
-use Rattle.std.specs.Prelude.{◌≡◌, ◌≤◌, ◌+◌, ℕ, List, ◌++◌, length, map}
+use Rattle.std.specs.Prelude.{◌≡◌, ◌≤◌, ◌+◌, ℕ, List, ◌++◌}
 use Rattle.std.specs.List.{AllByRecursion}
-use Rattle.clnp_machine.specs.System.{SystemState, IsCarried}
+use Rattle.clnp_machine.specs.System.{SystemState}
 use Rattle.clnp_network.specs.World as network
 use Rattle.clnp_network.specs.Run.{lines_text}
-use Rattle.clnp_world.specs.Seen.{frame_copy, frames_weight}
-use Rattle.clnp_world.specs.Stands.{StandEach}
+use Rattle.clnp_world.specs.Seen.{frames_weight}
+use Rattle.clnp_world.specs.State.{NetworkState}
+use Rattle.clnp_world.specs.Stands as seen
 use Rattle.clnp_world.specs.declared.copy.FrameCopy.{FrameCopy}
 use Rattle.clnp_world.specs.declared.network.Network.{Network}
 
--- the network of the code is one of the model, whatever the moments of its systems
-pub record Shows (code : Network) (model : network.World) : Type 0 where
-  pub clock : code.clock ≡ model.clock
-  pub systems : StandEach code.hosts.items model.systems
-  pub copies : code.copies.items ≡ map frame_copy model.copies
-  pub cursor : code.cursor ≡ model.cursor
-  pub carried : AllByRecursion (λ copy. IsCarried copy.content) model.copies
-  pub short : AllByRecursion (λ (copy : FrameCopy). length copy.frame ≤ 70000) code.copies.items
-  pub weight : code.weight ≡ network.weight model
+-- what a contract sees of the network of the code
+abbrev pub state_of : Network → NetworkState
+state_of code = record {
+  clock = code.clock;
+  hosts = code.hosts.items;
+  copies = code.copies.items;
+  cursor = code.cursor;
+  weight = code.weight;
+}
 
--- the clock's moment has come to each system
-abbrev pub IsCurrent : network.World → Type 0
-IsCurrent model = AllByRecursion (λ (system : SystemState). system.moment ≡ model.clock) model.systems
+-- the network of the code is one of the model, whatever the moments of its systems
+abbrev pub Shows : Network → network.World → Type 0
+Shows code model = seen.Shows (state_of code) model
 
 -- no system's moment is ahead of the clock
 abbrev pub IsBehind : network.World → Type 0
 IsBehind model = AllByRecursion (λ (system : SystemState). system.moment ≤ model.clock) model.systems
 
 -- between two moves it is one of the model, whose systems are at the clock's moment
-pub record Holds (code : Network) (model : network.World) : Type 0 where
-  pub shows : Shows code model
-  pub current : IsCurrent model
+abbrev pub Holds : Network → network.World → Type 0
+Holds code model = seen.Holds (state_of code) model
 
 abbrev pub IsRunning : Network → Type 0
 IsRunning code = (model : network.World) × Holds code model

@@ -6,7 +6,7 @@ use Rattle.end_system.specs.State.{HostState}
 use Rattle.end_system.specs.Stands as end_system
 use Rattle.clnp_network.specs.World as network
 use Rattle.clnp_world.specs.Seen.{frame_copy}
-use Rattle.clnp_world.specs.State.{WorldState}
+use Rattle.clnp_world.specs.State.{NetworkState, WorldState}
 use Rattle.clnp_world.specs.declared.copy.FrameCopy.{FrameCopy}
 use Rattle.clnp_world.specs.declared.world.WorldRefusal.{WorldRefusal}
 use Rattle.clnp_world.specs.declared.world.WorldRefusal.TheVariants.{WorldFull, NoMemory}
@@ -18,18 +18,29 @@ StandEach (host ∷ hosts) (system ∷ systems) = end_system.Stands host system 
 StandEach [] (system ∷ systems) = ⊥
 StandEach (host ∷ hosts) [] = ⊥
 
-pub record Stands (code : WorldState) (model : network.World) : Type 0 where
-  pub not_spent : code.spent ≡ false
+-- a network is one of the model, whatever the moments of its systems
+pub record Shows (code : NetworkState) (model : network.World) : Type 0 where
   pub clock : code.clock ≡ model.clock
   pub systems : StandEach code.hosts model.systems
-  -- the clock's moment has come to each system
-  pub moments : AllByRecursion (λ (system : SystemState). system.moment ≡ model.clock) model.systems
   pub copies : code.copies ≡ map frame_copy model.copies
   pub cursor : code.cursor ≡ model.cursor
   pub carried : AllByRecursion (λ copy. IsCarried copy.content) model.copies
   -- no frame is longer than a system takes
   pub short : AllByRecursion (λ (copy : FrameCopy). length copy.frame ≤ 70000) code.copies
   pub weight : code.weight ≡ network.weight model
+
+-- the clock's moment has come to each system
+abbrev pub IsCurrent : network.World → Type 0
+IsCurrent model = AllByRecursion (λ (system : SystemState). system.moment ≡ model.clock) model.systems
+
+-- between two moves it is one of the model, whose systems are at the clock's moment
+pub record Holds (code : NetworkState) (model : network.World) : Type 0 where
+  pub shows : Shows code model
+  pub current : IsCurrent model
+
+pub record Stands (code : WorldState) (model : network.World) : Type 0 where
+  pub not_spent : code.spent ≡ false
+  pub holds : Holds code.network model
 
 -- What is always so of a simulated network: while it isn't spent, it stands for one of the model.
 abbrev pub IsSound : WorldState → Type 0

@@ -3,7 +3,7 @@ use Rattle.std.specs.Prelude.{ℕ, List, Bool}
 use Rattle.end_system.specs.State.{HostState}
 use Rattle.clnp_world.specs.declared.copy.FrameCopy.{FrameCopy}
 
-pub record WorldState : Type 0 where
+pub record NetworkState : Type 0 where
   pub clock : ℕ
   -- in the order of the declarations
   pub hosts : List HostState
@@ -13,5 +13,8 @@ pub record WorldState : Type 0 where
   pub cursor : ℕ
   -- the octets of all copies, and 64 for each
   pub weight : ℕ
+
+pub record WorldState : Type 0 where
+  pub network : NetworkState
   -- memory was refused in a move
   pub spent : Bool

@@ -1,9 +1,10 @@
 //! The network that a caller moves: each move whole or not at all.
-ghost use Rattle.std.specs.Prelude.{◌≡◌, ◌+◌, ◌<◌, ◌≤◌, ◌^◌, ℕ, ◌++◌, IfErr, IfNone, IfOk, IfSome, OnOk, OnErr, IsErr, Some, length, slice_get, true};
+ghost use Rattle.std.specs.Prelude.{◌≡◌, ◌+◌, ◌<◌, ◌≤◌, ◌^◌, ℕ, ◌++◌, IfErr, IfNone, IfOk, IfSome, Err, OnOk, OnErr, Some, length, slice_get, true};
 ghost use Rattle.clnp_machine.specs.System.{SystemState};
 ghost use Rattle.clnp_network.specs.Run.{lines_text, world_end};
 ghost use Rattle.clnp_network.specs.World as network;
 ghost use Rattle.clnp_world.specs.Stands.{IsLeftBy, Stands, TellsFull};
+ghost use Rattle.clnp_world.specs.declared.world.WorldRefusal.TheVariants.{NoMemory as WantsMemory};
 ghost use Rattle.end_system.specs.Stands as end_system;
 
 use crate::network::Network;
@@ -33,6 +34,8 @@ pub enum WorldRefusal {
 pub struct World {
     network: Network,
     spent: bool,
+    /// The lines of the last move.
+    lines: Vec<u8>,
 }
 
 impl Model for World {
@@ -42,23 +45,11 @@ impl Model for World {
 
     ghost use Rattle.clnp_world.specs.Stands.{IsSound};
 
-    ghost view = { λ w. record {
-      clock = w.network.clock;
-      hosts = w.network.hosts.items;
-      copies = w.network.copies.items;
-      cursor = w.network.cursor;
-      weight = w.network.weight;
-      spent = w.spent;
-    } };
+    ghost use Rattle.clnp_world.specs.Parts.{state_of};
 
-    ghost invariant = { λ w. IsSound (record {
-      clock = w.network.clock;
-      hosts = w.network.hosts.items;
-      copies = w.network.copies.items;
-      cursor = w.network.cursor;
-      weight = w.network.weight;
-      spent = w.spent;
-    }) };
+    ghost view = { λ w. record { network = state_of w.network; spent = w.spent } };
+
+    ghost invariant = { λ w. IsSound (record { network = state_of w.network; spent = w.spent }) };
 }
 
 impl World {
@@ -74,6 +65,7 @@ impl World {
         Ok(World {
             network,
             spent: false,
+            lines: Vec::new(alloc),
         })
     }
 
@@ -90,7 +82,7 @@ impl World {
         mv: &Move,
         journal: &mut Vec<u8>,
     ) -> Result<(), WorldRefusal>
-        requires { self.old.clock + 1 < 2 ^ 62 }
+        requires { self.old.network.clock + 1 < 2 ^ 62 }
         // Whatever network of the model this one stands for, it stands for the one after the move.
         ensures stands { OnOk result ((model : network.World) → Stands self.old model
             → Stands self.new (network.after scenario.now model mv.now).world) }
@@ -99,7 +91,7 @@ impl World {
         ensures full { (model : network.World) → Stands self.old model → TellsFull model result }
         ensures same { OnErr result (journal.new.items ≡ journal.old.items) }
         ensures left { IfErr result (λ e. IsLeftBy e self.old self.new) }
-        ensures refused { self.old.spent ≡ true → IsErr result }
+        ensures refused { self.old.spent ≡ true → result ≡ Err WantsMemory }
     {
         if self.spent {
             return Err(WorldRefusal::NoMemory);
@@ -108,7 +100,7 @@ impl World {
         if octets >= MOST_WEIGHT {
             return Err(WorldRefusal::WorldFull { octets });
         }
-        match self.network.write_move(alloc, scenario, mv, journal) {
+        match self.network.write_move(alloc, scenario, mv, &mut self.lines, journal) {
             Ok(()) => Ok(()),
             Err(NoMemory) => {
                 self.spent = true;
@@ -119,7 +111,8 @@ impl World {
 
     /// The clock, in ticks of 500 ms.
     pub fn clock(&self) -> u64
-        ensures { (model : network.World) → Stands self.now model → result ≡ model.clock }
+        ensures clock { result ≡ self.now.network.clock }
+        ensures stands { (model : network.World) → Stands self.now model → result ≡ model.clock }
     {
         self.network.clock
     }
@@ -133,8 +126,8 @@ impl World {
 
     /// The host that was declared at a place, from 0.
     pub fn host(&self, at: usize) -> Option<&EndSystem>
-        ensures none { IfNone result (length self.now.hosts ≤ at) }
-        ensures host { IfSome result (λ host. slice_get self.now.hosts at ≡ Some host.now) }
+        ensures none { IfNone result (length self.now.network.hosts ≤ at) }
+        ensures host { IfSome result (λ host. slice_get self.now.network.hosts at ≡ Some host.now) }
         ensures stands { IfSome result (λ host. (model : network.World) → Stands self.now model
             → (system : SystemState) → slice_get model.systems at ≡ Some system → end_system.Stands host.now system) }
     {

@@ -4,11 +4,11 @@ use Rattle.reassembly.specs.State.{IsReady}
 use Rattle.clnp_plan.specs.declared.config.Role.TheVariants.{Host}
 use Rattle.clnp_machine.specs.System.{SystemState}
 use Rattle.local_entity.specs.Local.{Stands}
-use Rattle.local_entity.specs.declared.local.Local.{Local}
+use Rattle.local_entity.specs.State.{EntityState}
 
 pub record HostState : Type 0 where
   -- what it does at its own addresses
-  pub entity : Local
+  pub entity : EntityState
   pub moment : ℕ
   -- memory was refused in a step of it
   pub spent : Bool
@@ -18,7 +18,7 @@ pub record HostState : Type 0 where
 pub record IsSound (host : HostState) : Type 0 where
   pub state : SystemState
   pub stands : Stands host.entity state
-  pub role : host.entity.config.role ≡ Host
+  pub role : host.entity.configuration.role ≡ Host
   pub moment : host.moment < 2 ^ 62
   pub hold : 1 ≤ host.entity.table.limits.hold
   pub ready : host.spent ≡ false → IsReady host.moment host.entity.table

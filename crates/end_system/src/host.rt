@@ -2,39 +2,40 @@
 ghost use Rattle.std.specs.Prelude.{[], ◌∷◌, ◌++◌, List, ◌≡◌, ◌≤◌, ◌<◌, ◌+◌, ◌^◌, ℕ, IfErr, IfOk, OnOk, OnErr, IsErr, MatchResult, None, false, true, length};
 ghost use Rattle.clnp_options.specs.Grammar.{FitsKind};
 ghost use Rattle.clnp_options.specs.Parameter.{parameters};
+ghost use Rattle.clnp_options.specs.Reasons.{reason_code};
 ghost use Rattle.pdu_header.specs.Grammar.{BeginsWith};
 ghost use Rattle.pdu_header.specs.Value.{PduValue};
 ghost use Rattle.pdu_header.specs.declared.kind.Kind.TheVariants.{Dt};
 ghost use Rattle.reassembly.specs.Buffer.{held};
+ghost use Rattle.clnp_plan.specs.declared.ask.SendRefusal.TheVariants.{NoMemory as WantsMemory};
 ghost use Rattle.clnp_plan.specs.declared.config.Role.TheVariants.{Host};
+ghost use Rattle.clnp_plan.specs.declared.note.Note.TheVariants.{Discard};
 ghost use Rattle.clnp_machine.specs.System.{Content, IsCarried, SystemState, first_state, frame_of, next_number};
 ghost use Rattle.clnp_machine.specs.Local.{refusal, unit_of};
 ghost use Rattle.clnp_machine.specs.Host as machine;
+ghost use Rattle.clnp_machine.specs.Host.{frame_comes, other_note, packet_comes};
 ghost use Rattle.clnp_machine.specs.Unit.{IsCarriable, Packet, wire};
 ghost use Rattle.local_entity.specs.declared.action.Action.TheVariants.{Note as Noted};
 ghost use Rattle.local_entity.specs.Local as entity;
 ghost use Rattle.local_entity.specs.Local.{IsWhy};
-ghost use Rattle.end_system.specs.Deeds.{AppendsSome, LeavesSame, arrival_deed, has_address, note_of, packet_deed};
+ghost use Rattle.end_system.specs.Deeds.{AppendsSome, LeavesSame, note_of};
 ghost use Rattle.end_system.specs.Stands.{Appends, IsLeftBy, Stands};
 
 use clnp_base::NoMemory;
+use clnp_machine::laws;
+use clnp_options::Reason;
 use clnp_plan::{Ask, Limits, Note, Output, SendRefusal, SystemConfig};
 use clnp_views::Frame;
 use local_entity::{Action, Local};
 use nsap::{Address, Snpa, Target};
-use pdu_header::{Kind, Refusal, decode, laws};
+use pdu_header::{Kind, Refusal, decode};
 use std::alloc::Global;
 use std::marker::Model;
 
 mod sending;
-#[cfg(test)]
-mod tests;
 
-/// ISO 8473, section 7.9.5: the lifetime expired in transit.
-const LIFETIME_EXPIRED: u8 = 0xA0;
-
-/// ISO 8473, section 7.9.5: the reason isn't specified.
-const NOT_SPECIFIED: u8 = 0x00;
+/// ISO 9542, section 7.2.2: the first octet of its PDUs.
+const ES_IS: u8 = 0x82;
 
 /// A host. Its moment is that of its last `tick`, or of its start.
 ///
@@ -75,7 +76,8 @@ impl EndSystem {
         requires hold { 1 ≤ limits.now.hold }
         requires moment { now < 2 ^ 62 }
         requires quiet { quiet ≤ 2 ^ 62 + 16384 }
-        ensures { IfOk result (λ host. (place : ℕ) → Stands host (first_state place config.now limits.now now quiet)) }
+        ensures stands { IfOk result (λ host. (place : ℕ) → Stands host (first_state place config.now limits.now now quiet)) }
+        ensures moment { IfOk result (λ host. host.moment ≡ now) }
     {
         let entity = Local::new(alloc, config, limits, quiet)?;
         Ok(EndSystem {
@@ -96,10 +98,11 @@ impl EndSystem {
         ensures stands { OnOk result ((s : SystemState) → Stands self.old s → Stands self.new (machine.tick s now).after) }
         ensures outputs { OnOk result ((s : SystemState) → Stands self.old s
             → Appends now out.old.items out.new.items (machine.tick s now).outputs) }
+        ensures moment { OnOk result (self.new.moment ≡ now) }
         ensures none { OnErr result (out.new.items ≡ out.old.items) }
         ensures spent { OnErr result (self.new.spent ≡ true) }
         ensures refused { self.old.spent ≡ true → IsErr result }
-        ensures config { self.new.entity.config ≡ self.old.entity.config }
+        ensures config { self.new.entity.configuration ≡ self.old.entity.configuration }
     {
         if self.spent {
             return Err(NoMemory);
@@ -137,7 +140,7 @@ impl EndSystem {
         ensures none { OnErr result (out.new.items ≡ out.old.items) }
         ensures spent { OnErr result (self.new.spent ≡ true) }
         ensures refused { self.old.spent ≡ true → IsErr result }
-        ensures config { self.new.entity.config ≡ self.old.entity.config }
+        ensures config { self.new.entity.configuration ≡ self.old.entity.configuration }
     {
         if self.spent {
             return Err(NoMemory);
@@ -178,8 +181,8 @@ impl EndSystem {
             → Appends self.old.moment out.old.items out.new.items (machine.send s from to body.now ask.now).outputs) }
         ensures none { OnErr result (out.new.items ≡ out.old.items) }
         ensures left { IfErr result (λ e. IsLeftBy e self.old self.new) }
-        ensures refused { self.old.spent ≡ true → IsErr result }
-        ensures config { self.new.entity.config ≡ self.old.entity.config }
+        ensures refused { self.old.spent ≡ true → result ≡ Err WantsMemory }
+        ensures config { self.new.entity.configuration ≡ self.old.entity.configuration }
     {
         if self.spent {
             return Err(SendRefusal::NoMemory);
@@ -198,7 +201,7 @@ impl EndSystem {
     pub fn restart(&mut self)
         ensures stands { (s : SystemState) → Stands self.old s → Stands self.new (machine.restart s).after }
         ensures spent { self.new.spent ≡ self.old.spent }
-        ensures config { self.new.entity.config ≡ self.old.entity.config }
+        ensures config { self.new.entity.configuration ≡ self.old.entity.configuration }
     {
         self.entity.restart(self.moment);
     }
@@ -219,7 +222,7 @@ impl EndSystem {
 
     /// What the scenario says of it.
     pub fn config(&self) -> &SystemConfig
-        ensures config { result.now ≡ self.now.entity.config }
+        ensures config { result.now ≡ self.now.entity.configuration }
         ensures role { result.now.role ≡ Host }
     {
         self.entity.config()
@@ -232,9 +235,11 @@ impl EndSystem {
         ensures stands { OnOk result ((s : SystemState) → Stands self.old s → Stands self.new (machine.tick s now).after) }
         ensures outputs { OnOk result ((s : SystemState) → Stands self.old s
             → Appends now out.old.items out.new.items (machine.tick s now).outputs) }
+        ensures moment { OnOk result (self.new.moment ≡ now) }
         ensures none { OnErr result (out.new.items ≡ out.old.items) }
-        ensures config { self.new.entity.config ≡ self.old.entity.config }
+        ensures config { self.new.entity.configuration ≡ self.old.entity.configuration }
     {
+        laws::a_deed_is_of_its_moment();
         let mut actions = Vec::new(alloc);
         self.entity.tick(alloc, now, &mut actions)?;
         self.moment = now;
@@ -255,8 +260,9 @@ impl EndSystem {
         ensures outputs { OnOk result ((s : SystemState) (content : Content) → Stands self.old s → IsCarried content
             → frame_of content ≡ frame.now → Appends self.old.moment out.old.items out.new.items (machine.arrive s content).outputs) }
         ensures none { OnErr result (out.new.items ≡ out.old.items) }
-        ensures config { self.new.entity.config ≡ self.old.entity.config }
+        ensures config { self.new.entity.configuration ≡ self.old.entity.configuration }
     {
+        laws::a_deed_is_of_its_moment();
         let mut actions = Vec::new(alloc);
         self.arrive(alloc, frame, &mut actions)?;
         self.give_out(alloc, actions, out)
@@ -272,17 +278,18 @@ impl EndSystem {
         requires spent { self.old.spent ≡ false }
         requires few { length frame.now ≤ 70000 }
         ensures stands { OnOk result ((s : SystemState) (content : Content) → Stands self.old s → IsCarried content
-            → frame_of content ≡ frame.now → Stands self.new (arrival_deed s content).after) }
+            → frame_of content ≡ frame.now → Stands self.new (frame_comes s content).after) }
         ensures actions { OnOk result ((s : SystemState) (content : Content) → Stands self.old s → IsCarried content
-            → frame_of content ≡ frame.now → entity.Appends actions.old.items actions.new.items (arrival_deed s content).actions) }
+            → frame_of content ≡ frame.now → entity.Appends actions.old.items actions.new.items (frame_comes s content).actions) }
         ensures done { OnOk result (AppendsSome actions.old.items actions.new.items) }
         ensures moment { self.new.moment ≡ self.old.moment }
-        ensures config { self.new.entity.config ≡ self.old.entity.config }
+        ensures config { self.new.entity.configuration ≡ self.old.entity.configuration }
     {
-        laws::one_value();
-        match decode(frame.bytes()) {
+        laws::a_frame_carries_one_packet();
+        let octets = frame.bytes();
+        match decode(octets) {
             Ok(pdu) => self.receive(alloc, pdu.life, pdu.to, frame, actions),
-            Err(refusal) => note(refused(refusal), actions),
+            Err(refusal) => note(refused(octets, refusal), actions),
         }
     }
 
@@ -301,26 +308,21 @@ impl EndSystem {
         requires pdu { (v : PduValue) × (rest : List ℕ) × BeginsWith frame.now v rest × (v.lifetime ≡ life) }
         ensures stands { OnOk result ((s : SystemState) (p : Packet) (following : List ℕ) → Stands self.old s → IsCarriable p
             → frame.now ≡ wire p ++ following → p.lifetime ≡ life → p.unit.destination ≡ to
-            → Stands self.new (packet_deed s p following).after) }
+            → Stands self.new (packet_comes s p following).after) }
         ensures actions { OnOk result ((s : SystemState) (p : Packet) (following : List ℕ) → Stands self.old s → IsCarriable p
             → frame.now ≡ wire p ++ following → p.lifetime ≡ life → p.unit.destination ≡ to
-            → entity.Appends actions.old.items actions.new.items (packet_deed s p following).actions) }
+            → entity.Appends actions.old.items actions.new.items (packet_comes s p following).actions) }
         ensures done { OnOk result (AppendsSome actions.old.items actions.new.items) }
         ensures moment { self.new.moment ≡ self.old.moment }
-        ensures config { self.new.entity.config ≡ self.old.entity.config }
+        ensures config { self.new.entity.configuration ≡ self.old.entity.configuration }
     {
         if life == 0 {
-            return note(
-                Note::Discard {
-                    reason: LIFETIME_EXPIRED,
-                    place: 0,
-                },
-                actions,
-            );
+            return note(discarded(Reason::LifetimeExpiredInTransit), actions);
         }
-        if !self.is_own(&to) {
+        if !self.entity.is_own(&to) {
             return note(Note::NotMine { to }, actions);
         }
+        laws::a_deed_is_of_its_moment();
         self.entity.receive(alloc, self.moment, frame, actions)
     }
 
@@ -344,12 +346,13 @@ impl EndSystem {
             → Appends self.old.moment out.old.items out.new.items (machine.send s from to body.now ask.now).outputs) }
         ensures none { OnErr result (out.new.items ≡ out.old.items) }
         ensures left { IfErr result (λ e. LeavesSame e self.old self.new) }
-        ensures config { self.new.entity.config ≡ self.old.entity.config }
+        ensures config { self.new.entity.configuration ≡ self.old.entity.configuration }
     {
         let Ok(frame) = Frame::copy(alloc, body) else {
             return Err(SendRefusal::NoMemory);
         };
         let body = frame.into_view();
+        laws::a_deed_is_of_its_moment();
         let mut actions = Vec::new(alloc);
         let unit = self.entity.make(
             alloc,
@@ -366,30 +369,37 @@ impl EndSystem {
             Err(NoMemory) => Err(SendRefusal::NoMemory),
         }
     }
-
-    /// Whether an address is the host's.
-    fn is_own(&self, address: &Address) -> bool
-        ensures { result ≡ has_address self.now.entity.config address.now }
-    {
-        let config = self.entity.config();
-        config.addresses().iter().any(|own| own == address)
-    }
 }
 
 /// What is noted of a frame that is no PDU.
-fn refused(refusal: Refusal) -> Note
-    ensures { result ≡ note_of refusal }
+fn refused(frame: &[u8], refusal: Refusal) -> Note
+    ensures { result ≡ note_of frame.now refusal }
 {
     match refusal {
-        Refusal::NotClnp => Note::Discard {
-            reason: NOT_SPECIFIED,
-            place: 0,
-        },
+        Refusal::NotClnp => other(frame),
         Refusal::Broken(broken) => Note::Discard {
             reason: broken.reason,
             place: broken.place,
         },
     }
+}
+
+/// What is noted of a frame that doesn't begin as a CLNP PDU.
+fn other(frame: &[u8]) -> Note
+    ensures { result ≡ other_note frame.now }
+{
+    if frame.is_empty() || frame[0] != ES_IS {
+        return Note::Alien;
+    }
+    discarded(Reason::NotSpecified)
+}
+
+/// What is noted of what is discarded for a reason, for which no place in it is told.
+fn discarded(reason: Reason) -> Note
+    ensures { result ≡ Discard (reason_code reason) 0 }
+{
+    let reason = reason.code();
+    Note::Discard { reason, place: 0 }
 }
 
 /// Something is noted.

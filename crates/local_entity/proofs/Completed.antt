@@ -1,6 +1,6 @@
 -- The buffer that a segment makes whole.
 use Rattle.std.proofs.Common.{◌≡◌, ℕ, Bool, true, false, not, ◌&&◌, ◌==◌, List, [], ◌∷◌, ◌++◌, Option, Some, None, refl, sym, ap, ◌∙◌, subst, inl, inr, arith}
-use Rattle.std.proofs.lemmas.Bool.{cases_Bool, eqb-true}
+use Rattle.std.proofs.lemmas.Bool.{and_parts, cases_Bool, eqb-true, not-false}
 use Rattle.clnp_views.specs.Extent.{Extent}
 use Rattle.reassembly.specs.declared.segment.Key.{Key}
 use Rattle.reassembly.specs.declared.segment.Shape.{Shape}
@@ -8,22 +8,13 @@ use Rattle.reassembly.specs.declared.table.TableLimits.{TableLimits}
 use Rattle.reassembly.specs.Arrival.{Arrival, data_len, same_key, same_shape}
 use Rattle.reassembly.specs.Buffer.{Answer, Buffer, Whole, after, answer, answer_of, buffer_of, clashes, is_whole, refusal, with_kept}
 use Rattle.reassembly.specs.State.{IsWholeSlot, Names, Stands, TableState}
-use Rattle.reassembly.proofs.Keys.{same_key-like, same_key-true}
-use Rattle.reassembly.proofs.LawKept.{if_none}
-use Rattle.reassembly.proofs.Ready.{made_whole, refusal_not_whole}
-
-both_hold : (a b : Bool) → (a && b) ≡ true → (a ≡ true) × (b ≡ true)
-both_hold true b e = (refl, e)
-both_hold false b e = absurd (cc)
-
-not_false : (b : Bool) → not b ≡ false → b ≡ true
-not_false true e = refl
-not_false false e = absurd (cc)
+use Rattle.reassembly.proofs.Shared.{made_whole, refusal_not_whole, same_key-like, same_key-true}
+use Rattle.clnp_base.proofs.Choices.{if_none}
 
 same_data_len : (a b : Shape) → same_shape a b ≡ true → data_len a ≡ data_len b
 same_data_len a b same =
-    let total = both_hold (a.total == b.total) ((a.head_len == b.head_len) && (a.kind == b.kind)) same in
-    let head = both_hold (a.head_len == b.head_len) (a.kind == b.kind) total.1 in
+    let total = and_parts (a.total == b.total) ((a.head_len == b.head_len) && (a.kind == b.kind)) same in
+    let head = and_parts (a.head_len == b.head_len) (a.kind == b.kind) total.1 in
     let t = eqb-true a.total b.total total.0 in
     let h = eqb-true a.head_len b.head_len head.0 in
     omega arith
@@ -52,7 +43,7 @@ module _ {C : Type 0} where
       elim (cases_Bool (same_key first.key arrival.key)) [
         | inl same ↦ (let e = same_buffer (record first { kept = first.kept ++ arrival ∷ [] }) buffer (rw same at (rw same at found)) in
             ap (λ (b : Buffer C). data_len b.shape) (sym e)
-            ∙ same_data_len first.shape arrival.shape (not_false (same_shape first.shape arrival.shape) (rw same at fits)))
+            ∙ same_data_len first.shape arrival.shape (not-false (same_shape first.shape arrival.shape) (rw same at fits)))
         | inr other ↦ data_len-with limits now arrival others buffer (rw other at fits) (rw other at (rw other at found))
       ]
 

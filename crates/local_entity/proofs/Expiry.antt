@@ -9,7 +9,7 @@ use Rattle.reassembly.specs.Buffer.{Buffer, due, first_carried, without, without
 use Rattle.reassembly.specs.Mapped.{map_buffer, map_buffers}
 use Rattle.reassembly.specs.State as table
 use Rattle.reassembly.specs.State.{TableState}
-use Rattle.reassembly.proofs.Mapped.{first_carried-mapped}
+use Rattle.reassembly.proofs.Shared.{first_carried-mapped}
 use Rattle.clnp_plan.specs.declared.note.Note.TheVariants.{Discard, Expired as Ended}
 use Rattle.clnp_machine.specs.Unit.{Packet, wire}
 use Rattle.clnp_machine.specs.System.{SystemState}
@@ -17,7 +17,7 @@ use Rattle.clnp_machine.specs.Local as machine
 use Rattle.clnp_machine.specs.Local.{Deed, and_then, at_moment, discards_first, expire, give_up_due, gives_up, tells}
 use Rattle.local_entity.specs.declared.action.Action.{Action}
 use Rattle.local_entity.specs.declared.action.Action.TheVariants.{Note as Noted}
-use Rattle.local_entity.specs.declared.local.Local.{Local}
+use Rattle.local_entity.specs.State.{EntityState}
 use Rattle.local_entity.specs.Local.{Appends, DoAll, IsAsOffered, Stands}
 use Rattle.local_entity.proofs.Offering.{stands_with}
 use Rattle.local_entity.proofs.Offers.{all_without}
@@ -84,7 +84,7 @@ both_none None None same e = refl
 both_none None (Some other) same e = absurd (cc)
 both_none (Some ended) other same e = absurd (cc)
 
-module _ (local : Local) (now : ℕ) (s : SystemState) (stands : Stands local s) (moment : s.moment ≡ now) where
+module _ (local : EntityState) (now : ℕ) (s : SystemState) (stands : Stands local s) (moment : s.moment ≡ now) where
   same_due : option_map (map_buffer seen) (due now stands.buffers) ≡ option_map (map_buffer wire) (due s.moment s.buffers)
   same_due =
       due_shown stands.buffers s.buffers stands.shown now

@@ -2,16 +2,16 @@
 use Rattle.std.proofs.Common.{◌≡◌, ℕ, Bool, false, ◌+◌, ◌-◌, ◌<◌, ◌≤◌, true, List, [], ◌∷◌, ◌++◌, length, take, drop, refl, sym, ap, ◌∙◌, inl, inr, arith, nat_le, nat_lt, ◌&&◌}
 use Rattle.std.specs.Prelude.{slice_index}
 use Rattle.std.specs.List.{AllByRecursion, range_with_len}
-use Rattle.std.proofs.lemmas.Bool.{cases_Bool, leb-true, ltb-true}
-use Rattle.std.proofs.lemmas.List.{get_or-append_right, get_or-take, get_or-drop}
+use Rattle.std.proofs.lemmas.Bool.{and_parts, cases_Bool, leb-true, ltb-true}
+use Rattle.clnp_base.proofs.Lists.{get_or-behind_part}
+use Rattle.clnp_base.proofs.Maps.{map-agree}
 use Rattle.pdu_header.specs.Spelling.{header, header_length}
 use Rattle.pdu_header.proofs.Written.{length-header}
 use Rattle.clnp_views.specs.Extent.{Extent, seen}
 use Rattle.reassembly.specs.Arrival.{Arrival, data_len, earliest, has, octet_in}
 use Rattle.reassembly.specs.Buffer.{Buffer, data_of, octet_by}
 use Rattle.reassembly.specs.Mapped.{map_arrival, map_buffer}
-use Rattle.reassembly.proofs.LawCovered.{map_agree}
-use Rattle.reassembly.proofs.Mapped.{data_of-mapped}
+use Rattle.reassembly.proofs.Shared.{data_of-mapped}
 use Rattle.clnp_machine.specs.Unit.{Packet, value_of, wire, IsCarriable}
 use Rattle.clnp_machine.specs.Local.{octet_of, offered}
 use Rattle.local_entity.specs.Local.{IsAsOffered}
@@ -20,26 +20,12 @@ use Rattle.local_entity.specs.Local.{IsAsOffered}
 abbrev pub octet_at : Arrival (List ℕ) → ℕ → ℕ
 octet_at arrival place = slice_index arrival.carried (arrival.shape.head_len + (place - arrival.offset))
 
--- what stands behind a head in a part of some octets
-in_part : (head octets : List ℕ) (n from len i place : ℕ) → length head ≡ n → i < len → from + i ≡ place
-    → slice_index (head ++ take len (drop from octets)) (n + i) ≡ slice_index octets place
-in_part head octets n from len i place e within at =
-    get_or-append_right head (take len (drop from octets)) n (n + i) 0 e (omega arith)
-    ∙ ap (λ (k : ℕ). slice_index (take len (drop from octets)) k) (let k : n + i - n ≡ i = omega arith in k)
-    ∙ get_or-take len (drop from octets) i 0 within
-    ∙ get_or-drop from octets i 0
-    ∙ ap (slice_index octets) at
-
 -- a packet's PDU has the unit's octet behind its header
 in_packet : (p : Packet) (following : List ℕ) (place : ℕ) → IsCarriable p → p.offset ≤ place → place < p.offset + p.length
     → octet_at (map_arrival wire (offered p following)) place ≡ octet_of (offered p following) place
 in_packet p following place carriable from to =
-    in_part (header (value_of p)) p.unit.octets (header_length (value_of p)) (p.offset - p.unit.first_position) p.length (place - p.offset)
-    (place - p.unit.first_position) (length-header (value_of p)) (omega arith) (let f = carriable.from in omega arith)
-
-both_hold : (a b : Bool) → (a && b) ≡ true → (a ≡ true) × (b ≡ true)
-both_hold true b e = (refl, e)
-both_hold false b e = absurd (cc)
+    get_or-behind_part (header (value_of p)) p.unit.octets (header_length (value_of p)) (p.offset - p.unit.first_position) p.length (place - p.offset)
+    (place - p.unit.first_position) 0 (length-header (value_of p)) (omega arith) (let f = carriable.from in omega arith)
 
 in_offered : (arrival : Arrival Packet) (place : ℕ) → IsAsOffered arrival → has place arrival ≡ true
     → octet_at (map_arrival wire arrival) place ≡ octet_of arrival place
@@ -47,7 +33,7 @@ in_offered arrival place offers there =
     let p = arrival.carried in
     let e = offers.is_offered in
     let there_is : has place (offered p offers.following) ≡ true = ap (has place) (sym e) ∙ there in
-    let both = both_hold (nat_le p.offset place) (nat_lt place (p.offset + p.length)) there_is in
+    let both = and_parts (nat_le p.offset place) (nat_lt place (p.offset + p.length)) there_is in
     ap (λ (a : Arrival Packet). octet_at (map_arrival wire a) place) e
     ∙ in_packet p offers.following place offers.carriable (leb-true p.offset place both.0) (ltb-true place (p.offset + p.length) both.1)
     ∙ ap (λ (a : Arrival Packet). octet_of a place) (sym e)
@@ -69,6 +55,6 @@ data_shown buffer other same all =
     sym (data_of-mapped seen octet_in octet_at buffer (λ a place. refl))
     ∙ ap (data_of octet_at) same
     ∙ data_of-mapped wire (λ (a : Arrival Packet) (k : ℕ). octet_at (map_arrival wire a) k) octet_at other (λ a place. refl)
-    ∙ map_agree (λ (place : ℕ). octet_by (λ (a : Arrival Packet) (k : ℕ). octet_at (map_arrival wire a) k) place (earliest other.kept place))
+    ∙ map-agree (λ (place : ℕ). octet_by (λ (a : Arrival Packet) (k : ℕ). octet_at (map_arrival wire a) k) place (earliest other.kept place))
     (λ (place : ℕ). octet_by octet_of place (earliest other.kept place)) (range_with_len 0 (data_len other.shape))
     (λ place. in_earliest other.kept place all)

@@ -1,4 +1,3 @@
-pub mod Places
 pub mod Uses
 pub mod Pools
 pub mod Rest
@@ -6,11 +5,9 @@ pub mod Held
 pub mod Parts
 pub mod Refusals
 pub mod Making
-pub mod Accepted
 pub mod Shown
 pub mod Offers
 pub mod Joined
-pub mod Keeping
 pub mod Completed
 pub mod Offering
 pub mod Receiving

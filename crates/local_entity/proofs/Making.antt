@@ -7,11 +7,10 @@ use Rattle.clnp_machine.specs.Unit.{Unit, value_of, whole_packet}
 use Rattle.clnp_machine.specs.System.{SystemState}
 use Rattle.clnp_machine.specs.Local.{Deed, makes, sent_note, unless_refused, with_use}
 use Rattle.local_entity.specs.Pool as pool
-use Rattle.local_entity.specs.State.{PoolState}
 use Rattle.local_entity.specs.declared.action.Action.{Action}
 use Rattle.local_entity.specs.declared.action.Action.TheVariants.{Send, Note as Noted}
 use Rattle.local_entity.specs.declared.action.Made.{Made}
-use Rattle.local_entity.specs.declared.local.Local.{Local}
+use Rattle.local_entity.specs.State.{EntityState, PoolState}
 use Rattle.local_entity.specs.Local.{Appends, Stands}
 
 -- a unit that isn't refused is made
@@ -19,11 +18,11 @@ made : (refused : Option Note) (s : SystemState) (u : Unit) → refused ≡ None
 made refused s u none = sym (ap (λ (r : Option Note). unless_refused r s u) none)
 
 -- an entity with one more unit stands for the system that made it
-pub stands_making : (local : Local) (used : PoolState) (units : ℕ) (s : SystemState) (u : Unit) (refused : Option Note) → refused ≡ None
+pub stands_making : (local : EntityState) (used : PoolState) (units : ℕ) (s : SystemState) (u : Unit) (refused : Option Note) → refused ≡ None
     → Stands local s → pool.Stands used (with_use s u.identifier) → units ≡ u.number
-    → Stands (record local { pool = used; units = units }) (unless_refused refused s u).after
+    → Stands (record local { identifiers = used; count = units }) (unless_refused refused s u).after
 stands_making local used units s u refused none stands uses number =
-    subst (λ (d : Deed). Stands (record local { pool = used; units = units }) d.after) (made refused s u none)
+    subst (λ (d : Deed). Stands (record local { identifiers = used; count = units }) d.after) (made refused s u none)
     record {
       configuration = stands.configuration;
       limits = stands.limits;

@@ -7,6 +7,7 @@ use Rattle.reassembly.specs.declared.segment.Key.{Key}
 use Rattle.reassembly.specs.declared.segment.Segment.{Segment}
 use Rattle.reassembly.specs.declared.table.Accept.{Accept}
 use Rattle.reassembly.specs.declared.table.Accept.TheVariants as accept
+use Rattle.reassembly.specs.declared.table.SlotNo.{SlotNo}
 use Rattle.reassembly.specs.declared.table.TableLimits.{TableLimits}
 use Rattle.reassembly.specs.Arrival.{Arrival, arrival_of, octet_in}
 use Rattle.reassembly.specs.Buffer as buffer
@@ -14,7 +15,7 @@ use Rattle.reassembly.specs.Buffer.{Answer, Buffer, after, answer, buffer_of, da
 use Rattle.reassembly.specs.Mapped.{map_buffer}
 use Rattle.reassembly.specs.State as table
 use Rattle.reassembly.specs.State.{IsReady, TableState, said, was_kept}
-use Rattle.reassembly.proofs.Ready.{none_whole-after}
+use Rattle.reassembly.proofs.Shared.{none_due-after, none_due-without, none_whole-after, none_whole-released}
 use Rattle.clnp_plan.specs.declared.note.Note.TheVariants.{Got}
 use Rattle.clnp_machine.specs.Unit.{Packet, wire}
 use Rattle.clnp_machine.specs.System.{SystemState, table_limits}
@@ -22,16 +23,15 @@ use Rattle.clnp_machine.specs.Local as machine
 use Rattle.clnp_machine.specs.Local.{data_in, octet_of, offer, takes_in}
 use Rattle.local_entity.specs.declared.action.Action.{Action}
 use Rattle.local_entity.specs.declared.action.Action.TheVariants.{Note as Noted}
-use Rattle.local_entity.specs.declared.local.Local.{Local}
+use Rattle.local_entity.specs.State.{EntityState}
 use Rattle.local_entity.specs.Local.{Appends, IsAsOffered, Stands}
 use Rattle.local_entity.specs.Receipt.{IsShown}
 use Rattle.local_entity.proofs.Joined.{data_shown}
-use Rattle.local_entity.proofs.Keeping.{none_due-after, none_due-without, none_whole-without}
 use Rattle.local_entity.proofs.Offers.{AllKept, all_after, all_found, all_without}
 use Rattle.local_entity.proofs.Shown.{Show, after_shown, answer_shown, buffer_of_shown, held_shown, without_shown}
 
 -- the entity with another table stands for the system with other buffers
-pub stands_with : (local : Local) (later : TableState) (s : SystemState) → Stands local s → later.limits ≡ local.table.limits
+pub stands_with : (local : EntityState) (later : TableState) (s : SystemState) → Stands local s → later.limits ≡ local.table.limits
     → (buffers : List (Buffer Extent)) (others : List (Buffer Packet)) → table.Stands later buffers → Show buffers others → AllKept IsAsOffered others
     → Stands (record local { table = later }) (record s { buffers = others })
 stands_with local later s stands limits buffers others table_stands shown all = record {
@@ -45,7 +45,7 @@ stands_with local later s stands limits buffers others table_stands shown all = 
   packets = all;
 }
 
-module _ (local : Local) (now : ℕ) (segment : Segment) (s : SystemState) (arrival : Arrival Packet)
+module _ (local : EntityState) (now : ℕ) (segment : Segment) (s : SystemState) (arrival : Arrival Packet)
     (stands : Stands local s) (moment : s.moment ≡ now) (shows : IsShown segment arrival) where
   -- the buffers once the segment was kept, in the code and in the model
   abbrev pub later : List (Buffer Extent)
@@ -164,6 +164,16 @@ whole_ready table_before table_later now segment ready hold alive whole stands =
   ready = record {
     none_due = none_due-without now segment.key (after table_before.limits now (arrival_of segment) ready.buffers)
         (none_due-after table_before.limits now (arrival_of segment) hold alive ready.buffers ready.ready.none_due);
-    none_whole = none_whole-without table_before.limits now (arrival_of segment) ready.buffers ready.ready.none_whole whole;
+    none_whole = none_whole-released table_before.limits now (arrival_of segment) ready.buffers ready.ready.none_whole whole;
   };
 }
+
+-- an answer that gives no slot doesn't say that a buffer is whole
+pub said_not_whole : (told : Accept) → ((slot : SlotNo) → told ≡ accept.Whole slot → ⊥) → said told ≡ buffer.Whole → ⊥
+said_not_whole accept.Held not e = cc
+said_not_whole accept.Repeat not e = cc
+said_not_whole (accept.Whole slot) not e = not slot refl
+said_not_whole (accept.Interference kept offered) not e = cc
+said_not_whole (accept.NoSlot live) not e = cc
+said_not_whole (accept.Crowded held size) not e = cc
+said_not_whole (accept.Many kept) not e = cc

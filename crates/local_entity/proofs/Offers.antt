@@ -6,7 +6,8 @@ use Rattle.reassembly.specs.declared.segment.Key.{Key}
 use Rattle.reassembly.specs.declared.table.TableLimits.{TableLimits}
 use Rattle.reassembly.specs.Arrival.{Arrival, same_key}
 use Rattle.reassembly.specs.Buffer.{Answer, Buffer, after, buffer_of, buffers_of, refusal, with_kept, without}
-use Rattle.reassembly.proofs.Removing.{AllByRecursion-filter, AllByRecursion-find}
+use Rattle.clnp_base.proofs.Filters.{AllByRecursion-filter}
+use Rattle.clnp_base.proofs.Lists.{AllByRecursion-find}
 
 module _ {C : Type 0} (P : Arrival C → Type 0) where
   -- each kept segment is so

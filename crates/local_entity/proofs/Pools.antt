@@ -5,7 +5,7 @@ use Rattle.std.proofs.lemmas.Option.{slice_get_within}
 use Rattle.clnp_machine.specs.Identifiers.{Use, Identifiers, last_use, next, after_use}
 use Rattle.local_entity.specs.State.{PoolState}
 use Rattle.local_entity.specs.Pool.{Stands}
-use Rattle.local_entity.proofs.Places.{set_there, set_elsewhere, push_there, push_elsewhere, is_there}
+use Rattle.clnp_base.proofs.Lists.{slice_get-set, slice_get-set_other, slice_get-push, slice_get-push_other, slice_get_some}
 use Rattle.local_entity.proofs.Uses.{last_use_there, last_use_elsewhere, has_last_use}
 
 -- the uses went round
@@ -16,10 +16,10 @@ pub went_round-push : (uses : List Use) (latest : Use) → WentRound uses → la
 went_round-push uses latest before here i given there =
     elim (eqb_tells (length uses) i) [
       | inl same ↦
-          let is_latest : Some latest ≡ Some given = sym (push_there uses i latest same.1) ∙ there in
+          let is_latest : Some latest ≡ Some given = sym (slice_get-push uses i latest same.1) ∙ there in
           let e : latest ≡ given = cc in
           sym (ap (λ (g : Use). g.identifier) e) ∙ here ∙ ap (λ n. n % 2 ^ 16) same.1
-      | inr other ↦ before i given (sym (push_elsewhere uses i latest other.1) ∙ there)
+      | inr other ↦ before i given (sym (slice_get-push_other uses i latest other.1) ∙ there)
     ]
 
 -- the moments are those of the last uses
@@ -29,7 +29,7 @@ KeepsLast moments uses = (identifier : ℕ) → slice_get moments identifier ≡
 -- each identifier that was used has a moment
 pub has_moment : (moments : List ℕ) (uses : List Use) → WentRound uses → KeepsLast moments uses → (i : ℕ) → i < length uses → i % 2 ^ 16 < length moments
 has_moment moments uses round last i within =
-    let (given, there) = is_there uses i within in
+    let (given, there) = slice_get_some uses i within in
     let (moment, found) = has_last_use uses i given there in
     let is_last : slice_get moments given.identifier ≡ Some moment = last given.identifier ∙ found in
     let below : given.identifier < length moments = slice_get_within moments given.identifier moment is_last in
@@ -53,16 +53,16 @@ keeps_last-set moments uses latest last within i =
     elim (eqb_tells latest.identifier i) [
       | inl same ↦
           let P : ℕ → Type 0 = λ n. slice_get (slice_set moments latest.identifier latest.moment) n ≡ Some latest.moment in
-          subst P same.1 (set_there moments latest.identifier latest.moment within) ∙ sym (last_use_there i uses latest same.1)
-      | inr other ↦ set_elsewhere moments latest.identifier i latest.moment other.1 ∙ last i ∙ sym (last_use_elsewhere i uses latest other.1)
+          subst P same.1 (slice_get-set moments latest.identifier latest.moment within) ∙ sym (last_use_there i uses latest same.1)
+      | inr other ↦ slice_get-set_other moments latest.identifier i latest.moment other.1 ∙ last i ∙ sym (last_use_elsewhere i uses latest other.1)
     ]
 
 pub keeps_last-push : (moments : List ℕ) (uses : List Use) (latest : Use) → KeepsLast moments uses → length moments ≡ latest.identifier
     → KeepsLast (moments ++ latest.moment ∷ []) (uses ++ latest ∷ [])
 keeps_last-push moments uses latest last here i =
     elim (eqb_tells latest.identifier i) [
-      | inl same ↦ push_there moments i latest.moment (here ∙ same.1) ∙ sym (last_use_there i uses latest same.1)
-      | inr other ↦ push_elsewhere moments i latest.moment (λ e. other.1 (sym here ∙ e)) ∙ last i ∙ sym (last_use_elsewhere i uses latest other.1)
+      | inl same ↦ slice_get-push moments i latest.moment (here ∙ same.1) ∙ sym (last_use_there i uses latest same.1)
+      | inr other ↦ slice_get-push_other moments i latest.moment (λ e. other.1 (sym here ∙ e)) ∙ last i ∙ sym (last_use_elsewhere i uses latest other.1)
     ]
 
 pub next-push : (uses : List Use) (latest : Use) (n : ℕ) → n ≡ length uses % 2 ^ 16 → (n + 1) % 2 ^ 16 ≡ length (uses ++ latest ∷ []) % 2 ^ 16

@@ -2,7 +2,7 @@
 use Rattle.std.proofs.Common.{◌≡◌, ℕ, zero, suc, ◌+◌, ◌-◌, ◌<◌, ◌≤◌, Bool, true, false, not, ◌&&◌, ◌||◌, cond, List, [], ◌∷◌, ◌++◌, Option, Some, None, length, take, drop, refl, sym, ap, ◌∙◌, subst, inl, inr, arith, length-append, length-drop}
 use Rattle.std.specs.Prelude.{◌==◌, is_none, nat_lt, option_map}
 use Rattle.std.proofs.lemmas.Bool.{cases_Bool, ltb-false, ltb-true}
-use Rattle.std.proofs.lemmas.List.{length-take-le}
+use Rattle.std.proofs.lemmas.List.{length-take-le, take_at}
 use Rattle.clnp_views.specs.Extent.{seen}
 use Rattle.pdu_header.specs.declared.pdu.Pdu.{Pdu}
 use Rattle.pdu_header.specs.declared.pdu.SegPart.{SegPart}
@@ -16,20 +16,16 @@ use Rattle.reassembly.specs.Mapped.{map_arrival}
 use Rattle.reassembly.specs.Offered.{MayCome}
 use Rattle.clnp_plan.specs.declared.note.Note.TheVariants.{Got}
 use Rattle.clnp_machine.specs.Unit.{Packet, IsCarriable, value_of, wire}
+use Rattle.clnp_machine.specs.Steps.{CarriesOnePacket}
 use Rattle.clnp_machine.specs.System.{SystemState}
 use Rattle.clnp_machine.specs.Local.{Tells, identifier_in, is_all, offer, offered, receive, tells}
 use Rattle.local_entity.specs.Receipt.{IsShown, segment_in, segment_part}
 
--- a frame has one PDU at most
-abbrev pub OneValue : Type 0
-OneValue = (frame : List ℕ) (v w : PduValue) (rest others : List ℕ) → BeginsWith frame v rest → BeginsWith frame w others → (v ≡ w) × (rest ≡ others)
-
 -- the PDU at the front of a frame is that of the packet with whose octets the frame begins
-pub value_is : OneValue → (frame : List ℕ) (v : PduValue) (rest : List ℕ) → BeginsWith frame v rest → (p : Packet) (following : List ℕ) → IsCarriable p
+pub value_is : CarriesOnePacket → (frame : List ℕ) (v : PduValue) (rest : List ℕ) → BeginsWith frame v rest → (p : Packet) (following : List ℕ) → IsCarriable p
     → frame ≡ wire p ++ following → v ≡ value_of p
 value_is one frame v rest begins p following carriable split =
-    (one frame v (value_of p) rest following begins
-    (record { octets = wire p; spells = record { pdu = carriable.pdu; octets_are = refl }; split = split })).0
+    (one p following v rest carriable (subst (λ (f : List ℕ). BeginsWith f v rest) split begins)).0
 
 -- ---- whether it is all of its unit
 
@@ -100,12 +96,6 @@ part_by seg p (Some i) has e =
       total = ap (λ (s : SegmentationPart). s.total) f;
     }
 
-take_front : (front behind : List ℕ) (n : ℕ) → length front ≡ n → take n (front ++ behind) ≡ front
-take_front [] behind zero e = refl
-take_front [] behind (suc n) e = absurd (omega arith)
-take_front (x ∷ front) behind zero e = absurd (omega arith)
-take_front (x ∷ front) behind (suc n) e = ap (λ (l : List ℕ). x ∷ l) (take_front front behind n (omega arith))
-
 module _ (frame : List ℕ) (pdu : Pdu) (seg : SegPart) (head : pdu.head.now ≡ header (pdu_value pdu)) (some : segment_part pdu.seg pdu.more ≡ Some seg) where
   head_length : length pdu.head.now ≡ header_length (pdu_value pdu)
   head_length = ap length head ∙ length-header (pdu_value pdu)
@@ -125,7 +115,7 @@ module _ (frame : List ℕ) (pdu : Pdu) (seg : SegPart) (head : pdu.head.now ≡
     octets_seen : seen (arrival_of (segment_in frame pdu seg)).carried ≡ wire p
     octets_seen =
         ap (λ (octets : List ℕ). take (length pdu.head.now + length pdu.body.now) octets) split
-        ∙ take_front (wire p) following (length pdu.head.now + length pdu.body.now)
+        ∙ take_at (wire p) following (length pdu.head.now + length pdu.body.now)
         (length-append (header (value_of p)) (value_of p).body
         ∙ ap (λ (v : PduValue). length (header v) + length v.body) (sym e)
         ∙ ap (λ (h : List ℕ). length h + length pdu.body.now) (sym head))

@@ -1,7 +1,5 @@
 -- Why a unit isn't made: the first cause that holds.
 use Rattle.std.proofs.Common.{◌≡◌, ℕ, ◌<◌, ◌≤◌, Bool, true, Option, Some, List, length, not, nat_lt, sym, ap, subst, ◌∙◌, arith, if◌then◌else◌}
-use Rattle.std.specs.List.{list_any}
-use Rattle.std.specs.Str.{bytes_eq}
 use Rattle.std.proofs.lemmas.Bool.Decides.{nat_tests}
 use Rattle.clnp_plan.specs.Configuration.{SystemConfiguration}
 use Rattle.clnp_plan.specs.declared.ask.SendRefusal.{SendRefusal}
@@ -11,8 +9,8 @@ use Rattle.clnp_plan.specs.declared.note.Note.TheVariants.{Refused}
 use Rattle.clnp_plan.specs.declared.note.Why.TheVariants as why
 use Rattle.clnp_machine.specs.Unit.{Unit}
 use Rattle.clnp_machine.specs.System.{SystemState}
-use Rattle.clnp_machine.specs.Local.{header_size, identifier_refusal, is_own, refusal}
-use Rattle.local_entity.specs.declared.local.Local.{Local}
+use Rattle.clnp_machine.specs.Local.{has_address, header_size, identifier_refusal, is_own, refusal}
+use Rattle.local_entity.specs.State.{EntityState}
 use Rattle.local_entity.specs.Local.{IsWhy, Stands}
 
 -- the refusal, by what it depends on
@@ -32,10 +30,9 @@ none_before : (own : Bool) (octets head_len : ℕ) (last : Option Note) → own 
 none_before own octets head_len last mine few short = grind (arith, nat_tests)
 
 -- an address of the configuration is one of the system's
-pub own_of : (local : Local) (s : SystemState) (address : List ℕ) (own : Bool) → Stands local s
-    → own ≡ list_any (λ own. bytes_eq own address) local.config.addresses → own ≡ is_own s address
-own_of local s address own stands e =
-    e ∙ ap (λ (c : SystemConfiguration). list_any (λ own. bytes_eq own address) c.addresses) stands.configuration
+pub own_of : (local : EntityState) (s : SystemState) (address : List ℕ) (own : Bool) → Stands local s
+    → own ≡ has_address local.configuration address → own ≡ is_own s address
+own_of local s address own stands e = e ∙ ap (λ (c : SystemConfiguration). has_address c address) stands.configuration
 
 module _ (s : SystemState) (u : Unit) (own : Bool) (mine : own ≡ is_own s u.source) where
   -- its header has too many octets

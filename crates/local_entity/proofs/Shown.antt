@@ -8,7 +8,7 @@ use Rattle.reassembly.specs.declared.table.TableLimits.{TableLimits}
 use Rattle.reassembly.specs.Arrival.{Arrival}
 use Rattle.reassembly.specs.Buffer.{Buffer, after, answer, buffer_of, due, held, without}
 use Rattle.reassembly.specs.Mapped.{map_arrival, map_buffer, map_buffers}
-use Rattle.reassembly.proofs.Mapped.{after-mapped, answer-mapped, buffer_of-mapped, due-mapped, held-mapped, without-mapped}
+use Rattle.reassembly.proofs.Shared.{after-mapped, answer-mapped, buffer_of-mapped, due-mapped, held-mapped, without-mapped}
 use Rattle.clnp_machine.specs.Unit.{Packet, wire}
 
 -- the buffers show the octets of others

@@ -3,20 +3,18 @@ use Rattle.std.proofs.Common.{◌≡◌, ℕ, ◌+◌, ◌<◌, ◌≤◌, Bool,
 use Rattle.std.specs.Prelude.{filter, is_some}
 use Rattle.std.specs.List.{AllByRecursion}
 use Rattle.std.proofs.lemmas.Bool.{cases_Bool}
+use Rattle.clnp_base.proofs.Filters.{filter-fewer}
 use Rattle.clnp_views.specs.Extent.{Extent}
 use Rattle.reassembly.specs.Arrival.{same_key}
 use Rattle.reassembly.specs.Buffer.{Buffer, due, is_whole, without, without_due}
 use Rattle.reassembly.specs.State as table
 use Rattle.reassembly.specs.State.{IsReady, TableState}
-use Rattle.reassembly.proofs.Keys.{same_key-like}
-use Rattle.reassembly.proofs.LawDue.{due_is}
-use Rattle.reassembly.proofs.LawSums.{length_filter}
-use Rattle.reassembly.proofs.NoWhole.{none_whole-without_due}
+use Rattle.reassembly.proofs.Shared.{due_is, none_whole-without_due, same_key-like}
 use Rattle.clnp_machine.specs.System.{SystemState}
 use Rattle.clnp_machine.specs.Local as machine
 use Rattle.clnp_machine.specs.Local.{Deed, and_then, at_moment, expire, tick}
 use Rattle.local_entity.specs.declared.action.Action.{Action}
-use Rattle.local_entity.specs.declared.local.Local.{Local}
+use Rattle.local_entity.specs.State.{EntityState}
 use Rattle.local_entity.specs.Local.{Appends, DoAll, Stands}
 use Rattle.local_entity.proofs.Expiry.{expire-ended, expire-moment, expire-more, none_due}
 use Rattle.local_entity.proofs.Shown.{length_shown}
@@ -35,7 +33,7 @@ appends-more old mid new others rest here there = record {
 }
 
 -- at another moment it stands for the same
-at_that_moment : (local : Local) (s : SystemState) (now : ℕ) → Stands local s → Stands local (at_moment now s)
+at_that_moment : (local : EntityState) (s : SystemState) (now : ℕ) → Stands local s → Stands local (at_moment now s)
 at_that_moment local s now stands = record {
   configuration = stands.configuration;
   limits = stands.limits;
@@ -48,7 +46,7 @@ at_that_moment local s now stands = record {
 }
 
 -- what so many steps come to
-pub record IsAfter (before after : Local) (old new : List Action) (now n : ℕ) : Type 0 where
+pub record IsAfter (before after : EntityState) (old new : List Action) (now n : ℕ) : Type 0 where
   pub stands : (s : SystemState) → Stands before s → s.moment ≡ now → Stands after (expire n s).after
   pub actions : (s : SystemState) → Stands before s → s.moment ≡ now → Appends old new (expire n s).actions
 
@@ -59,13 +57,13 @@ pub record IsLeft (later : TableState) (n live : ℕ) : Type 0 where
   pub none_whole : AllByRecursion (λ (buffer : Buffer Extent). is_whole buffer ≡ false) buffers
   pub fewer : length buffers + n ≤ live
 
-pub after_none : (local : Local) (old new : List Action) (now : ℕ) → new ≡ old → IsAfter local local old new now 0
+pub after_none : (local : EntityState) (old new : List Action) (now : ℕ) → new ≡ old → IsAfter local local old new now 0
 after_none local old new now same = record {
   stands = λ s stands moment. stands;
   actions = λ s stands moment. record { actions = []; appended = same ∙ sym (append-nil old); do_all = tt };
 }
 
-module _ (before mid after : Local) (old out new : List Action) (now n : ℕ) (so_far : IsAfter before mid old out now n) where
+module _ (before mid after : EntityState) (old out new : List Action) (now n : ℕ) (so_far : IsAfter before mid old out now n) where
   pub after_more : ((s : SystemState) → Stands mid s → s.moment ≡ now → Stands after (expire 1 s).after)
       → ((s : SystemState) → Stands mid s → s.moment ≡ now → Appends out new (expire 1 s).actions) → IsAfter before after old new now (n + 1)
   after_more stands actions =
@@ -93,7 +91,7 @@ module _ (before mid after : Local) (old out new : List Action) (now n : ℕ) (s
       let none_then : due s.moment (expire n s).after.buffers ≡ None = ap (λ m. due m (expire n s).after.buffers) (sym (expire-moment n s)) ∙ none_there in
       expire-ended n live s (omega arith) none_then ∙ sym (expire-ended n (n + 1) s (omega arith) none_then)
 
-module _ (before after : Local) (old new : List Action) (now n live : ℕ) (done : IsAfter before after old new now n)
+module _ (before after : EntityState) (old new : List Action) (now n live : ℕ) (done : IsAfter before after old new now n)
     (all : (s : SystemState) → Stands before s → s.moment ≡ now → expire live s ≡ expire n s)
     (live_is : (buffers : List (Buffer Extent)) → table.Stands before.table buffers → live ≡ length buffers) where
   tick_is : (s : SystemState) → Stands before s → tick s now ≡ expire n (at_moment now s)
@@ -111,19 +109,13 @@ module _ (before after : Local) (old new : List Action) (now n live : ℕ) (done
 
 -- ---- what is left
 
-filter_less : {X : Type 0} (test : X → Bool) (front : List X) (x : X) (behind : List X) → test x ≡ false → length (filter test (front ++ x ∷ behind)) < length (front ++ x ∷ behind)
-filter_less test [] x behind e = rw e (let l = length_filter test behind in omega arith)
-filter_less test (y ∷ front) x behind e =
-    let rest = filter_less test front x behind e in
-    elim (cases_Bool (test y)) [ inl t ↦ rw t (omega arith) | inr f ↦ rw f (omega arith) ]
-
 fewer-without_due : (now : ℕ) (buffers : List (Buffer Extent)) (found : Option (Buffer Extent)) → due now buffers ≡ found → true ≡ is_some found
     → length (without_due found buffers) < length buffers
 fewer-without_due now buffers None e some = absurd (cc)
 fewer-without_due now buffers (Some ended) e some =
     let is = due_is now buffers ended e in
     subst (λ (l : List (Buffer Extent)). length (without ended.key l) < length l) (sym is.stands_there)
-    (filter_less (λ (b : Buffer Extent). not (same_key b.key ended.key)) is.before ended is.behind (ap not (same_key-like ended.key ended.key refl)))
+    (filter-fewer (λ (b : Buffer Extent). not (same_key b.key ended.key)) is.before ended is.behind (ap not (same_key-like ended.key ended.key refl)))
 
 pub left_first : (before : ℕ) (now_table : TableState) (live : ℕ) → IsReady before now_table
     → ((buffers : List (Buffer Extent)) → table.Stands now_table buffers → live ≡ length buffers) → IsLeft now_table 0 live

@@ -2,26 +2,19 @@
 use Rattle.std.proofs.Common.{◌≡◌, ℕ, zero, suc, ◌≢◌, ◌==◌, List, [], ◌∷◌, ◌++◌, Option, Some, None, slice_get, refl, ap, ◌∙◌, arith, if◌then◌else◌}
 use Rattle.std.proofs.lemmas.Bool.Decides.{eqb_tells}
 use Rattle.std.specs.Option.{option_or}
+use Rattle.clnp_base.proofs.Choices.{option_or-assoc, option_or-nothing}
 use Rattle.clnp_machine.specs.Identifiers.{Use, last_use}
 
 -- the moment of a use, where it is one of this identifier
 abbrev pub moment_for : ℕ → Use → Option ℕ
 moment_for identifier given = if given.identifier == identifier then Some given.moment else None
 
-option_or_none : (found : Option ℕ) → found ≡ option_or found None
-option_or_none None = refl
-option_or_none (Some moment) = refl
-
-option_or_assoc : (a b c : Option ℕ) → option_or (option_or a b) c ≡ option_or a (option_or b c)
-option_or_assoc None b c = refl
-option_or_assoc (Some moment) b c = refl
-
 pub last_use-push : (identifier : ℕ) (uses : List Use) (given : Use)
     → last_use identifier (uses ++ given ∷ []) ≡ option_or (moment_for identifier given) (last_use identifier uses)
-last_use-push identifier [] given = option_or_none (moment_for identifier given)
+last_use-push identifier [] given = option_or-nothing (moment_for identifier given)
 last_use-push identifier (first ∷ later) given =
     ap (λ found. option_or found (moment_for identifier first)) (last_use-push identifier later given)
-    ∙ option_or_assoc (moment_for identifier given) (last_use identifier later) (moment_for identifier first)
+    ∙ option_or-assoc (moment_for identifier given) (last_use identifier later) (moment_for identifier first)
 
 pub moment_there : (identifier : ℕ) (given : Use) → given.identifier ≡ identifier → moment_for identifier given ≡ Some given.moment
 moment_there identifier given same = grind (arith, eqb_tells given.identifier identifier)

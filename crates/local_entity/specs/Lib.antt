@@ -3,3 +3,4 @@ pub mod Pool
 pub mod Apart
 pub mod Local
 pub mod Receipt
+pub mod Seen

@@ -19,7 +19,7 @@ use Rattle.clnp_machine.specs.Local.{offered}
 use Rattle.local_entity.specs.Pool as pool
 use Rattle.local_entity.specs.declared.action.Action.{Action}
 use Rattle.local_entity.specs.declared.action.Action.TheVariants.{Send, Note as Noted}
-use Rattle.local_entity.specs.declared.local.Local.{Local}
+use Rattle.local_entity.specs.State.{EntityState}
 
 -- a kept segment is as it was offered, and a PDU can carry it
 pub record IsAsOffered (arrival : Arrival Packet) : Type 0 where
@@ -28,14 +28,14 @@ pub record IsAsOffered (arrival : Arrival Packet) : Type 0 where
   pub carriable : IsCarriable arrival.carried
 
 -- An entity stands for the state of a system, whatever its place and its moment.
-pub record Stands (local : Local) (s : SystemState) : Type 0 where
-  pub configuration : local.config ≡ s.configuration
-  pub limits : local.table.limits ≡ table_limits s
-  pub count : local.units ≡ s.count
-  pub identifiers : pool.Stands local.pool s.identifiers
+pub record Stands (entity : EntityState) (s : SystemState) : Type 0 where
+  pub configuration : entity.configuration ≡ s.configuration
+  pub limits : entity.table.limits ≡ table_limits s
+  pub count : entity.count ≡ s.count
+  pub identifiers : pool.Stands entity.identifiers s.identifiers
   -- the table stands for buffers whose segments show the very octets that the packets spell
   pub buffers : List (Buffer Extent)
-  pub table : table.Stands local.table buffers
+  pub table : table.Stands entity.table buffers
   pub shown : map_buffers seen buffers ≡ map_buffers wire s.buffers
   pub packets : AllByRecursion (λ (buffer : Buffer Packet). AllByRecursion IsAsOffered buffer.kept) s.buffers
 

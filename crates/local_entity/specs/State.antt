@@ -1,5 +1,7 @@
--- What a contract sees of a pool of identifiers.
+-- What a contract sees of a pool of identifiers, and of the entity of a system.
 use Rattle.std.specs.Prelude.{ℕ, List}
+use Rattle.reassembly.specs.State.{TableState}
+use Rattle.clnp_plan.specs.Configuration.{SystemConfiguration}
 
 pub record PoolState : Type 0 where
   pub reuse : ℕ
@@ -7,3 +9,12 @@ pub record PoolState : Type 0 where
   -- the moment of the last use of each identifier that was used, from 0 on
   pub moments : List ℕ
   pub next : ℕ
+
+pub record EntityState : Type 0 where
+  -- what the scenario says of the system
+  pub configuration : SystemConfiguration
+  pub identifiers : PoolState
+  -- its reassembly buffers
+  pub table : TableState
+  -- the number of the last unit that it made
+  pub count : ℕ

@@ -6,10 +6,6 @@ mod action;
 pub mod laws;
 mod local;
 mod pool;
-#[cfg(test)]
-mod receipt_tests;
-#[cfg(test)]
-mod tests;
 
 pub use action::{Action, Made};
 pub use local::Local;

@@ -1,8 +1,6 @@
 //! What a system does at its own addresses: it makes units, and receives what is for it (ISO/IEC 8473, sections 6.1, 6.2,
 //! 6.8 and 6.9).
 ghost use Rattle.std.specs.Prelude.{◌≡◌, ◌≤◌, ◌<◌, ◌+◌, ◌^◌, ℕ, IfOk, OnOk, OnErr, List, MatchResult, None, Some, if◌then◌else◌, length};
-ghost use Rattle.std.specs.List.{list_any};
-ghost use Rattle.std.specs.Str.{bytes_eq};
 ghost use Rattle.clnp_options.specs.Grammar.{FitsKind};
 ghost use Rattle.clnp_options.specs.Parameter.{parameters, spelled};
 ghost use Rattle.clnp_views.specs.Extent.{seen};
@@ -14,6 +12,7 @@ ghost use Rattle.reassembly.specs.Buffer.{held};
 ghost use Rattle.reassembly.specs.State.{IsReady};
 ghost use Rattle.clnp_machine.specs.System.{SystemState, first_state, next_number};
 ghost use Rattle.clnp_machine.specs.Local as machine;
+ghost use Rattle.clnp_machine.specs.Local.{has_address};
 ghost use Rattle.clnp_machine.specs.Unit.{value_of, whole_packet};
 ghost use Rattle.local_entity.specs.Local.{Appends, IsWhy, Stands};
 ghost use Rattle.local_entity.specs.Pool.{Stands as StandsFor};
@@ -27,6 +26,7 @@ use nsap::Address;
 use pdu_header::{Header, HeaderRefusal, Kind, Parts, SegPart};
 use reassembly::{Table, TableLimits};
 use std::alloc::Global;
+use std::marker::Model;
 
 mod receipt;
 
@@ -43,6 +43,16 @@ pub struct Local {
     table: Table,
     /// The number of the last unit that it made.
     units: u64,
+}
+
+impl Model for Local {
+    ghost use Rattle.local_entity.specs.State.{EntityState};
+
+    ghost Value = { EntityState };
+
+    ghost use Rattle.local_entity.specs.Seen.{state_of};
+
+    ghost view = { state_of };
 }
 
 impl Local {
@@ -111,7 +121,7 @@ impl Local {
             → Appends out.old.items out.new.items (machine.make s kind from to (seen body.now) ask.now).actions) }
         ensures same { OnErr result (self.new ≡ self.old) }
         ensures none { OnErr result (out.new.items ≡ out.old.items) }
-        ensures config { self.new.config ≡ self.old.config }
+        ensures config { self.new.configuration ≡ self.old.configuration }
         ensures table { self.new.table ≡ self.old.table }
     {
         let len = body.bytes().len();
@@ -223,7 +233,7 @@ impl Local {
     ) -> Option<SegPart>
         requires { body_len ≤ 64512 }
         ensures { result ≡ (if ask.now.segment then Some (record {
-          id = self.now.pool.next;
+          id = self.now.identifiers.next;
           offset = 0;
           total = 17 + length to.now + length from.now + length (spelled (parameters ask.now.options)) + body_len;
         }) else None) }
@@ -241,8 +251,8 @@ impl Local {
     }
 
     /// Whether an address is one of the system's.
-    fn is_own(&self, address: &Address) -> bool
-        ensures { result ≡ list_any (λ own. bytes_eq own address.now) self.now.config.addresses }
+    pub fn is_own(&self, address: &Address) -> bool
+        ensures { result ≡ has_address self.now.configuration address.now }
     {
         self.config.addresses().iter().any(|own| own == address)
     }
@@ -252,7 +262,7 @@ impl Local {
     pub fn restart(&mut self, now: u64)
         requires { now < 2 ^ 62 }
         ensures stands { (s : SystemState) → Stands self.old s → s.moment ≡ now → Stands self.new (machine.restarted s) }
-        ensures config { self.new.config ≡ self.old.config }
+        ensures config { self.new.configuration ≡ self.old.configuration }
         ensures limits { self.new.table.limits ≡ self.old.table.limits }
         ensures ready { (moment : ℕ) → IsReady moment self.new.table }
     {
@@ -269,7 +279,7 @@ impl Local {
 
     /// What the scenario says of the system.
     pub fn config(&self) -> &SystemConfig
-        ensures { result.now ≡ self.now.config }
+        ensures { result.now ≡ self.now.configuration }
     {
         &self.config
     }

@@ -15,12 +15,14 @@ use scenario::{Event, Move, Scenario};
 use std::alloc::Global;
 
 impl Network {
-    /// Makes one move, and appends its lines to the journal, all of them or none.
+    /// Makes one move, and appends its lines to the journal, all of them or none. Until the move is made they stand in
+    /// `lines`, whose room serves every move.
     pub(crate) fn write_move(
         &mut self,
         alloc: Global,
         scenario: &Scenario,
         mv: &Move,
+        lines: &mut Vec<u8>,
         journal: &mut Vec<u8>,
     ) -> Result<(), NoMemory>
         requires clock { self.old.clock + 1 < 2 ^ 62 }
@@ -29,8 +31,8 @@ impl Network {
             → Follows self.new journal.old.items journal.new.items (network.after scenario.now model mv.now)) }
         ensures same { OnErr result (journal.new.items ≡ journal.old.items) }
     {
-        let mut lines = Vec::new(alloc);
-        self.make_move(alloc, scenario, mv, &mut lines)?;
+        lines.clear();
+        self.make_move(alloc, scenario, mv, lines)?;
         journal.extend_from_slice(lines.as_slice())?;
         Ok(())
     }

@@ -175,9 +175,20 @@ fn weight_with(weight: u64, frame: &Frame) -> Option<u64>
 fn frame_of(alloc: Global, sending: &Sending) -> Result<Frame, NoMemory>
     ensures { IfOk result (λ frame. frame ≡ sending.now.head ++ body_of sending.now.body) }
 {
-    let mut octets = Vec::from_slice(alloc, sending.head.as_bytes())?;
-    if let Some(body) = &sending.body {
-        octets.extend_from_slice(body.bytes())?;
-    }
+    let head = sending.head.as_bytes();
+    let body = body(sending);
+    let mut octets = Vec::with_capacity(alloc, head.len().saturating_add(body.len()))?;
+    octets.extend_from_slice(head)?;
+    octets.extend_from_slice(body)?;
     Frame::copy(alloc, &octets)
+}
+
+/// The data that follow the header.
+fn body(sending: &Sending) -> &[u8]
+    ensures { result.now ≡ body_of sending.now.body }
+{
+    match &sending.body {
+        Some(body) => body.bytes(),
+        None => &[],
+    }
 }

@@ -15,8 +15,9 @@ ghost use Rattle.local_entity.specs.Local.{DoAll, Does};
 ghost use Rattle.end_system.specs.Deeds.{IsFresh, transmission};
 ghost use Rattle.end_system.specs.Stands.{Appends};
 
-use super::EndSystem;
+use super::{EndSystem, discarded};
 use clnp_base::NoMemory;
+use clnp_options::Reason;
 use clnp_plan::{Note, Output, Sending};
 use clnp_views::View;
 use local_entity::{Action, Made};
@@ -27,9 +28,6 @@ use std::alloc::Global;
 /// The number of a host's one port.
 const PORT: u8 = 0;
 
-/// ISO 8473, section 7.9.5: segmentation is needed and not permitted.
-const NOT_PERMITTED: u8 = 0x05;
-
 impl EndSystem {
     /// Gives out what was done: all of it is appended, or nothing.
     pub(super) fn give_out(
@@ -39,7 +37,7 @@ impl EndSystem {
         out: &mut Vec<Output>,
     ) -> Result<(), NoMemory>
         requires { (others : List local.Action) × DoAll actions.items others }
-        ensures outputs { OnOk result ((s : SystemState) (others : List local.Action) → self.now.entity.config ≡ s.configuration
+        ensures outputs { OnOk result ((s : SystemState) (others : List local.Action) → self.now.entity.configuration ≡ s.configuration
             → DoAll actions.items others → AllByRecursion (IsFresh self.now.moment) others
             → Appends self.now.moment out.old.items out.new.items (flat_map (machine.outputs_of s) others)) }
         ensures none { OnErr result (out.new.items ≡ out.old.items) }
@@ -55,7 +53,7 @@ impl EndSystem {
     /// Gives out one thing that was done.
     fn give(&self, action: Action, out: &mut Vec<Output>) -> Result<(), NoMemory>
         requires { (other : local.Action) × Does action other }
-        ensures { OnOk result ((s : SystemState) (other : local.Action) → self.now.entity.config ≡ s.configuration
+        ensures { OnOk result ((s : SystemState) (other : local.Action) → self.now.entity.configuration ≡ s.configuration
             → Does action other → IsFresh self.now.moment other
             → Appends self.now.moment out.old.items out.new.items (machine.outputs_of s other)) }
     {
@@ -69,26 +67,22 @@ impl EndSystem {
     /// systems, as `next_hop` says.
     fn transmit(&self, made: &Made, out: &mut Vec<Output>) -> Result<(), NoMemory>
         requires { (u : Unit) × Does (Send made.now) (Sends u) }
-        ensures { OnOk result ((s : SystemState) (u : Unit) → self.now.entity.config ≡ s.configuration
+        ensures { OnOk result ((s : SystemState) (u : Unit) → self.now.entity.configuration ≡ s.configuration
             → Does (Send made.now) (Sends u) → IsFresh self.now.moment (Sends u)
             → Appends self.now.moment out.old.items out.new.items (machine.outputs_of s (Sends u))) }
     {
         let octets = made.body.bytes().len();
         match Cuts::new(made.head, octets, self.mtu()) {
             Ok(cuts) => give_pieces(cuts, Target::EndSystems, &made.body, out),
-            Err(NotPermitted { .. }) => give_note(
-                Note::Discard {
-                    reason: NOT_PERMITTED,
-                    place: 0,
-                },
-                out,
-            ),
+            Err(NotPermitted { .. }) => {
+                give_note(discarded(Reason::SegmentationNotPermitted), out)
+            }
         }
     }
 
     /// The most octets of a frame on the port.
     fn mtu(&self) -> u16
-        ensures port { result ≡ machine.port_mtu self.now.entity.config.ports }
+        ensures port { result ≡ machine.port_mtu self.now.entity.configuration.ports }
         ensures least { 512 ≤ result }
     {
         let config = self.entity.config();

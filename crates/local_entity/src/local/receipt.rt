@@ -15,6 +15,7 @@ ghost use Rattle.local_entity.specs.Receipt.{segment_in, segment_part};
 use super::Local;
 use crate::action::Action;
 use clnp_base::{NoMemory, Octets};
+use clnp_machine::laws as machine_laws;
 use clnp_plan::Note;
 use clnp_views::Frame;
 use nsap::Address;
@@ -51,12 +52,13 @@ impl Local {
             → Appends out.old.items out.new.items (machine.receive s p following).actions) }
         ensures same { OnErr result (self.new ≡ self.old) }
         ensures none { OnErr result (out.new.items ≡ out.old.items) }
-        ensures config { self.new.config ≡ self.old.config }
+        ensures config { self.new.configuration ≡ self.old.configuration }
         ensures limits { self.new.table.limits ≡ self.old.table.limits }
         // A buffer that is kept no time is due at once.
         ensures ready { 1 ≤ self.old.table.limits.hold → IsReady now self.new.table }
     {
         laws::one_value();
+        machine_laws::a_frame_carries_one_packet();
         let Ok(pdu) = decode(frame.bytes()) else {
             unreachable!()
         };

@@ -20,4 +20,4 @@ loop-system-preserved c =
     (subst (λ (states : List SystemState). StandEach (c.loop-system.hosts.items ++ c.in_ok-host.host ∷ []) states)
     (sym (states_from-take limits systems place system at))
     (each_push c.loop-system.hosts.items (network.states_from limits 0 (take place systems)) c.in_ok-host.host
-    (first_state place system limits 0 0) c.loop-system.invariant (c.in_ok-host.ensures place)))
+    (first_state place system limits 0 0) c.loop-system.invariant (c.in_ok-host.ensures.stands place)))

@@ -5,6 +5,8 @@ ghost use Rattle.reassembly.specs.Buffer as buffer;
 ghost use Rattle.reassembly.specs.Buffer.{Buffer};
 ghost use Rattle.reassembly.specs.State as table;
 ghost use Rattle.reassembly.specs.State.{IsReady};
+ghost use Rattle.clnp_options.specs.Reasons.{reason_code};
+ghost use Rattle.clnp_options.specs.declared.reasons.Reason.TheVariants.{LifetimeExpiredInReassembly};
 ghost use Rattle.clnp_plan.specs.declared.note.Note.TheVariants.{Discard, Expired};
 ghost use Rattle.clnp_machine.specs.System.{SystemState};
 ghost use Rattle.clnp_machine.specs.Local as machine;
@@ -15,11 +17,9 @@ use super::super::Local;
 use super::noting::{discard, note};
 use crate::action::Action;
 use clnp_base::NoMemory;
+use clnp_options::Reason;
 use clnp_plan::Note;
 use std::alloc::Global;
-
-/// ISO/IEC 8473, section 7.9.5: the lifetime expired in reassembly.
-const EXPIRED_IN_REASSEMBLY: u8 = 0xA1;
 
 impl Local {
     /// Takes out the buffers whose time has ended by a moment, and appends what is noted.
@@ -35,7 +35,7 @@ impl Local {
             → Appends out.old.items out.new.items (machine.tick s now).actions) }
         ensures same { OnErr result (self.new ≡ self.old) }
         ensures none { OnErr result (out.new.items ≡ out.old.items) }
-        ensures config { self.new.config ≡ self.old.config }
+        ensures config { self.new.configuration ≡ self.old.configuration }
         ensures limits { self.new.table.limits ≡ self.old.table.limits }
         ensures ready { OnOk result (IsReady now self.new.table) }
     {
@@ -63,7 +63,7 @@ impl Local {
             × table.Stands self.new.table (buffer.without_due (buffer.due now buffers) buffers) }
         ensures len { vec_len out.new ≤ vec_len out.old + 2 }
         ensures capacity { vec_capacity out.old ≤ vec_capacity out.new }
-        ensures config { self.new.config ≡ self.old.config }
+        ensures config { self.new.configuration ≡ self.old.configuration }
         ensures limits { self.new.table.limits ≡ self.old.table.limits }
     {
         let Some(ended) = self.table.expire(now) else {
@@ -78,12 +78,12 @@ impl Local {
 /// beginning of the unit, if it came, is discarded.
 fn tell(id: u16, held: u32, began: bool, out: &mut Vec<Action>)
     requires { vec_len out.old + 2 ≤ vec_capacity out.old }
-    ensures told { out.new.items ≡ out.old.items ++ Noted (Expired id held) ∷ (if began then Noted (Discard 0xA1 0) ∷ [] else []) }
+    ensures told { out.new.items ≡ out.old.items ++ Noted (Expired id held) ∷ (if began then Noted (Discard (reason_code LifetimeExpiredInReassembly) 0) ∷ [] else []) }
     ensures len { vec_len out.new ≤ vec_len out.old + 2 }
     ensures capacity { vec_capacity out.old ≤ vec_capacity out.new }
 {
     note(out, Note::Expired { id, held });
     if began {
-        discard(out, EXPIRED_IN_REASSEMBLY);
+        discard(out, Reason::LifetimeExpiredInReassembly);
     }
 }

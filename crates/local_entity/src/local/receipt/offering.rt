@@ -16,15 +16,10 @@ use super::super::Local;
 use super::noting::{discard, note};
 use crate::action::Action;
 use clnp_base::{NoMemory, Octets};
+use clnp_options::Reason;
 use clnp_plan::Note;
 use reassembly::{Accept, Key, Segment, SlotNo, Table};
 use std::alloc::Global;
-
-/// ISO/IEC 8473, section 7.9.5: discarded for want of room.
-const CONGESTION: u8 = 0x03;
-
-/// ISO/IEC 8473, section 7.9.5: it doesn't go with the other segments of its unit.
-const INTERFERENCE: u8 = 0xC0;
 
 impl Local {
     /// Offers a segment to the buffers, and appends what is noted. All the room that may be needed is made before the
@@ -49,7 +44,7 @@ impl Local {
             → IsShown segment arrival → Appends out.old.items out.new.items (machine.offer s arrival).actions) }
         ensures same { OnErr result (self.new ≡ self.old) }
         ensures none { OnErr result (out.new.items ≡ out.old.items) }
-        ensures config { self.new.config ≡ self.old.config }
+        ensures config { self.new.configuration ≡ self.old.configuration }
         ensures limits { self.new.table.limits ≡ self.old.table.limits }
         ensures ready { 1 ≤ self.old.table.limits.hold → IsReady now self.new.table }
     {
@@ -121,19 +116,19 @@ fn tell(answer: Accept, id: u16, offset: u16, held: u32, out: &mut Vec<Action>)
         Accept::Repeat => note(out, Note::Repeat { id, offset }),
         Accept::Interference { .. } => {
             note(out, Note::Interference { id });
-            discard(out, INTERFERENCE);
+            discard(out, Reason::ReassemblyInterference);
         }
         Accept::NoSlot { live } => {
             note(out, Note::NoSlot { live });
-            discard(out, CONGESTION);
+            discard(out, Reason::Congestion);
         }
         Accept::Crowded { held, size } => {
             note(out, Note::Crowded { held, size });
-            discard(out, CONGESTION);
+            discard(out, Reason::Congestion);
         }
         Accept::Many { kept } => {
             note(out, Note::Many { kept });
-            discard(out, CONGESTION);
+            discard(out, Reason::Congestion);
         }
         Accept::Whole(_) => unreachable!(),
     }

@@ -10,8 +10,8 @@ use Rattle.clnp_world.proofs.world.World.host.Goals as goal
 pub returns-clause-stands : goal.returns-clause-stands
 returns-clause-stands c =
     let lookup = c.get.ensures.lookup in
-    let hosts = c.deref.ensures.value ∙ ap (λ (w : WorldState). w.hosts) c.self.view_is in
+    let hosts = c.deref.ensures.value ∙ ap (λ (w : WorldState). w.network.hosts) c.self.view_is in
     IfSome_then c.get.result (found_at (λ x. x.now) c.get.result c.deref.result.now c.args.at lookup.1 lookup.3)
     (λ host here model h system there.
-    each_at c.args.self.now.hosts model.systems c.args.at host.now system h.systems
+    each_at c.args.self.now.network.hosts model.systems c.args.at host.now system h.holds.shows.systems
     (subst (λ (hs : List HostState). slice_get hs c.args.at ≡ Some host.now) hosts here) there)

@@ -2,11 +2,11 @@
 use Rattle.std.proofs.Common.{◌∙◌, sym, ap, subst}
 use Rattle.std.proofs.lemmas.Result.{on_ok_weaker}
 use Rattle.clnp_plan.specs.Configuration.{SystemConfiguration}
-use Rattle.clnp_machine.specs.Local.{tick}
-use Rattle.local_entity.specs.declared.local.Local.{Local}
+use Rattle.clnp_machine.specs.Local.{at_moment, tick}
+use Rattle.local_entity.specs.State.{EntityState}
 use Rattle.local_entity.specs.Local as entity
 use Rattle.end_system.specs.State.{HostState}
-use Rattle.end_system.proofs.Deeds.{plain_tick}
+use Rattle.end_system.proofs.Deeds.{plain_of}
 use Rattle.end_system.proofs.Given.{all_done, deed_given}
 use Rattle.end_system.proofs.host.EndSystem.come_to.Goals as goal
 
@@ -34,11 +34,11 @@ pub returns-clause-stands : goal.returns-clause-stands
 returns-clause-stands c =
     on_ok_weaker c.give_out.result
     (λ gives s h.
-    let plain = plain_tick s c.args.now in
+    let plain = plain_of (at_moment c.args.now s) (tick s c.args.now) (c.a_deed_is_of_its_moment.ensures.tick s c.args.now) in
     record {
       not_spent = ap (λ (host : HostState). host.spent) c.self.view_is ∙ h.not_spent;
       entity = c.in_ok-tick.ensures.stands s
-          (subst (λ (here : Local). entity.Stands here s) (sym (ap (λ (host : HostState). host.entity) c.self.view_is)) h.entity);
+          (subst (λ (here : EntityState). entity.Stands here s) (sym (ap (λ (host : HostState). host.entity) c.self.view_is)) h.entity);
       moment = sym plain.moment;
     })
     c.give_out.ensures.outputs
@@ -48,9 +48,9 @@ returns-clause-outputs c =
     on_ok_weaker c.give_out.result
     (λ gives s h.
     let here : entity.Stands c.self.inside.entity s =
-    subst (λ (here : Local). entity.Stands here s) (sym (ap (λ (host : HostState). host.entity) c.self.view_is)) h.entity in
+    subst (λ (here : EntityState). entity.Stands here s) (sym (ap (λ (host : HostState). host.entity) c.self.view_is)) h.entity in
     let after = c.in_ok-tick.ensures.stands s here in
-    let plain = plain_tick s c.args.now in
-    deed_given c.tick.new.self.config c.args.now c.args.out.now.items c.give_out.new.out.items c.new-actions.result.items c.tick.new.out.items
+    let plain = plain_of (at_moment c.args.now s) (tick s c.args.now) (c.a_deed_is_of_its_moment.ensures.tick s c.args.now) in
+    deed_given c.tick.new.self.configuration c.args.now c.args.out.now.items c.give_out.new.out.items c.new-actions.result.items c.tick.new.out.items
     (tick s c.args.now) c.new-actions.ensures.items (c.in_ok-tick.ensures.actions s here) after.configuration plain.fresh gives)
     c.give_out.ensures.outputs

@@ -8,7 +8,7 @@ use Rattle.end_system.proofs.Outputs.{GivesOut, appends_fresh, does_at, gives_mo
 use Rattle.end_system.proofs.host.EndSystem.give_out.Goals as goal
 
 pub loop-action-init : goal.loop-action-init
-loop-action-init c = gives_none c.args.self.now.entity.config c.args.self.now.moment c.new-outputs.result.items
+loop-action-init c = gives_none c.args.self.now.entity.configuration c.args.self.now.moment c.new-outputs.result.items
 
 pub give-requires : goal.give-requires
 give-requires c =
@@ -20,7 +20,7 @@ give-requires c =
 
 pub loop-action-preserved : goal.loop-action-preserved
 loop-action-preserved c =
-    gives_more c.args.self.now.entity.config c.args.self.now.moment c.new-outputs.result.items c.loop-action.outputs.items c.give.new.out.items
+    gives_more c.args.self.now.entity.configuration c.args.self.now.moment c.new-outputs.result.items c.loop-action.outputs.items c.give.new.out.items
     c.loop-action.yielded c.in-Some.action c.loop-action.invariant c.in_ok-give.ensures
 
 pub returns-clause-outputs : goal.returns-clause-outputs
@@ -30,8 +30,8 @@ returns-clause-outputs c =
     c.loop-action.yielded c.loop-action.action-iterator c.loop-action.yielded_by c.next.result c.next.new.self c.in-None.is
     c.next.ensures.steps in
     let all : c.loop-action.yielded ≡ c.args.actions.items = sym (map-id c.loop-action.yielded) ∙ ended.0 in
-    let gives : GivesOut c.args.self.now.entity.config c.args.self.now.moment c.new-outputs.result.items c.loop-action.outputs.items c.args.actions.items =
-    subst (λ (actions : List Action). GivesOut c.args.self.now.entity.config c.args.self.now.moment c.new-outputs.result.items c.loop-action.outputs.items actions)
+    let gives : GivesOut c.args.self.now.entity.configuration c.args.self.now.moment c.new-outputs.result.items c.loop-action.outputs.items c.args.actions.items =
+    subst (λ (actions : List Action). GivesOut c.args.self.now.entity.configuration c.args.self.now.moment c.new-outputs.result.items c.loop-action.outputs.items actions)
     all c.loop-action.invariant in
     λ s others same all_done fresh. appends_fresh c.args.self.now.moment c.new-outputs.result.items c.loop-action.outputs.items c.args.out.now.items
     c.append.new.self.items _ c.new-outputs.ensures.items c.in_ok-append.ensures.items (gives s others same all_done fresh)

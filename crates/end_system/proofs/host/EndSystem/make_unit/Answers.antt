@@ -8,12 +8,12 @@ use Rattle.pdu_header.specs.declared.kind.Kind.TheVariants.{Dt}
 use Rattle.clnp_machine.specs.System.{SystemState}
 use Rattle.clnp_machine.specs.Local.{Deed, at_moment, make}
 use Rattle.clnp_machine.specs.Host.{effect_of}
-use Rattle.local_entity.specs.declared.local.Local.{Local}
+use Rattle.local_entity.specs.State.{EntityState}
 use Rattle.local_entity.specs.Local as entity
 use Rattle.end_system.specs.State.{HostState}
 use Rattle.end_system.specs.Deeds.{IsFresh}
 use Rattle.end_system.specs.Stands.{Appends}
-use Rattle.end_system.proofs.Deeds.{plain_make, stands_at}
+use Rattle.end_system.proofs.Deeds.{plain_of, stands_at}
 use Rattle.end_system.proofs.Given.{all_done, deed_given}
 use Rattle.end_system.proofs.host.EndSystem.make_unit.Goals as goal
 
@@ -48,9 +48,9 @@ returns-in-Ok-give_out-clause-stands c =
     λ s h.
     let octets : seen c.into_view-body.result ≡ c.args.body.now = shown c.into_view-body.result c.in-Ok.frame c.args.body.now c.into_view-body.ensures c.in-Ok.ensures in
     let here : entity.Stands c.self.inside.entity s =
-    subst (λ (here : Local). entity.Stands here s) (sym (ap (λ (host : HostState). host.entity) c.self.view_is)) h.entity in
+    subst (λ (here : EntityState). entity.Stands here s) (sym (ap (λ (host : HostState). host.entity) c.self.view_is)) h.entity in
     let now : s.moment ≡ c.self.inside.moment = sym h.moment ∙ sym (ap (λ (host : HostState). host.moment) c.self.view_is) in
-    let plain = plain_make s Dt c.args.from c.args.to c.args.body.now c.args.ask.now in
+    let plain = plain_of s (make s Dt c.args.from c.args.to c.args.body.now c.args.ask.now) (c.a_deed_is_of_its_moment.ensures.make s Dt c.args.from c.args.to c.args.body.now c.args.ask.now) in
     record {
       not_spent = ap (λ (host : HostState). host.spent) c.self.view_is ∙ h.not_spent;
       entity = subst (λ (body : List ℕ). entity.Stands c.make.new.self (make s Dt c.args.from c.args.to body c.args.ask.now).after) octets
@@ -63,17 +63,17 @@ returns-in-Ok-give_out-clause-outputs c =
     λ s h.
     let octets : seen c.into_view-body.result ≡ c.args.body.now = shown c.into_view-body.result c.in-Ok.frame c.args.body.now c.into_view-body.ensures c.in-Ok.ensures in
     let here : entity.Stands c.self.inside.entity s =
-    subst (λ (here : Local). entity.Stands here s) (sym (ap (λ (host : HostState). host.entity) c.self.view_is)) h.entity in
+    subst (λ (here : EntityState). entity.Stands here s) (sym (ap (λ (host : HostState). host.entity) c.self.view_is)) h.entity in
     let now : s.moment ≡ c.self.inside.moment = sym h.moment ∙ sym (ap (λ (host : HostState). host.moment) c.self.view_is) in
     let deed : Deed = make s Dt c.args.from c.args.to c.args.body.now c.args.ask.now in
-    let plain = plain_make s Dt c.args.from c.args.to c.args.body.now c.args.ask.now in
+    let plain = plain_of s (make s Dt c.args.from c.args.to c.args.body.now c.args.ask.now) (c.a_deed_is_of_its_moment.ensures.make s Dt c.args.from c.args.to c.args.body.now c.args.ask.now) in
     let after : entity.Stands c.make.new.self deed.after =
     subst (λ (body : List ℕ). entity.Stands c.make.new.self (make s Dt c.args.from c.args.to body c.args.ask.now).after) octets
     (c.in_ok-unit.ensures.stands s here now) in
     let done : entity.Appends c.new-actions.result.items c.make.new.out.items deed.actions =
     subst (λ (body : List ℕ). entity.Appends c.new-actions.result.items c.make.new.out.items (make s Dt c.args.from c.args.to body c.args.ask.now).actions) octets
     (c.in_ok-unit.ensures.actions s here now) in
-    let given = deed_given c.make.new.self.config c.self.inside.moment c.args.out.now.items c.give_out.new.out.items c.new-actions.result.items
+    let given = deed_given c.make.new.self.configuration c.self.inside.moment c.args.out.now.items c.give_out.new.out.items c.new-actions.result.items
     c.make.new.out.items deed c.new-actions.ensures.items done after.configuration
     (subst (λ (moment : ℕ). AllByRecursion (IsFresh moment) deed.actions) now plain.fresh) c.in-Ok-give_out.ensures.outputs in
     subst (λ (moment : ℕ). Appends moment c.args.out.now.items c.give_out.new.out.items (effect_of deed).outputs) (ap (λ (host : HostState). host.moment) c.self.view_is) given

@@ -19,7 +19,7 @@ bounds-ports-0-2 c = bounds-ports-0 c
 pub returns-clause-port : goal.returns-clause-port
 returns-clause-port c =
     let role : c.config-config.result.now.role ≡ Host = ap (λ (s : SystemConfiguration). s.role) c.config-config.ensures ∙ c.self.invariant.role in
-    let same : c.config-config.result.now ≡ c.args.self.now.entity.config = c.config-config.ensures ∙ ap (λ (h : HostState). h.entity.config) c.self.view_is in
+    let same : c.config-config.result.now ≡ c.args.self.now.entity.configuration = c.config-config.ensures ∙ ap (λ (h : HostState). h.entity.configuration) c.self.view_is in
     mtu_is c.config-config.result.now c.ports.result.now c.index-ports-0.result c.ports.ensures c.is_system.ensures role
     ∙ ap (λ (s : SystemConfiguration). port_mtu s.ports) same
 

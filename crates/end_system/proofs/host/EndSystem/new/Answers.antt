@@ -16,5 +16,5 @@ invariant_of-result c =
       ready = λ free. c.in_ok-entity.ensures.ready c.args.now;
     }
 
-pub returns : goal.returns
-returns c = λ place. record { not_spent = refl; entity = c.in_ok-entity.ensures.stands place c.args.now; moment = refl }
+pub returns-clause-stands : goal.returns-clause-stands
+returns-clause-stands c = λ place. record { not_spent = refl; entity = c.in_ok-entity.ensures.stands place c.args.now; moment = refl }

@@ -1,14 +1,15 @@
 -- The PDU is a packet's, and what is done is what the model does with it.
-use Rattle.std.proofs.Common.{◌≡◌, ◌∙◌, refl, sym, ap, subst}
+use Rattle.std.proofs.Common.{◌≡◌, ◌∙◌, [], ◌∷◌, refl, sym, ap, subst}
 use Rattle.std.proofs.lemmas.Result.{on_ok_weaker}
 use Rattle.clnp_plan.specs.Configuration.{SystemConfiguration}
-use Rattle.clnp_plan.specs.declared.note.Note.TheVariants.{Discard, NotMine}
+use Rattle.clnp_plan.specs.declared.note.Note.{Note}
+use Rattle.clnp_plan.specs.declared.note.Note.TheVariants.{NotMine}
 use Rattle.clnp_machine.specs.System.{SystemState}
-use Rattle.clnp_machine.specs.Local.{Deed, at_moment, receive}
+use Rattle.clnp_machine.specs.Local.{Deed, Tells, at_moment, receive}
 use Rattle.local_entity.specs.Local as entity
 use Rattle.end_system.specs.State.{HostState}
 use Rattle.end_system.specs.Stands.{Stands}
-use Rattle.end_system.proofs.Deeds.{appends_note, deed_expired, deed_foreign, deed_own, plain_receive, some_note, stands_at, stands_on}
+use Rattle.end_system.proofs.Deeds.{appends_note, deed_expired, deed_foreign, deed_own, plain_of, some_note, stands_at, stands_on}
 use Rattle.end_system.proofs.Packets.{frame_is, packet_carriable, packet_of}
 use Rattle.end_system.proofs.host.EndSystem.receive.Goals as goal
 
@@ -18,19 +19,21 @@ returns-then-life-eq0-clause-actions c =
     (λ written s p following h carriable frame life to.
     subst (λ (deed : Deed). entity.Appends c.args.actions.now.items c.note.new.actions.items deed.actions)
     (sym (deed_expired s p following c.args.life life c.if-life-eq0.true))
-    (appends_note c.args.actions.now.items c.note.new.actions.items (Discard 160 0) written))
+    (subst (λ (told : Note). entity.Appends c.args.actions.now.items c.note.new.actions.items (Tells told ∷ [])) c.discarded.ensures
+    (appends_note c.args.actions.now.items c.note.new.actions.items c.discarded.result written)))
     c.note.ensures
 
 pub returns-then-life-eq0-clause-done : goal.returns-then-life-eq0-clause-done
 returns-then-life-eq0-clause-done c =
-    on_ok_weaker c.note.result (some_note c.args.actions.now.items c.note.new.actions.items (Discard 160 0)) c.note.ensures
+    on_ok_weaker c.note.result (some_note c.args.actions.now.items c.note.new.actions.items c.discarded.result) c.note.ensures
 
 pub returns-then-not-is_own-clause-stands : goal.returns-then-not-is_own-clause-stands
 returns-then-not-is_own-clause-stands c =
     on_ok_weaker c.note-then-not-is_own.result
     (λ written s p following h carriable frame life to.
     subst (λ (deed : Deed). Stands c.args.self.now deed.after)
-    (sym (deed_foreign s c.args.self.now.entity.config p following c.args.life c.args.to h.entity.configuration life c.if-life-eq0.false to c.if-not-is_own.ensures)) h)
+    (sym (deed_foreign s c.self.inside.entity.configuration p following c.args.life c.args.to
+    (ap (λ (host : HostState). host.entity.configuration) c.self.view_is ∙ h.entity.configuration) life c.if-life-eq0.false to c.if-not-is_own.ensures)) h)
     c.note-then-not-is_own.ensures
 
 pub returns-then-not-is_own-clause-actions : goal.returns-then-not-is_own-clause-actions
@@ -38,7 +41,8 @@ returns-then-not-is_own-clause-actions c =
     on_ok_weaker c.note-then-not-is_own.result
     (λ written s p following h carriable frame life to.
     subst (λ (deed : Deed). entity.Appends c.args.actions.now.items c.note-then-not-is_own.new.actions.items deed.actions)
-    (sym (deed_foreign s c.args.self.now.entity.config p following c.args.life c.args.to h.entity.configuration life c.if-life-eq0.false to c.if-not-is_own.ensures))
+    (sym (deed_foreign s c.self.inside.entity.configuration p following c.args.life c.args.to
+    (ap (λ (host : HostState). host.entity.configuration) c.self.view_is ∙ h.entity.configuration) life c.if-life-eq0.false to c.if-not-is_own.ensures))
     (appends_note c.args.actions.now.items c.note-then-not-is_own.new.actions.items (NotMine c.args.to) written))
     c.note-then-not-is_own.ensures
 
@@ -77,9 +81,10 @@ returns-clause-stands c =
     let same : c.self.inside.entity ≡ c.args.self.now.entity = ap (λ (host : HostState). host.entity) c.self.view_is in
     let now : s.moment ≡ c.self.inside.moment = sym h.moment ∙ sym (ap (λ (host : HostState). host.moment) c.self.view_is) in
     let free : c.self.inside.spent ≡ _ = ap (λ (host : HostState). host.spent) c.self.view_is ∙ h.not_spent in
-    let plain = plain_receive s p following in
+    let plain = plain_of s (receive s p following) (c.a_deed_is_of_its_moment.ensures.receive s p following) in
     subst (λ (deed : Deed). Stands new deed.after)
-    (sym (deed_own s c.args.self.now.entity.config p following c.args.life c.args.to h.entity.configuration life c.if-life-eq0.false to c.if-not-is_own.ensures))
+    (sym (deed_own s c.self.inside.entity.configuration p following c.args.life c.args.to
+    (ap (λ (host : HostState). host.entity.configuration) c.self.view_is ∙ h.entity.configuration) life c.if-life-eq0.false to c.if-not-is_own.ensures))
     (record {
       not_spent = free;
       entity = stands s p following (subst (λ here. entity.Stands here s) (sym same) h.entity) now carriable frame;
@@ -94,7 +99,8 @@ returns-clause-actions c =
     let same : c.self.inside.entity ≡ c.args.self.now.entity = ap (λ (host : HostState). host.entity) c.self.view_is in
     let now : s.moment ≡ c.self.inside.moment = sym h.moment ∙ sym (ap (λ (host : HostState). host.moment) c.self.view_is) in
     subst (λ (deed : Deed). entity.Appends c.args.actions.now.items c.receive.new.out.items deed.actions)
-    (sym (deed_own s c.args.self.now.entity.config p following c.args.life c.args.to h.entity.configuration life c.if-life-eq0.false to c.if-not-is_own.ensures))
+    (sym (deed_own s c.self.inside.entity.configuration p following c.args.life c.args.to
+    (ap (λ (host : HostState). host.entity.configuration) c.self.view_is ∙ h.entity.configuration) life c.if-life-eq0.false to c.if-not-is_own.ensures))
     (gives s p following (subst (λ here. entity.Stands here s) (sym same) h.entity) now carriable frame))
     c.receive.ensures.actions
 

@@ -1,8 +1,10 @@
 -- The unit is cut, as its PDU is.
-use Rattle.std.proofs.Common.{◌≡◌, ◌∙◌, length, sym, ap}
+use Rattle.std.proofs.Common.{◌≡◌, ◌∙◌, [], ◌∷◌, ◌++◌, length, sym, subst, ap}
 use Rattle.std.proofs.lemmas.Result.{on_ok_weaker}
 use Rattle.clnp_views.specs.Extent.{Extent, seen}
 use Rattle.clnp_plan.specs.Configuration.{SystemConfiguration}
+use Rattle.clnp_plan.specs.declared.note.Note.{Note}
+use Rattle.clnp_plan.specs.declared.output.Output.TheVariants.{Note as Told}
 use Rattle.clnp_machine.specs.Unit.{value_of, whole_packet}
 use Rattle.clnp_machine.specs.Host.{port_mtu}
 use Rattle.end_system.proofs.Sent.{unit_is_dropped, unit_is_sent, unit_length}
@@ -37,5 +39,6 @@ returns-in-Err c =
     (λ written s u same does fresh. unit_is_dropped s u c.args.self.now.moment c.args.made.now.head body (length c.bytes-octets.result.now) c.mtu.result c.new.result
     c.in-Err.field-0 c.args.out.now.items c.give_note.new.out.items (record { spells = does.1; shown = does.2; whole = all })
     (ap length c.bytes-octets.ensures.octets) c.new.ensures.cut c.in-Err.is
-    (c.mtu.ensures.port ∙ ap (λ (configuration : SystemConfiguration). port_mtu configuration.ports) same) c.mtu.ensures.least fresh.1 written)
+    (c.mtu.ensures.port ∙ ap (λ (configuration : SystemConfiguration). port_mtu configuration.ports) same) c.mtu.ensures.least fresh.1
+    (subst (λ (told : Note). c.give_note.new.out.items ≡ c.args.out.now.items ++ Told told ∷ []) c.discarded.ensures written))
     c.give_note.ensures

@@ -4,6 +4,8 @@ use Rattle.clnp_machine.specs.Local.{unit_of}
 use Rattle.clnp_plan.specs.declared.note.Note.{Note}
 use Rattle.std.specs.Prelude.{Option}
 use Rattle.local_entity.specs.Local.{IsWhy}
+use Rattle.local_entity.specs.Pool as pool
+use Rattle.local_entity.specs.State.{EntityState}
 use Rattle.local_entity.proofs.Refusals.{own_of, refusal_last, why_long_header}
 use Rattle.local_entity.proofs.local.Local.next_header.Goals as goal
 
@@ -25,7 +27,7 @@ returns-in_err-may_draw-clause-answer c = λ s octets stands moment same.
     let fits = (c.in_ok-head.ensures s octets stands same).pdu.header_fits in
     let last = refusal_last s u c.is_own.result mine c.if-not-is_own.false few fits in
     rw (p.1, p.2)
-    (subst (λ (answer : Option Note). IsWhy c.in_err-may_draw.field-0.0 answer) (sym last) (c.in_err-may_draw.ensures s stands.identifiers moment))
+    (subst (λ (answer : Option Note). IsWhy c.in_err-may_draw.field-0.0 answer) (sym last) (c.in_err-may_draw.ensures s (subst (λ (e : EntityState). pool.Stands e.identifiers s.identifiers) (sym c.self.view_is) stands.identifiers) moment))
 
 pub returns-clause-answer : goal.returns-clause-answer
 returns-clause-answer c = λ s octets stands moment same.
@@ -34,4 +36,4 @@ returns-clause-answer c = λ s octets stands moment same.
     let mine = own_of c.args.self.now s c.args.from c.is_own.result stands c.is_own.ensures in
     let spells = c.in_ok-head.ensures s octets stands same in
     let last = refusal_last s u c.is_own.result mine c.if-not-is_own.false few spells.pdu.header_fits in
-    (last ∙ c.in_ok-may_draw.ensures s stands.identifiers moment, spells)
+    (last ∙ c.in_ok-may_draw.ensures s (subst (λ (e : EntityState). pool.Stands e.identifiers s.identifiers) (sym c.self.view_is) stands.identifiers) moment, spells)

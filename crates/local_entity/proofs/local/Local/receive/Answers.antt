@@ -25,7 +25,7 @@ pub returns-in_default-segment_part-clause-stands :
 returns-in_default-segment_part-clause-stands c =
     on_ok_weaker c.hand_up.result
     (λ got s p following stands moment carriable split.
-    let e = value_is c.one_value.ensures c.bytes.result.now (pdu_value c.in-Ok.pdu) c.in-Ok.pdu.rest.now c.in-Ok.ensures.found p following carriable (c.bytes.ensures ∙ split) in
+    let e = value_is c.a_frame_carries_one_packet.ensures c.bytes.result.now (pdu_value c.in-Ok.pdu) c.in-Ok.pdu.rest.now c.in-Ok.ensures.found p following carriable (c.bytes.ensures ∙ split) in
     subst (λ (deed : Deed). Stands c.args.self.now deed.after)
     (sym (receives_whole c.in-Ok.pdu s p following e (sym c.segment_part.ensures ∙ c.in_default-segment_part.is))) stands)
     c.hand_up.ensures.got
@@ -35,7 +35,7 @@ pub returns-in_default-segment_part-clause-actions :
 returns-in_default-segment_part-clause-actions c =
     on_ok_weaker c.hand_up.result
     (λ got s p following stands moment carriable split.
-    let e = value_is c.one_value.ensures c.bytes.result.now (pdu_value c.in-Ok.pdu) c.in-Ok.pdu.rest.now c.in-Ok.ensures.found p following carriable (c.bytes.ensures ∙ split) in
+    let e = value_is c.a_frame_carries_one_packet.ensures c.bytes.result.now (pdu_value c.in-Ok.pdu) c.in-Ok.pdu.rest.now c.in-Ok.ensures.found p following carriable (c.bytes.ensures ∙ split) in
     subst (λ (deed : Deed). Appends c.args.out.now.items c.hand_up.new.out.items deed.actions)
     (sym (receives_whole c.in-Ok.pdu s p following e (sym c.segment_part.ensures ∙ c.in_default-segment_part.is)))
     (record { actions = Noted (Got c.in-Ok.pdu.from c.in-Ok.pdu.to c.in-Ok.pdu.body.now) ∷ []; appended = got; do_all = (refl, tt) }))
@@ -62,7 +62,7 @@ returns-clause-stands c =
     (λ offers s p following stands moment carriable split.
     let pdu = c.in-Ok.pdu in
     let some = sym c.segment_part.ensures ∙ c.in-Some.is in
-    let e = value_is c.one_value.ensures c.bytes.result.now (pdu_value pdu) pdu.rest.now c.in-Ok.ensures.found p following carriable (c.bytes.ensures ∙ split) in
+    let e = value_is c.a_frame_carries_one_packet.ensures c.bytes.result.now (pdu_value pdu) pdu.rest.now c.in-Ok.ensures.found p following carriable (c.bytes.ensures ∙ split) in
     let shows = subst (λ (segment : Segment). IsShown segment (offered p following)) (sym c.in_ok-segment.ensures)
     (is_shown c.args.frame.now pdu c.in-Some.part c.in-Ok.ensures.header some p following carriable split e) in
     subst (λ (deed : Deed). Stands c.offer.new.self deed.after) (sym (receives_segment pdu c.in-Some.part s p following e some))
@@ -75,7 +75,7 @@ returns-clause-actions c =
     (λ offers s p following stands moment carriable split.
     let pdu = c.in-Ok.pdu in
     let some = sym c.segment_part.ensures ∙ c.in-Some.is in
-    let e = value_is c.one_value.ensures c.bytes.result.now (pdu_value pdu) pdu.rest.now c.in-Ok.ensures.found p following carriable (c.bytes.ensures ∙ split) in
+    let e = value_is c.a_frame_carries_one_packet.ensures c.bytes.result.now (pdu_value pdu) pdu.rest.now c.in-Ok.ensures.found p following carriable (c.bytes.ensures ∙ split) in
     let shows = subst (λ (segment : Segment). IsShown segment (offered p following)) (sym c.in_ok-segment.ensures)
     (is_shown c.args.frame.now pdu c.in-Some.part c.in-Ok.ensures.header some p following carriable split e) in
     subst (λ (deed : Deed). Appends c.args.out.now.items c.offer.new.out.items deed.actions) (sym (receives_segment pdu c.in-Some.part s p following e some))

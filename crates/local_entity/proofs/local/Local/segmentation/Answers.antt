@@ -1,4 +1,5 @@
-use Rattle.std.proofs.Common.{arith}
+use Rattle.std.proofs.Common.{◌∙◌, ap, arith}
+use Rattle.local_entity.specs.State.{EntityState}
 use Rattle.local_entity.proofs.Parts.{options_size, part_there}
 use Rattle.local_entity.proofs.local.Local.segmentation.Goals as goal
 
@@ -7,4 +8,4 @@ returns c =
     let to = c.as_bytes.ensures.octets in
     let from = c.as_bytes-2.ensures.octets in
     let options = options_size c.as_bytes-3.result.now c.args.ask.now.options c.as_bytes-3.ensures.value c.as_bytes-3.ensures.well_formed in
-    part_there c.args.ask.now.segment _ _ _ _ c.next.ensures (rw (← to, ← from, options) (omega arith)) c.if-not-ask.false
+    part_there c.args.ask.now.segment _ _ _ _ (c.next.ensures ∙ ap (λ (e : EntityState). e.identifiers.next) c.self.view_is) (rw (← to, ← from, options) (omega arith)) c.if-not-ask.false

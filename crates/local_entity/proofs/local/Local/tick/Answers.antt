@@ -1,16 +1,17 @@
 -- Buffers are taken out until none is due.
-use Rattle.std.proofs.Common.{◌≡◌, ◌+◌, ℕ, List, refl, ap, ◌∙◌, subst, arith}
+use Rattle.std.proofs.Common.{◌≡◌, ◌+◌, ℕ, List, refl, sym, ap, ◌∙◌, subst, arith}
 use Rattle.clnp_views.specs.Extent.{Extent}
 use Rattle.reassembly.specs.Buffer.{Buffer}
 use Rattle.reassembly.specs.State as table
 use Rattle.clnp_machine.specs.Local.{expire}
+use Rattle.local_entity.specs.State.{EntityState}
 use Rattle.local_entity.proofs.Ticking.{IsLeft, after_more, after_none, ended_early, left_first, left_more, ready_at_end, ready_early, ticked_appends, ticked_stands}
 use Rattle.local_entity.proofs.local.Local.tick.Goals as goal
 
 pub loop-init : goal.loop-init
 loop-init c = record {
   done = after_none c.args.self.now c.args.out.now.items c.reserve.new.self.items c.args.now c.reserve.ensures.items;
-  left = left_first c.requires.ready.0 c.args.self.now.table c.from-live.result c.requires.ready.1 (λ buffers stands. c.from-live.ensures ∙ c.live.ensures.live buffers stands);
+  left = left_first c.requires.ready.0 c.args.self.now.table c.from-live.result c.requires.ready.1 (λ buffers stands. c.from-live.ensures ∙ c.live.ensures.live buffers (subst (λ (e : EntityState). table.Stands e.table buffers) (sym c.self.view_is) stands));
   room = omega (arith, c.in-Ok.ensures.ok);
   config = refl;
   limits = refl;
@@ -28,7 +29,7 @@ returns-then-not-give_up-clause-stands c =
     c.give_up.ensures.stands c.give_up.ensures.actions)
     (ended_early c.args.self.now c.loop.self c.give_up.new.self c.args.out.now.items c.loop.out.items c.give_up.new.out.items c.args.now c.loop.counter so_far
     c.from-live.result c.loop-test.true given)
-    (λ buffers stands. c.from-live.ensures ∙ c.live.ensures.live buffers stands)
+    (λ buffers stands. c.from-live.ensures ∙ c.live.ensures.live buffers (subst (λ (e : EntityState). table.Stands e.table buffers) (sym c.self.view_is) stands))
 
 pub returns-then-not-give_up-clause-actions : goal.returns-then-not-give_up-clause-actions
 returns-then-not-give_up-clause-actions c =
@@ -39,7 +40,7 @@ returns-then-not-give_up-clause-actions c =
     c.give_up.ensures.stands c.give_up.ensures.actions)
     (ended_early c.args.self.now c.loop.self c.give_up.new.self c.args.out.now.items c.loop.out.items c.give_up.new.out.items c.args.now c.loop.counter so_far
     c.from-live.result c.loop-test.true given)
-    (λ buffers stands. c.from-live.ensures ∙ c.live.ensures.live buffers stands)
+    (λ buffers stands. c.from-live.ensures ∙ c.live.ensures.live buffers (subst (λ (e : EntityState). table.Stands e.table buffers) (sym c.self.view_is) stands))
 
 pub returns-then-not-give_up-clause-ready : goal.returns-then-not-give_up-clause-ready
 returns-then-not-give_up-clause-ready c =
@@ -59,13 +60,13 @@ pub returns-clause-stands : goal.returns-clause-stands
 returns-clause-stands c =
     ticked_stands c.args.self.now c.loop.self c.args.out.now.items c.loop.out.items c.args.now c.loop.counter c.from-live.result c.loop.invariant.done
     (λ s stands moment. ap (λ (n : ℕ). expire n s) (let e : c.from-live.result ≡ c.loop.counter = omega arith in e))
-    (λ buffers stands. c.from-live.ensures ∙ c.live.ensures.live buffers stands)
+    (λ buffers stands. c.from-live.ensures ∙ c.live.ensures.live buffers (subst (λ (e : EntityState). table.Stands e.table buffers) (sym c.self.view_is) stands))
 
 pub returns-clause-actions : goal.returns-clause-actions
 returns-clause-actions c =
     ticked_appends c.args.self.now c.loop.self c.args.out.now.items c.loop.out.items c.args.now c.loop.counter c.from-live.result c.loop.invariant.done
     (λ s stands moment. ap (λ (n : ℕ). expire n s) (let e : c.from-live.result ≡ c.loop.counter = omega arith in e))
-    (λ buffers stands. c.from-live.ensures ∙ c.live.ensures.live buffers stands)
+    (λ buffers stands. c.from-live.ensures ∙ c.live.ensures.live buffers (subst (λ (e : EntityState). table.Stands e.table buffers) (sym c.self.view_is) stands))
 
 pub returns-clause-ready : goal.returns-clause-ready
 returns-clause-ready c =
