@@ -7,6 +7,10 @@ mod clnp_base_calls;
 #[cfg(test)]
 mod clnp_options_calls;
 #[cfg(test)]
+mod clnp_plan_calls;
+#[cfg(test)]
 mod clnp_views_calls;
 #[cfg(test)]
 mod nsap_calls;
+#[cfg(test)]
+mod scenario_calls;

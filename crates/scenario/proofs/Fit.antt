@@ -11,7 +11,8 @@ use Rattle.scenario.specs.Scenario.{Subnetwork}
 use Rattle.scenario.specs.Words.{◌>>=◌, wanted, found, literal, name_word, declared_word, number_within, number_word, number_behind, has_prefix, address_word, is_digits, is_taken, is_one_at_most, is_skipped, each_once, two_words, three_words, first_two, first_four}
 use Rattle.scenario.specs.Declarations.{Declarations, DeclaredSystem, NumberedPort, nothing_declared, subnet_names, system_names, changed_at, with_address, with_port, is_among, counted_in, has_port, snpas_on, mtu_at, limits_of, limits_line, subnet_line, checksum_word, room_word, setting_word, setting_words, key_of, is_hello, with_setting, settings_of, system_line, address_line, transit_word, port_line, declaration_line, is_complete, is_port_zero, host_of}
 use Rattle.scenario.specs.Grammar.{ReadTo, is_line_of, declarations_from}
-use Rattle.scenario.specs.declared.code.TheConstants.{SYNTAX, MTU, COUNT}
+use Rattle.scenario.specs.declared.code.Code.{Code}
+use Rattle.scenario.specs.declared.code.Code.TheVariants as bad
 use Rattle.scenario.specs.declared.setting.Setting.{Setting}
 use Rattle.scenario.specs.declared.setting.Setting.TheVariants.{HelloOff, Checksum, Life, RedirectHold, Slots, Segments, Budget, Neighbours, Routers, Redirects}
 use Rattle.scenario.proofs.Behind.{behind_result, behind_line, behind_found, behind_wanted, behind_such, behind_line_such, wanted_holds, either_way, found_is_within, number_is_within, number_behind_is_within, declared_is_within}
@@ -63,7 +64,7 @@ subnet_fit d words h =
     behind_result (name_word w.0) _ AreFit (λ name _.
     behind_wanted (is_digits w.1) _ _ AreFit (λ _.
     behind_wanted (not (is_taken (subnet_names d) name)) _ _ AreFit (λ _.
-    behind_such (found (number_within 512 65535 (decimal_of w.1)) MTU) _ (IsWithin 512 65535) AreFit (found_is_within 512 65535 (decimal_of w.1) MTU) (λ mtu mtu_in.
+    behind_such (found (number_within 512 65535 (decimal_of w.1)) bad.Mtu) _ (IsWithin 512 65535) AreFit (found_is_within 512 65535 (decimal_of w.1) bad.Mtu) (λ mtu mtu_in.
     behind_wanted (nat_lt (length d.subnets) 64) _ _ AreFit (λ _.
     record {
       limits = h.limits;
@@ -111,7 +112,7 @@ setting_fit word =
     (either_way (has_prefix (codes "checksum=") word) _ _ SaysWithin (checksum_fit word)
     (either_way (has_prefix (codes "rhold=") word) _ _ SaysWithin (number_says (codes "rhold=") 0 65535 word (λ n. RedirectHold n) (λ n h. h))
     (either_way (has_prefix (codes "hello=") word) _ _ SaysWithin
-    (behind_wanted (bytes_eq word (codes "hello=0")) SYNTAX (λ _. Ok HelloOff) SaysWithin (λ _. tt))
+    (behind_wanted (bytes_eq word (codes "hello=0")) bad.Syntax (λ _. Ok HelloOff) SaysWithin (λ _. tt))
     (room_fit word))))
 
 with_fit : (setting : Setting) (settings : Settings) → SaysWithin setting → AreSettings settings → AreSettings (with_setting setting settings)
@@ -252,7 +253,7 @@ declarations_fit n d [] h = tt
 declarations_fit n d (line ∷ lines) h =
     either_way (is_skipped line) _ _ AreDeclared (declarations_fit (n + 1) d lines h)
     (either_way (is_line_of (codes "events") (words_of line)) _ _ AreDeclared
-    (behind_line n (wanted (list_all is_complete d.systems) COUNT) _ AreDeclared (λ _ e. record { fit = h; complete = wanted_holds (list_all is_complete d.systems) COUNT e }))
+    (behind_line n (wanted (list_all is_complete d.systems) bad.Count) _ AreDeclared (λ _ e. record { fit = h; complete = wanted_holds (list_all is_complete d.systems) bad.Count e }))
     (behind_line_such n (declaration_line d (words_of line)) _ AreFit AreDeclared (line_fit d (words_of line) h) (λ declared fits.
     declarations_fit (n + 1) declared lines fits)))
 
