@@ -64,7 +64,12 @@ pub fn journal_text<'a>(
             push_line(first, &words, out)
         }
         Note::Refused { why, value } => {
-            let words = [name, Word::Text(b"refused"), why_word(*why), Word::Number(*value)];
+            let words = [
+                name,
+                Word::Text(b"refused"),
+                why_word(*why),
+                Word::Number(*value),
+            ];
             push_line(first, &words, out)
         }
         Note::Got { from, to, octets } => {
@@ -78,7 +83,12 @@ pub fn journal_text<'a>(
             push_line(first, &words, out)
         }
         Note::Discard { reason, place } => {
-            let words = [name, Word::Text(b"drop"), Word::Octet(*reason), Word::Octet(*place)];
+            let words = [
+                name,
+                Word::Text(b"drop"),
+                Word::Octet(*reason),
+                Word::Octet(*place),
+            ];
             push_line(first, &words, out)
         }
         Note::Held { id, offset, held } => {
@@ -207,11 +217,7 @@ pub fn late_text(
     ensures written { OnOk result (out.new.items ≡ out.old.items ++ line_text (Late now name.now copy)) }
     ensures same { OnErr result (out.new.items ≡ out.old.items) }
 {
-    let words = [
-        Word::Text(name),
-        Word::Text(b"late"),
-        Word::Number(copy),
-    ];
+    let words = [Word::Text(name), Word::Text(b"late"), Word::Number(copy)];
     push_line(Word::Number(now), &words, out)
 }
 

@@ -7,6 +7,8 @@ use Rattle.std.proofs.lemmas.Bool.{true≢false}
 use Rattle.std.proofs.lemmas.List.{map-append, append-nil}
 use Rattle.std.proofs.lemmas.List.Elements.{filter-append}
 use Rattle.std.proofs.lemmas.Slice.Eq.{bytes_eq-Decides}
+use Rattle.clnp_base.proofs.Lists.{AllByRecursion-implies, AllByRecursion-mapped}
+use Rattle.clnp_base.proofs.Maps.{filter-map, map-map}
 use Rattle.clnp_plan.specs.Configuration.{SystemConfiguration}
 use Rattle.clnp_plan.specs.declared.config.PortConfig.{PortConfig}
 use Rattle.scenario.specs.Scenario.{Subnetwork, IsOn, snpas_of}
@@ -97,17 +99,14 @@ mtu_stays [] subnet (suc k) mtu h = absurd (none_there mtu h)
 mtu_stays (s ∷ subnets) subnet zero mtu h = h
 mtu_stays (s ∷ subnets) subnet (suc k) mtu h = mtu_stays subnets subnet k mtu h
 
-ports_stay : (subnets : List Subnetwork) (subnet : Subnetwork) (ports : List NumberedPort) → AreOn subnets ports → AreOn (subnets ++ subnet ∷ []) ports
-ports_stay subnets subnet [] h = tt
-ports_stay subnets subnet (numbered ∷ ports) h =
-    (mtu_stays subnets subnet numbered.port.subnet numbered.port.mtu h.0, ports_stay subnets subnet ports h.1)
-
 -- one more subnetwork leaves where the ports are
 pub all_stay : (subnets : List Subnetwork) (subnet : Subnetwork) (systems : List DeclaredSystem)
     → AllByRecursion (λ (system : DeclaredSystem). AreOn subnets system.ports) systems
     → AllByRecursion (λ (system : DeclaredSystem). AreOn (subnets ++ subnet ∷ []) system.ports) systems
-all_stay subnets subnet [] h = tt
-all_stay subnets subnet (system ∷ systems) h = (ports_stay subnets subnet system.ports h.0, all_stay subnets subnet systems h.1)
+all_stay subnets subnet =
+    AllByRecursion-implies (λ (system : DeclaredSystem). AreOn subnets system.ports) (λ (system : DeclaredSystem). AreOn (subnets ++ subnet ∷ []) system.ports)
+    (λ system. AllByRecursion-implies (λ (numbered : NumberedPort). IsOn subnets numbered.port) (λ (numbered : NumberedPort). IsOn (subnets ++ subnet ∷ []) numbered.port)
+    (λ numbered. mtu_stays subnets subnet numbered.port.subnet numbered.port.mtu) system.ports)
 
 pub mtu_is : (subnets : List Subnetwork) (k : ℕ) → k < length subnets
     → option_map (λ (s : Subnetwork). s.mtu) (slice_get subnets k) ≡ Some (mtu_at (slice_get subnets k))
@@ -137,31 +136,20 @@ port_elsewhere numbered q system e = on_it numbered q system.ports false e ∙ a
 
 -- the same of hosts
 
-host_step : (q : ℕ) (numbered : NumberedPort) (ports : List NumberedPort) (b : Bool) → (numbered.port.subnet == q) ≡ b
-    → map (λ (port : PortConfig). port.snpa) (filter (λ (port : PortConfig). port.subnet == q) (map (λ (n : NumberedPort). n.port) ports))
-    ≡ map (λ (n : NumberedPort). n.port.snpa) (filter (λ (n : NumberedPort). n.port.subnet == q) ports)
-    → map (λ (port : PortConfig). port.snpa) (filter (λ (port : PortConfig). port.subnet == q) (map (λ (n : NumberedPort). n.port) (numbered ∷ ports)))
-    ≡ map (λ (n : NumberedPort). n.port.snpa) (filter (λ (n : NumberedPort). n.port.subnet == q) (numbered ∷ ports))
-host_step q numbered ports true e rest = rw (e, rest) refl
-host_step q numbered ports false e rest = rw (e, rest) refl
-
 host_ports : (q : ℕ) (ports : List NumberedPort)
     → map (λ (port : PortConfig). port.snpa) (filter (λ (port : PortConfig). port.subnet == q) (map (λ (n : NumberedPort). n.port) ports))
     ≡ map (λ (n : NumberedPort). n.port.snpa) (filter (λ (n : NumberedPort). n.port.subnet == q) ports)
-host_ports q [] = refl
-host_ports q (numbered ∷ ports) = host_step q numbered ports (numbered.port.subnet == q) refl (host_ports q ports)
+host_ports q ports =
+    ap (map (λ (port : PortConfig). port.snpa)) (filter-map (λ (n : NumberedPort). n.port) (λ (port : PortConfig). port.subnet == q) ports)
+    ∙ map-map (λ (n : NumberedPort). n.port) (λ (port : PortConfig). port.snpa) (filter (λ (n : NumberedPort). n.port.subnet == q) ports)
 
 pub host_snpas : (q : ℕ) (systems : List DeclaredSystem) → flat_map (snpas_of q) (map host_of systems) ≡ flat_map (snpas_on q) systems
 host_snpas q [] = refl
 host_snpas q (system ∷ systems) = rw (host_ports q system.ports, host_snpas q systems) refl
 
-plain_on : (subnets : List Subnetwork) (ports : List NumberedPort) → AreOn subnets ports
-    → AllByRecursion (IsOn subnets) (map (λ (numbered : NumberedPort). numbered.port) ports)
-plain_on subnets [] h = tt
-plain_on subnets (numbered ∷ ports) h = (h.0, plain_on subnets ports h.1)
-
 pub hosts_on : (subnets : List Subnetwork) (systems : List DeclaredSystem)
     → AllByRecursion (λ (system : DeclaredSystem). AreOn subnets system.ports) systems
     → AllByRecursion (λ (system : SystemConfiguration). AllByRecursion (IsOn subnets) system.ports) (map host_of systems)
-hosts_on subnets [] h = tt
-hosts_on subnets (system ∷ systems) h = (plain_on subnets system.ports h.0, hosts_on subnets systems h.1)
+hosts_on subnets systems =
+    AllByRecursion-mapped (λ (system : DeclaredSystem). AreOn subnets system.ports) (λ (system : SystemConfiguration). AllByRecursion (IsOn subnets) system.ports) host_of systems
+    (λ system. AllByRecursion-mapped (λ (numbered : NumberedPort). IsOn subnets numbered.port) (IsOn subnets) (λ (numbered : NumberedPort). numbered.port) system.ports (λ numbered h. h))
