@@ -1,5 +1,5 @@
 -- A text that the grammar accepts is a scenario that is fit to be run.
-use Rattle.std.proofs.Common.{◌≡◌, ℕ, ◌+◌, ◌≤◌, ◌&&◌, true, nat_le, List, [], ◌∷◌, map, length, codes, Result, Ok, Err, IfOk, refl, arith}
+use Rattle.std.proofs.Common.{◌≡◌, ℕ, ◌+◌, ◌≤◌, ◌&&◌, true, nat_le, List, [], ◌∷◌, map, length, codes, Result, Ok, Err, IfOk, refl, sym, ◌∙◌, subst, arith}
 use Rattle.std.specs.List.{AllByRecursion, flat_map, sum}
 use Rattle.std.proofs.lemmas.Bool.{leb-true, and_parts}
 use Rattle.std.proofs.lemmas.List.{length-map}
@@ -9,7 +9,7 @@ use Rattle.clnp_base.specs.Text.{lines_of, words_of}
 use Rattle.clnp_plan.specs.Configuration.{SystemConfiguration, IsSystem}
 use Rattle.clnp_plan.specs.declared.config.Limits.{Limits}
 use Rattle.clnp_plan.specs.declared.config.Role.TheVariants.{Host}
-use Rattle.scenario.specs.Scenario.{Plan, Subnetwork, IsFit, AsksFairly, ticks_of}
+use Rattle.scenario.specs.Scenario.{Plan, Subnetwork, IsFit, AsksFairly, IsPlaced, ticks_of}
 use Rattle.scenario.specs.Words.{is_skipped}
 use Rattle.scenario.specs.Declarations.{Declarations, DeclaredSystem, nothing_declared, limits_of, snpas_on, host_of}
 use Rattle.scenario.specs.Events.{event_line, counted, are_few, nothing_counted}
@@ -100,8 +100,8 @@ plan_fit law lines =
       mtus = fits.fit.subnets;
       snpas = λ q. rw (host_snpas q declared.value.systems) (distinct_of (flat_map (snpas_on q) declared.value.systems) (fits.fit.snpas q));
       ports = hosts_on declared.value.subnets declared.value.systems fits.fit.on;
-      places = rw (length-map declared.value.systems host_of)
-          (rw (length-map declared.value.systems (λ (system : DeclaredSystem). system.name)) at counted.placed);
+      places = subst (λ n. AllByRecursion (IsPlaced n) events)
+          (length-map declared.value.systems (λ (system : DeclaredSystem). system.name) ∙ sym (length-map declared.value.systems host_of)) counted.placed;
     })))
 
 pub accepted : SpellsWhatItAccepts → (text : List ℕ) (plan : Plan) → plan_of text ≡ Ok plan → IsFit plan

@@ -1,5 +1,5 @@
 -- What a list keeps where one of its elements changes or one more comes, and names that aren't taken.
-use Rattle.std.proofs.Common.{◌≡◌, ◌≢◌, ℕ, zero, suc, ◌<◌, ◌==◌, Bool, true, false, nat_lt, List, [], ◌∷◌, ◌++◌, map, filter, length, slice_get, Option, None, Some, is_some, refl, sym, ap, ◌∙◌, arith, append_assoc}
+use Rattle.std.proofs.Common.{◌≡◌, ◌≢◌, ℕ, zero, suc, ◌+◌, ◌<◌, ◌≤◌, ◌==◌, Bool, true, false, if◌then◌else◌, nat_lt, List, [], ◌∷◌, ◌++◌, map, filter, length, slice_get, Option, None, Some, is_some, refl, sym, ap, ◌∙◌, arith, append_assoc}
 use Rattle.std.specs.List.{AllByRecursion, flat_map, list_any, position, position_or_len}
 use Rattle.std.specs.Option.{option_map}
 use Rattle.std.specs.Str.{bytes_eq}
@@ -7,6 +7,7 @@ use Rattle.std.proofs.lemmas.Bool.{true≢false}
 use Rattle.std.proofs.lemmas.List.{map-append, append-nil}
 use Rattle.std.proofs.lemmas.List.Elements.{filter-append}
 use Rattle.std.proofs.lemmas.Slice.Eq.{bytes_eq-Decides}
+use Rattle.clnp_base.proofs.Choices.{not_below, below_not}
 use Rattle.clnp_base.proofs.Lists.{AllByRecursion-implies, AllByRecursion-mapped}
 use Rattle.clnp_base.proofs.Maps.{filter-map, map-map}
 use Rattle.clnp_plan.specs.Configuration.{SystemConfiguration}
@@ -56,8 +57,14 @@ one_gets f change address gets front (suc place) (x ∷ xs) new h =
 none_step : {X : Type 0} (p : X → Bool) (x : X) (xs : List X) (b : Bool) → p x ≡ b
     → nat_lt (position_or_len p (x ∷ xs)) (length (x ∷ xs)) ≡ false
     → (nat_lt (position_or_len p xs) (length xs) ≡ false → list_any p xs ≡ false) → list_any p (x ∷ xs) ≡ false
-none_step p x xs true e h rest = absurd (true≢false (rw e at h))
-none_step p x xs false e h rest = rw e (rest (rw e at h))
+none_step p x xs true e h rest =
+    let past : length (x ∷ xs) ≤ position_or_len p (x ∷ xs) = not_below (position_or_len p (x ∷ xs)) (length (x ∷ xs)) h in
+    let far : suc (length xs) ≤ 0 = rw e at past in
+    absurd (omega (arith, far))
+none_step p x xs false e h rest =
+    let past : length (x ∷ xs) ≤ position_or_len p (x ∷ xs) = not_below (position_or_len p (x ∷ xs)) (length (x ∷ xs)) h in
+    let far : suc (length xs) ≤ 1 + position_or_len p xs = rw e at past in
+    rw e (rest (below_not (position_or_len p xs) (length xs) (omega (arith, far))))
 
 none_before : {X : Type 0} (p : X → Bool) (xs : List X) → nat_lt (position_or_len p xs) (length xs) ≡ false → list_any p xs ≡ false
 none_before p [] h = refl
