@@ -7,29 +7,29 @@ ghost use Rattle.scenario.specs.declared.code.Code.{Code};
 #[derive(Clone, Copy, Debug, PartialEq, Eq)]
 pub enum Code {
     /// The first line that isn't skipped isn't the header.
-    Header,
+    Header = 1,
     /// An unknown first word, a wrong number of words, a word of another form, or a line that is
     /// missing or too many.
-    Syntax,
+    Syntax = 2,
     /// A word that isn't decimal, or a number out of its range.
-    Number,
+    Number = 3,
     /// An address or hexadecimal text that isn't one.
-    Address,
+    Address = 4,
     /// A system or subnetwork that isn't declared.
-    UnknownName,
+    UnknownName = 5,
     /// A name that is declared already, a word or a line that may stand once and stands twice, or
     /// a second port of a system with the same number or on the same subnetwork.
-    DupName,
+    DupName = 6,
     /// An address that a system has already, or an SNPA that stands already on its subnetwork.
-    DupAddress,
+    DupAddress = 7,
     /// An identifier would rest for less than the time that a copy may be given and a buffer is
     /// kept.
-    Limits,
+    Limits = 8,
     /// An MTU that is decimal and out of its range.
-    Mtu,
+    Mtu = 9,
     /// Too many subnetworks, systems, addresses, ports, events, copies settled and lost, or ticks;
     /// or a system that lacks an address or its port.
-    Count,
+    Count = 10,
 }
 
 impl Code {
@@ -37,18 +37,7 @@ impl Code {
     pub fn number(self) -> u8
         ensures { result ≡ number_of self }
     {
-        match self {
-            Code::Header => 1,
-            Code::Syntax => 2,
-            Code::Number => 3,
-            Code::Address => 4,
-            Code::UnknownName => 5,
-            Code::DupName => 6,
-            Code::DupAddress => 7,
-            Code::Limits => 8,
-            Code::Mtu => 9,
-            Code::Count => 10,
-        }
+        self as u8
     }
 
     /// The name that a user is told.
