@@ -10,7 +10,6 @@ use Rattle.clnp_plan.specs.Configuration.{SystemConfiguration}
 use Rattle.scenario.specs.Scenario.{AsksFairly}
 use Rattle.scenario.specs.Words.{literal, has_prefix, declared_word, address_word, data_word, number_word, life_word, octets_behind, options_read, options_word, one_word, two_words, first_four, each_once}
 use Rattle.scenario.specs.Events.{wish_word, wish_words, wish_key, options_in, send_line, deliver_line, count_line, tick_line, restart_line, event_line}
-use Rattle.scenario.specs.declared.code.Code.{Code}
 use Rattle.scenario.specs.declared.code.Code.TheVariants as bad
 use Rattle.scenario.specs.declared.event.Event.TheVariants.{Settle, Lose, Tick}
 use Rattle.scenario.specs.declared.wish.Wish.{Wish}

@@ -7,7 +7,6 @@ use Rattle.scenario.specs.declared.counts.Counts.{Counts}
 use Rattle.scenario.specs.declared.event.Event.{Event}
 use Rattle.scenario.specs.declared.fault.ScenarioRefusal.{ScenarioRefusal}
 use Rattle.scenario.specs.declared.fault.ScenarioRefusal.TheVariants as refusal
-use Rattle.scenario.specs.declared.code.Code.{Code}
 use Rattle.scenario.specs.declared.code.Code.TheVariants as bad
 use Rattle.scenario.specs.Codes.{number_of}
 use Rattle.scenario.specs.Words.{is_skipped}

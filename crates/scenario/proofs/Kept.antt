@@ -1,6 +1,6 @@
 -- What a list keeps where one of its elements changes or one more comes, and names that aren't taken.
-use Rattle.std.proofs.Common.{◌≡◌, ◌≢◌, ℕ, zero, suc, ◌+◌, ◌<◌, ◌≤◌, ◌==◌, Bool, true, false, if◌then◌else◌, nat_lt, List, [], ◌∷◌, ◌++◌, map, filter, length, slice_get, Option, None, Some, is_some, refl, sym, ap, ◌∙◌, arith, append_assoc}
-use Rattle.std.specs.List.{AllByRecursion, flat_map, list_any, position, position_or_len}
+use Rattle.std.proofs.Common.{◌≡◌, ◌≢◌, ℕ, zero, suc, ◌+◌, ◌<◌, ◌≤◌, ◌==◌, Bool, true, false, if◌then◌else◌, nat_lt, List, [], ◌∷◌, ◌++◌, map, filter, length, slice_get, None, Some, is_some, refl, sym, ap, ◌∙◌, arith, append_assoc}
+use Rattle.std.specs.List.{AllByRecursion, flat_map, list_any, position_or_len}
 use Rattle.std.specs.Option.{option_map}
 use Rattle.std.specs.Str.{bytes_eq}
 use Rattle.std.proofs.lemmas.Bool.{true≢false}
@@ -86,8 +86,8 @@ pub one_more_name : (names : List (List ℕ)) (name : List ℕ) → is_taken nam
 one_more_name names name free h =
     let same : names ++ [] ≡ names = append-nil names in
     let new : IsNew name names = other_names names name
-        (none_before (λ other. bytes_eq other name) names
-        (none_at (position_or_len (λ other. bytes_eq other name) names) (nat_lt (position_or_len (λ other. bytes_eq other name) names) (length names)) free)) in
+    (none_before (λ other. bytes_eq other name) names
+    (none_at (position_or_len (λ other. bytes_eq other name) names) (nat_lt (position_or_len (λ other. bytes_eq other name) names) (length names)) free)) in
     put names name [] (rw same new) (rw same h)
 
 -- ports on subnetworks

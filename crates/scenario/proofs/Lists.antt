@@ -1,8 +1,7 @@
 -- Names and addresses of what is declared, and an element that changes.
-use Rattle.std.proofs.Common.{◌≡◌, ℕ, zero, suc, ◌<◌, ◌==◌, ◌&&◌, Bool, true, false, List, [], ◌∷◌, map, filter, length, get_or, set, nat_eq, Result, Ok, Err, MatchResult, refl, sym, ◌∙◌, ap, arith}
-use Rattle.std.proofs.lemmas.List.{length-map}
+use Rattle.std.proofs.Common.{◌≡◌, ℕ, zero, suc, ◌<◌, ◌==◌, ◌&&◌, List, [], ◌∷◌, map, length, get_or, set, nat_eq, Result, Ok, Err, MatchResult, refl, sym, ◌∙◌, ap, arith}
 use Rattle.std.proofs.lemmas.List.Folds.{list_any-append}
-use Rattle.std.specs.List.{position, position_or_len, list_any, flat_map}
+use Rattle.std.specs.List.{list_any, flat_map}
 use Rattle.std.specs.Cmp.Lexicographic.{pointwise}
 use Rattle.clnp_base.proofs.Maps.{list_any-map-filter}
 use Rattle.scenario.specs.declared.fault.LineFault.{LineFault}

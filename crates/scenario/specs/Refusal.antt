@@ -1,5 +1,5 @@
 -- How the answers of the reader and the grammar agree, up to want of memory.
-use Rattle.std.specs.Prelude.{◌≡◌, ℕ, Result, Err}
+use Rattle.std.specs.Prelude.{◌≡◌, Result, Err}
 use Rattle.scenario.specs.Grammar.{BadLine as Bad}
 use Rattle.scenario.specs.declared.code.Code.{Code}
 use Rattle.scenario.specs.declared.fault.LineFault.{LineFault}

@@ -373,7 +373,10 @@ impl Declared {
         let snpa = snpa_word(snpa)?;
         let transit = transit_word(transit)?;
         let port = self.port_at(number, subnet, snpa, transit);
-        wanted(!self.has_port(place, number, port.port.subnet), Code::DupName)?;
+        wanted(
+            !self.has_port(place, number, port.port.subnet),
+            Code::DupName,
+        )?;
         wanted(!self.has_snpa(port.port.subnet, &snpa), Code::DupAddress)?;
         wanted(self.port_count(place) < 1, Code::Count)?;
         Ok((place, port))

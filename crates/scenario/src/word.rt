@@ -155,7 +155,11 @@ pub(crate) fn is_name(word: &[u8]) -> bool
 pub(crate) fn name_word(word: &[u8]) -> Result<&[u8], Code>
     ensures { MatchResult result (λ name. name_word word.now ≡ Ok name.now) (λ code. name_word word.now ≡ Err code) }
 {
-    if is_name(word) { Ok(word) } else { Err(Code::Syntax) }
+    if is_name(word) {
+        Ok(word)
+    } else {
+        Err(Code::Syntax)
+    }
 }
 
 /// A place, where a name is declared.
