@@ -7,6 +7,8 @@ mod clnp_base_calls;
 #[cfg(test)]
 mod clnp_options_calls;
 #[cfg(test)]
+mod clnp_plan_calls;
+#[cfg(test)]
 mod clnp_views_calls;
 #[cfg(test)]
 mod clnp_world_calls;
@@ -22,5 +24,7 @@ mod nsap_calls;
 mod pdu_header_calls;
 #[cfg(test)]
 mod reassembly_calls;
+#[cfg(test)]
+mod scenario_calls;
 #[cfg(test)]
 mod segmenter_calls;
