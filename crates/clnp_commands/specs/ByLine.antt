@@ -71,6 +71,12 @@ PushOf w now next number line old new (Err refusal.Syntax) = Bad w now line numb
 PushOf w now next number line old new (Err refusal.Count) = Bad w now line number 10 × (new ≡ old)
 PushOf w now next number line old new (Err refusal.NoMemory) = Unit {0}
 
+-- What emptying a block into a sink comes to: it was written whole and is empty, or it waits on; or a front of it was
+-- written where the sink failed.
+abbrev pub FlushOf : {A E : Type 0} → List ℕ → List ℕ → Option (List ℕ) → Option (List ℕ) → Result A E → Type 0
+FlushOf old new before after (Ok _) = (Appends before after old × (new ≡ [])) ⊎ (Appends before after [] × (new ≡ old))
+FlushOf old new before after (Err _) = AppendsFront before after old
+
 -- What writing a block comes to: it was written whole and is empty, or it waits on; or a front of it was written.
 abbrev pub BlockOf : {A : Type 0} → List ℕ → List ℕ → Option (List ℕ) → Option (List ℕ) → Result A LineStop → Type 0
 BlockOf old new before after (Ok _) = (Appends before after old × (new ≡ [])) ⊎ (Appends before after [] × (new ≡ old))

@@ -1,5 +1,5 @@
 -- What the parts of the program come to: playing moves, playing a scenario, and commands.
-use Rattle.std.specs.Prelude.{◌≡◌, ℕ, ◌⊎◌, List, Option, None, Some, Result, Ok, Err}
+use Rattle.std.specs.Prelude.{◌≡◌, ℕ, ◌⊎◌, List, ◌++◌, Option, None, Some, Result, Ok, Err}
 use Rattle.std.specs.Io.KnownBytes.{Appends, Keeps}
 use Rattle.clnp_base.specs.Streams.{AppendsFront}
 use Rattle.scenario.specs.Scenario.{Plan}
@@ -10,8 +10,8 @@ use Rattle.clnp_world.specs.State.{WorldState}
 use Rattle.clnp_world.specs.Stands.{Stands}
 use Rattle.clnp_commands.specs.declared.status.Status.{Status}
 use Rattle.clnp_commands.specs.declared.status.Status.TheVariants as status
-use Rattle.clnp_commands.specs.declared.top.Stop.{Stop}
-use Rattle.clnp_commands.specs.declared.top.Stop.TheVariants as stop
+use Rattle.clnp_commands.specs.declared.sim.Stop.{Stop}
+use Rattle.clnp_commands.specs.declared.sim.Stop.TheVariants as stop
 use Rattle.clnp_commands.specs.declared.command.Command.{Command}
 use Rattle.clnp_commands.specs.Words.{status_of, AppendsOutput, AppendsOutputFront, AppendsOutputParts}
 use Rattle.clnp_commands.specs.Sim.{AppendsMoves, AppendsWholeMoves}
@@ -23,11 +23,16 @@ PieceOf piece before after (Err stop.WriteFault) = AppendsFront before after pie
 PieceOf piece before after (Err stop.NoMemory) = Keeps before after
 PieceOf piece before after (Err (stop.WorldFull octets)) = ⊥
 
--- the moves were made, before none of them was the network full, and their text was written
-pub record Plays (plan : Plan) (model : network.World) (moves : List Move) (code : WorldState) (before after : Option (List ℕ)) : Type 0 where
+-- The moves were made, and before none of them was the network full: the text of the first of them is written, and that
+-- of the others waits in a block.
+pub record UnderWay (plan : Plan) (model : network.World) (moves : List Move) (code : WorldState) (before after : Option (List ℕ)) (block : List ℕ) : Type 0 where
+  pub made : List Move
+  pub waiting : List Move
+  pub split : moves ≡ made ++ waiting
   pub room : full_weight plan model moves ≡ None
   pub stands : Stands code (world_after plan model moves)
-  pub appended : Appends before after (text_of plan model moves)
+  pub appended : Appends before after (text_of plan model made)
+  pub waits : block ≡ text_of plan (world_after plan model made) waiting
 
 -- the network was full before one of the moves, and the text of those before it was written
 pub record PlaysUntilFull (plan : Plan) (model : network.World) (moves : List Move) (octets : ℕ) (before after : Option (List ℕ)) : Type 0 where
@@ -42,9 +47,15 @@ StopOf plan model moves before after stop.NoMemory = AppendsMoves plan model (un
 StopOf plan model moves before after (stop.WorldFull octets) = PlaysUntilFull plan model moves octets before after
 
 -- What playing moves comes to: all of them were played, or it stopped.
-abbrev pub PlayOf : {A : Type 0} → Plan → network.World → List Move → WorldState → Option (List ℕ) → Option (List ℕ) → Result A Stop → Type 0
-PlayOf plan model moves code before after (Ok _) = Plays plan model moves code before after
-PlayOf plan model moves code before after (Err e) = StopOf plan model moves before after e
+abbrev pub PlayOf : {A : Type 0} → Plan → network.World → List Move → WorldState → Option (List ℕ) → Option (List ℕ) → List ℕ → Result A Stop → Type 0
+PlayOf plan model moves code before after block (Ok _) = UnderWay plan model moves code before after block
+PlayOf plan model moves code before after block (Err e) = StopOf plan model moves before after e
+
+-- What writing the block before a move comes to that isn't made since the network weighs so many octets.
+abbrev pub FullOf : ℕ → List ℕ → Option (List ℕ) → Option (List ℕ) → Stop → Type 0
+FullOf octets block before after (stop.WorldFull weighs) = (weighs ≡ octets) × Appends before after block
+FullOf octets block before after stop.WriteFault = AppendsFront before after block
+FullOf octets block before after stop.NoMemory = ⊥
 
 -- what was written where playing a scenario stopped: a front of its journal, or the text of some whole moves, or its whole
 -- journal where the network was full

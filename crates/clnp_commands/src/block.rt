@@ -1,13 +1,13 @@
 //! What the commands share that go over the lines of their input: output that waits in a block, and
 //! why a line stops a command.
-ghost use Rattle.std.specs.Prelude.{◌≡◌, ◌≤◌, OnOk, OnErr};
+ghost use Rattle.std.specs.Prelude.{◌≡◌, ◌≤◌, [], OnOk, OnErr, Err};
 ghost use Rattle.std.specs.Io.KnownBytes.{Appends};
 ghost use Rattle.clnp_base.specs.Streams.{AppendsFront, Rose};
-ghost use Rattle.clnp_commands.specs.ByLine.{BlockOf, RefusalOf, stop_status};
+ghost use Rattle.clnp_commands.specs.ByLine.{BlockOf, FlushOf, RefusalOf, stop_status};
 
 use crate::status::Status;
 use captures::LineRefusal;
-use clnp_base::{Sink, write_all};
+use clnp_base::{Failed, Sink, write_all};
 
 /// How many octets wait before they are written in one piece.
 const BLOCK: usize = 65_536;
@@ -65,10 +65,10 @@ pub fn write_full_block<K: Sink>(block: &mut Vec<u8>, sink: &mut K) -> Result<()
     ensures written { BlockOf block.old.items block.new.items (K.written sink.old) (K.written sink.new) result }
     ensures failed { result ≡ Err LineStop.WriteFault → Rose (K.faults sink.old) (K.faults sink.new) }
 {
-    if block.len() < BLOCK {
-        return Ok(());
+    match flush_full(block, sink) {
+        Ok(()) => Ok(()),
+        Err(Failed) => Err(LineStop::WriteFault),
     }
-    write_block(block, sink)
 }
 
 /// Writes the block, and empties it.
@@ -79,11 +79,34 @@ pub fn write_block<K: Sink>(block: &mut Vec<u8>, sink: &mut K) -> Result<(), Lin
     ensures front { OnErr result (AppendsFront (K.written sink.old) (K.written sink.new) block.old.items) }
     ensures failed { OnErr result (Rose (K.faults sink.old) (K.faults sink.new)) }
 {
-    match write_all(sink, block.as_slice()) {
-        Ok(()) => {
-            block.clear();
-            Ok(())
-        }
-        Err(_) => Err(LineStop::WriteFault),
+    match flush(block, sink) {
+        Ok(()) => Ok(()),
+        Err(Failed) => Err(LineStop::WriteFault),
     }
+}
+
+/// Writes the block where it is full, and empties it then.
+pub fn flush_full<K: Sink>(block: &mut Vec<u8>, sink: &mut K) -> Result<(), Failed>
+    ensures later { K.faults sink.old ≤ K.faults sink.new }
+    ensures written { FlushOf block.old.items block.new.items (K.written sink.old) (K.written sink.new) result }
+    ensures failed { OnErr result (Rose (K.faults sink.old) (K.faults sink.new)) }
+{
+    if block.len() < BLOCK {
+        return Ok(());
+    }
+    flush(block, sink)
+}
+
+/// Writes the block, and empties it.
+pub fn flush<K: Sink>(block: &mut Vec<u8>, sink: &mut K) -> Result<(), Failed>
+    ensures later { K.faults sink.old ≤ K.faults sink.new }
+    ensures written { FlushOf block.old.items block.new.items (K.written sink.old) (K.written sink.new) result }
+    ensures emptied { OnOk result (block.new.items ≡ []) }
+    ensures done { OnOk result (Appends (K.written sink.old) (K.written sink.new) block.old.items) }
+    ensures front { OnErr result (AppendsFront (K.written sink.old) (K.written sink.new) block.old.items) }
+    ensures failed { OnErr result (Rose (K.faults sink.old) (K.faults sink.new)) }
+{
+    write_all(sink, block.as_slice())?;
+    block.clear();
+    Ok(())
 }

@@ -8,6 +8,7 @@ mod block;
 mod check;
 mod command;
 mod show;
+mod sim;
 mod status;
 mod top;
 

@@ -1,29 +1,24 @@
 //! The top call: words and input in, output and a status out.
-ghost use Rattle.std.specs.Prelude.{◌≡◌, ◌<◌, ◌≤◌, ◌⊎◌, ◌↔◌, ℕ, List, [], ◌∷◌, length, map, replicate, IfSome, IfOk, Ok, Err, string_bytes};
+ghost use Rattle.std.specs.Prelude.{◌≡◌, ◌<◌, ◌≤◌, ◌⊎◌, ◌↔◌, ℕ, List, length, map, IfSome, IfOk, Ok, Err, string_bytes};
 ghost use Rattle.std.specs.List.{AllByRecursion};
 ghost use Rattle.std.specs.Io.KnownBytes.{Consumes, Keeps};
 ghost use Rattle.clnp_base.specs.Streams.{Rose};
-ghost use Rattle.clnp_base.specs.Text.{lines_of};
-ghost use Rattle.scenario.specs.Scenario.{IsFit, moves_of};
 ghost use Rattle.scenario.specs.Grammar.{plan_of};
-ghost use Rattle.clnp_network.specs.World as network;
 ghost use Rattle.clnp_network.specs.World.{first_world};
-ghost use Rattle.clnp_network.specs.Run.{moves_of_plan, run, world_after, world_end};
+ghost use Rattle.clnp_network.specs.Run.{run, world_after};
 ghost use Rattle.clnp_network.specs.Safe.{IsHonest, IsWithinBudgets, NoInterference};
-ghost use Rattle.clnp_world.specs.Stands.{Stands};
 ghost use Rattle.clnp_commands.specs.Words.{command_of, called, called_by, AppendsOutput, AppendsOutputFront, AppendsOutputParts, Excuses};
 ghost use Rattle.clnp_commands.specs.Sim.{most_input, ReadsWhole};
-ghost use Rattle.clnp_commands.specs.Play.{PieceOf, PlayOf, JournalOf, ComesTo};
-ghost use Rattle.clnp_commands.specs.Time.{HasTime};
+ghost use Rattle.clnp_commands.specs.Play.{ComesTo};
 
 use crate::check::check;
 use crate::command::Command;
 use crate::show::show;
+use crate::sim::sim;
 use crate::status::Status;
-use clnp_base::{ReadStop, Sink, Source, read_all, write_all};
+use clnp_base::{ReadStop, Sink, Source, read_all};
 use clnp_safety::laws;
-use clnp_world::{World, WorldRefusal};
-use scenario::{Event, Move, Scenario, ScenarioRefusal};
+use scenario::Move;
 use std::alloc::Global;
 
 /// The most octets of an input.
@@ -149,171 +144,5 @@ fn obey<K: Sink>(alloc: Global, command: Command, text: &[u8], sink: &mut K) -> 
         Command::Sim => sim(alloc, text, sink),
         Command::Show => show(alloc, text, sink),
         Command::Check => check(alloc, text, sink),
-    }
-}
-
-/// Writes the journal of the scenario that a text is.
-fn sim<K: Sink>(alloc: Global, text: &[u8], sink: &mut K) -> Status
-    requires { length text.now ≤ most_input }
-    ensures later { K.faults sink.old ≤ K.faults sink.new }
-    ensures comes_to { ComesTo Command.Sim text.now (K.written sink.old) (K.written sink.new) result }
-    ensures failed { result ≡ Status.WriteFault → Rose (K.faults sink.old) (K.faults sink.new) }
-{
-    few_lines();
-    scenario::laws::accepted_is_fit();
-    match scenario::read(alloc, text) {
-        Ok(scenario) => match play(alloc, &scenario, sink) {
-            Ok(()) => Status::Done,
-            Err(Stop::WorldFull { octets }) => Status::WorldFull { octets },
-            Err(Stop::WriteFault) => Status::WriteFault,
-            Err(Stop::NoMemory) => Status::NoMemory,
-        },
-        Err(ScenarioRefusal::BadLine { line, code }) => Status::BadInput { line, code },
-        Err(ScenarioRefusal::NoMemory) => Status::NoMemory,
-    }
-}
-
-/// A text has no more lines than octets.
-fn few_lines()
-    ensures { (text : List ℕ) → length (lines_of text) ≤ length text }
-{}
-
-/// Why the writing of a journal stopped.
-#[derive(Clone, Copy, Debug, PartialEq, Eq)]
-enum Stop {
-    /// The copies weigh too much: so many octets.
-    WorldFull { octets: u64 },
-    WriteFault,
-    NoMemory,
-}
-
-/// Plays a scenario: makes its moves and writes their lines, and then the journal's last line.
-fn play<K: Sink>(alloc: Global, scenario: &Scenario, sink: &mut K) -> Result<(), Stop>
-    requires { IsFit scenario.now }
-    ensures later { K.faults sink.old ≤ K.faults sink.new }
-    ensures comes_to { JournalOf scenario.now (K.written sink.old) (K.written sink.new) result }
-    ensures failed { result ≡ Err Stop.WriteFault → Rose (K.faults sink.old) (K.faults sink.new) }
-{
-    match World::new(alloc, scenario) {
-        Ok(mut world) => {
-            play_events(alloc, scenario, &mut world, sink)?;
-            write_end(alloc, &world, sink)
-        }
-        Err(_) => Err(Stop::NoMemory),
-    }
-}
-
-/// Makes the moves of all events and writes their lines.
-fn play_events<K: Sink>(
-    alloc: Global,
-    scenario: &Scenario,
-    world: &mut World,
-    sink: &mut K,
-) -> Result<(), Stop>
-    requires { HasTime world.old (moves_of_plan scenario.now) }
-    ensures later { K.faults sink.old ≤ K.faults sink.new }
-    ensures comes_to { (model : network.World) → Stands world.old model
-        → PlayOf scenario.now model (moves_of_plan scenario.now) world.new (K.written sink.old) (K.written sink.new) result }
-    ensures failed { result ≡ Err Stop.WriteFault → Rose (K.faults sink.old) (K.faults sink.new) }
-{
-    for (place, event) in scenario.events().iter().enumerate() {
-        play_event(alloc, scenario, place, event, world, sink)?;
-    }
-    Ok(())
-}
-
-/// Makes the moves of the event at a place and writes their lines.
-fn play_event<K: Sink>(
-    alloc: Global,
-    scenario: &Scenario,
-    place: usize,
-    event: &Event,
-    world: &mut World,
-    sink: &mut K,
-) -> Result<(), Stop>
-    requires { HasTime world.old (moves_of place event.now) }
-    ensures later { K.faults sink.old ≤ K.faults sink.new }
-    ensures comes_to { (model : network.World) → Stands world.old model
-        → PlayOf scenario.now model (moves_of place event.now) world.new (K.written sink.old) (K.written sink.new) result }
-    ensures failed { result ≡ Err Stop.WriteFault → Rose (K.faults sink.old) (K.faults sink.new) }
-{
-    match event {
-        Event::Settle { count } => {
-            play_times(alloc, scenario, &Move::SettleOne, *count, world, sink)
-        }
-        Event::Lose { count } => play_times(alloc, scenario, &Move::LoseOne, *count, world, sink),
-        Event::Tick { count } => play_times(alloc, scenario, &Move::TickOne, *count, world, sink),
-        Event::Send { .. } | Event::Deliver { .. } | Event::Restart { .. } => {
-            play_move(alloc, scenario, &Move::One(place), world, sink)
-        }
-    }
-}
-
-/// Makes one move so many times and writes the lines.
-fn play_times<K: Sink>(
-    alloc: Global,
-    scenario: &Scenario,
-    mv: &Move,
-    count: u32,
-    world: &mut World,
-    sink: &mut K,
-) -> Result<(), Stop>
-    requires { HasTime world.old (replicate count mv.now) }
-    ensures later { K.faults sink.old ≤ K.faults sink.new }
-    ensures comes_to { (model : network.World) → Stands world.old model
-        → PlayOf scenario.now model (replicate count mv.now) world.new (K.written sink.old) (K.written sink.new) result }
-    ensures failed { result ≡ Err Stop.WriteFault → Rose (K.faults sink.old) (K.faults sink.new) }
-{
-    for _made in 0..count {
-        play_move(alloc, scenario, mv, world, sink)?;
-    }
-    Ok(())
-}
-
-/// Makes one move and writes its lines.
-fn play_move<K: Sink>(
-    alloc: Global,
-    scenario: &Scenario,
-    mv: &Move,
-    world: &mut World,
-    sink: &mut K,
-) -> Result<(), Stop>
-    requires { HasTime world.old (mv.now ∷ []) }
-    ensures later { K.faults sink.old ≤ K.faults sink.new }
-    ensures comes_to { (model : network.World) → Stands world.old model
-        → PlayOf scenario.now model (mv.now ∷ []) world.new (K.written sink.old) (K.written sink.new) result }
-    ensures failed { result ≡ Err Stop.WriteFault → Rose (K.faults sink.old) (K.faults sink.new) }
-{
-    let mut lines = Vec::new(alloc);
-    match world.step(alloc, scenario, mv, &mut lines) {
-        Ok(()) => write(sink, lines.as_slice()),
-        Err(WorldRefusal::WorldFull { octets }) => Err(Stop::WorldFull { octets }),
-        Err(WorldRefusal::NoMemory) => Err(Stop::NoMemory),
-    }
-}
-
-/// Writes the journal's last line.
-fn write_end<K: Sink>(alloc: Global, world: &World, sink: &mut K) -> Result<(), Stop>
-    ensures later { K.faults sink.old ≤ K.faults sink.new }
-    ensures comes_to { (model : network.World) → Stands world.now model
-        → PieceOf (world_end model) (K.written sink.old) (K.written sink.new) result }
-    ensures failed { result ≡ Err Stop.WriteFault → Rose (K.faults sink.old) (K.faults sink.new) }
-{
-    let mut line = Vec::new(alloc);
-    if world.finish(alloc, &mut line).is_err() {
-        return Err(Stop::NoMemory);
-    }
-    write(sink, line.as_slice())
-}
-
-/// Writes a piece whole.
-fn write<K: Sink>(sink: &mut K, piece: &[u8]) -> Result<(), Stop>
-    ensures later { K.faults sink.old ≤ K.faults sink.new }
-    ensures comes_to { PieceOf piece.now (K.written sink.old) (K.written sink.new) result }
-    ensures failed { result ≡ Err Stop.WriteFault → Rose (K.faults sink.old) (K.faults sink.new) }
-{
-    match write_all(sink, piece) {
-        Ok(()) => Ok(()),
-        Err(_) => Err(Stop::WriteFault),
     }
 }
