@@ -3,7 +3,11 @@
 #![tactic(auto)]
 
 #[cfg(test)]
+mod captures_calls;
+#[cfg(test)]
 mod clnp_base_calls;
+#[cfg(test)]
+mod clnp_commands_calls;
 #[cfg(test)]
 mod clnp_options_calls;
 #[cfg(test)]

@@ -4,11 +4,10 @@ use Rattle.std.specs.Prelude.{nat_lt}
 use Rattle.hex.specs.Hex.{IsBytes, decode_of}
 use Rattle.hex.specs.declared.error.FromHexError.{FromHexError}
 use Rattle.hex.proofs.HexLemmas.{decode_of-ok}
-use Rattle.captures.specs.declared.capture.TheConstants.{MOST_OCTETS}
 use Rattle.captures.specs.declared.vector.Verdict.{Verdict}
 use Rattle.captures.specs.declared.vector.Verdict.TheVariants.{Skip}
 use Rattle.captures.specs.Captures as capture
-use Rattle.captures.specs.Captures.{Capture, is_skipped, spelled_capture, capture_of}
+use Rattle.captures.specs.Captures.{most_octets, Capture, is_skipped, spelled_capture, capture_of}
 use Rattle.captures.specs.Vectors as vector
 use Rattle.captures.specs.Vectors.{Vector, vector_of, before_space, from_space, behind_arrow, spelled_vector, expecting, Judges}
 use Rattle.captures.specs.Shown.{Shows}
@@ -24,7 +23,7 @@ frame_spelled : (text octets : List ℕ) (spelled : Result (List ℕ) FromHexErr
     → spelled_capture spelled ≡ capture.Frame octets → IsBytes octets
 frame_spelled text octets (Err e) is frame = cc
 frame_spelled text octets (Ok found) is frame =
-    elim (nat_lt MOST_OCTETS (length found)) as (λ (many : Bool). (if many then capture.TooLong else capture.Frame found) ≡ capture.Frame octets → IsBytes octets) [
+    elim (nat_lt most_octets (length found)) as (λ (many : Bool). (if many then capture.TooLong else capture.Frame found) ≡ capture.Frame octets → IsBytes octets) [
       | true ↦ λ h. cc
       | false ↦ λ h. let e : found ≡ octets = cc in decoded_bytes text octets (rw e at is)
     ] frame
@@ -43,7 +42,7 @@ vector_spelled digits octets expected (Err e) arrow is expects = cc
 vector_spelled digits octets expected (Ok found) None is expects = cc
 vector_spelled digits octets expected (Ok []) (Some other) is expects = cc
 vector_spelled digits octets expected (Ok (octet ∷ others)) (Some other) is expects =
-    elim (nat_lt MOST_OCTETS (length (octet ∷ others))) as (λ (many : Bool). (if many then vector.TooLong else vector.Expects (octet ∷ others) other) ≡ vector.Expects octets expected → IsBytes octets) [
+    elim (nat_lt most_octets (length (octet ∷ others))) as (λ (many : Bool). (if many then vector.TooLong else vector.Expects (octet ∷ others) other) ≡ vector.Expects octets expected → IsBytes octets) [
       | true ↦ λ h. cc
       | false ↦ λ h. let e : octet ∷ others ≡ octets = cc in decoded_bytes digits octets (rw e at is)
     ] expects

@@ -22,12 +22,13 @@ pub fn show<K: Sink>(alloc: Global, text: &[u8], sink: &mut K) -> Status
     ensures failed { result ≡ Status.WriteFault → Rose (K.faults sink.old) (K.faults sink.new) }
 {
     every_frame_is_shown();
+    let mut frame = Vec::new(alloc);
     let mut block = Vec::new(alloc);
     let mut number = 0u32;
     let mut left = text;
     while let Some((line, others)) = next_line(left) {
         number += 1;
-        match show_next(alloc, line, &mut block, sink) {
+        match show_next(alloc, line, &mut frame, &mut block, sink) {
             Ok(()) => left = others,
             Err(stop) => return stop.status(number),
         }
@@ -46,9 +47,11 @@ fn every_frame_is_shown()
 }
 
 /// Puts the next line into the block, and writes the block where it is full or the line is bad.
+/// `frame` is a list to use for its frame.
 fn show_next<K: Sink>(
     alloc: Global,
     line: &[u8],
+    frame: &mut Vec<u8>,
     block: &mut Vec<u8>,
     sink: &mut K,
 ) -> Result<(), LineStop>
@@ -58,18 +61,23 @@ fn show_next<K: Sink>(
         → NextOf showing 1 (λ done. number + 1) all left number before (K.written sink.new) block.new.items result }
     ensures failed { result ≡ Err LineStop.WriteFault → Rose (K.faults sink.old) (K.faults sink.new) }
 {
-    match push_line(alloc, line, block) {
+    match push_line(alloc, line, frame, block) {
         Ok(()) => write_full_block(block, sink),
         Err(refusal) => Err(refuse(refusal, block, sink)),
     }
 }
 
 /// Puts the line that shows the frame of a line into the block, if it has one.
-fn push_line(alloc: Global, line: &[u8], block: &mut Vec<u8>) -> Result<(), LineRefusal>
+fn push_line(
+    alloc: Global,
+    line: &[u8],
+    frame: &mut Vec<u8>,
+    block: &mut Vec<u8>,
+) -> Result<(), LineRefusal>
     ensures { (number : ℕ) → PushOf showing number (λ done. number + 1) number line.now block.old.items block.new.items result }
 {
-    let mut frame = Vec::new(alloc);
-    if read_capture(alloc, line, &mut frame)? {
+    frame.clear();
+    if read_capture(line, frame)? {
         return push_shown(alloc, frame.as_slice(), block);
     }
     Ok(())

@@ -65,13 +65,7 @@ fn run_case(alloc: Global, case: &Case<'_>) -> Result<Outcome, AllocError> {
     let mut source = MemSource::new(input, PIECE, Vec::new(alloc));
     let mut sink = sink_of(alloc)?;
     let mut errors = sink_of(alloc)?;
-    let number = run(
-        alloc,
-        list.as_slice(),
-        &mut source,
-        &mut sink,
-        &mut errors,
-    );
+    let number = run(alloc, list.as_slice(), &mut source, &mut sink, &mut errors);
     let output = compared(alloc, case.selection, sink.as_bytes())?;
     let said = Vec::from_slice(alloc, errors.as_bytes())?;
     Ok(Outcome {
@@ -90,11 +84,7 @@ fn sink_of(alloc: Global) -> Result<MemSink, AllocError> {
 }
 
 /// What is compared of an output.
-fn compared(
-    alloc: Global,
-    selection: Selection<'_>,
-    output: &[u8],
-) -> Result<Vec<u8>, AllocError> {
+fn compared(alloc: Global, selection: Selection<'_>, output: &[u8]) -> Result<Vec<u8>, AllocError> {
     match selection {
         Selection::All => Ok(Vec::from_slice(alloc, output)?),
         _ => selected(alloc, selection, output),
@@ -119,7 +109,9 @@ fn push_fail(
     let number = came.number;
     report.extend_from_slice(b"fail ")?;
     report.extend_from_slice(name)?;
-    let text = format!(in alloc; " with exit number {number}, and this output and standard error:\n")?;
+    let text = format!(in alloc;
+        " with exit number {number}, and this output and standard error:\n"
+    )?;
     report.extend_from_slice(text.as_str().as_bytes())?;
     report.extend_from_slice(came.output.as_slice())?;
     report.extend_from_slice(came.said.as_slice())?;

@@ -33,8 +33,7 @@ loop-place-preserved g c =
     let events = c.args.scenario.now.events in
     let count : length c.events-event-items.result.now ≡ length events = ap length c.events-event-items.ensures in
     let within : c.loop-place.place < length events = omega arith in
-    let is : c.event-item.result ≡ get_or events c.loop-place.place c.event-item.result = rw c.events-event-items.ensures at c.event-item.is in
-    (
+    let is : c.event-item.result ≡ get_or events c.loop-place.place c.event-item.result = rw c.events-event-items.ensures at c.event-item.is in (
       λ model stands.
           rw (moves_from_more events c.loop-place.place c.event-item.result within is, world_after-append)
           (c.in_ok-play_event.ensures.stands _ (c.loop-place.invariant.0 model stands)),
