@@ -75,6 +75,7 @@ struct Buffer {
     covered: usize,
     size: usize,
     deadline: u64,
+    serial: u64,
     first: bool,
 }
 
@@ -85,6 +86,7 @@ struct Host {
     sent: u64,
     used: u64,
     held: usize,
+    opened: u64,
     buffers: HashMap<(usize, u16), Buffer>,
 }
 
@@ -237,7 +239,7 @@ impl Network {
         let now = self.clock;
         for host in &mut self.hosts {
             while let Some(key) =
-                host.buffers.iter().filter(|b| b.1.deadline <= now).min_by_key(|b| b.1.deadline).map(|b| *b.0)
+                host.buffers.iter().filter(|b| b.1.deadline <= now).min_by_key(|b| (b.1.deadline, b.1.serial)).map(|b| *b.0)
             {
                 let buffer = host.buffers.remove(&key).unwrap();
                 host.held -= buffer.size;
@@ -274,12 +276,15 @@ fn keep(now: u64, host: &mut Host, copy: &Copy, source: &[u8], destination: &[u8
     if host.held + size > host.budget {
         panic!("the measured scenarios keep their budgets");
     }
+    host.opened += 1;
+    let serial = host.opened;
     let buffer = host.buffers.entry(key).or_insert_with(|| Buffer {
         octets: vec![0; copy.unit_len],
         ranges: Vec::new(),
         covered: 0,
         size: 0,
         deadline: now + HOLD.min(LIFE),
+        serial,
         first: false,
     });
     let new = cover(&mut buffer.ranges, copy.offset, copy.offset + octets.len());
@@ -333,6 +338,7 @@ fn main() {
                     sent: 0,
                     used: 0,
                     held: 0,
+                    opened: 0,
                     buffers: HashMap::new(),
                 });
             }

@@ -11,6 +11,8 @@ mod clnp_commands_calls;
 #[cfg(test)]
 mod clnp_options_calls;
 #[cfg(test)]
+mod clnp_program_calls;
+#[cfg(test)]
 mod clnp_views_calls;
 #[cfg(test)]
 mod nsap_calls;

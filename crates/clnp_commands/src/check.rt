@@ -13,8 +13,7 @@ use crate::block::{LineStop, refuse, write_block, write_full_block};
 use crate::command::Command;
 use crate::status::Status;
 use captures::{LineRefusal, Verdict, check_line, laws};
-use clnp_base::{NoMemory, Sink, next_line};
-use itoa::Buffer;
+use clnp_base::{NoMemory, Sink, next_line, push, push_decimal};
 use std::alloc::Global;
 
 /// How many vectors passed and how many failed, at most 16,777,216 together.
@@ -172,14 +171,6 @@ fn push_tally(tally: Tally, block: &mut Vec<u8>) -> Result<(), NoMemory>
 fn push_number(label: &[u8], number: u32, block: &mut Vec<u8>) -> Result<(), NoMemory>
     ensures { OnOk result (block.new.items ≡ block.old.items ++ (label.now ++ decimal number)) }
 {
-    let mut buffer = Buffer::new();
     push(label, block)?;
-    push(buffer.format(number).as_bytes(), block)
-}
-
-/// Appends a piece.
-fn push(piece: &[u8], block: &mut Vec<u8>) -> Result<(), NoMemory>
-    ensures { OnOk result (block.new.items ≡ block.old.items ++ piece.now) }
-{
-    block.extend_from_slice(piece).map_err(|_| NoMemory)
+    push_decimal(u64::from(number), block)
 }

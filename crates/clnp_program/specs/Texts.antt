@@ -3,7 +3,9 @@ use Rattle.std.specs.Prelude.{ℕ, ◌==◌, if◌then◌else◌, List, [], ◌�
 use Rattle.std.specs.Fmt.{decimal}
 use Rattle.std.specs.Str.{bytes_eq}
 use Rattle.clnp_commands.specs.declared.status.Status.{Status}
-use Rattle.clnp_commands.specs.declared.status.Status.TheVariants.{Done, BadWords, TooLong, BadInput, WorldFull, ReadFault, WriteFault, NoMemory}
+use Rattle.clnp_commands.specs.declared.status.Status.TheVariants as status
+use Rattle.clnp_program.specs.declared.fault.Fault.{Fault}
+use Rattle.clnp_program.specs.declared.fault.Fault.TheVariants.{BadWords, TooLong, BadInput, WorldFull, ReadFault, WriteFault, NoMemory}
 
 unfoldable pub version_text : List ℕ
 version_text = codes "clnp 0.1.0\n"
@@ -43,14 +45,31 @@ code_name code =
 abbrev pub wanted : List ℕ
 wanted = codes "clnp: wanted: clnp sim < SCENARIO, clnp show < CAPTURE, or clnp check < VECTORS\n"
 
--- What is said on standard error at a status: nothing where all was done, else a line for the fault, and behind bad
--- words which words are commands.
+-- the line of a fault, and behind that of bad words which words are commands
+abbrev pub fault_text : Fault → List ℕ
+fault_text (BadWords at) = codes "clnp: bad words at " ++ (decimal at ++ ((10 ∷ []) ++ wanted))
+fault_text TooLong = codes "clnp: input too long\n"
+fault_text (BadInput line code) = codes "clnp: bad input at line " ++ (decimal line ++ (codes ": " ++ (code_name code ++ (10 ∷ []))))
+fault_text (WorldFull octets) = codes "clnp: world full at " ++ (decimal octets ++ codes " octets\n")
+fault_text ReadFault = codes "clnp: read fault\n"
+fault_text WriteFault = codes "clnp: write fault\n"
+fault_text NoMemory = codes "clnp: no memory\n"
+
+-- the fault of a status, if it is one
+abbrev pub fault_of : Status → Option Fault
+fault_of status.Done = None
+fault_of (status.BadWords at) = Some (BadWords at)
+fault_of status.TooLong = Some TooLong
+fault_of (status.BadInput line code) = Some (BadInput line code)
+fault_of (status.WorldFull octets) = Some (WorldFull octets)
+fault_of status.ReadFault = Some ReadFault
+fault_of status.WriteFault = Some WriteFault
+fault_of status.NoMemory = Some NoMemory
+
+abbrev pub text_where_any : Option Fault → List ℕ
+text_where_any None = []
+text_where_any (Some fault) = fault_text fault
+
+-- what is said on standard error at a status: nothing where it is no fault
 abbrev pub said : Status → List ℕ
-said Done = []
-said (BadWords at) = codes "clnp: bad words at " ++ (decimal at ++ ((10 ∷ []) ++ wanted))
-said TooLong = codes "clnp: input too long\n"
-said (BadInput line code) = codes "clnp: bad input at line " ++ (decimal line ++ (codes ": " ++ (code_name code ++ (10 ∷ []))))
-said (WorldFull octets) = codes "clnp: world full at " ++ (decimal octets ++ codes " octets\n")
-said ReadFault = codes "clnp: read fault\n"
-said WriteFault = codes "clnp: write fault\n"
-said NoMemory = codes "clnp: no memory\n"
+said status = text_where_any (fault_of status)

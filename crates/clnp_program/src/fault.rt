@@ -3,13 +3,60 @@ ghost use Rattle.std.specs.Prelude.{◌≡◌, ◌≤◌, ◌++◌, OnOk, OnErr}
 ghost use Rattle.std.specs.Io.KnownBytes.{Appends};
 ghost use Rattle.std.specs.Fmt.{decimal};
 ghost use Rattle.clnp_base.specs.Streams.{Rose};
-ghost use Rattle.clnp_program.specs.Texts.{code_name, said};
+ghost use Rattle.clnp_program.specs.Texts.{code_name, fault_of, fault_text, said};
 
 use clnp_base::{Failed, Sink, write_all};
 use clnp_commands::Status;
 use itoa::Buffer;
+use thiserror::Error;
+
+/// Why a call of the program didn't do all that was asked.
+#[derive(Clone, Copy, Debug, PartialEq, Eq, Error)]
+pub enum Fault {
+    /// The words are no command, first at this place, from 0.
+    #[error("bad words at {at}")]
+    BadWords { at: usize },
+    /// The input has more than 16,777,216 octets.
+    #[error("input too long")]
+    TooLong,
+    /// The input breaks its grammar, first at this line, from 1, with the code of what it breaks.
+    #[error("bad input at line {line}: {}", code_name(*.code))]
+    BadInput { line: u32, code: u8 },
+    /// The copies of a simulated network weigh too much, so many octets.
+    #[error("world full at {octets} octets")]
+    WorldFull { octets: u64 },
+    /// The source failed.
+    #[error("read fault")]
+    ReadFault,
+    /// The sink failed.
+    #[error("write fault")]
+    WriteFault,
+    /// Memory was refused.
+    #[error("no memory")]
+    NoMemory,
+}
+
+impl Fault {
+    /// The fault of an answer, if it is one.
+    pub fn of(status: Status) -> Option<Fault>
+        ensures { result ≡ fault_of status }
+    {
+        match status {
+            Status::Done => None,
+            Status::BadWords { at } => Some(Fault::BadWords { at }),
+            Status::TooLong => Some(Fault::TooLong),
+            Status::BadInput { line, code } => Some(Fault::BadInput { line, code }),
+            Status::WorldFull { octets } => Some(Fault::WorldFull { octets }),
+            Status::ReadFault => Some(Fault::ReadFault),
+            Status::WriteFault => Some(Fault::WriteFault),
+            Status::NoMemory => Some(Fault::NoMemory),
+        }
+    }
+}
 
 /// Says what went wrong, if anything did. It takes no memory.
+///
+/// What is derived for `Display` has the same texts, and no contract.
 ///
 /// # Errors
 ///
@@ -18,23 +65,33 @@ pub(crate) fn report<K: Sink>(status: Status, errors: &mut K) -> Result<(), Fail
     ensures said { OnOk result (Appends (K.written errors.old) (K.written errors.new) (said status)) }
     ensures failed { OnErr result (Rose (K.faults errors.old) (K.faults errors.new)) }
 {
-    match status {
-        Status::Done => Ok(()),
-        Status::BadWords { at } => report_bad_words(at, errors),
-        Status::TooLong => write_all(errors, b"clnp: input too long\n"),
-        Status::BadInput { line, code } => report_bad_input(line, code, errors),
-        Status::WorldFull { octets } => {
-            write_number(b"clnp: world full at ", octets, b" octets\n", errors)
-        }
-        Status::ReadFault => write_all(errors, b"clnp: read fault\n"),
-        Status::WriteFault => write_all(errors, b"clnp: write fault\n"),
-        Status::NoMemory => write_all(errors, b"clnp: no memory\n"),
+    match Fault::of(status) {
+        None => Ok(()),
+        Some(fault) => write_fault(fault, errors),
     }
 }
 
-/// Says that the words are no command, and which words are.
-fn report_bad_words<K: Sink>(at: usize, errors: &mut K) -> Result<(), Failed>
-    ensures said { OnOk result (Appends (K.written errors.old) (K.written errors.new) (said (Status.BadWords at))) }
+/// Writes the line of a fault, and behind that of bad words which words are commands.
+fn write_fault<K: Sink>(fault: Fault, errors: &mut K) -> Result<(), Failed>
+    ensures written { OnOk result (Appends (K.written errors.old) (K.written errors.new) (fault_text fault)) }
+    ensures failed { OnErr result (Rose (K.faults errors.old) (K.faults errors.new)) }
+{
+    match fault {
+        Fault::BadWords { at } => write_bad_words(at, errors),
+        Fault::TooLong => write_all(errors, b"clnp: input too long\n"),
+        Fault::BadInput { line, code } => write_bad_input(line, code, errors),
+        Fault::WorldFull { octets } => {
+            write_number(b"clnp: world full at ", octets, b" octets\n", errors)
+        }
+        Fault::ReadFault => write_all(errors, b"clnp: read fault\n"),
+        Fault::WriteFault => write_all(errors, b"clnp: write fault\n"),
+        Fault::NoMemory => write_all(errors, b"clnp: no memory\n"),
+    }
+}
+
+/// Writes that the words are no command, and which words are.
+fn write_bad_words<K: Sink>(at: usize, errors: &mut K) -> Result<(), Failed>
+    ensures written { OnOk result (Appends (K.written errors.old) (K.written errors.new) (fault_text (Fault.BadWords at))) }
     ensures later { K.faults errors.old ≤ K.faults errors.new }
     ensures failed { OnErr result (Rose (K.faults errors.old) (K.faults errors.new)) }
 {
@@ -46,14 +103,14 @@ fn report_bad_words<K: Sink>(at: usize, errors: &mut K) -> Result<(), Failed>
     )
 }
 
-/// Says which line of the input is bad, and the name of the code of what it breaks.
-fn report_bad_input<K: Sink>(line: u32, code: u8, errors: &mut K) -> Result<(), Failed>
-    ensures said { OnOk result (Appends (K.written errors.old) (K.written errors.new) (said (Status.BadInput line code))) }
+/// Writes which line of the input is bad, and the name of the code of what it breaks.
+fn write_bad_input<K: Sink>(line: u32, code: u8, errors: &mut K) -> Result<(), Failed>
+    ensures written { OnOk result (Appends (K.written errors.old) (K.written errors.new) (fault_text (Fault.BadInput line code))) }
     ensures later { K.faults errors.old ≤ K.faults errors.new }
     ensures failed { OnErr result (Rose (K.faults errors.old) (K.faults errors.new)) }
 {
     write_number(b"clnp: bad input at line ", u64::from(line), b": ", errors)?;
-    write_pair(code_name(code), b"\n", errors)
+    write_pair(code_name(code).as_bytes(), b"\n", errors)
 }
 
 /// Writes a number in decimal digits between two pieces.
@@ -83,20 +140,20 @@ fn write_pair<K: Sink>(front: &[u8], end: &[u8], errors: &mut K) -> Result<(), F
 }
 
 /// The name of the code of what a line of an input breaks.
-fn code_name(code: u8) -> &'static [u8]
+fn code_name(code: u8) -> &'static str
     ensures { result.now ≡ code_name code }
 {
     match code {
-        1 => b"header",
-        2 => b"syntax",
-        3 => b"number",
-        4 => b"address",
-        5 => b"unknown-name",
-        6 => b"dup-name",
-        7 => b"dup-address",
-        8 => b"limits",
-        9 => b"mtu",
-        10 => b"count",
-        _ => b"other",
+        1 => "header",
+        2 => "syntax",
+        3 => "number",
+        4 => "address",
+        5 => "unknown-name",
+        6 => "dup-name",
+        7 => "dup-address",
+        8 => "limits",
+        9 => "mtu",
+        10 => "count",
+        _ => "other",
     }
 }

@@ -7,3 +7,4 @@ mod fault;
 mod help;
 
 pub use call::{end, run};
+pub use fault::Fault;
