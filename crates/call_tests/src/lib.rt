@@ -3,11 +3,17 @@
 #![tactic(auto)]
 
 #[cfg(test)]
+mod captures_calls;
+#[cfg(test)]
 mod clnp_base_calls;
+#[cfg(test)]
+mod clnp_commands_calls;
 #[cfg(test)]
 mod clnp_options_calls;
 #[cfg(test)]
 mod clnp_plan_calls;
+#[cfg(test)]
+mod clnp_program_calls;
 #[cfg(test)]
 mod clnp_views_calls;
 #[cfg(test)]

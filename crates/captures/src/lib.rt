@@ -4,11 +4,7 @@
 mod capture;
 pub mod laws;
 mod line;
-#[cfg(test)]
-mod tests;
 mod vector;
-#[cfg(test)]
-mod vector_tests;
 mod words;
 
 pub use capture::{LineRefusal, MOST_OCTETS, read_capture};
