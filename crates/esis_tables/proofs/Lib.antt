@@ -1,0 +1,11 @@
+pub mod Addresses
+pub mod Rising
+pub mod Sorting
+pub mod Places
+pub mod Steps
+pub mod Ranks
+pub mod Keeping
+pub mod Hearing
+pub mod Flushing
+pub mod LookingUp
+pub mod Latest

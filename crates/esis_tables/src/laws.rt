@@ -1,0 +1,6 @@
+//! Laws.
+ghost use Rattle.std.specs.Prelude.{◌≡◌, ℕ};
+
+pub fn scratch()
+    ensures { (n : ℕ) → n ≡ n }
+{}
