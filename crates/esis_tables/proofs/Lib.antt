@@ -9,3 +9,6 @@ pub mod Hearing
 pub mod Flushing
 pub mod LookingUp
 pub mod Latest
+pub mod Histories
+pub mod Current
+pub mod Standing

@@ -16,13 +16,15 @@ ended_keys now facts = in_order (λ key. key) (map key_of (filter (λ fact. not 
 abbrev pub gone_from : TableKind → List ℕ → Gone
 gone_from table key = record { table = table; key = key }
 
-abbrev pub ended : ℕ → TableKind → List Fact → List Gone
-ended now table facts = map (gone_from table) (ended_keys now facts)
+-- keys of the three tables: of end systems first, then of intermediate systems, then of redirects
+abbrev pub all_gone : List (List ℕ) → List (List ℕ) → List (List ℕ) → List Gone
+all_gone systems routers redirects =
+    map (gone_from Es) systems ++ (map (gone_from Is) routers ++ map (gone_from Rd) redirects)
 
--- those of the three tables: end systems first, then intermediate systems, then redirects
-abbrev pub all_ended : ℕ → (TableKind → List Fact) → List Gone
-all_ended now facts_of = ended now Es (facts_of Es) ++ (ended now Is (facts_of Is) ++ ended now Rd (facts_of Rd))
+-- the keys of a table that have a current fact at one moment and none at a later one, by rising key
+abbrev pub gone_keys : (before now : ℕ) → TableKind → List Fact → List (List ℕ)
+gone_keys before now table facts = ended_keys now (currents before table facts)
 
--- the keys that have a current fact at one moment and none at a later one
+-- those of all tables, in the order of the tables
 abbrev pub gone : (before now : ℕ) → List Fact → List Gone
-gone before now facts = all_ended now (λ table. currents before table facts)
+gone before now facts = all_gone (gone_keys before now Es facts) (gone_keys before now Is facts) (gone_keys before now Rd facts)
