@@ -264,3 +264,26 @@ module _ (state : TableState) (limits : EsisLimits) (fact : Fact) (facts : List 
     current = filter_all (is_held fact.moment) (kept_after state.limit fact keeps.kept) heard.all ∙ heard.is;
     left_is = none_ended fact.moment (kept_after state.limit fact keeps.kept) heard.all;
   }
+
+-- the current fact of a key is among the current ones
+pub found_current : (now : ℕ) (table : TableKind) (key : List ℕ) (facts : List Fact)
+    → find (has_key key) (currents now table facts) ≡ current now table key facts
+found_current now table key facts =
+    find_filter now key (latest table facts) (distinct-latest table facts) ∙ ap (while_held now) (find_latest table key facts)
+
+-- as time goes on, no more facts are current
+pub fewer_later : (before now : ℕ) (table : TableKind) (facts : List Fact) → before ≤ now
+    → length (currents now table facts) ≤ length (currents before table facts)
+fewer_later before now table facts le = fewer (latest table facts)
+  where
+    fewer : (some : List Fact) → length (filter (is_held now) some) ≤ length (filter (is_held before) some)
+    fewer [] = omega arith
+    fewer (fact ∷ later) =
+        let step = fewer later in
+        elim (cases_Bool (is_held now fact)) [
+          | inl t ↦ let s = held_before before now le fact t in rw s (rw t (omega arith))
+          | inr f ↦ rw f (elim (cases_Bool (is_held before fact)) [
+            | inl s ↦ rw s (omega arith)
+            | inr e ↦ rw e step
+          ])
+        ]

@@ -12,3 +12,6 @@ pub mod Latest
 pub mod Histories
 pub mod Current
 pub mod Standing
+pub mod Redirects
+pub mod Limits
+pub mod Ended

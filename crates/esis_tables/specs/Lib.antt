@@ -1,3 +1,4 @@
+pub mod Claims
 pub mod Fact
 pub mod Gone
 pub mod Keeps
