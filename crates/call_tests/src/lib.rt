@@ -4,3 +4,5 @@
 
 #[cfg(test)]
 mod clnp_views_calls;
+#[cfg(test)]
+mod esis_tables_calls;

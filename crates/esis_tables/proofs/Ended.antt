@@ -1,6 +1,6 @@
 -- Which keys are gone.
 use Rattle.std.proofs.Common.{◌≡◌, ℕ, ◌≤◌, Bool, true, false, ◌&&◌, ◌||◌, cond, not, List, [], ◌∷◌, Option, None, Some, is_none, is_some, refl, sym, ap, subst, ◌∙◌, inl, inr, map}
-use Rattle.std.proofs.lemmas.Bool.{cases_Bool, cond-true, cond-false}
+use Rattle.std.proofs.lemmas.Bool.{cases_Bool, or_left}
 use Rattle.std.specs.List.{AllByRecursion, filter, find, list_any}
 use Rattle.std.specs.Str.{bytes_eq}
 use Rattle.esis_tables.specs.declared.fact.TableKind.{TableKind}
@@ -8,7 +8,7 @@ use Rattle.esis_tables.specs.Fact.{Fact, current, currents, has_key, is_held, la
 use Rattle.esis_tables.specs.Gone.{gone_keys, key_of}
 use Rattle.esis_tables.specs.Keeps.{AreDistinct}
 use Rattle.esis_tables.specs.Order.{IsRising}
-use Rattle.esis_tables.proofs.Current.{any_found}
+use Rattle.esis_tables.proofs.Ranks.{distinct-key}
 use Rattle.esis_tables.proofs.Histories.{distinct-latest, find_latest}
 use Rattle.esis_tables.proofs.Rising.{Differ, NoneHas, all_filter}
 use Rattle.esis_tables.proofs.Sorting.{in_order-rising, list_any-in_order}
@@ -44,7 +44,34 @@ found_gone : (before now : ℕ) (key : List ℕ) (facts : List Fact) → AreDist
     → list_any (has_key key) (filter (λ fact. not (is_held now fact)) (filter (is_held before) facts))
     ≡ (is_some (while_held before (find (has_key key) facts)) && is_none (while_held now (find (has_key key) facts)))
 found_gone before now key [] distinct = refl
-found_gone before now key (fact ∷ later) distinct = ?
+found_gone before now key (fact ∷ later) distinct =
+    let rest : List Fact = filter (λ other. not (is_held now other)) (filter (is_held before) later) in
+    let step = found_gone before now key later distinct.1 in
+    elim (cases_Bool (has_key key fact)) [
+      | inl c ↦
+          let none : list_any (has_key key) rest ≡ false =
+          none_any rest (all_filter (λ other. has_key key other ≡ false) (λ other. not (is_held now other)) (filter (is_held before) later)
+          (all_filter (λ other. has_key key other ≡ false) (is_held before) later (distinct-key key fact later distinct c))) in
+          rw c (elim (cases_Bool (is_held before fact)) [
+            | inl b ↦ rw b (elim (cases_Bool (is_held now fact)) [
+              | inl n ↦ rw n none
+              | inr n ↦ rw n (or_left (has_key key fact) (list_any (has_key key) rest) c)
+            ])
+            | inr b ↦ rw b none
+          ])
+      | inr c ↦
+          rw c (elim (cases_Bool (is_held before fact)) [
+            | inl b ↦ rw b (elim (cases_Bool (is_held now fact)) [
+              | inl n ↦ rw n step
+              | inr n ↦ rw n (ap (λ a. a || list_any (has_key key) rest) c ∙ step)
+            ])
+            | inr b ↦ rw b step
+          ])
+    ]
+  where
+    none_any : (some : List Fact) → AllByRecursion (λ other. has_key key other ≡ false) some → list_any (has_key key) some ≡ false
+    none_any [] none = refl
+    none_any (x ∷ some) none = rw none.0 (none_any some none.1)
 
 pub gone_those : (before now : ℕ) (table : TableKind) (facts : List Fact) (key : List ℕ) → before ≤ now
     → list_any (λ other. bytes_eq other key) (gone_keys before now table facts)

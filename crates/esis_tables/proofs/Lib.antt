@@ -15,3 +15,4 @@ pub mod Standing
 pub mod Redirects
 pub mod Limits
 pub mod Ended
+pub mod Worked

@@ -1,5 +1,5 @@
 //! The keys of one kind.
-ghost use Rattle.std.specs.Prelude.{◌≡◌, ◌<◌, ◌≤◌, ◌-◌, ◌^◌, nat_le, insert, ℕ, List, [], ◌∷◌, true, false, not, length, map, remove, IfErr, IfOk, IfSome, MatchOption, filter, None, Some, slice_get};
+ghost use Rattle.std.specs.Prelude.{◌≡◌, ◌+◌, ◌*◌, ◌<◌, ◌≤◌, ◌-◌, ◌^◌, nat_le, insert, ℕ, List, [], ◌∷◌, true, false, not, length, map, remove, IfErr, IfOk, IfSome, MatchOption, filter, None, Some, slice_get};
 ghost use Rattle.std.specs.List.{find, list_any, position_from};
 ghost use Rattle.std.specs.List.Sorted.{IsSearchInRange};
 ghost use Rattle.std.specs.Option.{option_map};
@@ -82,7 +82,7 @@ impl Table {
             let entries = self.len();
             return Heard::Full { entries };
         }
-        self.note(key, place, now + 2 * u64::from(hold));
+        self.note(key, place, end_of_hold(now, hold));
         if known { Heard::Again } else { Heard::New }
     }
 
@@ -246,6 +246,14 @@ impl Table {
     {
         self.entries.binary_search_by_key(key, |entry| entry.key)
     }
+}
+
+/// The moment from which a holding time has ended: a second is two ticks.
+fn end_of_hold(now: u64, hold: u16) -> u64
+    requires { now < 2 ^ 62 }
+    ensures { result ≡ now + 2 * hold }
+{
+    now + 2 * u64::from(hold)
 }
 
 /// Whether an entry was heard after another, if there is one.

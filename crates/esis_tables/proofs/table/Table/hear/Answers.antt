@@ -45,8 +45,8 @@ returns-then-known-clause-keeps c table kept keeps =
     let old = c.args.self.now in
     let fact = hearing c.args.now table c.args.key c.args.place c.args.hold in
     subst (Keeps c.note.new.self) (kept_again old.limit fact kept c.if-hold-eq0.false (sym (c.if-known.ensures.known kept keeps)))
-    (noted_kept c.forget-known.new.self c.note.new.self kept fact (c.args.now + 2 * c.from.result) (c.forget-known.ensures.keeps kept keeps)
-    c.note.ensures.fits (ap (λ n. c.args.now + 2 * n) c.from.ensures) c.note.ensures.entries)
+    (noted_kept c.forget-known.new.self c.note.new.self kept fact c.end_of_hold.result (c.forget-known.ensures.keeps kept keeps)
+    c.note.ensures.fits c.end_of_hold.ensures c.note.ensures.entries)
 
 pub returns-else-known-clause-answered : goal.returns-else-known-clause-answered
 returns-else-known-clause-answered c table kept keeps =
@@ -65,5 +65,5 @@ returns-else-known-clause-keeps c table kept keeps =
     elim c.else-full.branch [ else-full-via-then-full+else-not-known w ↦ inl w.if-not-known.false | else-full-via-else-full w ↦ inr w.if-full.false ] in
     subst (Keeps c.note.new.self) (kept_new old.limit fact kept c.if-hold-eq0.false (sym (c.if-known.ensures.known kept keeps))
     (room_for_new old kept c.is_full-full.result c.forget-known.result keeps c.is_full-full.ensures.full c.if-known.false which))
-    (noted_kept c.forget-known.new.self c.note.new.self kept fact (c.args.now + 2 * c.from.result) (c.forget-known.ensures.keeps kept keeps)
-    c.note.ensures.fits (ap (λ n. c.args.now + 2 * n) c.from.ensures) c.note.ensures.entries)
+    (noted_kept c.forget-known.new.self c.note.new.self kept fact c.end_of_hold.result (c.forget-known.ensures.keeps kept keeps)
+    c.note.ensures.fits c.end_of_hold.ensures c.note.ensures.entries)
