@@ -21,6 +21,8 @@ mod clnp_world_calls;
 #[cfg(test)]
 mod end_system_calls;
 #[cfg(test)]
+mod esis_pdus_calls;
+#[cfg(test)]
 mod esis_tables_calls;
 #[cfg(test)]
 mod fletcher_calls;
