@@ -1,12 +1,12 @@
 -- Cutting a PDU into segments: their headers by the header of the PDU alone, and where they stand in its data.
-use Rattle.std.proofs.Common.{◌≡◌, ◌∙◌, sym, ap, subst, ℕ, ◌+◌, ◌-◌, ◌^◌, ◌<◌, ◌≤◌, Bool, Option, None, Some, List, ◌∷◌, ◌++◌, length, take, drop, replicate, arith, length-take, length-drop}
+use Rattle.std.proofs.Common.{◌≡◌, ◌∙◌, sym, ap, subst, ℕ, ◌+◌, ◌-◌, ◌^◌, ◌<◌, ◌≤◌, Option, None, Some, List, ◌∷◌, ◌++◌, length, take, drop, replicate, arith, length-take, length-drop}
 use Rattle.std.specs.Prelude.{nat_lt, if◌then◌else◌}
 use Rattle.std.proofs.lemmas.List.{length-replicate}
 use Rattle.std.proofs.lemmas.Bool.Decides.{nat_tests}
 use Rattle.fletcher.specs.Checksum.{sealed}
 use Rattle.pdu_header.specs.Value.{SegmentationPart, PduValue}
 use Rattle.pdu_header.specs.Spelling.{flags_and_type, header, header_length, pair_of, variable_part}
-use Rattle.pdu_header.specs.Grammar.{FitsUnit, IsPdu, IsSegment}
+use Rattle.pdu_header.specs.Grammar.{IsPdu, IsSegment}
 use Rattle.pdu_header.specs.Parts.{FitsRange}
 use Rattle.pdu_header.specs.Headers.{SpellsHeader, at_offset, with_segment}
 use Rattle.pdu_header.specs.Reading.{value_of}

@@ -1,5 +1,5 @@
 -- The segments of a PDU are PDUs, and a segment of a segment is a segment.
-use Rattle.std.proofs.Common.{◌≡◌, ◌∙◌, refl, sym, ap, subst, ℕ, ◌+◌, ◌-◌, ◌<◌, ◌≤◌, Bool, true, false, Option, Some, List, ◌∷◌, ◌++◌, length, length-append, add-zero, arith, ⊎_elim}
+use Rattle.std.proofs.Common.{◌≡◌, ◌∙◌, refl, sym, ap, subst, ℕ, ◌+◌, ◌-◌, ◌<◌, ◌≤◌, Bool, true, false, Some, List, ◌++◌, length, length-append, add-zero, arith, ⊎_elim}
 use Rattle.std.specs.Prelude.{◌↔◌, nat_lt}
 use Rattle.std.proofs.lemmas.Bool.{ltb-false, le-ltb, lt-ltb, cases_lt}
 use Rattle.std.proofs.lemmas.List.{take_all}

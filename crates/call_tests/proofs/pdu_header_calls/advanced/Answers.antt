@@ -1,5 +1,7 @@
-use Rattle.std.proofs.Common.{◌≡◌, refl, List, ℕ, [], ◌∷◌}
+use Rattle.std.proofs.Common.{◌≡◌, ◌∙◌, refl, sym, List, ℕ, [], ◌∷◌}
 use Rattle.std.specs.Prelude.{IsSome}
+use Rattle.std.proofs.lemmas.Bool.{not-false}
+use Rattle.std.proofs.lemmas.Slice.Eq.{bytes_eq-Decides}
 use Rattle.clnp_options.specs.Parameter.{parameters, parameters_after}
 use Rattle.clnp_options.specs.Edits.{target_of, title_at, value_of}
 use Rattle.pdu_header.specs.View.{pdu_value}
@@ -19,5 +21,6 @@ of-header-requires c = (pdu_value c.in-Ok.pdu, c.in-Ok.ensures.spells)
 
 pub advance_route-requires : goal.advance_route-requires
 advance_route-requires c =
-    let options : c.in-Ok.pdu.options.now ≡ worked_options = ? in
+    let same = sym c.ne.ensures ∙ c.if-ne.false in
+    let options : c.in-Ok.pdu.options.now ≡ worked_options = (bytes_eq-Decides c.in-Ok.pdu.options.now worked_options).0 (not-false _ same) in
     (pdu_value c.in-Ok.pdu, rw c.of-header.ensures c.in-Ok.ensures.spells, rw options worked_lead)

@@ -1,4 +1,4 @@
-use Rattle.std.proofs.Common.{◌∙◌, ℕ, List, length, take, drop, ap, arith}
+use Rattle.std.proofs.Common.{ℕ, List, take, drop, arith}
 use Rattle.pdu_header.specs.Value.{SegmentationPart, PduValue}
 use Rattle.pdu_header.specs.View.{part_value}
 use Rattle.segmenter.proofs.Cutting.{as_segment, carried, roomy}
