@@ -10,3 +10,5 @@ mod clnp_options_calls;
 mod clnp_views_calls;
 #[cfg(test)]
 mod nsap_calls;
+#[cfg(test)]
+mod reassembly_calls;

@@ -20,11 +20,11 @@ use Rattle.reassembly.specs.State.{TableState, KeepsSegments, Stands, opening_of
 use Rattle.reassembly.specs.Ending.{first_pdu, others_of}
 use Rattle.reassembly.proofs.Removing.{AllByRecursion-filter, AllByRecursion-map, AllByRecursion-slice_get, filter-filter, filter-map, find-filter, find-map, length-filter_le, remove-only, sum-filter_le}
 use Rattle.reassembly.proofs.Due.{due_at, no_due}
-use Rattle.reassembly.proofs.SameKey.{same_key-from_same, same_from_same_key}
+use Rattle.reassembly.proofs.Keys.{same_key-like, same_key-true}
 
 -- what isn't of a key passes the test for its own key and fails that for the key
 others_stay : (a key own : Key) → same_key own key ≡ false → same_key a own ≡ true → not (same_key a key) ≡ true
-others_stay a key own f t = not_from_false (same_key a key) (ap (λ k. same_key k key) (same_from_same_key a own t) ∙ f)
+others_stay a key own f t = not_from_false (same_key a key) (ap (λ k. same_key k key) (same_key-true a own t) ∙ f)
 
 pub segments_of-others : (own key : Key) → same_key own key ≡ false → (segments : List Segment) → segments_of own (others_of key segments) ≡ segments_of own segments
 segments_of-others own key f segments =
@@ -36,7 +36,7 @@ module _ (openings : List Opening) (slot : ℕ) (opening : Opening) (at : slice_
   counted-once = subst (λ k. openings_of k openings ≡ 1) is (AllByRecursion-slice_get (λ o. openings_of o.key openings ≡ 1) openings slot opening at distinct)
 
   pub remove-slot : remove openings slot ≡ filter (λ o. not (same_key o.key key)) openings
-  remove-slot = remove-only (λ o. same_key o.key key) openings slot opening at (same_key-from_same opening.key key is) counted-once
+  remove-slot = remove-only (λ o. same_key o.key key) openings slot opening at (same_key-like opening.key key is) counted-once
 
   openings_of-others : (own : Key) → same_key own key ≡ false → openings_of own (remove openings slot) ≡ openings_of own openings
   openings_of-others own f =

@@ -15,7 +15,7 @@ use Rattle.reassembly.specs.Buffer.{Buffer, buffer_of, due, first_carried, witho
 use Rattle.reassembly.specs.Sound.{IsSound}
 use Rattle.reassembly.specs.State.{TableState, Names, Stands}
 use Rattle.reassembly.proofs.Removing.{find-only}
-use Rattle.reassembly.proofs.SameKey.{same_key-refl}
+use Rattle.reassembly.proofs.Keys.{same_key-refl}
 use Rattle.reassembly.proofs.Ended.{buffers-once, due_of, none_due_of}
 
 -- what is known of the slot that is found due

@@ -1,19 +1,14 @@
 -- What keeping and taking out leave of the buffers: their deadlines, their segments, and the buffers as they were.
 use Rattle.std.proofs.Common.{◌≡◌, ℕ, ◌<◌, true, List, [], ◌∷◌, ◌++◌, Some, None, length, refl, ap, ◌∙◌, inl, inr, arith}
-use Rattle.std.proofs.lemmas.Bool.{cases_Bool, eq-eqb, and_from}
+use Rattle.std.proofs.lemmas.Bool.{cases_Bool}
 use Rattle.std.proofs.lemmas.List.{length_push}
-use Rattle.std.proofs.lemmas.Slice.Eq.{bytes_eq-Decides}
 use Rattle.reassembly.specs.declared.segment.Key.{Key}
 use Rattle.reassembly.specs.declared.table.TableLimits.{TableLimits}
 use Rattle.reassembly.specs.Arrival.{Arrival, same_key}
 use Rattle.reassembly.specs.Buffer.{Buffer, buffer_of, refusal, with_kept, after, buffers_of, without, but_last, holding, undone}
 use Rattle.reassembly.specs.Claims.{StaysWithDeadline, NoneIsEmpty}
+use Rattle.reassembly.proofs.Keys.{same_key-refl}
 use Rattle.reassembly.proofs.LawKept.{kept_or_not}
-
-pub same_key-itself : (key : Key) → same_key key key ≡ true
-same_key-itself key =
-    and_from _ _ ((bytes_eq-Decides key.from key.from).1 refl)
-    (and_from _ _ ((bytes_eq-Decides key.to key.to).1 refl) (eq-eqb key.id key.id refl))
 
 module _ {C : Type 0} where
   -- the buffer of a key as it was, found among later buffers
@@ -113,7 +108,7 @@ module _ {C : Type 0} where
 
   undone-with_kept : (limits : TableLimits) (now : ℕ) (arrival : Arrival C) (buffers : List (Buffer C))
       → NoneIsEmpty buffers → undone arrival.key (with_kept limits now arrival buffers) ≡ buffers
-  undone-with_kept limits now arrival [] full = rw (same_key-itself arrival.key)
+  undone-with_kept limits now arrival [] full = rw (same_key-refl arrival.key)
   undone-with_kept limits now arrival (buffer ∷ others) full =
       elim (cases_Bool (same_key buffer.key arrival.key)) [
         | inl same ↦

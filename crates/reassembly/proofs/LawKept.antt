@@ -1,5 +1,5 @@
 -- What keeping a segment and taking one out do to the buffers.
-use Rattle.std.proofs.Common.{◌≡◌, ℕ, ◌+◌, ◌<◌, ◌≤◌, Bool, true, false, cond, List, [], ◌∷◌, ◌++◌, Option, Some, None, length, map, refl, sym, ◌∙◌, inl, inr, arith}
+use Rattle.std.proofs.Common.{◌≡◌, ◌≢◌, ℕ, ◌+◌, ◌<◌, ◌≤◌, Bool, true, false, cond, List, [], ◌∷◌, ◌++◌, Option, Some, None, length, map, refl, sym, ap, ◌∙◌, inl, inr, arith}
 use Rattle.std.specs.Prelude.{is_none, not, nat_le, nat_lt, ◌&&◌, if◌then◌else◌}
 use Rattle.std.specs.List.{sum}
 use Rattle.std.proofs.lemmas.List.{length_push, length-append}
@@ -8,13 +8,17 @@ use Rattle.reassembly.specs.declared.segment.Key.{Key}
 use Rattle.reassembly.specs.declared.table.TableLimits.{TableLimits}
 use Rattle.reassembly.specs.Arrival.{Arrival, same_key, are_covered}
 use Rattle.reassembly.specs.Buffer.{Buffer, Answer, Many, buffer_of, kept_in, clashes, size_of, held, kept, refusal, opened_by, with_kept, after, buffers_of, without, but_last, holding, undone}
-use Rattle.reassembly.specs.Claims.{KeepTo}
+use Rattle.reassembly.specs.Claims.{KeepTo, MayBeKept}
 use Rattle.reassembly.proofs.LawSums.{sum_cons, sum_one, sum_push, sum_front, sum_filter, length_filter}
 
 module _ {A : Type 0} where
   pub if_none : (b : Bool) (answer : A) (rest : Option A) → (if b then Some answer else rest) ≡ None → (b ≡ false) × (rest ≡ None)
   if_none true answer rest e = absurd (cc)
   if_none false answer rest e = (refl, e)
+
+none_is : {X : Type 0} (found : Option X) → is_none found ≡ true → found ≡ None
+none_is None e = refl
+none_is (Some x) e = absurd (cc)
 
 room_for : (new full : Bool) (n m : ℕ) → (new && full) ≡ false → full ≡ nat_le m n → new ≡ true → n < m
 room_for true full n m e f new = leb-false m n (sym f ∙ e)
@@ -28,11 +32,6 @@ module _ {C : Type 0} where
   kept_or_not P (Some answer) before later old new = old
 
   -- why a segment may be kept
-  pub record MayBeKept (limits : TableLimits) (arrival : Arrival C) (buffers : List (Buffer C)) : Type 0 where
-    pub slot : is_none (buffer_of arrival.key buffers) ≡ true → length buffers < limits.slots
-    pub budget : held buffers + arrival.size ≤ limits.budget
-    pub few : kept buffers < limits.segments
-
   pub may_be_kept : (limits : TableLimits) (arrival : Arrival C) (buffers : List (Buffer C))
       → refusal limits arrival buffers ≡ None → MayBeKept limits arrival buffers
   may_be_kept limits arrival buffers e =
@@ -42,7 +41,7 @@ module _ {C : Type 0} where
       let d = if_none (nat_lt limits.budget (held buffers + arrival.size)) _ _ c.1 in
       let f = if_none (nat_le limits.segments (kept buffers)) (Many (kept buffers)) None d.1 in
       record {
-        slot = room_for (is_none (buffer_of arrival.key buffers)) (nat_le limits.slots (length buffers)) (length buffers) limits.slots c.0 refl;
+        slot = λ none. room_for (is_none (buffer_of arrival.key buffers)) (nat_le limits.slots (length buffers)) (length buffers) limits.slots c.0 refl (ap is_none none);
         budget = ltb-false limits.budget (held buffers + arrival.size) d.0;
         few = leb-false limits.segments (kept buffers) f.0;
       }
@@ -103,7 +102,7 @@ module _ {C : Type 0} where
   slots_within limits now arrival buffers within may =
       rw length-with_kept
       (elim (cases_Bool (is_none (buffer_of arrival.key buffers))) [
-        | inl new ↦ rw new (let room = may.slot new in omega arith)
+        | inl new ↦ rw new (let room = may.slot (none_is (buffer_of arrival.key buffers) new) in omega arith)
         | inr old ↦ rw old (let l = within.slots in omega arith)
       ])
 
@@ -133,6 +132,22 @@ module _ {C : Type 0} where
             let w = within.budget in omega arith
             );
       }
+
+  -- a segment that isn't refused is counted once
+  pub held-after : (limits : TableLimits) (now : ℕ) (arrival : Arrival C) (buffers : List (Buffer C))
+      → refusal limits arrival buffers ≡ None → held (after limits now arrival buffers) ≡ held buffers + arrival.size
+  held-after limits now arrival buffers e =
+      ap (λ refused. held (buffers_of refused buffers (with_kept limits now arrival buffers))) e ∙ held-with_kept limits now arrival buffers
+
+  pub kept-after : (limits : TableLimits) (now : ℕ) (arrival : Arrival C) (buffers : List (Buffer C))
+      → refusal limits arrival buffers ≡ None → kept (after limits now arrival buffers) ≡ kept buffers + 1
+  kept-after limits now arrival buffers e =
+      ap (λ refused. kept (buffers_of refused buffers (with_kept limits now arrival buffers))) e ∙ kept-with_kept limits now arrival buffers
+
+  -- one that is refused changes nothing
+  pub refused_changes_nothing : (refused : Option Answer) (before later : List (Buffer C)) → refused ≢ None → buffers_of refused before later ≡ before
+  refused_changes_nothing None before later some = absurd (some refl)
+  refused_changes_nothing (Some answer) before later some = refl
 
   length-but_last : (arrivals : List (Arrival C)) → length (but_last arrivals) ≤ length arrivals
   length-but_last [] = omega arith

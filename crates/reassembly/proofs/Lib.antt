@@ -16,6 +16,7 @@ pub mod LawKept
 pub mod LawMaps
 pub mod LawOrder
 pub mod LawSums
+pub mod LawTimes
 pub mod Mapped
 pub mod NoWhole
 pub mod Opened
@@ -24,7 +25,7 @@ pub mod Ready
 pub mod Refusing
 pub mod Removing
 pub mod Run
-pub mod SameKey
+pub mod Shared
 pub mod Slots
 pub mod Standing
 pub mod Undoing

@@ -1,44 +1,112 @@
--- No buffer is whole after a segment that is only held.
-use Rattle.std.proofs.Common.{◌≡◌, refl, ℕ, inl, inr, Bool, true, false, not, List, [], ◌∷◌, Option, Some, None}
-use Rattle.std.specs.Prelude.{if◌then◌else◌}
-use Rattle.std.specs.List.{AllByRecursion}
-use Rattle.std.proofs.lemmas.Bool.{cases_Bool}
+-- No buffer is whole but the one that an answer says is.
+use Rattle.std.proofs.Common.{◌≡◌, ◌≢◌, ◌∙◌, sym, ap, subst, refl, ℕ, List, [], Option, Some, None}
+use Rattle.std.specs.Option.{option_map}
 use Rattle.clnp_views.specs.Extent.{Extent}
+use Rattle.reassembly.specs.declared.segment.Key.{Key}
+use Rattle.reassembly.specs.declared.segment.Segment.{Segment}
+use Rattle.reassembly.specs.declared.table.Accept.{Accept}
+use Rattle.reassembly.specs.declared.table.Accept.TheVariants as accept
+use Rattle.reassembly.specs.declared.table.Expired.{Expired}
+use Rattle.reassembly.specs.declared.table.SlotNo.{SlotNo}
 use Rattle.reassembly.specs.declared.table.TableLimits.{TableLimits}
-use Rattle.reassembly.specs.Arrival.{Arrival, same_key}
-use Rattle.reassembly.specs.Buffer.{Answer, Buffer, Held, Whole, after, answer, answer_of, buffer_of, buffers_of, is_whole, is_whole_in, refusal, with_kept, without_due}
-use Rattle.reassembly.proofs.Removing.{AllByRecursion-filter}
-use Rattle.reassembly.proofs.SameKey.{same_key-refl}
+use Rattle.reassembly.specs.Arrival.{arrival_of}
+use Rattle.reassembly.specs.Buffer.{Answer, Buffer, Whole, after, answer, answer_of, buffers_of, due, first_carried, kept_answer, refusal, undone, with_kept, without, without_due}
+use Rattle.reassembly.specs.Claims.{NoneIsWhole}
+use Rattle.reassembly.specs.NoWhole.{HasNoWhole, IsCompleted}
+use Rattle.reassembly.specs.State.{IsReady, IsWholeSlot, Names, Stands, TableState, said}
+use Rattle.reassembly.proofs.Ready.{none_whole-after, none_whole-released, none_whole-undone, none_whole-without_due, said_not_whole, whole_slot}
 
-abbrev pub IsNotWhole : Buffer Extent → Type 0
-IsNotWhole buffer = is_whole buffer ≡ false
+pub empty_none_whole : (table : TableState) → Stands table [] → HasNoWhole table
+empty_none_whole table stands = record { buffers = []; stands = stands; none_whole = tt }
 
-pub none_whole-without_due : (ended : Option (Buffer Extent)) (buffers : List (Buffer Extent)) → AllByRecursion IsNotWhole buffers
-    → AllByRecursion IsNotWhole (without_due ended buffers)
-none_whole-without_due None buffers h = h
-none_whole-without_due (Some ended) buffers h =
-    AllByRecursion-filter (λ b. not (same_key b.key ended.key)) IsNotWhole IsNotWhole (λ b t k. k) buffers h
+module _ (old new : TableState) (now : ℕ) (segment : Segment) (told : Accept) (ready : IsReady now old)
+    (answered : (buffers : List (Buffer Extent)) → Stands old buffers → said told ≡ answer old.limits now (arrival_of segment) buffers)
+    (stands : (buffers : List (Buffer Extent)) → Stands old buffers → Stands new (after old.limits now (arrival_of segment) buffers)) where
+  later : Stands new (after old.limits now (arrival_of segment) ready.buffers)
+  later = stands ready.buffers ready.stands
 
-not_whole_from_held : (whole : Bool) → Held ≡ (if whole then Whole else Held) → whole ≡ false
-not_whole_from_held true e = absurd (cc)
-not_whole_from_held false e = refl
+  module _ (slot : SlotNo) (e : told ≡ accept.Whole slot) where
+    is_whole_answer : answer old.limits now (arrival_of segment) ready.buffers ≡ Whole
+    is_whole_answer = sym (answered ready.buffers ready.stands) ∙ subst (λ t. said t ≡ Whole) (sym e) refl
 
-none_whole-with_kept : (limits : TableLimits) (now : ℕ) (arrival : Arrival Extent) (buffers : List (Buffer Extent)) → AllByRecursion IsNotWhole buffers
-    → is_whole_in (buffer_of arrival.key (with_kept limits now arrival buffers)) ≡ false → AllByRecursion IsNotWhole (with_kept limits now arrival buffers)
-none_whole-with_kept limits now arrival [] h f = (rw (same_key-refl arrival.key) at f, tt)
-none_whole-with_kept limits now arrival (first ∷ others) h f =
-    elim (cases_Bool (same_key first.key arrival.key)) [
-      | inl t ↦ rw t (rw (t, t) at f, h.1)
-      | inr g ↦ rw g (h.0, none_whole-with_kept limits now arrival others h.1 (rw (g, g) at f))
-    ]
+    pub slot_whole : Names new slot.0 segment.key → IsWholeSlot new slot.0
+    slot_whole named = whole_slot new slot.0 old.limits now segment ready.buffers later named is_whole_answer
 
-pub none_whole-after : (limits : TableLimits) (now : ℕ) (arrival : Arrival Extent) (buffers : List (Buffer Extent)) → AllByRecursion IsNotWhole buffers
-    → Held ≡ answer limits now arrival buffers → AllByRecursion IsNotWhole (after limits now arrival buffers)
-none_whole-after limits now arrival buffers h = by_refusal (refusal limits arrival buffers)
-  where
-    by_refusal : (refused : Option Answer) → Held ≡ answer_of refused arrival.key (with_kept limits now arrival buffers)
-        → AllByRecursion IsNotWhole (buffers_of refused buffers (with_kept limits now arrival buffers))
-    by_refusal (Some refused) e = h
-    by_refusal None e =
-        none_whole-with_kept limits now arrival buffers h
-        (not_whole_from_held (is_whole_in (buffer_of arrival.key (with_kept limits now arrival buffers))) e)
+    pub slot_completed : Names new slot.0 segment.key → IsCompleted new slot.0
+    slot_completed named =
+        record {
+          buffers = after old.limits now (arrival_of segment) ready.buffers;
+          stands = later;
+          key = segment.key;
+          named = named;
+          none_without = none_whole-released old.limits now (arrival_of segment) ready.buffers ready.ready.none_whole is_whole_answer;
+          none_undone = none_whole-undone old.limits now (arrival_of segment) ready.buffers ready.ready.none_whole is_whole_answer;
+        }
+
+  pub still_none_whole : ((slot : SlotNo) → told ≢ accept.Whole slot) → HasNoWhole new
+  still_none_whole not =
+      record {
+        buffers = after old.limits now (arrival_of segment) ready.buffers;
+        stands = later;
+        none_whole = none_whole-after old.limits now (arrival_of segment) ready.buffers ready.ready.none_whole
+            (λ whole. said_not_whole told not (answered ready.buffers ready.stands ∙ whole));
+      }
+
+-- where the completed buffer was taken out, or its last segment
+pub released_none_whole : (old new : TableState) (slot : ℕ)
+    → ((buffers : List (Buffer Extent)) (key : Key) → Stands old buffers → Names old slot key → Stands new (without key buffers))
+    → IsCompleted old slot → HasNoWhole new
+released_none_whole old new slot stands is =
+    record { buffers = without is.key is.buffers; stands = stands is.buffers is.key is.stands is.named; none_whole = is.none_without }
+
+pub undone_none_whole : (old new : TableState) (slot : ℕ)
+    → ((buffers : List (Buffer Extent)) (key : Key) → Stands old buffers → Names old slot key → Stands new (undone key buffers))
+    → IsCompleted old slot → HasNoWhole new
+undone_none_whole old new slot stands is =
+    record { buffers = undone is.key is.buffers; stands = stands is.buffers is.key is.stands is.named; none_whole = is.none_undone }
+
+-- where the due buffer was taken out, if there is one
+module _ (old new : TableState) (now : ℕ)
+    (stands : (buffers : List (Buffer Extent)) → Stands old buffers → Stands new (without_due (due now buffers) buffers)) where
+  pub expired_none_whole : HasNoWhole old → HasNoWhole new
+  expired_none_whole none =
+      record {
+        buffers = without_due (due now none.buffers) none.buffers;
+        stands = stands none.buffers none.stands;
+        none_whole = none_whole-without_due (due now none.buffers) none.buffers none.none_whole;
+      }
+
+  no_result : {X Y : Type 0} (f : X → Y) (found : Option X) → option_map f found ≡ None → found ≡ None
+  no_result f None e = refl
+  no_result f (Some x) e = absurd (cc)
+
+  pub expired_ready : (told : Option Expired)
+      → ((buffers : List (Buffer Extent)) → Stands old buffers → told ≡ option_map (λ ended. record { key = ended.key; first = first_carried ended }) (due now buffers))
+      → HasNoWhole old → told ≡ None → IsReady now new
+  expired_ready told ended none e =
+      let nothing = no_result (λ (ended : Buffer Extent). record { key = ended.key; first = first_carried ended }) (due now none.buffers)
+      (sym (ended none.buffers none.stands) ∙ e) in
+      record {
+        buffers = none.buffers;
+        stands = subst (λ o. Stands new (without_due o none.buffers)) nothing (stands none.buffers none.stands);
+        ready = record { none_due = nothing; none_whole = none.none_whole };
+      }
+
+-- what is known of a segment that was kept since nothing refused it
+module _ (old new : TableState) (now : ℕ) (segment : Segment) (refused : Option Accept) (told : Accept)
+    (refusal_is : (buffers : List (Buffer Extent)) → Stands old buffers → option_map said refused ≡ refusal old.limits (arrival_of segment) buffers)
+    (not_refused : refused ≡ None) where
+  none_refused : (buffers : List (Buffer Extent)) → Stands old buffers → refusal old.limits (arrival_of segment) buffers ≡ None
+  none_refused buffers stands = sym (refusal_is buffers stands) ∙ ap (option_map said) not_refused
+
+  pub kept_answered : ((buffers : List (Buffer Extent)) → Stands old buffers → said told ≡ kept_answer segment.key (with_kept old.limits now (arrival_of segment) buffers))
+      → (buffers : List (Buffer Extent)) → Stands old buffers → said told ≡ answer old.limits now (arrival_of segment) buffers
+  kept_answered kept buffers stands =
+      kept buffers stands
+      ∙ ap (λ r. answer_of r segment.key (with_kept old.limits now (arrival_of segment) buffers)) (sym (none_refused buffers stands))
+
+  pub kept_stands : ((buffers : List (Buffer Extent)) → Stands old buffers → Stands new (with_kept old.limits now (arrival_of segment) buffers))
+      → (buffers : List (Buffer Extent)) → Stands old buffers → Stands new (after old.limits now (arrival_of segment) buffers)
+  kept_stands kept buffers stands =
+      subst (λ r. Stands new (buffers_of r buffers (with_kept old.limits now (arrival_of segment) buffers))) (sym (none_refused buffers stands))
+      (kept buffers stands)

@@ -1,5 +1,5 @@
 -- No buffer is whole until an answer says so, and none is when that is undone.
-use Rattle.std.proofs.Common.{◌≡◌, ℕ, ◌+◌, ◌&&◌, Bool, true, false, cond, List, [], ◌∷◌, ◌++◌, Option, Some, None, length, nat_le, nat_lt, ap, sym, ◌∙◌, refl, subst, inl, inr}
+use Rattle.std.proofs.Common.{◌≡◌, ℕ, ◌+◌, ◌&&◌, Bool, true, false, not, cond, List, [], ◌∷◌, ◌++◌, Option, Some, None, length, nat_le, nat_lt, ap, sym, ◌∙◌, refl, subst, inl, inr}
 use Rattle.std.specs.Prelude.{is_none}
 use Rattle.std.specs.List.{AllByRecursion}
 use Rattle.std.proofs.lemmas.Bool.{cases_Bool}
@@ -8,12 +8,14 @@ use Rattle.reassembly.specs.declared.segment.Key.{Key}
 use Rattle.reassembly.specs.declared.segment.Segment.{Segment}
 use Rattle.reassembly.specs.declared.table.TableLimits.{TableLimits}
 use Rattle.reassembly.specs.Arrival.{Arrival, are_covered, arrival_of, same_key}
-use Rattle.reassembly.specs.Buffer.{Answer, Buffer, Crowded, Held, Interference, Many, NoSlot, Repeat, Whole, after, answer, answer_of, buffer_of, buffers_of, but_last, clashes, held, holding, is_whole, is_whole_in, kept, kept_answer, kept_in, refusal, shape_in, undone, with_kept}
+use Rattle.reassembly.specs.Buffer.{Answer, Buffer, Crowded, Held, Interference, Many, NoSlot, Repeat, Whole, after, answer, answer_of, buffer_of, buffers_of, but_last, clashes, held, holding, is_whole, is_whole_in, kept, kept_answer, kept_in, refusal, shape_in, undone, with_kept, without, without_due}
 use Rattle.reassembly.specs.declared.table.Accept.{Accept}
 use Rattle.reassembly.specs.declared.table.Accept.TheVariants as accept
 use Rattle.reassembly.specs.declared.table.SlotNo.{SlotNo}
+use Rattle.reassembly.specs.Claims.{IsMadeWhole}
 use Rattle.reassembly.specs.State.{IsWholeSlot, Names, Stands, TableState, said}
 use Rattle.reassembly.proofs.Keys.{same_key-like, same_key-true}
+use Rattle.reassembly.proofs.Removing.{AllByRecursion-filter}
 
 -- a chain of tests that doesn't come to an answer of a whole unit
 cond_not_whole : (test : Bool) (told : Answer) (others : Option Answer) → (told ≡ Whole → ⊥) → (others ≡ Some Whole → ⊥)
@@ -76,13 +78,6 @@ module _ {C : Type 0} where
       → (answer limits now arrival buffers ≡ Whole → ⊥) → AllByRecursion IsNotWhole (after limits now arrival buffers)
   none_whole-after limits now arrival buffers none not = none_whole-by limits now arrival buffers (refusal limits arrival buffers) none not
 
-  -- where it is, the segment was kept, and the buffer of its key is whole
-  pub record IsMadeWhole (limits : TableLimits) (now : ℕ) (arrival : Arrival C) (buffers : List (Buffer C)) : Type 0 where
-    pub after_is : after limits now arrival buffers ≡ with_kept limits now arrival buffers
-    pub buffer : Buffer C
-    pub found : buffer_of arrival.key (after limits now arrival buffers) ≡ Some buffer
-    pub whole : is_whole buffer ≡ true
-
   pub record IsWholeIn (key : Key) (buffers : List (Buffer C)) : Type 0 where
     pub buffer : Buffer C
     pub found : buffer_of key buffers ≡ Some buffer
@@ -107,9 +102,34 @@ module _ {C : Type 0} where
       = ap (λ (refused : Option Answer). buffers_of refused buffers (with_kept limits now arrival buffers)) e in
       record { after_is = same; buffer = kept.buffer; found = ap (λ (l : List (Buffer C)). buffer_of arrival.key l) same ∙ kept.found; whole = kept.whole }
 
+  -- where it is, the segment was kept, and the buffer of its key is whole
   pub made_whole : (limits : TableLimits) (now : ℕ) (arrival : Arrival C) (buffers : List (Buffer C)) → answer limits now arrival buffers ≡ Whole
       → IsMadeWhole limits now arrival buffers
   made_whole limits now arrival buffers whole = made_whole-by limits now arrival buffers (refusal limits arrival buffers) refl whole
+
+  -- a buffer that is taken out makes no other whole
+  pub none_whole-without : (key : Key) (buffers : List (Buffer C)) → AllByRecursion IsNotWhole buffers → AllByRecursion IsNotWhole (without key buffers)
+  none_whole-without key buffers none = AllByRecursion-filter (λ (b : Buffer C). not (same_key b.key key)) IsNotWhole IsNotWhole (λ b t k. k) buffers none
+
+  pub none_whole-without_due : (ended : Option (Buffer C)) (buffers : List (Buffer C)) → AllByRecursion IsNotWhole buffers
+      → AllByRecursion IsNotWhole (without_due ended buffers)
+  none_whole-without_due None buffers none = none
+  none_whole-without_due (Some ended) buffers none = none_whole-without ended.key buffers none
+
+  -- no other buffer than that of the segment's key is made whole
+  none_whole-others : (limits : TableLimits) (now : ℕ) (arrival : Arrival C) (buffers : List (Buffer C)) → AllByRecursion IsNotWhole buffers
+      → AllByRecursion IsNotWhole (without arrival.key (with_kept limits now arrival buffers))
+  none_whole-others limits now arrival [] none = rw (same_key-like arrival.key arrival.key refl) tt
+  none_whole-others limits now arrival (buffer ∷ others) none =
+      elim (cases_Bool (same_key buffer.key arrival.key)) [
+        | inl same ↦ rw same (rw same (none_whole-without arrival.key others none.1))
+        | inr other ↦ rw other (rw other (none.0, none_whole-others limits now arrival others none.1))
+      ]
+
+  pub none_whole-released : (limits : TableLimits) (now : ℕ) (arrival : Arrival C) (buffers : List (Buffer C)) → AllByRecursion IsNotWhole buffers
+      → answer limits now arrival buffers ≡ Whole → AllByRecursion IsNotWhole (without arrival.key (after limits now arrival buffers))
+  none_whole-released limits now arrival buffers none whole =
+      rw ((made_whole limits now arrival buffers whole).after_is) (none_whole-others limits now arrival buffers none)
 
   -- a segment that is kept and taken out again leaves no other buffers than there were
   but_last-push : (arrivals : List (Arrival C)) (arrival : Arrival C) → but_last (arrivals ++ arrival ∷ []) ≡ arrivals
@@ -130,6 +150,11 @@ module _ {C : Type 0} where
         | inl same ↦ rw same (rw (same, but_last-push buffer.kept arrival) (all_holding P (record buffer { kept = buffer.kept ++ arrival ∷ [] }) buffer.kept others all.0 all.1))
         | inr other ↦ rw other (rw other (all.0, all_undone P limits now arrival others all.1))
       ]
+
+  pub none_whole-undone : (limits : TableLimits) (now : ℕ) (arrival : Arrival C) (buffers : List (Buffer C)) → AllByRecursion IsNotWhole buffers
+      → answer limits now arrival buffers ≡ Whole → AllByRecursion IsNotWhole (undone arrival.key (after limits now arrival buffers))
+  none_whole-undone limits now arrival buffers none whole =
+      rw ((made_whole limits now arrival buffers whole).after_is) (all_undone IsNotWhole limits now arrival buffers none)
 
 -- what the code says is that a unit is whole only where it gives a slot
 pub said_not_whole : (told : Accept) → ((slot : SlotNo) → told ≡ accept.Whole slot → ⊥) → said told ≡ Whole → ⊥

@@ -15,7 +15,7 @@ use Rattle.reassembly.specs.Sound.{IsSound}
 use Rattle.reassembly.specs.State.{TableState, KeepsSegments, Stands, opening_of, segments_of}
 use Rattle.reassembly.specs.Ending.{without_last}
 use Rattle.reassembly.proofs.Removing.{AllByRecursion-none, AllByRecursion-weaker, filter_not-none}
-use Rattle.reassembly.proofs.SameKey.{same_from_same_key, same_key-false_sym}
+use Rattle.reassembly.proofs.Keys.{same_key-true, same_key-false_sym}
 use Rattle.reassembly.proofs.Undoing.{All-without_last, length-without_last, others-without_last, segments_of-without_last, size-without_last}
 
 pub sound_undone : (key : Key) (limits : TableLimits) (openings : List Opening) (segments : List Segment) (held : ℕ) → IsSound limits openings segments held
@@ -99,7 +99,7 @@ module _ (key : Key) (limits : TableLimits) (segments : List Segment) (openings 
       elim (cases_Bool (same_key first.key key)) [
         | inl t ↦
             let none : length (filter (λ b. same_key b.key key) others) ≡ 0 = let k = rw t at once in omega (arith, k) in
-            let same = same_from_same_key first.key key t in
+            let same = same_key-true first.key key t in
             let kept : but_last first.kept ≡ map arrival_of (segments_of first.key (without_last key segments)) =
             ap but_last h.0 ∙ ap (λ k. but_last (map arrival_of (segments_of k segments))) same
             ∙ sym (segments_of-without_last key segments) ∙ ap (λ k. map arrival_of (segments_of k (without_last key segments))) (sym same) in
@@ -113,7 +113,7 @@ module _ (key : Key) (limits : TableLimits) (segments : List Segment) (openings 
   leaves-but : (buffers : List (Buffer Extent)) → AllByRecursion (KeepsSegments old) buffers → AllByRecursion (LeavesBut key left) buffers
   leaves-but buffers h =
       AllByRecursion-weaker (KeepsSegments old) (LeavesBut key left)
-      (λ b k t. ap but_last k ∙ ap (λ k. but_last (map arrival_of (segments_of k segments))) (same_from_same_key b.key key t) ∙ sym (segments_of-without_last key segments))
+      (λ b k t. ap but_last k ∙ ap (λ k. but_last (map arrival_of (segments_of k segments))) (same_key-true b.key key t) ∙ sym (segments_of-without_last key segments))
       buffers h
 
   module _ (buffers : List (Buffer Extent)) (once : length (filter (λ b. same_key b.key key) buffers) ≡ 1) (stands : Stands old buffers) where

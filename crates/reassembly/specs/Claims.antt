@@ -1,10 +1,10 @@
 -- What is claimed of buffers beside how segments are kept.
-use Rattle.std.specs.Prelude.{◌≡◌, ◌↔◌, ℕ, ◌≤◌, ◌<◌, List, ◌∷◌, ◌++◌, length, Some, IsTrue}
+use Rattle.std.specs.Prelude.{◌≡◌, ◌↔◌, ◌⊎◌, ℕ, ◌+◌, ◌≤◌, ◌<◌, true, false, List, ◌∷◌, ◌++◌, length, None, Some, IsTrue, slice_get}
 use Rattle.std.specs.List.{All, AllByRecursion, Contains}
 use Rattle.reassembly.specs.declared.segment.Key.{Key}
 use Rattle.reassembly.specs.declared.table.TableLimits.{TableLimits}
 use Rattle.reassembly.specs.Arrival.{Arrival, data_len, has, is_covered}
-use Rattle.reassembly.specs.Buffer.{Buffer, held, kept, is_whole, buffer_of}
+use Rattle.reassembly.specs.Buffer.{Buffer, held, kept, is_whole, buffer_of, with_kept, after}
 
 module _ {C : Type 0} where
   -- a place is covered exactly where one of the segments has it
@@ -51,3 +51,31 @@ module _ {C : Type 0} where
     pub has_ended : ended.deadline ≤ now
     pub soonest : All (λ buffer. ended.deadline ≤ buffer.deadline) buffers
     pub first : All (λ buffer. ended.deadline < buffer.deadline) before
+
+  -- The time of a buffer ends once the hold time or the lifetime of its first segment is over, whichever is over first,
+  -- from its opening on.
+  pub record EndsInTime (limits : TableLimits) (buffer : Buffer C) : Type 0 where
+    pub first : Arrival C
+    pub came_first : slice_get buffer.kept 0 ≡ Some first
+    pub hold : buffer.deadline ≤ buffer.opened + limits.hold
+    pub lifetime : buffer.deadline ≤ buffer.opened + first.lifetime
+    pub no_sooner : (buffer.opened + limits.hold ≤ buffer.deadline) ⊎ (buffer.opened + first.lifetime ≤ buffer.deadline)
+
+  abbrev pub AllEndInTime : TableLimits → List (Buffer C) → Type 0
+  AllEndInTime limits buffers = AllByRecursion (EndsInTime limits) buffers
+
+  abbrev pub NoneIsWhole : List (Buffer C) → Type 0
+  NoneIsWhole buffers = AllByRecursion (λ buffer. is_whole buffer ≡ false) buffers
+
+  -- a segment was kept, and the buffer of its key is whole
+  pub record IsMadeWhole (limits : TableLimits) (now : ℕ) (arrival : Arrival C) (buffers : List (Buffer C)) : Type 0 where
+    pub after_is : after limits now arrival buffers ≡ with_kept limits now arrival buffers
+    pub buffer : Buffer C
+    pub found : buffer_of arrival.key (after limits now arrival buffers) ≡ Some buffer
+    pub whole : is_whole buffer ≡ true
+
+  -- a segment may be kept: no number of the limits is passed with it
+  pub record MayBeKept (limits : TableLimits) (arrival : Arrival C) (buffers : List (Buffer C)) : Type 0 where
+    pub slot : buffer_of arrival.key buffers ≡ None → length buffers < limits.slots
+    pub budget : held buffers + arrival.size ≤ limits.budget
+    pub few : kept buffers < limits.segments

@@ -3,14 +3,10 @@
 #![tactic(auto)]
 
 mod coverage;
-#[cfg(test)]
-mod ending_tests;
 pub mod laws;
 mod pieces;
 mod segment;
 mod table;
-#[cfg(test)]
-mod tests;
 
 pub use pieces::Pieces;
 pub use segment::{Key, Segment, Shape};

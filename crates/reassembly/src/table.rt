@@ -1,11 +1,12 @@
 //! The table of reassembly buffers.
-ghost use Rattle.std.specs.Prelude.{◌≡◌, ◌+◌, ◌<◌, ◌≤◌, ◌^◌, ◌&&◌, ℕ, List, [], length, map, min, nat_le, false, true, if◌then◌else◌, IfNone, IfOk, IfSome, MatchOption, None, Some, is_none, option_map, slice_get};
+ghost use Rattle.std.specs.Prelude.{◌≡◌, ◌≢◌, ◌+◌, ◌<◌, ◌≤◌, ◌^◌, ◌&&◌, ℕ, List, [], length, map, min, nat_le, false, true, if◌then◌else◌, IfNone, IfOk, IfSome, MatchOption, None, Some, is_none, option_map, slice_get};
 ghost use Rattle.std.specs.List.{AllByRecursion};
 ghost use Rattle.clnp_views.specs.Extent.{Extent};
 ghost use Rattle.reassembly.specs.Arrival.{are_covered, arrival_of, data_len, octet_in, same_shape};
 ghost use Rattle.reassembly.specs.Buffer as buffer;
 ghost use Rattle.reassembly.specs.Buffer.{Buffer};
 ghost use Rattle.reassembly.specs.Kept.{with_opening};
+ghost use Rattle.reassembly.specs.NoWhole.{HasNoWhole, IsCompleted};
 ghost use Rattle.reassembly.specs.Offered.{MayCome, openings_of};
 ghost use Rattle.reassembly.specs.State.{IsReady, IsWholeSlot, MayKeep, Names, Stands, said, segments_of, slot_of, was_kept};
 
@@ -106,6 +107,7 @@ impl Table {
     /// `NoMemory`.
     pub fn new(alloc: Global, limits: TableLimits) -> Result<Table, NoMemory>
         ensures stands { IfOk result (λ table. Stands table []) }
+        ensures none_whole { IfOk result HasNoWhole }
         ensures limits { IfOk result (λ table. table.limits ≡ limits) }
     {
         let Ok(openings) = Vec::with_capacity(alloc, usize::from(limits.slots)) else {
@@ -139,6 +141,11 @@ impl Table {
         ensures stands { (buffers : List (Buffer Extent)) → Stands self.old buffers
             → Stands self.new (buffer.after self.old.limits now (arrival_of segment) buffers) }
         ensures slot { (slot : SlotNo) → result ≡ Accept.Whole slot → Names self.new slot.0 segment.key }
+        // A slot that it gives is that of a whole buffer, the only one, which isn't whole without this segment; where it gives
+        // none, no buffer is whole.
+        ensures whole { (slot : SlotNo) → result ≡ Accept.Whole slot → IsWholeSlot self.new slot.0 }
+        ensures completed { (slot : SlotNo) → result ≡ Accept.Whole slot → IsCompleted self.new slot.0 }
+        ensures none_whole { ((slot : SlotNo) → result ≢ Accept.Whole slot) → HasNoWhole self.new }
         ensures same { was_kept result ≡ false → self.new ≡ self.old }
         ensures limits { self.new.limits ≡ self.old.limits }
     {

@@ -1,5 +1,5 @@
 //! Buffers taken out of the table, whole or because their time has ended.
-ghost use Rattle.std.specs.Prelude.{◌≡◌, ◌≢◌, ◌≤◌, ◌<◌, ◌^◌, List, [], length, nat_le, nat_lt, take, Some, IfNone, IfSome, MatchOption, option_map, slice_get, vec_capacity};
+ghost use Rattle.std.specs.Prelude.{◌≡◌, ◌≢◌, ◌≤◌, ◌<◌, ◌^◌, List, [], length, nat_le, nat_lt, take, None, Some, IfNone, IfSome, MatchOption, option_map, slice_get, vec_capacity};
 ghost use Rattle.std.specs.List.{All, position_from, remove};
 ghost use Rattle.clnp_views.specs.Extent.{Extent};
 ghost use Rattle.reassembly.specs.declared.table.Opening.{Opening};
@@ -7,7 +7,8 @@ ghost use Rattle.reassembly.specs.Offered.{total_size};
 ghost use Rattle.reassembly.specs.Buffer as buffer;
 ghost use Rattle.reassembly.specs.Buffer.{Buffer};
 ghost use Rattle.reassembly.specs.Ending.{first_pdu, is_start_of, others_of, without_last};
-ghost use Rattle.reassembly.specs.State.{IsWholeSlot, Names, Stands, segments_of};
+ghost use Rattle.reassembly.specs.NoWhole.{HasNoWhole, IsCompleted};
+ghost use Rattle.reassembly.specs.State.{IsReady, IsWholeSlot, Names, Stands, segments_of};
 
 use super::{Expired, Opening, SlotNo, Table};
 use crate::segment::{Key, Segment};
@@ -19,6 +20,7 @@ impl Table {
         requires { IsWholeSlot self.old slot.0 }
         ensures stands { (buffers : List (Buffer Extent)) (key : Key) → Stands self.old buffers → Names self.old slot.0 key
             → Stands self.new (buffer.without key buffers) }
+        ensures none_whole { IsCompleted self.old slot.0 → HasNoWhole self.new }
         ensures limits { self.new.limits ≡ self.old.limits }
     {
         self.take_out(slot.0);
@@ -29,6 +31,7 @@ impl Table {
         requires { IsWholeSlot self.old slot.0 }
         ensures stands { (buffers : List (Buffer Extent)) (key : Key) → Stands self.old buffers → Names self.old slot.0 key
             → Stands self.new (buffer.undone key buffers) }
+        ensures none_whole { IsCompleted self.old slot.0 → HasNoWhole self.new }
         ensures limits { self.new.limits ≡ self.old.limits }
     {
         let key = self.openings[slot.0].key;
@@ -44,6 +47,8 @@ impl Table {
             → result ≡ option_map (λ ended. record { key = ended.key; first = buffer.first_carried ended }) (buffer.due now buffers) }
         ensures stands { (buffers : List (Buffer Extent)) → Stands self.old buffers
             → Stands self.new (buffer.without_due (buffer.due now buffers) buffers) }
+        ensures none_whole { HasNoWhole self.old → HasNoWhole self.new }
+        ensures ready { HasNoWhole self.old → result ≡ None → IsReady now self.new }
         ensures limits { self.new.limits ≡ self.old.limits }
     {
         let slot = due_slot(&self.openings, now)?;
@@ -55,6 +60,7 @@ impl Table {
     /// Takes all buffers out.
     pub fn clear(&mut self)
         ensures stands { Stands self.new [] }
+        ensures none_whole { HasNoWhole self.new }
         ensures limits { self.new.limits ≡ self.old.limits }
     {
         self.openings.clear();

@@ -2,10 +2,10 @@ use Rattle.reassembly.proofs.LawBuffers.{none_empty-after, none_empty-without, n
 use Rattle.reassembly.proofs.laws.no_buffer_is_empty.Goals as goal
 
 pub returns-clause-after : goal.returns-clause-after
-returns-clause-after c = λ limits now arrival buffers full. none_empty-after limits now arrival buffers full
+returns-clause-after g c = λ limits now arrival buffers full. none_empty-after limits now arrival buffers full
 
 pub returns-clause-without : goal.returns-clause-without
-returns-clause-without c = λ key buffers full. none_empty-without key buffers full
+returns-clause-without g c = λ key buffers full. none_empty-without key buffers full
 
 pub returns-clause-undone : goal.returns-clause-undone
-returns-clause-undone c = λ key buffers full. none_empty-undone key buffers full
+returns-clause-undone g c = λ key buffers full. none_empty-undone key buffers full

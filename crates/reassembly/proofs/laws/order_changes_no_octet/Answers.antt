@@ -1,9 +1,8 @@
-use Rattle.reassembly.specs.Arrival.{octet_in}
 use Rattle.reassembly.proofs.LawOrder.{same_data, same_whole}
 use Rattle.reassembly.proofs.laws.order_changes_no_octet.Goals as goal
 
 pub returns-clause-octets : goal.returns-clause-octets
-returns-clause-octets c = λ buffer other shapes same agree. same_data octet_in buffer other shapes same agree
+returns-clause-octets g c = λ read buffer other shapes same agree. same_data read buffer other shapes same agree
 
 pub returns-clause-whole : goal.returns-clause-whole
-returns-clause-whole c = λ buffer other shapes same. same_whole buffer other shapes same
+returns-clause-whole g c = λ buffer other shapes same. same_whole buffer other shapes same

@@ -1,4 +1,4 @@
-use Rattle.reassembly.proofs.Mapped.{answer-mapped, after-mapped, without-mapped, undone-mapped, due-mapped, without_due-mapped, is_whole-mapped, first_carried-mapped, data_of-mapped}
+use Rattle.reassembly.proofs.Mapped.{answer-mapped, after-mapped, without-mapped, undone-mapped, due-mapped, without_due-mapped, buffer_of-mapped, held-mapped, kept-mapped, is_whole-mapped, first_carried-mapped, data_of-mapped}
 use Rattle.reassembly.proofs.laws.what_is_carried_changes_nothing.Goals as goal
 
 pub returns-clause-answer : goal.returns-clause-answer
@@ -18,6 +18,15 @@ returns-clause-due g c = λ f now buffers. due-mapped f now buffers
 
 pub returns-clause-without_due : goal.returns-clause-without_due
 returns-clause-without_due g c = λ f ended buffers. without_due-mapped f ended buffers
+
+pub returns-clause-buffer_of : goal.returns-clause-buffer_of
+returns-clause-buffer_of g c = λ f key buffers. buffer_of-mapped f key buffers
+
+pub returns-clause-held : goal.returns-clause-held
+returns-clause-held g c = λ f buffers. held-mapped f buffers
+
+pub returns-clause-kept : goal.returns-clause-kept
+returns-clause-kept g c = λ f buffers. kept-mapped f buffers
 
 pub returns-clause-whole : goal.returns-clause-whole
 returns-clause-whole g c = λ f buffer. is_whole-mapped f buffer

@@ -4,6 +4,7 @@ use Rattle.std.specs.Option.{option_map}
 use Rattle.reassembly.specs.Buffer.{without_due}
 use Rattle.reassembly.specs.State.{Stands}
 use Rattle.reassembly.proofs.Expiring.{IsDueSlot, due_gives, due_leaves, due_within, expired_of, nothing_due}
+use Rattle.reassembly.proofs.NoWhole.{expired_none_whole, expired_ready}
 use Rattle.reassembly.proofs.table.Table.expire.Goals as goal
 
 pub returns-in_err-slot-clause-ended : goal.returns-in_err-slot-clause-ended
@@ -42,3 +43,10 @@ returns-clause-stands c = λ buffers stands.
     let found = subst (λ l. IsDueSlot c.args.now l c.in_ok-slot.slot) c.deref.ensures.value c.in_ok-slot.ensures.due in
     due_leaves t.limits t.openings.items t.segments.items t.held c.args.now c.in_ok-slot.slot c.args.self.now c.self.view_is c.self.invariant.0 found buffers stands
     c.take_out-first.new.self c.take_out-first.ensures.stands
+
+pub returns-in_err-slot-clause-ready : goal.returns-in_err-slot-clause-ready
+returns-in_err-slot-clause-ready c =
+    expired_ready c.args.self.now c.args.self.now c.args.now (returns-in_err-slot-clause-stands c) c.from_residual.result (returns-in_err-slot-clause-ended c)
+
+pub returns-clause-none_whole : goal.returns-clause-none_whole
+returns-clause-none_whole c = expired_none_whole c.args.self.now c.take_out-first.new.self c.args.now (returns-clause-stands c)

@@ -3,6 +3,7 @@ use Rattle.std.proofs.Common.{◌∙◌, ap, arith, refl, sym}
 use Rattle.reassembly.specs.Offered.{total_size}
 use Rattle.reassembly.specs.State.{segments_of}
 use Rattle.reassembly.proofs.Closing.{named_within, undo_sound, undo_stands, undone_sound}
+use Rattle.reassembly.proofs.NoWhole.{undone_none_whole}
 use Rattle.reassembly.proofs.table.Table.undo.Goals as goal
 
 pub total_size-self-inside-requires : goal.total_size-self-inside-requires
@@ -34,3 +35,6 @@ returns-clause-stands c =
     undo_stands t.limits t.openings.items t.segments.items t.held c.args.slot.0 c.index.result.now c.args.self.now c.self.view_is c.self.invariant.0 within c.index.ensures
     c.drop_last.new.segments.items c.drop_last.ensures.others c.close_empty.new.openings.items
     (λ none. c.close_empty.ensures.closed (same ∙ none)) (λ more. c.close_empty.ensures.open (λ none. more (sym same ∙ none)))
+
+pub returns-clause-none_whole : goal.returns-clause-none_whole
+returns-clause-none_whole c = undone_none_whole c.args.self.now _ c.args.slot.0 (returns-clause-stands c)
