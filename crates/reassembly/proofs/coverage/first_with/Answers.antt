@@ -3,7 +3,7 @@ use Rattle.std.proofs.Common.{◌≡◌, ◌&&◌, true, sym, ◌∙◌}
 use Rattle.std.proofs.lemmas.Bool.{and_from}
 use Rattle.std.proofs.lemmas.List.{take_all}
 use Rattle.reassembly.specs.Arrival.{arrival_of, has, same_key}
-use Rattle.reassembly.proofs.Finding.{position_none, position_read}
+use Rattle.clnp_base.proofs.Found.{position_none, position_read}
 use Rattle.reassembly.proofs.coverage.first_with.Goals as goal
 
 pub returns-then-has : goal.returns-then-has

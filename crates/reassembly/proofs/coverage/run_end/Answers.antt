@@ -7,7 +7,8 @@ use Rattle.std.proofs.lemmas.Grind.{common_steps}
 use Rattle.reassembly.specs.declared.segment.Segment.{Segment}
 use Rattle.reassembly.specs.Arrival.{same_key}
 use Rattle.reassembly.specs.Offered.{MayCome}
-use Rattle.reassembly.proofs.Finding.{all_read, is_first, position_read}
+use Rattle.clnp_base.proofs.Found.{is_first, position_read}
+use Rattle.clnp_base.proofs.Lists.{AllByRecursion-read}
 use Rattle.reassembly.proofs.Run.{RunsTo, does_give, gives, gives_from, run_more}
 use Rattle.reassembly.proofs.coverage.run_end.Goals as goal
 use Rattle.reassembly.proofs.coverage.run_end.Goals.{then-eq+then-place-start, else-eq}
@@ -24,7 +25,7 @@ bounds-segments-index c = (is_first (gives c.args.key.now c.args.place) c.args.i
 pub end-end-requires : goal.end-end-requires
 end-end-requires c =
     let first = is_first (gives c.args.key.now c.args.place) c.args.index c.args.segments.now c.requires.first in
-    all_read MayCome c.args.index c.args.segments.now c.index-segments-index.result first.within c.index-segments-index.is c.requires.came
+    AllByRecursion-read MayCome c.args.segments.now c.args.index c.index-segments-index.result first.within c.index-segments-index.is c.requires.came
 
 pub slice_bounds-segment-items-end : goal.slice_bounds-segment-items-end
 slice_bounds-segment-items-end c =
