@@ -1,5 +1,6 @@
 pub mod Closing
 pub mod Counted
+pub mod Counting
 pub mod Covered
 pub mod Due
 pub mod Ended

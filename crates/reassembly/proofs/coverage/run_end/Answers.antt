@@ -11,7 +11,7 @@ use Rattle.clnp_base.proofs.Found.{is_first, position_read}
 use Rattle.clnp_base.proofs.Lists.{AllByRecursion-read}
 use Rattle.reassembly.proofs.Run.{RunsTo, does_give, gives, gives_from, run_more}
 use Rattle.reassembly.proofs.coverage.run_end.Goals as goal
-use Rattle.reassembly.proofs.coverage.run_end.Goals.{then-eq+then-place-start, else-eq}
+use Rattle.reassembly.proofs.coverage.run_end.Goals.{then-is+then-place-start, else-is}
 
 pub offset_bounds-segments-index : goal.offset_bounds-segments-index
 offset_bounds-segments-index c =
@@ -50,13 +50,13 @@ loop-segment-preserved c =
     → RunsTo c.args.key.now (take c.args.index c.args.segments.now) (c.loop-segment.segment-index + 1) c.args.place c.end-end.result next
     = λ next later within begins. run_more c.args.key.now (take c.args.index c.args.segments.now) c.loop-segment.segment-index c.args.place
     c.end-end.result c.loop-segment.end next segment run c.loop-segment-test.true c.segment-item.is first.before later within begins in
-    elim c.if-eq.branch [
-      | then-eq+then-place-start w ↦ more c.if-eq.end (omega (arith, run.later)) (omega arith) (λ key begins. omega arith)
-      | else-eq w ↦
-          more c.if-eq.end (omega (arith, run.later)) (omega arith)
-          (λ key begins. elim w.else-eq.either [
+    elim c.if-is.branch [
+      | then-is+then-place-start w ↦ more c.if-is.end (omega (arith, run.later)) (omega arith) (λ key begins. omega arith)
+      | else-is w ↦
+          more c.if-is.end (omega (arith, run.later)) (omega arith)
+          (λ key begins. elim w.else-is.either [
             | inl past ↦ absurd (omega (arith, past.1))
-            | inr other ↦ absurd (both_ways c.eq.result other (c.eq.ensures ∙ key))
+            | inr other ↦ absurd (both_ways c.is.result other (c.is.ensures ∙ key))
           ])
     ]
 
