@@ -11,7 +11,7 @@ use Rattle.reassembly.specs.Buffer.{Answer, Buffer, buffer_of, held, is_whole, s
 use Rattle.reassembly.proofs.LawSums.{sum_filter}
 use Rattle.reassembly.proofs.Ready.{made_whole, none_whole-after}
 use Rattle.reassembly.proofs.Removing.{AllByRecursion-filter, AllByRecursion-find, AllByRecursion-weaker}
-use Rattle.reassembly.proofs.Shared.{same_key-true}
+use Rattle.reassembly.proofs.SameKey.{same_from_same_key}
 use Rattle.clnp_machine.specs.Unit as unit
 use Rattle.clnp_machine.specs.Unit.{Packet, value_of}
 use Rattle.clnp_machine.specs.System.{Content, Effect, Labelled, SystemState, Unlabelled, table_limits}
@@ -91,7 +91,7 @@ module _ (plan : Plan) (units : List unit.Unit) (now place : ℕ) where
       got_is_sound joined live same whole =
           let u = live.sound.unit in
           let it = unit_sound plan past now units u made live.sound.made in
-          let keys = sym live.sound.key ∙ same_key-true joined.key (offered p []).key same in
+          let keys = sym live.sound.key ∙ same_from_same_key joined.key (offered p []).key same in
           let len : data_len joined.shape ≡ length u.octets = ap data_len live.sound.shape ∙ (let total = it.total in omega arith) in
           (u, live.sound.made, ap (λ key. key.from) keys, ap (λ key. key.to) keys, sym (joined_is_unit units u it.first_position joined live.sound.kept len whole))
 

@@ -9,7 +9,7 @@ use Rattle.reassembly.specs.Arrival.{Arrival, are_covered, same_key}
 use Rattle.reassembly.specs.Buffer.{Answer, Buffer, Crowded, Held, Interference, Many, NoSlot, Repeat, Whole, after, answer, answer_of, buffer_of, clashes, held, is_whole_in, kept, kept_in, opened_by, refusal, with_kept, without}
 use Rattle.reassembly.proofs.LawKept.{held-with_kept, kept_or_not, may_be_kept}
 use Rattle.reassembly.proofs.Removing.{AllByRecursion-filter}
-use Rattle.reassembly.proofs.Shared.{same_key-refl}
+use Rattle.reassembly.proofs.SameKey.{same_key-refl}
 
 pub find_passes : {X : Type 0} (p : X → Bool) (xs : List X) (x : X) → find p xs ≡ Some x → p x ≡ true
 find_passes p [] x e = absurd (none-some x e)

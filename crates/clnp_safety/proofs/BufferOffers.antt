@@ -12,7 +12,7 @@ use Rattle.reassembly.specs.declared.table.TableLimits.{TableLimits}
 use Rattle.reassembly.specs.Arrival.{same_key, same_shape}
 use Rattle.reassembly.specs.Buffer.{Buffer, buffer_of, clashes, opened_by}
 use Rattle.reassembly.proofs.Removing.{AllByRecursion-find}
-use Rattle.reassembly.proofs.Shared.{same_key-true}
+use Rattle.reassembly.proofs.SameKey.{same_from_same_key}
 use Rattle.clnp_machine.specs.Unit as unit
 use Rattle.clnp_machine.specs.Unit.{Packet, value_of}
 use Rattle.clnp_machine.specs.Local.{header_size, identifier_in, offered}
@@ -64,7 +64,7 @@ module _ (plan : Plan) (limits : AreLimits plan.limits) (past : List Entry) (now
   unit_in buffer live same =
       let v = live.sound.unit in
       let keys : record { from = v.source; to = v.destination; id = live.sound.identifier } ≡ (offered p []).key
-      = sym live.sound.key ∙ same_key-true buffer.key (offered p []).key same in
+      = sym live.sound.key ∙ same_from_same_key buffer.key (offered p []).key same in
       let number : live.sound.identifier ≡ identifier = ap (λ key. key.id) keys ∙ ap identifier_in identified in
       let apart = not_another buffer v live.sound.made live.lasts live.sound.opened live.sound.deadline in
       elim (same_unit plan.limits.reuse units made.rest v p.unit live.sound.made packet.unit (ap (λ key. key.from) keys) identifier (live.sound.identified ∙ ap Some number) identified) [

@@ -10,7 +10,7 @@ use Rattle.reassembly.specs.Buffer.{Buffer, due, first_carried, held, is_whole, 
 use Rattle.reassembly.proofs.LawDue.{due_is, none_due}
 use Rattle.reassembly.proofs.LawSums.{sum_filter}
 use Rattle.reassembly.proofs.Removing.{AllByRecursion-filter, AllByRecursion-weaker}
-use Rattle.reassembly.proofs.Shared.{same_key-refl}
+use Rattle.reassembly.proofs.SameKey.{same_key-refl}
 use Rattle.clnp_machine.specs.Identifiers.{Use}
 use Rattle.clnp_machine.specs.Unit as unit
 use Rattle.clnp_machine.specs.Unit.{DeclaredAt, Packet}

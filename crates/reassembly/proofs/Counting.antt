@@ -1,6 +1,6 @@
 -- Segments with fewer octets in all than there are places don't cover them.
-use Rattle.std.proofs.Common.{◌≡◌, ℕ, zero, suc, ◌+◌, ◌-◌, ◌*◌, ◌<◌, ◌≤◌, ◌&&◌, ◌||◌, nat_le, nat_lt, Bool, true, false, cond, List, [], ◌∷◌, length, map, sum, take, get_or, ◌⊎◌, zero-add, add-zero, refl, sym, ap, ◌∙◌, inl, inr, arith}
-use Rattle.std.specs.List.{list_any, sum_by}
+use Rattle.std.proofs.Common.{◌≡◌, ℕ, zero, suc, ◌+◌, ◌-◌, ◌<◌, ◌≤◌, ◌&&◌, ◌||◌, nat_le, nat_lt, Bool, true, false, cond, List, [], ◌∷◌, length, map, sum, take, get_or, ◌⊎◌, zero-add, add-zero, refl, sym, ap, ◌∙◌, inl, inr, arith}
+use Rattle.std.specs.List.{sum_by}
 use Rattle.std.proofs.lemmas.Bool.{cases_Bool, cases_lt, false_from_ne_true, le-leb, lt-leb, lt-ltb}
 use Rattle.std.proofs.lemmas.List.{take_all}
 use Rattle.std.proofs.lemmas.List.Sums.{sum_by-cons, sum_by_more}
@@ -9,7 +9,7 @@ use Rattle.clnp_base.proofs.Choices.{below_not}
 use Rattle.clnp_base.proofs.Sums.{sum_cons}
 use Rattle.reassembly.specs.declared.segment.Key.{Key}
 use Rattle.reassembly.specs.declared.segment.Segment.{Segment}
-use Rattle.reassembly.specs.Arrival.{Arrival, are_covered, arrival_of, has, is_covered, same_key}
+use Rattle.reassembly.specs.Arrival.{Arrival, are_covered, arrival_of, is_covered, same_key}
 use Rattle.reassembly.proofs.Covered.{each_covered}
 use Rattle.reassembly.proofs.Run.{arrivals_of}
 
@@ -46,9 +46,9 @@ count_within offset len (suc n) =
     elim (cases_lt n offset) [
       | inl early ↦ rw (lt-leb offset n early) (omega (arith, before.0), omega (arith, before.1))
       | inr late ↦ elim (cases_lt n (offset + len)) [
-          | inl inside ↦ rw (le-leb offset n late, lt-ltb n (offset + len) inside) (omega (arith, before.1), omega (arith, before.1))
-          | inr behind ↦ rw (le-leb offset n late, below_not n (offset + len) behind) (omega (arith, before.0), omega (arith, before.1))
-        ]
+        | inl inside ↦ rw (le-leb offset n late, lt-ltb n (offset + len) inside) (omega (arith, before.1), omega (arith, before.1))
+        | inr behind ↦ rw (le-leb offset n late, below_not n (offset + len) behind) (omega (arith, before.0), omega (arith, before.1))
+      ]
     ]
 
 module _ {C : Type 0} where

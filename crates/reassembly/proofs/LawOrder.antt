@@ -1,5 +1,5 @@
 -- The order in which segments came tells nothing of which places are covered, nor of the octets there.
-use Rattle.std.proofs.Common.{◌≡◌, ℕ, Bool, true, false, List, map, refl, sym, ap, ◌∙◌, inl, inr}
+use Rattle.std.proofs.Common.{◌≡◌, ℕ, List, map, sym, ap, ◌∙◌, inl, inr}
 use Rattle.std.specs.List.{find, range_with_len}
 use Rattle.std.proofs.lemmas.Bool.{cases_Bool}
 use Rattle.reassembly.specs.Arrival.{Arrival, data_len, has, is_covered, are_covered}
