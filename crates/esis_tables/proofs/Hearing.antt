@@ -86,8 +86,8 @@ noted_kept table new kept fact until keeps fits ends is =
     let few : length others < 2 ^ 16 - 1 = omega (arith, length_kept table others keeps) in
     record {
       entries = is (rising_of table others keeps) new_key
-      ∙ ap (λ n. map raised (put_in key_in (new_entry fact.key fact.place n) table.entries)) ends
-      ∙ noted table others keeps fact few;
+          ∙ ap (λ n. map raised (put_in key_in (new_entry fact.key fact.place n) table.entries)) ends
+          ∙ noted table others keeps fact few;
       distinct = distinct-push others fact keeps.distinct none;
     }
 

@@ -77,6 +77,7 @@ found_latest table key fact latest' last own step same true is =
         ∙ cond-true (has_key key fact) (Some fact) (find (has_key key) latest') t
         ∙ sym (cond-true (has_key key fact) (Some fact) None t)
     here (Some last) step e t = ap (λ x. find (has_key key) (if is_none x then fact ∷ latest' else latest')) e ∙ step
+
     elsewhere : (x : Option Fact) → has_key key fact ≡ false → find (has_key key) (if is_none x then fact ∷ latest' else latest') ≡ last
     elsewhere None f = cond-false (has_key key fact) (Some fact) (find (has_key key) latest') f ∙ step
     elsewhere (Some other) f = step
@@ -107,8 +108,10 @@ distinct-latest table [] = tt
 distinct-latest table (fact ∷ later) =
     let own : Option Fact = last_of table fact.key later in
     cond_both (same_table fact.table table && is_none own) (fact ∷ latest table later) (latest table later) AreDistinct
-    (λ t. (none_found (has_key fact.key) (latest table later) (find_latest table fact.key later ∙ is_none_from own (and_parts (same_table fact.table table) (is_none own) t).1),
-    distinct-latest table later))
+    (λ t. (
+      none_found (has_key fact.key) (latest table later) (find_latest table fact.key later ∙ is_none_from own (and_parts (same_table fact.table table) (is_none own) t).1),
+      distinct-latest table later,
+    ))
     (λ f. distinct-latest table later)
 
 -- a hearing in another table changes nothing
@@ -144,6 +147,7 @@ latest-there table (first ∷ later) fact same =
         → without fact.key (if b then first ∷ latest table later else latest table later) ≡ without fact.key (latest table later)
     dropped true h = rw h refl
     dropped false h = refl
+
     stays : (b : Bool) → has_key fact.key first ≡ false
         → (if b then first ∷ (without fact.key (latest table later) ++ fact ∷ []) else without fact.key (latest table later) ++ fact ∷ [])
         ≡ without fact.key (if b then first ∷ latest table later else latest table later) ++ fact ∷ []

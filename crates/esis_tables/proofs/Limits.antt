@@ -78,8 +78,10 @@ module _ (limits : EsisLimits) (fact : Fact) (facts : List Fact) where
     where
       few : length (without fact.key (currents fact.moment fact.table facts)) ≤ length (currents fact.moment fact.table facts)
       few = fewer_without fact.key (currents fact.moment fact.table facts)
+
       becomes : (a : Heard) → answer limits fact facts ≡ a → is_noted a ≡ true → after limits fact facts ≡ facts ++ fact ∷ []
       becomes a is noted = cond-true (is_noted (answer limits fact facts)) (facts ++ fact ∷ []) facts (ap is_noted is ∙ noted)
+
       zero_within : (fact.holding == 0) ≡ true → length (currents fact.moment fact.table (after limits fact facts)) ≤ limit_of fact.table limits
       zero_within zero =
           let ended : end_of fact ≤ fact.moment = omega (arith, eqb-true fact.holding 0 zero) in
@@ -87,12 +89,14 @@ module _ (limits : EsisLimits) (fact : Fact) (facts : List Fact) where
           ap (λ b. length (cond b (fact ∷ []) [])) (le-ltb fact.moment (end_of fact) ended) in
           let is : after limits fact facts ≡ facts ++ fact ∷ [] = becomes Zero (rw zero refl) refl in
           omega (arith, ap (λ l. length (currents fact.moment fact.table l)) is, grown, few, none, within)
+
       again_within : (fact.holding == 0) ≡ false → is_some (current fact.moment fact.table fact.key facts) ≡ true
           → length (currents fact.moment fact.table (after limits fact facts)) ≤ limit_of fact.table limits
       again_within lasts again =
           let is : after limits fact facts ≡ facts ++ fact ∷ [] = becomes Again (rw (lasts, again) refl) refl in
           let less = one_less fact.key (currents fact.moment fact.table facts) (ap is_some (found_current fact.moment fact.table fact.key facts) ∙ again) in
           omega (arith, ap (λ l. length (currents fact.moment fact.table l)) is, grown, less, at_most_one fact.moment fact, within)
+
       full_within : (fact.holding == 0) ≡ false → is_some (current fact.moment fact.table fact.key facts) ≡ false
           → nat_le (limit_of fact.table limits) (length (currents fact.moment fact.table facts)) ≡ true
           → length (currents fact.moment fact.table (after limits fact facts)) ≤ limit_of fact.table limits
@@ -100,6 +104,7 @@ module _ (limits : EsisLimits) (fact : Fact) (facts : List Fact) where
           let answered : answer limits fact facts ≡ Full (length (currents fact.moment fact.table facts)) = rw (lasts, new, full) refl in
           let is : after limits fact facts ≡ facts = cond-false (is_noted (answer limits fact facts)) (facts ++ fact ∷ []) facts (ap is_noted answered) in
           omega (arith, ap (λ l. length (currents fact.moment fact.table l)) is, within)
+
       new_within : (fact.holding == 0) ≡ false → is_some (current fact.moment fact.table fact.key facts) ≡ false
           → nat_le (limit_of fact.table limits) (length (currents fact.moment fact.table facts)) ≡ false
           → length (currents fact.moment fact.table (after limits fact facts)) ≤ limit_of fact.table limits

@@ -105,6 +105,7 @@ there_first key fact later entry distinct found t =
     ap entries_of (without_none key later none)
     ∙ sym (closed_all entry.rank (entries_of later) low)
     ∙ ap (map (closed entry.rank)) (sym (others_none key (entries_of later) (none_has-entries key later none)))
+
 there_later : (key : List ℕ) (fact : Fact) (later : List Fact) (entry : Entry) → AreDistinct (fact ∷ later)
     → find (is_of key) (entries_of (fact ∷ later)) ≡ Some entry → has_key key fact ≡ false
     → (find (is_of key) (entries_of later) ≡ Some entry

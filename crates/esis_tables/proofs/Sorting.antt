@@ -21,9 +21,10 @@ module _ {X : Type 0} (key : X → List ℕ) where
   new_with : (x : X) (sorted xs : List X) → NoneHas key (key x) xs → AllByRecursion (λ y. NoneHas key (key y) sorted) xs
       → AllByRecursion (λ y. NoneHas key (key y) (put_in key x sorted)) xs
   new_with x sorted [] others new = tt
-  new_with x sorted (y ∷ ys) others new =
-      (all_put_in key (λ z. bytes_eq (key z) (key y) ≡ false) x sorted (other-back (key y) (key x) others.0) new.0,
-      new_with x sorted ys others.1 new.1)
+  new_with x sorted (y ∷ ys) others new = (
+    all_put_in key (λ z. bytes_eq (key z) (key y) ≡ false) x sorted (other-back (key y) (key x) others.0) new.0,
+    new_with x sorted ys others.1 new.1,
+  )
 
   pub apart-step : (x : X) (sorted xs : List X) → AreApart sorted (x ∷ xs) → AreApart (put_in key x sorted) xs
   apart-step x sorted xs apart = record {

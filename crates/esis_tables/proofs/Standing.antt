@@ -130,59 +130,63 @@ module _ (old new : Tables) (facts : List Fact) (now : ℕ) (left : List Gone) (
   pub flush_system : (key : List ℕ) → Flushed Es new.systems facts now stands.systems_left key
       → KeepsCurrent Is new.routers facts now stands.routers_left → KeepsCurrent Rd new.redirects facts now stands.redirects_left
       → FlushesFirst (Some (gone_from Es key)) new facts now left
-  flush_system key flushed routers redirects =
-      (all_gone flushed.others stands.routers_left stands.redirects_left,
-      stands.left_is ∙ ap (λ l. all_gone l stands.routers_left stands.redirects_left) flushed.left_is,
-      record {
-        systems_left = flushed.others;
-        routers_left = stands.routers_left;
-        redirects_left = stands.redirects_left;
-        systems = flushed.keeps;
-        routers = routers;
-        redirects = redirects;
-        left_is = refl;
-      })
+  flush_system key flushed routers redirects = (
+    all_gone flushed.others stands.routers_left stands.redirects_left,
+    stands.left_is ∙ ap (λ l. all_gone l stands.routers_left stands.redirects_left) flushed.left_is,
+    record {
+      systems_left = flushed.others;
+      routers_left = stands.routers_left;
+      redirects_left = stands.redirects_left;
+      systems = flushed.keeps;
+      routers = routers;
+      redirects = redirects;
+      left_is = refl;
+    },
+  )
 
   pub flush_router : (key : List ℕ) → (stands.systems_left ≡ []) × KeepsCurrent Es new.systems facts now []
       → Flushed Is new.routers facts now stands.routers_left key → KeepsCurrent Rd new.redirects facts now stands.redirects_left
       → FlushesFirst (Some (gone_from Is key)) new facts now left
-  flush_router key systems flushed redirects =
-      (all_gone [] flushed.others stands.redirects_left,
-      stands.left_is ∙ ap (λ l. all_gone l stands.routers_left stands.redirects_left) systems.0
-      ∙ ap (λ l. all_gone [] l stands.redirects_left) flushed.left_is,
-      record {
-        systems_left = [];
-        routers_left = flushed.others;
-        redirects_left = stands.redirects_left;
-        systems = systems.1;
-        routers = flushed.keeps;
-        redirects = redirects;
-        left_is = refl;
-      })
+  flush_router key systems flushed redirects = (
+    all_gone [] flushed.others stands.redirects_left,
+    stands.left_is ∙ ap (λ l. all_gone l stands.routers_left stands.redirects_left) systems.0
+        ∙ ap (λ l. all_gone [] l stands.redirects_left) flushed.left_is,
+    record {
+      systems_left = [];
+      routers_left = flushed.others;
+      redirects_left = stands.redirects_left;
+      systems = systems.1;
+      routers = flushed.keeps;
+      redirects = redirects;
+      left_is = refl;
+    },
+  )
 
   pub flush_redirect : (key : List ℕ) → (stands.systems_left ≡ []) × KeepsCurrent Es new.systems facts now []
       → (stands.routers_left ≡ []) × KeepsCurrent Is new.routers facts now []
       → Flushed Rd new.redirects facts now stands.redirects_left key
       → FlushesFirst (Some (gone_from Rd key)) new facts now left
-  flush_redirect key systems routers flushed =
-      (all_gone [] [] flushed.others,
-      stands.left_is ∙ ap (λ l. all_gone l stands.routers_left stands.redirects_left) systems.0
-      ∙ ap (λ l. all_gone [] l stands.redirects_left) routers.0 ∙ ap (all_gone [] []) flushed.left_is,
-      record {
-        systems_left = [];
-        routers_left = [];
-        redirects_left = flushed.others;
-        systems = systems.1;
-        routers = routers.1;
-        redirects = flushed.keeps;
-        left_is = refl;
-      })
+  flush_redirect key systems routers flushed = (
+    all_gone [] [] flushed.others,
+    stands.left_is ∙ ap (λ l. all_gone l stands.routers_left stands.redirects_left) systems.0
+        ∙ ap (λ l. all_gone [] l stands.redirects_left) routers.0 ∙ ap (all_gone [] []) flushed.left_is,
+    record {
+      systems_left = [];
+      routers_left = [];
+      redirects_left = flushed.others;
+      systems = systems.1;
+      routers = routers.1;
+      redirects = flushed.keeps;
+      left_is = refl;
+    },
+  )
 
   pub flush_nothing : (stands.systems_left ≡ []) × KeepsCurrent Es new.systems facts now []
       → (stands.routers_left ≡ []) × KeepsCurrent Is new.routers facts now []
       → (stands.redirects_left ≡ []) × KeepsCurrent Rd new.redirects facts now []
       → FlushesFirst None new facts now left
-  flush_nothing systems routers redirects =
-      (stands.left_is ∙ ap (λ l. all_gone l stands.routers_left stands.redirects_left) systems.0
-      ∙ ap (λ l. all_gone [] l stands.redirects_left) routers.0 ∙ ap (all_gone [] []) redirects.0,
-      stands_from new facts now (record { systems = systems.1; routers = routers.1; redirects = redirects.1 }))
+  flush_nothing systems routers redirects = (
+    stands.left_is ∙ ap (λ l. all_gone l stands.routers_left stands.redirects_left) systems.0
+        ∙ ap (λ l. all_gone [] l stands.redirects_left) routers.0 ∙ ap (all_gone [] []) redirects.0,
+    stands_from new facts now (record { systems = systems.1; routers = routers.1; redirects = redirects.1 }),
+  )
