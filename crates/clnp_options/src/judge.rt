@@ -92,8 +92,9 @@ fn place_of(test: Test, part: &[u8], first: u8) -> Option<u8>
     None
 }
 
-/// The place of the first octet that isn't of a whole option.
-fn place_of_unfit(part: &[u8], first: u8) -> Option<u8>
+/// The place of the first octet that isn't of a whole option, where the part's first octet has place
+/// `first`; none where whole options fill the part.
+pub fn place_of_unfit(part: &[u8], first: u8) -> Option<u8>
     requires { first + length part.now ≤ 255 }
     ensures { result ≡ rules.place_of_unfit first part.now }
 {
