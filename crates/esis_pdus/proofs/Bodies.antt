@@ -145,7 +145,7 @@ title_written : (title : Option (List ℕ)) → IsTitleOrNone title → title_of
 title_written None h = refl
 title_written (Some t) h = let some = h.some in rw (ne_eqb (length t) 0 (λ e. omega arith)) refl
 
-title_few : (title : Option (List ℕ)) → IsTitleOrNone title → length (title_octets title) ≤ 20
+pub title_few : (title : Option (List ℕ)) → IsTitleOrNone title → length (title_octets title) ≤ 20
 title_few None h = omega arith
 title_few (Some t) h = h.few
 

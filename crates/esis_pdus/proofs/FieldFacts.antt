@@ -4,8 +4,8 @@ use Rattle.std.specs.Prelude.{All, nat_le, nat_lt, Ok, Err}
 use Rattle.std.proofs.lemmas.Bool.{and_parts, and_from}
 use Rattle.std.proofs.lemmas.Grind.{common_steps}
 use Rattle.std.proofs.lemmas.Bool.Decides.{nat_tests}
-use Rattle.std.proofs.lemmas.List.{take_at, drop_at, length-take-le, append-nil, length-drop, take_all}
-use Rattle.std.proofs.lemmas.List.Elements.{All-nil, All-cons, All-head, All-tail}
+use Rattle.std.proofs.lemmas.List.{take_at, drop_at, length-take-le, append-nil, length-drop, take_all, take_more}
+use Rattle.std.proofs.lemmas.List.Elements.{All-nil, All-cons, All-head, All-tail, All-append}
 use Rattle.fletcher.specs.Checksum.{octet}
 use Rattle.nsap.specs.Address.{IsAddress, address_of}
 use Rattle.nsap.specs.declared.fault.NsapFault.{NsapFault}
@@ -14,6 +14,20 @@ use Rattle.clnp_options.specs.Grammar.{joined}
 use Rattle.pdu_header.specs.Spelling.{counted}
 use Rattle.esis_pdus.specs.Fields.{is_field, field, behind, are_addresses, addresses, behind_addresses, address_list, behind_address_list}
 use Rattle.esis_pdus.specs.Filled.{IsFilled}
+
+-- ---- octets
+
+pub bytes_of_drop : (xs : List ℕ) (n : ℕ) → IsBytes xs → IsBytes (drop n xs)
+bytes_of_drop xs n h = λ i. grind (arith, common_steps, h (n + i))
+
+pub bytes_of_take : (xs : List ℕ) (n : ℕ) → IsBytes xs → IsBytes (take n xs)
+bytes_of_take xs n h = λ i. grind (arith, common_steps, h i)
+
+pub bytes_of_field : (octets : List ℕ) → IsBytes octets → IsBytes (field octets)
+bytes_of_field octets h = bytes_of_take (drop 1 octets) (octet octets 1) (bytes_of_drop octets 1 h)
+
+pub bytes_of_behind : (octets : List ℕ) → IsBytes octets → IsBytes (behind octets)
+bytes_of_behind octets h = bytes_of_drop (drop 1 octets) (octet octets 1) (bytes_of_drop octets 1 h)
 
 -- ---- step by step
 
@@ -41,6 +55,7 @@ pub rest_filled : (left : ℕ) (octets : List ℕ) → left ≢ 0 → IsFilled l
 rest_filled left octets e h = record {
   whole = (and_parts _ _ (sym (next_whole left octets e) ∙ h.whole)).1;
   nothing_behind = sym (next_behind left octets e) ∙ h.nothing_behind;
+  bytes = bytes_of_behind octets h.bytes;
 }
 
 pub first_is_field : (left : ℕ) (octets : List ℕ) → left ≢ 0 → IsFilled left octets → is_field 1 octets ≡ true
@@ -117,18 +132,6 @@ reads (a ∷ others) rest h =
     let tail = joined others ++ rest in
     reads_step a others (counted a ++ tail) tail rest (is_field_counted 1 a tail is.some is.few) (field_of_counted a tail) (behind_counted a tail) (reads others rest (All-tail IsAddress a others h)))
 
-pub bytes_of_drop : (xs : List ℕ) (n : ℕ) → IsBytes xs → IsBytes (drop n xs)
-bytes_of_drop xs n h = λ i. grind (arith, common_steps, h (n + i))
-
-pub bytes_of_take : (xs : List ℕ) (n : ℕ) → IsBytes xs → IsBytes (take n xs)
-bytes_of_take xs n h = λ i. grind (arith, common_steps, h i)
-
-pub bytes_of_field : (octets : List ℕ) → IsBytes octets → IsBytes (field octets)
-bytes_of_field octets h = bytes_of_take (drop 1 octets) (octet octets 1) (bytes_of_drop octets 1 h)
-
-pub bytes_of_behind : (octets : List ℕ) → IsBytes octets → IsBytes (behind octets)
-bytes_of_behind octets h = bytes_of_drop (drop 1 octets) (octet octets 1) (bytes_of_drop octets 1 h)
-
 pub address_is : (octets : List ℕ) → IsBytes octets → is_field 1 octets ≡ true → IsAddress (field octets)
 address_is octets bytes h =
     let f = is_field_split 1 octets h in
@@ -157,9 +160,9 @@ addresses_split (suc n) octets bytes h =
     }
 
 -- what a list of addresses holds is its addresses behind their lengths, and no more
-pub filled_is : (left : ℕ) (octets : List ℕ) → IsBytes octets → IsFilled left octets → octets ≡ joined (addresses left octets)
-filled_is left octets bytes h =
-    let a = addresses_split left octets bytes h.whole in
+pub filled_is : (left : ℕ) (octets : List ℕ) → IsFilled left octets → octets ≡ joined (addresses left octets)
+filled_is left octets h =
+    let a = addresses_split left octets h.bytes h.whole in
     a.split ∙ ap (λ (t : List ℕ). joined (addresses left octets) ++ t) h.nothing_behind ∙ append-nil (joined (addresses left octets))
 
 -- ---- the next address of a list that isn't at its end
@@ -275,6 +278,7 @@ cut_off n size octets front others bytes h sum f o =
       filled = record {
         whole = ap (λ (t : List ℕ). are_addresses n t) here ∙ ap (λ k. are_addresses k (joined list ++ [])) (sym a.count) ∙ r.whole;
         nothing_behind = ap (λ (t : List ℕ). behind_addresses n t) here ∙ ap (λ k. behind_addresses k (joined list ++ [])) (sym a.count) ∙ r.rest_is;
+        bytes = (let P : List ℕ → Type 0 = λ t. IsBytes t in subst P (sym f) (bytes_of_take octets size bytes));
       };
       list_is = ap (λ (t : List ℕ). addresses n t) here ∙ ap (λ k. addresses k (joined list ++ [])) (sym a.count) ∙ r.list_is;
       others_are = o ∙ ap (λ (t : List ℕ). drop size t) a.split ∙ drop_at (joined list) tail size size_is;
@@ -298,3 +302,39 @@ cut_list size part all front others e bytes h sum f o =
 
 pub all_behind : (k : ℕ) (part : List ℕ) → take (length part - k) (drop k part) ≡ drop k part
 all_behind k part = take_all (length part - k) (drop k part) (omega (arith, length-drop k part))
+
+-- ---- the octets of a list of addresses that is given
+
+pub filled_count : (left : ℕ) (octets : List ℕ) (list : List (List ℕ)) → IsFilled left octets → addresses left octets ≡ list → left ≡ length list
+filled_count left octets list h e = sym (addresses_split left octets h.bytes h.whole).count ∙ ap length e
+
+pub filled_octets : (left : ℕ) (octets : List ℕ) (list : List (List ℕ)) → IsFilled left octets → addresses left octets ≡ list → octets ≡ joined list
+filled_octets left octets list h e = filled_is left octets h ∙ ap joined e
+
+pub joined-append : (xs ys : List (List ℕ)) → joined (xs ++ ys) ≡ joined xs ++ joined ys
+unfolding joined
+joined-append [] ys = refl
+joined-append (x ∷ xs) ys = ap (λ (t : List ℕ). counted x ++ t) (joined-append xs ys) ∙ sym (append_assoc (counted x) (joined xs) (joined ys))
+
+pub joined-one : (a : List ℕ) → joined (a ∷ []) ≡ counted a
+unfolding joined
+joined-one a = append-nil (counted a)
+
+pub joined_more : (xs : List (List ℕ)) (k : ℕ) (a : List ℕ) → k < length xs → a ≡ get_or xs k a → joined (take (k + 1) xs) ≡ joined (take k xs) ++ counted a
+joined_more xs k a within e =
+    ap joined (take_more xs k a within) ∙ ap (λ (b : List ℕ). joined (take k xs ++ b ∷ [])) (sym e) ∙ joined-append (take k xs) (a ∷ []) ∙ ap (λ (t : List ℕ). joined (take k xs) ++ t) (joined-one a)
+
+pub joined_part : (xs : List (List ℕ)) (k : ℕ) → length (joined (take k xs)) ≤ length (joined xs)
+joined_part xs k =
+    omega (arith, ap length (ap joined (sym (take-append-drop k xs)) ∙ joined-append (take k xs) (drop k xs)), length-append (joined (take k xs)) (joined (drop k xs)))
+
+pub joined_long : (xs : List (List ℕ)) → length xs ≤ length (joined xs)
+unfolding joined
+joined_long [] = omega arith
+joined_long (x ∷ xs) = omega (arith, joined_long xs, length-append x (joined xs))
+
+pub all_more : (xs : List (List ℕ)) (k : ℕ) (a : List ℕ) → k < length xs → a ≡ get_or xs k a → All IsAddress (take k xs) → IsAddress a → All IsAddress (take (k + 1) xs)
+all_more xs k a within e h is =
+    let P : List (List ℕ) → Type 0 = λ t. All IsAddress t in
+    let Q : List ℕ → Type 0 = λ b. IsAddress b in
+    subst P (sym (take_more xs k a within)) (All-append IsAddress (take k xs) (get_or xs k a ∷ []) h (All-cons IsAddress (get_or xs k a) [] (subst Q e is) (All-nil IsAddress)))

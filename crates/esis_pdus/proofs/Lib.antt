@@ -8,3 +8,4 @@ pub mod Accepted
 pub mod Bodies
 pub mod Frames
 pub mod Decoded
+pub mod Made

@@ -1,7 +1,7 @@
 -- The types of the kinds of PDUs.
 use Rattle.std.specs.Prelude.{ℕ}
-use Rattle.esis_pdus.specs.declared.decoder.Kind.{Kind}
-use Rattle.esis_pdus.specs.declared.decoder.Kind.TheVariants.{EndSystemHello, IntermediateSystemHello, Redirect}
+use Rattle.esis_pdus.specs.declared.kind.Kind.{Kind}
+use Rattle.esis_pdus.specs.declared.kind.Kind.TheVariants.{EndSystemHello, IntermediateSystemHello, Redirect}
 
 abbrev pub code_of : Kind → ℕ
 code_of EndSystemHello = 2

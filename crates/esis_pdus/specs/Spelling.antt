@@ -33,10 +33,13 @@ variable_part v = body_octets v.body ++ spelled v.options
 abbrev pub header_length : EsisValue → ℕ
 header_length v = 9 + length (variable_part v)
 
--- the PDU with 0 in both checksum octets: the fixed part (section 7.2) and what follows it
+-- the fixed part of a header of this length, type and holding time, with 0 in both checksum octets (section 7.2)
+abbrev pub fixed_part : ℕ → ℕ → ℕ → List ℕ
+fixed_part size type holding = 0x82 ∷ size ∷ 1 ∷ 0 ∷ type ∷ (pair_of holding ++ (0 ∷ 0 ∷ []))
+
+-- the PDU with 0 in both checksum octets
 abbrev pub unsealed : EsisValue → List ℕ
-unsealed v =
-    0x82 ∷ header_length v ∷ 1 ∷ 0 ∷ type_code v.body ∷ (pair_of v.holding ++ (0 ∷ 0 ∷ variable_part v))
+unsealed v = fixed_part (header_length v) (type_code v.body) v.holding ++ variable_part v
 
 -- an ES-IS PDU is a header with no data
 abbrev pub spelling : EsisValue → List ℕ

@@ -1,4 +1,5 @@
 //! The addresses of an end system hello.
+ghost use Rattle.clnp_options.specs.Grammar.{joined};
 ghost use Rattle.esis_pdus.specs.Fields.{address_list, are_addresses, behind_address_list, behind_addresses, is_address_list};
 ghost use Rattle.std.specs.Iterator.{YieldsFirstBy, item_count};
 ghost use Rattle.std.specs.Prelude.{◌≡◌, ◌+◌, IfSome, MatchOption, false, length, true};
@@ -45,6 +46,14 @@ impl<'a> AddressList<'a> {
         let (octets, others) = behind_number.split_at(size);
         let addresses = AddressList { left, octets };
         Some((addresses, others))
+    }
+
+    /// The number of addresses that are left, and their octets, each behind its length.
+    pub(crate) fn parts(&self) -> (u8, &'a [u8])
+        ensures count { result.0 ≡ length self.now }
+        ensures octets { result.1.now ≡ joined self.now }
+    {
+        (self.left, self.octets)
     }
 }
 

@@ -12,10 +12,12 @@ ghost use Rattle.esis_pdus.specs.Kinds.{code_of};
 ghost use Rattle.fletcher.specs.Checksum.{octet};
 ghost use Rattle.pdu_header.specs.Rules as pdu_rules;
 ghost use Rattle.pdu_header.specs.Rules.{header_size};
-ghost use Rattle.std.specs.Prelude.{◌≡◌, ◌+◌, ◌-◌, ◌==◌, ◌≤◌, ℕ, List, IfOk, IfSome, OnErr, MatchOption, MatchResult, None, Some, drop, false, length, option_map, true, if◌then◌else◌, not, ◌||◌};
+ghost use Rattle.std.specs.Prelude.{◌≡◌, ◌+◌, ◌==◌, ◌≤◌, ℕ, List, IfOk, IfSome, OnErr, MatchOption, MatchResult, None, Some, false, length, option_map, true, if◌then◌else◌};
 
 use crate::addresses::AddressList;
 use crate::fields::field;
+use crate::hello::TIMER;
+use crate::kind::{Kind, kind_of};
 use crate::pdu::{EsisBody, EsisPdu, EsisRefusal};
 use byteorder::{BigEndian, ByteOrder};
 use clnp_options::{first_option, place_of_unfit};
@@ -32,17 +34,6 @@ const RESERVED_LENGTH: u8 = 255;
 
 /// The version of the protocol (section 7.2).
 const VERSION: u8 = 1;
-
-/// The code of the suggested end system configuration timer (ISO 9542:1988).
-const TIMER: u8 = 0xc6;
-
-/// The kind that a header's type says (section 7.2).
-#[derive(Clone, Copy)]
-enum Kind {
-    EndSystemHello,
-    IntermediateSystemHello,
-    Redirect,
-}
 
 /// A header's addresses, and the octets of its options.
 struct Parts<'a> {
@@ -165,18 +156,6 @@ fn check_fixed_part(head: &[u8]) -> Result<Kind, EsisRefusal>
         return Err(broken(7, 8));
     }
     Ok(kind)
-}
-
-/// The kind that an octet of three bits 0 and a type says.
-fn kind_of(octet: u8) -> Option<Kind>
-    ensures none { MatchOption result ((octet == 2 || (octet == 4 || octet == 6)) ≡ false) (λ kind. octet ≡ code_of kind) }
-{
-    match octet {
-        2 => Some(Kind::EndSystemHello),
-        4 => Some(Kind::IntermediateSystemHello),
-        6 => Some(Kind::Redirect),
-        _ => None,
-    }
 }
 
 /// Whether the header's checksum is right, or not in use.

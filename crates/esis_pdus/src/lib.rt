@@ -4,10 +4,16 @@
 
 mod addresses;
 mod decoder;
+mod encoding;
 mod fields;
+mod hello;
+mod kind;
 pub mod laws;
 mod pdu;
+mod write;
 
 pub use addresses::AddressList;
 pub use decoder::decode;
+pub use encoding::encode;
+pub use hello::{HelloRefusal, esh, ish, rd};
 pub use pdu::{EsisBody, EsisPdu, EsisRefusal};
