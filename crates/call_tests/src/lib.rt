@@ -13,4 +13,6 @@ mod clnp_options_calls;
 #[cfg(test)]
 mod clnp_views_calls;
 #[cfg(test)]
+mod esis_pdus_calls;
+#[cfg(test)]
 mod nsap_calls;

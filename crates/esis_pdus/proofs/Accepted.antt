@@ -1,18 +1,19 @@
 -- What holds of a header that breaks no rule, rule by rule.
-use Rattle.std.proofs.Common.{◌≡◌, ◌≢◌, ◌∙◌, refl, sym, ap, ℕ, ◌+◌, ◌≤◌, ◌==◌, ◌&&◌, ◌||◌, not, Bool, true, false, if◌then◌else◌, List, length, take, Option, Some, None, arith}
+use Rattle.std.proofs.Common.{◌≡◌, ◌≢◌, refl, ℕ, ◌≤◌, ◌==◌, ◌&&◌, ◌||◌, not, Bool, true, false, if◌then◌else◌, List, length, Option, Some, None, arith}
 use Rattle.std.specs.Prelude.{nat_lt, option_map}
 use Rattle.std.specs.Option.{option_or}
 use Rattle.std.proofs.lemmas.Bool.{not-false, not_from_true, eqb-true, eq-eqb}
 use Rattle.std.proofs.lemmas.Bool.Decides.{nat_tests}
+use Rattle.clnp_base.proofs.Choices.{option_or-parts, option_or-none, not_below, below_not}
 use Rattle.fletcher.specs.Checksum.{octet}
 use Rattle.clnp_options.specs.Parameter.{parameters}
 use Rattle.clnp_options.specs.Rules.{place_of_unfit}
-use Rattle.pdu_header.specs.Rules.{header_size, header_of, has_right_checksum}
+use Rattle.pdu_header.specs.Rules.{header_size, has_right_checksum}
 use Rattle.esis_pdus.specs.declared.pdu.EsisRefusal.{EsisRefusal}
 use Rattle.esis_pdus.specs.declared.pdu.EsisRefusal.TheVariants.{Broken}
 use Rattle.esis_pdus.specs.Fields.{is_field, is_address_list}
 use Rattle.esis_pdus.specs.Timer.{place_of_wrong_timer}
-use Rattle.esis_pdus.specs.Rules.{variable_part, is_esh, is_ish, is_rd, is_redirection, options_part, options_place, frame_rules, fixed_part_rules, address_rules, option_rules, first_broken, header_refusal, refusal}
+use Rattle.esis_pdus.specs.Rules.{variable_part, is_esh, is_ish, is_rd, is_redirection, options_part, options_place, frame_rules, first_broken, header_refusal}
 
 -- a header breaks no rule
 pub record IsAccepted (head : List ℕ) : Type 0 where
@@ -40,18 +41,11 @@ test_passed false place h = refl
 pub test_passing : (b : Bool) (place : ℕ) → b ≡ false → (if b then Some place else None) ≡ None
 test_passing b place e = rw e refl
 
-pub both_none : (a b : Option EsisRefusal) → option_or a b ≡ None → (a ≡ None) × (b ≡ None)
-both_none None b h = (refl, h)
-both_none (Some r) b h = cc
-
-pub none_or : (a b : Option EsisRefusal) → a ≡ None → b ≡ None → option_or a b ≡ None
-none_or a b e h = rw e h
-
 pub accepted : (head : List ℕ) → header_refusal head ≡ None → IsAccepted head
 unfolding header_refusal first_broken
 accepted head h =
-    let fixed = both_none _ _ h in
-    let others = both_none _ _ fixed.1 in
+    let fixed = option_or-parts _ _ h in
+    let others = option_or-parts _ _ fixed.1 in
     let e4 = passed 4 _ _ fixed.0 in
     let e5 = passed 5 _ _ e4.1 in
     let e6 = passed 6 _ _ e5.1 in
@@ -76,12 +70,12 @@ accepted head h =
 pub accepting : (head : List ℕ) → IsAccepted head → header_refusal head ≡ None
 unfolding header_refusal first_broken
 accepting head h =
-    none_or _ _
+    option_or-none _ _ _
     (passing 4 _ _ (test_passing _ _ (not_from_true _ (eq-eqb _ _ h.version)))
     (passing 5 _ _ (test_passing _ _ (not_from_true _ (eq-eqb _ _ h.reserved)))
     (passing 6 _ _ (test_passing _ _ (not_from_true _ h.type))
     (passing 7 _ _ (test_passing _ _ (not_from_true _ h.checksum)) refl))))
-    (none_or _ _
+    (option_or-none _ _ _
     (passing 8 _ _ (test_passing _ _ h.esh) (passing 9 _ _ (test_passing _ _ h.ish) (passing 10 _ _ (test_passing _ _ h.rd) refl)))
     (passing 11 _ _ h.fill (passing 12 _ _ h.timer refl)))
 
@@ -91,12 +85,6 @@ pub record HasHeader (frame : List ℕ) : Type 0 where
   pub size : 9 ≤ header_size frame
   pub not_reserved : header_size frame ≢ 255
   pub within : header_size frame ≤ length frame
-
-not_below : (a b : ℕ) → nat_lt a b ≡ false → b ≤ a
-not_below a b h = grind (arith, nat_tests)
-
-below_not : (a b : ℕ) → b ≤ a → nat_lt a b ≡ false
-below_not a b h = grind (arith, nat_tests)
 
 good_size : (n : ℕ) → (nat_lt n 9 || n == 255) ≡ false → (9 ≤ n) × (n ≢ 255)
 good_size n h = (grind (arith, nat_tests), λ e. grind (arith, nat_tests))

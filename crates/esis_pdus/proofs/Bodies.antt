@@ -1,22 +1,21 @@
 -- The address parts of a header, kind by kind: written again from what is read, and read where they were written.
-use Rattle.std.proofs.Common.{◌≡◌, ◌≢◌, ◌∙◌, refl, sym, ap, subst, ℕ, ◌+◌, ◌<◌, ◌≤◌, ◌==◌, ◌&&◌, ◌||◌, not, Bool, true, false, if◌then◌else◌, List, [], ◌∷◌, ◌++◌, length, drop, Option, Some, None, arith, append_assoc, length-append}
-use Rattle.std.specs.Prelude.{All, nat_le}
-use Rattle.std.proofs.lemmas.Bool.{and_parts, and_from, or_cases, not-false, not_from_true, eqb-true, eqb-false, eq-eqb, ne_eqb, le-leb, leb-true}
+use Rattle.std.proofs.Common.{◌≡◌, ◌∙◌, refl, sym, ap, subst, ℕ, ◌≤◌, ◌&&◌, ◌||◌, not, Bool, true, false, if◌then◌else◌, List, [], ◌∷◌, ◌++◌, length, drop, Option, Some, None, arith, append_assoc}
+use Rattle.std.specs.Prelude.{nat_le}
+use Rattle.std.proofs.lemmas.Bool.{and_parts, and_from, eqb-true, eq-eqb, ne_eqb, le-leb, leb-true}
 use Rattle.fletcher.specs.Checksum.{octet}
-use Rattle.nsap.specs.Address.{IsAddress}
 use Rattle.hex.specs.Hex.{IsBytes}
-use Rattle.clnp_options.specs.Parameter.{Parameter, parameters, spelled}
+use Rattle.clnp_options.specs.Parameter.{parameters}
 use Rattle.clnp_options.specs.Grammar.{joined}
 use Rattle.pdu_header.specs.Spelling.{counted}
 use Rattle.esis_pdus.specs.declared.pdu.EsisBody.{EsisBody}
 use Rattle.esis_pdus.specs.declared.pdu.EsisBody.TheVariants.{Esh, Ish, Rd}
-use Rattle.esis_pdus.specs.Fields.{is_field, field, behind, addresses, is_address_list, address_list, behind_address_list}
+use Rattle.esis_pdus.specs.Fields.{is_field, field, behind, is_address_list, address_list, behind_address_list}
 use Rattle.esis_pdus.specs.Timer.{place_of_wrong_timer}
 use Rattle.esis_pdus.specs.Spelling.{type_code, title_octets, body_octets}
 use Rattle.esis_pdus.specs.Grammar.{IsTitleOrNone, HasAddresses, FitsTimer}
 use Rattle.esis_pdus.specs.Rules.{variable_part, is_esh, is_ish, is_rd, is_redirection, options_part, options_place}
 use Rattle.esis_pdus.specs.Reading.{title_of, redirection, body_of}
-use Rattle.esis_pdus.proofs.FieldFacts.{IsField, is_field_split, AreAddresses, addresses_split, address_is, bytes_of_drop, bytes_of_field, bytes_of_behind, field_of_counted, behind_counted, is_field_counted, reads}
+use Rattle.esis_pdus.proofs.FieldFacts.{is_field_split, addresses_split, address_is, bytes_of_drop, bytes_of_field, bytes_of_behind, field_of_counted, behind_counted, is_field_counted, reads}
 use Rattle.esis_pdus.proofs.Options.{is_once, once_from, nothing_wrong}
 use Rattle.esis_pdus.proofs.Accepted.{IsAccepted}
 
@@ -79,7 +78,7 @@ esh_body head bytes h e =
 ish_body : (head : List ℕ) → IsBytes head → IsAccepted head → is_ish head ≡ true → HasBody head (Ish (field (variable_part head))) (behind (variable_part head))
 ish_body head bytes h e =
     let part = variable_part head in
-    let f = only_if _ _ h.ish e in
+    let f : is_field 1 part ≡ true = only_if _ _ h.ish e in
     let not_esh : is_esh head ≡ false = ne_eqb (octet head 5) 2 (λ k. omega (arith, k, eqb-true (octet head 5) 4 e)) in
     let options_are : options_part head ≡ behind part = rw (not_esh, e) refl in
     let place : place_of_wrong_timer false (options_place head) (parameters (options_part head)) ≡ None = none_if _ _ e h.timer in

@@ -1,5 +1,5 @@
 -- What is read off a frame stands at its front, can be written, and nothing stands at the front of a frame that is refused.
-use Rattle.std.proofs.Common.{◌≡◌, ◌∙◌, refl, sym, ap, subst, ℕ, List, ◌++◌, Result, Ok, Err, Some, None}
+use Rattle.std.proofs.Common.{◌≡◌, sym, subst, ℕ, List, Result, Ok, Err}
 use Rattle.std.specs.Prelude.{IfOk, OnErr}
 use Rattle.hex.specs.Hex.{IsBytes}
 use Rattle.fletcher.specs.Checksum.{octet}

@@ -1,6 +1,6 @@
 -- Fields and lists of addresses, read where they were written, and written again from what is read.
 use Rattle.std.proofs.Common.{◌≡◌, ◌≢◌, ◌∙◌, refl, sym, ap, subst, ℕ, zero, suc, ◌+◌, ◌-◌, ◌<◌, ◌≤◌, ◌&&◌, Bool, true, false, List, [], ◌∷◌, ◌++◌, length, take, drop, get_or, arith, append_assoc, length-append, take-append-drop}
-use Rattle.std.specs.Prelude.{All, nat_le, nat_lt, Ok, Err}
+use Rattle.std.specs.Prelude.{All, nat_le, Ok, Err}
 use Rattle.std.proofs.lemmas.Bool.{and_parts, and_from}
 use Rattle.std.proofs.lemmas.Grind.{common_steps}
 use Rattle.std.proofs.lemmas.Bool.Decides.{nat_tests}

@@ -1,8 +1,9 @@
 -- A frame breaks no rule exactly where a PDU stands at its front, and that is one PDU only.
-use Rattle.std.proofs.Common.{◌≡◌, ◌≢◌, ◌∙◌, inl, inr, refl, sym, ap, subst, ℕ, ◌+◌, ◌*◌, ◌^◌, ◌<◌, ◌≤◌, ◌==◌, not, Bool, true, false, if◌then◌else◌, List, [], ◌∷◌, ◌++◌, length, take, drop, get_or, Option, Some, None, arith, take-append-drop, length-append, length-drop, length-take-le, get_or-take}
+use Rattle.std.proofs.Common.{◌≡◌, ◌∙◌, inl, inr, refl, sym, ap, subst, ℕ, ◌+◌, ◌*◌, ◌<◌, ◌≤◌, ◌==◌, not, Bool, true, false, if◌then◌else◌, List, [], ◌∷◌, ◌++◌, length, take, drop, get_or, Some, None, arith, take-append-drop, length-append, length-drop, length-take-le, get_or-take}
 use Rattle.std.specs.Prelude.{◌↔◌}
 use Rattle.std.proofs.lemmas.Bool.{eqb-false}
 use Rattle.std.proofs.lemmas.List.{take_at, drop_at, get_or_append_left}
+use Rattle.clnp_base.proofs.Choices.{option_or-parts, option_or-none}
 use Rattle.hex.specs.Hex.{IsBytes}
 use Rattle.fletcher.specs.Checksum.{octet, IsSealed, sealed}
 use Rattle.fletcher.proofs.ChecksumLaws.{sealed_is}
@@ -15,12 +16,12 @@ use Rattle.esis_pdus.specs.Value.{EsisValue}
 use Rattle.esis_pdus.specs.Spelling as spelling
 use Rattle.esis_pdus.specs.Spelling.{type_code, body_octets, header_length, unsealed}
 use Rattle.esis_pdus.specs.Grammar.{IsPdu, Spells, FitsTimer, BeginsWith}
-use Rattle.esis_pdus.specs.Rules.{variable_part, options_part, options_place, frame_rules, first_broken, header_refusal, refusal}
+use Rattle.esis_pdus.specs.Rules.{variable_part, options_part, options_place, header_refusal, refusal}
 use Rattle.esis_pdus.specs.Reading.{body_of, value_of, rest_of}
 use Rattle.esis_pdus.proofs.FieldFacts.{bytes_of_take}
 use Rattle.esis_pdus.proofs.Options.{options_again, options_read, options_fill}
-use Rattle.esis_pdus.proofs.Accepted.{IsAccepted, accepted, accepting, both_none, none_or, HasHeader, has_header, header_here}
-use Rattle.esis_pdus.proofs.Bodies.{HasBody, has_body, ReadsBody, reads_body}
+use Rattle.esis_pdus.proofs.Accepted.{IsAccepted, accepted, accepting, HasHeader, has_header, header_here}
+use Rattle.esis_pdus.proofs.Bodies.{has_body, reads_body}
 use Rattle.esis_pdus.proofs.Shape.{nine_bare, same_layout, sealing_again, bare_again, sealed_layout, pair_is_zero, pair_is_used, pair_again, pair_of_octets, checksum_parts, unused_is_right, sealed_is_right}
 
 -- ---- what is spelled breaks no rule, and is read again
@@ -169,7 +170,7 @@ octet_of_header frame i h low = get_or-take (header_size frame) frame i 0 (omega
 pub header_stands : (frame : List ℕ) → IsBytes frame → octet frame 1 ≡ 0x82 → refusal frame ≡ None → IsHeader (header_of frame)
 unfolding refusal
 header_stands frame bytes protocol h =
-    let parts = both_none _ _ h in
+    let parts = option_or-parts _ _ h in
     let extent = has_header frame parts.0 in
     let size = length_of_header frame extent in
     record {
@@ -214,7 +215,7 @@ is_front frame v rest h =
     } in
     record {
       protocol = front_octet 0 (omega arith) ∙ read.protocol;
-      unbroken = none_or _ _ (header_here frame extent) (ap (λ (xs : List ℕ). header_refusal xs) head_is ∙ accepting head read.accepted);
+      unbroken = option_or-none _ _ _ (header_here frame extent) (ap (λ (xs : List ℕ). header_refusal xs) head_is ∙ accepting head read.accepted);
       value = sym (ap (λ (xs : List ℕ). value_of xs) head_is ∙ read.value);
       rest_is = sym (ap (λ (xs : List ℕ). drop (header_size frame) xs) parts ∙ drop_at head rest (header_size frame) (sym size));
     }

@@ -1,5 +1,5 @@
 -- Where the options of a header stand.
-use Rattle.std.proofs.Common.{◌≡◌, ℕ, ◌+◌, ◌-◌, ◌≤◌, Bool, true, false, if◌then◌else◌, List, length, drop, refl, arith, length-drop}
+use Rattle.std.proofs.Common.{◌≡◌, ℕ, ◌+◌, ◌-◌, ◌≤◌, Bool, true, false, if◌then◌else◌, List, length, drop, arith, length-drop}
 use Rattle.fletcher.specs.Checksum.{octet}
 use Rattle.esis_pdus.specs.Fields.{behind, behind_address_list}
 use Rattle.esis_pdus.specs.Rules.{variable_part, is_esh, is_ish, options_part}

@@ -1,19 +1,18 @@
 -- Headers as they are written.
-use Rattle.std.proofs.Common.{◌≡◌, ◌≢◌, ◌∙◌, refl, sym, ap, subst, ℕ, zero, suc, ◌+◌, ◌^◌, ◌<◌, ◌≤◌, Bool, true, false, if◌then◌else◌, List, [], ◌∷◌, ◌++◌, length, Option, Some, None, arith, append_assoc, length-append}
+use Rattle.std.proofs.Common.{◌≡◌, ◌∙◌, refl, sym, ap, ℕ, zero, suc, ◌+◌, ◌^◌, ◌<◌, ◌≤◌, Bool, List, [], ◌∷◌, ◌++◌, length, Option, Some, None, arith, append_assoc, length-append}
 use Rattle.std.specs.Prelude.{All}
 use Rattle.std.specs.List.{slice_set}
 use Rattle.std.proofs.lemmas.List.{append-nil}
 use Rattle.nsap.specs.Address.{IsAddress}
-use Rattle.clnp_options.specs.Parameter.{Parameter, spelled}
+use Rattle.clnp_options.specs.Parameter.{spelled}
 use Rattle.clnp_options.specs.Grammar.{joined}
 use Rattle.pdu_header.specs.Parts.{checked}
 use Rattle.pdu_header.specs.Spelling.{counted, pair_of}
-use Rattle.esis_pdus.specs.declared.pdu.EsisBody.{EsisBody}
 use Rattle.esis_pdus.specs.declared.pdu.EsisBody.TheVariants.{Esh, Ish, Rd}
 use Rattle.esis_pdus.specs.Timer.{timer}
 use Rattle.esis_pdus.specs.Value.{EsisValue}
-use Rattle.esis_pdus.specs.Spelling.{type_code, title_octets, body_octets, variable_part, header_length, fixed_part, unsealed, spelling}
-use Rattle.esis_pdus.specs.Grammar.{IsTitleOrNone, HasAddresses, HasOneTimer, FitsTimer, IsPdu, Spells, BeginsWith}
+use Rattle.esis_pdus.specs.Spelling.{type_code, title_octets, variable_part, header_length, fixed_part, spelling}
+use Rattle.esis_pdus.specs.Grammar.{IsTitleOrNone, HasOneTimer, IsPdu, Spells}
 use Rattle.esis_pdus.specs.Rules.{refusal}
 use Rattle.esis_pdus.specs.Making.{value, timer_options, esh_length}
 use Rattle.esis_pdus.proofs.Frames.{is_front}
@@ -76,8 +75,16 @@ rd_pdu hold sealed to via title small is_to is_via is_title = record {
   addresses = (is_to, is_via, is_title);
   timer = tt;
   header_fits =
-      omega (arith, is_to.few, is_via.few, title_few title is_title, ap length spelled-nil,
-      length-append (counted to ++ (counted via ++ counted (title_octets title))) (spelled []), length-append (counted to) (counted via ++ counted (title_octets title)), length-append (counted via) (counted (title_octets title)));
+      omega (
+        arith,
+        is_to.few,
+        is_via.few,
+        title_few title is_title,
+        ap length spelled-nil,
+        length-append (counted to ++ (counted via ++ counted (title_octets title))) (spelled []),
+        length-append (counted to) (counted via ++ counted (title_octets title)),
+        length-append (counted via) (counted (title_octets title)),
+      );
 }
 
 -- ---- what is written part by part

@@ -1,5 +1,5 @@
 -- Worked frames: what their values spell, and what the rules say of them.
-use Rattle.std.proofs.Common.{◌≡◌, ℕ, Bool, true, false, List, [], ◌∷◌, ◌++◌, Option, Some, None, refl}
+use Rattle.std.proofs.Common.{◌≡◌, ℕ, true, List, [], ◌∷◌, Some, None, refl}
 use Rattle.fletcher.specs.Checksum.{sealed, checksum_x, checksum_y}
 use Rattle.clnp_options.specs.Parameter.{spelled}
 use Rattle.clnp_options.specs.Grammar.{joined}

@@ -1,7 +1,7 @@
 -- The rules E1 to E12 of a frame that begins with 0x82, each with the place of the octet at fault. A rule is read
 -- under the premise that all before it hold; places count from 1, and 0 is no place. From E4 on a rule reads the
 -- header, the frame's first octets up to its length indicator (ISO 9542, section 7).
-use Rattle.std.specs.Prelude.{ℕ, ◌+◌, ◌-◌, ◌==◌, ◌&&◌, ◌||◌, not, nat_lt, nat_le, Bool, false, if◌then◌else◌, List, [], ◌∷◌, length, drop, Option, None, Some, option_map, Result, MatchResult, ◌≡◌}
+use Rattle.std.specs.Prelude.{ℕ, ◌+◌, ◌-◌, ◌==◌, ◌&&◌, ◌||◌, not, nat_lt, Bool, false, if◌then◌else◌, List, [], ◌∷◌, length, drop, Option, None, Some, option_map, Result, MatchResult, ◌≡◌}
 use Rattle.std.specs.Option.{option_or}
 use Rattle.fletcher.specs.Checksum.{octet}
 use Rattle.clnp_options.specs.Parameter.{parameters}

@@ -5,9 +5,13 @@ use nsap::{Address, Snpa};
 #[derive(Drop)]
 pub enum EsisBody<'a> {
     /// An end system hello: the addresses of the system, in order; there may be none.
-    Esh { addresses: AddressList<'a> },
+    Esh {
+        addresses: AddressList<'a>,
+    },
     /// An intermediate system hello: the network entity title of the system.
-    Ish { title: Address },
+    Ish {
+        title: Address,
+    },
     /// A redirect: the subnetwork address of the better hop towards a destination, and that hop's
     /// network entity title, none where it is the destination itself.
     Rd {

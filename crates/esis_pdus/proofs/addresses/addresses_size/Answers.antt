@@ -1,4 +1,4 @@
-use Rattle.std.proofs.Common.{◌≡◌, ◌≢◌, ◌∙◌, true, false, sym, ap, ◌≤◌, ◌<◌, ◌-◌, ◌+◌, length, arith, ℕ}
+use Rattle.std.proofs.Common.{◌≡◌, ◌≢◌, ◌∙◌, true, sym, ap, ◌-◌, length, arith}
 use Rattle.std.proofs.lemmas.Bool.{eqb-true, eqb-false}
 use Rattle.esis_pdus.specs.Fields.{is_field}
 use Rattle.esis_pdus.proofs.FieldFacts.{no_field, empty_field, some_field, stops, goes_whole, goes_behind, length_behind, ends_whole, ends_behind}

@@ -1,4 +1,4 @@
-use Rattle.std.proofs.Common.{◌≤◌, ◌+◌, ap, length, arith}
+use Rattle.std.proofs.Common.{ap, length, arith}
 use Rattle.esis_pdus.proofs.Lengths.{options_behind}
 use Rattle.esis_pdus.proofs.decoder.read_suggested.Goals as goal
 

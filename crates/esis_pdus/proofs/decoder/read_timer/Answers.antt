@@ -1,4 +1,4 @@
-use Rattle.std.proofs.Common.{◌≡◌, ◌≢◌, ◌∙◌, refl, sym, ap, subst, ◌+◌, Some, ◌||◌, ◌==◌, not, true, is_some, length, ℕ, Option}
+use Rattle.std.proofs.Common.{◌≡◌, ◌∙◌, sym, ap, subst, ◌+◌, Some, ◌||◌, ◌==◌, not, true, is_some, length, ℕ, Option}
 use Rattle.std.specs.Prelude.{option_map}
 use Rattle.std.proofs.lemmas.Bool.{or_left, or_right, ne_eqb, not_from_false}
 use Rattle.esis_pdus.specs.declared.pdu.EsisRefusal.TheVariants.{Broken}

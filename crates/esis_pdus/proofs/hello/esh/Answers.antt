@@ -1,6 +1,5 @@
-use Rattle.std.proofs.Common.{◌≡◌, ◌≤◌, [], length, ap, arith}
+use Rattle.std.proofs.Common.{[], arith}
 use Rattle.esis_pdus.specs.declared.pdu.EsisBody.TheVariants.{Esh}
-use Rattle.esis_pdus.specs.Grammar.{Spells}
 use Rattle.esis_pdus.specs.Making.{value}
 use Rattle.esis_pdus.proofs.FieldFacts.{joined_long}
 use Rattle.esis_pdus.proofs.Made.{spelled_header, esh_pdu, esh_front, esh_size, unbroken}

@@ -1,4 +1,4 @@
-use Rattle.std.proofs.Common.{◌≡◌, ◌∙◌, refl, sym, ap, ◌+◌, length, take, arith, List, ℕ, ◌∷◌}
+use Rattle.std.proofs.Common.{◌≡◌, ap, length, take, arith, List, ℕ, ◌∷◌}
 use Rattle.std.proofs.lemmas.List.{take_all, length-append}
 use Rattle.clnp_options.specs.Grammar.{joined}
 use Rattle.nsap.specs.Address.{IsAddress}

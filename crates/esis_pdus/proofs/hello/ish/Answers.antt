@@ -1,6 +1,5 @@
 use Rattle.std.proofs.Common.{arith}
 use Rattle.esis_pdus.specs.declared.pdu.EsisBody.TheVariants.{Ish}
-use Rattle.esis_pdus.specs.Grammar.{Spells}
 use Rattle.esis_pdus.specs.Making.{value, timer_options}
 use Rattle.esis_pdus.proofs.Made.{spelled_header, ish_pdu, ish_front, unbroken}
 use Rattle.esis_pdus.proofs.hello.ish.Goals as goal

@@ -1,4 +1,4 @@
-use Rattle.std.proofs.Common.{◌≡◌, ◌∙◌, refl, sym, ap, ◌+◌, ◌∷◌, ◌++◌, length, take, arith, List, ℕ}
+use Rattle.std.proofs.Common.{◌∙◌, sym, ap, ◌+◌, ◌++◌, length, take, arith, List, ℕ}
 use Rattle.std.proofs.lemmas.List.{append-nil, append_assoc, length-append}
 use Rattle.clnp_options.specs.Grammar.{joined}
 use Rattle.pdu_header.specs.Spelling.{counted}

@@ -1,4 +1,4 @@
-use Rattle.std.proofs.Common.{◌∙◌, sym, ap, refl, ◌++◌, List, ℕ, Option}
+use Rattle.std.proofs.Common.{◌∙◌, sym, ap, ◌++◌, List, ℕ, Option}
 use Rattle.std.proofs.lemmas.List.{append-nil}
 use Rattle.clnp_options.specs.Parameter.{spelled}
 use Rattle.esis_pdus.specs.Making.{timer_options}

@@ -1,7 +1,6 @@
 use Rattle.std.proofs.Common.{[], arith}
 use Rattle.std.specs.Option.{option_copied}
 use Rattle.esis_pdus.specs.declared.pdu.EsisBody.TheVariants.{Rd}
-use Rattle.esis_pdus.specs.Grammar.{Spells}
 use Rattle.esis_pdus.specs.Making.{value}
 use Rattle.esis_pdus.proofs.Made.{spelled_header, rd_pdu, rd_front, unbroken}
 use Rattle.esis_pdus.proofs.hello.rd.Goals as goal

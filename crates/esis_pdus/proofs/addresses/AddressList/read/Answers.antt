@@ -1,5 +1,5 @@
 use Rattle.std.proofs.Common.{arith}
-use Rattle.esis_pdus.proofs.FieldFacts.{IsCutList, cut_list, all_behind}
+use Rattle.esis_pdus.proofs.FieldFacts.{cut_list, all_behind}
 use Rattle.esis_pdus.proofs.addresses.AddressList.read.Goals as goal
 
 pub invariant_of-addresses : goal.invariant_of-addresses

@@ -1,5 +1,4 @@
-use Rattle.std.proofs.Common.{◌≡◌, ◌≢◌, ◌∙◌, sym, ap, ◌-◌, ◌∷◌, arith, true, false, length}
-use Rattle.esis_pdus.specs.Fields.{addresses}
+use Rattle.std.proofs.Common.{◌∙◌, sym, ap, arith, length}
 use Rattle.esis_pdus.proofs.FieldFacts.{none_left, next_address, rest_filled_at, has_field, is_long_enough, address_fits, address_ok}
 use Rattle.esis_pdus.proofs.addresses.AddressListIterator.next.Goals as goal
 
