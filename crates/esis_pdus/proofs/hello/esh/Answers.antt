@@ -7,12 +7,12 @@ use Rattle.esis_pdus.proofs.hello.esh.Goals as goal
 
 pub overflow_cast-addresses : goal.overflow_cast-addresses
 overflow_cast-addresses c =
-    omega (arith, c.if-octets-gt-MOST.false, c.esh_len-octets.ensures.value, esh_size c.args.addresses.now, joined_long c.args.addresses.now)
+    omega (arith, c.esh_len-octets.ensures.value, esh_size c.args.addresses.now, joined_long c.args.addresses.now)
 
 made : goal.returns-clause-made
 made c =
     spelled_header (value c.args.hold c.args.sealed (Esh c.args.addresses.now) []) _ _
-    (esh_pdu c.args.hold c.args.sealed c.args.addresses.now (omega arith) c.esh_len-octets.ensures.each (rw (← c.esh_len-octets.ensures.value) c.if-octets-gt-MOST.false))
+    (esh_pdu c.args.hold c.args.sealed c.args.addresses.now (omega arith) c.esh_len-octets.ensures.each (rw (← c.esh_len-octets.ensures.value) (omega arith)))
     (esh_front c.args.hold c.args.addresses.now _ _ _ c.begun-plain.ensures c.push.ensures c.push_addresses.ensures)
     c.finished.ensures
 
