@@ -230,7 +230,7 @@ fn judge_options(part: &[u8], first: usize, report: bool) -> Result<(), (u8, u8,
 fn show(b: &[u8], out: &mut Vec<u8>) {
     match b.first() {
         Some(0x81) => {}
-        Some(0x82) => return out.extend_from_slice(b"unbuilt"),
+        Some(0x82) => return show_esis(b, out),
         _ => return out.extend_from_slice(b"alien"),
     }
     let options = match judge(b) {
@@ -278,19 +278,107 @@ fn show(b: &[u8], out: &mut Vec<u8>) {
         out.extend_from_slice(b" total=");
         push_number(out, pair(b, part + 4));
     }
-    let mut at = options - 1;
-    while at < l {
-        let n = b[at + 1] as usize;
-        out.extend_from_slice(b" opt=");
-        push_hex(out, &b[at..at + 1]);
-        out.push(b':');
-        push_hex(out, &b[at + 2..at + 2 + n]);
-        at += 2 + n;
-    }
+    push_options(out, &b[options - 1..l]);
     out.extend_from_slice(b" data=");
     push_hex(out, &b[l..segment]);
     out.extend_from_slice(b" rest=");
     push_hex(out, &b[segment..]);
+}
+
+fn push_options(out: &mut Vec<u8>, part: &[u8]) {
+    let mut at = 0;
+    while at < part.len() {
+        let n = part[at + 1] as usize;
+        out.extend_from_slice(b" opt=");
+        push_hex(out, &part[at..at + 1]);
+        out.push(b':');
+        push_hex(out, &part[at + 2..at + 2 + n]);
+        at += 2 + n;
+    }
+}
+
+// where the field ends whose length octet has this place, if it lies in the header
+fn field_end(head: &[u8], place: usize, least: usize) -> Option<usize> {
+    let n = *head.get(place - 1)? as usize;
+    ((least..=20).contains(&n) && place + n <= head.len()).then_some(place + n + 1)
+}
+
+// the least broken rule of an ES-IS frame with its place, or where the options begin
+fn judge_esis(b: &[u8]) -> Result<usize, (u8, usize)> {
+    if b.len() < 9 {
+        return Err((1, 0));
+    }
+    let l = b[1] as usize;
+    if l < 9 || l == 255 || l > b.len() {
+        return Err((if l < 9 || l == 255 { 2 } else { 3 }, 2));
+    }
+    let head = &b[..l];
+    for (rule, broken, place) in [(4, head[2] != 1, 3), (5, head[3] != 0, 4), (6, ![2, 4, 6].contains(&head[4]), 5), (7, !right(head), 8)] {
+        if broken {
+            return Err((rule, place));
+        }
+    }
+    let (rule, first, fields) = match head[4] {
+        2 if l == 9 => return Err((8, 10)),
+        2 => (8, 11, head[9] as usize),
+        4 => (9, 10, 1),
+        _ => (10, 10, 3),
+    };
+    let mut at = first;
+    for field in 0..fields {
+        at = field_end(head, at, (head[4] != 6 || field < 2) as usize).ok_or((rule, 10))?;
+    }
+    let options = at;
+    let mut timers = Vec::new();
+    while at <= l {
+        if at == l || at + 1 + head[at] as usize > l {
+            return Err((11, at));
+        }
+        if head[4] == 4 && head[at - 1] == 0xc6 {
+            timers.push((at, head[at]));
+        }
+        at += 2 + head[at] as usize;
+    }
+    match timers.iter().enumerate().find(|(n, timer)| *n > 0 || timer.1 != 2) {
+        Some((_, timer)) => Err((12, timer.0)),
+        None => Ok(options),
+    }
+}
+
+fn show_esis(b: &[u8], out: &mut Vec<u8>) {
+    let options = match judge_esis(b) {
+        Ok(options) => options,
+        Err((rule, place)) => {
+            out.extend_from_slice(b"refused E");
+            push_number(out, rule as usize);
+            out.push(b' ');
+            push_hex(out, &[place as u8]);
+            return;
+        }
+    };
+    let (word, labels): (&[u8], &[&[u8]]) = match b[4] {
+        2 => (b"esh", &[b" addr="]),
+        4 => (b"ish", &[b" title="]),
+        _ => (b"rd", &[b" to=", b" via=", b" title="]),
+    };
+    out.extend_from_slice(word);
+    out.extend_from_slice(b" hold=");
+    push_number(out, pair(b, 6));
+    out.extend_from_slice(b" sum=");
+    push_hex(out, &b[7..9]);
+    let mut at = if b[4] == 2 { 11 } else { 10 };
+    for label in labels.iter().cycle() {
+        if at == options {
+            break;
+        }
+        let end = at + b[at - 1] as usize;
+        out.extend_from_slice(label);
+        push_hex(out, &b[at..end]);
+        at = end + 1;
+    }
+    push_options(out, &b[options - 1..b[1] as usize]);
+    out.extend_from_slice(b" rest=");
+    push_hex(out, &b[b[1] as usize..]);
 }
 
 fn main() {

@@ -1,7 +1,5 @@
 //! ES-IS PDUs. All have the holding time 120.
-use esis_pdus::{
-    AddressList, EsisBody, EsisRefusal, HelloRefusal, decode, encode, esh, ish, rd,
-};
+use esis_pdus::{AddressList, EsisBody, EsisRefusal, HelloRefusal, decode, encode, esh, ish, rd};
 use nsap::{Address, Snpa};
 use std::alloc::Global;
 use std::test::Fail;

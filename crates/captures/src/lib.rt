@@ -2,6 +2,7 @@
 #![tactic(auto)]
 
 mod capture;
+mod esis;
 pub mod laws;
 mod line;
 mod vector;

@@ -4,8 +4,9 @@ ghost use Rattle.std.specs.Prelude.{◌≡◌, ◌++◌, OnOk, OnErr, codes, opt
 ghost use Rattle.std.specs.Fmt.{decimal};
 ghost use Rattle.nsap.specs.Text.{hex_text};
 ghost use Rattle.pdu_header.specs.View.{pdu_value, part_value};
-ghost use Rattle.captures.specs.Shown.{Shows, other_text, refusal_text, front_text, kind_and_flags_text, part_text, segmentation_text, value_text};
+ghost use Rattle.captures.specs.Shown.{Shows, refusal_text, front_text, kind_and_flags_text, part_text, segmentation_text, value_text};
 
+use crate::esis::push_other;
 use crate::words::{
     flags_text, kind_text, push_number, push_octets, push_options, push_pair, report_text,
 };
@@ -22,8 +23,12 @@ const WORDS: usize = 128;
 /// addresses, its segmentation part, its options, its data and what follows it in its frame:
 /// `clnp dt e life=10 sum=ce58 to=47002701 from=47002702 data=6869 rest=`. A refused frame is shown
 /// by the rule that it breaks, the reason, the place, and whether an error report of its discard is
-/// made: `refused G5 02 00 report`. A frame that begins with 0x82 is shown as `unbuilt`, and every
-/// other one as `alien`.
+/// made: `refused G5 02 00 report`.
+///
+/// An ES-IS PDU (ISO 9542, section 7) is shown by its kind, its holding time in seconds, its checksum, its
+/// addresses, its options and what follows it: `ish hold=120 sum=b1cd title=470027ff rest=`. A refused
+/// frame that begins with 0x82 is shown by the rule that it breaks and the place: `refused E7 08`. Every
+/// other frame is shown as `alien`.
 ///
 /// # Errors
 ///
@@ -44,18 +49,8 @@ fn push_shown(frame: &[u8], line: &mut Vec<u8>) -> Result<(), NoMemory>
 {
     match decode(frame) {
         Ok(pdu) => push_pdu(&pdu, line),
-        Err(Refusal::NotClnp) => push(other_text(frame), line),
+        Err(Refusal::NotClnp) => push_other(frame, line),
         Err(Refusal::Broken(broken)) => push_broken(broken, line),
-    }
-}
-
-/// The text of a frame that doesn't begin with 0x81.
-fn other_text(frame: &[u8]) -> &'static [u8]
-    ensures { result.now ≡ other_text frame.now }
-{
-    match frame {
-        [0x82, ..] => b"unbuilt",
-        _ => b"alien",
     }
 }
 

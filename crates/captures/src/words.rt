@@ -4,9 +4,11 @@ ghost use Rattle.std.specs.Prelude.{◌≡◌, ◌++◌, ◌∷◌, [], OnOk, On
 ghost use Rattle.std.specs.Fmt.{decimal};
 ghost use Rattle.nsap.specs.Text.{hex_text};
 ghost use Rattle.clnp_options.specs.Parameter.{Parameter, parameters};
-ghost use Rattle.captures.specs.Shown.{kind_word, octet_word, pair_word, flags_word, letters_of, letter_of, option_text, options_text, report_word};
+ghost use Rattle.captures.specs.Shown.{kind_word, flags_word, letters_of, letter_of, report_word};
+ghost use Rattle.captures.specs.Words.{octet_word, pair_word, option_text, options_text};
 
 use clnp_base::{NoMemory, push, push_decimal, push_hex};
+use clnp_options::first_option;
 use pdu_header::Kind;
 
 /// Appends a label, and octets as hexadecimal digits in lower case.
@@ -69,12 +71,12 @@ pub fn flags_text(segmented: bool, more: bool, report: bool) -> &'static [u8]
 }
 
 /// Appends the options that stand in a part of a header, in order.
-#[tactic(auto, unfolding(crate::specs::Shown::options_text))]
+#[tactic(auto, unfolding(crate::specs::Words::options_text))]
 pub fn push_options(part: &[u8], line: &mut Vec<u8>) -> Result<(), NoMemory>
     ensures { OnOk result (line.new.items ≡ line.old.items ++ options_text (parameters part.now)) }
 {
     let mut left = part;
-    while let Some((code, value, others)) = next_option(left) {
+    while let Some((code, value, others)) = first_option(left) {
         push_option(code, value, line)?;
         left = others;
     }
@@ -87,22 +89,4 @@ fn push_option(code: u8, value: &[u8], line: &mut Vec<u8>) -> Result<(), NoMemor
 {
     push_octets(b" opt=", &[code], line)?;
     push_octets(b":", value, line)
-}
-
-/// The code and the value of the first option, and the octets that follow it; none where no whole
-/// option stands there.
-fn next_option(part: &[u8]) -> Option<(u8, &[u8], &[u8])>
-    ensures none { IfNone result (parameters part.now ≡ []) }
-    ensures len { IfSome result (λ r. length part.now ≡ 2 + length r.1.now + length r.2.now) }
-    ensures options { IfSome result (λ r. parameters part.now ≡ record { code = r.0; value = r.1.now } ∷ parameters r.2.now) }
-{
-    let [code, size, rest @ ..] = part else {
-        return None;
-    };
-    let size = *size as usize;
-    if size > rest.len() {
-        return None;
-    }
-    let (value, others) = rest.split_at(size);
-    Some((*code, value, others))
 }
