@@ -1,5 +1,5 @@
 -- Each packet that is put on a subnetwork was forwarded no more often than its unit's lifetime allowed.
-use Rattle.std.proofs.Common.{◌≡◌, ◌≤◌, ◌+◌, ℕ, Bool, true, false, List, [], ◌∷◌, ◌++◌, map, length, nat_le, arith}
+use Rattle.std.proofs.Common.{◌+◌, ℕ, Bool, true, false, List, [], ◌∷◌, map, length, nat_le, arith}
 use Rattle.std.specs.Prelude.{if◌then◌else◌, option_map, slice_get, slice_set, Option, None, Some}
 use Rattle.std.specs.List.{AllByRecursion, flat_map, range_with_len}
 use Rattle.nsap.specs.declared.target.Target.{Target}
@@ -17,13 +17,13 @@ use Rattle.scenario.specs.declared.event.Event.TheVariants.{Send, Deliver, Settl
 use Rattle.scenario.specs.declared.event.Move.{Move}
 use Rattle.scenario.specs.declared.event.Move.TheVariants.{One, SettleOne, LoseOne, TickOne}
 use Rattle.clnp_machine.specs.Unit.{Packet, value_of, wire, whole_packet, piece_of, pieces}
-use Rattle.clnp_machine.specs.System.{SystemState, Content, Output, Transmits, Notes, Effect}
+use Rattle.clnp_machine.specs.System.{SystemState, Output, Transmits, Notes, Effect}
 use Rattle.clnp_machine.specs.Local as local
 use Rattle.clnp_machine.specs.Local.{Action, Sends, Tells, Deed}
-use Rattle.clnp_machine.specs.Host.{next_hop, port_mtu, transmissions, outputs_of, effect_of, frame_comes, send, arrive, tick, restart}
-use Rattle.clnp_network.specs.World.{World, Copy, copy_from, put_out, takes_effect, system_does, addressees_from, settle_copy, deliver, lose_copy, tick_each, event_happens, after, first_world}
+use Rattle.clnp_machine.specs.Host.{next_hop, port_mtu, transmissions, outputs_of, effect_of, frame_comes, arrive, tick}
+use Rattle.clnp_network.specs.World.{World, Copy, copy_from, put_out, takes_effect, system_does, addressees_from, settle_copy, lose_copy, tick_each, event_happens, after, first_world}
 use Rattle.clnp_network.specs.Run.{world_after}
-use Rattle.clnp_base.proofs.Lists.{AllByRecursion-append, AllByRecursion-implies, AllByRecursion-map_any}
+use Rattle.clnp_base.proofs.Lists.{AllByRecursion-append, AllByRecursion-implies}
 use Rattle.clnp_safety.specs.Copies.{CopiesAreWithinLifetimes, IsContentWithinLifetime, IsWithinLifetime}
 use Rattle.clnp_safety.proofs.Lines.{AnyLine}
 use Rattle.clnp_safety.proofs.Steps.{Keeps, NotGivenIsFine, keeps-nothing, keeps-followed_by, keeps-put_all_out, keeps-at_system, keeps-give_each, keeps-deliver}

@@ -1,5 +1,5 @@
 -- What copies carry, and what buffers hold.
-use Rattle.std.specs.Prelude.{◌≡◌, ℕ, ◌+◌, ◌≤◌, List, length, None}
+use Rattle.std.specs.Prelude.{◌≡◌, ◌+◌, ◌≤◌, length, None}
 use Rattle.std.specs.List.{AllByRecursion}
 use Rattle.clnp_plan.specs.Journal.{Line, Noted}
 use Rattle.clnp_plan.specs.declared.note.Note.TheVariants.{Alien}
