@@ -1,7 +1,7 @@
 use clnp_base::{
-    Failed, HexFault, InlineOctets, MemSink, MemSource, NoMemory, Octets, ReadStop, Sink, Source, StdSink,
-    StdSource, decimal, lines, next_line, next_word, push, push_decimal, push_hex, push_unhex, read_all, words,
-    write_all,
+    Failed, HexFault, InlineOctets, MemSink, MemSource, NoMemory, Octets, ReadStop, Sink, Source,
+    StdSink, StdSource, decimal, lines, next_line, next_word, push, push_decimal, push_hex,
+    push_unhex, read_all, words, write_all,
 };
 use std::alloc::Global;
 use std::io;
@@ -161,7 +161,10 @@ fn puts_text_out(rt: HostRuntime) -> Result<(), Fail> {
     push_decimal(0, &mut out)?;
     push(b" ", &mut out)?;
     push_decimal(u64::MAX, &mut out)?;
-    assert_eq!(rt; out.as_slice(), b"id 009fa0ff 0 18446744073709551615".as_slice());
+    assert_eq!(rt;
+        out.as_slice(),
+        b"id 009fa0ff 0 18446744073709551615".as_slice()
+    );
     Ok(())
 }
 
@@ -171,10 +174,20 @@ fn reads_hexadecimal_digits(rt: HostRuntime) -> Result<(), Fail> {
     assert_eq!(rt; push_unhex(b"009Fa0fF", &mut out), Ok(()));
     assert_eq!(rt; push_unhex(b"", &mut out), Ok(()));
     assert_eq!(rt; out.as_slice(), b"-\x00\x9f\xa0\xff".as_slice());
-    for digits in ["0", "0g0", "00/0", "0:00", "0@00", "0G00", "0`00", "000g", "\u{80}0"] {
+    for digits in [
+        "0", "0g0", "00/0", "0:00", "0@00", "0G00", "0`00", "000g", "\u{80}0",
+    ] {
         let odd = digits.len() % 2 == 1;
-        let fault = if odd { HexFault::OddLength } else { HexFault::BadDigit };
-        assert_eq!(rt; push_unhex(digits.as_bytes(), &mut out), Err(fault), "at {digits}");
+        let fault = if odd {
+            HexFault::OddLength
+        } else {
+            HexFault::BadDigit
+        };
+        assert_eq!(rt;
+            push_unhex(digits.as_bytes(), &mut out),
+            Err(fault),
+            "at {digits}"
+        );
     }
     assert_eq!(rt; out.as_slice(), b"-\x00\x9f\xa0\xff".as_slice());
     Ok(())
@@ -189,4 +202,6 @@ fn holds_octets_in_place(rt: HostRuntime) {
     octets.push(b"d");
     assert!(rt; octets.as_bytes() == b"a-cd".as_slice() && octets.len() == 4);
     assert!(rt; copy == InlineOctets::of(b"a-c") && copy != octets);
+    octets.change(1, |part: &mut [u8]| part.reverse());
+    assert!(rt; octets.as_bytes() == b"adc-".as_slice());
 }

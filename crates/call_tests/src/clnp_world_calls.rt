@@ -59,7 +59,10 @@ fn moves_are_made(rt: HostRuntime) -> Result<(), Fail> {
         Move::One(2),
     ];
     for mv in &moves {
-        assert_eq!(rt; step(&rt, alloc, &mut world, &scenario, mv, &mut journal), Ok(()));
+        assert_eq!(rt;
+            step(&rt, alloc, &mut world, &scenario, mv, &mut journal),
+            Ok(())
+        );
     }
     world.finish(alloc, &mut journal)?;
     let text = b"0 a sent dt 1 - 47002702 47002701 2
@@ -72,7 +75,11 @@ end 1 1
     assert_eq!(rt; journal.as_slice(), text.as_slice());
     assert_eq!(rt; world.clock(), 1);
     assert_eq!(rt; world.weight(), 85);
-    assert!(rt; world.host(0).is_some_and(|host| host.config().name() == b"a"));
+    assert!(rt;
+        world
+            .host(0)
+            .is_some_and(|host| host.config().name() == b"a".as_slice())
+    );
     assert!(rt; world.host(2).is_none());
     Ok(())
 }
@@ -92,13 +99,19 @@ fn is_full_at_its_weight(rt: HostRuntime) -> Result<(), Fail> {
     for event in 0..4156 {
         journal.clear();
         let mv = Move::One(event);
-        assert_eq!(rt; step(&rt, alloc, &mut world, &scenario, &mv, &mut journal), Ok(()));
+        assert_eq!(rt;
+            step(&rt, alloc, &mut world, &scenario, &mv, &mut journal),
+            Ok(())
+        );
     }
     let full = WorldRefusal::WorldFull {
         octets: 268_481_756,
     };
     let mv = Move::One(4156);
-    assert_eq!(rt; step(&rt, alloc, &mut world, &scenario, &mv, &mut journal), Err(full));
+    assert_eq!(rt;
+        step(&rt, alloc, &mut world, &scenario, &mv, &mut journal),
+        Err(full)
+    );
     assert_eq!(rt; world.weight(), 268_481_756);
     Ok(())
 }

@@ -1,6 +1,6 @@
+use crate::local_entity_calls::asking;
 use clnp_base::lines;
-use clnp_options::OptionList;
-use clnp_plan::{Ask, Output, SendRefusal, journal_text};
+use clnp_plan::{Output, SendRefusal, journal_text};
 use clnp_views::Frame;
 use end_system::EndSystem;
 use nsap::{Address, Snpa, Target};
@@ -56,12 +56,7 @@ fn calls_are_made(rt: HostRuntime) -> Result<(), Fail> {
     let from = Address::from_bytes(b"\x47\x00\x27\x02").expect(&rt, "an address");
     let to = Address::from_bytes(b"\x47\x00\x27\x01").expect(&rt, "an address");
     let snpa = Snpa::from_bytes(b"\x01").expect(&rt, "an address");
-    let ask = Ask {
-        life: 10,
-        report: true,
-        segment: false,
-        options: OptionList::new(),
-    };
+    let ask = asking(&rt);
     let mut text = Vec::new(alloc);
     for system in scenario.systems() {
         let mut host = EndSystem::new(alloc, system, scenario.limits(), 0, 0)?;

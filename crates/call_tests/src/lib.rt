@@ -3,9 +3,17 @@
 #![tactic(auto)]
 
 #[cfg(test)]
+mod captures_calls;
+#[cfg(test)]
 mod clnp_base_calls;
 #[cfg(test)]
+mod clnp_commands_calls;
+#[cfg(test)]
 mod clnp_options_calls;
+#[cfg(test)]
+mod clnp_plan_calls;
+#[cfg(test)]
+mod clnp_program_calls;
 #[cfg(test)]
 mod clnp_views_calls;
 #[cfg(test)]
@@ -13,8 +21,20 @@ mod clnp_world_calls;
 #[cfg(test)]
 mod end_system_calls;
 #[cfg(test)]
+mod esis_pdus_calls;
+#[cfg(test)]
+mod esis_tables_calls;
+#[cfg(test)]
+mod fletcher_calls;
+#[cfg(test)]
 mod local_entity_calls;
 #[cfg(test)]
 mod nsap_calls;
 #[cfg(test)]
+mod pdu_header_calls;
+#[cfg(test)]
 mod reassembly_calls;
+#[cfg(test)]
+mod scenario_calls;
+#[cfg(test)]
+mod segmenter_calls;

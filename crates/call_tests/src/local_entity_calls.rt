@@ -1,5 +1,9 @@
+ghost use Rattle.std.specs.Prelude.{false};
+ghost use Rattle.clnp_options.specs.Grammar.{FitsKind};
+ghost use Rattle.clnp_options.specs.Parameter.{parameters};
+
 use clnp_base::lines;
-use clnp_options::OptionList;
+use clnp_options::{OptionList, laws};
 use clnp_plan::{Ask, journal_text};
 use clnp_views::Frame;
 use local_entity::{Action, DrawRefusal, IdPool, Local};
@@ -20,6 +24,22 @@ port a 0 lan 01
 events
 end
 ";
+
+/// How a unit of lifetime 10 is to be sent, whole and without options.
+pub(crate) fn asking(rt: &impl Abort) -> Ask
+    ensures { FitsKind false (parameters result.options) }
+{
+    laws::spelled_where_no_rule_is_broken();
+    let Ok(options) = OptionList::from_bytes(b"") else {
+        panic!(rt; "no options");
+    };
+    Ask {
+        life: 10,
+        report: true,
+        segment: false,
+        options,
+    }
+}
 
 /// The scenario of the host.
 fn host(rt: &impl Abort, alloc: Global) -> Scenario {
@@ -59,12 +79,7 @@ fn calls_are_made(rt: HostRuntime) -> Result<(), Fail> {
     let alloc = rt.alloc();
     let scenario = host(&rt, alloc);
     let own = Address::from_bytes(b"\x47\x00\x27\x02").expect(&rt, "an address");
-    let ask = Ask {
-        life: 10,
-        report: true,
-        segment: false,
-        options: OptionList::new(),
-    };
+    let ask = asking(&rt);
     let body = Frame::copy(alloc, b"hi")?.into_view();
     let pdu = b"\x81\x13\x01\x0a\x3c\x00\x15\x00\x00\x04\x47\x00\x27\x02\x04\x47\x00\x27\x02hi";
     let frame = Frame::copy(alloc, pdu)?;

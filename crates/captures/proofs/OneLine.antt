@@ -6,14 +6,17 @@ use Rattle.clnp_options.specs.declared.judge.OptionRefusal.{OptionRefusal}
 use Rattle.pdu_header.specs.Grammar.{BeginsWith}
 use Rattle.pdu_header.specs.Rules.{octet, refusal, is_reportable}
 use Rattle.pdu_header.specs.Value.{PduValue}
-use Rattle.captures.specs.Shown.{Shows, ShowsValue, checksum_of, value_text, refusal_text, other_text}
+use Rattle.captures.specs.Shown.{Shows, ShowsValue, value_text, refusal_text}
+use Rattle.captures.specs.Words.{checksum_of}
+use Rattle.captures.specs.EsisShown.{ShowsOther}
+use Rattle.captures.proofs.OneOther.{OneEsis, SomeEsis, one_other, some_other}
 
 -- the line that shows a frame, by whether it begins with 0x81, and by its refusal
 abbrev pub ShownBy : Bool → Option OptionRefusal → List ℕ → List ℕ → Type 0
 ShownBy is_clnp found frame line =
     MatchBool is_clnp
     (MatchOption found (ShowsValue frame line) (λ r. line ≡ refusal_text r.rule r.reason r.place (is_reportable frame)))
-    (line ≡ other_text frame)
+    (ShowsOther frame line)
 
 -- the law that a frame begins with one PDU
 abbrev pub OneValue : Type 0
@@ -31,26 +34,27 @@ same_value law frame a b one other =
     one.text ∙ ap (λ (v : PduValue). value_text v (checksum_of frame) one.rest) same.0
     ∙ ap (λ (rest : List ℕ). value_text other.value (checksum_of frame) rest) same.1 ∙ sym other.text
 
-same_by : OneValue → (is_clnp : Bool) (found : Option OptionRefusal) (frame a b : List ℕ)
+same_by : OneValue → OneEsis → (is_clnp : Bool) (found : Option OptionRefusal) (frame a b : List ℕ)
     → ShownBy is_clnp found frame a → ShownBy is_clnp found frame b → a ≡ b
-same_by law true None frame a b one other = same_value law frame a b one other
-same_by law true (Some r) frame a b one other = one ∙ sym other
-same_by law false found frame a b one other = one ∙ sym other
+same_by law esis true None frame a b one other = same_value law frame a b one other
+same_by law esis true (Some r) frame a b one other = one ∙ sym other
+same_by law esis false found frame a b one other = one_other esis frame a b one other
 
-pub one_line : OneValue → (frame a b : List ℕ) → Shows frame a → Shows frame b → a ≡ b
-one_line law frame a b one other = same_by law (octet frame 1 == 0x81) (refusal frame) frame a b one other
+pub one_line : OneValue → OneEsis → (frame a b : List ℕ) → Shows frame a → Shows frame b → a ≡ b
+one_line law esis frame a b one other = same_by law esis (octet frame 1 == 0x81) (refusal frame) frame a b one other
 
 some_by : (is_clnp : Bool) (found : Option OptionRefusal) (frame : List ℕ)
     → (is_clnp ≡ true → found ≡ None → (v : PduValue) × (rest : List ℕ) × BeginsWith frame v rest)
+    → ((line : List ℕ) × ShowsOther frame line)
     → (line : List ℕ) × ShownBy is_clnp found frame line
-some_by true None frame pdu =
+some_by true None frame pdu other =
     let found = pdu refl refl in (
       value_text found.0 (checksum_of frame) found.1,
       record { value = found.0; rest = found.1; begins = found.2; text = refl },
     )
-some_by true (Some r) frame pdu = (refusal_text r.rule r.reason r.place (is_reportable frame), refl)
-some_by false found frame pdu = (other_text frame, refl)
+some_by true (Some r) frame pdu other = (refusal_text r.rule r.reason r.place (is_reportable frame), refl)
+some_by false found frame pdu other = other
 
-pub some_line : SomeValue → (frame : List ℕ) → IsBytes frame → (line : List ℕ) × Shows frame line
-some_line law frame bytes =
-    some_by (octet frame 1 == 0x81) (refusal frame) frame (λ clnp none. (law frame bytes (eqb-true (octet frame 1) 0x81 clnp)).0 none)
+pub some_line : SomeValue → SomeEsis → (frame : List ℕ) → IsBytes frame → (line : List ℕ) × Shows frame line
+some_line law esis frame bytes =
+    some_by (octet frame 1 == 0x81) (refusal frame) frame (λ clnp none. (law frame bytes (eqb-true (octet frame 1) 0x81 clnp)).0 none) (some_other esis frame bytes)

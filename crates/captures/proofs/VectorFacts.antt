@@ -6,11 +6,10 @@ use Rattle.std.specs.Prelude.{nat_lt}
 use Rattle.hex.specs.Hex.{decode_of, decode_pairs}
 use Rattle.hex.specs.declared.error.FromHexError.{FromHexError}
 use Rattle.hex.proofs.HexLemmas.{decode_of-ok}
-use Rattle.captures.specs.declared.capture.TheConstants.{MOST_OCTETS}
 use Rattle.captures.specs.declared.capture.LineRefusal.{LineRefusal}
 use Rattle.captures.specs.declared.capture.LineRefusal.TheVariants.{Syntax, Count}
 use Rattle.captures.specs.Captures as capture
-use Rattle.captures.specs.Captures.{Capture, is_skipped, spelled_capture, capture_of}
+use Rattle.captures.specs.Captures.{most_octets, Capture, is_skipped, spelled_capture, capture_of}
 use Rattle.captures.specs.Vectors.{Vector, Skipped, Malformed, TooLong, Expects, before_space, from_space, behind_arrow, spelled_vector, vector_of}
 
 -- a line is cut at a place before which no space stands, and at which one stands, if any does
@@ -56,7 +55,7 @@ by_spelling : (c : ℕ) (digits expected : List ℕ) (spelled : Result (List ℕ
 by_spelling c digits expected (Err e) is = refl
 by_spelling c digits expected (Ok []) is =
     let sized : length (c ∷ digits) ≡ 2 * length {A = ℕ} [] = (decode_of-ok (c ∷ digits) [] is).2 in absurd (omega arith)
-by_spelling c digits expected (Ok (octet ∷ octets)) is = by_count (nat_lt MOST_OCTETS (length (octet ∷ octets))) (octet ∷ octets) expected
+by_spelling c digits expected (Ok (octet ∷ octets)) is = by_count (nat_lt most_octets (length (octet ∷ octets))) (octet ∷ octets) expected
 
 by_digits : (digits expected : List ℕ) → (is_skipped digits ≡ true → digits ≡ [])
     → spelled_vector (decode_of digits) (Some expected) ≡ vector_by (capture_of digits) expected

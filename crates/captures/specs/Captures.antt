@@ -1,8 +1,13 @@
 -- The lines of a capture: frames in hexadecimal digits, and lines to skip.
-use Rattle.std.specs.Prelude.{ℕ, ◌==◌, nat_lt, Bool, true, if◌then◌else◌, List, [], ◌∷◌, length, Result, Ok, Err}
+use Rattle.std.specs.Prelude.{◌≡◌, ◌↔◌, ℕ, ◌==◌, nat_lt, Bool, true, false, if◌then◌else◌, List, [], ◌∷◌, length, Result, Ok, Err}
 use Rattle.hex.specs.Hex.{decode_of}
 use Rattle.hex.specs.declared.error.FromHexError.{FromHexError}
-use Rattle.captures.specs.declared.capture.TheConstants.{MOST_OCTETS}
+use Rattle.captures.specs.declared.capture.LineRefusal.{LineRefusal}
+use Rattle.captures.specs.declared.capture.LineRefusal.TheVariants.{Syntax, Count}
+
+-- the most octets of a frame
+abbrev pub most_octets : ℕ
+most_octets = 70000
 
 -- What a line is: one to skip, one of another form, a frame of too many octets, or a frame.
 pub data Capture : Type 0 where
@@ -20,8 +25,13 @@ is_skipped (first ∷ others) = first == 35
 -- other character spell none
 abbrev pub spelled_capture : Result (List ℕ) FromHexError → Capture
 spelled_capture (Err e) = Malformed
-spelled_capture (Ok octets) = if nat_lt MOST_OCTETS (length octets) then TooLong else Frame octets
+spelled_capture (Ok octets) = if nat_lt most_octets (length octets) then TooLong else Frame octets
 
 -- what a line of a capture is
 unfoldable pub capture_of : List ℕ → Capture
 capture_of line = if is_skipped line then Skipped else spelled_capture (decode_of line)
+
+-- the answer to a line tells what it is: to be skipped, of another form, or of too many octets
+abbrev pub Tells : Result Bool LineRefusal → Capture → Type 0
+Tells answer line =
+    ((answer ≡ Ok false) ↔ (line ≡ Skipped)) × ((answer ≡ Err Syntax) ↔ (line ≡ Malformed)) × ((answer ≡ Err Count) ↔ (line ≡ TooLong))

@@ -2,27 +2,19 @@
 use Rattle.std.specs.Prelude.{◌≡◌, ℕ, ◌==◌, Bool, if◌then◌else◌, List, [], ◌∷◌, ◌++◌, codes, Option, Some, None, is_some, MatchBool, MatchOption}
 use Rattle.std.specs.Fmt.{decimal}
 use Rattle.nsap.specs.Text.{hex_text}
-use Rattle.clnp_options.specs.Parameter.{Parameter}
 use Rattle.pdu_header.specs.declared.kind.Kind.{Kind}
 use Rattle.pdu_header.specs.declared.kind.Kind.TheVariants.{Dt, Er, Erq, Erp}
 use Rattle.pdu_header.specs.Value.{SegmentationPart, PduValue}
-use Rattle.pdu_header.specs.Spelling.{pair_of}
 use Rattle.pdu_header.specs.Grammar.{BeginsWith}
-use Rattle.pdu_header.specs.Rules.{octet, pair_at, header_of, refusal, is_reportable}
+use Rattle.pdu_header.specs.Rules.{octet, refusal, is_reportable}
+use Rattle.captures.specs.Words.{octet_word, pair_word, options_text, checksum_of}
+use Rattle.captures.specs.EsisShown.{ShowsOther}
 
 abbrev pub kind_word : Kind → List ℕ
 kind_word Dt = codes "dt"
 kind_word Er = codes "er"
 kind_word Erq = codes "erq"
 kind_word Erp = codes "erp"
-
--- an octet in two hexadecimal digits
-abbrev pub octet_word : ℕ → List ℕ
-octet_word octet = hex_text (octet ∷ [])
-
--- a number of two octets in four hexadecimal digits
-abbrev pub pair_word : ℕ → List ℕ
-pair_word number = hex_text (pair_of number)
 
 -- a flag's letter where it is 1, and nothing where it is 0
 abbrev pub letter_of : Bool → List ℕ → List ℕ
@@ -46,14 +38,6 @@ part_text part =
 abbrev pub segmentation_text : Option SegmentationPart → List ℕ
 segmentation_text None = []
 segmentation_text (Some part) = part_text part
-
-abbrev pub option_text : Parameter → List ℕ
-option_text option = codes " opt=" ++ (octet_word option.code ++ (codes ":" ++ hex_text option.value))
-
--- the options in order
-unfoldable pub options_text : List Parameter → List ℕ
-options_text [] = []
-options_text (option ∷ others) = option_text option ++ options_text others
 
 abbrev pub kind_and_flags_text : PduValue → List ℕ
 kind_and_flags_text v =
@@ -81,14 +65,6 @@ refusal_text rule reason place reportable =
     codes "refused G" ++ (decimal rule ++ (codes " " ++ (octet_word reason ++ (codes " "
     ++ (octet_word place ++ (codes " " ++ report_word reportable))))))
 
--- the line of a frame that doesn't begin with 0x81: ES-IS (ISO 9542), whose protocol identifier is 0x82, isn't read
-abbrev pub other_text : List ℕ → List ℕ
-other_text frame = if octet frame 1 == 0x82 then codes "unbuilt" else codes "alien"
-
--- the number that the checksum's octets are (ISO 8473, section 7.2.9)
-abbrev pub checksum_of : List ℕ → ℕ
-checksum_of frame = pair_at (header_of frame) 8
-
 -- the line of the PDU with which the frame begins
 pub record ShowsValue (frame line : List ℕ) : Type 0 where
   pub value : PduValue
@@ -104,4 +80,4 @@ ShowsPdu frame line =
 
 -- the line that shows a frame
 abbrev pub Shows : List ℕ → List ℕ → Type 0
-Shows frame line = MatchBool (octet frame 1 == 0x81) (ShowsPdu frame line) (line ≡ other_text frame)
+Shows frame line = MatchBool (octet frame 1 == 0x81) (ShowsPdu frame line) (ShowsOther frame line)

@@ -4,10 +4,9 @@ use Rattle.std.specs.Fmt.{decimal}
 use Rattle.std.specs.Str.{bytes_eq}
 use Rattle.hex.specs.Hex.{decode_of}
 use Rattle.hex.specs.declared.error.FromHexError.{FromHexError}
-use Rattle.captures.specs.declared.capture.TheConstants.{MOST_OCTETS}
 use Rattle.captures.specs.declared.vector.Verdict.{Verdict}
 use Rattle.captures.specs.declared.vector.Verdict.TheVariants.{Skip, Pass, Fail}
-use Rattle.captures.specs.Captures.{is_skipped}
+use Rattle.captures.specs.Captures.{is_skipped, most_octets}
 use Rattle.captures.specs.Shown.{Shows}
 
 -- What a line is: one to skip, one of another form, a frame of too many octets, or a frame and the line that is expected.
@@ -35,7 +34,7 @@ behind_arrow text = if bytes_eq (take 4 text) (codes " => ") then Some (drop 4 t
 abbrev pub expecting : List ℕ → List ℕ → Vector
 expecting [] expected = Malformed
 expecting (octet ∷ octets) expected =
-    if nat_lt MOST_OCTETS (length (octet ∷ octets)) then TooLong else Expects (octet ∷ octets) expected
+    if nat_lt most_octets (length (octet ∷ octets)) then TooLong else Expects (octet ∷ octets) expected
 
 -- what digits and what follows them are
 abbrev pub spelled_vector : Result (List ℕ) FromHexError → Option (List ℕ) → Vector

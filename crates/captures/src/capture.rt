@@ -1,9 +1,9 @@
-ghost use Rattle.std.specs.Prelude.{◌≡◌, ◌≢◌, ◌↔◌, ◌++◌, ℕ, List, true, false, IsTrue, is_ok};
+ghost use Rattle.std.specs.Prelude.{◌≡◌, ◌≢◌, ◌↔◌, ◌++◌, ℕ, List, true, false, IsTrue, MatchBool, is_ok};
 ghost use Rattle.std.specs.List.{AllPass};
 ghost use Rattle.hex.specs.Hex.{is_hex_digit, decode_of};
-ghost use Rattle.captures.specs.Captures.{capture_of, Skipped, Malformed, TooLong, Frame, is_skipped};
+ghost use Rattle.captures.specs.Captures.{capture_of, Skipped, Malformed, TooLong, Frame, is_skipped, Tells};
 
-use std::alloc::Global;
+use clnp_base::{HexFault, push_unhex};
 
 /// The most octets of a frame.
 pub const MOST_OCTETS: usize = 70_000;
@@ -29,7 +29,7 @@ pub enum LineRefusal {
 ///
 /// `Syntax` where the line has another form, `Count` where the form is right and the frame has more
 /// than 70,000 octets, and `NoMemory`. Unless the answer is true, `frame` is as it was.
-pub fn read_capture(alloc: Global, line: &[u8], frame: &mut Vec<u8>) -> Result<bool, LineRefusal>
+pub fn read_capture(line: &[u8], frame: &mut Vec<u8>) -> Result<bool, LineRefusal>
     ensures skipped { (result ≡ Ok false) ↔ (capture_of line.now ≡ Skipped) }
     ensures syntax { (result ≡ Err LineRefusal.Syntax) ↔ (capture_of line.now ≡ Malformed) }
     ensures count { (result ≡ Err LineRefusal.Count) ↔ (capture_of line.now ≡ TooLong) }
@@ -38,21 +38,38 @@ pub fn read_capture(alloc: Global, line: &[u8], frame: &mut Vec<u8>) -> Result<b
         × (frame.new.items ≡ frame.old.items ++ octets) }
     ensures same { result ≢ Ok true → frame.new.items ≡ frame.old.items }
 {
+    read_told(line, frame)
+}
+
+/// Reads a line of a capture in one pass; the answer tells what the line is.
+fn read_told(line: &[u8], frame: &mut Vec<u8>) -> Result<bool, LineRefusal>
+    ensures told { Tells result (capture_of line.now) }
+    ensures read { result ≡ Ok true → (octets : List ℕ) × (capture_of line.now ≡ Frame octets)
+        × (frame.new.items ≡ frame.old.items ++ octets) }
+    ensures same { result ≢ Ok true → frame.new.items ≡ frame.old.items }
+{
     if is_skipped(line) {
         return Ok(false);
     }
-    if !is_hexadecimal(line) {
-        return Err(LineRefusal::Syntax);
-    }
     if line.len() / 2 > MOST_OCTETS {
-        return Err(LineRefusal::Count);
+        return Err(refusal_of(line, LineRefusal::Count));
     }
-    let Ok(octets) = hex::decode(alloc, line) else {
-        return Err(LineRefusal::NoMemory);
-    };
-    match frame.extend_from_slice(&octets) {
+    match push_unhex(line, frame) {
         Ok(()) => Ok(true),
-        Err(_) => Err(LineRefusal::NoMemory),
+        Err(HexFault::OddLength) => Err(LineRefusal::Syntax),
+        Err(HexFault::BadDigit) => Err(LineRefusal::Syntax),
+        Err(HexFault::NoMemory) => Err(refusal_of(line, LineRefusal::NoMemory)),
+    }
+}
+
+/// Why a line isn't read that could be read but for this: its form comes first.
+fn refusal_of(line: &[u8], other: LineRefusal) -> LineRefusal
+    ensures { MatchBool (is_ok (decode_of line.now)) (result ≡ other) (result ≡ LineRefusal.Syntax) }
+{
+    if is_hexadecimal(line) {
+        other
+    } else {
+        LineRefusal::Syntax
     }
 }
 

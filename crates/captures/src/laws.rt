@@ -6,15 +6,18 @@ ghost use Rattle.captures.specs.Shown.{Shows};
 ghost use Rattle.captures.specs.Vectors.{Judges};
 
 use crate::vector::Verdict;
-use pdu_header::laws::{one_value, spelled_where_no_rule_is_broken};
+use esis_pdus::laws as esis;
+use pdu_header::laws as clnp;
 
 /// Each frame of octets is shown by one line, and by no other.
 pub fn one_line()
     ensures some { (frame : List ℕ) → IsBytes frame → (line : List ℕ) × Shows frame line }
     ensures one { (frame line other : List ℕ) → Shows frame line → Shows frame other → line ≡ other }
 {
-    one_value();
-    spelled_where_no_rule_is_broken();
+    clnp::one_value();
+    clnp::spelled_where_no_rule_is_broken();
+    esis::one_value();
+    esis::spelled_where_no_rule_is_broken();
 }
 
 /// Each vector whose frame is of octets has one verdict and one text of it, and no others.

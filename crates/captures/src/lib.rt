@@ -2,13 +2,10 @@
 #![tactic(auto)]
 
 mod capture;
+mod esis;
 pub mod laws;
 mod line;
-#[cfg(test)]
-mod tests;
 mod vector;
-#[cfg(test)]
-mod vector_tests;
 mod words;
 
 pub use capture::{LineRefusal, MOST_OCTETS, read_capture};

@@ -4,14 +4,18 @@ ghost use Rattle.std.specs.Prelude.{◌≡◌, ◌++◌, OnOk, OnErr, codes, opt
 ghost use Rattle.std.specs.Fmt.{decimal};
 ghost use Rattle.nsap.specs.Text.{hex_text};
 ghost use Rattle.pdu_header.specs.View.{pdu_value, part_value};
-ghost use Rattle.captures.specs.Shown.{Shows, other_text, refusal_text, front_text, kind_and_flags_text, part_text, segmentation_text, value_text};
+ghost use Rattle.captures.specs.Shown.{Shows, refusal_text, front_text, kind_and_flags_text, part_text, segmentation_text, value_text};
 
+use crate::esis::push_other;
 use crate::words::{
-    flags_text, kind_text, push, push_number, push_octets, push_options, push_pair, report_text,
+    flags_text, kind_text, push_number, push_octets, push_options, push_pair, report_text,
 };
-use clnp_base::NoMemory;
+use clnp_base::{NoMemory, push};
 use pdu_header::{Broken, Pdu, Refusal, SegPart, decode};
 use std::alloc::Global;
+
+/// About how many octets the words of a shown line take, beside the digits of its frame.
+const WORDS: usize = 128;
 
 /// Appends the line that shows a frame, without a `\n` (ISO 8473, sections 7 and 7.9.5).
 ///
@@ -19,8 +23,12 @@ use std::alloc::Global;
 /// addresses, its segmentation part, its options, its data and what follows it in its frame:
 /// `clnp dt e life=10 sum=ce58 to=47002701 from=47002702 data=6869 rest=`. A refused frame is shown
 /// by the rule that it breaks, the reason, the place, and whether an error report of its discard is
-/// made: `refused G5 02 00 report`. A frame that begins with 0x82 is shown as `unbuilt`, and every
-/// other one as `alien`.
+/// made: `refused G5 02 00 report`.
+///
+/// An ES-IS PDU (ISO 9542, section 7) is shown by its kind, its holding time in seconds, its checksum, its
+/// addresses, its options and what follows it: `ish hold=120 sum=b1cd title=470027ff rest=`. A refused
+/// frame that begins with 0x82 is shown by the rule that it breaks and the place: `refused E7 08`. Every
+/// other frame is shown as `alien`.
 ///
 /// # Errors
 ///
@@ -29,66 +37,57 @@ pub fn show_line(alloc: Global, frame: &[u8], out: &mut Vec<u8>) -> Result<(), N
     ensures shown { OnOk result ((line : List ℕ) × Shows frame.now line × (out.new.items ≡ out.old.items ++ line)) }
     ensures same { OnErr result (out.new.items ≡ out.old.items) }
 {
-    let mut line = Vec::new(alloc);
-    push_shown(alloc, frame, &mut line)?;
+    let room = frame.len().saturating_mul(2).saturating_add(WORDS);
+    let mut line = Vec::with_capacity(alloc, room)?;
+    push_shown(frame, &mut line)?;
     push(&line, out)
 }
 
 /// Appends the text of a frame.
-fn push_shown(alloc: Global, frame: &[u8], line: &mut Vec<u8>) -> Result<(), NoMemory>
+fn push_shown(frame: &[u8], line: &mut Vec<u8>) -> Result<(), NoMemory>
     ensures { OnOk result ((text : List ℕ) × Shows frame.now text × (line.new.items ≡ line.old.items ++ text)) }
 {
     match decode(frame) {
-        Ok(pdu) => push_pdu(alloc, &pdu, line),
-        Err(Refusal::NotClnp) => push(other_text(frame), line),
-        Err(Refusal::Broken(broken)) => push_broken(alloc, broken, line),
-    }
-}
-
-/// The text of a frame that doesn't begin with 0x81.
-fn other_text(frame: &[u8]) -> &'static [u8]
-    ensures { result.now ≡ other_text frame.now }
-{
-    match frame {
-        [0x82, ..] => b"unbuilt",
-        _ => b"alien",
+        Ok(pdu) => push_pdu(&pdu, line),
+        Err(Refusal::NotClnp) => push_other(frame, line),
+        Err(Refusal::Broken(broken)) => push_broken(broken, line),
     }
 }
 
 /// Appends the text of a refused frame.
-fn push_broken(alloc: Global, broken: Broken, line: &mut Vec<u8>) -> Result<(), NoMemory>
+fn push_broken(broken: Broken, line: &mut Vec<u8>) -> Result<(), NoMemory>
     ensures { OnOk result (line.new.items ≡ line.old.items
         ++ refusal_text broken.rule broken.reason broken.place broken.reportable) }
 {
     push_number(b"refused G", u16::from(broken.rule), line)?;
-    push_octets(alloc, b" ", &[broken.reason], line)?;
-    push_octets(alloc, b" ", &[broken.place], line)?;
+    push_octets(b" ", &[broken.reason], line)?;
+    push_octets(b" ", &[broken.place], line)?;
     push(b" ", line)?;
     push(report_text(broken.reportable), line)
 }
 
 /// Appends the text of a PDU and of what follows it in its frame.
-fn push_pdu(alloc: Global, pdu: &Pdu<'_>, line: &mut Vec<u8>) -> Result<(), NoMemory>
+fn push_pdu(pdu: &Pdu<'_>, line: &mut Vec<u8>) -> Result<(), NoMemory>
     ensures { OnOk result (line.new.items ≡ line.old.items
         ++ value_text (pdu_value pdu.now) pdu.now.sum pdu.now.rest.now) }
 {
-    push_front(alloc, pdu, line)?;
-    push_segmentation(alloc, pdu.seg, line)?;
-    push_options(alloc, pdu.options, line)?;
-    push_octets(alloc, b" data=", pdu.body, line)?;
-    push_octets(alloc, b" rest=", pdu.rest, line)
+    push_front(pdu, line)?;
+    push_segmentation(pdu.seg, line)?;
+    push_options(pdu.options, line)?;
+    push_octets(b" data=", pdu.body, line)?;
+    push_octets(b" rest=", pdu.rest, line)
 }
 
 /// Appends what the text of a PDU begins with, up to its addresses.
 #[tactic(auto, unfolding(crate::specs::Shown::front_text))]
-fn push_front(alloc: Global, pdu: &Pdu<'_>, line: &mut Vec<u8>) -> Result<(), NoMemory>
+fn push_front(pdu: &Pdu<'_>, line: &mut Vec<u8>) -> Result<(), NoMemory>
     ensures { OnOk result (line.new.items ≡ line.old.items ++ front_text (pdu_value pdu.now) pdu.now.sum) }
 {
     push_kind(pdu, line)?;
     push_number(b" life=", u16::from(pdu.life), line)?;
-    push_pair(alloc, b" sum=", pdu.sum, line)?;
-    push_octets(alloc, b" to=", pdu.to.as_bytes(), line)?;
-    push_octets(alloc, b" from=", pdu.from.as_bytes(), line)
+    push_pair(b" sum=", pdu.sum, line)?;
+    push_octets(b" to=", pdu.to.as_bytes(), line)?;
+    push_octets(b" from=", pdu.from.as_bytes(), line)
 }
 
 /// Appends the kind and the flags of a PDU.
@@ -102,24 +101,20 @@ fn push_kind(pdu: &Pdu<'_>, line: &mut Vec<u8>) -> Result<(), NoMemory>
 }
 
 /// Appends the segmentation part, if there is one.
-fn push_segmentation(
-    alloc: Global,
-    part: Option<SegPart>,
-    line: &mut Vec<u8>,
-) -> Result<(), NoMemory>
+fn push_segmentation(part: Option<SegPart>, line: &mut Vec<u8>) -> Result<(), NoMemory>
     ensures { OnOk result (line.new.items ≡ line.old.items ++ segmentation_text (option_map part_value part)) }
 {
     match part {
         None => Ok(()),
-        Some(part) => push_part(alloc, part, line),
+        Some(part) => push_part(part, line),
     }
 }
 
 /// Appends a segmentation part.
-fn push_part(alloc: Global, part: SegPart, line: &mut Vec<u8>) -> Result<(), NoMemory>
+fn push_part(part: SegPart, line: &mut Vec<u8>) -> Result<(), NoMemory>
     ensures { OnOk result (line.new.items ≡ line.old.items ++ part_text (part_value part)) }
 {
-    push_pair(alloc, b" id=", part.id, line)?;
+    push_pair(b" id=", part.id, line)?;
     push_number(b" off=", part.offset, line)?;
     push_number(b" total=", part.total, line)
 }

@@ -7,9 +7,7 @@ ghost use Rattle.captures.specs.Vectors.{vector_of, Skipped, Malformed, TooLong,
 
 use crate::capture::{LineRefusal, is_skipped, read_capture};
 use crate::line::show_line;
-use crate::words::push;
-use clnp_base::NoMemory;
-use itoa::Buffer;
+use clnp_base::{NoMemory, push, push_decimal};
 use std::alloc::Global;
 
 /// The verdict on a line of a file of vectors.
@@ -52,7 +50,7 @@ pub fn check_line(
         return Ok(Verdict::Skip);
     }
     let mut frame = Vec::new(alloc);
-    match read_vector(alloc, line, &mut frame) {
+    match read_vector(line, &mut frame) {
         Ok(expected) => judge(alloc, &frame, expected, number, out),
         Err(refusal) => Err(refusal),
     }
@@ -60,11 +58,7 @@ pub fn check_line(
 
 /// Reads a vector: appends the octets of its frame, and answers the line that is expected to show
 /// them.
-fn read_vector<'a>(
-    alloc: Global,
-    line: &'a [u8],
-    frame: &mut Vec<u8>,
-) -> Result<&'a [u8], LineRefusal>
+fn read_vector<'a>(line: &'a [u8], frame: &mut Vec<u8>) -> Result<&'a [u8], LineRefusal>
     requires { is_skipped line.now ≡ false }
     ensures skipped { vector_of line.now ≢ Skipped }
     ensures syntax { (result ≡ Err LineRefusal.Syntax) ↔ (vector_of line.now ≡ Malformed) }
@@ -75,7 +69,7 @@ fn read_vector<'a>(
     let Some((digits, expected)) = cut_at_arrow(line) else {
         return Err(LineRefusal::Syntax);
     };
-    match read_capture(alloc, digits, frame) {
+    match read_capture(digits, frame) {
         Ok(true) => Ok(expected),
         Ok(false) => Err(LineRefusal::Syntax),
         Err(refusal) => Err(refusal),
@@ -184,7 +178,6 @@ fn push_words(
 fn push_numbered(number: u32, label: &[u8], text: &mut Vec<u8>) -> Result<(), NoMemory>
     ensures { OnOk result (text.new.items ≡ text.old.items ++ (decimal number ++ label.now)) }
 {
-    let mut buffer = Buffer::new();
-    push(buffer.format(number).as_bytes(), text)?;
+    push_decimal(u64::from(number), text)?;
     push(label, text)
 }

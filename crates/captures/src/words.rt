@@ -4,54 +4,34 @@ ghost use Rattle.std.specs.Prelude.{◌≡◌, ◌++◌, ◌∷◌, [], OnOk, On
 ghost use Rattle.std.specs.Fmt.{decimal};
 ghost use Rattle.nsap.specs.Text.{hex_text};
 ghost use Rattle.clnp_options.specs.Parameter.{Parameter, parameters};
-ghost use Rattle.captures.specs.Shown.{kind_word, octet_word, pair_word, flags_word, letters_of, letter_of, option_text, options_text, report_word};
+ghost use Rattle.captures.specs.Shown.{kind_word, flags_word, letters_of, letter_of, report_word};
+ghost use Rattle.captures.specs.Words.{octet_word, pair_word, option_text, options_text};
 
-use clnp_base::NoMemory;
-use itoa::Buffer;
+use clnp_base::{NoMemory, push, push_decimal, push_hex};
+use clnp_options::first_option;
 use pdu_header::Kind;
-use std::alloc::Global;
-
-/// Appends a piece.
-pub fn push(piece: &[u8], out: &mut Vec<u8>) -> Result<(), NoMemory>
-    ensures written { OnOk result (out.new.items ≡ out.old.items ++ piece.now) }
-    ensures same { OnErr result (out.new.items ≡ out.old.items) }
-{
-    out.extend_from_slice(piece).map_err(|_| NoMemory)
-}
 
 /// Appends a label, and octets as hexadecimal digits in lower case.
-pub fn push_octets(
-    alloc: Global,
-    label: &[u8],
-    octets: &[u8],
-    line: &mut Vec<u8>,
-) -> Result<(), NoMemory>
+pub fn push_octets(label: &[u8], octets: &[u8], line: &mut Vec<u8>) -> Result<(), NoMemory>
     ensures { OnOk result (line.new.items ≡ line.old.items ++ (label.now ++ hex_text octets.now)) }
 {
-    let text = hex::encode(alloc, octets).map_err(|_| NoMemory)?;
     push(label, line)?;
-    push(text.as_bytes(), line)
+    push_hex(octets, line)
 }
 
 /// Appends a label, and a number in decimal digits.
 pub fn push_number(label: &[u8], number: u16, line: &mut Vec<u8>) -> Result<(), NoMemory>
     ensures { OnOk result (line.new.items ≡ line.old.items ++ (label.now ++ decimal number)) }
 {
-    let mut buffer = Buffer::new();
     push(label, line)?;
-    push(buffer.format(number).as_bytes(), line)
+    push_decimal(u64::from(number), line)
 }
 
 /// Appends a label, and a number of two octets in four hexadecimal digits.
-pub fn push_pair(
-    alloc: Global,
-    label: &[u8],
-    number: u16,
-    line: &mut Vec<u8>,
-) -> Result<(), NoMemory>
+pub fn push_pair(label: &[u8], number: u16, line: &mut Vec<u8>) -> Result<(), NoMemory>
     ensures { OnOk result (line.new.items ≡ line.old.items ++ (label.now ++ pair_word number)) }
 {
-    push_octets(alloc, label, &number.to_be_bytes(), line)
+    push_octets(label, &number.to_be_bytes(), line)
 }
 
 /// The word of a kind of PDU.
@@ -91,40 +71,22 @@ pub fn flags_text(segmented: bool, more: bool, report: bool) -> &'static [u8]
 }
 
 /// Appends the options that stand in a part of a header, in order.
-#[tactic(auto, unfolding(crate::specs::Shown::options_text))]
-pub fn push_options(alloc: Global, part: &[u8], line: &mut Vec<u8>) -> Result<(), NoMemory>
+#[tactic(auto, unfolding(crate::specs::Words::options_text))]
+pub fn push_options(part: &[u8], line: &mut Vec<u8>) -> Result<(), NoMemory>
     ensures { OnOk result (line.new.items ≡ line.old.items ++ options_text (parameters part.now)) }
 {
     let mut left = part;
-    while let Some((code, value, others)) = next_option(left) {
-        push_option(alloc, code, value, line)?;
+    while let Some((code, value, others)) = first_option(left) {
+        push_option(code, value, line)?;
         left = others;
     }
     Ok(())
 }
 
 /// Appends an option: its code and its value.
-fn push_option(alloc: Global, code: u8, value: &[u8], line: &mut Vec<u8>) -> Result<(), NoMemory>
+fn push_option(code: u8, value: &[u8], line: &mut Vec<u8>) -> Result<(), NoMemory>
     ensures { OnOk result (line.new.items ≡ line.old.items ++ option_text (record { code = code; value = value.now })) }
 {
-    push_octets(alloc, b" opt=", &[code], line)?;
-    push_octets(alloc, b":", value, line)
-}
-
-/// The code and the value of the first option, and the octets that follow it; none where no whole
-/// option stands there.
-fn next_option(part: &[u8]) -> Option<(u8, &[u8], &[u8])>
-    ensures none { IfNone result (parameters part.now ≡ []) }
-    ensures len { IfSome result (λ r. length part.now ≡ 2 + length r.1.now + length r.2.now) }
-    ensures options { IfSome result (λ r. parameters part.now ≡ record { code = r.0; value = r.1.now } ∷ parameters r.2.now) }
-{
-    let [code, size, rest @ ..] = part else {
-        return None;
-    };
-    let size = *size as usize;
-    if size > rest.len() {
-        return None;
-    }
-    let (value, others) = rest.split_at(size);
-    Some((*code, value, others))
+    push_octets(b" opt=", &[code], line)?;
+    push_octets(b":", value, line)
 }

@@ -1,5 +1,6 @@
 -- A decimal read digit by digit.
-use Rattle.std.proofs.Common.{◌≡◌, ℕ, suc, length, drop, get_or, drop-cons, ◌+◌, ◌-◌, ◌*◌, ◌^◌, ◌<◌, ◌≤◌, ◌&&◌, ◌⊎◌, inl, inr, nat_lt, if◌then◌else◌, List, [], ◌∷◌, fold, Option, Some, None, arith, refl, sym, ap, ◌∙◌, Bool, true, false}
+use Rattle.std.proofs.Common.{◌≡◌, ℕ, suc, length, drop, get_or, drop-cons, ◌+◌, ◌-◌, ◌*◌, ◌^◌, ◌<◌, ◌≤◌, ◌&&◌, inl, inr, nat_lt, if◌then◌else◌, List, [], ◌∷◌, fold, Option, Some, None, arith, refl, sym, ap, ◌∙◌, Bool, true, false}
+use Rattle.std.proofs.lemmas.Bool.{and_parts, and_right, cases_Bool}
 use Rattle.std.proofs.lemmas.Bool.Decides.{nat_tests}
 use Rattle.std.specs.List.{list_all}
 use Rattle.clnp_base.specs.Text.{is_digit, decimal_of}
@@ -13,17 +14,9 @@ value_after n cs = fold (λ m c. 10 * m + (c - 48)) n cs
 abbrev pub decimal_after : ℕ → List ℕ → Option ℕ
 decimal_after n cs = if list_all is_digit cs && nat_lt (value_after n cs) (2 ^ 64) then Some (value_after n cs) else None
 
-either : (b : Bool) → (b ≡ true) ⊎ (b ≡ false)
-either true = inl refl
-either false = inr refl
-
 pub value_after-ge : (n : ℕ) (cs : List ℕ) → n ≤ value_after n cs
 value_after-ge n [] = omega arith
 value_after-ge n (c ∷ cs) = omega (arith, value_after-ge (10 * n + (c - 48)) cs)
-
-both_false : (a b : Bool) → b ≡ false → (a && b) ≡ false
-both_false true b e = e
-both_false false b e = refl
 
 picked : (b : Bool) (n m : ℕ) → (if b then Some n else None) ≡ Some m → (b ≡ true) × (n ≡ m)
 picked true n m e = (refl, cc)
@@ -33,14 +26,10 @@ not_picked : (b : Bool) (n : ℕ) → (if b then Some n else None) ≡ None → 
 not_picked true n e = cc
 not_picked false n e = refl
 
-fst_true : (a b : Bool) → (a && b) ≡ true → a ≡ true
-fst_true true b e = refl
-fst_true false b e = cc
-
 pub decimal_after-some : (n c m : ℕ) (cs : List ℕ) → with_digit n c ≡ Some m → decimal_after n (c ∷ cs) ≡ decimal_after m cs
 decimal_after-some n c m cs e =
     let p = picked (is_digit c && nat_lt (10 * n + (c - 48)) (2 ^ 64)) (10 * n + (c - 48)) m e in
-    let d : is_digit c ≡ true = fst_true (is_digit c) (nat_lt (10 * n + (c - 48)) (2 ^ 64)) p.0 in
+    let d : is_digit c ≡ true = (and_parts (is_digit c) (nat_lt (10 * n + (c - 48)) (2 ^ 64)) p.0).0 in
     rw (d, p.1) refl
 
 too_high : (n k : ℕ) → nat_lt n (2 ^ 64) ≡ false → n ≤ k → nat_lt k (2 ^ 64) ≡ false
@@ -49,11 +38,11 @@ too_high n k e le = grind (arith, nat_tests)
 pub decimal_after-none : (n c : ℕ) (cs : List ℕ) → with_digit n c ≡ None → decimal_after n (c ∷ cs) ≡ None
 decimal_after-none n c cs e =
     let p = not_picked (is_digit c && nat_lt (10 * n + (c - 48)) (2 ^ 64)) (10 * n + (c - 48)) e in
-    elim (either (is_digit c)) [
+    elim (cases_Bool (is_digit c)) [
       | inl d ↦
           let f : nat_lt (10 * n + (c - 48)) (2 ^ 64) ≡ false = rw d at p in
           let g = too_high (10 * n + (c - 48)) (value_after (10 * n + (c - 48)) cs) f (value_after-ge (10 * n + (c - 48)) cs) in
-          rw (both_false (list_all is_digit (c ∷ cs)) (nat_lt (value_after n (c ∷ cs)) (2 ^ 64)) g) refl
+          rw (and_right (list_all is_digit (c ∷ cs)) (nat_lt (value_after n (c ∷ cs)) (2 ^ 64)) g) refl
       | inr d ↦ rw d refl
     ]
 

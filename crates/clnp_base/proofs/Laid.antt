@@ -2,6 +2,10 @@
 use Rattle.std.proofs.Common.{◌≡◌, ℕ, ◌+◌, ◌-◌, ◌≤◌, ◌++◌, List, length, take, drop, replicate, arith, ap, sym, ◌∙◌}
 use Rattle.std.proofs.Math.Seq.{drop-append_seam}
 use Rattle.std.proofs.lemmas.List.{append_assoc, drop-drop, drop-replicate, length-append, length-drop, length-replicate, length-take-le}
+use Rattle.std.proofs.lemmas.List.{drop_at, take-take}
+use Rattle.std.proofs.lemmas.Slice.{drop-put_mid, take-put_mid, take-put_mid_below}
+use borrow.Rule.Slice.PartMut.{put_mid}
+use Rattle.clnp_base.proofs.Lists.{take_drop_swap}
 use Rattle.clnp_base.specs.Inline.{IsInline}
 
 -- cells with a piece laid over them from an index on
@@ -44,3 +48,49 @@ inline-laid most len cells piece h room =
 
 pub inline-none : (most : ℕ) → most ≤ 255 → IsInline most 0 (replicate most 0)
 inline-none most few = record { within = omega arith; few = few; room = length-replicate {A = ℕ} most 0; zeros = ap (λ (k : ℕ). replicate k 0) (omega arith) }
+
+-- ---- a part that begins at an index was written by as many octets
+
+length-put : (at : ℕ) (cells piece : List ℕ) → at + length piece ≤ length cells → length (put_mid at (length piece) cells piece) ≡ length cells
+length-put at cells piece h =
+    omega (arith, length-append (take at cells) (piece ++ drop (length piece) (drop at cells)), length-append piece (drop (length piece) (drop at cells)), length-drop (length piece) (drop at cells), length-drop at cells, length-take-le at cells (omega arith))
+
+pub inline-put : (most len start : ℕ) (cells part : List ℕ) → IsInline most len cells → start ≤ len → length part ≡ len - start
+    → IsInline most len (put_mid start (len - start) cells part)
+inline-put most len start cells part h within size =
+    let w = h.within in
+    let r = h.room in
+    record {
+      within = h.within;
+      few = h.few;
+      room = ap (λ k. length (put_mid start k cells part)) (sym size) ∙ length-put start cells part (omega arith) ∙ h.room;
+      zeros = drop-put_mid start (len - start) cells part len (omega arith) (omega arith) size ∙ h.zeros;
+    }
+
+-- as many octets as there were
+pub part_size : (most len start : ℕ) (cells part : List ℕ) → IsInline most len cells → start ≤ len
+    → length part ≡ length (take (len - start) (drop start cells)) → length part ≡ len - start
+part_size most len start cells part h within e =
+    let w = h.within in
+    let r = h.room in
+    e ∙ length-take-le (len - start) (drop start cells) (omega (arith, length-drop start cells))
+
+pub part_of : (start len : ℕ) (cells : List ℕ) → start ≤ len → take (len - start) (drop start cells) ≡ drop start (take len cells)
+part_of start len cells within = take_drop_swap start len cells within
+
+pub front_of : (most len start : ℕ) (cells part : List ℕ) → IsInline most len cells → start ≤ len
+    → take start (take len (put_mid start (len - start) cells part)) ≡ take start (take len cells)
+front_of most len start cells part h within =
+    let w = h.within in
+    let r = h.room in
+    take-take start len (put_mid start (len - start) cells part) within
+    ∙ take-put_mid_below start (len - start) cells part start (omega arith) (omega arith)
+    ∙ sym (take-take start len cells within)
+
+pub behind_front : (most len start : ℕ) (cells part : List ℕ) → IsInline most len cells → start ≤ len → length part ≡ len - start
+    → drop start (take len (put_mid start (len - start) cells part)) ≡ part
+behind_front most len start cells part h within size =
+    let w = h.within in
+    let r = h.room in
+    ap (drop start) (take-put_mid start (len - start) cells part len (omega arith) (omega arith))
+    ∙ drop_at (take start cells) part start (length-take-le start cells (omega arith))

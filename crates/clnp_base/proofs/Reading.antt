@@ -1,12 +1,9 @@
 -- Lines and words, cut where the reader cuts them.
-use Rattle.std.proofs.Common.{◌≡◌, ◌≢◌, ℕ, ◌+◌, ◌<◌, ◌≤◌, ◌==◌, ◌⊎◌, inl, inr, List, [], ◌∷◌, ◌++◌, length, arith, take, drop, sym, ap, ◌∙◌, refl, Bool, true, false, add-one, zero, suc}
+use Rattle.std.proofs.Common.{◌≡◌, ◌≢◌, ℕ, ◌+◌, ◌<◌, ◌≤◌, ◌==◌, inl, inr, List, [], ◌∷◌, ◌++◌, length, arith, take, drop, sym, ap, ◌∙◌, refl, true, false, add-one, zero, suc}
+use Rattle.std.proofs.lemmas.Bool.{cases_Bool}
 use Rattle.std.proofs.lemmas.Grind.{common_steps}
 use Rattle.clnp_base.specs.Text.{lines_of, words_of, onto_first, begins_with}
 use Rattle.clnp_base.specs.Cuts.{index_of, without_return}
-
-either : (b : Bool) → (b ≡ true) ⊎ (b ≡ false)
-either true = inl refl
-either false = inr refl
 
 pub index_of-le : (w : ℕ) (xs : List ℕ) → index_of w xs ≤ length xs
 index_of-le w [] = omega arith
@@ -33,10 +30,10 @@ lines_of-here : (c : ℕ) (cs : List ℕ) (n : ℕ) → (c == 10) ≡ true → n
 lines_of-here c cs n t z = rw (z, t) refl
 
 lines_of-before : (c d : ℕ) (ds : List ℕ) (n : ℕ) → (c == 10) ≡ false → (d == 10) ≡ true → n ≡ 1 → lines_of (c ∷ (d ∷ ds)) ≡ without_return (take n (c ∷ (d ∷ ds))) ∷ lines_of (drop (n + 1) (c ∷ (d ∷ ds)))
-lines_of-before c d ds n f t z = rw z (elim (either (c == 13)) [ inl a ↦ simp (f, t, a) | inr b ↦ simp (f, t, b) ])
+lines_of-before c d ds n f t z = rw z (elim (cases_Bool (c == 13)) [ inl a ↦ simp (f, t, a) | inr b ↦ simp (f, t, b) ])
 
 lines_of-next : (c d : ℕ) (ds : List ℕ) → (c == 10) ≡ false → (d == 10) ≡ false → lines_of (c ∷ (d ∷ ds)) ≡ onto_first c (lines_of (d ∷ ds))
-lines_of-next c d ds f g = elim (either (c == 13)) [ inl a ↦ rw (f, a, g) refl | inr b ↦ rw (f, b) refl ]
+lines_of-next c d ds f g = elim (cases_Bool (c == 13)) [ inl a ↦ rw (f, a, g) refl | inr b ↦ rw (f, b) refl ]
 
 lines_of-inside : (c d : ℕ) (ds : List ℕ) (n m : ℕ) → (c == 10) ≡ false → (d == 10) ≡ false → 0 < m → n ≡ m + 1
     → lines_of (d ∷ ds) ≡ without_return (take m (d ∷ ds)) ∷ lines_of (drop (m + 1) (d ∷ ds))
@@ -48,14 +45,14 @@ lines_of-inside c d ds n m f g p e ih =
 pub lines_of-at : (xs : List ℕ) (n : ℕ) → index_of 10 xs ≡ n → n < length xs → lines_of xs ≡ without_return (take n xs) ∷ lines_of (drop (n + 1) xs)
 lines_of-at [] n e h = absurd (omega arith)
 lines_of-at (c ∷ []) n e h =
-    elim (either (c == 10)) [
+    elim (cases_Bool (c == 10)) [
       | inl t ↦ lines_of-here c [] n t (sym e ∙ index_of-here 10 c [] t)
       | inr f ↦ let z = index_of-next 10 c [] f in absurd (omega (arith, e, z, h))
     ]
 lines_of-at (c ∷ (d ∷ ds)) n e h =
-    elim (either (c == 10)) [
+    elim (cases_Bool (c == 10)) [
       | inl t ↦ lines_of-here c (d ∷ ds) n t (sym e ∙ index_of-here 10 c (d ∷ ds) t)
-      | inr f ↦ elim (either (d == 10)) [
+      | inr f ↦ elim (cases_Bool (d == 10)) [
         | inl t ↦ lines_of-before c d ds n f t (sym e ∙ (index_of-next 10 c (d ∷ ds) f ∙ ap (λ (i : ℕ). i + 1) (index_of-here 10 d ds t)))
         | inr g ↦
             lines_of-inside c d ds n (index_of 10 (d ∷ ds)) f g (omega (arith, index_of-next 10 d ds g))
@@ -94,7 +91,7 @@ words_of-inside c d ds n m f g e ih =
 pub words_of-at : (c : ℕ) (cs : List ℕ) (n : ℕ) → (c == 32) ≡ false → index_of 32 (c ∷ cs) ≡ n → words_of (c ∷ cs) ≡ take n (c ∷ cs) ∷ words_of (drop n (c ∷ cs))
 words_of-at c [] n f e = let z : n ≡ 1 = sym e ∙ index_of-next 32 c [] f in rw z (rw f refl)
 words_of-at c (d ∷ ds) n f e =
-    elim (either (d == 32)) [
+    elim (cases_Bool (d == 32)) [
       | inl t ↦ words_of-end c d ds n f t (sym e ∙ (index_of-next 32 c (d ∷ ds) f ∙ ap (λ (i : ℕ). i + 1) (index_of-here 32 d ds t)))
       | inr g ↦
           words_of-inside c d ds n (index_of 32 (d ∷ ds)) f g (sym e ∙ index_of-next 32 c (d ∷ ds) f)

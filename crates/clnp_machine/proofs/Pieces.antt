@@ -13,7 +13,7 @@ use Rattle.segmenter.specs.Range.{Range}
 use Rattle.segmenter.specs.Cut as segmenter
 use Rattle.segmenter.specs.Cut.{Piece, data_room, ranges, segment, segments, uncut}
 use Rattle.segmenter.proofs.Claims.{segments_tile}
-use Rattle.segmenter.proofs.Lists.{length_part, part_of_part}
+use Rattle.clnp_base.proofs.Lists.{length_part, part_of_part}
 use Rattle.segmenter.proofs.Segments.{segment_is_pdu}
 use Rattle.segmenter.proofs.Tiles.{tiles_within}
 use Rattle.clnp_machine.specs.Steps.{AreCarriable}

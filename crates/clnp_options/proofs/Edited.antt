@@ -18,9 +18,7 @@ use Rattle.clnp_options.proofs.Places.{is_some-place_of}
 use Rattle.clnp_options.proofs.Located.{value_of-append, value_of-other, value_of-same, value_of-nil}
 use Rattle.clnp_options.proofs.Values.{quality_form_of, marked_form, length-marked, route_form_of, advanced_form, length-advanced, title_at-leads, recording_form_of, recorded_form, length-recorded}
 use Rattle.clnp_options.proofs.Agree.{Differs, AllPairs-first, AllPairs-others, forms_of, well_formed_from, spells_of, accepts_from, fits_kind_of, reason_fits}
-
-some_none : (v : List ℕ) → Some v ≡ None → ⊥
-some_none v e = cc
+use Rattle.std.proofs.lemmas.Option.{none-some}
 
 -- where no option has the code, nothing is changed
 pub edited-none : (code : ℕ) (change : List ℕ → List ℕ) (os : List Parameter) → value_of code os ≡ None → edited code change os ≡ os
@@ -28,7 +26,7 @@ unfolding edited value_of
 edited-none code change [] h = refl
 edited-none code change (o ∷ os) h =
     elim (cases_Bool (eqb o.code code)) [
-      | inl t ↦ absurd (some_none o.value (sym (rw t refl) ∙ h))
+      | inl t ↦ absurd (none-some o.value (sym (sym (rw t refl) ∙ h)))
       | inr f ↦ rw f (ap (λ t. o ∷ t) (edited-none code change os (rw f at h)))
     ]
 

@@ -8,12 +8,7 @@ use Rattle.clnp_options.specs.declared.judge.OptionRefusal.{OptionRefusal}
 use Rattle.clnp_options.proofs.Places.{is_some-place_of}
 use Rattle.clnp_options.specs.declared.reasons.Reason.{Reason}
 use Rattle.clnp_options.specs.declared.reasons.Reason.TheVariants.{DuplicateOption, HeaderSyntaxError, SourceRoutingSyntaxError, UnsupportedOption, UnsupportedSecurity}
-
-pub option_or-some : {A : Type 0} (a b : Option A) (x : A) → a ≡ Some x → option_or a b ≡ Some x
-option_or-some a b x e = rw e refl
-
-pub option_or-none : {A : Type 0} (a b o : Option A) → a ≡ None → b ≡ o → option_or a b ≡ o
-option_or-none a b o e h = rw e h
+use Rattle.clnp_base.proofs.Choices.{is_some-option_or, option_or-none, option_or-some}
 
 -- what a rule says at the place that was found
 pub at_rule-found : (rule : ℕ) (cause : Reason) (found place : Option ℕ) (o : Option OptionRefusal) → found ≡ place → at_rule rule cause found ≡ o → at_rule rule cause place ≡ o
@@ -24,12 +19,6 @@ is_some-at_rule rule cause None None h = refl
 is_some-at_rule rule cause (Some x) (Some y) h = refl
 is_some-at_rule rule cause (Some x) None h = h
 is_some-at_rule rule cause None (Some y) h = h
-
-pub is_some-option_or : {A : Type 0} (a b c d : Option A) → is_some a ≡ is_some b → is_some c ≡ is_some d → is_some (option_or a c) ≡ is_some (option_or b d)
-is_some-option_or None None c d h k = k
-is_some-option_or (Some x) (Some y) c d h k = refl
-is_some-option_or (Some x) None c d h k = cc
-is_some-option_or None (Some y) c d h k = cc
 
 pub same-place_of : (test : Parameter → Bool) (p q : ℕ) (os : List Parameter) → is_some (place_of test p os) ≡ is_some (place_of test q os)
 same-place_of test p q os = is_some-place_of test p os ∙ sym (is_some-place_of test q os)

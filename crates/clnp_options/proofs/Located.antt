@@ -8,6 +8,7 @@ use Rattle.clnp_options.specs.Parameter.{Parameter, spelling, spelled, parameter
 use Rattle.clnp_options.specs.Edits.{value_of}
 use Rattle.clnp_options.specs.Located.{StandsAt}
 use Rattle.clnp_options.proofs.Parts.{spelled-append, spelled-cons, spelled-nil}
+use Rattle.std.proofs.lemmas.Option.{none-some}
 
 -- the options before `rest` have another code
 pub record SoFar (part : List ℕ) (code : ℕ) (rest : List ℕ) : Type 0 where
@@ -25,12 +26,9 @@ unfolding value_of
 value_of-append code [] ps h = refl
 value_of-append code (o ∷ os) ps h =
     elim (cases_Bool (eqb o.code code)) [
-      | inl t ↦ absurd (some_none o.value (sym (rw t refl) ∙ h))
+      | inl t ↦ absurd (none-some o.value (sym (sym (rw t refl) ∙ h)))
       | inr f ↦ rw f (value_of-append code os ps (rw f at h))
     ]
-  where
-    some_none : (v : List ℕ) → Some v ≡ None → ⊥
-    some_none v e = cc
 
 pub value_of-other : (code : ℕ) (o : Parameter) (os : List Parameter) → o.code ≢ code → value_of code (o ∷ os) ≡ value_of code os
 unfolding value_of

@@ -1,7 +1,6 @@
 -- The octets of a list of options, with one option behind the others.
-use Rattle.std.proofs.Common.{◌≡◌, ◌∙◌, sym, ap, subst, refl, ℕ, ◌+◌, ◌-◌, ◌≤◌, List, [], ◌∷◌, ◌++◌, length, take, drop, replicate, arith, length-append, append_assoc}
-use Rattle.std.proofs.lemmas.List.{append-nil, take_at, drop_at, length-replicate, drop-replicate}
-use Rattle.std.proofs.Math.Seq.{drop-append-add}
+use Rattle.std.proofs.Common.{◌≡◌, ◌∙◌, sym, ap, ℕ, ◌+◌, List, [], ◌∷◌, ◌++◌, length, arith, length-append, append_assoc}
+use Rattle.std.proofs.lemmas.List.{append-nil}
 use Rattle.clnp_options.specs.Parameter.{Parameter, spelling, spelled, parameters}
 use Rattle.clnp_options.specs.Grammar.{Forms}
 use Rattle.clnp_options.specs.Rules.{IsWellFormed, AreWellFormed}

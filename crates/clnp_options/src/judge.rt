@@ -41,7 +41,11 @@ pub fn check(part: &[u8], first: u8, is_report: bool) -> Result<(), OptionRefusa
     ensures well_formed { OnOk result (IsWellFormed part.now) }
 {
     check_form(part, first)?;
-    at_rule(20, Reason::HeaderSyntaxError, place_of_reason(part, first, is_report))
+    at_rule(
+        20,
+        Reason::HeaderSyntaxError,
+        place_of_reason(part, first, is_report),
+    )
 }
 
 /// The rules that don't depend on the kind of the PDU, G14 to G19.
@@ -51,14 +55,26 @@ fn check_form(part: &[u8], first: u8) -> Result<(), OptionRefusal>
 {
     at_rule(14, Reason::HeaderSyntaxError, place_of_unfit(part, first))?;
     at_rule(15, Reason::DuplicateOption, place_of_repeat(part, first))?;
-    at_rule(16, Reason::UnsupportedOption, place_of(Test::Unknown, part, first))?;
+    at_rule(
+        16,
+        Reason::UnsupportedOption,
+        place_of(Test::Unknown, part, first),
+    )?;
     at_rule(
         17,
         Reason::UnsupportedSecurity,
         place_of(Test::Security, part, first),
     )?;
-    at_rule(18, Reason::SourceRoutingSyntaxError, place_of(Test::Route, part, first))?;
-    at_rule(19, Reason::HeaderSyntaxError, place_of(Test::Form, part, first))
+    at_rule(
+        18,
+        Reason::SourceRoutingSyntaxError,
+        place_of(Test::Route, part, first),
+    )?;
+    at_rule(
+        19,
+        Reason::HeaderSyntaxError,
+        place_of(Test::Form, part, first),
+    )
 }
 
 /// Refuses by this rule where there is a place at which it is broken.
@@ -92,8 +108,9 @@ fn place_of(test: Test, part: &[u8], first: u8) -> Option<u8>
     None
 }
 
-/// The place of the first octet that isn't of a whole option.
-fn place_of_unfit(part: &[u8], first: u8) -> Option<u8>
+/// The place of the first octet that isn't of a whole option, where the part's first octet has place
+/// `first`; none where whole options fill the part.
+pub fn place_of_unfit(part: &[u8], first: u8) -> Option<u8>
     requires { first + length part.now ≤ 255 }
     ensures { result ≡ rules.place_of_unfit first part.now }
 {

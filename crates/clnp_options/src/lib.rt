@@ -13,7 +13,7 @@ mod read;
 mod reasons;
 
 pub use edit::{advance_route, level, mark_congestion, record_title, route_target};
-pub use judge::{OptionRefusal, check};
+pub use judge::{OptionRefusal, check, place_of_unfit};
 pub use kinds::{OptionRef, Options, walk};
 pub use list::{OptionList, OptionTooLong};
 pub use read::first_option;

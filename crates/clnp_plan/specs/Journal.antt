@@ -1,5 +1,6 @@
 -- The lines of a journal, and their text.
 use Rattle.std.specs.Prelude.{ℕ, List, [], ◌∷◌, ◌++◌, codes, Option, None, Some}
+use Rattle.std.specs.List.{flat_map}
 use Rattle.std.specs.Fmt.{decimal}
 use Rattle.nsap.specs.Text.{hex_text}
 use Rattle.nsap.specs.declared.target.Target.{Target}
@@ -44,24 +45,31 @@ target_word (System snpa) = hex_text snpa
 target_word EndSystems = codes "es"
 target_word Routers = codes "is"
 
-abbrev pub note_text : Note → List ℕ
-note_text (Sent kind unit id from to len) =
-    codes "sent " ++ (kind_word kind ++ (codes " " ++ (decimal unit ++ (codes " " ++ (identifier_word id ++ (codes " "
-    ++ (hex_text from ++ (codes " " ++ (hex_text to ++ (codes " " ++ decimal len))))))))))
-note_text (Refused why value) = codes "refused " ++ (why_word why ++ (codes " " ++ decimal value))
-note_text (Got from to octets) = codes "got " ++ (hex_text from ++ (codes " " ++ (hex_text to ++ (codes " " ++ octets_word octets))))
-note_text (Discard reason place) = codes "drop " ++ (octet_word reason ++ (codes " " ++ octet_word place))
-note_text (Held id offset held) =
-    codes "held " ++ (hex_text (pair_of id) ++ (codes " " ++ (decimal offset ++ (codes " " ++ decimal held))))
-note_text (Repeat id offset) = codes "repeat " ++ (hex_text (pair_of id) ++ (codes " " ++ decimal offset))
-note_text (Crowded held size) = codes "crowded " ++ (decimal held ++ (codes " " ++ decimal size))
-note_text (Many kept) = codes "many " ++ decimal kept
-note_text (NoSlot live) = codes "noslot " ++ decimal live
-note_text (Interference id) = codes "interference " ++ hex_text (pair_of id)
-note_text (Expired id held) = codes "expired " ++ (hex_text (pair_of id) ++ (codes " " ++ decimal held))
-note_text (NotMine to) = codes "notmine " ++ hex_text to
-note_text Alien = codes "alien"
-note_text Restart = codes "restart"
+-- a word and the space before it
+abbrev pub behind_space : List ℕ → List ℕ
+behind_space word = codes " " ++ word
+
+-- a line: its first word and the others, separated by one space, and the line's end
+abbrev pub line_of : List ℕ → List (List ℕ) → List ℕ
+line_of first others = first ++ (flat_map behind_space others ++ codes "\n")
+
+-- the words of a line behind the moment and the system's name
+abbrev pub note_words : Note → List (List ℕ)
+note_words (Sent kind unit id from to len) =
+    codes "sent" ∷ kind_word kind ∷ decimal unit ∷ identifier_word id ∷ hex_text from ∷ hex_text to ∷ decimal len ∷ []
+note_words (Refused why value) = codes "refused" ∷ why_word why ∷ decimal value ∷ []
+note_words (Got from to octets) = codes "got" ∷ hex_text from ∷ hex_text to ∷ octets_word octets ∷ []
+note_words (Discard reason place) = codes "drop" ∷ octet_word reason ∷ octet_word place ∷ []
+note_words (Held id offset held) = codes "held" ∷ hex_text (pair_of id) ∷ decimal offset ∷ decimal held ∷ []
+note_words (Repeat id offset) = codes "repeat" ∷ hex_text (pair_of id) ∷ decimal offset ∷ []
+note_words (Crowded held size) = codes "crowded" ∷ decimal held ∷ decimal size ∷ []
+note_words (Many kept) = codes "many" ∷ decimal kept ∷ []
+note_words (NoSlot live) = codes "noslot" ∷ decimal live ∷ []
+note_words (Interference id) = codes "interference" ∷ hex_text (pair_of id) ∷ []
+note_words (Expired id held) = codes "expired" ∷ hex_text (pair_of id) ∷ decimal held ∷ []
+note_words (NotMine to) = codes "notmine" ∷ hex_text to ∷ []
+note_words Alien = codes "alien" ∷ []
+note_words Restart = codes "restart" ∷ []
 
 -- A line: what a system notes, a frame that it transmits as a copy with a number on a port, a copy that isn't there
 -- for it to be given, or one that is too old to be given.
@@ -71,18 +79,14 @@ pub data Line : Type 0 where
   Void : (now : ℕ) (name : List ℕ) (copy : ℕ) → Line
   Late : (now : ℕ) (name : List ℕ) (copy : ℕ) → Line
 
--- the moment and the system's name, with which each line begins
-abbrev pub line_front : ℕ → List ℕ → List ℕ
-line_front now name = decimal now ++ (codes " " ++ (name ++ codes " "))
-
+-- each begins with the moment and the system's name
 abbrev pub line_text : Line → List ℕ
-line_text (Noted now name note) = line_front now name ++ (note_text note ++ codes "\n")
+line_text (Noted now name note) = line_of (decimal now) (name ∷ note_words note)
 line_text (Transmitted now name copy port target frame) =
-    line_front now name ++ (codes "tx " ++ (decimal copy ++ (codes " " ++ (decimal port ++ (codes " "
-    ++ (target_word target ++ (codes " " ++ (octets_word frame ++ codes "\n"))))))))
-line_text (Void now name copy) = line_front now name ++ (codes "void " ++ (decimal copy ++ codes "\n"))
-line_text (Late now name copy) = line_front now name ++ (codes "late " ++ (decimal copy ++ codes "\n"))
+    line_of (decimal now) (name ∷ codes "tx" ∷ decimal copy ∷ decimal port ∷ target_word target ∷ octets_word frame ∷ [])
+line_text (Void now name copy) = line_of (decimal now) (name ∷ codes "void" ∷ decimal copy ∷ [])
+line_text (Late now name copy) = line_of (decimal now) (name ∷ codes "late" ∷ decimal copy ∷ [])
 
 -- the last line of a journal: the clock and the number of copies
 abbrev pub end_text : ℕ → ℕ → List ℕ
-end_text now copies = codes "end " ++ (decimal now ++ (codes " " ++ (decimal copies ++ codes "\n")))
+end_text now copies = line_of (codes "end") (decimal now ∷ decimal copies ∷ [])

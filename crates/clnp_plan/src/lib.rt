@@ -6,8 +6,6 @@ mod config;
 mod journal;
 mod note;
 mod output;
-#[cfg(test)]
-mod tests;
 
 pub use ask::{Ask, SendRefusal};
 pub use config::{Limits, PortConfig, Role, Settings, SystemConfig};

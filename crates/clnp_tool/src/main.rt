@@ -3,63 +3,29 @@
 #![tactic(auto)]
 
 mod arguments;
-mod block;
-mod check;
-#[cfg(test)]
-mod check_tests;
-mod command;
-mod fault;
-mod help;
-mod show;
-mod status;
-#[cfg(test)]
-mod tests;
-#[cfg(test)]
-mod time_tests;
-mod top;
 
 use crate::arguments::words;
-use crate::fault::Fault;
-use crate::help::information;
-use crate::status::Status;
-use crate::top::clnp_main;
-use clnp_base::{NoMemory, StdSink, StdSource, write_all};
+use clnp_base::{NoMemory, StdSink, StdSource};
+use clnp_commands::Status;
+use clnp_program::{end, run};
 use std::io;
 use std::process::ExitCode;
 
 fn main(rt: HostRuntime) -> ExitCode {
-    let status = match words(&rt) {
-        Ok(words) => answer(&rt, words.as_slice()),
-        Err(NoMemory) => Status::NoMemory,
+    let mut errors = StdSink::new(rt.stderr());
+    let number = match words(&rt) {
+        Ok(words) => {
+            let mut source = StdSource::new(rt.reader());
+            let mut sink = StdSink::new(io::writer(&rt));
+            run(
+                rt.alloc(),
+                words.as_slice(),
+                &mut source,
+                &mut sink,
+                &mut errors,
+            )
+        }
+        Err(NoMemory) => end(Status::NoMemory, &mut errors),
     };
-    report(&rt, status);
-    ExitCode::from(status.exit_number())
-}
-
-/// Answers the words on the machine's standard input and output.
-fn answer<R: Input + Print + AllocGlobal>(rt: &R, words: &[String]) -> Status {
-    let mut sink = StdSink::new(io::writer(rt));
-    if let Some(text) = information(words) {
-        return match write_all(&mut sink, text.as_bytes()) {
-            Ok(()) => Status::Done,
-            Err(_) => Status::WriteFault,
-        };
-    }
-    let mut source = StdSource::new(rt.reader());
-    clnp_main(rt.alloc(), words, &mut source, &mut sink)
-}
-
-/// Says on standard error what went wrong, if anything did.
-///
-/// Where standard error fails too, the exit number alone tells.
-fn report(rt: &impl Eprint, status: Status) {
-    let Some(fault) = Fault::of(status) else {
-        return;
-    };
-    let _ = eprintln!(rt; "clnp: {fault}");
-    if let Fault::BadWords { .. } = fault {
-        let _ = eprintln!(rt;
-            "clnp: wanted: clnp sim < SCENARIO, clnp show < CAPTURE, or clnp check < VECTORS"
-        );
-    }
+    ExitCode::from(number)
 }

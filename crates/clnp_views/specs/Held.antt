@@ -1,6 +1,5 @@
 -- Octets that lie at the front of 254 cells, with zeros behind them.
 use Rattle.std.specs.Prelude.{◌≡◌, ℕ, ◌-◌, ◌≤◌, ◌++◌, List, length, take, drop, replicate}
-use Rattle.std.proofs.Common.{ap, sym, ◌∙◌}
 use Rattle.std.proofs.lemmas.List.{length-take-le, take-append-drop}
 
 -- the first `len` of 254 cells are the octets, and the others are 0

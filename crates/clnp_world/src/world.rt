@@ -44,7 +44,6 @@ impl Model for World {
     ghost Value = { WorldState };
 
     ghost use Rattle.clnp_world.specs.Stands.{IsSound};
-
     ghost use Rattle.clnp_world.specs.Parts.{state_of};
 
     ghost view = { λ w. record { network = state_of w.network; spent = w.spent } };
@@ -100,7 +99,10 @@ impl World {
         if octets >= MOST_WEIGHT {
             return Err(WorldRefusal::WorldFull { octets });
         }
-        match self.network.write_move(alloc, scenario, mv, &mut self.lines, journal) {
+        match self
+            .network
+            .write_move(alloc, scenario, mv, &mut self.lines, journal)
+        {
             Ok(()) => Ok(()),
             Err(NoMemory) => {
                 self.spent = true;

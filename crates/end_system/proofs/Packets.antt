@@ -60,7 +60,7 @@ same_more v (Some part) e h =
     ap (λ (n : ℕ). nat_lt (n + length v.body) (total_of v.segmentation - header_length (value_with (packet_of v) false))) (ap (λ (o : Option SegmentationPart). offset_of o) e)
     ∙ ap (λ (n : ℕ). nat_lt (part.offset + length v.body) (n - header_length (value_with (packet_of v) false))) (ap (λ (o : Option SegmentationPart). total_of o) e)
     ∙ ap (λ (n : ℕ). nat_lt (part.offset + length v.body) (part.total - n)) (same_header v)
-    ∙ sym (more_is v.more (part.offset + length v.body) (part.total - header_length v) h.within h.ends)
+    ∙ sym (more_is v.more (part.offset + length v.body) (part.total - header_length v) h.range.within h.range.ends)
 
 same_body : (v : PduValue) → take (length v.body) (drop (offset_of v.segmentation - offset_of v.segmentation) v.body) ≡ v.body
 same_body v =

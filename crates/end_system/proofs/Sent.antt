@@ -13,7 +13,7 @@ use Rattle.segmenter.specs.declared.cuts.Cut.{Cut}
 use Rattle.segmenter.specs.declared.cuts.NotPermitted.{NotPermitted}
 use Rattle.segmenter.specs.Cut as segmenter
 use Rattle.segmenter.specs.Cut.{Piece, given}
-use Rattle.segmenter.proofs.Lists.{part_of_part}
+use Rattle.clnp_base.proofs.Lists.{part_of_part}
 use Rattle.clnp_plan.specs.declared.note.Note.TheVariants.{Discard}
 use Rattle.clnp_plan.specs.declared.output.Output.{Output}
 use Rattle.clnp_plan.specs.declared.output.Output.TheVariants.{Note as Noted}

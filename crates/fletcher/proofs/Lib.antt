@@ -3,3 +3,4 @@ pub mod Numbers
 pub mod SumLemmas
 mod Worked
 pub mod Writes
+pub mod Test

@@ -1,6 +1,6 @@
 -- The checksum of a header (ISO/IEC 8473, RFC 994, section 6.11 and its annex on the algorithms; ISO 9542 makes it alike).
 -- A header is the list of its octets. As the standard does, places are counted from 1; the checksum stands in octets 8 and 9.
-use Rattle.std.specs.Prelude.{◌≡◌, ◌≢◌, ℕ, ◌+◌, ◌-◌, ◌*◌, ◌%◌, ◌==◌, if◌then◌else◌, ◌⊎◌, List, [], ◌∷◌, length, sum, slice_index}
+use Rattle.std.specs.Prelude.{◌≡◌, ◌≢◌, ℕ, ◌+◌, ◌-◌, ◌*◌, ◌%◌, ◌==◌, ◌&&◌, not, Bool, if◌then◌else◌, ◌⊎◌, List, [], ◌∷◌, length, sum, slice_index}
 use Rattle.std.specs.List.{slice_set}
 
 -- the octet at a place
@@ -22,6 +22,12 @@ pub record IsSealed (head : List ℕ) : Type 0 where
 -- the checksum is not in use, or it seals the header; exactly one of octets 8 and 9 zero is wrong
 abbrev pub IsRight : List ℕ → Type 0
 IsRight head = ((octet head 8 ≡ 0) × (octet head 9 ≡ 0)) ⊎ IsSealed head
+
+-- the same as a test
+abbrev pub has_right_checksum : List ℕ → Bool
+has_right_checksum head =
+    if octet head 8 == 0 then octet head 9 == 0
+    else (not (octet head 9 == 0) && ((sum head % 255 == 0) && (weighted_sum head % 255 == 0)))
 
 -- the checksum is in use after the change, and both sums are what they were, modulo 255
 pub record KeepsSums (old new : List ℕ) : Type 0 where

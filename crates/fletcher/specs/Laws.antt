@@ -1,5 +1,5 @@
 -- What holds of the definitions of the checksum for all headers.
-use Rattle.std.specs.Prelude.{◌≡◌, ℕ, ◌<◌, List}
+use Rattle.std.specs.Prelude.{◌≡◌, ℕ, ◌<◌, Bool, true, false, List}
 use Rattle.fletcher.specs.Checksum.{octet, IsSealed, with_checksum, sealed}
 
 -- For given other octets exactly one pair of octets 8 and 9 seals a header: the pair that `sealed` writes.
@@ -12,3 +12,8 @@ pub record IsSealedOnce (head : List ℕ) : Type 0 where
 -- `other` is the same header but for octets 8 and 9
 abbrev pub SharesOthers : List ℕ → List ℕ → Type 0
 SharesOthers head other = other ≡ with_checksum head (octet other 8) (octet other 9)
+
+-- the checksum is in use and right, or it is not in use, as is wanted
+abbrev pub HasChecksum : Bool → List ℕ → Type 0
+HasChecksum true head = IsSealed head
+HasChecksum false head = (octet head 8 ≡ 0) × (octet head 9 ≡ 0)

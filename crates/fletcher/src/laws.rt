@@ -1,8 +1,8 @@
 //! Laws of the checksum. Each holds for every header, and its function does nothing.
 
-ghost use Rattle.std.specs.Prelude.{◌≡◌, ◌≢◌, ℕ, ◌<◌, ◌≤◌, List, length, slice_index};
-ghost use Rattle.fletcher.specs.Checksum.{octet, IsSealed, with_checksum, without_checksum, sealed};
-ghost use Rattle.fletcher.specs.Laws.{IsSealedOnce, SharesOthers};
+ghost use Rattle.std.specs.Prelude.{◌≡◌, ◌≢◌, ◌↔◌, ℕ, ◌<◌, ◌≤◌, Bool, List, IsTrue, length, slice_index};
+ghost use Rattle.fletcher.specs.Checksum.{octet, IsRight, IsSealed, has_right_checksum, with_checksum, without_checksum, sealed};
+ghost use Rattle.fletcher.specs.Laws.{HasChecksum, IsSealedOnce, SharesOthers};
 
 /// For given other octets exactly one pair of octets 8 and 9 seals a header.
 pub fn one_checksum()
@@ -22,4 +22,15 @@ pub fn sealed_keeps_others()
     ensures others { (head : List ℕ) (i : ℕ) → i ≢ 7 → i ≢ 8 → slice_index (sealed head) i ≡ slice_index head i }
     ensures bare { (head : List ℕ) → without_checksum (sealed head) ≡ without_checksum head }
     ensures free { (head : List ℕ) (x y : ℕ) → sealed (with_checksum head x y) ≡ sealed head }
+{}
+
+/// A header with the checksum that it has is that header.
+pub fn checksum_stays()
+    ensures { (head : List ℕ) → with_checksum head (octet head 8) (octet head 9) ≡ head }
+{}
+
+/// The test of a right header says what a right header is: one that has a checksum, or has none.
+pub fn the_test_is_the_rule()
+    ensures test { (head : List ℕ) → IsTrue (has_right_checksum head) ↔ IsRight head }
+    ensures either { (head : List ℕ) → IsRight head ↔ ((is_sealed : Bool) × HasChecksum is_sealed head) }
 {}

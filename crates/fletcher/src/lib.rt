@@ -118,6 +118,3 @@ fn octet_of(number: usize) -> u8
         residue => residue as u8,
     }
 }
-
-#[cfg(test)]
-mod tests;

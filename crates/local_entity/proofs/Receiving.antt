@@ -169,8 +169,8 @@ module _ (frame : List ℕ) (pdu : Pdu) (seg : SegPart) (head : pdu.head.now ≡
       let there = has_part pdu.seg pdu.more seg some in
       let fits = fits_by pdu.seg (pdu_value pdu) begins.spells.pdu.segmentation there.0 in
       let h = head_length in
-      let within = fits.within in
-      let holds = fits.holds_header in
+      let within = fits.range.within in
+      let holds = fits.range.holds_header in
       record {
         has_header = omega arith;
         few = few;
@@ -178,6 +178,6 @@ module _ (frame : List ℕ) (pdu : Pdu) (seg : SegPart) (head : pdu.head.now ≡
         within = omega arith;
         is_part = (let l : length pdu.body.now < seg.total - header_length (pdu_value pdu)
             = less seg.offset (length pdu.body.now) (seg.total - header_length (pdu_value pdu)) within
-            (λ zero_offset whole. not_all seg.offset pdu.more there.1 zero_offset (fits.ends.1 whole)) in omega arith);
+            (λ zero_offset whole. not_all seg.offset pdu.more there.1 zero_offset (fits.range.ends.1 whole)) in omega arith);
         alive = alive;
       }

@@ -1,11 +1,10 @@
 -- What holds of a header that breaks no rule, rule by rule.
-use Rattle.std.proofs.Common.{◌≡◌, ◌≢◌, ◌⊎◌, ℕ, ◌+◌, ◌-◌, ◌≤◌, ◌==◌, ◌&&◌, not, Bool, true, false, if◌then◌else◌, List, length, Option, Some, None, is_some, inl, inr, refl, arith}
+use Rattle.std.proofs.Common.{◌≡◌, ◌≢◌, ◌⊎◌, ℕ, ◌+◌, ◌-◌, ◌≤◌, ◌==◌, ◌&&◌, not, Bool, true, false, List, length, None, is_some, inl, inr, refl, arith}
 use Rattle.std.specs.Prelude.{nat_lt, ◌↔◌}
-use Rattle.std.specs.Option.{option_or}
 use Rattle.std.proofs.lemmas.Bool.{not-false, not_from_true}
 use Rattle.std.proofs.lemmas.Bool.Decides.{nat_tests}
 use Rattle.fletcher.specs.Checksum.{IsSealed}
-use Rattle.clnp_options.specs.declared.judge.OptionRefusal.{OptionRefusal}
+use Rattle.clnp_base.proofs.Choices.{below_not, equal_is, if_none, is_equal, none_if, not_below, not_equal, option_or-none, option_or-parts}
 use Rattle.clnp_options.specs.Rules.{refusal as options_refusal}
 use Rattle.pdu_header.specs.Rules.{octet, type_of, kind_of, is_segmented, has_more, has_right_checksum, source_place, part_place, options_place, segment_size, is_bad_address, is_unfit_range, is_bad_range, options_part, fixed_part_refusal, addresses_refusal, lengths_refusal, header_refusal}
 
@@ -23,52 +22,22 @@ pub record IsAccepted (head : List ℕ) (n : ℕ) : Type 0 where
   pub range : (is_segmented head && is_bad_range head) ≡ false
   pub options : options_refusal (options_part head) (options_place head) (type_of head == 1) ≡ None
 
--- a test that is no refusal
-pub passed : (b : Bool) (r : OptionRefusal) (others : Option OptionRefusal) → (if b then Some r else others) ≡ None → (b ≡ false) × (others ≡ None)
-passed true r others h = cc
-passed false r others h = (refl, h)
-
-pub passing : (b : Bool) (r : OptionRefusal) (others : Option OptionRefusal) → b ≡ false → others ≡ None → (if b then Some r else others) ≡ None
-passing b r others e h = rw e h
-
-pub both_none : (a b : Option OptionRefusal) → option_or a b ≡ None → (a ≡ None) × (b ≡ None)
-both_none None b h = (refl, h)
-both_none (Some r) b h = cc
-
-pub none_or : (a b : Option OptionRefusal) → a ≡ None → b ≡ None → option_or a b ≡ None
-none_or a b e h = rw e h
-
-pub is_equal : (a b : ℕ) → (a == b) ≡ true → a ≡ b
-is_equal a b h = grind (arith, nat_tests)
-
-pub not_equal : (a b : ℕ) → (a == b) ≡ false → a ≢ b
-not_equal a b h = λ e. grind (arith, nat_tests)
-
-pub equal_is : (a b : ℕ) → a ≡ b → (a == b) ≡ true
-equal_is a b h = grind (arith, nat_tests)
-
-pub not_below : (a b : ℕ) → nat_lt a b ≡ false → b ≤ a
-not_below a b h = grind (arith, nat_tests)
-
-pub below_not : (a b : ℕ) → b ≤ a → nat_lt a b ≡ false
-below_not a b h = grind (arith, nat_tests)
-
 pub accepted : (head : List ℕ) (n : ℕ) → header_refusal head n ≡ None → IsAccepted head n
 unfolding header_refusal fixed_part_refusal addresses_refusal lengths_refusal
 accepted head n h =
-    let fixed = both_none _ _ h in
-    let addresses = both_none _ _ fixed.1 in
-    let lengths = both_none _ _ addresses.1 in
-    let g4 = passed _ _ _ fixed.0 in
-    let g5 = passed _ _ _ g4.1 in
-    let g6 = passed _ _ _ g5.1 in
-    let g7 = passed _ _ _ g6.1 in
-    let g8 = passed _ _ _ addresses.0 in
-    let g9 = passed _ _ _ g8.1 in
-    let g10 = passed _ _ _ lengths.0 in
-    let g11 = passed _ _ _ g10.1 in
-    let g12 = passed _ _ _ g11.1 in
-    let g13 = passed _ _ _ g12.1 in
+    let fixed = option_or-parts _ _ h in
+    let addresses = option_or-parts _ _ fixed.1 in
+    let lengths = option_or-parts _ _ addresses.1 in
+    let g4 = if_none _ _ _ fixed.0 in
+    let g5 = if_none _ _ _ g4.1 in
+    let g6 = if_none _ _ _ g5.1 in
+    let g7 = if_none _ _ _ g6.1 in
+    let g8 = if_none _ _ _ addresses.0 in
+    let g9 = if_none _ _ _ g8.1 in
+    let g10 = if_none _ _ _ lengths.0 in
+    let g11 = if_none _ _ _ g10.1 in
+    let g12 = if_none _ _ _ g11.1 in
+    let g13 = if_none _ _ _ g12.1 in
     record {
       version = is_equal _ _ (not-false _ g4.0);
       checksum = not-false _ g5.0;
@@ -86,12 +55,12 @@ accepted head n h =
 pub accepting : (head : List ℕ) (n : ℕ) → IsAccepted head n → header_refusal head n ≡ None
 unfolding header_refusal fixed_part_refusal addresses_refusal lengths_refusal
 accepting head n h =
-    none_or _ _
-    (passing _ _ _ (not_from_true _ (equal_is _ _ h.version)) (passing _ _ _ (not_from_true _ h.checksum) (passing _ _ _ (not_from_true _ h.kind) (passing _ _ _ h.flags refl))))
-    (none_or _ _
-    (passing _ _ _ h.destination (passing _ _ _ h.source refl))
-    (none_or _ _
-    (passing _ _ _ h.part (passing _ _ _ (below_not _ _ h.low) (passing _ _ _ (below_not _ _ h.high) (passing _ _ _ h.range refl))))
+    option_or-none _ _ None
+    (none_if _ _ _ (not_from_true _ (equal_is _ _ h.version)) (none_if _ _ _ (not_from_true _ h.checksum) (none_if _ _ _ (not_from_true _ h.kind) (none_if _ _ _ h.flags refl))))
+    (option_or-none _ _ None
+    (none_if _ _ _ h.destination (none_if _ _ _ h.source refl))
+    (option_or-none _ _ None
+    (none_if _ _ _ h.part (none_if _ _ _ (below_not _ _ h.low) (none_if _ _ _ (below_not _ _ h.high) (none_if _ _ _ h.range refl))))
     h.options))
 
 -- an address lies in the header

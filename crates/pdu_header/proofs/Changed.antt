@@ -1,7 +1,8 @@
 -- Headers after a change of the lifetime or of the segment.
-use Rattle.std.proofs.Common.{◌≡◌, ◌≢◌, ◌∙◌, refl, sym, ap, subst, ℕ, suc, ◌+◌, ◌-◌, ◌^◌, ◌<◌, ◌≤◌, Bool, true, false, Option, None, Some, List, [], ◌∷◌, ◌++◌, length, get_or, arith, length-append, append_assoc, inl, inr}
+use Rattle.std.proofs.Common.{◌≡◌, ◌≢◌, ◌∙◌, refl, sym, ap, subst, ℕ, suc, ◌+◌, ◌-◌, ◌^◌, ◌<◌, ◌≤◌, Bool, true, false, Option, None, Some, List, ◌∷◌, ◌++◌, length, get_or, arith, length-append, append_assoc, inl, inr}
 use Rattle.std.specs.Prelude.{◌⊎◌, if◌then◌else◌, bit_and, bit_or, slice_set, slice_index}
 use Rattle.std.proofs.lemmas.List.{get_or-append-add, get_or-set_other}
+use Rattle.clnp_base.proofs.Lists.{set_pair}
 use Rattle.fletcher.specs.Checksum.{octet}
 use Rattle.fletcher.proofs.ChecksumLaws.{sealed_other}
 use Rattle.clnp_options.specs.Parameter.{spelled}
@@ -25,9 +26,7 @@ segment_kept v life (Some part) h = record {
   identifier = h.identifier;
   offset = h.offset;
   total = h.total;
-  holds_header = h.holds_header;
-  within = h.within;
-  ends = h.ends;
+  range = record { holds_header = h.range.holds_header; within = h.range.within; ends = h.range.ends };
 }
 
 pub life_set : (v : PduValue) (life : ℕ) (old new : List ℕ) → life < 256 → SpellsHeader v old → Changes old new (λ plain. slice_set plain 3 life) → SpellsHeader (with_lifetime life v) new
@@ -47,7 +46,7 @@ life_set v life old new small h change = record {
 
 -- ---- places
 
-octet_in : (is_sealed : Bool) (plain : List ℕ) (i : ℕ) → i ≢ 7 → i ≢ 8 → get_or (checked is_sealed plain) i 0 ≡ get_or plain i 0
+pub octet_in : (is_sealed : Bool) (plain : List ℕ) (i : ℕ) → i ≢ 7 → i ≢ 8 → get_or (checked is_sealed plain) i 0 ≡ get_or plain i 0
 octet_in true plain i a b = sealed_other plain i a b
 octet_in false plain i a b = refl
 
@@ -112,10 +111,6 @@ split_at_offset head_len life flags size to from id offset total options =
     ap (λ t. 0x81 ∷ head_len ∷ 1 ∷ life ∷ flags ∷ (pair_of size ++ (0 ∷ 0 ∷ t)))
     (append_assoc (counted to) (counted from ++ pair_of id) rest ∙ ap (λ t. counted to ++ t) (append_assoc (counted from) (pair_of id) rest))
 
-pub set_pair : (front rest : List ℕ) (x y a b : ℕ) → slice_set (slice_set (front ++ x ∷ y ∷ rest) (length front) a) (suc (length front)) b ≡ front ++ a ∷ b ∷ rest
-set_pair [] rest x y a b = refl
-set_pair (f ∷ front) rest x y a b = ap (λ t. f ∷ t) (set_pair front rest x y a b)
-
 pub set_pair_at : (front rest : List ℕ) (old number place : ℕ) → place ≡ length front + 1 → with_pair (front ++ (pair_of old ++ rest)) place number ≡ front ++ (pair_of number ++ rest)
 set_pair_at front rest old number place e =
     let i : place - 1 ≡ length front = omega arith in
@@ -159,9 +154,7 @@ segment_pdu v part old_more more old_body body offset h fits small =
         identifier = h.segmentation.identifier;
         offset = small;
         total = h.segmentation.total;
-        holds_header = range.holds_header;
-        within = range.within;
-        ends = range.ends;
+        range = range;
       };
       options = h.options;
       reason = h.reason;

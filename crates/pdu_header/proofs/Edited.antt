@@ -1,10 +1,8 @@
 -- Headers after an edit of their options.
-use Rattle.std.proofs.Common.{◌≡◌, ◌≢◌, ◌∙◌, sym, ap, subst, ℕ, ◌+◌, ◌<◌, ◌≤◌, Bool, true, false, Option, None, Some, List, ◌∷◌, ◌++◌, length, take, drop, arith, length-append, append_assoc, is_some, lit<}
+use Rattle.std.proofs.Common.{◌≡◌, ◌∙◌, refl, sym, ap, subst, ℕ, ◌+◌, ◌<◌, ◌≤◌, Bool, true, false, Option, None, Some, List, ◌∷◌, ◌++◌, length, take, drop, arith, length-append, append_assoc, is_some, lit<}
 use Rattle.std.specs.Prelude.{if◌then◌else◌, IsSome}
-use Rattle.std.proofs.lemmas.List.{take_at, drop_at}
-use Rattle.std.proofs.lemmas.Bool.{ne_eqb}
+use Rattle.std.proofs.lemmas.List.{take_at, drop_at, length-take-le}
 use Rattle.fletcher.specs.Checksum.{sealed, checksum_x, checksum_y, with_checksum}
-use Rattle.fletcher.proofs.ChecksumLaws.{sealed_is, sealed-with_checksum}
 use Rattle.clnp_options.specs.Parameter.{Parameter, parameters, spelled}
 use Rattle.clnp_options.specs.Grammar.{FitsKind}
 use Rattle.clnp_options.specs.Rules.{Accepts, IsWellFormed}
@@ -14,12 +12,13 @@ use Rattle.clnp_options.proofs.Agree.{forms_of, well_formed_from, spells_of, acc
 use Rattle.pdu_header.specs.declared.kind.Kind.{Kind}
 use Rattle.pdu_header.specs.declared.kind.Kind.TheVariants.{Dt, Er, Erq, Erp}
 use Rattle.pdu_header.specs.Value.{SegmentationPart, PduValue}
-use Rattle.pdu_header.specs.Spelling.{pair_of, counted, flags_and_type, header_length, segment_length, segmentation_octets, type_code, unsealed_header}
+use Rattle.pdu_header.specs.Layout.{type_code}
+use Rattle.pdu_header.specs.Spelling.{pair_of, counted, flags_and_type, header_length, segment_length, segmentation_octets, unsealed_header}
 use Rattle.pdu_header.specs.Grammar.{IsSegment, is_report}
 use Rattle.pdu_header.specs.Parts.{checked}
-use Rattle.pdu_header.specs.Headers.{IsHeader, SpellsHeader, IsEdited, with_options, resealed}
+use Rattle.pdu_header.specs.Headers.{IsHeader, SpellsHeader, IsEdited, with_options}
 use Rattle.pdu_header.proofs.Written.{length-header, nine_at_least}
-use Rattle.pdu_header.proofs.Changed.{header_length-is}
+use Rattle.pdu_header.proofs.Changed.{Changes, header_length-is}
 
 -- what stands before the options, with these octets as its checksum
 abbrev pub before_options : PduValue → ℕ → ℕ → List ℕ
@@ -87,32 +86,12 @@ same_front v options x y e =
     let rest : List ℕ = counted v.destination ++ (counted v.source ++ segmentation_octets v.segmentation) in
     ap (λ n. 0x81 ∷ n ∷ 1 ∷ v.lifetime ∷ flags_and_type v ∷ (pair_of (n + length v.body) ++ (x ∷ y ∷ rest))) size
 
-octet_8_used : (v : PduValue) → checksum_x (unsealed_header v) ≢ 0
-unfolding sealed
-octet_8_used v = (sealed_is (unsealed_header v) (omega arith)).octet_8
-
-reseal_used : (z : PduValue) (x y : ℕ) → x ≢ 0 → resealed (before_options z x y ++ spelled z.options) ≡ sealed (unsealed_header z)
-reseal_used z x y used =
-    rw (ne_eqb x 0 used) (ap sealed (ap (λ t. with_checksum t x y) (unsealed_parted z)) ∙ sealed-with_checksum (unsealed_header z) x y)
-
-edit_if : (is_sealed : Bool) (v : PduValue) (options : List Parameter) (old new : List ℕ) (start : ℕ)
-    → old ≡ checked is_sealed (unsealed_header v)
-    → StartsAt v start
-    → length (spelled options) ≡ length (spelled v.options)
-    → new ≡ take start old ++ spelled options
-    → resealed new ≡ checked is_sealed (unsealed_header (with_options options v))
-edit_if true v options old new start e s len n =
-    let x = checksum_x (unsealed_header v) in
-    let y = checksum_y (unsealed_header v) in
-    let front : take start old ≡ before_options v x y =
-    ap (take start) (e ∙ sealed_parted v) ∙ take_at (before_options v x y) (spelled v.options) start (length-before v x y ∙ sym s) in
-    ap resealed (n ∙ ap (λ t. t ++ spelled options) (front ∙ same_front v options x y len))
-    ∙ reseal_used (with_options options v) x y (octet_8_used v)
-edit_if false v options old new start e s len n =
-    let front : take start old ≡ before_options v 0 0 =
-    ap (take start) (e ∙ sym (unsealed_parted v)) ∙ take_at (before_options v 0 0) (spelled v.options) start (length-before v 0 0 ∙ sym s) in
-    ap resealed (n ∙ ap (λ t. t ++ spelled options) (front ∙ same_front v options 0 0 len))
-    ∙ unsealed_parted (with_options options v)
+edited_unsealed : (v : PduValue) (options : List Parameter) (start : ℕ) → StartsAt v start → length (spelled options) ≡ length (spelled v.options)
+    → take start (unsealed_header v) ++ spelled options ≡ unsealed_header (with_options options v)
+edited_unsealed v options start s len =
+    let front : take start (unsealed_header v) ≡ before_options v 0 0 =
+    ap (take start) (sym (unsealed_parted v)) ∙ take_at (before_options v 0 0) (spelled v.options) start (length-before v 0 0 ∙ sym s) in
+    ap (λ t. t ++ spelled options) (front ∙ same_front v options 0 0 len) ∙ unsealed_parted (with_options options v)
 
 segment_kept : (v : PduValue) (options : List Parameter) (part : Option SegmentationPart) → header_length v ≡ header_length (with_options options v) → IsSegment v part → IsSegment (with_options options v) part
 segment_kept v options None e h = h
@@ -122,18 +101,21 @@ segment_kept v options (Some part) e h =
       identifier = h.identifier;
       offset = h.offset;
       total = h.total;
-      holds_header = rw (← e) h.holds_header;
-      within = rw (← e) h.within;
-      ends = rw (← e) h.ends;
+      range = record {
+        holds_header = rw (← e) h.range.holds_header;
+        within = rw (← e) h.range.within;
+        ends = rw (← e) h.range.ends;
+      };
     }
 
-pub edit_spells : (v : PduValue) (change : List Parameter → List Parameter) (old mid new : List ℕ) (start : ℕ)
+pub edit_spells : (v : PduValue) (change : List Parameter → List Parameter) (old mid copy new : List ℕ) (start : ℕ)
     → SpellsHeader v old
     → StartsAt v start
     → IsEdited start change old mid
-    → new ≡ resealed mid
+    → copy ≡ mid
+    → Changes old new (λ plain. take start plain ++ drop start copy)
     → SpellsHeader (with_options (change v.options) v) new
-edit_spells v change old mid new start h s edit n =
+edit_spells v change old mid copy new start h s edit same taken =
     let options : List Parameter = change v.options in
     let read = options_are v old start h s in
     let octets : mid ≡ take start old ++ spelled options = edit.octets ∙ ap (λ t. take start old ++ spelled (change t)) read in
@@ -163,7 +145,10 @@ edit_spells v change old mid new start h s edit n =
         header_fits = rw (← size) h.pdu.header_fits;
         segment_fits = rw (← size) h.pdu.segment_fits;
       };
-      octets_are = n ∙ edit_if v.sealed v options old mid start h.octets_are s len octets;
+      octets_are =
+          taken v.sealed (unsealed_header v) refl h.octets_are
+          ∙ ap (λ t. checked v.sealed (take start (unsealed_header v) ++ t)) (ap (drop start) (same ∙ octets) ∙ drop_at (take start old) (spelled options) start (length-take-le start old (start_within v old start h s)))
+          ∙ ap (checked v.sealed) (edited_unsealed v options start s len);
     }
 
 -- ---- whether there is a segmentation part

@@ -1,12 +1,13 @@
 -- A piece that is put behind the octets that cells hold.
 use Rattle.std.proofs.Common.{◌≡◌, ◌∙◌, refl, sym, ap, subst, Bool, ℕ, ◌+◌, ◌-◌, ◌≤◌, List, ◌++◌, length, take, drop, replicate, arith, length-append}
-use Rattle.std.proofs.lemmas.List.{drop-replicate, length-drop, length-take-le, drop-drop, drop-take}
+use Rattle.std.proofs.lemmas.List.{drop-replicate, length-drop, length-take-le, drop-drop}
 use Rattle.std.proofs.lemmas.Slice.{drop-put_mid, take-put_mid}
 use borrow.Rule.Slice.PartMut.{put_mid}
 use Rattle.std.proofs.lemmas.Grind.{common_steps}
+use Rattle.clnp_base.proofs.Lists.{take_drop_swap}
 use Rattle.clnp_options.specs.Parameter.{Parameter, parameters, spelled}
 use Rattle.clnp_options.specs.Rules.{Accepts, IsWellFormed}
-use Rattle.clnp_views.specs.Held.{IsHeld, length-front}
+use Rattle.clnp_base.specs.Inline.{IsInline, len_again}
 use Rattle.pdu_header.specs.Headers.{IsEdited}
 
 -- a part written by as many octets keeps the number of cells
@@ -14,10 +15,11 @@ pub length-put : (at : ℕ) (cells piece : List ℕ) → at + length piece ≤ l
 length-put at cells piece h =
     omega (arith, length-append (take at cells) (piece ++ drop (length piece) (drop at cells)), length-append piece (drop (length piece) (drop at cells)), length-drop (length piece) (drop at cells), length-drop at cells, length-take-le at cells (omega arith))
 
-pub held_push : (len count : ℕ) (cells piece new : List ℕ) → IsHeld len cells → count ≡ length piece → len + length piece ≤ 254 → new ≡ piece → IsHeld (len + length piece) (put_mid len count cells new)
+pub held_push : (len count : ℕ) (cells piece new : List ℕ) → IsInline 254 len cells → count ≡ length piece → len + length piece ≤ 254 → new ≡ piece → IsInline 254 (len + length piece) (put_mid len count cells new)
 held_push len count cells piece new h e room n =
     rw (e, n) (record {
       within = room;
+      few = h.few;
       room = length-put len cells piece (let r = h.room in omega arith) ∙ h.room;
       zeros =
           drop-put_mid len (length piece) cells piece (len + length piece) (omega arith) (let r = h.room in let w = h.within in omega arith) refl
@@ -29,31 +31,28 @@ held_push len count cells piece new h e room n =
 
 -- ---- a part that begins at a place was changed
 
-pub held_put : (start len : ℕ) (cells part : List ℕ) → IsHeld len cells → start ≤ len → length part ≡ len - start → IsHeld len (put_mid start (len - start) cells part)
+pub held_put : (start len : ℕ) (cells part : List ℕ) → IsInline 254 len cells → start ≤ len → length part ≡ len - start → IsInline 254 len (put_mid start (len - start) cells part)
 held_put start len cells part h within size =
     let w = h.within in
     let r = h.room in
     record {
       within = h.within;
+      few = h.few;
       room = ap (λ k. length (put_mid start k cells part)) (sym size) ∙ length-put start cells part (omega arith) ∙ h.room;
       zeros = drop-put_mid start (len - start) cells part len (omega arith) (omega arith) size ∙ h.zeros;
     }
 
-pub part_size : (start len : ℕ) (cells part : List ℕ) → IsHeld len cells → start ≤ len → length part ≡ length (take (len - start) (drop start cells)) → length part ≡ len - start
+pub part_size : (start len : ℕ) (cells part : List ℕ) → IsInline 254 len cells → start ≤ len → length part ≡ length (take (len - start) (drop start cells)) → length part ≡ len - start
 part_size start len cells part h within e =
     let w = h.within in
     let r = h.room in
     e ∙ length-take-le (len - start) (drop start cells) (omega (arith, length-drop start cells))
 
-part_of : (start len : ℕ) (cells : List ℕ) → start ≤ len → take (len - start) (drop start cells) ≡ drop start (take len cells)
-part_of start len cells within =
-    sym (drop-take start (len - start) cells) ∙ ap (λ n. drop start (take n cells)) (omega arith)
-
 front_of : (start len : ℕ) (cells : List ℕ) → start ≤ len → take start cells ≡ take start (take len cells)
 front_of start len cells within = grind (arith, common_steps)
 
 pub part_edited : (start len : ℕ) (cells part self : List ℕ) (change : List Parameter → List Parameter)
-    → IsHeld len cells
+    → IsInline 254 len cells
     → take len cells ≡ self
     → start ≤ length self
     → length part ≡ len - start
@@ -64,16 +63,16 @@ pub part_edited : (start len : ℕ) (cells part self : List ℕ) (change : List 
 part_edited start len cells part self change held view within size octets formed accepted =
     let w = held.within in
     let r = held.room in
-    let long : length self ≡ len = ap length (sym view) ∙ length-front len cells held in
+    let long : length self ≡ len = ap length (sym view) ∙ len_again 254 len cells held in
     let low : start ≤ len = omega (arith, long, within) in
-    let m : take (len - start) (drop start cells) ≡ drop start self = part_of start len cells low ∙ ap (drop start) view in
+    let m : take (len - start) (drop start cells) ≡ drop start self = take_drop_swap start len cells low ∙ ap (drop start) view in
     let e : part ≡ spelled (change (parameters (drop start self))) = octets ∙ ap (λ t. spelled (change (parameters t))) m in
     let new : take len (put_mid start (len - start) cells part) ≡ take start self ++ part =
     take-put_mid start (len - start) cells part len (omega arith) (omega arith) ∙ ap (λ t. t ++ part) (front_of start len cells low ∙ ap (take start) view) in
     let P : List ℕ → Type 0 = IsWellFormed in
     record {
       octets = new ∙ ap (λ t. take start self ++ t) e;
-      len = length-front len (put_mid start (len - start) cells part) (held_put start len cells part held low size) ∙ sym long;
+      len = len_again 254 len (put_mid start (len - start) cells part) (held_put start len cells part held low size) ∙ sym long;
       well_formed = subst P e formed;
       accepted = λ is_report a. let Q : List ℕ → Type 0 = Accepts is_report in subst Q e (accepted is_report (subst Q (sym m) a));
     }

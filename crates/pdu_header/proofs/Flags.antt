@@ -4,10 +4,10 @@ use Rattle.std.specs.Prelude.{nat_le}
 use Rattle.std.proofs.lemmas.Bool.Decides.{nat_tests}
 use Rattle.pdu_header.specs.declared.kind.Kind.{Kind}
 use Rattle.pdu_header.specs.declared.kind.Kind.TheVariants.{Dt, Er, Erq, Erp}
-use Rattle.pdu_header.specs.Spelling.{type_code}
+use Rattle.pdu_header.specs.Layout.{type_code}
 use Rattle.pdu_header.specs.Grammar.{is_report}
 use Rattle.pdu_header.specs.Rules.{kind_of}
-use Rattle.pdu_header.proofs.Accepted.{is_equal}
+use Rattle.clnp_base.proofs.Choices.{is_equal}
 
 abbrev pub kind_read : ℕ → Kind
 kind_read type = unwrap_or (kind_of type) Dt

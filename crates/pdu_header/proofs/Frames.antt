@@ -10,7 +10,8 @@ use Rattle.clnp_options.specs.declared.judge.OptionRefusal.{OptionRefusal}
 use Rattle.pdu_header.specs.Rules.{octet, header_size, header_of, data_size, extent_refusal, header_refusal, refusal, is_reportable, wants_report, type_of, is_bad_address, source_place}
 use Rattle.pdu_header.specs.Reading.{value_of, body_of, rest_of}
 use Rattle.pdu_header.proofs.Fields.{AreOctets}
-use Rattle.pdu_header.proofs.Accepted.{accepted, accepting, passed, passing, both_none, none_or, not_below, below_not, equal_is, not_equal}
+use Rattle.clnp_base.proofs.Choices.{below_not, equal_is, if_none, none_if, not_below, not_equal, option_or-none, option_or-parts}
+use Rattle.pdu_header.proofs.Accepted.{accepted, accepting}
 use Rattle.pdu_header.proofs.Flags.{report_of_kind}
 use Rattle.pdu_header.proofs.Spelled.{IsHeader, octets_of_take, header_is, spelled_as}
 use Rattle.pdu_header.proofs.Read.{read_as}
@@ -28,9 +29,9 @@ good_size n h = (grind (arith, nat_tests), λ e. grind (arith, nat_tests))
 pub has_header : (frame : List ℕ) → extent_refusal frame ≡ None → HasHeader frame
 unfolding extent_refusal
 has_header frame h =
-    let g1 = passed _ _ _ h in
-    let g2 = passed _ _ _ g1.1 in
-    let g3 = passed _ _ _ g2.1 in
+    let g1 = if_none _ _ _ h in
+    let g2 = if_none _ _ _ g1.1 in
+    let g3 = if_none _ _ _ g2.1 in
     record {
       long = not_below _ _ g1.0;
       size = (good_size _ g2.0).0;
@@ -44,7 +45,7 @@ header_here frame h =
     let size : 9 ≤ header_size frame = h.size in
     let not_reserved : header_size frame ≢ 255 = h.not_reserved in
     let reserved : (nat_lt (header_size frame) 9 || header_size frame == 255) ≡ false = grind (arith, nat_tests) in
-    passing _ _ _ (below_not _ _ h.long) (passing _ _ _ reserved (passing _ _ _ (below_not _ _ h.within) refl))
+    none_if _ _ _ (below_not _ _ h.long) (none_if _ _ _ reserved (none_if _ _ _ (below_not _ _ h.within) refl))
 
 pub length_of_header : (frame : List ℕ) → HasHeader frame → length (header_of frame) ≡ header_size frame
 length_of_header frame h = length-take-le (header_size frame) frame h.within
@@ -56,7 +57,7 @@ octet_of_header frame i h low = get_or-take (header_size frame) frame i 0 (omega
 pub header_stands : (frame : List ℕ) → AreOctets frame → octet frame 1 ≡ 0x81 → refusal frame ≡ None → IsHeader (header_of frame) (length frame)
 unfolding refusal
 header_stands frame bytes protocol h =
-    let parts = both_none _ _ h in
+    let parts = option_or-parts _ _ h in
     let extent = has_header frame parts.0 in
     let size = length_of_header frame extent in
     record {
@@ -71,7 +72,7 @@ header_stands frame bytes protocol h =
 pub length_of_body : (frame : List ℕ) → AreOctets frame → octet frame 1 ≡ 0x81 → refusal frame ≡ None → length (body_of frame) ≡ data_size (header_of frame)
 unfolding refusal
 length_of_body frame bytes protocol h =
-    let parts = both_none _ _ h in
+    let parts = option_or-parts _ _ h in
     let size = length_of_header frame (has_header frame parts.0) in
     let is = accepted (header_of frame) (length frame) parts.1 in
     length-take-le (data_size (header_of frame)) (drop (header_size frame) frame) (omega (arith, size, is.high, is.low, length-drop (header_size frame) frame))
@@ -121,7 +122,7 @@ is_front frame v rest h =
     } in
     record {
       protocol = front_octet 0 (omega arith) ∙ read.protocol;
-      unbroken = none_or _ _ (header_here frame extent) (ap (λ (xs : List ℕ). header_refusal xs (length frame)) head_is ∙ accepting head (length frame) (read.accepted (length frame) enough));
+      unbroken = option_or-none _ _ None (header_here frame extent) (ap (λ (xs : List ℕ). header_refusal xs (length frame)) head_is ∙ accepting head (length frame) (read.accepted (length frame) enough));
       value = sym (ap (λ (xs : List ℕ). value_of xs (body_of frame)) head_is ∙ ap (λ (xs : List ℕ). value_of head xs) body_is ∙ read.value);
       rest_is = sym (ap (λ (xs : List ℕ). drop (data_size (header_of frame)) xs) behind_is ∙ drop_at v.body rest (data_size (header_of frame)) (sym data_is));
     }
@@ -175,7 +176,7 @@ pub reportable_front : (frame : List ℕ) (v : PduValue) (rest : List ℕ) → B
 unfolding refusal
 reportable_front frame v rest h =
     let is = is_front frame v rest h in
-    let parts = both_none _ _ is.unbroken in
+    let parts = option_or-parts _ _ is.unbroken in
     let is_accepted = accepted (header_of frame) (length frame) parts.1 in
     let report : wants_report (header_of frame) ≡ v.report = sym (ap (λ (w : PduValue). w.report) is.value) in
     let kind : (type_of (header_of frame) == 1) ≡ is_report v.kind =

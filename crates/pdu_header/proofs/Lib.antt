@@ -10,5 +10,8 @@ pub mod Written
 pub mod MoreFlag
 pub mod Changed
 pub mod Edited
-pub mod Samples
+pub mod Ranges
+pub mod Sealing
+pub mod Least
+pub mod Taken
 pub mod Told

@@ -3,7 +3,7 @@ use Rattle.std.proofs.Common.{◌≡◌, refl, ◌+◌, Bool, true, false}
 use Rattle.std.specs.Prelude.{if◌then◌else◌, bit_and, bit_or}
 use Rattle.pdu_header.specs.declared.kind.Kind.{Kind}
 use Rattle.pdu_header.specs.declared.kind.Kind.TheVariants.{Dt, Er, Erq, Erp}
-use Rattle.pdu_header.specs.Spelling.{type_code}
+use Rattle.pdu_header.specs.Layout.{type_code}
 
 pub flags_set : (more report : Bool) (kind : Kind) → bit_or (128 + (if more then 64 else 0) + (if report then 32 else 0) + type_code kind) 64 ≡ 128 + 64 + (if report then 32 else 0) + type_code kind
 flags_set true true Dt = refl

@@ -11,12 +11,14 @@ use Rattle.clnp_options.specs.Rules.{refusal as options_refusal}
 use Rattle.clnp_options.specs.Grammar.{FitsKind}
 use Rattle.clnp_options.proofs.Agree.{accepts_from, accepted_anywhere, parameters-Forms}
 use Rattle.pdu_header.specs.Value.{SegmentationPart, PduValue}
-use Rattle.pdu_header.specs.Spelling.{type_code, counted, pair_of, segmentation_octets, variable_part, header_length, segment_length, flags_and_type, unsealed_header, header}
+use Rattle.pdu_header.specs.Layout.{type_code}
+use Rattle.pdu_header.specs.Spelling.{counted, pair_of, segmentation_octets, variable_part, header_length, segment_length, flags_and_type, unsealed_header, header}
 use Rattle.pdu_header.specs.Grammar.{is_report, IsSegment, IsPdu}
 use Rattle.pdu_header.specs.Rules.{octet, pair_at, type_of, kind_of, is_segmented, has_more, has_right_checksum, wants_report, source_place, part_place, options_place, segment_size, is_bad_address, data_size, is_unfit_range, is_bad_range, options_part}
 use Rattle.pdu_header.specs.Reading.{address_at, segmentation_at, value_of}
 use Rattle.pdu_header.proofs.Fields.{HasAddress, address_here, pair_here, pair_again}
-use Rattle.pdu_header.proofs.Accepted.{IsAccepted, within_is, below_not, range_is_good, unused_is_right, sealed_is_right}
+use Rattle.clnp_base.proofs.Choices.{below_not}
+use Rattle.pdu_header.proofs.Accepted.{IsAccepted, within_is, range_is_good, unused_is_right, sealed_is_right}
 use Rattle.pdu_header.proofs.Flags.{kind_read, kind_of_code, code_is_small, report_of_code, AreFlags, flags_read}
 use Rattle.pdu_header.proofs.Shape.{sealed_layout, pair_is_zero, pair_is_used}
 
@@ -154,9 +156,9 @@ rest head v fixed addresses (Some part) e h =
     let data_is : data_size head ≡ length v.body = omega (arith, fixed.segment, fixed.length_is) in
     let good : is_unfit_range (length head) part.total (part.offset + length v.body) v.more ≡ false =
     range_is_good (length head) part.total (part.offset + length v.body) v.more (record {
-      holds_header = omega (arith, fixed.length_is, h.holds_header);
-      within = omega (arith, fixed.length_is, h.within);
-      ends = ((λ m. h.ends.0 m ∙ ap (λ k. part.total - k) (sym fixed.length_is)), (λ q. h.ends.1 (q ∙ ap (λ k. part.total - k) fixed.length_is)));
+      holds_header = omega (arith, fixed.length_is, h.range.holds_header);
+      within = omega (arith, fixed.length_is, h.range.within);
+      ends = ((λ m. h.range.ends.0 m ∙ ap (λ k. part.total - k) (sym fixed.length_is)), (λ q. h.range.ends.1 (q ∙ ap (λ k. part.total - k) fixed.length_is)));
     }) in
     record {
       segmentation = rw flag (ap (λ k. Some (let s : SegmentationPart = record { identifier = k; offset = pair_at head (place + 2); total = pair_at head (place + 4) } in s)) first.number

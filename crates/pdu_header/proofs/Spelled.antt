@@ -144,9 +144,11 @@ segment_is head body n h fills = by_flag (is_segmented head) refl
           identifier = pair_is_small head place h.bytes;
           offset = pair_is_small head (place + 2) h.bytes;
           total = pair_is_small head (place + 4) h.bytes;
-          holds_header = omega (arith, good.holds_header);
-          within = omega (arith, good.within);
-          ends = ((λ m. ends ∙ good.ends.0 m ∙ sym left), (λ q. good.ends.1 (sym ends ∙ q ∙ left)));
+          range = record {
+            holds_header = omega (arith, good.holds_header);
+            within = omega (arith, good.within);
+            ends = ((λ m. ends ∙ good.ends.0 m ∙ sym left), (λ q. good.ends.1 (sym ends ∙ q ∙ left)));
+          };
         })
     by_flag false e =
         let P : Bool → Type 0 = λ b. IsSegment (value_of head body) (if b then Some (record { identifier = pair_at head (part_place head); offset = pair_at head (part_place head + 2); total = pair_at head (part_place head + 4) }) else None) in

@@ -93,9 +93,7 @@ segment_of parts body (Some part) n f = record {
   identifier = n.0;
   offset = n.1;
   total = n.2;
-  holds_header = f.holds_header;
-  within = f.within;
-  ends = f.ends;
+  range = record { holds_header = f.holds_header; within = f.within; ends = f.ends };
 }
 
 pub pdu_of : (parts : Parts) (body : List ℕ) → AreTyped parts → AreFit parts (length body) → parts_length parts ≤ 254 → parts_length parts + length body ≤ 65535 → IsPdu (parts_value parts body)

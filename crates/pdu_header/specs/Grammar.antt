@@ -1,10 +1,12 @@
 -- Which octets are a PDU: a relation between a value and its octets, by parts (ISO 8473, section 7).
-use Rattle.std.specs.Prelude.{◌≡◌, ◌↔◌, ℕ, ◌+◌, ◌-◌, ◌^◌, ◌<◌, ◌≤◌, Bool, true, false, List, ◌++◌, length, Option, None, Some}
+use Rattle.std.specs.Prelude.{◌≡◌, ℕ, ◌^◌, ◌<◌, ◌≤◌, Bool, true, false, List, ◌++◌, length, Option, None, Some}
 use Rattle.nsap.specs.Address.{IsAddress}
 use Rattle.clnp_options.specs.Grammar.{AreFormed, FitsKind}
 use Rattle.pdu_header.specs.declared.kind.Kind.{Kind}
 use Rattle.pdu_header.specs.declared.kind.Kind.TheVariants.{Dt, Er, Erq, Erp}
+use Rattle.pdu_header.specs.Layout.{most_header}
 use Rattle.pdu_header.specs.Value.{SegmentationPart, PduValue}
+use Rattle.pdu_header.specs.Segment.{FitsRange}
 use Rattle.pdu_header.specs.Spelling.{spelling, header_length, segment_length}
 
 abbrev pub is_report : Kind → Bool
@@ -13,14 +15,12 @@ is_report Dt = false
 is_report Erq = false
 is_report Erp = false
 
--- the PDU's range lies in its unit, and more follows exactly where it doesn't reach the unit's end (section 7.4)
+-- the numbers have two octets each, and the PDU's data fit its unit (section 7.4)
 pub record FitsUnit (v : PduValue) (part : SegmentationPart) : Type 0 where
   pub identifier : part.identifier < 2 ^ 16
   pub offset : part.offset < 2 ^ 16
   pub total : part.total < 2 ^ 16
-  pub holds_header : header_length v ≤ part.total
-  pub within : part.offset + length v.body ≤ part.total - header_length v
-  pub ends : (v.more ≡ false) ↔ (part.offset + length v.body ≡ part.total - header_length v)
+  pub range : FitsRange (header_length v) (length v.body) v.more part
 
 -- without a segmentation part nothing follows
 abbrev pub IsSegment : PduValue → Option SegmentationPart → Type 0
@@ -36,7 +36,7 @@ pub record IsPdu (v : PduValue) : Type 0 where
   pub options : AreFormed v.options
   -- a reason for discard stands in an error report, and in no other PDU (section 7.9.5)
   pub reason : FitsKind (is_report v.kind) v.options
-  pub header_fits : header_length v ≤ 254
+  pub header_fits : header_length v ≤ most_header
   pub segment_fits : segment_length v < 2 ^ 16
 
 pub record Spells (v : PduValue) (octets : List ℕ) : Type 0 where

@@ -1,6 +1,5 @@
 -- Which octets are a header, and what a router may change in one.
-use Rattle.std.specs.Prelude.{◌≡◌, ℕ, ◌-◌, ◌==◌, Bool, if◌then◌else◌, List, ◌++◌, length, take, drop, slice_index, slice_set, Some, IsSome}
-use Rattle.fletcher.specs.Checksum.{octet, sealed}
+use Rattle.std.specs.Prelude.{◌≡◌, ℕ, ◌-◌, Bool, List, ◌++◌, length, take, drop, slice_index, slice_set, Some, IsSome}
 use Rattle.clnp_options.specs.Parameter.{Parameter, parameters, spelled}
 use Rattle.clnp_options.specs.Rules.{Accepts, IsWellFormed}
 use Rattle.clnp_options.specs.Edits.{target_of}
@@ -56,7 +55,3 @@ pub record IsEdited (start : ℕ) (change : List Parameter → List Parameter) (
   pub len : length new ≡ length old
   pub well_formed : IsWellFormed (spelled (change (parameters (drop start old))))
   pub accepted : (is_report : Bool) → Accepts is_report (drop start old) → Accepts is_report (spelled (change (parameters (drop start old))))
-
--- the checksum is made anew where it is in use
-abbrev pub resealed : List ℕ → List ℕ
-resealed octets = if octet octets 8 == 0 then octets else sealed octets

@@ -1,4 +1,6 @@
+pub mod Layout
 pub mod Value
+pub mod Segment
 pub mod Spelling
 pub mod Grammar
 pub mod Rules
@@ -7,3 +9,5 @@ pub mod View
 pub mod Parts
 pub mod Headers
 pub mod Encoding
+pub mod Account
+pub mod Table

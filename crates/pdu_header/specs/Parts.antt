@@ -1,5 +1,5 @@
 -- What a header is made from, as a value, and when it can't be made.
-use Rattle.std.specs.Prelude.{◌≡◌, ◌↔◌, ℕ, ◌+◌, ◌-◌, ◌^◌, ◌<◌, ◌≤◌, nat_lt, Bool, false, if◌then◌else◌, List, [], Option, None, Some, option_map}
+use Rattle.std.specs.Prelude.{ℕ, ◌+◌, ◌^◌, ◌<◌, nat_lt, Bool, if◌then◌else◌, List, [], Option, None, Some, option_map}
 use Rattle.fletcher.specs.Checksum.{sealed}
 use Rattle.clnp_options.specs.Parameter.{parameters}
 use Rattle.nsap.specs.Address.{IsAddress}
@@ -8,7 +8,9 @@ use Rattle.clnp_options.specs.Rules.{IsWellFormed}
 use Rattle.pdu_header.specs.declared.parts.Parts.{Parts}
 use Rattle.pdu_header.specs.declared.header.HeaderRefusal.{HeaderRefusal}
 use Rattle.pdu_header.specs.declared.header.HeaderRefusal.TheVariants.{HeaderTooLong, TotalTooLong}
+use Rattle.pdu_header.specs.Layout.{most_header, most_total}
 use Rattle.pdu_header.specs.Value.{SegmentationPart, PduValue}
+pub use Rattle.pdu_header.specs.Segment.{FitsRange, FitsSegment}
 use Rattle.pdu_header.specs.View.{part_value}
 use Rattle.pdu_header.specs.Spelling.{header_length}
 use Rattle.pdu_header.specs.Grammar.{is_report}
@@ -32,18 +34,6 @@ parts_value parts body = record {
 abbrev pub parts_length : Parts → ℕ
 parts_length parts = header_length (parts_value parts [])
 
--- so many octets of data lie in their unit, behind a header of its length, and more follows exactly where
--- they don't reach the unit's end (section 7.4)
-pub record FitsRange (header_len data_len : ℕ) (more : Bool) (part : SegmentationPart) : Type 0 where
-  pub holds_header : header_len ≤ part.total
-  pub within : part.offset + data_len ≤ part.total - header_len
-  pub ends : (more ≡ false) ↔ (part.offset + data_len ≡ part.total - header_len)
-
--- without a segmentation part nothing follows
-abbrev pub FitsSegment : ℕ → ℕ → Bool → Option SegmentationPart → Type 0
-FitsSegment header_len data_len more None = more ≡ false
-FitsSegment header_len data_len more (Some part) = FitsRange header_len data_len more part
-
 -- with a body of so many octets the parts break no rule but those on the lengths
 pub record AreFit (parts : Parts) (body_len : ℕ) : Type 0 where
   pub segment : FitsSegment (parts_length parts) body_len parts.more (option_map part_value parts.seg)
@@ -66,8 +56,8 @@ pub record AreTyped (parts : Parts) : Type 0 where
 -- which length is too long: the header's, above 254, or else that of header and body, above 65,535
 abbrev pub too_long : ℕ → ℕ → Option HeaderRefusal
 too_long header_len body_len =
-    if nat_lt 254 header_len then Some (HeaderTooLong header_len)
-    else (if nat_lt 65535 (header_len + body_len) then Some (TotalTooLong (header_len + body_len)) else None)
+    if nat_lt most_header header_len then Some (HeaderTooLong header_len)
+    else (if nat_lt most_total (header_len + body_len) then Some (TotalTooLong (header_len + body_len)) else None)
 
 -- a header with a checksum, or without one
 abbrev pub checked : Bool → List ℕ → List ℕ

@@ -3,16 +3,9 @@ use Rattle.std.specs.Prelude.{ℕ, ◌+◌, if◌then◌else◌, List, [], ◌�
 use Rattle.std.specs.Int.{to_be_bytes, w16}
 use Rattle.fletcher.specs.Checksum.{sealed}
 use Rattle.clnp_options.specs.Parameter.{spelled}
-use Rattle.pdu_header.specs.declared.kind.Kind.{Kind}
-use Rattle.pdu_header.specs.declared.kind.Kind.TheVariants.{Dt, Er, Erq, Erp}
+use Rattle.pdu_header.specs.Layout.{protocol, version, segmentation_permitted, more_segments, error_report, fixed_size}
+pub use Rattle.pdu_header.specs.Layout.{type_code}
 use Rattle.pdu_header.specs.Value.{SegmentationPart, PduValue}
-
--- the type (section 7.2.7; RFC 1575, section 4)
-abbrev pub type_code : Kind → ℕ
-type_code Er = 1
-type_code Dt = 28
-type_code Erq = 30
-type_code Erp = 31
 
 -- two octets, the high one first
 abbrev pub pair_of : ℕ → List ℕ
@@ -32,9 +25,9 @@ abbrev pub variable_part : PduValue → List ℕ
 variable_part v =
     counted v.destination ++ (counted v.source ++ (segmentation_octets v.segmentation ++ spelled v.options))
 
--- the fixed part has nine octets
+-- the fixed part and what follows it
 abbrev pub header_length : PduValue → ℕ
-header_length v = 9 + length (variable_part v)
+header_length v = fixed_size + length (variable_part v)
 
 -- header and data of this PDU
 abbrev pub segment_length : PduValue → ℕ
@@ -43,12 +36,12 @@ segment_length v = header_length v + length v.body
 -- the flags SP, MS and E/R, and the type (sections 7.2.6 and 7.2.7)
 abbrev pub flags_and_type : PduValue → ℕ
 flags_and_type v =
-    (if is_some v.segmentation then 128 else 0) + (if v.more then 64 else 0) + (if v.report then 32 else 0) + type_code v.kind
+    (if is_some v.segmentation then segmentation_permitted else 0) + (if v.more then more_segments else 0) + (if v.report then error_report else 0) + type_code v.kind
 
 -- the header with 0 in both checksum octets: the fixed part (section 7.2) and what follows it
 abbrev pub unsealed_header : PduValue → List ℕ
 unsealed_header v =
-    0x81 ∷ header_length v ∷ 1 ∷ v.lifetime ∷ flags_and_type v ∷ (pair_of (segment_length v) ++ (0 ∷ 0 ∷ variable_part v))
+    protocol ∷ header_length v ∷ version ∷ v.lifetime ∷ flags_and_type v ∷ (pair_of (segment_length v) ++ (0 ∷ 0 ∷ variable_part v))
 
 abbrev pub header : PduValue → List ℕ
 header v = if v.sealed then sealed (unsealed_header v) else unsealed_header v

@@ -6,6 +6,7 @@ use Rattle.pdu_header.specs.declared.pdu.SegPart.{SegPart}
 use Rattle.pdu_header.specs.declared.pdu.Pdu.{Pdu}
 use Rattle.pdu_header.specs.declared.pdu.Refusal.{Refusal}
 use Rattle.pdu_header.specs.declared.pdu.Refusal.TheVariants.{NotClnp, Broken}
+use Rattle.pdu_header.specs.Layout.{protocol}
 use Rattle.pdu_header.specs.Rules.{octet, refusal, is_reportable}
 use Rattle.pdu_header.specs.Value.{SegmentationPart, PduValue}
 
@@ -35,4 +36,4 @@ told frame broken =
 
 -- Why a frame is refused: it doesn't begin with 0x81, or it breaks a rule.
 abbrev pub why_refused : List ℕ → Option Refusal
-why_refused frame = if octet frame 1 == 0x81 then option_map (told frame) (refusal frame) else Some NotClnp
+why_refused frame = if octet frame 1 == protocol then option_map (told frame) (refusal frame) else Some NotClnp

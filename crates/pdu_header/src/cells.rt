@@ -7,33 +7,32 @@ ghost use Rattle.clnp_options.specs.Rules.{IsWellFormed};
 ghost use Rattle.clnp_options.specs.Grammar.{IsTitle};
 ghost use Rattle.clnp_options.specs.Edits.{edited, advanced, recorded, marked, target_of};
 ghost use Rattle.pdu_header.specs.Parts.{checked};
-ghost use Rattle.pdu_header.specs.Headers.{IsEdited, resealed};
+ghost use Rattle.pdu_header.specs.Headers.{IsEdited};
 
+use crate::adjusting::{adjust, adjust_each};
+use crate::layout::MOST_HEADER;
 use std::marker::Model;
-
-/// The most octets of a header (ISO 8473, section 7.2.3).
-pub const MOST: usize = 254;
 
 /// Octets of a header. The cells past them are 0, so that one list of octets is one value.
 #[derive(Clone, Copy, PartialEq, Eq, Debug)]
 pub struct Cells {
     len: usize,
-    octets: [u8; MOST],
+    octets: [u8; MOST_HEADER],
 }
 
 impl Model for Cells {
     ghost use Rattle.std.specs.Prelude.{◌-◌, ◌++◌, List, ℕ, length, take, replicate};
-    ghost use Rattle.clnp_views.specs.Held.{IsHeld, length-front, cells_again};
+    ghost use Rattle.clnp_base.specs.Inline.{IsInline, len_again, cells_again};
 
     ghost Value = { List ℕ };
 
     ghost view = { λ s. take s.len s.octets };
 
-    ghost invariant = { λ s. IsHeld s.len s.octets };
+    ghost invariant = { λ s. IsInline 254 s.len s.octets };
 
     ghost inverse = { λ v. record { len = length v; octets = v ++ replicate (254 - length v) 0 } };
 
-    ghost inverse_ok = { λ s h i. record { len = length-front s.len s.octets h i; octets = cells_again s.len s.octets h i } };
+    ghost inverse_ok = { λ s h i. record { len = len_again 254 s.len s.octets h i; octets = cells_again 254 s.len s.octets h i } };
 }
 
 impl Cells {
@@ -43,7 +42,7 @@ impl Cells {
     {
         Cells {
             len: 0,
-            octets: [0; MOST],
+            octets: [0; MOST_HEADER],
         }
     }
 
@@ -83,19 +82,19 @@ impl Cells {
         ensures changed { (is_sealed : Bool) (plain : List ℕ) → octet plain 8 ≡ 0 → self.old ≡ checked is_sealed plain → self.new ≡ checked is_sealed (slice_set plain (place - 1) new) }
         ensures len { length self.new ≡ length self.old }
     {
-        fletcher::adjust(&mut self.octets[..self.len], place, new);
+        adjust(&mut self.octets[..self.len], place, new);
     }
 
-    /// Makes the checksum anew where it is in use.
-    pub fn reseal(&mut self)
-        requires { 9 ≤ length self.old }
-        ensures value { self.new ≡ resealed self.old }
+    /// Takes over the octets of a changed copy from this index on, and adjusts the checksum, where it is in use,
+    /// by each octet that changes.
+    pub fn take_over(&mut self, changed: &[u8], start: usize)
+        requires behind { 9 ≤ start }
+        requires within { start ≤ length self.old }
+        requires len { length changed.now ≡ length self.old }
+        ensures changed { (is_sealed : Bool) (plain : List ℕ) → octet plain 8 ≡ 0 → self.old ≡ checked is_sealed plain → self.new ≡ checked is_sealed (take start plain ++ drop start changed.now) }
         ensures len { length self.new ≡ length self.old }
     {
-        if self.octets[7] == 0 {
-            return;
-        }
-        fletcher::seal(&mut self.octets[..self.len]);
+        adjust_each(&mut self.octets[..self.len], changed, start);
     }
 
     /// Moves the pointer of the source route in the options, which begin at this index.

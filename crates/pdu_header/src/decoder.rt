@@ -1,4 +1,5 @@
 //! Frames read as PDUs, by the rules G1 to G20.
+ghost use Rattle.clnp_options.specs.Reasons.{reason_code};
 ghost use Rattle.clnp_options.specs.Rules.{Gives, refusal as options_refusal};
 ghost use Rattle.pdu_header.specs.Grammar as grammar;
 ghost use Rattle.pdu_header.specs.Grammar.{BeginsWith};
@@ -6,52 +7,25 @@ ghost use Rattle.pdu_header.specs.Reading as reading;
 ghost use Rattle.pdu_header.specs.Reading.{body_of, rest_of, segmentation_at, value_of};
 ghost use Rattle.pdu_header.specs.Rules as rules;
 ghost use Rattle.pdu_header.specs.Rules.{addresses_refusal, data_size, extent_refusal, fixed_part_refusal, header_size, is_unfit_range, is_bad_address, lengths_refusal, octet, options_part, options_place, part_place, refusal, source_place, type_of};
-ghost use Rattle.pdu_header.specs.Spelling.{header};
+ghost use Rattle.pdu_header.specs.Headers.{SpellsHeader};
+ghost use Rattle.pdu_header.specs.Spelling.{header, header_length};
 ghost use Rattle.pdu_header.specs.Value.{PduValue};
 ghost use Rattle.pdu_header.specs.View.{part_value, pdu_value, why_refused};
 ghost use Rattle.std.specs.Prelude.{IfSome, MatchResult, None, Some, ◌^◌, ◌≡◌, ◌+◌, ◌-◌, ◌==◌, ◌<◌, ◌≤◌, ◌↔◌, ℕ, Bool, true, false, List, IfOk, IsTrue, MatchOption, OnErr, OnOk, drop, length, not, option_map, take};
 
 use crate::kind::Kind;
+use crate::layout::{
+    ERROR_REPORT, FIXED_PART, MORE_SEGMENTS, PROTOCOL, SEGMENTATION_PART, SEGMENTATION_PERMITTED,
+    TYPES, VERSION,
+};
 use crate::pdu::{Broken, Pdu, Refusal, SegPart};
 use crate::report::reportable;
 use byteorder::{BigEndian, ByteOrder};
-use clnp_options::{OptionRefusal, check};
+use clnp_options::{OptionRefusal, Reason, check};
 use nsap::Address;
-
-/// The first octet: the network layer protocol identifier of ISO 8473 (section 7.2.2).
-const PROTOCOL: u8 = 0x81;
-
-/// The version of the protocol (section 7.2.4).
-const VERSION: u8 = 1;
-
-/// The octets of the header's fixed part (section 7.2).
-const FIXED_PART: usize = 9;
 
 /// The header length that is reserved (section 7.2.3).
 const RESERVED_LENGTH: u8 = 255;
-
-/// The octets of the segmentation part (section 7.4).
-const SEGMENTATION_PART: usize = 6;
-
-/// The flags in octet 5 (section 7.2.6): segmentation permitted, more segments, error report.
-const SEGMENTATION_PERMITTED: u8 = 0x80;
-
-const MORE_SEGMENTS: u8 = 0x40;
-
-const ERROR_REPORT: u8 = 0x20;
-
-/// The number of types, which stand in the low bits of octet 5.
-pub(crate) const TYPES: u8 = 0x20;
-
-/// Reasons for discard (section 7.9.5).
-const INCORRECT_CHECKSUM: u8 = 0x02;
-
-const HEADER_SYNTAX: u8 = 0x04;
-
-const INCOMPLETE: u8 = 0x06;
-
-const UNSUPPORTED_VERSION: u8 = 0xb1;
-
 /// The PDU at the front of a frame (ISO 8473, section 7). What follows it in the frame is its `rest`.
 ///
 /// # Errors
@@ -64,6 +38,8 @@ pub fn decode(frame: &[u8]) -> Result<Pdu<'_>, Refusal>
     ensures found { IfOk result (λ pdu. BeginsWith frame.now (pdu_value pdu) pdu.rest.now) }
     ensures none { OnErr result ((value : PduValue) (rest : List ℕ) → BeginsWith frame.now value rest → ⊥) }
     ensures header { IfOk result (λ pdu. pdu.head.now ≡ header (pdu_value pdu)) }
+    ensures spells { IfOk result (λ pdu. SpellsHeader (pdu_value pdu) pdu.head.now) }
+    ensures size { IfOk result (λ pdu. length pdu.head.now ≡ header_length (pdu_value pdu)) }
     ensures head { IfOk result (λ pdu. pdu.head.now ≡ rules.header_of frame.now) }
     ensures sum { IfOk result (λ pdu. pdu.sum ≡ rules.pair_at pdu.head.now 8) }
     ensures options { IfOk result (λ pdu. pdu.options.now ≡ options_part pdu.head.now) }
@@ -125,12 +101,12 @@ fn read(frame: &[u8]) -> Result<Pdu<'_>, OptionRefusal>
 }
 
 /// A rule that is broken, its reason and its place.
-fn broken(rule: u8, reason: u8, place: u8) -> OptionRefusal
-    ensures { result ≡ record { rule = rule; reason = reason; place = place } }
+fn broken(rule: u8, reason: Reason, place: u8) -> OptionRefusal
+    ensures { result ≡ record { rule = rule; reason = reason_code reason; place = place } }
 {
     OptionRefusal {
         rule,
-        reason,
+        reason: reason.code(),
         place,
     }
 }
@@ -146,14 +122,14 @@ pub(crate) fn header_of(frame: &[u8]) -> Result<(&[u8], &[u8]), OptionRefusal>
     ensures at_most { IfOk result (λ r. length r.0.now ≤ 254) }
 {
     if frame.len() < FIXED_PART {
-        return Err(broken(1, INCOMPLETE, 0));
+        return Err(broken(1, Reason::IncompletePdu, 0));
     }
     let size = frame[1];
     if usize::from(size) < FIXED_PART || size == RESERVED_LENGTH {
-        return Err(broken(2, HEADER_SYNTAX, 2));
+        return Err(broken(2, Reason::HeaderSyntaxError, 2));
     }
     if frame.len() < usize::from(size) {
-        return Err(broken(3, INCOMPLETE, 2));
+        return Err(broken(3, Reason::IncompletePdu, 2));
     }
     Ok(frame.split_at(usize::from(size)))
 }
@@ -196,13 +172,7 @@ pub(crate) fn kind_of(head: &[u8]) -> Option<Kind>
     requires { 9 ≤ length head.now }
     ensures { result ≡ rules.kind_of (type_of head.now) }
 {
-    match head[4] % TYPES {
-        1 => Some(Kind::Er),
-        28 => Some(Kind::Dt),
-        30 => Some(Kind::Erq),
-        31 => Some(Kind::Erp),
-        _ => None,
-    }
+    Kind::from_type(head[4] % TYPES)
 }
 
 /// Whether the header's checksum is right, or not in use.
@@ -223,16 +193,16 @@ fn check_fixed_part(head: &[u8]) -> Result<Kind, OptionRefusal>
     ensures kind { IfOk result (λ kind. rules.kind_of (type_of head.now) ≡ Some kind) }
 {
     if head[2] != VERSION {
-        return Err(broken(4, UNSUPPORTED_VERSION, 3));
+        return Err(broken(4, Reason::UnsupportedVersion, 3));
     }
     if !has_right_checksum(head) {
-        return Err(broken(5, INCORRECT_CHECKSUM, 0));
+        return Err(broken(5, Reason::IncorrectChecksum, 0));
     }
     let Some(kind) = kind_of(head) else {
-        return Err(broken(6, HEADER_SYNTAX, 5));
+        return Err(broken(6, Reason::HeaderSyntaxError, 5));
     };
     if has_more(head) && !is_segmented(head) {
-        return Err(broken(7, HEADER_SYNTAX, 5));
+        return Err(broken(7, Reason::HeaderSyntaxError, 5));
     }
     Ok(kind)
 }
@@ -280,11 +250,11 @@ pub(crate) fn read_addresses(head: &[u8]) -> Result<Addresses, OptionRefusal>
     ensures within { IfOk result (λ addresses. addresses.end ≤ length head.now + 1) }
 {
     let Some(to) = address_at(head, FIXED_PART + 1) else {
-        return Err(broken(8, HEADER_SYNTAX, 10));
+        return Err(broken(8, Reason::HeaderSyntaxError, 10));
     };
     let place = FIXED_PART + 2 + to.as_bytes().len();
     let Some(from) = address_at(head, place) else {
-        return Err(broken(9, HEADER_SYNTAX, place as u8));
+        return Err(broken(9, Reason::HeaderSyntaxError, place as u8));
     };
     let end = place + 1 + from.as_bytes().len();
     Ok(Addresses { to, from, end })
@@ -341,14 +311,14 @@ fn read_lengths(head: &[u8], place: usize, frame_length: usize) -> Result<Length
 {
     let segmented = is_segmented(head);
     if segmented && head.len() < place + (SEGMENTATION_PART - 1) {
-        return Err(broken(10, HEADER_SYNTAX, place as u8));
+        return Err(broken(10, Reason::HeaderSyntaxError, place as u8));
     }
     let segment_length = usize::from(pair_at(head, 6));
     if segment_length < head.len() {
-        return Err(broken(11, HEADER_SYNTAX, 6));
+        return Err(broken(11, Reason::HeaderSyntaxError, 6));
     }
     if frame_length < segment_length {
-        return Err(broken(12, INCOMPLETE, 6));
+        return Err(broken(12, Reason::IncompletePdu, 6));
     }
     let data_length = segment_length - head.len();
     if !segmented {
@@ -359,7 +329,7 @@ fn read_lengths(head: &[u8], place: usize, frame_length: usize) -> Result<Length
     }
     let part = segmentation_part(head, place);
     if is_bad_range(part, head.len(), data_length, has_more(head)) {
-        return Err(broken(13, HEADER_SYNTAX, place as u8 + 4));
+        return Err(broken(13, Reason::HeaderSyntaxError, place as u8 + 4));
     }
     Ok(Lengths {
         seg: Some(part),

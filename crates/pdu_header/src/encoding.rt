@@ -5,13 +5,10 @@ ghost use Rattle.pdu_header.specs.Grammar.{Spells};
 ghost use Rattle.pdu_header.specs.Parts.{AreFit, parts_length, parts_value, too_long};
 ghost use Rattle.pdu_header.specs.Encoding.{length_refused};
 
-use crate::cells::MOST;
+use crate::layout::{MOST_HEADER, MOST_TOTAL};
 use crate::parts::Parts;
 use crate::write::{header_len, written};
 use std::alloc::Global;
-
-/// The most octets of a header and its data (ISO 8473, section 7.2.8).
-const MOST_TOTAL: usize = 65535;
 
 /// Why no PDU can be made.
 #[derive(Clone, Copy, Debug, PartialEq, Eq)]
@@ -43,7 +40,7 @@ pub fn encode(
     ensures same { OnErr result (out.new.items ≡ out.old.items) }
 {
     let octets = header_len(parts);
-    if octets > MOST {
+    if octets > MOST_HEADER {
         return Err(EncodeRefusal::HeaderTooLong { octets });
     }
     let total = octets + body.len();

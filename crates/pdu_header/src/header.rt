@@ -4,24 +4,24 @@ ghost use Rattle.fletcher.specs.Checksum.{octet};
 ghost use Rattle.pdu_header.specs.Value.{SegmentationPart, PduValue};
 ghost use Rattle.clnp_options.specs.Parameter.{source_route, recording, quality};
 ghost use Rattle.clnp_options.specs.Edits.{edited, advanced, recorded, marked};
-ghost use Rattle.pdu_header.specs.Spelling.{segmentation_octets};
+ghost use Rattle.pdu_header.specs.Spelling.{header_length, segmentation_octets};
 ghost use Rattle.pdu_header.specs.Rules.{part_place};
 ghost use Rattle.pdu_header.specs.View.{part_value};
 ghost use Rattle.pdu_header.specs.Parts.{AreFit, checked, parts_length, parts_value, too_long};
 ghost use Rattle.pdu_header.specs.Headers.{IsHeader, SpellsHeader, with_pair, TakesSegment, MayCarry, LeadsOn, with_lifetime, with_segment, at_offset, with_options};
 
-use crate::cells::{Cells, MOST};
+use crate::cells::Cells;
 use crate::decoder::{has_more, is_segmented, segmentation_part};
+use crate::layout::{
+    MORE_SEGMENTS, MOST_HEADER, MOST_TOTAL, SEGMENTATION_PART, SEGMENTATION_PERMITTED,
+};
 use crate::parts::Parts;
 use crate::pdu::{Pdu, SegPart};
-use crate::write::{MORE_SEGMENTS, SEGMENTATION_PERMITTED, header_len, written};
+use crate::write::{header_len, written};
 use byteorder::{BigEndian, ByteOrder};
 use clnp_views::Head;
 use nsap::Address;
 use std::marker::Model;
-
-/// The most octets of a header and its data (ISO 8473, section 7.2.8).
-const MOST_TOTAL: usize = 65535;
 
 /// Why no header can be made.
 #[derive(Clone, Copy, Debug, PartialEq, Eq)]
@@ -79,7 +79,7 @@ impl Header {
         ensures refused { MatchResult result (λ _. too_long (parts_length parts.now) body_len ≡ None) (λ refusal. too_long (parts_length parts.now) body_len ≡ Some refusal) }
     {
         let octets = header_len(parts);
-        if octets > MOST {
+        if octets > MOST_HEADER {
             return Err(HeaderRefusal::HeaderTooLong { octets });
         }
         let total = octets + body_len;
@@ -94,6 +94,7 @@ impl Header {
     /// The octets.
     pub fn as_bytes(&self) -> &[u8]
         ensures octets { result.now ≡ self.now }
+        ensures size { (v : PduValue) → SpellsHeader v self.now → length result.now ≡ header_length v }
         ensures some { 9 ≤ length result.now }
         ensures few { length result.now ≤ 254 }
     {
@@ -158,8 +159,9 @@ impl Header {
         ensures len { length self.new ≡ length self.old }
     {
         let start = options_index(self.cells.as_bytes());
-        self.cells.advance_route(start);
-        self.cells.reseal();
+        let mut changed = self.cells;
+        changed.advance_route(start);
+        self.cells.take_over(changed.as_bytes(), start);
     }
 
     /// Notes a router's title in the recording of route (section 7.5.5): puts it where it fits, else ends
@@ -169,8 +171,9 @@ impl Header {
         ensures len { length self.new ≡ length self.old }
     {
         let start = options_index(self.cells.as_bytes());
-        self.cells.record_title(start, title.as_bytes());
-        self.cells.reseal();
+        let mut changed = self.cells;
+        changed.record_title(start, title.as_bytes());
+        self.cells.take_over(changed.as_bytes(), start);
     }
 
     /// Sets the bit "congestion experienced" in a quality of service of the globally unique format. Another
@@ -180,8 +183,9 @@ impl Header {
         ensures len { length self.new ≡ length self.old }
     {
         let start = options_index(self.cells.as_bytes());
-        self.cells.mark_congestion(start);
-        self.cells.reseal();
+        let mut changed = self.cells;
+        changed.mark_congestion(start);
+        self.cells.take_over(changed.as_bytes(), start);
     }
 }
 
@@ -192,7 +196,7 @@ fn options_index(octets: &[u8]) -> usize
 {
     let part = part_index(octets);
     if octets[4] >= SEGMENTATION_PERMITTED {
-        part + 6
+        part + SEGMENTATION_PART
     } else {
         part
     }

@@ -1,3 +1,8 @@
+//! The kinds of PDUs, and the types that stand for them in a header.
+ghost use Rattle.pdu_header.specs.Layout as layout;
+ghost use Rattle.pdu_header.specs.Rules as rules;
+ghost use Rattle.std.specs.Prelude.{◌≡◌};
+
 /// The kind of a PDU (ISO 8473, section 7.2.7; the echo PDUs by RFC 1575, section 4).
 #[derive(Clone, Copy, Debug, PartialEq, Eq)]
 pub enum Kind {
@@ -9,4 +14,31 @@ pub enum Kind {
     Erq,
     /// Echo reply.
     Erp,
+}
+
+impl Kind {
+    /// The kind that a type says, where it is known.
+    pub(crate) fn from_type(code: u8) -> Option<Kind>
+        ensures { result ≡ rules.kind_of code }
+    {
+        match code {
+            1 => Some(Kind::Er),
+            28 => Some(Kind::Dt),
+            30 => Some(Kind::Erq),
+            31 => Some(Kind::Erp),
+            _ => None,
+        }
+    }
+
+    /// The type that says this kind.
+    pub(crate) fn type_code(self) -> u8
+        ensures { result ≡ layout.type_code self }
+    {
+        match self {
+            Kind::Er => 1,
+            Kind::Dt => 28,
+            Kind::Erq => 30,
+            Kind::Erp => 31,
+        }
+    }
 }

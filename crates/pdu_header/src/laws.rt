@@ -1,12 +1,20 @@
 //! Laws of the definitions: the grammar of PDUs, stated as a relation between a value and its octets,
 //! and the rules G1 to G20 agree. Each law is the clause of a function that does nothing.
+ghost use Rattle.clnp_options.specs.Parameter.{spelled};
+ghost use Rattle.clnp_options.specs.declared.judge.OptionRefusal.{OptionRefusal};
+ghost use Rattle.fletcher.specs.Checksum.{with_checksum};
+ghost use Rattle.fletcher.specs.Laws.{HasChecksum};
 ghost use Rattle.hex.specs.Hex.{IsBytes};
-ghost use Rattle.pdu_header.specs.Grammar.{BeginsWith, is_report};
+ghost use Rattle.pdu_header.specs.Account.{IsLaidOut};
+ghost use Rattle.pdu_header.specs.Grammar.{BeginsWith, IsPdu, Spells, is_report};
 ghost use Rattle.pdu_header.specs.Headers.{SpellsHeader};
 ghost use Rattle.pdu_header.specs.Reading.{value_of};
-ghost use Rattle.pdu_header.specs.Rules.{is_reportable, octet, refusal};
-ghost use Rattle.pdu_header.specs.Value.{PduValue};
-ghost use Rattle.std.specs.Prelude.{◌≡◌, ◌↔◌, ◌&&◌, ℕ, List, None, not};
+ghost use Rattle.pdu_header.specs.Rules.{is_reportable, is_unfit_range, octet, refusal};
+ghost use Rattle.pdu_header.specs.Segment.{FitsRange};
+ghost use Rattle.pdu_header.specs.Spelling.{header, header_length, segmentation_octets};
+ghost use Rattle.pdu_header.specs.Table.{AreKept, IsLeastBroken, table};
+ghost use Rattle.pdu_header.specs.Value.{PduValue, SegmentationPart};
+ghost use Rattle.std.specs.Prelude.{◌≡◌, ◌↔◌, ◌&&◌, ◌+◌, ◌-◌, ◌<◌, ℕ, Bool, false, List, None, Some, length, nat_lt, not};
 
 /// Of a frame at most one prefix spells a value, and it spells one value only.
 pub fn one_value()
@@ -29,4 +37,38 @@ pub fn reportable_where_wanted()
 /// A header tells the value of a PDU that it is the header of, but for what the data hold.
 pub fn a_header_tells_its_value()
     ensures value { (v : PduValue) (octets : List ℕ) → SpellsHeader v octets → v ≡ value_of octets v.body }
+{}
+
+/// The octets that spell a value are those of the layout behind any two checksum octets that the value wants: the
+/// header is sealed exactly where the value wants a checksum, and has both octets 0 where it wants none; and no other
+/// two octets would do.
+pub fn the_checksum_is_as_wanted()
+    ensures account { (v : PduValue) (octets : List ℕ) → Spells v octets ↔ IsLaidOut v octets }
+    ensures wanted { (v : PduValue) (octets : List ℕ) → SpellsHeader v octets → HasChecksum v.sealed octets }
+    ensures exactly { (v : PduValue) (octets : List ℕ) (is_sealed : Bool) → SpellsHeader v octets → HasChecksum is_sealed octets → is_sealed ≡ v.sealed }
+    ensures no_other { (v : PduValue) (octets : List ℕ) (x y : ℕ) → SpellsHeader v octets → x < 256 → y < 256 → HasChecksum v.sealed (with_checksum octets x y) → with_checksum octets x y ≡ octets }
+{
+    fletcher::laws::one_checksum();
+    fletcher::laws::sealed_is_unique();
+    fletcher::laws::sealed_keeps_others();
+}
+
+/// A frame is refused by the least of the twenty rules in the table that it breaks, with that rule's reason and place,
+/// and by none exactly where it breaks none.
+pub fn the_least_broken_rule_is_told()
+    ensures refused { (frame : List ℕ) (told : OptionRefusal) → (refusal frame ≡ Some told) ↔ IsLeastBroken (table frame) told }
+    ensures kept { (frame : List ℕ) → (refusal frame ≡ None) ↔ AreKept (table frame) }
+    ensures twenty { (frame : List ℕ) → length (table frame) ≡ 20 }
+{}
+
+/// A header has its length, which the lengths of its parts make up.
+pub fn a_header_has_its_length()
+    ensures header { (v : PduValue) → length (header v) ≡ header_length v }
+    ensures parts { (v : PduValue) → header_length v ≡ 11 + length v.destination + length v.source + length (segmentation_octets v.segmentation) + length (spelled v.options) }
+{}
+
+/// The test of a range of data says what fits, and more follows a PDU's data exactly where its unit goes on behind them.
+pub fn more_follows_where_the_unit_goes_on()
+    ensures test { (head_len data_len : ℕ) (more : Bool) (part : SegmentationPart) → (is_unfit_range head_len part.total (part.offset + data_len) more ≡ false) ↔ FitsRange head_len data_len more part }
+    ensures more { (v : PduValue) (part : SegmentationPart) → IsPdu v → v.segmentation ≡ Some part → v.more ≡ nat_lt (part.offset + length v.body) (part.total - header_length v) }
 {}

@@ -1,19 +1,17 @@
 //! CLNP PDUs: their octets and their values.
 #![tactic(auto)]
 
+mod adjusting;
 mod cells;
 mod decoder;
 mod encoding;
 mod header;
-#[cfg(test)]
-mod header_tests;
 mod kind;
 pub mod laws;
+mod layout;
 mod parts;
 mod pdu;
 mod report;
-#[cfg(test)]
-mod tests;
 mod write;
 
 pub use decoder::decode;

@@ -5,11 +5,9 @@ ghost use Rattle.pdu_header.specs.Rules as rules;
 ghost use Rattle.pdu_header.specs.Rules.{header_size, is_reportable, source_place, type_of};
 ghost use Rattle.std.specs.Prelude.{◌≡◌, ◌==◌, ◌≤◌, IfSome, is_some, length};
 
-use crate::decoder::{TYPES, header_of, is_clnp, read_addresses, wants_report};
+use crate::decoder::{header_of, is_clnp, kind_of, read_addresses, wants_report};
+use crate::kind::Kind;
 use crate::pdu::ReportTo;
-
-/// The type of an error report (ISO 8473, section 7.2.7).
-const ERROR_REPORT_TYPE: u8 = 1;
 
 /// Where an error report of the frame's discard goes (section 6.10): the frame begins with 0x81 and
 /// with a whole header in which both addresses lie, which wants a report and is none itself. Version
@@ -45,5 +43,5 @@ fn is_error_report(head: &[u8]) -> bool
     requires { 9 ≤ length head.now }
     ensures { result ≡ (type_of head.now == 1) }
 {
-    head[4] % TYPES == ERROR_REPORT_TYPE
+    matches!(kind_of(head), Some(Kind::Er))
 }

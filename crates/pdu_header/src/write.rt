@@ -1,34 +1,30 @@
 //! A header written from its parts.
 ghost use Rattle.std.specs.Prelude.{◌≡◌, ◌+◌, ◌≤◌, ◌++◌, ◌<◌, ◌∷◌, [], List, ℕ, length, option_map};
-ghost use Rattle.pdu_header.specs.Spelling.{counted, flags_and_type, header, pair_of, segment_length, segmentation_octets, type_code};
+ghost use Rattle.pdu_header.specs.Spelling.{counted, flags_and_type, header, pair_of, segment_length, segmentation_octets};
 ghost use Rattle.pdu_header.specs.Parts.{AreNumbers, AreTyped, parts_length, parts_value};
 ghost use Rattle.pdu_header.specs.View.{part_value};
 
 use crate::cells::Cells;
-use crate::kind::Kind;
+use crate::layout::{
+    ERROR_REPORT, FIXED_PART, MORE_SEGMENTS, PROTOCOL, SEGMENTATION_PART, SEGMENTATION_PERMITTED,
+    VERSION,
+};
 use crate::parts::Parts;
 use crate::pdu::SegPart;
 use byteorder::{BigEndian, ByteOrder};
-
-/// The network layer protocol identifier (ISO 8473, section 7.2.2).
-const PROTOCOL: u8 = 0x81;
-/// The version (section 7.2.4).
-const VERSION: u8 = 1;
-/// Segmentation is permitted (section 7.2.6.1).
-pub const SEGMENTATION_PERMITTED: u8 = 0x80;
-/// More data of the same unit follows (section 7.2.6.2).
-pub const MORE_SEGMENTS: u8 = 0x40;
-/// An error report is wanted (section 7.2.6.3).
-const ERROR_REPORT: u8 = 0x20;
 
 /// The number of octets of the header that is made from these parts.
 pub fn header_len(parts: &Parts) -> usize
     ensures value { result ≡ parts_length parts.now }
     ensures few { result ≤ 311 }
 {
-    let seg = if parts.seg.is_some() { 6 } else { 0 };
+    let seg = if parts.seg.is_some() {
+        SEGMENTATION_PART
+    } else {
+        0
+    };
     let addresses = 2 + parts.to.as_bytes().len() + parts.from.as_bytes().len();
-    9 + addresses + seg + parts.options.as_bytes().len()
+    FIXED_PART + addresses + seg + parts.options.as_bytes().len()
 }
 
 /// The header that is made from these parts, with its length and that of header and body.
@@ -67,7 +63,7 @@ fn push_fixed(cells: &mut Cells, head_len: u8, life: u8, flags: u8, total: u16)
 fn flags(parts: &Parts) -> u8
     ensures { result ≡ flags_and_type (parts_value parts.now []) }
 {
-    let mut flags = type_of(parts.kind);
+    let mut flags = parts.kind.type_code();
     if parts.seg.is_some() {
         flags |= SEGMENTATION_PERMITTED;
     }
@@ -78,18 +74,6 @@ fn flags(parts: &Parts) -> u8
         flags |= ERROR_REPORT;
     }
     flags
-}
-
-/// The type (ISO 8473, section 7.2.7; RFC 1575, section 4).
-fn type_of(kind: Kind) -> u8
-    ensures { result ≡ type_code kind }
-{
-    match kind {
-        Kind::Dt => 28,
-        Kind::Er => 1,
-        Kind::Erq => 30,
-        Kind::Erp => 31,
-    }
 }
 
 /// Puts an address behind its length octet.

@@ -18,7 +18,10 @@ use Rattle.reassembly.specs.Offered.{MayCome, openings_of, total_size}
 use Rattle.reassembly.specs.Sound.{IsSound}
 use Rattle.reassembly.specs.State.{TableState, KeepsSegments, Stands, opening_of, segments_of}
 use Rattle.reassembly.specs.Ending.{first_pdu, others_of}
-use Rattle.reassembly.proofs.Removing.{AllByRecursion-filter, AllByRecursion-map, AllByRecursion-slice_get, filter-filter, filter-map, find-filter, find-map, length-filter_le, remove-only, sum-filter_le}
+use Rattle.clnp_base.proofs.Filters.{AllByRecursion-filter, filter-filter, find-filter, remove-only}
+use Rattle.clnp_base.proofs.Lists.{AllByRecursion-map, AllByRecursion-slice_get}
+use Rattle.clnp_base.proofs.Maps.{filter-map, find-map}
+use Rattle.clnp_base.proofs.Sums.{length_filter, sum_filter}
 use Rattle.reassembly.proofs.Due.{due_at, no_due}
 use Rattle.reassembly.proofs.Keys.{same_key-like, same_key-true}
 
@@ -56,9 +59,9 @@ module _ (openings : List Opening) (slot : ℕ) (opening : Opening) (at : slice_
         (λ s t once. openings_of-others s.key (not-true (same_key s.key key) t) ∙ once) segments h.owned;
     came = AllByRecursion-filter (λ s. not (same_key s.key key)) MayCome MayCome (λ s t k. k) segments h.came;
     held_is = refl;
-    budget = omega (arith, sum-filter_le (λ s. not (same_key s.key key)) (λ s. length s.pdu.frame) segments, h.held_is, h.budget);
-    few_segments = omega (arith, length-filter_le (λ s. not (same_key s.key key)) segments, h.few_segments);
-    few_openings = rw remove-slot (omega (arith, length-filter_le (λ o. not (same_key o.key key)) openings, h.few_openings));
+    budget = omega (arith, sum_filter (λ (s : Segment). length s.pdu.frame) (λ s. not (same_key s.key key)) segments, h.held_is, h.budget);
+    few_segments = omega (arith, length_filter (λ s. not (same_key s.key key)) segments, h.few_segments);
+    few_openings = rw remove-slot (omega (arith, length_filter (λ o. not (same_key o.key key)) openings, h.few_openings));
     budget_fits = h.budget_fits;
     segments_fit = h.segments_fit;
     slots_fit = h.slots_fit;
@@ -68,12 +71,12 @@ module _ (openings : List Opening) (slot : ℕ) (opening : Opening) (at : slice_
       (stands : Stands (record { limits = limits; openings = openings; segments = segments }) buffers) where
     pub buffers-once : length (filter (λ b. same_key b.key key) buffers) ≡ 1
     buffers-once =
-        sym (length-map (filter (λ b. same_key b.key key) buffers) opening_of) ∙ ap length (sym (filter-map (λ o. same_key o.key key) opening_of buffers))
+        sym (length-map (filter (λ b. same_key b.key key) buffers) opening_of) ∙ ap length (sym (filter-map opening_of (λ o. same_key o.key key) buffers))
         ∙ ap (openings_of key) (sym stands.openings) ∙ counted-once
 
     pub stands_without : Stands (record { limits = limits; openings = remove openings slot; segments = others_of key segments }) (without key buffers)
     stands_without = record {
-      openings = remove-slot ∙ ap (filter (λ o. not (same_key o.key key))) stands.openings ∙ filter-map (λ o. not (same_key o.key key)) opening_of buffers;
+      openings = remove-slot ∙ ap (filter (λ o. not (same_key o.key key))) stands.openings ∙ filter-map opening_of (λ o. not (same_key o.key key)) buffers;
       segments = AllByRecursion-filter (λ b. not (same_key b.key key))
           (KeepsSegments (record { limits = limits; openings = openings; segments = segments }))
           (KeepsSegments (record { limits = limits; openings = remove openings slot; segments = others_of key segments }))
@@ -89,7 +92,7 @@ pub first_of : (table : TableState) (buffer : Buffer Extent) → KeepsSegments t
 first_of table buffer keeps =
     let begins : Arrival Extent → Bool = λ a. a.offset == 0 in
     sym (ap (λ l. option_map (λ a. a.carried) (find begins l)) keeps
-    ∙ ap (option_map (λ a. a.carried)) (find-map begins arrival_of (segments_of buffer.key table.segments))
+    ∙ ap (option_map (λ a. a.carried)) (find-map arrival_of begins (segments_of buffer.key table.segments))
     ∙ carried_pdu (find (λ s. begins (arrival_of s)) (segments_of buffer.key table.segments))
     ∙ ap (option_map (λ s. s.pdu)) (find-filter (λ s. same_key s.key buffer.key) (λ s. begins (arrival_of s)) table.segments))
 
@@ -110,11 +113,11 @@ due_of now openings buffers slot opening same at has_ended least first =
     let ended = found.0 in
     let deadline : ended.deadline ≡ opening.deadline = ap (λ o. o.deadline) found.2 in
     let all : AllByRecursion (λ b. ended.deadline ≤ b.deadline) buffers =
-    AllByRecursion-map opening_of (λ o. ended.deadline ≤ o.deadline) buffers
+    AllByRecursion-map (λ o. ended.deadline ≤ o.deadline) opening_of buffers
     (subst (AllByRecursion (λ o. ended.deadline ≤ o.deadline)) same
     (recursion_from_All (λ o. ended.deadline ≤ o.deadline) openings (subst (λ d. All (λ o. d ≤ o.deadline) openings) (sym deadline) least))) in
     let before : AllByRecursion (λ b. ended.deadline < b.deadline) (take slot buffers) =
-    AllByRecursion-map opening_of (λ o. ended.deadline < o.deadline) (take slot buffers)
+    AllByRecursion-map (λ o. ended.deadline < o.deadline) opening_of (take slot buffers)
     (subst (AllByRecursion (λ o. ended.deadline < o.deadline)) (ap (take slot) same ∙ take-map opening_of slot buffers)
     (recursion_from_All (λ o. ended.deadline < o.deadline) (take slot openings) (subst (λ d. All (λ o. d < o.deadline) (take slot openings)) (sym deadline) first))) in
     (ended, due_at now buffers slot ended found.1 (omega arith) all before, ap (λ o. o.key) found.2, found.1)
@@ -122,5 +125,5 @@ due_of now openings buffers slot opening same at has_ended least first =
 pub none_due_of : (now : ℕ) (openings : List Opening) (buffers : List (Buffer Extent)) → openings ≡ map opening_of buffers
     → All (λ o. now < o.deadline) openings → due now buffers ≡ None
 none_due_of now openings buffers same later =
-    no_due now buffers (AllByRecursion-map opening_of (λ o. now < o.deadline) buffers
+    no_due now buffers (AllByRecursion-map (λ o. now < o.deadline) opening_of buffers
     (subst (AllByRecursion (λ o. now < o.deadline)) same (recursion_from_All (λ o. now < o.deadline) openings later)))

@@ -1,6 +1,6 @@
 -- What keeping a segment and taking one out do to the buffers.
 use Rattle.std.proofs.Common.{◌≡◌, ◌≢◌, ℕ, ◌+◌, ◌<◌, ◌≤◌, Bool, true, false, cond, List, [], ◌∷◌, ◌++◌, Option, Some, None, length, map, refl, sym, ap, ◌∙◌, inl, inr, arith}
-use Rattle.std.specs.Prelude.{is_none, not, nat_le, nat_lt, ◌&&◌, if◌then◌else◌}
+use Rattle.std.specs.Prelude.{is_none, not, nat_le, nat_lt, ◌&&◌}
 use Rattle.std.specs.List.{sum}
 use Rattle.std.proofs.lemmas.List.{length_push, length-append}
 use Rattle.std.proofs.lemmas.Bool.{cases_Bool, leb-false, ltb-false}
@@ -9,12 +9,8 @@ use Rattle.reassembly.specs.declared.table.TableLimits.{TableLimits}
 use Rattle.reassembly.specs.Arrival.{Arrival, same_key, are_covered}
 use Rattle.reassembly.specs.Buffer.{Buffer, Answer, Many, buffer_of, kept_in, clashes, size_of, held, kept, refusal, opened_by, with_kept, after, buffers_of, without, but_last, holding, undone}
 use Rattle.reassembly.specs.Claims.{KeepTo, MayBeKept}
-use Rattle.reassembly.proofs.LawSums.{sum_cons, sum_one, sum_push, sum_front, sum_filter, length_filter}
-
-module _ {A : Type 0} where
-  pub if_none : (b : Bool) (answer : A) (rest : Option A) → (if b then Some answer else rest) ≡ None → (b ≡ false) × (rest ≡ None)
-  if_none true answer rest e = absurd (cc)
-  if_none false answer rest e = (refl, e)
+pub use Rattle.clnp_base.proofs.Choices.{if_none}
+use Rattle.clnp_base.proofs.Sums.{length_filter, sum_cons, sum_filter, sum_front, sum_one, sum_push}
 
 none_is : {X : Type 0} (found : Option X) → is_none found ≡ true → found ≡ None
 none_is None e = refl

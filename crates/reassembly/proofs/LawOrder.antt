@@ -1,16 +1,14 @@
 -- The order in which segments came tells nothing of which places are covered, nor of the octets there.
-use Rattle.std.proofs.Common.{◌≡◌, ℕ, Bool, true, false, List, map, refl, sym, ap, ◌∙◌, inl, inr}
+use Rattle.std.proofs.Common.{◌≡◌, ℕ, List, map, sym, ap, ◌∙◌, inl, inr}
 use Rattle.std.specs.List.{find, range_with_len}
 use Rattle.std.proofs.lemmas.Bool.{cases_Bool}
 use Rattle.reassembly.specs.Arrival.{Arrival, data_len, has, is_covered, are_covered}
 use Rattle.reassembly.specs.Buffer.{Buffer, is_whole, data_of, octet_by}
 use Rattle.reassembly.specs.Claims.{IsCoveredBySome, IsWholeWhereCovered, HaveTheSame, Agree}
-use Rattle.reassembly.proofs.LawCovered.{any_contains, contains_any, find_any, find_none, each_place, from_each_place, map_agree, list_all_agree}
-
-same_true : (b c : Bool) → (b ≡ true → c ≡ true) → (c ≡ true → b ≡ true) → b ≡ c
-same_true true c f g = sym (f refl)
-same_true false true f g = g refl
-same_true false false f g = refl
+use Rattle.clnp_base.proofs.Choices.{same_true}
+use Rattle.clnp_base.proofs.Found.{any_contains, contains_any, find_any, find_none}
+use Rattle.clnp_base.proofs.Maps.{list_all-agree, map-agree}
+use Rattle.clnp_base.proofs.Ranges.{each_place, from_each_place}
 
 module _ {C : Type 0} where
   pub covered_by_some : (arrivals : List (Arrival C)) (place : ℕ) → IsCoveredBySome arrivals place
@@ -49,7 +47,7 @@ module _ {C : Type 0} where
   pub same_data : (read : Arrival C → ℕ → ℕ) (buffer other : Buffer C) → buffer.shape ≡ other.shape
       → HaveTheSame buffer.kept other.kept → Agree read buffer.kept → data_of read buffer ≡ data_of read other
   same_data read buffer other shapes same agree =
-      map_agree (λ place. octet_by read place (find (has place) buffer.kept))
+      map-agree (λ place. octet_by read place (find (has place) buffer.kept))
       (λ place. octet_by read place (find (has place) other.kept)) (range_with_len 0 (data_len buffer.shape))
       (λ place. same_octet read buffer.kept other.kept place same agree)
       ∙ ap (λ shape. map (λ place. octet_by read place (find (has place) other.kept)) (range_with_len 0 (data_len shape))) shapes
@@ -57,6 +55,6 @@ module _ {C : Type 0} where
   pub same_whole : (buffer other : Buffer C) → buffer.shape ≡ other.shape
       → HaveTheSame buffer.kept other.kept → is_whole buffer ≡ is_whole other
   same_whole buffer other shapes same =
-      list_all_agree (is_covered buffer.kept) (is_covered other.kept) (range_with_len 0 (data_len buffer.shape))
+      list_all-agree (is_covered buffer.kept) (is_covered other.kept) (range_with_len 0 (data_len buffer.shape))
       (λ place. same_covered buffer.kept other.kept place same)
       ∙ ap (λ shape. are_covered other.kept 0 (data_len shape)) shapes

@@ -1,7 +1,7 @@
 -- When the time of buffers ends.
-use Rattle.std.proofs.Common.{◌≡◌, ℕ, ◌+◌, ◌<◌, ◌≤◌, ◌⊎◌, min, not, true, false, List, [], ◌∷◌, ◌++◌, Option, Some, None, refl, sym, ap, ◌∙◌, inl, inr, arith}
+use Rattle.std.proofs.Common.{◌≡◌, ℕ, ◌<◌, ◌≤◌, ◌⊎◌, min, not, List, [], ◌∷◌, ◌++◌, Option, Some, None, refl, sym, ap, ◌∙◌, inl, inr, arith}
 use Rattle.std.specs.Prelude.{nat_le, slice_get}
-use Rattle.std.specs.List.{All, AllByRecursion}
+use Rattle.std.specs.List.{All}
 use Rattle.std.proofs.lemmas.Bool.{cases_Bool, leb-false, leb-true}
 use Rattle.std.proofs.lemmas.List.Elements.{All-cons, All-head, All-tail}
 use Rattle.reassembly.specs.declared.segment.Key.{Key}
@@ -11,7 +11,7 @@ use Rattle.reassembly.specs.Buffer.{Answer, Buffer, after, buffers_of, but_last,
 use Rattle.reassembly.specs.Claims.{AllEndInTime, EndsInTime}
 use Rattle.reassembly.proofs.LawDue.{due_of_none, none_due}
 use Rattle.reassembly.proofs.LawKept.{kept_or_not}
-use Rattle.reassembly.proofs.Removing.{AllByRecursion-filter}
+use Rattle.clnp_base.proofs.Filters.{AllByRecursion-filter}
 
 lesser : (a b : ℕ) → (min a b ≤ a) × (min a b ≤ b) × ((a ≤ min a b) ⊎ (b ≤ min a b))
 lesser a b =

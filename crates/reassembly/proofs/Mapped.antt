@@ -11,8 +11,7 @@ use Rattle.reassembly.specs.declared.table.TableLimits.{TableLimits}
 use Rattle.reassembly.specs.Arrival.{Arrival, same_key, data_len, has, is_covered, are_covered, earliest}
 use Rattle.reassembly.specs.Buffer.{Buffer, Answer, is_whole, buffer_of, kept_in, size_of, held, kept, clashes, shape_in, refusal, with_kept, is_whole_in, kept_answer, answer_of, buffers_of, answer, after, without, but_last, holding, undone, sooner, soonest, due, without_due, first_carried, octet_by, data_of}
 use Rattle.reassembly.specs.Mapped.{map_arrival, map_buffer, map_buffers}
-use Rattle.reassembly.proofs.LawCovered.{list_all_agree, map_agree}
-use Rattle.reassembly.proofs.LawMaps.{list_any-map, find-map, filter-map, map-map}
+use Rattle.clnp_base.proofs.Maps.{filter-map, find-map, list_all-agree, list_any-map, map-agree, map-map}
 
 module _ {C D : Type 0} (f : C → D) where
   -- ---- what is asked of buffers
@@ -23,7 +22,7 @@ module _ {C D : Type 0} (f : C → D) where
   pub are_covered-mapped : (arrivals : List (Arrival C)) (from len : ℕ)
       → are_covered (map (map_arrival f) arrivals) from len ≡ are_covered arrivals from len
   are_covered-mapped arrivals from len =
-      list_all_agree (is_covered (map (map_arrival f) arrivals)) (is_covered arrivals) (range_with_len from len)
+      list_all-agree (is_covered (map (map_arrival f) arrivals)) (is_covered arrivals) (range_with_len from len)
       (λ place. is_covered-mapped arrivals place)
 
   pub earliest-mapped : (arrivals : List (Arrival C)) (place : ℕ)
@@ -207,7 +206,7 @@ module _ {C D : Type 0} (f : C → D) where
       → ((arrival : Arrival C) (place : ℕ) → read_mapped (map_arrival f arrival) place ≡ read arrival place)
       → data_of read_mapped (map_buffer f buffer) ≡ data_of read buffer
   data_of-mapped read read_mapped buffer same =
-      map_agree (λ place. octet_by read_mapped place (earliest (map (map_arrival f) buffer.kept) place))
+      map-agree (λ place. octet_by read_mapped place (earliest (map (map_arrival f) buffer.kept) place))
       (λ place. octet_by read place (earliest buffer.kept place)) (range_with_len 0 (data_len buffer.shape))
       (λ place.
       ap (octet_by read_mapped place) (earliest-mapped buffer.kept place)

@@ -8,13 +8,12 @@ use Rattle.reassembly.specs.declared.table.Accept.{Accept}
 use Rattle.reassembly.specs.declared.table.Accept.TheVariants as accept
 use Rattle.reassembly.specs.declared.table.Expired.{Expired}
 use Rattle.reassembly.specs.declared.table.SlotNo.{SlotNo}
-use Rattle.reassembly.specs.declared.table.TableLimits.{TableLimits}
 use Rattle.reassembly.specs.Arrival.{arrival_of}
-use Rattle.reassembly.specs.Buffer.{Answer, Buffer, Whole, after, answer, answer_of, buffers_of, due, first_carried, kept_answer, refusal, undone, with_kept, without, without_due}
-use Rattle.reassembly.specs.Claims.{NoneIsWhole}
+use Rattle.reassembly.specs.Buffer.{Buffer, Whole, after, answer, answer_of, buffers_of, due, first_carried, kept_answer, refusal, undone, with_kept, without, without_due}
 use Rattle.reassembly.specs.NoWhole.{HasNoWhole, IsCompleted}
 use Rattle.reassembly.specs.State.{IsReady, IsWholeSlot, Names, Stands, TableState, said}
-use Rattle.reassembly.proofs.Ready.{none_whole-after, none_whole-released, none_whole-undone, none_whole-without_due, said_not_whole, whole_slot}
+pub use Rattle.reassembly.proofs.Ready.{none_whole-without_due}
+use Rattle.reassembly.proofs.Ready.{none_whole-after, none_whole-released, none_whole-undone, said_not_whole, whole_slot}
 
 pub empty_none_whole : (table : TableState) → Stands table [] → HasNoWhole table
 empty_none_whole table stands = record { buffers = []; stands = stands; none_whole = tt }

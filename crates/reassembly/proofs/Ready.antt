@@ -15,7 +15,7 @@ use Rattle.reassembly.specs.declared.table.SlotNo.{SlotNo}
 use Rattle.reassembly.specs.Claims.{IsMadeWhole}
 use Rattle.reassembly.specs.State.{IsWholeSlot, Names, Stands, TableState, said}
 use Rattle.reassembly.proofs.Keys.{same_key-like, same_key-true}
-use Rattle.reassembly.proofs.Removing.{AllByRecursion-filter}
+use Rattle.clnp_base.proofs.Filters.{AllByRecursion-filter}
 
 -- a chain of tests that doesn't come to an answer of a whole unit
 cond_not_whole : (test : Bool) (told : Answer) (others : Option Answer) → (told ≡ Whole → ⊥) → (others ≡ Some Whole → ⊥)

@@ -10,7 +10,8 @@ use Rattle.reassembly.specs.declared.segment.Segment.{Segment}
 use Rattle.reassembly.specs.Arrival.{Arrival, are_covered, arrival_of, earliest, has, is_covered, same_key}
 use Rattle.reassembly.specs.State.{segments_of}
 use Rattle.reassembly.proofs.Covered.{covered_by_each, each_covered}
-use Rattle.reassembly.proofs.Finding.{IsFirst, any-map-filter, find-map-filter, none_more, none_read}
+use Rattle.clnp_base.proofs.Found.{IsFirst, none_more, none_read}
+use Rattle.clnp_base.proofs.Maps.{find-map-filter, list_any-map-filter}
 
 -- whether a segment is one of the key and has the octet at a place
 abbrev pub gives : Key → ℕ → Segment → Bool
@@ -69,7 +70,7 @@ arrivals_of key segments = map arrival_of (segments_of key segments)
 
 pub covered_is : (key : Key) (segments : List Segment) (place : ℕ)
     → is_covered (arrivals_of key segments) place ≡ list_any (gives key place) segments
-covered_is key segments place = any-map-filter (has place) arrival_of (λ segment. same_key segment.key key) segments
+covered_is key segments place = list_any-map-filter (has place) arrival_of (λ segment. same_key segment.key key) segments
 
 pub earliest_is : (key : Key) (segments : List Segment) (place : ℕ)
     → earliest (arrivals_of key segments) place ≡ option_map arrival_of (find (gives key place) segments)

@@ -14,7 +14,8 @@ use Rattle.reassembly.specs.Offered.{MayCome, openings_of, total_size}
 use Rattle.reassembly.specs.Sound.{IsSound}
 use Rattle.reassembly.specs.State.{TableState, KeepsSegments, Stands, opening_of, segments_of}
 use Rattle.reassembly.specs.Ending.{without_last}
-use Rattle.reassembly.proofs.Removing.{AllByRecursion-none, AllByRecursion-weaker, filter_not-none}
+use Rattle.clnp_base.proofs.Filters.{AllByRecursion-none, filter_not-none}
+use Rattle.clnp_base.proofs.Lists.{AllByRecursion-implies}
 use Rattle.reassembly.proofs.Keys.{same_key-true, same_key-false_sym}
 use Rattle.reassembly.proofs.Undoing.{All-without_last, length-without_last, others-without_last, segments_of-without_last, size-without_last}
 
@@ -112,7 +113,7 @@ module _ (key : Key) (limits : TableLimits) (segments : List Segment) (openings 
 
   leaves-but : (buffers : List (Buffer Extent)) → AllByRecursion (KeepsSegments old) buffers → AllByRecursion (LeavesBut key left) buffers
   leaves-but buffers h =
-      AllByRecursion-weaker (KeepsSegments old) (LeavesBut key left)
+      AllByRecursion-implies (KeepsSegments old) (LeavesBut key left)
       (λ b k t. ap but_last k ∙ ap (λ k. but_last (map arrival_of (segments_of k segments))) (same_key-true b.key key t) ∙ sym (segments_of-without_last key segments))
       buffers h
 

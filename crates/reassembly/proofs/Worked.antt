@@ -5,7 +5,7 @@ use Rattle.reassembly.specs.declared.segment.Key.{Key}
 use Rattle.reassembly.specs.declared.segment.Shape.{Shape}
 use Rattle.reassembly.specs.declared.table.TableLimits.{TableLimits}
 use Rattle.reassembly.specs.Arrival.{Arrival}
-use Rattle.reassembly.specs.Buffer.{Buffer, Answer, Held, Whole, Interference, Repeat, NoSlot, Many, held, answer, after, undone}
+use Rattle.reassembly.specs.Buffer.{Buffer, Held, Whole, Interference, Repeat, NoSlot, Many, held, answer, after, undone}
 
 abbrev limits : (slots segments : ℕ) → TableLimits
 limits slots segments = record { slots = slots; segments = segments; budget = 262144; hold = 60 }

@@ -1,10 +1,10 @@
 -- Reassembly buffers, and which segments are kept (ISO 8473, sections 6.8 and 6.9).
-use Rattle.std.specs.Prelude.{ℕ, ◌+◌, ◌==◌, ◌&&◌, not, min, nat_le, nat_lt, Bool, true, false, if◌then◌else◌, List, [], ◌∷◌, ◌++◌, length, map, filter, sum, Option, None, Some, option_map, is_none}
+use Rattle.std.specs.Prelude.{ℕ, ◌+◌, ◌==◌, ◌&&◌, not, min, nat_le, nat_lt, Bool, false, if◌then◌else◌, List, [], ◌∷◌, ◌++◌, length, map, filter, sum, Option, None, Some, option_map, is_none}
 use Rattle.std.specs.List.{find, range_with_len}
 use Rattle.reassembly.specs.declared.segment.Key.{Key}
 use Rattle.reassembly.specs.declared.segment.Shape.{Shape}
 use Rattle.reassembly.specs.declared.table.TableLimits.{TableLimits}
-use Rattle.reassembly.specs.Arrival.{Arrival, same_key, same_shape, data_len, has, are_covered, earliest}
+use Rattle.reassembly.specs.Arrival.{Arrival, same_key, same_shape, data_len, are_covered, earliest}
 
 -- The segments of one unit that are kept, in the order in which they came. `opened` and `deadline` are moments.
 pub record Buffer (C : Type 0) : Type 0 where

@@ -1,15 +1,14 @@
 -- What a table keeps, and the buffers that it stands for.
-use Rattle.std.specs.Prelude.{◌≡◌, ℕ, ◌+◌, ◌-◌, ◌≤◌, ◌<◌, ◌==◌, ◌&&◌, not, true, false, Bool, List, [], ◌∷◌, length, map, filter, Option, Some, IsTrue, slice_get}
+use Rattle.std.specs.Prelude.{◌≡◌, ℕ, ◌+◌, ◌≤◌, ◌<◌, true, false, Bool, List, length, map, filter, Option, Some, slice_get}
 use Rattle.std.specs.List.{AllByRecursion, position_from}
 use Rattle.clnp_views.specs.Extent.{Extent}
 use Rattle.reassembly.specs.declared.segment.Key.{Key}
-use Rattle.reassembly.specs.declared.segment.Shape.{Shape}
 use Rattle.reassembly.specs.declared.segment.Segment.{Segment}
 use Rattle.reassembly.specs.declared.table.TableLimits.{TableLimits}
 use Rattle.reassembly.specs.declared.table.Opening.{Opening}
 use Rattle.reassembly.specs.declared.table.Accept.{Accept}
 use Rattle.reassembly.specs.declared.table.Accept.TheVariants as accept
-use Rattle.reassembly.specs.Arrival.{Arrival, arrival_of, same_key, data_len}
+use Rattle.reassembly.specs.Arrival.{arrival_of, same_key}
 use Rattle.reassembly.specs.Offered.{openings_of, total_size}
 use Rattle.reassembly.specs.Buffer.{Buffer, Answer, Held, Whole, Interference, Repeat, NoSlot, Crowded, Many, is_whole, buffer_of, due}
 

@@ -1,5 +1,5 @@
 //! Which places of a unit's data the kept segments of its key cover.
-ghost use Rattle.std.specs.Prelude.{◌≡◌, ◌+◌, ◌-◌, ◌<◌, ◌≤◌, ◌&&◌, ℕ, Some, true, false, map, slice_get};
+ghost use Rattle.std.specs.Prelude.{◌≡◌, ◌+◌, ◌-◌, ◌<◌, ◌≤◌, ◌^◌, ◌&&◌, ℕ, Some, true, false, map, slice_get};
 ghost use Rattle.std.specs.List.{AllByRecursion, position_from};
 ghost use Rattle.reassembly.specs.declared.segment.Segment.{Segment};
 ghost use Rattle.reassembly.specs.Arrival.{are_covered, arrival_of, has, is_covered, same_key};
@@ -7,6 +7,22 @@ ghost use Rattle.reassembly.specs.Offered.{MayCome};
 ghost use Rattle.reassembly.specs.State.{segments_of};
 
 use crate::segment::{Key, Segment};
+
+/// Whether the segments of a key have so many octets of data, where those that came again count again. Segments that
+/// haven't can't cover so many places.
+pub fn has_octets(segments: &[Segment], key: &Key, enough: usize) -> bool
+    requires came { AllByRecursion MayCome segments.now }
+    requires fits { enough < 2 ^ 16 }
+    ensures few { result ≡ false → are_covered (map arrival_of (segments_of key.now segments.now)) 0 enough ≡ false }
+{
+    let mut total = 0;
+    for segment in segments {
+        if total < enough && segment.key.is(key) {
+            total += segment.data_len();
+        }
+    }
+    total >= enough
+}
 
 /// The first place from `from` on, below `to`, that no segment of the key has; `to` where each place has one.
 pub fn first_gap(segments: &[Segment], key: &Key, from: usize, to: usize) -> usize
@@ -33,7 +49,7 @@ pub fn first_with(segments: &[Segment], key: &Key, place: usize) -> Option<usize
     ensures { result ≡ position_from (λ segment. same_key segment.key key.now && has place (arrival_of segment)) 0 segments.now }
 {
     for (index, segment) in segments.iter().enumerate() {
-        if segment.key == *key && segment.has(place) {
+        if segment.key.is(key) && segment.has(place) {
             return Some(index);
         }
     }
@@ -52,7 +68,7 @@ pub fn run_end(segments: &[Segment], key: &Key, index: usize, place: usize) -> u
     let mut end = segments[index].end();
     for segment in &segments[..index] {
         let start = usize::from(segment.offset);
-        if segment.key == *key && place < start {
+        if segment.key.is(key) && place < start {
             end = end.min(start);
         }
     }

@@ -1,7 +1,7 @@
 //! Segments of data units.
-ghost use Rattle.std.specs.Prelude.{◌≡◌, ◌+◌, ◌≤◌, map};
+ghost use Rattle.std.specs.Prelude.{◌≡◌, ◌+◌, ◌<◌, ◌≤◌, ◌^◌, map};
 ghost use Rattle.std.specs.List.{range_with_len};
-ghost use Rattle.reassembly.specs.Arrival.{arrival_of, data_len, has, octet_in};
+ghost use Rattle.reassembly.specs.Arrival.{arrival_of, data_len, has, octet_in, same_key};
 ghost use Rattle.reassembly.specs.Offered.{MayCome};
 
 use clnp_views::View;
@@ -14,6 +14,15 @@ pub struct Key {
     pub from: Address,
     pub to: Address,
     pub id: u16,
+}
+
+impl Key {
+    /// Whether it is this key. It tests the identifier first, in which the keys of one table differ most.
+    pub(crate) fn is(&self, key: &Key) -> bool
+        ensures { result ≡ same_key self.now key.now }
+    {
+        self.id == key.id && self.from == key.from && self.to == key.to
+    }
 }
 
 /// What must agree in all segments of a unit.
@@ -54,8 +63,11 @@ impl Segment {
     /// How many octets of data it has.
     pub(crate) fn data_len(&self) -> usize
         requires { MayCome self.now }
-        ensures { result ≡ (arrival_of self.now).len }
+        ensures len { result ≡ (arrival_of self.now).len }
+        ensures few { result < 2 ^ 16 }
     {
+        // Read for its range: no segment has more than its unit.
+        let _total = self.shape.total;
         self.pdu.len() - usize::from(self.shape.head_len)
     }
 

@@ -10,7 +10,7 @@ ghost use Rattle.reassembly.specs.NoWhole.{HasNoWhole, IsCompleted};
 ghost use Rattle.reassembly.specs.Offered.{MayCome, openings_of};
 ghost use Rattle.reassembly.specs.State.{IsReady, IsWholeSlot, MayKeep, Names, Stands, said, segments_of, slot_of, was_kept};
 
-use crate::coverage::first_gap;
+use crate::coverage::{first_gap, has_octets};
 use crate::pieces::Pieces;
 use crate::segment::{Key, Segment, Shape};
 use clnp_base::NoMemory;
@@ -295,7 +295,7 @@ impl Table {
     fn slot_of(&self, key: &Key) -> Option<usize>
         ensures { result ≡ slot_of key.now self.now.openings }
     {
-        self.openings.iter().position(|opening| opening.key == *key)
+        self.openings.iter().position(|opening| opening.key.is(key))
     }
 }
 
@@ -326,5 +326,5 @@ fn is_whole(segments: &[Segment], key: &Key, shape: Shape) -> bool
     ensures { result ≡ are_covered (map arrival_of (segments_of key.now segments.now)) 0 (data_len shape) }
 {
     let end = shape.data_len();
-    first_gap(segments, key, 0, end) == end
+    has_octets(segments, key, end) && first_gap(segments, key, 0, end) == end
 }

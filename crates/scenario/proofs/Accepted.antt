@@ -1,16 +1,17 @@
 -- A text that the grammar accepts is a scenario that is fit to be run.
-use Rattle.std.proofs.Common.{◌≡◌, ℕ, ◌+◌, ◌≤◌, ◌&&◌, true, nat_le, List, [], ◌∷◌, map, codes, Ok, IfOk, refl, arith}
-use Rattle.std.specs.List.{AllByRecursion, sum}
+use Rattle.std.proofs.Common.{◌≡◌, ℕ, ◌+◌, ◌≤◌, ◌&&◌, true, nat_le, List, [], ◌∷◌, map, codes, Result, Ok, Err, IfOk, refl, sym, ◌∙◌, subst, arith}
+use Rattle.std.specs.List.{AllByRecursion, flat_map, sum}
 use Rattle.std.proofs.lemmas.Bool.{leb-true, and_parts}
+use Rattle.std.proofs.lemmas.List.{length-map}
 use Rattle.std.proofs.lemmas.List.Sums.{sum_by-cons}
 use Rattle.std.proofs.lemmas.Result.{IfOk-at_ok}
 use Rattle.clnp_base.specs.Text.{lines_of, words_of}
 use Rattle.clnp_plan.specs.Configuration.{SystemConfiguration, IsSystem}
 use Rattle.clnp_plan.specs.declared.config.Limits.{Limits}
 use Rattle.clnp_plan.specs.declared.config.Role.TheVariants.{Host}
-use Rattle.scenario.specs.Scenario.{Plan, Subnetwork, IsFit, AsksFairly, ticks_of}
+use Rattle.scenario.specs.Scenario.{Plan, Subnetwork, IsFit, AsksFairly, IsPlaced, ticks_of}
 use Rattle.scenario.specs.Words.{is_skipped}
-use Rattle.scenario.specs.Declarations.{Declarations, DeclaredSystem, nothing_declared, limits_of, host_of}
+use Rattle.scenario.specs.Declarations.{Declarations, DeclaredSystem, nothing_declared, limits_of, snpas_on, host_of}
 use Rattle.scenario.specs.Events.{event_line, counted, are_few, nothing_counted}
 use Rattle.scenario.specs.Grammar.{is_line_of, header_from, declarations_from, nothing_after, counted_event, events_from, plan_at, plan_of}
 use Rattle.scenario.specs.declared.counts.Counts.{Counts}
@@ -18,6 +19,8 @@ use Rattle.scenario.specs.declared.event.Event.{Event}
 use Rattle.scenario.proofs.Behind.{behind_result, behind_wanted, behind_such, behind_line_such, either_way}
 use Rattle.scenario.proofs.Apart.{addresses_of, distinct_of, host_addresses}
 use Rattle.scenario.proofs.Asks.{SpellsWhatItAccepts, event_fair}
+use Rattle.scenario.proofs.Placed.{AreAmong, event_placed}
+use Rattle.scenario.proofs.Kept.{host_snpas, hosts_on}
 use Rattle.scenario.proofs.Lists.{host_names}
 use Rattle.scenario.proofs.Fit.{AreDeclared, declarations_fit, nothing_fit, hosts_fit}
 
@@ -28,37 +31,45 @@ few_ticks counts h =
     leb-true counts.ticks 1000000 q.1
 
 -- an event that is counted, behind others
-record IsCounted (counts : Counts) (event : Event) : Type 0 where
+record IsCounted (names : List (List ℕ)) (counts : Counts) (event : Event) : Type 0 where
   pub few : are_few (counted counts event) ≡ true
   pub fair : AsksFairly event
+  pub placed : AreAmong names event
+
+both : {A E : Type 0} (r : Result A E) (P Q : A → Type 0) → IfOk r P → IfOk r Q → IfOk r (λ x. P x × Q x)
+both (Ok x) P Q p q = (p, q)
+both (Err e) P Q p q = tt
 
 event_fit : SpellsWhatItAccepts → (names : List (List ℕ)) (systems : List SystemConfiguration) (counts : Counts) (words : List (List ℕ))
-    → IfOk (counted_event names systems counts words) (IsCounted counts)
+    → IfOk (counted_event names systems counts words) (IsCounted names counts)
 unfolding counted_event
 event_fit law names systems counts words =
-    behind_such (event_line names systems words) _ AsksFairly (IsCounted counts) (event_fair law names systems words) (λ event fair.
-    behind_wanted (are_few (counted counts event)) _ _ (IsCounted counts) (λ few. record { few = few; fair = fair }))
+    behind_such (event_line names systems words) _ (λ event. AsksFairly event × AreAmong names event) (IsCounted names counts)
+    (both (event_line names systems words) AsksFairly (AreAmong names) (event_fair law names systems words) (event_placed names systems words)) (λ event is.
+    behind_wanted (are_few (counted counts event)) _ _ (IsCounted names counts) (λ few. record { few = few; fair = is.0; placed = is.1 }))
 
 -- events behind so many ticks
-record AreCounted (before : ℕ) (events : List Event) : Type 0 where
+record AreCounted (names : List (List ℕ)) (before : ℕ) (events : List Event) : Type 0 where
   pub ticks : before + sum (map ticks_of events) ≤ 1000000
   pub fair : AllByRecursion AsksFairly events
+  pub placed : AllByRecursion (AreAmong names) events
 
 events_fit : SpellsWhatItAccepts → (names : List (List ℕ)) (systems : List SystemConfiguration) (n : ℕ) (counts : Counts) (lines : List (List ℕ))
-    → counts.ticks ≤ 1000000 → IfOk (events_from names systems n counts lines) (AreCounted counts.ticks)
+    → counts.ticks ≤ 1000000 → IfOk (events_from names systems n counts lines) (AreCounted names counts.ticks)
 unfolding events_from
 events_fit law names systems n counts [] h = tt
 events_fit law names systems n counts (line ∷ lines) h =
-    either_way (is_skipped line) _ _ (AreCounted counts.ticks) (events_fit law names systems (n + 1) counts lines h)
-    (either_way (is_line_of (codes "end") (words_of line)) _ _ (AreCounted counts.ticks)
-    (behind_result (nothing_after (n + 1) lines) _ (AreCounted counts.ticks) (λ _ _. record { ticks = omega (arith, h); fair = tt }))
-    (behind_line_such n (counted_event names systems counts (words_of line)) _ (IsCounted counts) (AreCounted counts.ticks)
+    either_way (is_skipped line) _ _ (AreCounted names counts.ticks) (events_fit law names systems (n + 1) counts lines h)
+    (either_way (is_line_of (codes "end") (words_of line)) _ _ (AreCounted names counts.ticks)
+    (behind_result (nothing_after (n + 1) lines) _ (AreCounted names counts.ticks) (λ _ _. record { ticks = omega (arith, h); fair = tt; placed = tt }))
+    (behind_line_such n (counted_event names systems counts (words_of line)) _ (IsCounted names counts) (AreCounted names counts.ticks)
     (event_fit law names systems counts (words_of line)) (λ event first.
-    behind_such (events_from names systems (n + 1) (counted counts event) lines) _ (AreCounted (counts.ticks + ticks_of event)) (AreCounted counts.ticks)
+    behind_such (events_from names systems (n + 1) (counted counts event) lines) _ (AreCounted names (counts.ticks + ticks_of event)) (AreCounted names counts.ticks)
     (events_fit law names systems (n + 1) (counted counts event) lines (few_ticks (counted counts event) first.few)) (λ others rest.
     record {
       ticks = rw (sum_by-cons (λ x. x) (ticks_of event) (map ticks_of others)) (omega (arith, rest.ticks));
       fair = (first.fair, rest.fair);
+      placed = (first.placed, rest.placed);
     }))))
 
 all_hosts : (systems : List DeclaredSystem) → AllByRecursion (λ (system : SystemConfiguration). system.role ≡ Host) (map host_of systems)
@@ -73,7 +84,7 @@ plan_fit law lines =
     (declarations_fit header.number nothing_declared header.lines nothing_fit) (λ declared fits.
     let systems : List SystemConfiguration = map host_of declared.value.systems in
     let names : List (List ℕ) = map (λ (system : DeclaredSystem). system.name) declared.value.systems in
-    behind_such (events_from names systems declared.number nothing_counted declared.lines) _ (AreCounted 0) IsFit
+    behind_such (events_from names systems declared.number nothing_counted declared.lines) _ (AreCounted names 0) IsFit
     (events_fit law names systems declared.number nothing_counted declared.lines (omega arith)) (λ events counted.
     record {
       limits = fits.fit.limits;
@@ -82,6 +93,15 @@ plan_fit law lines =
       addresses = rw (host_addresses declared.value.systems) (distinct_of (addresses_of declared.value.systems) fits.fit.addresses);
       ticks = omega (arith, counted.ticks);
       asks = counted.fair;
+      subnet_names = distinct_of (map (λ (subnet : Subnetwork). subnet.name) declared.value.subnets) fits.fit.subnet_names;
+      system_names = rw (host_names declared.value.systems) (distinct_of names fits.fit.system_names);
+      few_subnets = fits.fit.few_subnets;
+      few_systems = rw (length-map declared.value.systems host_of) fits.fit.few_systems;
+      mtus = fits.fit.subnets;
+      snpas = λ q. rw (host_snpas q declared.value.systems) (distinct_of (flat_map (snpas_on q) declared.value.systems) (fits.fit.snpas q));
+      ports = hosts_on declared.value.subnets declared.value.systems fits.fit.on;
+      places = subst (λ n. AllByRecursion (IsPlaced n) events)
+          (length-map declared.value.systems (λ (system : DeclaredSystem). system.name) ∙ sym (length-map declared.value.systems host_of)) counted.placed;
     })))
 
 pub accepted : SpellsWhatItAccepts → (text : List ℕ) (plan : Plan) → plan_of text ≡ Ok plan → IsFit plan

@@ -5,6 +5,7 @@ use Rattle.std.specs.Cmp.Lexicographic.{pointwise, nat_list_eq_equiv}
 use Rattle.std.proofs.lemmas.Bool.{true≢false}
 use Rattle.std.proofs.lemmas.List.Elements.{All-from_recursion}
 use Rattle.std.proofs.lemmas.List.Kept.{AllPairs-cons}
+use Rattle.clnp_base.proofs.Lists.{AllByRecursion-put, AllByRecursion-front}
 use Rattle.clnp_plan.specs.Configuration.{AreDistinct}
 use Rattle.scenario.specs.Declarations.{DeclaredSystem, changed_at, is_among, with_address, with_port, NumberedPort, host_of}
 
@@ -30,7 +31,7 @@ distinct_of [] h = λ i j d before within. absurd (omega (arith, within))
 distinct_of (address ∷ others) h =
     AllPairs-cons (λ a b. a ≢ b) address others (All-from_recursion (λ other. address ≢ other) others (weaker address others h.0)) (distinct_of others h.1)
 
-either_false : (a b : Bool) → (a || b) ≡ false → (a ≡ false) × (b ≡ false)
+pub either_false : (a b : Bool) → (a || b) ≡ false → (a ≡ false) × (b ≡ false)
 either_false true b h = absurd (true≢false h)
 either_false false b h = (refl, h)
 
@@ -48,14 +49,10 @@ new_of address (other ∷ others) h =
 
 -- an address that is none of a list, anywhere in the list
 
-all_put : {X : Type 0} (P : X → Type 0) (xs : List X) (x : X) (ys : List X) → P x → AllByRecursion P (xs ++ ys) → AllByRecursion P (xs ++ x ∷ ys)
-all_put P [] x ys p h = (p, h)
-all_put P (y ∷ xs) x ys p h = (h.0, all_put P xs x ys p h.1)
-
 pub put : (xs : List (List ℕ)) (address : List ℕ) (ys : List (List ℕ)) → IsNew address (xs ++ ys) → AreApart (xs ++ ys) → AreApart (xs ++ address ∷ ys)
 put [] address ys new h = (new, h)
 put (x ∷ xs) address ys new h =
-    (all_put (λ other. (x ≢ other) × (other ≢ x)) xs address ys (new.0.1, new.0.0) h.0, put xs address ys new.1 h.1)
+    (AllByRecursion-put (λ other. (x ≢ other) × (other ≢ x)) xs address ys (new.0.1, new.0.0) h.0, put xs address ys new.1 h.1)
 
 add : (front : List (List ℕ)) (address : List ℕ) (place : ℕ) (systems : List DeclaredSystem)
     → IsNew address (front ++ addresses_of systems) → AreApart (front ++ addresses_of systems)
@@ -96,13 +93,9 @@ host_addresses (system ∷ systems) = ap (λ others. system.addresses ++ others)
 
 -- each system's own addresses, and those of the others
 
-all_front : {X : Type 0} (P : X → Type 0) (xs ys : List X) → AllByRecursion P (xs ++ ys) → AllByRecursion P xs
-all_front P [] ys h = tt
-all_front P (x ∷ xs) ys h = (h.0, all_front P xs ys h.1)
-
 pub front_apart : (xs ys : List (List ℕ)) → AreApart (xs ++ ys) → AreApart xs
 front_apart [] ys h = tt
-front_apart (x ∷ xs) ys h = (all_front (λ other. (x ≢ other) × (other ≢ x)) xs ys h.0, front_apart xs ys h.1)
+front_apart (x ∷ xs) ys h = (AllByRecursion-front (λ other. (x ≢ other) × (other ≢ x)) xs ys h.0, front_apart xs ys h.1)
 
 pub back_apart : (xs ys : List (List ℕ)) → AreApart (xs ++ ys) → AreApart ys
 back_apart [] ys h = h

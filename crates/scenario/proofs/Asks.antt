@@ -9,11 +9,11 @@ use Rattle.clnp_options.specs.Rules.{Accepts, refusal}
 use Rattle.clnp_plan.specs.Configuration.{SystemConfiguration}
 use Rattle.scenario.specs.Scenario.{AsksFairly}
 use Rattle.scenario.specs.Words.{literal, has_prefix, declared_word, address_word, data_word, number_word, life_word, octets_behind, options_read, options_word, one_word, two_words, first_four, each_once}
-use Rattle.scenario.specs.Events.{wish_word, wish_words, kind_of, options_in, send_line, deliver_line, count_line, tick_line, restart_line, event_line}
-use Rattle.scenario.specs.declared.code.TheConstants.{ADDRESS}
+use Rattle.scenario.specs.Events.{wish_word, wish_words, wish_key, options_in, send_line, deliver_line, count_line, tick_line, restart_line, event_line}
+use Rattle.scenario.specs.declared.code.Code.TheVariants as bad
 use Rattle.scenario.specs.declared.event.Event.TheVariants.{Settle, Lose, Tick}
-use Rattle.scenario.specs.declared.setting.Wish.{Wish}
-use Rattle.scenario.specs.declared.setting.Wish.TheVariants.{Lasting, NoReport, Whole, Options}
+use Rattle.scenario.specs.declared.wish.Wish.{Wish}
+use Rattle.scenario.specs.declared.wish.Wish.TheVariants.{Lasting, NoReport, Whole, Options}
 use Rattle.scenario.proofs.Behind.{behind_result, behind_found, behind_wanted, behind_such, either_way}
 
 -- what the crate of options says of each part of a header
@@ -30,7 +30,7 @@ none_fair = (λ t. absurd (true≢false (sym t)), λ a. absurd (omega (arith, a.
 
 read_fair : SpellsWhatItAccepts → (octets : List ℕ) → IfOk (options_read octets) AreFair
 read_fair law octets =
-    behind_wanted (nat_le (length octets) 254 && not (is_some (refusal octets 1 false))) ADDRESS (λ _. Ok octets) AreFair (λ h.
+    behind_wanted (nat_le (length octets) 254 && not (is_some (refusal octets 1 false))) bad.Address (λ _. Ok octets) AreFair (λ h.
     let p = and_parts (nat_le (length octets) 254) (not (is_some (refusal octets 1 false))) h in
     let accepts : Accepts false octets = not-true (is_some (refusal octets 1 false)) p.1 in
     ((law false octets).0 accepts).kind)
@@ -72,7 +72,7 @@ send_fair law names systems words =
     behind_result (address_word w.2) _ AsksFairly (λ to _.
     behind_result (data_word w.3) _ AsksFairly (λ body _.
     behind_such (wish_words w.4) _ (λ wishes. AllByRecursion IsFair wishes) AsksFairly (wishes_fair law w.4) (λ wishes fair.
-    behind_wanted (each_once kind_of wishes) _ _ AsksFairly (λ _. options_fair wishes fair)))))))
+    behind_wanted (each_once wish_key wishes) _ _ AsksFairly (λ _. options_fair wishes fair)))))))
 
 deliver_fair : (names : List (List ℕ)) (words : List (List ℕ)) → IfOk (deliver_line names words) AsksFairly
 unfolding deliver_line

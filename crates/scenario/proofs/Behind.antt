@@ -8,24 +8,25 @@ use Rattle.clnp_base.specs.Text.{decimal_of}
 use Rattle.clnp_plan.specs.Configuration.{IsWithin}
 use Rattle.scenario.specs.Words.{◌>>=◌, wanted, found, is_name, declared_word, number_within, number_word, after_prefix, number_behind}
 use Rattle.scenario.specs.Grammar.{BadLine, at_line}
-use Rattle.scenario.specs.declared.code.TheConstants.{SYNTAX, NUMBER, UNKNOWN_NAME}
+use Rattle.scenario.specs.declared.code.Code.{Code}
+use Rattle.scenario.specs.declared.code.Code.TheVariants as bad
 
 pub behind_result : {A B E : Type 0} (r : Result A E) (f : A → Result B E) (P : B → Type 0)
     → ((x : A) → r ≡ Ok x → IfOk (f x) P) → IfOk (r >>= f) P
 behind_result (Ok x) f P h = h x refl
 behind_result (Err e) f P h = tt
 
-pub behind_line : {A B : Type 0} (n : ℕ) (r : Result A ℕ) (f : A → Result B BadLine) (P : B → Type 0)
+pub behind_line : {A B : Type 0} (n : ℕ) (r : Result A Code) (f : A → Result B BadLine) (P : B → Type 0)
     → ((x : A) → r ≡ Ok x → IfOk (f x) P) → IfOk (at_line n r >>= f) P
 behind_line n (Ok x) f P h = h x refl
 behind_line n (Err e) f P h = tt
 
-pub behind_found : {A B : Type 0} (o : Option A) (code : ℕ) (f : A → Result B ℕ) (P : B → Type 0)
+pub behind_found : {A B : Type 0} (o : Option A) (code : Code) (f : A → Result B Code) (P : B → Type 0)
     → ((x : A) → o ≡ Some x → IfOk (f x) P) → IfOk (found o code >>= f) P
 behind_found (Some x) code f P h = h x refl
 behind_found None code f P h = tt
 
-pub behind_wanted : {B : Type 0} (b : Bool) (code : ℕ) (f : Unit {0} → Result B ℕ) (P : B → Type 0)
+pub behind_wanted : {B : Type 0} (b : Bool) (code : Code) (f : Unit {0} → Result B Code) (P : B → Type 0)
     → (b ≡ true → IfOk (f tt) P) → IfOk (wanted b code >>= f) P
 behind_wanted true code f P h = h refl
 behind_wanted false code f P h = tt
@@ -34,7 +35,7 @@ pub either_way : {A E : Type 0} (b : Bool) (r s : Result A E) (P : A → Type 0)
 either_way true r s P h k = h
 either_way false r s P h k = k
 
-pub if_found : {A : Type 0} (o : Option A) (code : ℕ) (P : A → Type 0) → ((x : A) → o ≡ Some x → P x) → IfOk (found o code) P
+pub if_found : {A : Type 0} (o : Option A) (code : Code) (P : A → Type 0) → ((x : A) → o ≡ Some x → P x) → IfOk (found o code) P
 if_found (Some x) code P h = h x refl
 if_found None code P h = tt
 
@@ -43,18 +44,18 @@ within_of low high n h =
     let p = and_parts (nat_le low n) (nat_le n high) h in
     record { least = leb-true low n p.0; most = leb-true n high p.1 }
 
-within_if : (low high n code : ℕ) (b : Bool) → (nat_le low n && nat_le n high) ≡ b
+within_if : (low high n : ℕ) (code : Code) (b : Bool) → (nat_le low n && nat_le n high) ≡ b
     → IfOk (found (if b then Some n else None) code) (IsWithin low high)
 within_if low high n code true h = within_of low high n h
 within_if low high n code false h = tt
 
 -- a number that is found within bounds is within them
-pub found_is_within : (low high : ℕ) (o : Option ℕ) (code : ℕ) → IfOk (found (number_within low high o) code) (IsWithin low high)
+pub found_is_within : (low high : ℕ) (o : Option ℕ) (code : Code) → IfOk (found (number_within low high o) code) (IsWithin low high)
 found_is_within low high None code = tt
 found_is_within low high (Some n) code = within_if low high n code (nat_le low n && nat_le n high) refl
 
 pub number_is_within : (low high : ℕ) (word : List ℕ) → IfOk (number_word low high word) (IsWithin low high)
-number_is_within low high word = found_is_within low high (decimal_of word) NUMBER
+number_is_within low high word = found_is_within low high (decimal_of word) bad.Number
 
 pub number_behind_is_within : (prefix : List ℕ) (low high : ℕ) (word : List ℕ) → IfOk (number_behind prefix low high word) (IsWithin low high)
 number_behind_is_within prefix low high word =
@@ -66,18 +67,18 @@ pub behind_such : {A B E : Type 0} (r : Result A E) (f : A → Result B E) (Q : 
 behind_such (Ok x) f Q P q h = h x q
 behind_such (Err e) f Q P q h = tt
 
-pub behind_line_such : {A B : Type 0} (n : ℕ) (r : Result A ℕ) (f : A → Result B BadLine) (Q : A → Type 0) (P : B → Type 0)
+pub behind_line_such : {A B : Type 0} (n : ℕ) (r : Result A Code) (f : A → Result B BadLine) (Q : A → Type 0) (P : B → Type 0)
     → IfOk r Q → ((x : A) → Q x → IfOk (f x) P) → IfOk (at_line n r >>= f) P
 behind_line_such n (Ok x) f Q P q h = h x q
 behind_line_such n (Err e) f Q P q h = tt
 
-pub wanted_holds : (b : Bool) (code : ℕ) {x : Unit {0}} → wanted b code ≡ Ok x → b ≡ true
+pub wanted_holds : (b : Bool) (code : Code) {x : Unit {0}} → wanted b code ≡ Ok x → b ≡ true
 wanted_holds true code e = refl
 wanted_holds false code e = absurd (true≢false (sym (ap is_ok e)))
 
 -- the place of a declared name is one of the list
 pub declared_is_within : (names : List (List ℕ)) (word : List ℕ) → IfOk (declared_word names word) (λ place. place < length names)
 declared_is_within names word =
-    behind_wanted (is_name word) SYNTAX (λ _. found (position (λ name. bytes_eq name word) names) UNKNOWN_NAME) (λ place. place < length names)
-    (λ _. if_found (position (λ name. bytes_eq name word) names) UNKNOWN_NAME (λ place. place < length names)
+    behind_wanted (is_name word) bad.Syntax (λ _. found (position (λ name. bytes_eq name word) names) bad.UnknownName) (λ place. place < length names)
+    (λ _. if_found (position (λ name. bytes_eq name word) names) bad.UnknownName (λ place. place < length names)
     (λ place e. (position-Some (λ name. bytes_eq name word) names place [] e).0))

@@ -7,7 +7,8 @@ use Rattle.scenario.specs.declared.counts.Counts.{Counts}
 use Rattle.scenario.specs.declared.event.Event.{Event}
 use Rattle.scenario.specs.declared.fault.ScenarioRefusal.{ScenarioRefusal}
 use Rattle.scenario.specs.declared.fault.ScenarioRefusal.TheVariants as refusal
-use Rattle.scenario.specs.declared.code.TheConstants.{SYNTAX}
+use Rattle.scenario.specs.declared.code.Code.TheVariants as bad
+use Rattle.scenario.specs.Codes.{number_of}
 use Rattle.scenario.specs.Words.{is_skipped}
 use Rattle.scenario.specs.Events.{counted}
 use Rattle.scenario.specs.Grammar.{BadLine, at_line, is_line_of, counted_event, nothing_after, events_from}
@@ -62,6 +63,6 @@ stops_after (refusal.BadLine l code) front names systems n counts line lines tot
     sym so_far ∙ one
 
 pub lacks_end : (front : List Event) (names : List (List ℕ)) (systems : List SystemConfiguration) (n : ℕ) (counts : Counts) (total : Result (List Event) BadLine)
-    → with_front front (events_from names systems n counts []) ≡ total → total ≡ Err (record { line = n; code = SYNTAX })
+    → with_front front (events_from names systems n counts []) ≡ total → total ≡ Err (record { line = n; code = number_of bad.Syntax })
 unfolding events_from
 lacks_end front names systems n counts total so_far = sym so_far

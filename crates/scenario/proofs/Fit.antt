@@ -1,21 +1,23 @@
 -- Each scenario that the grammar accepts is fit: what its lines declare stays fit, line by line.
-use Rattle.std.proofs.Common.{◌≡◌, ℕ, zero, suc, ◌+◌, ◌<◌, ◌≤◌, ◌&&◌, true, not, nat_le, nat_lt, List, [], ◌∷◌, ◌++◌, map, length, slice_get, codes, Option, Some, is_some, Ok, IfOk, refl, sym, arith, length-append}
+use Rattle.std.proofs.Common.{◌≡◌, ℕ, zero, suc, ◌+◌, ◌<◌, ◌≤◌, ◌==◌, ◌&&◌, Bool, true, false, not, nat_le, nat_lt, List, [], ◌∷◌, map, length, slice_get, codes, Option, Some, is_some, Ok, IfOk, refl, sym, subst, arith, length-append}
 use Rattle.std.specs.List.{AllByRecursion, flat_map, list_any, list_all}
 use Rattle.std.specs.Str.{bytes_eq}
-use Rattle.std.proofs.lemmas.Bool.{leb-true, ltb-true, and_parts, not-true, true≢false}
-use Rattle.std.proofs.lemmas.List.{length-map}
+use Rattle.std.proofs.lemmas.Bool.{leb-true, ltb-true, eqb-true, and_parts, not-true, true≢false}
+use Rattle.std.proofs.lemmas.List.{length-map, map-append}
+use Rattle.clnp_base.proofs.Lists.{AllByRecursion-push}
 use Rattle.clnp_base.specs.Text.{decimal_of, words_of}
 use Rattle.clnp_plan.specs.Configuration.{IsWithin, IsPort, IsSystem, AreSettings, AreLimits}
 use Rattle.clnp_plan.specs.declared.config.Settings.{Settings}
-use Rattle.scenario.specs.Scenario.{Subnetwork}
+use Rattle.scenario.specs.Scenario.{Subnetwork, IsOn}
 use Rattle.scenario.specs.Words.{◌>>=◌, wanted, found, literal, name_word, declared_word, number_within, number_word, number_behind, has_prefix, address_word, is_digits, is_taken, is_one_at_most, is_skipped, each_once, two_words, three_words, first_two, first_four}
 use Rattle.scenario.specs.Declarations.{Declarations, DeclaredSystem, NumberedPort, nothing_declared, subnet_names, system_names, changed_at, with_address, with_port, is_among, counted_in, has_port, snpas_on, mtu_at, limits_of, limits_line, subnet_line, checksum_word, room_word, setting_word, setting_words, key_of, is_hello, with_setting, settings_of, system_line, address_line, transit_word, port_line, declaration_line, is_complete, is_port_zero, host_of}
 use Rattle.scenario.specs.Grammar.{ReadTo, is_line_of, declarations_from}
-use Rattle.scenario.specs.declared.code.TheConstants.{SYNTAX, MTU, COUNT}
+use Rattle.scenario.specs.declared.code.Code.TheVariants as bad
 use Rattle.scenario.specs.declared.setting.Setting.{Setting}
 use Rattle.scenario.specs.declared.setting.Setting.TheVariants.{HelloOff, Checksum, Life, RedirectHold, Slots, Segments, Budget, Neighbours, Routers, Redirects}
 use Rattle.scenario.proofs.Behind.{behind_result, behind_line, behind_found, behind_wanted, behind_such, behind_line_such, wanted_holds, either_way, found_is_within, number_is_within, number_behind_is_within, declared_is_within}
-use Rattle.scenario.proofs.Apart.{addresses_of, AreApart, add_address, port_leaves, system_leaves, distinct_of, front_apart, back_apart}
+use Rattle.scenario.proofs.Apart.{addresses_of, AreApart, new_of, add_address, port_leaves, system_leaves, distinct_of, front_apart, back_apart}
+use Rattle.scenario.proofs.Kept.{map_leaves, all_leaves, length_leaves, empty_leaves, one_gets, one_more_name, AreOn, all_stay, mtu_is, port_gets, port_elsewhere}
 
 -- what the lines so far say of a system is within bounds
 pub record IsDeclared (system : DeclaredSystem) : Type 0 where
@@ -29,10 +31,12 @@ pub record AreFit (d : Declarations) : Type 0 where
   pub subnets : AllByRecursion (λ (subnet : Subnetwork). IsWithin 512 65535 subnet.mtu) d.subnets
   pub systems : AllByRecursion IsDeclared d.systems
   pub addresses : AreApart (addresses_of d.systems)
-
-one_more : {X : Type 0} (P : X → Type 0) (xs : List X) (x : X) → AllByRecursion P xs → P x → AllByRecursion P (xs ++ x ∷ [])
-one_more P [] x h p = (p, tt)
-one_more P (y ∷ xs) x h p = (h.0, one_more P xs x h.1 p)
+  pub subnet_names : AreApart (map (λ (subnet : Subnetwork). subnet.name) d.subnets)
+  pub system_names : AreApart (map (λ (system : DeclaredSystem). system.name) d.systems)
+  pub few_subnets : length d.subnets ≤ 64
+  pub few_systems : length d.systems ≤ 64
+  pub snpas : (q : ℕ) → AreApart (flat_map (snpas_on q) d.systems)
+  pub on : AllByRecursion (λ (system : DeclaredSystem). AreOn d.subnets system.ports) d.systems
 
 changed : {X : Type 0} (P : X → Type 0) (change : X → X) (place : ℕ) (xs : List X) → AllByRecursion P xs
     → ((x : X) → slice_get xs place ≡ Some x → P x → P (change x)) → AllByRecursion P (changed_at change place xs)
@@ -54,6 +58,12 @@ limits_fit d words h =
       subnets = h.subnets;
       systems = h.systems;
       addresses = h.addresses;
+      subnet_names = h.subnet_names;
+      system_names = h.system_names;
+      few_subnets = h.few_subnets;
+      few_systems = h.few_systems;
+      snpas = h.snpas;
+      on = h.on;
     }))))))
 
 pub subnet_fit : (d : Declarations) (words : List (List ℕ)) → AreFit d → IfOk (subnet_line d words) AreFit
@@ -62,14 +72,22 @@ subnet_fit d words h =
     behind_found (two_words words) _ _ AreFit (λ w _.
     behind_result (name_word w.0) _ AreFit (λ name _.
     behind_wanted (is_digits w.1) _ _ AreFit (λ _.
-    behind_wanted (not (is_taken (subnet_names d) name)) _ _ AreFit (λ _.
-    behind_such (found (number_within 512 65535 (decimal_of w.1)) MTU) _ (IsWithin 512 65535) AreFit (found_is_within 512 65535 (decimal_of w.1) MTU) (λ mtu mtu_in.
-    behind_wanted (nat_lt (length d.subnets) 64) _ _ AreFit (λ _.
+    behind_wanted (not (is_taken (subnet_names d) name)) _ _ AreFit (λ free.
+    behind_such (found (number_within 512 65535 (decimal_of w.1)) bad.Mtu) _ (IsWithin 512 65535) AreFit (found_is_within 512 65535 (decimal_of w.1) bad.Mtu) (λ mtu mtu_in.
+    behind_wanted (nat_lt (length d.subnets) 64) _ _ AreFit (λ few.
+    let subnet : Subnetwork = record { name = name; mtu = mtu } in
     record {
       limits = h.limits;
-      subnets = one_more (λ (subnet : Subnetwork). IsWithin 512 65535 subnet.mtu) d.subnets (record { name = name; mtu = mtu }) h.subnets mtu_in;
+      subnets = AllByRecursion-push (λ (subnet : Subnetwork). IsWithin 512 65535 subnet.mtu) d.subnets subnet h.subnets mtu_in;
       systems = h.systems;
       addresses = h.addresses;
+      subnet_names = rw (map-append (λ (subnet : Subnetwork). subnet.name) d.subnets (subnet ∷ []))
+          (one_more_name (subnet_names d) name (not-true (is_taken (subnet_names d) name) free) h.subnet_names);
+      system_names = h.system_names;
+      few_subnets = rw length-append (omega (arith, ltb-true (length d.subnets) 64 few));
+      few_systems = h.few_systems;
+      snpas = h.snpas;
+      on = all_stay d.subnets subnet d.systems h.on;
     }))))))
 
 -- what a setting says is within bounds
@@ -111,7 +129,7 @@ setting_fit word =
     (either_way (has_prefix (codes "checksum=") word) _ _ SaysWithin (checksum_fit word)
     (either_way (has_prefix (codes "rhold=") word) _ _ SaysWithin (number_says (codes "rhold=") 0 65535 word (λ n. RedirectHold n) (λ n h. h))
     (either_way (has_prefix (codes "hello=") word) _ _ SaysWithin
-    (behind_wanted (bytes_eq word (codes "hello=0")) SYNTAX (λ _. Ok HelloOff) SaysWithin (λ _. tt))
+    (behind_wanted (bytes_eq word (codes "hello=0")) bad.Syntax (λ _. Ok HelloOff) SaysWithin (λ _. tt))
     (room_fit word))))
 
 with_fit : (setting : Setting) (settings : Settings) → SaysWithin setting → AreSettings settings → AreSettings (with_setting setting settings)
@@ -163,14 +181,22 @@ system_fit d words h =
     behind_result (literal (codes "host") w.1) _ AreFit (λ _ _.
     behind_such (setting_words w.2) _ (λ settings. AllByRecursion SaysWithin settings) AreFit (words_fit w.2) (λ settings fits.
     behind_wanted (list_any is_hello settings) _ _ AreFit (λ _.
-    behind_wanted (not (is_taken (system_names d) name) && each_once key_of settings) _ _ AreFit (λ _.
-    behind_wanted (nat_lt (length d.systems) 64) _ _ AreFit (λ _.
+    behind_wanted (not (is_taken (system_names d) name) && each_once key_of settings) _ _ AreFit (λ once.
+    behind_wanted (nat_lt (length d.systems) 64) _ _ AreFit (λ few.
     let system : DeclaredSystem = record { name = name; settings = settings_of settings; addresses = []; ports = [] } in
     record {
       limits = h.limits;
       subnets = h.subnets;
-      systems = one_more IsDeclared d.systems system h.systems (record { addresses = omega arith; ports = tt; settings = settings_fit settings fits });
+      systems = AllByRecursion-push IsDeclared d.systems system h.systems (record { addresses = omega arith; ports = tt; settings = settings_fit settings fits });
       addresses = rw (system_leaves d.systems system refl) h.addresses;
+      subnet_names = h.subnet_names;
+      system_names = rw (map-append (λ (system : DeclaredSystem). system.name) d.systems (system ∷ []))
+          (one_more_name (system_names d) name
+          (not-true (is_taken (system_names d) name) (and_parts (not (is_taken (system_names d) name)) (each_once key_of settings) once).0) h.system_names);
+      few_subnets = h.few_subnets;
+      few_systems = rw length-append (omega (arith, ltb-true (length d.systems) 64 few));
+      snpas = λ q. rw (empty_leaves (snpas_on q) d.systems system refl) (h.snpas q);
+      on = AllByRecursion-push (λ (system : DeclaredSystem). AreOn d.subnets system.ports) d.systems system h.on tt;
     })))))))
 
 counted_at : {X : Type 0} (items : DeclaredSystem → List X) (o : Option DeclaredSystem) (most : ℕ) (system : DeclaredSystem)
@@ -194,6 +220,12 @@ address_fit d words h =
         settings = fits.settings;
       });
       addresses = add_address address place d.systems (not-true (is_among address (addresses_of d.systems)) new) h.addresses;
+      subnet_names = h.subnet_names;
+      system_names = rw (map_leaves (λ (system : DeclaredSystem). system.name) (with_address address) (λ system. refl) place d.systems) h.system_names;
+      few_subnets = h.few_subnets;
+      few_systems = rw (length_leaves (with_address address) place d.systems) h.few_systems;
+      snpas = λ q. rw (all_leaves (snpas_on q) (with_address address) (λ system. refl) place d.systems) (h.snpas q);
+      on = changed (λ (system : DeclaredSystem). AreOn d.subnets system.ports) (with_address address) place d.systems h.on (λ system _ there. there);
     })))))
 
 mtu_fit : (subnets : List Subnetwork) (place : ℕ) → AllByRecursion (λ (subnet : Subnetwork). IsWithin 512 65535 subnet.mtu) subnets
@@ -206,6 +238,17 @@ transit_fit : (words : List (List ℕ)) → IfOk (transit_word words) (IsWithin 
 transit_fit [] = record { least = omega arith; most = omega arith }
 transit_fit (word ∷ words) = number_is_within 1 255 word
 
+snpas_fit : (numbered : NumberedPort) (place : ℕ) (systems : List DeclaredSystem) (q : ℕ) (b : Bool) → (numbered.port.subnet == q) ≡ b
+    → is_among numbered.port.snpa (flat_map (snpas_on numbered.port.subnet) systems) ≡ false → AreApart (flat_map (snpas_on q) systems)
+    → AreApart (flat_map (snpas_on q) (changed_at (with_port numbered) place systems))
+snpas_fit numbered place systems q true e new h =
+    let here : is_among numbered.port.snpa (flat_map (snpas_on q) systems) ≡ false
+    = subst (λ s. is_among numbered.port.snpa (flat_map (snpas_on s) systems) ≡ false) (eqb-true numbered.port.subnet q e) new in
+    one_gets (snpas_on q) (with_port numbered) numbered.port.snpa (λ system. port_gets numbered q system e) [] place systems
+    (new_of numbered.port.snpa (flat_map (snpas_on q) systems) here) h
+snpas_fit numbered place systems q false e new h =
+    rw (all_leaves (snpas_on q) (with_port numbered) (λ system. port_elsewhere numbered q system e) place systems) h
+
 pub port_fit : (d : Declarations) (words : List (List ℕ)) → AreFit d → IfOk (port_line d words) AreFit
 unfolding port_line
 port_fit d words h =
@@ -217,19 +260,27 @@ port_fit d words h =
     behind_result (address_word w.3) _ AreFit (λ snpa _.
     behind_such (transit_word w.4) _ (IsWithin 1 255) AreFit (transit_fit w.4) (λ transit transit_in.
     behind_wanted (not (has_port number subnet (slice_get d.systems place))) _ _ AreFit (λ _.
-    behind_wanted (not (is_among snpa (flat_map (snpas_on subnet) d.systems))) _ _ AreFit (λ _.
+    behind_wanted (not (is_among snpa (flat_map (snpas_on subnet) d.systems))) _ _ AreFit (λ new.
     behind_wanted (nat_lt (counted_in (λ (system : DeclaredSystem). system.ports) (slice_get d.systems place)) 1) _ _ AreFit (λ _.
     let numbered : NumberedPort = record { number = number; port = record { subnet = subnet; snpa = snpa; transit = transit; mtu = mtu_at (slice_get d.subnets subnet) } } in
+    let there : subnet < length d.subnets = rw (length-map d.subnets (λ (subnet : Subnetwork). subnet.name)) at within in
     record {
       limits = h.limits;
       subnets = h.subnets;
       systems = changed IsDeclared (with_port numbered) place d.systems h.systems (λ system _ fits. record {
         addresses = fits.addresses;
-        ports = one_more (λ (numbered : NumberedPort). IsPort numbered.port) system.ports numbered fits.ports
-            (record { transit = transit_in; mtu = mtu_fit d.subnets subnet h.subnets (rw (length-map d.subnets (λ (subnet : Subnetwork). subnet.name)) at within) });
+        ports = AllByRecursion-push (λ (numbered : NumberedPort). IsPort numbered.port) system.ports numbered fits.ports
+            (record { transit = transit_in; mtu = mtu_fit d.subnets subnet h.subnets there });
         settings = fits.settings;
       });
       addresses = rw (port_leaves numbered place d.systems) h.addresses;
+      subnet_names = h.subnet_names;
+      system_names = rw (map_leaves (λ (system : DeclaredSystem). system.name) (with_port numbered) (λ system. refl) place d.systems) h.system_names;
+      few_subnets = h.few_subnets;
+      few_systems = rw (length_leaves (with_port numbered) place d.systems) h.few_systems;
+      snpas = λ q. snpas_fit numbered place d.systems q (subnet == q) refl (not-true (is_among snpa (flat_map (snpas_on subnet) d.systems)) new) (h.snpas q);
+      on = changed (λ (system : DeclaredSystem). AreOn d.subnets system.ports) (with_port numbered) place d.systems h.on
+          (λ system _ on. AllByRecursion-push (λ (numbered : NumberedPort). IsOn d.subnets numbered.port) system.ports numbered on (mtu_is d.subnets subnet there));
     }))))))))))
 
 line_fit : (d : Declarations) (words : List (List ℕ)) → AreFit d → IfOk (declaration_line d words) AreFit
@@ -252,7 +303,7 @@ declarations_fit n d [] h = tt
 declarations_fit n d (line ∷ lines) h =
     either_way (is_skipped line) _ _ AreDeclared (declarations_fit (n + 1) d lines h)
     (either_way (is_line_of (codes "events") (words_of line)) _ _ AreDeclared
-    (behind_line n (wanted (list_all is_complete d.systems) COUNT) _ AreDeclared (λ _ e. record { fit = h; complete = wanted_holds (list_all is_complete d.systems) COUNT e }))
+    (behind_line n (wanted (list_all is_complete d.systems) bad.Count) _ AreDeclared (λ _ e. record { fit = h; complete = wanted_holds (list_all is_complete d.systems) bad.Count e }))
     (behind_line_such n (declaration_line d (words_of line)) _ AreFit AreDeclared (line_fit d (words_of line) h) (λ declared fits.
     declarations_fit (n + 1) declared lines fits)))
 
@@ -268,6 +319,12 @@ nothing_fit =
       subnets = tt;
       systems = tt;
       addresses = tt;
+      subnet_names = tt;
+      system_names = tt;
+      few_subnets = omega arith;
+      few_systems = omega arith;
+      snpas = λ q. tt;
+      on = tt;
     }
 
 one_port : (ports : List NumberedPort) → is_port_zero ports ≡ true → length (map (λ (numbered : NumberedPort). numbered.port) ports) ≡ 1

@@ -3,6 +3,8 @@ pub mod Lists
 pub mod Events
 pub mod Behind
 pub mod Apart
+pub mod Kept
+pub mod Placed
 pub mod Fit
 pub mod Asks
 pub mod Accepted

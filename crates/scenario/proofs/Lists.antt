@@ -1,35 +1,12 @@
--- Tests over lists of lists, names of what is declared, and elements that change.
-use Rattle.std.proofs.Common.{◌≡◌, ℕ, zero, suc, ◌<◌, ◌==◌, ◌&&◌, Bool, true, false, List, [], ◌∷◌, map, filter, length, get_or, set, nat_eq, Result, Ok, Err, MatchResult, refl, sym, ◌∙◌, ap, arith}
-use Rattle.std.proofs.lemmas.List.{length-map}
+-- Names and addresses of what is declared, and an element that changes.
+use Rattle.std.proofs.Common.{◌≡◌, ℕ, zero, suc, ◌<◌, ◌==◌, ◌&&◌, List, [], ◌∷◌, map, length, get_or, set, nat_eq, Result, Ok, Err, MatchResult, refl, sym, ◌∙◌, ap, arith}
 use Rattle.std.proofs.lemmas.List.Folds.{list_any-append}
-use Rattle.std.specs.List.{position, position_or_len, list_any, flat_map}
+use Rattle.std.specs.List.{list_any, flat_map}
 use Rattle.std.specs.Cmp.Lexicographic.{pointwise}
+use Rattle.clnp_base.proofs.Maps.{list_any-map-filter}
 use Rattle.scenario.specs.declared.fault.LineFault.{LineFault}
 use Rattle.scenario.specs.declared.fault.LineFault.TheVariants.{NoMemory}
 use Rattle.scenario.specs.Declarations.{changed_at, is_among, snpas_on, DeclaredSystem, NumberedPort, host_of}
-
-place_map : {A B : Type 0} (f : A → B) (p : B → Bool) (xs : List A) → position_or_len p (map f xs) ≡ position_or_len (λ x. p (f x)) xs
-place_map f p [] = refl
-place_map f p (x ∷ xs) = rw (place_map f p xs) refl
-
-pub position_map : {A B : Type 0} (f : A → B) (p : B → Bool) (xs : List A) → position p (map f xs) ≡ position (λ x. p (f x)) xs
-position_map f p xs = rw (place_map f p xs, length-map xs f) refl
-
-pub any_flat_map : {A B : Type 0} (p : B → Bool) (f : A → List B) (xs : List A)
-    → list_any p (flat_map f xs) ≡ list_any (λ x. list_any p (f x)) xs
-any_flat_map p f [] = refl
-any_flat_map p f (x ∷ xs) = rw (list_any-append p (f x) (flat_map f xs), any_flat_map p f xs) refl
-
-any_filter_step : {A B : Type 0} (p : B → Bool) (f : A → B) (q : A → Bool) (x : A) (xs : List A) (b : Bool) → q x ≡ b
-    → list_any p (map f (filter q xs)) ≡ list_any (λ x. q x && p (f x)) xs
-    → list_any p (map f (filter q (x ∷ xs))) ≡ list_any (λ x. q x && p (f x)) (x ∷ xs)
-any_filter_step p f q x xs true h rest = rw (h, rest) refl
-any_filter_step p f q x xs false h rest = rw (h, rest) refl
-
-pub any_filter : {A B : Type 0} (p : B → Bool) (f : A → B) (q : A → Bool) (xs : List A)
-    → list_any p (map f (filter q xs)) ≡ list_any (λ x. q x && p (f x)) xs
-any_filter p f q [] = refl
-any_filter p f q (x ∷ xs) = any_filter_step p f q x xs (q x) refl (any_filter p f q xs)
 
 pub host_names : (systems : List DeclaredSystem) → map (λ host. host.name) (map host_of systems) ≡ map (λ system. system.name) systems
 host_names [] = refl
@@ -43,7 +20,7 @@ any_snpa subnet snpa (system ∷ systems) =
     rw (
       list_any-append (λ (other : List ℕ). pointwise nat_eq other snpa) (snpas_on subnet system) (flat_map (snpas_on subnet) systems),
       any_snpa subnet snpa systems,
-      any_filter (λ (other : List ℕ). pointwise nat_eq other snpa) (λ (numbered : NumberedPort). numbered.port.snpa) (λ (numbered : NumberedPort). numbered.port.subnet == subnet) system.ports,
+      list_any-map-filter (λ (other : List ℕ). pointwise nat_eq other snpa) (λ (numbered : NumberedPort). numbered.port.snpa) (λ (numbered : NumberedPort). numbered.port.subnet == subnet) system.ports,
     ) refl
 
 pub changed_is_set : {X : Type 0} (change : X → X) (place : ℕ) (xs : List X) (d : X) → place < length xs

@@ -11,7 +11,8 @@ use Rattle.clnp_plan.specs.declared.config.Settings.{Settings}
 use Rattle.clnp_plan.specs.declared.config.Role.TheVariants.{Host}
 use Rattle.scenario.specs.Scenario.{Subnetwork}
 use Rattle.scenario.specs.Words.{◌>>=◌, wanted, found, literal, name_word, declared_word, number_within, number_word, number_behind, is_digits, address_word, life_word, has_prefix, two_words, three_words, first_two, first_four, is_one_at_most, is_taken, each_once}
-use Rattle.scenario.specs.declared.code.TheConstants.{SYNTAX, NUMBER, DUP_NAME, DUP_ADDRESS, LIMITS, MTU, COUNT}
+use Rattle.scenario.specs.declared.code.Code.{Code}
+use Rattle.scenario.specs.declared.code.Code.TheVariants as bad
 use Rattle.scenario.specs.declared.setting.Setting.{Setting}
 use Rattle.scenario.specs.declared.setting.Setting.TheVariants.{HelloOff, Checksum, Life, RedirectHold, Slots, Segments, Budget, Neighbours, Routers, Redirects}
 
@@ -53,14 +54,14 @@ abbrev pub is_among : List ℕ → List (List ℕ) → Bool
 is_among address others = list_any (λ other. pointwise nat_eq other address) others
 
 -- `L R Q`, behind `limits`: how long a copy may be given, a buffer is kept and an identifier rests
-unfoldable pub limits_line : Declarations → List (List ℕ) → Result Declarations ℕ
+unfoldable pub limits_line : Declarations → List (List ℕ) → Result Declarations Code
 limits_line d words = do
-  w ← found (three_words words) SYNTAX
+  w ← found (three_words words) bad.Syntax
   age ← number_word 1 4096 w.0
   hold ← number_word 1 255 w.1
   reuse ← number_word 1 16384 w.2
-  _ ← wanted (not (is_some d.limits)) DUP_NAME
-  _ ← wanted (nat_le (age + hold) reuse) LIMITS
+  _ ← wanted (not (is_some d.limits)) bad.DupName
+  _ ← wanted (nat_le (age + hold) reuse) bad.Limits
   Ok (record d { limits = Some (record { age = age; hold = hold; reuse = reuse }) })
 
 -- the limits that are declared, or else the usual ones
@@ -68,26 +69,26 @@ abbrev pub limits_of : Option Limits → Limits
 limits_of None = record { age = 256; hold = 60; reuse = 320 }
 limits_of (Some limits) = limits
 
--- `NAME MTU`, behind `subnet`: an MTU that is decimal and out of its range has a code of its own
-unfoldable pub subnet_line : Declarations → List (List ℕ) → Result Declarations ℕ
+-- `NAME bad.Mtu`, behind `subnet`: an bad.Mtu that is decimal and out of its range has a code of its own
+unfoldable pub subnet_line : Declarations → List (List ℕ) → Result Declarations Code
 subnet_line d words = do
-  w ← found (two_words words) SYNTAX
+  w ← found (two_words words) bad.Syntax
   name ← name_word w.0
-  _ ← wanted (is_digits w.1) NUMBER
-  _ ← wanted (not (is_taken (subnet_names d) name)) DUP_NAME
-  mtu ← found (number_within 512 65535 (decimal_of w.1)) MTU
-  _ ← wanted (nat_lt (length d.subnets) 64) COUNT
+  _ ← wanted (is_digits w.1) bad.Number
+  _ ← wanted (not (is_taken (subnet_names d) name)) bad.DupName
+  mtu ← found (number_within 512 65535 (decimal_of w.1)) bad.Mtu
+  _ ← wanted (nat_lt (length d.subnets) 64) bad.Count
   Ok (record d { subnets = d.subnets ++ record { name = name; mtu = mtu } ∷ [] })
 
 -- `checksum=on` or `checksum=off`
-abbrev pub checksum_word : List ℕ → Result Setting ℕ
+abbrev pub checksum_word : List ℕ → Result Setting Code
 checksum_word word =
     if bytes_eq word (codes "checksum=on") then Ok (Checksum true)
     else if bytes_eq word (codes "checksum=off") then Ok (Checksum false)
-    else Err SYNTAX
+    else Err bad.Syntax
 
 -- a key of what a system has room for, and its number
-unfoldable pub room_word : List ℕ → Result Setting ℕ
+unfoldable pub room_word : List ℕ → Result Setting Code
 room_word word =
     if has_prefix (codes "slots=") word then (number_behind (codes "slots=") 1 1024 word >>= λ slots. Ok (Slots slots))
     else if has_prefix (codes "segments=") word then (number_behind (codes "segments=") 1 16384 word >>= λ segments. Ok (Segments segments))
@@ -97,7 +98,7 @@ room_word word =
     else (number_behind (codes "redirects=") 1 1024 word >>= λ redirects. Ok (Redirects redirects))
 
 -- a key and its value
-unfoldable pub setting_word : List ℕ → Result Setting ℕ
+unfoldable pub setting_word : List ℕ → Result Setting Code
 setting_word word =
     if has_prefix (codes "life=") word then (life_word word >>= λ life. Ok (Life life))
     else if has_prefix (codes "checksum=") word then checksum_word word
@@ -105,7 +106,7 @@ setting_word word =
     else if has_prefix (codes "hello=") word then (literal (codes "hello=0") word >>= λ _. Ok HelloOff)
     else room_word word
 
-abbrev pub setting_words : List (List ℕ) → Result (List Setting) ℕ
+abbrev pub setting_words : List (List ℕ) → Result (List Setting) Code
 setting_words [] = Ok []
 setting_words (word ∷ words) = do
   setting ← setting_word word
@@ -116,18 +117,18 @@ abbrev pub is_hello : Setting → Bool
 is_hello HelloOff = true
 is_hello _ = false
 
--- the key of a setting, by a number of its own
-abbrev pub key_of : Setting → ℕ
-key_of HelloOff = 0
-key_of (Checksum on) = 1
-key_of (Life life) = 2
-key_of (RedirectHold seconds) = 3
-key_of (Slots slots) = 4
-key_of (Segments segments) = 5
-key_of (Budget budget) = 6
-key_of (Neighbours neighbours) = 7
-key_of (Routers routers) = 8
-key_of (Redirects redirects) = 9
+-- the key of a setting
+abbrev pub key_of : Setting → List ℕ
+key_of HelloOff = codes "hello"
+key_of (Checksum on) = codes "checksum"
+key_of (Life life) = codes "life"
+key_of (RedirectHold seconds) = codes "rhold"
+key_of (Slots slots) = codes "slots"
+key_of (Segments segments) = codes "segments"
+key_of (Budget budget) = codes "budget"
+key_of (Neighbours neighbours) = codes "neighbours"
+key_of (Routers routers) = codes "routers"
+key_of (Redirects redirects) = codes "redirects"
 
 abbrev pub with_setting : Setting → Settings → Settings
 with_setting HelloOff settings = record settings { hello = 0 }
@@ -163,15 +164,15 @@ settings_of [] = usual_settings
 settings_of (setting ∷ others) = with_setting setting (settings_of others)
 
 -- `NAME host` and settings, behind `system`; `hello=0` is one of them, as hellos aren't sent
-unfoldable pub system_line : Declarations → List (List ℕ) → Result Declarations ℕ
+unfoldable pub system_line : Declarations → List (List ℕ) → Result Declarations Code
 system_line d words = do
-  w ← found (first_two words) SYNTAX
+  w ← found (first_two words) bad.Syntax
   name ← name_word w.0
   _ ← literal (codes "host") w.1
   settings ← setting_words w.2
-  _ ← wanted (list_any is_hello settings) SYNTAX
-  _ ← wanted (not (is_taken (system_names d) name) && each_once key_of settings) DUP_NAME
-  _ ← wanted (nat_lt (length d.systems) 64) COUNT
+  _ ← wanted (list_any is_hello settings) bad.Syntax
+  _ ← wanted (not (is_taken (system_names d) name) && each_once key_of settings) bad.DupName
+  _ ← wanted (nat_lt (length d.systems) 64) bad.Count
   Ok (record d { systems = d.systems ++ record { name = name; settings = settings_of settings; addresses = []; ports = [] } ∷ [] })
 
 -- how many addresses or ports a system has so far
@@ -182,14 +183,14 @@ counted_in items (Some system) = length (items system)
 abbrev pub with_address : List ℕ → DeclaredSystem → DeclaredSystem
 with_address address system = record system { addresses = system.addresses ++ address ∷ [] }
 
--- `NAME ADDRESS`, behind `address`: a host has at most 8
-unfoldable pub address_line : Declarations → List (List ℕ) → Result Declarations ℕ
+-- `NAME bad.Address`, behind `address`: a host has at most 8
+unfoldable pub address_line : Declarations → List (List ℕ) → Result Declarations Code
 address_line d words = do
-  w ← found (two_words words) SYNTAX
+  w ← found (two_words words) bad.Syntax
   place ← declared_word (system_names d) w.0
   address ← address_word w.1
-  _ ← wanted (not (is_among address (flat_map (λ system. system.addresses) d.systems))) DUP_ADDRESS
-  _ ← wanted (nat_lt (counted_in (λ system. system.addresses) (slice_get d.systems place)) 8) COUNT
+  _ ← wanted (not (is_among address (flat_map (λ system. system.addresses) d.systems))) bad.DupAddress
+  _ ← wanted (nat_lt (counted_in (λ system. system.addresses) (slice_get d.systems place)) 8) bad.Count
   Ok (record d { systems = changed_at (with_address address) place d.systems })
 
 -- the system at a place has a port with this number, or one on this subnetwork
@@ -210,35 +211,35 @@ mtu_at None = 0
 mtu_at (Some subnet) = subnet.mtu
 
 -- the transit of a port, where one is said
-abbrev pub transit_word : List (List ℕ) → Result ℕ ℕ
+abbrev pub transit_word : List (List ℕ) → Result ℕ Code
 transit_word [] = Ok 1
 transit_word (word ∷ words) = number_word 1 255 word
 
--- `NAME NUMBER SUBNET SNPA` and perhaps TRANSIT, behind `port`: a host has one
-unfoldable pub port_line : Declarations → List (List ℕ) → Result Declarations ℕ
+-- `NAME bad.Number SUBNET SNPA` and perhaps TRANSIT, behind `port`: a host has one
+unfoldable pub port_line : Declarations → List (List ℕ) → Result Declarations Code
 port_line d words = do
-  w ← found (first_four words) SYNTAX
-  _ ← wanted (is_one_at_most w.4) SYNTAX
+  w ← found (first_four words) bad.Syntax
+  _ ← wanted (is_one_at_most w.4) bad.Syntax
   place ← declared_word (system_names d) w.0
   number ← number_word 0 7 w.1
   subnet ← declared_word (subnet_names d) w.2
   snpa ← address_word w.3
   transit ← transit_word w.4
-  _ ← wanted (not (has_port number subnet (slice_get d.systems place))) DUP_NAME
-  _ ← wanted (not (is_among snpa (flat_map (snpas_on subnet) d.systems))) DUP_ADDRESS
-  _ ← wanted (nat_lt (counted_in (λ system. system.ports) (slice_get d.systems place)) 1) COUNT
+  _ ← wanted (not (has_port number subnet (slice_get d.systems place))) bad.DupName
+  _ ← wanted (not (is_among snpa (flat_map (snpas_on subnet) d.systems))) bad.DupAddress
+  _ ← wanted (nat_lt (counted_in (λ system. system.ports) (slice_get d.systems place)) 1) bad.Count
   Ok (record d { systems = changed_at (with_port (record { number = number; port = record { subnet = subnet; snpa = snpa; transit = transit; mtu = mtu_at (slice_get d.subnets subnet) } })) place d.systems })
 
 -- a line that declares something
-unfoldable pub declaration_line : Declarations → List (List ℕ) → Result Declarations ℕ
-declaration_line d [] = Err SYNTAX
+unfoldable pub declaration_line : Declarations → List (List ℕ) → Result Declarations Code
+declaration_line d [] = Err bad.Syntax
 declaration_line d (keyword ∷ words) =
     if bytes_eq keyword (codes "limits") then limits_line d words
     else if bytes_eq keyword (codes "subnet") then subnet_line d words
     else if bytes_eq keyword (codes "system") then system_line d words
     else if bytes_eq keyword (codes "address") then address_line d words
     else if bytes_eq keyword (codes "port") then port_line d words
-    else Err SYNTAX
+    else Err bad.Syntax
 
 -- whether there is one port, with the number 0
 abbrev pub is_port_zero : List NumberedPort → Bool

@@ -6,22 +6,23 @@ use Rattle.clnp_plan.specs.Configuration.{SystemConfiguration}
 use Rattle.clnp_plan.specs.declared.ask.Ask.{Ask}
 use Rattle.scenario.specs.Scenario.{ticks_of}
 use Rattle.scenario.specs.Words.{◌>>=◌, wanted, found, literal, declared_word, number_word, address_word, data_word, life_word, options_word, has_prefix, one_word, two_words, first_four, each_once}
-use Rattle.scenario.specs.declared.code.TheConstants.{SYNTAX, DUP_NAME}
+use Rattle.scenario.specs.declared.code.Code.{Code}
+use Rattle.scenario.specs.declared.code.Code.TheVariants as bad
 use Rattle.scenario.specs.declared.counts.Counts.{Counts}
 use Rattle.scenario.specs.declared.event.Event.{Event}
 use Rattle.scenario.specs.declared.event.Event.TheVariants.{Send, Deliver, Settle, Lose, Tick, Restart}
-use Rattle.scenario.specs.declared.setting.Wish.{Wish}
-use Rattle.scenario.specs.declared.setting.Wish.TheVariants.{Lasting, NoReport, Whole, Options}
+use Rattle.scenario.specs.declared.wish.Wish.{Wish}
+use Rattle.scenario.specs.declared.wish.Wish.TheVariants.{Lasting, NoReport, Whole, Options}
 
 -- a word behind the data of a `send`
-unfoldable pub wish_word : List ℕ → Result Wish ℕ
+unfoldable pub wish_word : List ℕ → Result Wish Code
 wish_word word =
     if has_prefix (codes "life=") word then (life_word word >>= λ life. Ok (Lasting life))
     else if has_prefix (codes "opt=") word then (options_word word >>= λ options. Ok (Options options))
     else if bytes_eq word (codes "noreport") then Ok NoReport
     else (literal (codes "whole") word >>= λ _. Ok Whole)
 
-abbrev pub wish_words : List (List ℕ) → Result (List Wish) ℕ
+abbrev pub wish_words : List (List ℕ) → Result (List Wish) Code
 wish_words [] = Ok []
 wish_words (word ∷ words) = do
   wish ← wish_word word
@@ -36,12 +37,12 @@ abbrev pub is_whole : Wish → Bool
 is_whole Whole = true
 is_whole _ = false
 
--- the kind of a wish, by a number of its own
-abbrev pub kind_of : Wish → ℕ
-kind_of (Lasting life) = 0
-kind_of NoReport = 1
-kind_of Whole = 2
-kind_of (Options options) = 3
+-- the key of a wish
+abbrev pub wish_key : Wish → List ℕ
+wish_key (Lasting life) = codes "life"
+wish_key NoReport = codes "noreport"
+wish_key Whole = codes "whole"
+wish_key (Options options) = codes "opt"
 
 -- the lifetime that is wished for, or else the system's own
 abbrev pub life_in : ℕ → List Wish → ℕ
@@ -71,42 +72,42 @@ ask_of own wishes =
     }
 
 -- `NAME FROM TO DATA` and wishes, behind `send`
-unfoldable pub send_line : (names : List (List ℕ)) (systems : List SystemConfiguration) → List (List ℕ) → Result Event ℕ
+unfoldable pub send_line : (names : List (List ℕ)) (systems : List SystemConfiguration) → List (List ℕ) → Result Event Code
 send_line names systems words = do
-  w ← found (first_four words) SYNTAX
+  w ← found (first_four words) bad.Syntax
   system ← declared_word names w.0
   from ← address_word w.1
   to ← address_word w.2
   body ← data_word w.3
   wishes ← wish_words w.4
-  _ ← wanted (each_once kind_of wishes) DUP_NAME
+  _ ← wanted (each_once wish_key wishes) bad.DupName
   Ok (Send system from to body (ask_of (own_life (slice_get systems system)) wishes))
 
 -- `K NAME`, behind `deliver`
-unfoldable pub deliver_line : List (List ℕ) → List (List ℕ) → Result Event ℕ
+unfoldable pub deliver_line : List (List ℕ) → List (List ℕ) → Result Event Code
 deliver_line names words = do
-  w ← found (two_words words) SYNTAX
+  w ← found (two_words words) bad.Syntax
   copy ← number_word 1 1000000000 w.0
   system ← declared_word names w.1
   Ok (Deliver copy system)
 
 -- `N`, behind `tick`
-unfoldable pub tick_line : List (List ℕ) → Result ℕ ℕ
-tick_line words = found (one_word words) SYNTAX >>= number_word 1 65535
+unfoldable pub tick_line : List (List ℕ) → Result ℕ Code
+tick_line words = found (one_word words) bad.Syntax >>= number_word 1 65535
 
 -- `NAME`, behind `restart`
-unfoldable pub restart_line : List (List ℕ) → List (List ℕ) → Result Event ℕ
+unfoldable pub restart_line : List (List ℕ) → List (List ℕ) → Result Event Code
 restart_line names words = do
-  word ← found (one_word words) SYNTAX
+  word ← found (one_word words) bad.Syntax
   system ← declared_word names word
   Ok (Restart system)
 
 -- `N`, behind `settle` and `lose`
-unfoldable pub count_line : List (List ℕ) → Result ℕ ℕ
-count_line words = found (one_word words) SYNTAX >>= number_word 1 100000
+unfoldable pub count_line : List (List ℕ) → Result ℕ Code
+count_line words = found (one_word words) bad.Syntax >>= number_word 1 100000
 
-unfoldable pub event_line : (names : List (List ℕ)) (systems : List SystemConfiguration) → List (List ℕ) → Result Event ℕ
-event_line names systems [] = Err SYNTAX
+unfoldable pub event_line : (names : List (List ℕ)) (systems : List SystemConfiguration) → List (List ℕ) → Result Event Code
+event_line names systems [] = Err bad.Syntax
 event_line names systems (keyword ∷ words) =
     if bytes_eq keyword (codes "send") then send_line names systems words
     else if bytes_eq keyword (codes "deliver") then deliver_line names words
@@ -114,7 +115,7 @@ event_line names systems (keyword ∷ words) =
     else if bytes_eq keyword (codes "lose") then (count_line words >>= λ count. Ok (Lose count))
     else if bytes_eq keyword (codes "tick") then (tick_line words >>= λ count. Ok (Tick count))
     else if bytes_eq keyword (codes "restart") then restart_line names words
-    else Err SYNTAX
+    else Err bad.Syntax
 
 -- the copies that an event settles or loses
 abbrev pub passed_by : Event → ℕ

@@ -1,4 +1,5 @@
 pub mod Scenario
+pub mod Codes
 pub mod Grammar
 pub mod Refusal
 pub mod Declarations

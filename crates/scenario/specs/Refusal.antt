@@ -1,8 +1,9 @@
 -- How the answers of the reader and the grammar agree, up to want of memory.
-use Rattle.std.specs.Prelude.{◌≡◌, ℕ, Result, Err}
+use Rattle.std.specs.Prelude.{◌≡◌, Result, Err}
 use Rattle.scenario.specs.Grammar.{BadLine as Bad}
+use Rattle.scenario.specs.declared.code.Code.{Code}
 use Rattle.scenario.specs.declared.fault.LineFault.{LineFault}
-use Rattle.scenario.specs.declared.fault.LineFault.TheVariants.{Code, NoMemory}
+use Rattle.scenario.specs.declared.fault.LineFault.TheVariants.{Broken, NoMemory}
 use Rattle.scenario.specs.declared.fault.ScenarioRefusal.{ScenarioRefusal}
 use Rattle.scenario.specs.declared.fault.ScenarioRefusal.TheVariants as refusal
 
@@ -12,6 +13,6 @@ Refuses refusal.NoMemory reading = Unit {0}
 Refuses (refusal.BadLine line code) reading = reading ≡ Err (record { line = line; code = code })
 
 -- a code is the grammar's very code for the line; want of memory alone is free
-abbrev pub Faults : {A : Type 0} → LineFault → Result A ℕ → Type 0
+abbrev pub Faults : {A : Type 0} → LineFault → Result A Code → Type 0
 Faults NoMemory reading = Unit {0}
-Faults (Code code) reading = reading ≡ Err code
+Faults (Broken code) reading = reading ≡ Err code

@@ -1,10 +1,11 @@
 -- What a scenario text says: how long things last, the subnetworks and systems that it declares, and its events.
-use Rattle.std.specs.Prelude.{◌≡◌, ℕ, false, ◌+◌, ◌/◌, ◌%◌, ◌≤◌, List, [], ◌∷◌, ◌++◌, map, replicate, sum}
+use Rattle.std.specs.Prelude.{◌≡◌, ℕ, false, ◌+◌, ◌/◌, ◌%◌, ◌==◌, ◌<◌, ◌≤◌, List, [], ◌∷◌, ◌++◌, map, filter, length, slice_get, replicate, sum, Some, option_map}
 use Rattle.std.specs.List.{AllByRecursion, flat_map, range_with_len}
 use Rattle.clnp_options.specs.Grammar.{FitsKind}
 use Rattle.clnp_options.specs.Parameter.{parameters}
-use Rattle.clnp_plan.specs.Configuration.{SystemConfiguration, AreDistinct, AreLimits, IsSystem}
+use Rattle.clnp_plan.specs.Configuration.{SystemConfiguration, AreDistinct, AreLimits, IsSystem, IsWithin}
 use Rattle.clnp_plan.specs.declared.config.Limits.{Limits}
+use Rattle.clnp_plan.specs.declared.config.PortConfig.{PortConfig}
 use Rattle.clnp_plan.specs.declared.config.Role.TheVariants.{Host}
 use Rattle.scenario.specs.declared.event.Body.{Body}
 use Rattle.scenario.specs.declared.event.Body.TheVariants.{Hex, Pattern}
@@ -54,13 +55,38 @@ abbrev pub AsksFairly : Event → Type 0
 AsksFairly (Send system from to body ask) = FitsKind false (parameters ask.options)
 AsksFairly _ = Unit {0}
 
+-- each system that an event names is one of so many
+abbrev pub IsPlaced : ℕ → Event → Type 0
+IsPlaced systems (Send system from to body ask) = system < systems
+IsPlaced systems (Deliver copy system) = system < systems
+IsPlaced systems (Restart system) = system < systems
+IsPlaced systems _ = Unit {0}
+
+-- the subnetwork of a port is there, and its MTU is the port's
+abbrev pub IsOn : List Subnetwork → PortConfig → Type 0
+IsOn subnets port = option_map (λ (subnet : Subnetwork). subnet.mtu) (slice_get subnets port.subnet) ≡ Some port.mtu
+
+-- the addresses of a system's ports on a subnetwork
+abbrev pub snpas_of : ℕ → SystemConfiguration → List (List ℕ)
+snpas_of subnet system = map (λ port. port.snpa) (filter (λ port. port.subnet == subnet) system.ports)
+
 -- What each scenario is that the reader accepts.
 pub record IsFit (plan : Plan) : Type 0 where
   pub limits : AreLimits plan.limits
   pub systems : AllByRecursion IsSystem plan.systems
   -- routers come later
   pub hosts : AllByRecursion (λ system. system.role ≡ Host) plan.systems
+  -- a name belongs to one subnetwork, and to one system
+  pub subnet_names : AreDistinct (map (λ (subnet : Subnetwork). subnet.name) plan.subnets)
+  pub system_names : AreDistinct (map (λ (system : SystemConfiguration). system.name) plan.systems)
+  pub few_subnets : length plan.subnets ≤ 64
+  pub few_systems : length plan.systems ≤ 64
+  pub mtus : AllByRecursion (λ (subnet : Subnetwork). IsWithin 512 65535 subnet.mtu) plan.subnets
+  -- an address of a port belongs to one port of its subnetwork
+  pub snpas : (subnet : ℕ) → AreDistinct (flat_map (snpas_of subnet) plan.systems)
+  pub ports : AllByRecursion (λ (system : SystemConfiguration). AllByRecursion (IsOn plan.subnets) system.ports) plan.systems
   -- an address belongs to one system
   pub addresses : AreDistinct (flat_map (λ system. system.addresses) plan.systems)
   pub ticks : sum (map ticks_of plan.events) ≤ 1000000
   pub asks : AllByRecursion AsksFairly plan.events
+  pub places : AllByRecursion (IsPlaced (length plan.systems)) plan.events

@@ -8,7 +8,8 @@ use Rattle.clnp_base.specs.Text.{decimal_of, is_digit}
 use Rattle.clnp_options.specs.Rules.{refusal}
 use Rattle.nsap.specs.Text.{octets_of}
 use Rattle.nsap.specs.declared.fault.NsapFault.{NsapFault}
-use Rattle.scenario.specs.declared.code.TheConstants.{SYNTAX, NUMBER, ADDRESS, UNKNOWN_NAME}
+use Rattle.scenario.specs.declared.code.Code.{Code}
+use Rattle.scenario.specs.declared.code.Code.TheVariants as bad
 use Rattle.scenario.specs.declared.event.Body.{Body}
 use Rattle.scenario.specs.declared.event.Body.TheVariants.{Hex, Pattern}
 
@@ -18,18 +19,18 @@ abbrev pub ◌>>=◌ : {A B E : Type 0} → Result A E → (A → Result B E) �
 (Err e) >>= f = Err e
 
 -- the word stands, or the code
-abbrev pub wanted : Bool → ℕ → Result (Unit {0}) ℕ
+abbrev pub wanted : Bool → Code → Result (Unit {0}) Code
 wanted true code = Ok tt
 wanted false code = Err code
 
 -- the value, or the code where there is none
-abbrev pub found : {A : Type 0} → Option A → ℕ → Result A ℕ
+abbrev pub found : {A : Type 0} → Option A → Code → Result A Code
 found None code = Err code
 found (Some x) code = Ok x
 
 -- this very word
-abbrev pub literal : List ℕ → List ℕ → Result (Unit {0}) ℕ
-literal text word = wanted (bytes_eq word text) SYNTAX
+abbrev pub literal : List ℕ → List ℕ → Result (Unit {0}) Code
+literal text word = wanted (bytes_eq word text) bad.Syntax
 
 abbrev pub is_letter : ℕ → Bool
 is_letter c = nat_le 97 c && nat_le c 122
@@ -45,51 +46,51 @@ begins_with_letter (c ∷ cs) = is_letter c
 abbrev pub is_name : List ℕ → Bool
 is_name word = begins_with_letter word && list_all is_letter_or_digit word && nat_le (length word) 16
 
-abbrev pub name_word : List ℕ → Result (List ℕ) ℕ
-name_word word = wanted (is_name word) SYNTAX >>= λ _. Ok word
+abbrev pub name_word : List ℕ → Result (List ℕ) Code
+name_word word = wanted (is_name word) bad.Syntax >>= λ _. Ok word
 
 -- the place of a name among the declared ones
-abbrev pub declared_word : List (List ℕ) → List ℕ → Result ℕ ℕ
-declared_word names word = wanted (is_name word) SYNTAX >>= λ _. found (position (λ name. bytes_eq name word) names) UNKNOWN_NAME
+abbrev pub declared_word : List (List ℕ) → List ℕ → Result ℕ Code
+declared_word names word = wanted (is_name word) bad.Syntax >>= λ _. found (position (λ name. bytes_eq name word) names) bad.UnknownName
 
 abbrev pub number_within : ℕ → ℕ → Option ℕ → Option ℕ
 number_within low high None = None
 number_within low high (Some n) = if nat_le low n && nat_le n high then Some n else None
 
 -- a decimal from low to high
-abbrev pub number_word : ℕ → ℕ → List ℕ → Result ℕ ℕ
-number_word low high word = found (number_within low high (decimal_of word)) NUMBER
+abbrev pub number_word : ℕ → ℕ → List ℕ → Result ℕ Code
+number_word low high word = found (number_within low high (decimal_of word)) bad.Number
 
 -- one or more digits
 abbrev pub is_digits : List ℕ → Bool
 is_digits word = not (length word == 0) && list_all is_digit word
 
-abbrev pub address_read : Result (List ℕ) NsapFault → Result (List ℕ) ℕ
+abbrev pub address_read : Result (List ℕ) NsapFault → Result (List ℕ) Code
 address_read (Ok octets) = Ok octets
-address_read (Err fault) = Err ADDRESS
+address_read (Err fault) = Err bad.Address
 
 -- an NSAP address, or the address of a port on its subnetwork
-abbrev pub address_word : List ℕ → Result (List ℕ) ℕ
+abbrev pub address_word : List ℕ → Result (List ℕ) Code
 address_word word = address_read (octets_of word)
 
 -- what follows a prefix that ends in `:` or `=`
-abbrev pub after_prefix : List ℕ → List ℕ → Result (List ℕ) ℕ
-after_prefix prefix word = wanted (bytes_eq (take (length prefix) word) prefix) SYNTAX >>= λ _. Ok (drop (length prefix) word)
+abbrev pub after_prefix : List ℕ → List ℕ → Result (List ℕ) Code
+after_prefix prefix word = wanted (bytes_eq (take (length prefix) word) prefix) bad.Syntax >>= λ _. Ok (drop (length prefix) word)
 
-abbrev pub digits_read : Result (List ℕ) FromHexError → Result (List ℕ) ℕ
+abbrev pub digits_read : Result (List ℕ) FromHexError → Result (List ℕ) Code
 digits_read (Ok octets) = Ok octets
-digits_read (Err e) = Err ADDRESS
+digits_read (Err e) = Err bad.Address
 
 -- whether a word begins so
 abbrev pub has_prefix : List ℕ → List ℕ → Bool
 has_prefix prefix word = bytes_eq (take (length prefix) word) prefix
 
 -- an even number of hexadecimal digits behind a prefix
-abbrev pub octets_behind : List ℕ → List ℕ → Result (List ℕ) ℕ
+abbrev pub octets_behind : List ℕ → List ℕ → Result (List ℕ) Code
 octets_behind prefix word = after_prefix prefix word >>= λ digits. digits_read (decode_of digits)
 
 -- a number behind a prefix, from low to high
-abbrev pub number_behind : List ℕ → ℕ → ℕ → List ℕ → Result ℕ ℕ
+abbrev pub number_behind : List ℕ → ℕ → ℕ → List ℕ → Result ℕ Code
 number_behind prefix low high word = after_prefix prefix word >>= number_word low high
 
 abbrev pub is_colon : ℕ → Bool
@@ -105,30 +106,30 @@ abbrev pub two_fields : List ℕ → Option (List ℕ × List ℕ)
 two_fields text = fields_at text (position is_colon text)
 
 -- how many octets of a pattern, and where it starts
-abbrev pub pattern_word : List ℕ → Result Body ℕ
+abbrev pub pattern_word : List ℕ → Result Body Code
 pattern_word word = do
   text ← after_prefix (codes "pat:") word
-  fields ← found (two_fields text) SYNTAX
+  fields ← found (two_fields text) bad.Syntax
   len ← number_word 0 70000 fields.0
   start ← number_word 0 255 fields.1
   Ok (Pattern len start)
 
 -- `pat:`, a length, `:` and a start, or `hex:` and the octets
-abbrev pub data_word : List ℕ → Result Body ℕ
+abbrev pub data_word : List ℕ → Result Body Code
 data_word word =
     if has_prefix (codes "pat:") word then pattern_word word
     else (octets_behind (codes "hex:") word >>= λ octets. Ok (Hex octets))
 
 -- `life=` and 1 to 255
-abbrev pub life_word : List ℕ → Result ℕ ℕ
+abbrev pub life_word : List ℕ → Result ℕ Code
 life_word word = number_behind (codes "life=") 1 255 word
 
 -- octets that spell options as the header of a data unit may have them
-abbrev pub options_read : List ℕ → Result (List ℕ) ℕ
-options_read octets = wanted (nat_le (length octets) 254 && not (is_some (refusal octets 1 false))) ADDRESS >>= λ _. Ok octets
+abbrev pub options_read : List ℕ → Result (List ℕ) Code
+options_read octets = wanted (nat_le (length octets) 254 && not (is_some (refusal octets 1 false))) bad.Address >>= λ _. Ok octets
 
 -- `opt=` and the octets of options
-abbrev pub options_word : List ℕ → Result (List ℕ) ℕ
+abbrev pub options_word : List ℕ → Result (List ℕ) Code
 options_word word = octets_behind (codes "opt=") word >>= options_read
 
 -- How many words a line has.
@@ -167,10 +168,10 @@ first_four _ = None
 abbrev pub is_taken : List (List ℕ) → List ℕ → Bool
 is_taken names name = is_some (position (λ other. bytes_eq other name) names)
 
--- whether no two of a list are of one kind
-abbrev pub each_once : {X : Type 0} → (X → ℕ) → List X → Bool
-each_once kind [] = true
-each_once kind (x ∷ xs) = not (list_any (λ y. kind y == kind x) xs) && each_once kind xs
+-- whether no two of a list have the same key
+abbrev pub each_once : {X : Type 0} → (X → List ℕ) → List X → Bool
+each_once key [] = true
+each_once key (x ∷ xs) = not (list_any (λ y. bytes_eq (key y) (key x)) xs) && each_once key xs
 
 -- an empty line, and one that begins with `#`
 abbrev pub is_skipped : List ℕ → Bool

@@ -8,7 +8,7 @@ ghost use Rattle.scenario.specs.Declarations.{nothing_declared, subnet_names, sy
 ghost use Rattle.scenario.specs.Words.{is_taken, declared_word};
 ghost use Rattle.scenario.specs.Refusal.{Faults};
 
-use crate::code::{COUNT, DUP_ADDRESS, DUP_NAME, LIMITS, NUMBER, SYNTAX};
+use crate::code::Code;
 use crate::fault::LineFault;
 use crate::plan::Subnet;
 use crate::setting::{each_once, has_hello, setting_words, settings_of};
@@ -75,7 +75,7 @@ fn has_snpa(systems: &[System], subnet: u8, snpa: &Snpa) -> bool
 }
 
 /// How much a port takes of a lifetime, where a word says it.
-fn transit_word(line: &[u8]) -> Result<u8, u8>
+fn transit_word(line: &[u8]) -> Result<u8, Code>
     ensures { result ≡ transit_word (words_of line.now) }
 {
     let Some((word, _)) = next_word(line) else {
@@ -134,42 +134,42 @@ impl Declared {
     }
 
     /// The place of the subnetwork that a word names.
-    fn subnet_word(&self, word: &[u8]) -> Result<usize, u8>
+    fn subnet_word(&self, word: &[u8]) -> Result<usize, Code>
         ensures place { result ≡ declared_word (subnet_names self.now) word.now }
         ensures within { IfOk result (λ place. place < 64) }
     {
         if !is_name(word) {
-            return Err(SYNTAX);
+            return Err(Code::Syntax);
         }
         declared(self.subnet_place(word))
     }
 
     /// The place of the system that a word names.
-    fn system_word(&self, word: &[u8]) -> Result<usize, u8>
+    fn system_word(&self, word: &[u8]) -> Result<usize, Code>
         ensures place { result ≡ declared_word (system_names self.now) word.now }
         ensures within { IfOk result (λ place. place < length self.now.systems) }
     {
         if !is_name(word) {
-            return Err(SYNTAX);
+            return Err(Code::Syntax);
         }
         declared(self.system_place(word))
     }
 
     /// The limits that `L R Q` declares.
     #[tactic(auto, unfolding(crate::specs::Declarations::limits_line))]
-    fn limits_of(&self, line: &[u8]) -> Result<Limits, u8>
+    fn limits_of(&self, line: &[u8]) -> Result<Limits, Code>
         ensures { MatchResult result
             (λ limits. limits_line self.now (words_of line.now) ≡ Ok (record self.now { limits = Some limits }))
             (λ code. limits_line self.now (words_of line.now) ≡ Err code) }
     {
         let Some((age, hold, reuse)) = three_words(line) else {
-            return Err(SYNTAX);
+            return Err(Code::Syntax);
         };
         let age = number_word(1, 4096, age)?;
         let hold = number_word(1, 255, hold)?;
         let reuse = number_word(1, 16_384, reuse)?;
-        wanted(self.limits.is_none(), DUP_NAME)?;
-        wanted(age + hold <= reuse, LIMITS)?;
+        wanted(self.limits.is_none(), Code::DupName)?;
+        wanted(age + hold <= reuse, Code::Limits)?;
         Ok(Limits {
             age: age as u16,
             hold: hold as u8,
@@ -189,20 +189,20 @@ impl Declared {
 
     /// The name and the MTU of the subnetwork that `NAME MTU` declares.
     #[tactic(auto, unfolding(crate::specs::Declarations::subnet_line))]
-    fn subnet_of<'a>(&self, line: &'a [u8]) -> Result<(&'a [u8], u16), u8>
+    fn subnet_of<'a>(&self, line: &'a [u8]) -> Result<(&'a [u8], u16), Code>
         ensures reading { MatchResult result
             (λ r. subnet_line self.now (words_of line.now) ≡ Ok (record self.now { subnets = self.now.subnets ++ record { name = r.0.now; mtu = r.1 } ∷ [] }))
             (λ code. subnet_line self.now (words_of line.now) ≡ Err code) }
         ensures room { IfOk result (λ _. length self.now.subnets < 64) }
     {
         let Some((name, mtu)) = two_words(line) else {
-            return Err(SYNTAX);
+            return Err(Code::Syntax);
         };
         let name = name_word(name)?;
-        wanted(is_digits(mtu), NUMBER)?;
-        wanted(self.subnet_place(name).is_none(), DUP_NAME)?;
+        wanted(is_digits(mtu), Code::Number)?;
+        wanted(self.subnet_place(name).is_none(), Code::DupName)?;
         let mtu = mtu_word(mtu)?;
-        wanted(self.subnets.len() < 64, COUNT)?;
+        wanted(self.subnets.len() < 64, Code::Count)?;
         Ok((name, mtu))
     }
 
@@ -230,15 +230,15 @@ impl Declared {
         ensures room { IfOk result (λ _. length self.now.systems < 64) }
     {
         let Some((name, role, words)) = first_two(line) else {
-            return Err(LineFault::Code(SYNTAX));
+            return Err(LineFault::Broken(Code::Syntax));
         };
         let name = name_word(name)?;
         literal(b"host", role)?;
         let settings = setting_words(alloc, words)?;
-        wanted(has_hello(&settings), SYNTAX)?;
+        wanted(has_hello(&settings), Code::Syntax)?;
         let is_new = self.system_place(name).is_none();
-        wanted(is_new && each_once(&settings), DUP_NAME)?;
-        wanted(self.systems.len() < 64, COUNT)?;
+        wanted(is_new && each_once(&settings), Code::DupName)?;
+        wanted(self.systems.len() < 64, Code::Count)?;
         Ok((name, settings_of(&settings)))
     }
 
@@ -309,19 +309,19 @@ impl Declared {
 
     /// The place of the system and the address that `NAME ADDRESS` gives it.
     #[tactic(auto, unfolding(crate::specs::Declarations::address_line))]
-    fn address_of(&self, line: &[u8]) -> Result<(usize, Address), u8>
+    fn address_of(&self, line: &[u8]) -> Result<(usize, Address), Code>
         ensures reading { MatchResult result
             (λ r. address_line self.now (words_of line.now) ≡ Ok (record self.now { systems = changed_at (with_address r.1) r.0 self.now.systems }))
             (λ code. address_line self.now (words_of line.now) ≡ Err code) }
         ensures within { IfOk result (λ r. r.0 < length self.now.systems) }
     {
         let Some((name, address)) = two_words(line) else {
-            return Err(SYNTAX);
+            return Err(Code::Syntax);
         };
         let place = self.system_word(name)?;
         let address = address_word(address)?;
-        wanted(!self.has_address(&address), DUP_ADDRESS)?;
-        wanted(self.address_count(place) < 8, COUNT)?;
+        wanted(!self.has_address(&address), Code::DupAddress)?;
+        wanted(self.address_count(place) < 8, Code::Count)?;
         Ok((place, address))
     }
 
@@ -332,7 +332,7 @@ impl Declared {
     {
         let (place, address) = match self.address_of(line) {
             Ok((place, address)) => (place, address),
-            Err(code) => return Err(LineFault::Code(code)),
+            Err(code) => return Err(LineFault::Broken(code)),
         };
         add_address(&mut self.systems, place, address)
     }
@@ -357,25 +357,28 @@ impl Declared {
     /// The place of the system and the port that `NAME NUMBER SUBNET SNPA` and perhaps TRANSIT give
     /// it.
     #[tactic(auto, unfolding(crate::specs::Declarations::port_line))]
-    fn port_of(&self, line: &[u8]) -> Result<(usize, PortAt), u8>
+    fn port_of(&self, line: &[u8]) -> Result<(usize, PortAt), Code>
         ensures reading { MatchResult result
             (λ r. port_line self.now (words_of line.now) ≡ Ok (record self.now { systems = changed_at (with_port r.1) r.0 self.now.systems }))
             (λ code. port_line self.now (words_of line.now) ≡ Err code) }
         ensures within { IfOk result (λ r. r.0 < length self.now.systems) }
     {
         let Some((name, number, on, snpa, transit)) = first_four(line) else {
-            return Err(SYNTAX);
+            return Err(Code::Syntax);
         };
-        wanted(is_one_at_most(transit), SYNTAX)?;
+        wanted(is_one_at_most(transit), Code::Syntax)?;
         let place = self.system_word(name)?;
         let number = number_word(0, 7, number)? as u8;
         let subnet = self.subnet_word(on)?;
         let snpa = snpa_word(snpa)?;
         let transit = transit_word(transit)?;
         let port = self.port_at(number, subnet, snpa, transit);
-        wanted(!self.has_port(place, number, port.port.subnet), DUP_NAME)?;
-        wanted(!self.has_snpa(port.port.subnet, &snpa), DUP_ADDRESS)?;
-        wanted(self.port_count(place) < 1, COUNT)?;
+        wanted(
+            !self.has_port(place, number, port.port.subnet),
+            Code::DupName,
+        )?;
+        wanted(!self.has_snpa(port.port.subnet, &snpa), Code::DupAddress)?;
+        wanted(self.port_count(place) < 1, Code::Count)?;
         Ok((place, port))
     }
 
@@ -386,7 +389,7 @@ impl Declared {
     {
         let (place, port) = match self.port_of(line) {
             Ok((place, port)) => (place, port),
-            Err(code) => return Err(LineFault::Code(code)),
+            Err(code) => return Err(LineFault::Broken(code)),
         };
         add_port(&mut self.systems, place, port)
     }
@@ -398,7 +401,7 @@ impl Declared {
             MatchResult result (λ _. reading ≡ Ok self.new) (λ fault. Faults fault reading) }
     {
         let Some((keyword, words)) = next_word(line) else {
-            return Err(LineFault::Code(SYNTAX));
+            return Err(LineFault::Broken(Code::Syntax));
         };
         if same(keyword, b"limits") {
             return self.limits_line(words);
@@ -415,7 +418,7 @@ impl Declared {
         if same(keyword, b"port") {
             return self.port_line(words);
         }
-        Err(LineFault::Code(SYNTAX))
+        Err(LineFault::Broken(Code::Syntax))
     }
 
     /// Whether each system has all that it must.

@@ -7,7 +7,7 @@ ghost use Rattle.scenario.specs.Events.{own_life, send_line, deliver_line, count
 ghost use Rattle.scenario.specs.Words.{declared_word};
 ghost use Rattle.scenario.specs.Refusal.{Faults};
 
-use crate::code::{DUP_NAME, SYNTAX, UNKNOWN_NAME};
+use crate::code::Code;
 use crate::event::Event;
 use crate::fault::LineFault;
 use crate::wish::{ask_of, each_once, wish_words};
@@ -35,16 +35,16 @@ fn place_of(systems: &[SystemConfig], name: &[u8]) -> Option<usize>
 }
 
 /// The place of the system that a word names.
-fn system_word(systems: &[SystemConfig], word: &[u8]) -> Result<u8, u8>
+fn system_word(systems: &[SystemConfig], word: &[u8]) -> Result<u8, Code>
     requires { length systems.now ≤ 64 }
     ensures { result ≡ declared_word (map (λ system. system.name) systems.now) word.now }
 {
     if !is_name(word) {
-        return Err(SYNTAX);
+        return Err(Code::Syntax);
     }
     match place_of(systems, word) {
         Some(place) => Ok(place as u8),
-        None => Err(UNKNOWN_NAME),
+        None => Err(Code::UnknownName),
     }
 }
 
@@ -66,14 +66,14 @@ fn send_line(alloc: Global, systems: &[SystemConfig], line: &[u8]) -> Result<Eve
         MatchResult result (λ event. reading ≡ Ok event) (λ fault. Faults fault reading) }
 {
     let Some((name, from, to, body, words)) = first_four(line) else {
-        return Err(LineFault::Code(SYNTAX));
+        return Err(LineFault::Broken(Code::Syntax));
     };
     let system = system_word(systems, name)?;
     let from = address_word(from)?;
     let to = address_word(to)?;
     let body = data_word(alloc, body)?;
     let wishes = wish_words(alloc, words)?;
-    wanted(each_once(&wishes), DUP_NAME)?;
+    wanted(each_once(&wishes), Code::DupName)?;
     Ok(Event::Send {
         system,
         from,
@@ -85,12 +85,12 @@ fn send_line(alloc: Global, systems: &[SystemConfig], line: &[u8]) -> Result<Eve
 
 /// `K NAME`, behind `deliver`.
 #[tactic(auto, unfolding(crate::specs::Events::deliver_line))]
-fn deliver_line(systems: &[SystemConfig], line: &[u8]) -> Result<Event, u8>
+fn deliver_line(systems: &[SystemConfig], line: &[u8]) -> Result<Event, Code>
     requires { length systems.now ≤ 64 }
     ensures { result ≡ deliver_line (map (λ system. system.name) systems.now) (words_of line.now) }
 {
     let Some((copy, name)) = two_words(line) else {
-        return Err(SYNTAX);
+        return Err(Code::Syntax);
     };
     let copy = number_word(1, 1_000_000_000, copy)? as u32;
     let system = system_word(systems, name)?;
@@ -99,11 +99,11 @@ fn deliver_line(systems: &[SystemConfig], line: &[u8]) -> Result<Event, u8>
 
 /// `N`, behind `settle` and `lose`.
 #[tactic(auto, unfolding(crate::specs::Events::count_line))]
-fn count_line(line: &[u8]) -> Result<u32, u8>
+fn count_line(line: &[u8]) -> Result<u32, Code>
     ensures { result ≡ count_line (words_of line.now) }
 {
     let Some(count) = one_word(line) else {
-        return Err(SYNTAX);
+        return Err(Code::Syntax);
     };
     let count = number_word(1, 100_000, count)?;
     Ok(count as u32)
@@ -111,11 +111,11 @@ fn count_line(line: &[u8]) -> Result<u32, u8>
 
 /// `N`, behind `tick`.
 #[tactic(auto, unfolding(crate::specs::Events::tick_line))]
-fn tick_line(line: &[u8]) -> Result<u32, u8>
+fn tick_line(line: &[u8]) -> Result<u32, Code>
     ensures { result ≡ tick_line (words_of line.now) }
 {
     let Some(count) = one_word(line) else {
-        return Err(SYNTAX);
+        return Err(Code::Syntax);
     };
     let count = number_word(1, 65_535, count)?;
     Ok(count as u32)
@@ -123,12 +123,12 @@ fn tick_line(line: &[u8]) -> Result<u32, u8>
 
 /// `NAME`, behind `restart`.
 #[tactic(auto, unfolding(crate::specs::Events::restart_line))]
-fn restart_line(systems: &[SystemConfig], line: &[u8]) -> Result<Event, u8>
+fn restart_line(systems: &[SystemConfig], line: &[u8]) -> Result<Event, Code>
     requires { length systems.now ≤ 64 }
     ensures { result ≡ restart_line (map (λ system. system.name) systems.now) (words_of line.now) }
 {
     let Some(name) = one_word(line) else {
-        return Err(SYNTAX);
+        return Err(Code::Syntax);
     };
     let system = system_word(systems, name)?;
     Ok(Event::Restart { system })
@@ -146,7 +146,7 @@ pub(crate) fn event_line(
         MatchResult result (λ event. reading ≡ Ok event) (λ fault. Faults fault reading) }
 {
     let Some((keyword, line)) = next_word(line) else {
-        return Err(LineFault::Code(SYNTAX));
+        return Err(LineFault::Broken(Code::Syntax));
     };
     if same(keyword, b"send") {
         return send_line(alloc, systems, line);
@@ -154,7 +154,7 @@ pub(crate) fn event_line(
     if same(keyword, b"deliver") {
         return match deliver_line(systems, line) {
             Ok(event) => Ok(event),
-            Err(code) => Err(LineFault::Code(code)),
+            Err(code) => Err(LineFault::Broken(code)),
         };
     }
     if same(keyword, b"settle") {
@@ -172,8 +172,8 @@ pub(crate) fn event_line(
     if same(keyword, b"restart") {
         return match restart_line(systems, line) {
             Ok(event) => Ok(event),
-            Err(code) => Err(LineFault::Code(code)),
+            Err(code) => Err(LineFault::Broken(code)),
         };
     }
-    Err(LineFault::Code(SYNTAX))
+    Err(LineFault::Broken(Code::Syntax))
 }

@@ -1,11 +1,13 @@
 //! Why a text or one of its lines is refused.
 
+use crate::code::Code;
 use std::alloc::{AllocError, AllocFailed};
 
 /// Why a text is no scenario.
 #[derive(Clone, Copy, Debug, PartialEq, Eq)]
 pub enum ScenarioRefusal {
-    /// The first line that breaks the grammar, from 1, and the code of what it breaks.
+    /// The first line that breaks the grammar, from 1, and the number of the `Code` of what it
+    /// breaks.
     BadLine { line: u32, code: u8 },
     /// Memory was refused.
     NoMemory,
@@ -36,20 +38,20 @@ impl<T: Drop> From<AllocFailed<T>> for ScenarioRefusal {
 /// Why a line isn't read.
 #[derive(Clone, Copy, Debug)]
 pub(crate) enum LineFault {
-    /// The code of what the line breaks.
-    Code(u8),
+    /// What the line breaks.
+    Broken(Code),
     /// Memory was refused.
     NoMemory,
 }
 
-impl From<u8> for LineFault {
+impl From<Code> for LineFault {
     ghost use Rattle.std.specs.Prelude.{◌≡◌};
-    ghost use Rattle.scenario.specs.declared.fault.LineFault.TheVariants.{Code};
+    ghost use Rattle.scenario.specs.declared.fault.LineFault.TheVariants.{Broken};
 
-    ghost from_gives = { λ code fault. fault ≡ Code code };
+    ghost from_gives = { λ code fault. fault ≡ Broken code };
 
-    fn from(code: u8) -> LineFault {
-        LineFault::Code(code)
+    fn from(code: Code) -> LineFault {
+        LineFault::Broken(code)
     }
 }
 

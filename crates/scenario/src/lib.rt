@@ -12,11 +12,10 @@ mod plan;
 mod reader;
 mod setting;
 mod system;
-#[cfg(test)]
-mod tests;
 mod wish;
 mod word;
 
+pub use code::Code;
 pub use event::{Body, Event, Move};
 pub use fault::ScenarioRefusal;
 pub use plan::{Scenario, Subnet};

@@ -31,7 +31,8 @@ impl Subnet {
 }
 
 /// What a text declares, and its events. A contract knows of each that it is fit to be run: its limits, settings and
-/// numbers are in their ranges, and no address belongs to two systems.
+/// numbers are in their ranges, no name, address or SNPA on a subnetwork stands twice, each port is on a declared
+/// subnetwork and has its MTU, and events name declared systems.
 #[derive(Debug, Drop)]
 pub struct Scenario {
     pub(crate) limits: Limits,

@@ -6,10 +6,13 @@ ghost use Rattle.clnp_plan.specs.Configuration.{IsSystem};
 ghost use Rattle.scenario.specs.Declarations.{declaration_line, is_complete, host_of};
 ghost use Rattle.scenario.specs.Events.{counted, are_few, nothing_counted};
 ghost use Rattle.scenario.specs.Grammar.{at_line, header_from, declarations_from, nothing_after, counted_event, events_from, plan_of};
+ghost use Rattle.scenario.specs.Codes.{number_of};
 ghost use Rattle.scenario.specs.Words.{wanted};
+ghost use Rattle.scenario.specs.declared.code.Code.TheVariants as bad;
+ghost use Rattle.scenario.specs.declared.fault.ScenarioRefusal.TheVariants.{BadLine};
 ghost use Rattle.scenario.specs.Refusal.{Refuses, Faults};
 
-use crate::code::{COUNT, HEADER, SYNTAX};
+use crate::code::Code;
 use crate::counts::Counts;
 use crate::declarations::Declared;
 use crate::event::Event;
@@ -22,6 +25,16 @@ use crate::word::{is_line_of, is_skipped, same};
 use clnp_base::next_line;
 use clnp_plan::SystemConfig;
 use std::alloc::{AllocError, Global};
+
+/// A line that breaks the grammar, by its number and the code's.
+fn bad_line(line: u32, code: Code) -> ScenarioRefusal
+    ensures { result ≡ BadLine line (number_of code) }
+{
+    ScenarioRefusal::BadLine {
+        line,
+        code: code.number(),
+    }
+}
 
 /// The number of the line behind the header, and the text from there on.
 fn header(text: &[u8]) -> Result<(u32, &[u8]), ScenarioRefusal>
@@ -37,18 +50,12 @@ fn header(text: &[u8]) -> Result<(u32, &[u8]), ScenarioRefusal>
             if same(line, b"clnp-sim 1") {
                 return Ok((number + 1, rest));
             }
-            return Err(ScenarioRefusal::BadLine {
-                line: number,
-                code: HEADER,
-            });
+            return Err(bad_line(number, Code::Header));
         }
         number += 1;
         left = rest;
     }
-    Err(ScenarioRefusal::BadLine {
-        line: number,
-        code: HEADER,
-    })
+    Err(bad_line(number, Code::Header))
 }
 
 /// What the line of this number declares.
@@ -64,22 +71,19 @@ fn declare_at(
     match declared.declare(alloc, line) {
         Ok(()) => Ok(()),
         Err(LineFault::NoMemory) => Err(ScenarioRefusal::NoMemory),
-        Err(LineFault::Code(code)) => Err(ScenarioRefusal::BadLine { line: number, code }),
+        Err(LineFault::Broken(code)) => Err(bad_line(number, code)),
     }
 }
 
 /// Each system has all that it must, at the line `events` of this number.
 fn complete_at(declared: &Declared, number: u32) -> Result<(), ScenarioRefusal>
-    ensures { let reading = at_line number (wanted (list_all is_complete declared.now.systems) COUNT) in
+    ensures { let reading = at_line number (wanted (list_all is_complete declared.now.systems) bad.Count) in
         MatchResult result (λ _. reading ≡ Ok tt) (λ refusal. Refuses refusal reading) }
 {
     if declared.is_complete() {
         return Ok(());
     }
-    Err(ScenarioRefusal::BadLine {
-        line: number,
-        code: COUNT,
-    })
+    Err(bad_line(number, Code::Count))
 }
 
 /// What the lines from this number on declare, up to `events`: the number of the line behind it,
@@ -112,10 +116,7 @@ fn declarations<'a>(
         }
         declare_at(alloc, declared, at, line)?;
     }
-    Err(ScenarioRefusal::BadLine {
-        line: number,
-        code: SYNTAX,
-    })
+    Err(bad_line(number, Code::Syntax))
 }
 
 /// No line but skipped ones comes after `end`.
@@ -128,10 +129,7 @@ fn nothing_after(number: u32, text: &[u8]) -> Result<(), ScenarioRefusal>
     let mut left = text;
     while let Some((line, behind)) = next_line(left) {
         if !is_skipped(line) {
-            return Err(ScenarioRefusal::BadLine {
-                line: number,
-                code: SYNTAX,
-            });
+            return Err(bad_line(number, Code::Syntax));
         }
         number += 1;
         left = behind;
@@ -157,13 +155,10 @@ fn counted_event(
     let event = match event_line(alloc, systems, line) {
         Ok(event) => event,
         Err(LineFault::NoMemory) => return Err(ScenarioRefusal::NoMemory),
-        Err(LineFault::Code(code)) => return Err(ScenarioRefusal::BadLine { line: number, code }),
+        Err(LineFault::Broken(code)) => return Err(bad_line(number, code)),
     };
     if !counts.with(&event).are_few() {
-        return Err(ScenarioRefusal::BadLine {
-            line: number,
-            code: COUNT,
-        });
+        return Err(bad_line(number, Code::Count));
     }
     Ok(event)
 }
@@ -199,10 +194,7 @@ fn events_of(
         counts = counts.with(&event);
         events.push(event)?;
     }
-    Err(ScenarioRefusal::BadLine {
-        line: number,
-        code: SYNTAX,
-    })
+    Err(bad_line(number, Code::Syntax))
 }
 
 /// The declared systems as hosts.

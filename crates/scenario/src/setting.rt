@@ -1,16 +1,16 @@
-//! The words that a line may have in any order.
-ghost use Rattle.std.specs.Prelude.{◌≡◌, ◌==◌, Ok, Err, MatchResult};
+//! The settings of a system, which its line may have in any order.
+ghost use Rattle.std.specs.Prelude.{◌≡◌, Ok, Err, MatchResult};
 ghost use Rattle.std.specs.List.{list_any};
+ghost use Rattle.std.specs.Str.{bytes_eq};
 ghost use Rattle.clnp_base.specs.Text.{words_of};
 ghost use Rattle.scenario.specs.Declarations.{checksum_word, room_word, setting_word, setting_words, is_hello, key_of, with_setting, usual_settings, settings_of};
 ghost use Rattle.scenario.specs.Words.{each_once};
 ghost use Rattle.scenario.specs.Refusal.{Faults};
 
-use crate::code::SYNTAX;
+use crate::code::Code;
 use crate::fault::LineFault;
 use crate::word::{has_prefix, life_word, literal, number_behind, same};
 use clnp_base::next_word;
-use clnp_options::OptionList;
 use clnp_plan::Settings;
 use std::alloc::Global;
 
@@ -39,21 +39,8 @@ pub(crate) enum Setting {
     Redirects(u16),
 }
 
-/// A wish for a unit that is sent.
-#[derive(Clone, Copy, Debug)]
-pub(crate) enum Wish {
-    /// Its lifetime in ticks of 500 ms.
-    Lasting(u8),
-    /// No error report where it is discarded.
-    NoReport,
-    /// No segmentation part.
-    Whole,
-    /// The options of its header.
-    Options(OptionList),
-}
-
 /// `checksum=on` or `checksum=off`.
-fn checksum_word(word: &[u8]) -> Result<Setting, u8>
+fn checksum_word(word: &[u8]) -> Result<Setting, Code>
     ensures { result ≡ checksum_word word.now }
 {
     if same(word, b"checksum=on") {
@@ -62,12 +49,12 @@ fn checksum_word(word: &[u8]) -> Result<Setting, u8>
     if same(word, b"checksum=off") {
         return Ok(Setting::Checksum(false));
     }
-    Err(SYNTAX)
+    Err(Code::Syntax)
 }
 
 /// A key of what a system has room for, and its number.
 #[tactic(auto, unfolding(crate::specs::Declarations::room_word))]
-fn room_word(word: &[u8]) -> Result<Setting, u8>
+fn room_word(word: &[u8]) -> Result<Setting, Code>
     ensures { result ≡ room_word word.now }
 {
     if has_prefix(b"slots=", word) {
@@ -96,7 +83,7 @@ fn room_word(word: &[u8]) -> Result<Setting, u8>
 
 /// A key and its value.
 #[tactic(auto, unfolding(crate::specs::Declarations::setting_word))]
-fn setting_word(word: &[u8]) -> Result<Setting, u8>
+fn setting_word(word: &[u8]) -> Result<Setting, Code>
     ensures { result ≡ setting_word word.now }
 {
     if has_prefix(b"life=", word) {
@@ -145,29 +132,29 @@ pub(crate) fn has_hello(settings: &[Setting]) -> bool
     settings.iter().any(|setting| is_hello(*setting))
 }
 
-/// The key of a setting, by a number of its own.
-fn key_of(setting: Setting) -> u8
-    ensures { result ≡ key_of setting }
+/// The key of a setting.
+fn key_of(setting: Setting) -> &'static [u8]
+    ensures { result.now ≡ key_of setting }
 {
     match setting {
-        Setting::HelloOff => 0,
-        Setting::Checksum(_) => 1,
-        Setting::Life(_) => 2,
-        Setting::RedirectHold(_) => 3,
-        Setting::Slots(_) => 4,
-        Setting::Segments(_) => 5,
-        Setting::Budget(_) => 6,
-        Setting::Neighbours(_) => 7,
-        Setting::Routers(_) => 8,
-        Setting::Redirects(_) => 9,
+        Setting::HelloOff => b"hello",
+        Setting::Checksum(_) => b"checksum",
+        Setting::Life(_) => b"life",
+        Setting::RedirectHold(_) => b"rhold",
+        Setting::Slots(_) => b"slots",
+        Setting::Segments(_) => b"segments",
+        Setting::Budget(_) => b"budget",
+        Setting::Neighbours(_) => b"neighbours",
+        Setting::Routers(_) => b"routers",
+        Setting::Redirects(_) => b"redirects",
     }
 }
 
 /// Whether one of the settings has this key.
-fn has_key(settings: &[Setting], key: u8) -> bool
-    ensures { result ≡ list_any (λ setting. key_of setting == key) settings.now }
+fn has_key(settings: &[Setting], key: &[u8]) -> bool
+    ensures { result ≡ list_any (λ setting. bytes_eq (key_of setting) key.now) settings.now }
 {
-    settings.iter().any(|setting| key_of(*setting) == key)
+    settings.iter().any(|setting| same(key_of(*setting), key))
 }
 
 /// Whether each key is there at most once.

@@ -1,18 +1,31 @@
 //! The words behind the data of a `send`.
-ghost use Rattle.std.specs.Prelude.{◌≡◌, ◌==◌, Ok, Err, MatchResult};
+ghost use Rattle.std.specs.Prelude.{◌≡◌, Ok, Err, MatchResult};
 ghost use Rattle.std.specs.List.{list_any};
+ghost use Rattle.std.specs.Str.{bytes_eq};
 ghost use Rattle.clnp_base.specs.Text.{words_of};
-ghost use Rattle.scenario.specs.Events.{wish_word, wish_words, is_no_report, is_whole, kind_of, life_in, options_in, ask_of};
+ghost use Rattle.scenario.specs.Events.{wish_word, wish_words, is_no_report, is_whole, wish_key, life_in, options_in, ask_of};
 ghost use Rattle.scenario.specs.Words.{each_once};
 ghost use Rattle.scenario.specs.Refusal.{Faults};
 
 use crate::fault::LineFault;
-use crate::setting::Wish;
 use crate::word::{has_prefix, life_word, literal, options_word, same};
 use clnp_base::next_word;
 use clnp_options::OptionList;
 use clnp_plan::Ask;
 use std::alloc::Global;
+
+/// A wish for a unit that is sent.
+#[derive(Clone, Copy, Debug)]
+pub(crate) enum Wish {
+    /// Its lifetime in ticks of 500 ms.
+    Lasting(u8),
+    /// No error report where it is discarded.
+    NoReport,
+    /// No segmentation part.
+    Whole,
+    /// The options of its header.
+    Options(OptionList),
+}
 
 /// `life=N`, `opt=HEX`, `noreport` or `whole`.
 #[tactic(auto, unfolding(crate::specs::Events::wish_word))]
@@ -77,31 +90,31 @@ fn wants_no_report(wishes: &[Wish]) -> bool
     wishes.iter().any(|wish| is_no_report(wish))
 }
 
-/// The kind of a wish, by a number of its own.
-fn kind_of(wish: &Wish) -> u8
-    ensures { result ≡ kind_of wish.now }
+/// The key of a wish.
+fn wish_key(wish: &Wish) -> &'static [u8]
+    ensures { result.now ≡ wish_key wish.now }
 {
     match wish {
-        Wish::Lasting(_) => 0,
-        Wish::NoReport => 1,
-        Wish::Whole => 2,
-        Wish::Options(_) => 3,
+        Wish::Lasting(_) => b"life",
+        Wish::NoReport => b"noreport",
+        Wish::Whole => b"whole",
+        Wish::Options(_) => b"opt",
     }
 }
 
-/// Whether one of the wishes is of this kind.
-fn has_kind(wishes: &[Wish], kind: u8) -> bool
-    ensures { result ≡ list_any (λ wish. kind_of wish == kind) wishes.now }
+/// Whether one of the wishes has this key.
+fn has_key(wishes: &[Wish], key: &[u8]) -> bool
+    ensures { result ≡ list_any (λ wish. bytes_eq (wish_key wish) key.now) wishes.now }
 {
-    wishes.iter().any(|wish| kind_of(wish) == kind)
+    wishes.iter().any(|wish| same(wish_key(wish), key))
 }
 
-/// Whether each kind of wish is there at most once.
+/// Whether each key is there at most once.
 pub(crate) fn each_once(wishes: &[Wish]) -> bool
-    ensures { result ≡ each_once kind_of wishes.now }
+    ensures { result ≡ each_once wish_key wishes.now }
 {
     match wishes.split_first() {
-        Some((wish, others)) => !has_kind(others, kind_of(wish)) && each_once(others),
+        Some((wish, others)) => !has_key(others, wish_key(wish)) && each_once(others),
         None => true,
     }
 }

@@ -6,8 +6,9 @@ ghost use Rattle.clnp_base.specs.Text.{words_of, is_digit, decimal_of};
 ghost use Rattle.scenario.specs.Grammar.{is_line_of};
 ghost use Rattle.scenario.specs.Words.{one_word, two_words, three_words, first_two, first_four, is_one_at_most, wanted, found, literal, is_letter_or_digit, begins_with_letter, is_name, is_digits, is_skipped, number_within, name_word, number_word, address_word, has_prefix, after_prefix, octets_behind, number_behind, is_colon, two_fields, pattern_word, data_word, life_word, options_read, options_word};
 ghost use Rattle.scenario.specs.Refusal.{Faults};
+ghost use Rattle.scenario.specs.declared.code.Code.TheVariants as bad;
 
-use crate::code::{ADDRESS, MTU, NUMBER, SYNTAX, UNKNOWN_NAME};
+use crate::code::Code;
 use crate::event::Body;
 use crate::fault::LineFault;
 use clnp_base::{Octets, decimal, next_word};
@@ -106,17 +107,17 @@ pub(crate) fn same(word: &[u8], other: &[u8]) -> bool
 }
 
 /// Nothing where it holds, and else the code.
-pub(crate) fn wanted(holds: bool, code: u8) -> Result<(), u8>
+pub(crate) fn wanted(holds: bool, code: Code) -> Result<(), Code>
     ensures { result ≡ wanted holds code }
 {
     if holds { Ok(()) } else { Err(code) }
 }
 
 /// This very word.
-pub(crate) fn literal(text: &[u8], word: &[u8]) -> Result<(), u8>
+pub(crate) fn literal(text: &[u8], word: &[u8]) -> Result<(), Code>
     ensures { result ≡ literal text.now word.now }
 {
-    wanted(same(word, text), SYNTAX)
+    wanted(same(word, text), Code::Syntax)
 }
 
 /// Whether a character is a letter a to z or a digit.
@@ -151,19 +152,23 @@ pub(crate) fn is_name(word: &[u8]) -> bool
 }
 
 /// A word that has the form of a name.
-pub(crate) fn name_word(word: &[u8]) -> Result<&[u8], u8>
+pub(crate) fn name_word(word: &[u8]) -> Result<&[u8], Code>
     ensures { MatchResult result (λ name. name_word word.now ≡ Ok name.now) (λ code. name_word word.now ≡ Err code) }
 {
-    if is_name(word) { Ok(word) } else { Err(SYNTAX) }
+    if is_name(word) {
+        Ok(word)
+    } else {
+        Err(Code::Syntax)
+    }
 }
 
 /// A place, where a name is declared.
-pub(crate) fn declared(place: Option<usize>) -> Result<usize, u8>
-    ensures { result ≡ found place UNKNOWN_NAME }
+pub(crate) fn declared(place: Option<usize>) -> Result<usize, Code>
+    ensures { result ≡ found place bad.UnknownName }
 {
     match place {
         Some(place) => Ok(place),
-        None => Err(UNKNOWN_NAME),
+        None => Err(Code::UnknownName),
     }
 }
 
@@ -179,13 +184,13 @@ fn number_within(low: u64, high: u64, number: Option<u64>) -> Option<u64>
 }
 
 /// A decimal from `low` to `high`.
-pub(crate) fn number_word(low: u64, high: u64, word: &[u8]) -> Result<u64, u8>
+pub(crate) fn number_word(low: u64, high: u64, word: &[u8]) -> Result<u64, Code>
     ensures number { result ≡ number_word low high word.now }
     ensures within { IfOk result (λ n. n ≤ high) }
 {
     match number_within(low, high, decimal(word)) {
         Some(n) => Ok(n),
-        None => Err(NUMBER),
+        None => Err(Code::Number),
     }
 }
 
@@ -211,32 +216,32 @@ pub(crate) fn is_digits(word: &[u8]) -> bool
 }
 
 /// The number of an MTU from 512 to 65,535.
-pub(crate) fn mtu_word(word: &[u8]) -> Result<u16, u8>
-    ensures { result ≡ found (number_within 512 65535 (decimal_of word.now)) MTU }
+pub(crate) fn mtu_word(word: &[u8]) -> Result<u16, Code>
+    ensures { result ≡ found (number_within 512 65535 (decimal_of word.now)) bad.Mtu }
 {
     match number_within(512, 65535, decimal(word)) {
         Some(mtu) => Ok(mtu as u16),
-        None => Err(MTU),
+        None => Err(Code::Mtu),
     }
 }
 
 /// An NSAP address.
-pub(crate) fn address_word(word: &[u8]) -> Result<Address, u8>
+pub(crate) fn address_word(word: &[u8]) -> Result<Address, Code>
     ensures { result ≡ address_word word.now }
 {
     match Address::from_text(word) {
         Ok(address) => Ok(address),
-        Err(_) => Err(ADDRESS),
+        Err(_) => Err(Code::Address),
     }
 }
 
 /// The address of a port on its subnetwork.
-pub(crate) fn snpa_word(word: &[u8]) -> Result<Snpa, u8>
+pub(crate) fn snpa_word(word: &[u8]) -> Result<Snpa, Code>
     ensures { result ≡ address_word word.now }
 {
     match Snpa::from_text(word) {
         Ok(snpa) => Ok(snpa),
-        Err(_) => Err(ADDRESS),
+        Err(_) => Err(Code::Address),
     }
 }
 
@@ -248,14 +253,14 @@ pub(crate) fn has_prefix(prefix: &[u8], word: &[u8]) -> bool
 }
 
 /// What follows a prefix.
-fn after_prefix<'a>(prefix: &[u8], word: &'a [u8]) -> Result<&'a [u8], u8>
+fn after_prefix<'a>(prefix: &[u8], word: &'a [u8]) -> Result<&'a [u8], Code>
     ensures { MatchResult result
         (λ rest. after_prefix prefix.now word.now ≡ Ok rest.now)
         (λ code. after_prefix prefix.now word.now ≡ Err code) }
 {
     match word.strip_prefix(prefix) {
         Some(rest) => Ok(rest),
-        None => Err(SYNTAX),
+        None => Err(Code::Syntax),
     }
 }
 
@@ -268,12 +273,12 @@ fn octets_behind(alloc: Global, prefix: &[u8], word: &[u8]) -> Result<Vec<u8>, L
     match hex::decode(alloc, digits) {
         Ok(octets) => Ok(octets),
         Err(hex::FromHexError::OutOfMemory) => Err(LineFault::NoMemory),
-        Err(_) => Err(LineFault::Code(ADDRESS)),
+        Err(_) => Err(LineFault::Broken(Code::Address)),
     }
 }
 
 /// A decimal behind a prefix, from `low` to `high`.
-pub(crate) fn number_behind(prefix: &[u8], low: u64, high: u64, word: &[u8]) -> Result<u64, u8>
+pub(crate) fn number_behind(prefix: &[u8], low: u64, high: u64, word: &[u8]) -> Result<u64, Code>
     ensures number { result ≡ number_behind prefix.now low high word.now }
     ensures within { IfOk result (λ n. n ≤ high) }
 {
@@ -317,12 +322,12 @@ fn two_fields(text: &[u8]) -> Option<(&[u8], &[u8])>
 }
 
 /// `pat:`, how many octets, `:` and where the pattern starts.
-fn pattern_word(word: &[u8]) -> Result<Body, u8>
+fn pattern_word(word: &[u8]) -> Result<Body, Code>
     ensures { MatchResult result (λ body. pattern_word word.now ≡ Ok body) (λ code. pattern_word word.now ≡ Err code) }
 {
     let text = after_prefix(b"pat:", word)?;
     let Some((len, start)) = two_fields(text) else {
-        return Err(SYNTAX);
+        return Err(Code::Syntax);
     };
     let len = number_word(0, 70_000, len)? as u32;
     let start = number_word(0, 255, start)? as u8;
@@ -336,7 +341,7 @@ pub(crate) fn data_word(alloc: Global, word: &[u8]) -> Result<Body, LineFault>
     if has_prefix(b"pat:", word) {
         return match pattern_word(word) {
             Ok(body) => Ok(body),
-            Err(code) => Err(LineFault::Code(code)),
+            Err(code) => Err(LineFault::Broken(code)),
         };
     }
     let octets = octets_behind(alloc, b"hex:", word)?;
@@ -344,7 +349,7 @@ pub(crate) fn data_word(alloc: Global, word: &[u8]) -> Result<Body, LineFault>
 }
 
 /// `life=` and a decimal from 1 to 255.
-pub(crate) fn life_word(word: &[u8]) -> Result<u8, u8>
+pub(crate) fn life_word(word: &[u8]) -> Result<u8, Code>
     ensures { result ≡ life_word word.now }
 {
     let life = number_behind(b"life=", 1, 255, word)?;
@@ -352,15 +357,15 @@ pub(crate) fn life_word(word: &[u8]) -> Result<u8, u8>
 }
 
 /// The options that octets spell, as a data unit's header may have them.
-fn options_read(octets: &[u8]) -> Result<OptionList, u8>
+fn options_read(octets: &[u8]) -> Result<OptionList, Code>
     ensures { result ≡ options_read octets.now }
 {
     if octets.len() > 254 {
-        return Err(ADDRESS);
+        return Err(Code::Address);
     }
     match OptionList::from_bytes(octets) {
         Ok(options) => Ok(options),
-        Err(_) => Err(ADDRESS),
+        Err(_) => Err(Code::Address),
     }
 }
 
@@ -371,6 +376,6 @@ pub(crate) fn options_word(alloc: Global, word: &[u8]) -> Result<OptionList, Lin
     let octets = octets_behind(alloc, b"opt=", word)?;
     match options_read(&octets) {
         Ok(options) => Ok(options),
-        Err(code) => Err(LineFault::Code(code)),
+        Err(code) => Err(LineFault::Broken(code)),
     }
 }

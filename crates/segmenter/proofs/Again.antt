@@ -12,7 +12,7 @@ use Rattle.segmenter.specs.Range.{Range, Partition, Tiles}
 use Rattle.segmenter.specs.Cut.{Piece, both, cut, cut_each, cut_through, data_room, ranges, segment, uncut, whole_range, within}
 use Rattle.segmenter.specs.Pieces.{AreMtus, IsSegmentOf, ranges_of, segment_at}
 use Rattle.segmenter.proofs.Claims.{cut_gives, piece_of, segments_tile}
-use Rattle.segmenter.proofs.Lists.{each_append, each_mapped, each_then, length_part}
+use Rattle.clnp_base.proofs.Lists.{AllByRecursion-append, AllByRecursion-implies, AllByRecursion-mapped, length_part}
 use Rattle.segmenter.proofs.Segments.{segment_is_pdu, segment_of_segment, whole_is_segment}
 use Rattle.segmenter.proofs.Tiles.{tiles_append, tiles_at, tiles_partition, tiles_within}
 
@@ -91,8 +91,8 @@ cut_piece v piece mtu start end h m begins ends =
     (cut_gives w mtu (λ pieces. ArePiecesOf v start end (moved pieces))
     (λ fits. subst (λ t. ArePiecesOf v start end (t ∷ [])) (sym (uncut_within v piece h)) (record { each = (h, tt); tile = (begins, ends) }))
     (λ part has. record {
-      each = each_mapped (λ inner. IsPieceOf v (within piece.range inner)) (IsPieceOf v) (within piece.range) (map (piece_of w part) parts) (λ inner is. is)
-          (each_mapped (λ inner. inner.from + inner.len ≤ length w.body) (λ inner. IsPieceOf v (within piece.range inner)) (piece_of w part) parts
+      each = AllByRecursion-mapped (λ inner. IsPieceOf v (within piece.range inner)) (IsPieceOf v) (within piece.range) (map (piece_of w part) parts) (λ inner is. is)
+          (AllByRecursion-mapped (λ inner. inner.from + inner.len ≤ length w.body) (λ inner. IsPieceOf v (within piece.range inner)) (piece_of w part) parts
           (λ inner inside. within_is_piece v piece part inner h has inside) (tiles_within parts 0 (length w.body) tile));
       tile = tiles_at (ranges_of (moved (map (piece_of w part) parts))) (piece.range.from + 0) start (piece.range.from + length w.body) end
           (omega arith) (omega arith) (tiles_moved piece.range w part parts 0 (length w.body) tile);
@@ -104,7 +104,7 @@ both_pieces : (v : PduValue) (first others : Option (List Piece)) (start mid end
 both_pieces v None others start mid end h k = tt
 both_pieces v (Some first) None start mid end h k = tt
 both_pieces v (Some first) (Some others) start mid end h k = record {
-  each = each_append (IsPieceOf v) first others h.each k.each;
+  each = AllByRecursion-append (IsPieceOf v) first others h.each k.each;
   tile = subst (λ t. Tiles start t end) (sym (map-append (λ (piece : Piece). piece.range) first others)) (tiles_append (ranges_of first) (ranges_of others) start mid end h.tile k.tile);
 }
 
@@ -130,7 +130,7 @@ partition_again v mtus h m =
 
 pub segments_again : (v : PduValue) (mtus : List ℕ) → IsPdu v → AreMtus mtus → IfSome (cut_through mtus (Some (uncut v ∷ []))) (AllByRecursion (IsSegmentOf v))
 segments_again v mtus h m =
-    IfSome_then (cut_through mtus (Some (uncut v ∷ []))) (cut_whole v mtus h m) (λ pieces is. each_then (IsPieceOf v) (IsSegmentOf v) pieces (λ piece p. p.value) is.each)
+    IfSome_then (cut_through mtus (Some (uncut v ∷ []))) (cut_whole v mtus h m) (λ pieces is. AllByRecursion-implies (IsPieceOf v) (IsSegmentOf v) (λ piece p. p.value) pieces is.each)
 
 pub order_again : (v : PduValue) (mtus : List ℕ) → IsPdu v → AreMtus mtus → IfSome (cut_through mtus (Some (uncut v ∷ []))) (λ pieces. Tiles 0 (ranges_of pieces) (length v.body))
 order_again v mtus h m =

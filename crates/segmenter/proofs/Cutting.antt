@@ -1,20 +1,19 @@
 -- Cutting a PDU into segments: their headers by the header of the PDU alone, and where they stand in its data.
-use Rattle.std.proofs.Common.{◌≡◌, ◌∙◌, sym, ap, subst, ℕ, ◌+◌, ◌-◌, ◌^◌, ◌<◌, ◌≤◌, Bool, Option, None, Some, List, ◌∷◌, ◌++◌, length, take, drop, replicate, arith, length-take, length-drop}
+use Rattle.std.proofs.Common.{◌≡◌, ◌∙◌, sym, ap, subst, ℕ, ◌+◌, ◌-◌, ◌^◌, ◌<◌, ◌≤◌, Option, None, Some, List, ◌∷◌, ◌++◌, length, take, drop, replicate, arith, length-take, length-drop}
 use Rattle.std.specs.Prelude.{nat_lt, if◌then◌else◌}
 use Rattle.std.proofs.lemmas.List.{length-replicate}
 use Rattle.std.proofs.lemmas.Bool.Decides.{nat_tests}
 use Rattle.fletcher.specs.Checksum.{sealed}
 use Rattle.pdu_header.specs.Value.{SegmentationPart, PduValue}
 use Rattle.pdu_header.specs.Spelling.{flags_and_type, header, header_length, pair_of, variable_part}
-use Rattle.pdu_header.specs.Grammar.{FitsUnit, IsPdu, IsSegment}
+use Rattle.pdu_header.specs.Grammar.{IsPdu, IsSegment}
 use Rattle.pdu_header.specs.Parts.{FitsRange}
 use Rattle.pdu_header.specs.Headers.{SpellsHeader, at_offset, with_segment}
 use Rattle.pdu_header.specs.Reading.{value_of}
-use Rattle.pdu_header.proofs.Changed.{segment_pdu}
-use Rattle.pdu_header.proofs.Told.{tells_value}
 use Rattle.segmenter.specs.Range.{Range}
 use Rattle.segmenter.specs.Cut.{segment}
 use Rattle.segmenter.specs.Left.{of_zeros}
+use Rattle.segmenter.proofs.Segments.{unit_fits}
 
 -- ---- what a header tells
 
@@ -35,14 +34,18 @@ pub length-range : (range : Range) (a b : List ℕ) → length a ≡ length b �
 length-range range a b e =
     omega (arith, length-take range.len (drop range.from a), length-take range.len (drop range.from b), length-drop range.from a, length-drop range.from b)
 
+-- the law that a header tells its value
+abbrev pub Tells : Type 0
+Tells = (v : PduValue) (octets : List ℕ) → SpellsHeader v octets → v ≡ value_of octets v.body
+
 -- the header of a segment, by the header of the PDU and the length of its data alone
-pub segment_header_is : (v : PduValue) (octets : List ℕ) (len : ℕ) (part : SegmentationPart) (range : Range) → SpellsHeader v octets → length v.body ≡ len
+pub segment_header_is : Tells → (v : PduValue) (octets : List ℕ) (len : ℕ) (part : SegmentationPart) (range : Range) → SpellsHeader v octets → length v.body ≡ len
     → header (segment v part range) ≡ header (segment (of_zeros octets len) part range)
 unfolding of_zeros
-segment_header_is v octets len part range h e =
+segment_header_is tells v octets len part range h e =
     let zeros : List ℕ = replicate len 0 in
     let w : PduValue = segment (value_of octets v.body) part range in
-    ap (λ (x : PduValue). header (segment x part range)) (tells_value v octets h)
+    ap (λ (x : PduValue). header (segment x part range)) (tells v octets h)
     ∙ header_by_length w (take range.len (drop range.from v.body)) (take range.len (drop range.from zeros))
     (length-range range v.body zeros (e ∙ sym (length-replicate len 0)))
 
@@ -55,9 +58,11 @@ segment_by_length v a b e (Some part) h = record {
   identifier = h.identifier;
   offset = h.offset;
   total = h.total;
-  holds_header = h.holds_header;
-  within = let within = h.within in rw (← e) within;
-  ends = let ends = h.ends in rw (← e) ends;
+  range = record {
+    holds_header = h.range.holds_header;
+    within = let within = h.range.within in rw (← e) within;
+    ends = let ends = h.range.ends in rw (← e) ends;
+  };
 }
 
 pdu_by_length : (v : PduValue) (a b : List ℕ) → length a ≡ length b → IsPdu (record v { body = a }) → IsPdu (record v { body = b })
@@ -72,21 +77,21 @@ pdu_by_length v a b e h = record {
   segment_fits = let fits = h.segment_fits in rw (← e) fits;
 }
 
-pub zeros_spelled : (v : PduValue) (octets : List ℕ) (len : ℕ) → SpellsHeader v octets → length v.body ≡ len → SpellsHeader (of_zeros octets len) octets
+pub zeros_spelled : Tells → (v : PduValue) (octets : List ℕ) (len : ℕ) → SpellsHeader v octets → length v.body ≡ len → SpellsHeader (of_zeros octets len) octets
 unfolding of_zeros
-zeros_spelled v octets len h e =
+zeros_spelled tells v octets len h e =
     let zeros : List ℕ = replicate len 0 in
     let w : PduValue = value_of octets v.body in
-    let is : v ≡ w = tells_value v octets h in
+    let is : v ≡ w = tells v octets h in
     let same : length v.body ≡ length zeros = e ∙ sym (length-replicate len 0) in
     record {
       pdu = pdu_by_length w v.body zeros same (subst IsPdu is h.pdu);
       octets_are = h.octets_are ∙ ap (λ (x : PduValue). header x) is ∙ header_by_length w v.body zeros same;
     }
 
-pub part_of_zeros : (v : PduValue) (octets : List ℕ) (len : ℕ) → SpellsHeader v octets → (of_zeros octets len).segmentation ≡ v.segmentation
+pub part_of_zeros : Tells → (v : PduValue) (octets : List ℕ) (len : ℕ) → SpellsHeader v octets → (of_zeros octets len).segmentation ≡ v.segmentation
 unfolding of_zeros
-part_of_zeros v octets len h = sym (ap (λ (x : PduValue). x.segmentation) (tells_value v octets h))
+part_of_zeros tells v octets len h = sym (ap (λ (x : PduValue). x.segmentation) (tells v octets h))
 
 pub length-zeros : (octets : List ℕ) (len : ℕ) → length (of_zeros octets len).body ≡ len
 unfolding of_zeros
@@ -94,16 +99,13 @@ length-zeros octets len = length-replicate len 0
 
 -- ---- segments lie in their unit
 
-unit_of_part : (v : PduValue) (part : SegmentationPart) → IsPdu v → v.segmentation ≡ Some part → FitsUnit v part
-unit_of_part v part h has = let P : Option SegmentationPart → Type 0 = IsSegment v in subst P has h.segmentation
-
 pub range_fits : (v : PduValue) (part : SegmentationPart) (from len : ℕ) → IsPdu v → v.segmentation ≡ Some part → from + len ≤ length v.body
     → FitsRange (header_length v) len (nat_lt (part.offset + from + len) (part.total - header_length v)) (at_offset (part.offset + from) part)
 range_fits v part from len h has within =
-    let unit = unit_of_part v part h has in
-    let ends : part.offset + from + len ≤ part.total - header_length v = omega (arith, unit.within) in
+    let unit = unit_fits v part has h in
+    let ends : part.offset + from + len ≤ part.total - header_length v = omega (arith, unit.range.within) in
     record {
-      holds_header = unit.holds_header;
+      holds_header = unit.range.holds_header;
       within = ends;
       ends = ((λ e. grind (arith, nat_tests)), (λ e. grind (arith, nat_tests)));
     }
@@ -116,27 +118,12 @@ pub record IsRoomy (v : PduValue) (part : SegmentationPart) (from len : ℕ) : T
 
 pub roomy : (v : PduValue) (part : SegmentationPart) (from len : ℕ) → IsPdu v → v.segmentation ≡ Some part → from + len ≤ length v.body → IsRoomy v part from len
 roomy v part from len h has within =
-    let unit = unit_of_part v part h has in
+    let unit = unit_fits v part has h in
     record {
-      offset_fits = omega (arith, unit.within, unit.total);
-      len_fits = omega (arith, unit.within, unit.total);
-      holds_header = unit.holds_header;
+      offset_fits = omega (arith, unit.range.within, unit.total);
+      len_fits = omega (arith, unit.range.within, unit.total);
+      holds_header = unit.range.holds_header;
     }
-
-pub length-taken : (range : Range) (body : List ℕ) → range.from + range.len ≤ length body → length (take range.len (drop range.from body)) ≡ range.len
-length-taken range body within =
-    omega (arith, length-take range.len (drop range.from body), length-drop range.from body)
-
-pub segment_is_pdu : (v : PduValue) (part : SegmentationPart) (range : Range) → IsPdu v → v.segmentation ≡ Some part → range.from + range.len ≤ length v.body → IsPdu (segment v part range)
-segment_is_pdu v part range h has within =
-    let more : Bool = nat_lt (part.offset + range.from + range.len) (part.total - header_length v) in
-    let body : List ℕ = take range.len (drop range.from v.body) in
-    let w : PduValue = with_segment part v.more v.body v in
-    let is : v ≡ w = ap (λ s. let x : PduValue = record v { segmentation = s } in x) has in
-    let P : ℕ → Type 0 = λ n. FitsRange (header_length v) n more (at_offset (part.offset + range.from) part) in
-    let Q : PduValue → Type 0 = λ x. FitsRange (header_length x) (length body) more (at_offset (part.offset + range.from) part) in
-    let fits = subst P (sym (length-taken range v.body within)) (range_fits v part range.from range.len h has within) in
-    segment_pdu v part v.more more v.body body (part.offset + range.from) (subst IsPdu is h) (subst Q is fits) (roomy v part range.from range.len h has within).offset_fits
 
 -- the same, as the code computes it
 pub carried : (v : PduValue) (part : SegmentationPart) (from len offset total head_len : ℕ) → IsPdu v → v.segmentation ≡ Some part → from + len ≤ length v.body

@@ -12,13 +12,14 @@ use Rattle.pdu_header.specs.Value.{PduValue}
 use Rattle.pdu_header.specs.View.{part_value}
 use Rattle.pdu_header.specs.Spelling.{header, header_length, segment_length}
 use Rattle.pdu_header.specs.Headers.{SpellsHeader}
-use Rattle.pdu_header.proofs.Written.{length-header}
 use Rattle.segmenter.specs.declared.cuts.Cut.{Cut}
 use Rattle.segmenter.specs.declared.cuts.Cuts.TheInside.{Inside}
 use Rattle.segmenter.specs.Range.{Range}
 use Rattle.segmenter.specs.Cut.{Piece, cut, data_room, given, nth_range, ranges, segment, segments, uncut}
 use Rattle.segmenter.specs.Left.{IsCutOf, IsCutting, IsPartOf, cuts_left, nth_cut, of_zeros, piece_header}
-use Rattle.segmenter.proofs.Cutting.{length-taken, length-zeros, part_of_zeros, segment_header_is, segment_is_pdu, zeros_spelled}
+use Rattle.segmenter.proofs.Cutting.{Tells, length-zeros, part_of_zeros, segment_header_is, zeros_spelled}
+use Rattle.clnp_base.proofs.Lists.{length_part}
+use Rattle.segmenter.proofs.Segments.{segment_is_pdu}
 
 -- ---- numbers
 
@@ -41,28 +42,25 @@ ceil_is len room some = by_order (cases_lt (div_ceil len room) ((len + room - 1)
 
 -- ---- what the iterator holds at first
 
-pub length_of : (v : PduValue) (octets : List ℕ) → SpellsHeader v octets → length octets ≡ header_length v
-length_of v octets h = ap length h.octets_are ∙ length-header v
-
 one_begins : (room number : ℕ) → number < 0 + 1 → number * room ≤ room
 one_begins room zero h = omega arith
 one_begins room (suc number) h = absurd (omega arith)
 
-pub whole_cutting : (v : PduValue) (octets : List ℕ) (len : ℕ) → SpellsHeader v octets → length v.body ≡ len
+pub whole_cutting : Tells → (v : PduValue) (octets : List ℕ) (len : ℕ) → SpellsHeader v octets → length v.body ≡ len
     → IsCutting (record { head = octets; part = None; body_len = len; room = len; number = 0; left = 1 })
-whole_cutting v octets len h e = record {
-  spells = zeros_spelled v octets len h e;
+whole_cutting tells v octets len h e = record {
+  spells = zeros_spelled tells v octets len h e;
   part = tt;
   begins = one_begins len;
   few = omega arith;
 }
 
-pub parts_cutting : (v : PduValue) (octets : List ℕ) (len room left : ℕ) (part : SegPart) → SpellsHeader v octets → length v.body ≡ len
+pub parts_cutting : Tells → (v : PduValue) (octets : List ℕ) (len room left : ℕ) (part : SegPart) → SpellsHeader v octets → length v.body ≡ len
     → Some (part_value part) ≡ v.segmentation → 0 < room → left ≡ div_ceil len room → left < 2 ^ 64
     → IsCutting (record { head = octets; part = Some part; body_len = len; room = room; number = 0; left = left })
-parts_cutting v octets len room left part h e has some count few = record {
-  spells = zeros_spelled v octets len h e;
-  part = part_of_zeros v octets len h ∙ sym has;
+parts_cutting tells v octets len room left part h e has some count few = record {
+  spells = zeros_spelled tells v octets len h e;
+  part = part_of_zeros tells v octets len h ∙ sym has;
   begins = λ number below. ceil_begins len room number some (omega (arith, count));
   few = omega arith;
 }
@@ -73,10 +71,10 @@ same_cut : (head other : List ℕ) (from from_2 len len_2 : ℕ) → head ≡ ot
     → (let a : Cut = record { head = head; from = from; len = len } in a) ≡ record { head = other; from = from_2; len = len_2 }
 same_cut head other from from_2 len len_2 a b c = rw (a, b, c) refl
 
-pub piece_is : (v : PduValue) (octets : List ℕ) (len : ℕ) (part : SegPart) (range : Range) → SpellsHeader v octets → length v.body ≡ len
+pub piece_is : Tells → (v : PduValue) (octets : List ℕ) (len : ℕ) (part : SegPart) (range : Range) → SpellsHeader v octets → length v.body ≡ len
     → piece_header octets len (Some part) range ≡ header (segment v (part_value part) range)
 unfolding piece_header
-piece_is v octets len part range h e = sym (segment_header_is v octets len (part_value part) range h e)
+piece_is tells v octets len part range h e = sym (segment_header_is tells v octets len (part_value part) range h e)
 
 pub whole_is : (v : PduValue) (octets : List ℕ) (len : ℕ) → SpellsHeader v octets → length v.body ≡ len
     → cuts_left (record { head = octets; part = None; body_len = len; room = len; number = 0; left = 1 }) ≡ map given (uncut v ∷ [])
@@ -84,25 +82,25 @@ unfolding piece_header
 whole_is v octets len h e =
     ap (λ (x : Cut). x ∷ []) (same_cut octets (header v) (0 * len) 0 (min len (len - 0 * len)) (length v.body) h.octets_are (omega arith) (omega (arith, e)))
 
-each_given : (v : PduValue) (part : SegPart) (s : Inside) → SpellsHeader v s.head → length v.body ≡ s.body_len → s.part ≡ Some part → (numbers : List ℕ)
+each_given : Tells → (v : PduValue) (part : SegPart) (s : Inside) → SpellsHeader v s.head → length v.body ≡ s.body_len → s.part ≡ Some part → (numbers : List ℕ)
     → map (nth_cut s) numbers ≡ map given (map (λ range. record { value = segment v (part_value part) range; range = range }) (map (nth_range s.room s.body_len) numbers))
-each_given v part s h e p [] = refl
-each_given v part s h e p (number ∷ numbers) =
+each_given tells v part s h e p [] = refl
+each_given tells v part s h e p (number ∷ numbers) =
     let range : Range = nth_range s.room s.body_len number in
     let head : piece_header s.head s.body_len s.part range ≡ header (segment v (part_value part) range) =
-    ap (λ x. piece_header s.head s.body_len x range) p ∙ piece_is v s.head s.body_len part range h e in
-    let others = each_given v part s h e p numbers in
+    ap (λ x. piece_header s.head s.body_len x range) p ∙ piece_is tells v s.head s.body_len part range h e in
+    let others = each_given tells v part s h e p numbers in
     ap (λ (x : Cut). x ∷ map (nth_cut s) numbers) (same_cut _ _ range.from range.from range.len range.len head refl refl)
     ∙ ap (λ (xs : List Cut). given (record { value = segment v (part_value part) range; range = range }) ∷ xs) others
 
-pub segments_are : (v : PduValue) (octets : List ℕ) (len room left mtu : ℕ) (part : SegPart) → SpellsHeader v octets → length v.body ≡ len
+pub segments_are : Tells → (v : PduValue) (octets : List ℕ) (len room left mtu : ℕ) (part : SegPart) → SpellsHeader v octets → length v.body ≡ len
     → 0 < room → room ≡ data_room (header_length v) mtu → left ≡ div_ceil len room
     → cuts_left (record { head = octets; part = Some part; body_len = len; room = room; number = 0; left = left }) ≡ map given (segments v mtu (part_value part))
-segments_are v octets len room left mtu part h e some at count =
+segments_are tells v octets len room left mtu part h e some at count =
     let s : Inside = record { head = octets; part = Some part; body_len = len; room = room; number = 0; left = left } in
     let pieces : List Range → List Piece = λ rs. map (λ range. record { value = segment v (part_value part) range; range = range }) rs in
     ap (λ n. map (nth_cut s) (range_with_len 0 n)) (count ∙ ceil_is len room some)
-    ∙ each_given v part s h e refl (range_with_len 0 ((len + room - 1) / room))
+    ∙ each_given tells v part s h e refl (range_with_len 0 ((len + room - 1) / room))
     ∙ ap (λ r. map given (pieces (ranges r len))) at
     ∙ ap (λ n. map given (pieces (ranges (data_room (header_length v) mtu) n))) (sym e)
 
@@ -138,7 +136,7 @@ piece_spelled s None range h is within whole =
 piece_spelled s (Some part) range h is within whole =
     let w : PduValue = of_zeros s.head s.body_len in
     let inside : range.from + range.len ≤ length w.body = omega (arith, length-zeros s.head s.body_len) in
-    (segment w (part_value part) range, record { pdu = segment_is_pdu w (part_value part) range h.pdu is inside; octets_are = refl }, length-taken range w.body inside)
+    (segment w (part_value part) range, record { pdu = segment_is_pdu w (part_value part) range is h.pdu inside; octets_are = refl }, length_part w.body range.from range.len inside)
 
 pub all_cut : (s : Inside) → IsCutting s → (s.part ≡ None → (number : ℕ) → number < s.number + s.left → min s.room (s.body_len - number * s.room) ≡ s.body_len)
     → (number left : ℕ) → number + left ≤ s.number + s.left → AllByRecursion (IsCutOf s.body_len) (map (nth_cut s) (range_with_len number left))

@@ -2,9 +2,7 @@ pub mod Again
 pub mod Claims
 pub mod Cutting
 pub mod Given
-pub mod Lists
 pub mod Quotients
-pub mod Samples
 pub mod Segments
 pub mod Tiles
 mod Worked

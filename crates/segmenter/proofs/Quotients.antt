@@ -37,3 +37,6 @@ room_is_eights header_len mtu = omega arith
 
 pub room_fits : (header_len mtu : ℕ) → header_len ≤ 254 → 512 ≤ mtu → (8 ≤ data_room header_len mtu) × (header_len + data_room header_len mtu ≤ mtu)
 room_fits header_len mtu h m = ((omega arith), (omega arith))
+
+pub room_is_full : (header_len mtu : ℕ) → mtu < header_len + data_room header_len mtu + 8
+room_is_full header_len mtu = omega arith

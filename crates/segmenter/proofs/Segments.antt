@@ -1,17 +1,16 @@
 -- The segments of a PDU are PDUs, and a segment of a segment is a segment.
-use Rattle.std.proofs.Common.{◌≡◌, ◌∙◌, refl, sym, ap, subst, ℕ, ◌+◌, ◌-◌, ◌<◌, ◌≤◌, Bool, true, false, Option, Some, List, length, add-zero, arith, ⊎_elim}
+use Rattle.std.proofs.Common.{◌≡◌, ◌∙◌, refl, sym, ap, subst, ℕ, ◌+◌, ◌-◌, ◌<◌, ◌≤◌, Bool, true, false, Some, List, ◌++◌, length, length-append, add-zero, arith, ⊎_elim}
 use Rattle.std.specs.Prelude.{◌↔◌, nat_lt}
 use Rattle.std.proofs.lemmas.Bool.{ltb-false, le-ltb, lt-ltb, cases_lt}
 use Rattle.std.proofs.lemmas.List.{take_all}
 use Rattle.clnp_options.specs.Parameter.{spelled}
 use Rattle.pdu_header.specs.Value.{SegmentationPart, PduValue}
-use Rattle.pdu_header.specs.Spelling.{header_length, segmentation_octets}
+use Rattle.pdu_header.specs.Spelling.{counted, header_length, segmentation_octets}
 use Rattle.pdu_header.specs.Grammar.{FitsUnit, IsSegment, IsPdu}
 use Rattle.pdu_header.specs.Headers.{at_offset, with_segment}
-use Rattle.pdu_header.proofs.Changed.{header_length-is}
 use Rattle.segmenter.specs.Range.{Range}
 use Rattle.segmenter.specs.Cut.{segment, whole_range}
-use Rattle.segmenter.proofs.Lists.{part_of_part, length_part}
+use Rattle.clnp_base.proofs.Lists.{length_part, part_of_part}
 
 -- ---- the flag that more follows
 
@@ -27,8 +26,10 @@ more_is true a b h iff =
 
 pub header_length-segment : (v : PduValue) (part : SegmentationPart) (range : Range) → v.segmentation ≡ Some part → header_length (segment v part range) ≡ header_length v
 header_length-segment v part range has =
-    let octets : Option SegmentationPart → ℕ = λ o. 11 + length v.destination + length v.source + length (segmentation_octets o) + length (spelled v.options) in
-    header_length-is (segment v part range) ∙ ap octets (sym has) ∙ sym (header_length-is v)
+    let new : List ℕ = segmentation_octets (Some (at_offset (part.offset + range.from) part)) in
+    let old : List ℕ = segmentation_octets v.segmentation in
+    let same : length new ≡ length old = ap (λ o. length (segmentation_octets o)) (sym has) in
+    omega (arith, same, length-append v.destination (counted v.source ++ (new ++ spelled v.options)), length-append v.destination (counted v.source ++ (old ++ spelled v.options)), length-append v.source (new ++ spelled v.options), length-append v.source (old ++ spelled v.options), length-append new (spelled v.options), length-append old (spelled v.options))
 
 pub unit_fits : (v : PduValue) (part : SegmentationPart) → v.segmentation ≡ Some part → IsPdu v → FitsUnit v part
 unit_fits v part has h = subst (IsSegment v) has h.segmentation
@@ -38,17 +39,19 @@ pub segment_in_unit : (v : PduValue) (part : SegmentationPart) (from len size he
     → header_length w ≡ head → length w.body ≡ len → w.more ≡ nat_lt (part.offset + from + len) (part.total - head)
     → FitsUnit w (at_offset (part.offset + from) part)
 segment_in_unit v part from len size head w v_head v_size fits within w_head w_len w_more =
-    let holds : head ≤ part.total = rw v_head at fits.holds_header in
-    let inside : part.offset + size ≤ part.total - head = rw (v_head, v_size) at fits.within in
+    let holds : head ≤ part.total = rw v_head at fits.range.holds_header in
+    let inside : part.offset + size ≤ part.total - head = rw (v_head, v_size) at fits.range.within in
     let total = fits.total in
     let ends = last_ends (part.offset + from + len) (part.total - head) (omega arith) in
     record {
       identifier = fits.identifier;
       offset = omega arith;
       total = fits.total;
-      holds_header = rw w_head holds;
-      within = rw (w_head, w_len) (omega arith);
-      ends = rw (w_head, w_len, w_more) ends;
+      range = record {
+        holds_header = rw w_head holds;
+        within = rw (w_head, w_len) (omega arith);
+        ends = rw (w_head, w_len, w_more) ends;
+      };
     }
 
 pub segment_is_pdu : (v : PduValue) (part : SegmentationPart) (range : Range) → v.segmentation ≡ Some part → IsPdu v → range.from + range.len ≤ length v.body → IsPdu (segment v part range)
@@ -80,7 +83,7 @@ pub whole_is_segment : (v : PduValue) (part : SegmentationPart) → v.segmentati
 whole_is_segment v part has h =
     let fits = unit_fits v part has h in
     let more : v.more ≡ nat_lt (part.offset + 0 + length v.body) (part.total - header_length v) =
-    rw (add-zero part.offset) (more_is v.more (part.offset + length v.body) (part.total - header_length v) fits.within fits.ends) in
+    rw (add-zero part.offset) (more_is v.more (part.offset + length v.body) (part.total - header_length v) fits.range.within fits.range.ends) in
     let own : v ≡ with_segment part v.more v.body v = ap (λ o. record v { segmentation = o }) has in
     own ∙ same_segment v part part.offset (part.offset + 0) v.more _ v.body _ (omega arith) more (sym (take_all (length v.body) v.body (omega arith)))
 

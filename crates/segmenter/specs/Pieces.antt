@@ -1,5 +1,5 @@
 -- What is claimed of the pieces of a PDU.
-use Rattle.std.specs.Prelude.{◌≡◌, ◌↔◌, ℕ, ◌/◌, ◌%◌, ◌≤◌, ◌<◌, Bool, true, List, [], ◌∷◌, map, Option, None, Some, option_map, IsTrue}
+use Rattle.std.specs.Prelude.{◌≡◌, ◌↔◌, ℕ, ◌+◌, ◌/◌, ◌%◌, ◌≤◌, ◌<◌, Bool, true, List, [], ◌∷◌, map, Option, None, Some, option_map, IsTrue}
 use Rattle.std.specs.List.{AllByRecursion}
 use Rattle.pdu_header.specs.Value.{SegmentationPart, PduValue}
 use Rattle.pdu_header.specs.Spelling.{segment_length}
@@ -29,11 +29,12 @@ HasRoomOf room len place number =
 abbrev pub Fits : ℕ → Piece → Type 0
 Fits mtu piece = segment_length piece.value ≤ mtu
 
--- each but the last has data of a length that is a multiple of 8, and at least 8
-abbrev pub FillUp : List Piece → Type 0
-FillUp [] = Unit {0}
-FillUp (piece ∷ []) = Unit {0}
-FillUp (piece ∷ next ∷ others) = (piece.range.len % 8 ≡ 0) × (8 ≤ piece.range.len) × FillUp (next ∷ others)
+-- each but the last is full: its data are a multiple of 8 octets, at least 8, and 8 octets more would not fit the MTU
+abbrev pub FillUp : ℕ → List Piece → Type 0
+FillUp mtu [] = Unit {0}
+FillUp mtu (piece ∷ []) = Unit {0}
+FillUp mtu (piece ∷ next ∷ others) =
+    (piece.range.len % 8 ≡ 0) × (8 ≤ piece.range.len) × (mtu < segment_length piece.value + 8) × FillUp mtu (next ∷ others)
 
 -- set for each but the last, which has the one given
 abbrev pub marks : Bool → List Piece → List Bool

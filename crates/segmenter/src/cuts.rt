@@ -9,7 +9,7 @@ ghost use Rattle.pdu_header.specs.View.{part_value};
 ghost use Rattle.segmenter.specs.Cut.{cut, given, segment};
 ghost use Rattle.segmenter.specs.Left.{IsCutOf};
 
-use pdu_header::{Header, SegPart};
+use pdu_header::{Header, SegPart, laws};
 use std::marker::Model;
 
 /// A PDU that is longer than the MTU, and may not be segmented since it has no segmentation part.
@@ -73,6 +73,7 @@ impl Cuts {
         ensures cut { (v : PduValue) → SpellsHeader v head → length v.body ≡ body_len → MatchOption (cut v mtu) (result ≡ Err (record { octets = segment_length v })) (λ pieces. result ≡ Ok (map given pieces)) }
         ensures each { IfOk result (AllByRecursion (IsCutOf body_len)) }
     {
+        laws::a_header_tells_its_value();
         let head_len = head.as_bytes().len();
         let mtu = usize::from(mtu);
         let octets = head_len + body_len;

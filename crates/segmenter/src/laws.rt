@@ -1,10 +1,11 @@
 //! Laws of the definitions: what cutting comes to. Each law is the clause of a function that does nothing.
-ghost use Rattle.std.specs.Prelude.{◌≡◌, ◌≤◌, ℕ, List, ◌∷◌, [], IfSome, Some, length, map};
+ghost use Rattle.std.specs.Prelude.{◌≡◌, ◌+◌, ◌≤◌, ℕ, List, ◌∷◌, [], IfSome, Some, length, map};
 ghost use Rattle.std.specs.List.{AllByRecursion};
-ghost use Rattle.pdu_header.specs.Value.{PduValue};
+ghost use Rattle.pdu_header.specs.Value.{PduValue, SegmentationPart};
 ghost use Rattle.pdu_header.specs.Grammar.{IsPdu};
-ghost use Rattle.segmenter.specs.Range.{Partition, Tiles};
-ghost use Rattle.segmenter.specs.Cut.{cut, cut_through, uncut, whole_range};
+ghost use Rattle.pdu_header.specs.Spelling.{header_length};
+ghost use Rattle.segmenter.specs.Range.{Partition, Range, Tiles};
+ghost use Rattle.segmenter.specs.Cut.{cut, cut_through, data_room, ranges, segment, uncut, whole_range};
 ghost use Rattle.segmenter.specs.Pieces.{AreMtus, FillUp, Fits, HasRoomOf, IsSegmentOf, KeepsUnit, marks, ranges_of};
 
 /// Each octet of a PDU's data is in exactly one of its pieces, which stand in the order of the data, also when
@@ -27,15 +28,24 @@ pub fn places_go_by_quotient()
     ensures { (room len place number : ℕ) → 8 ≤ room → HasRoomOf room len place number }
 {}
 
-/// Each piece is a PDU and fits the MTU; each but the last has data of a length that is a multiple of 8, and at
-/// least 8; the flag that more follows is set on each but the last, which has that of the PDU; identifier and total
+/// Each piece is a PDU and fits the MTU; each but the last has data of a length that is a multiple of 8, at least 8,
+/// and with 8 octets more it would not fit; the flag that more follows is set on each but the last, which has that of the PDU; identifier and total
 /// length stay.
 pub fn pieces_are_pdus_that_fit()
     ensures pdus { (v : PduValue) (mtu : ℕ) → IsPdu v → 512 ≤ mtu
         → IfSome (cut v mtu) (AllByRecursion (λ piece. IsPdu piece.value)) }
     ensures fit { (v : PduValue) (mtu : ℕ) → IsPdu v → 512 ≤ mtu → IfSome (cut v mtu) (AllByRecursion (Fits mtu)) }
-    ensures filled { (v : PduValue) (mtu : ℕ) → IsPdu v → 512 ≤ mtu → IfSome (cut v mtu) FillUp }
+    ensures filled { (v : PduValue) (mtu : ℕ) → IsPdu v → 512 ≤ mtu → IfSome (cut v mtu) (FillUp mtu) }
     ensures more { (v : PduValue) (mtu : ℕ) → IsPdu v → 512 ≤ mtu
         → IfSome (cut v mtu) (λ pieces. map (λ piece. piece.value.more) pieces ≡ marks v.more pieces) }
     ensures unit { (v : PduValue) (mtu : ℕ) → IsPdu v → 512 ≤ mtu → IfSome (cut v mtu) (AllByRecursion (KeepsUnit v)) }
+{}
+
+/// A range of a PDU's data is a PDU of its own; and the ranges of all segments stand one behind another, from the first
+/// octet of the data to the last.
+pub fn segments_are_pdus_one_behind_another()
+    ensures pdu { (v : PduValue) (part : SegmentationPart) (range : Range) → v.segmentation ≡ Some part → IsPdu v → range.from + range.len ≤ length v.body → IsPdu (segment v part range) }
+    ensures tile { (v : PduValue) (mtu : ℕ) → IsPdu v → 512 ≤ mtu → Tiles 0 (ranges (data_room (header_length v) mtu) (length v.body)) (length v.body) }
+    ensures within { (v : PduValue) (mtu : ℕ) → IsPdu v → 512 ≤ mtu
+        → AllByRecursion (λ range. range.from + range.len ≤ length v.body) (ranges (data_room (header_length v) mtu) (length v.body)) }
 {}

@@ -3,7 +3,5 @@
 
 mod cuts;
 pub mod laws;
-#[cfg(test)]
-mod tests;
 
 pub use cuts::{Cut, Cuts, NotPermitted};

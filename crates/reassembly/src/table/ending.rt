@@ -100,7 +100,7 @@ fn drop_all(segments: &mut Vec<Segment>, key: &Key)
     ensures others { segments.new.items ≡ others_of key.now segments.old.items }
     ensures capacity { vec_capacity segments.new ≡ vec_capacity segments.old }
 {
-    segments.retain(|segment| segment.key != *key);
+    segments.retain(|segment| !segment.key.is(key));
 }
 
 /// Takes the last segment of a key out, if there is one.
@@ -131,7 +131,7 @@ fn first_at_start(segments: &[Segment], key: &Key) -> Option<usize>
 {
     segments
         .iter()
-        .position(|segment| segment.key == *key && segment.offset == 0)
+        .position(|segment| segment.key.is(key) && segment.offset == 0)
 }
 
 /// The index of the last segment of a key.
@@ -141,7 +141,7 @@ fn last_of(segments: &[Segment], key: &Key) -> Option<usize>
     ensures last { IfSome result (λ index. (index < length segments.now) × (remove segments.now index ≡ without_last key.now segments.now)) }
 {
     for index in (0..segments.len()).rev() {
-        if segments[index].key == *key {
+        if segments[index].key.is(key) {
             return Some(index);
         }
     }

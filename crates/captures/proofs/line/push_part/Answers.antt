@@ -1,6 +1,6 @@
 use Rattle.std.proofs.Common.{◌++◌, codes}
 use Rattle.std.specs.Fmt.{decimal}
-use Rattle.captures.specs.Shown.{pair_word}
+use Rattle.captures.specs.Words.{pair_word}
 use Rattle.captures.proofs.Pieces.{three}
 use Rattle.captures.proofs.line.push_part.Goals as goal
 

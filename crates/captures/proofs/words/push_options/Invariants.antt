@@ -1,6 +1,6 @@
 use Rattle.std.proofs.Common.{◌≡◌, ◌++◌, length}
 use Rattle.clnp_options.specs.Parameter.{parameters}
-use Rattle.captures.specs.Shown.{options_text}
+use Rattle.captures.specs.Words.{options_text}
 use Rattle.captures.proofs.words.push_options.Given as goal
 
 -- what is written and what is left to write are all options

@@ -1,6 +1,8 @@
-use Rattle.std.proofs.Common.{◌≡◌, ◌==◌, false, arith, rules}
+use Rattle.std.proofs.Common.{◌≡◌, ◌∙◌, ◌==◌, ap, false, length, arith, rules}
+use Rattle.pdu_header.specs.View.{pdu_value}
 use Rattle.pdu_header.specs.Rules.{octet}
 use Rattle.pdu_header.proofs.Frames.{nothing_spelled, other_protocol, read_front, read_header}
+use Rattle.pdu_header.proofs.Written.{length-header}
 use Rattle.pdu_header.proofs.decoder.decode.Goals as goal
 
 pub returns-in-Ok-clause-found : goal.returns-in-Ok-clause-found
@@ -20,3 +22,9 @@ pub returns-then-not-is_clnp-clause-none : goal.returns-then-not-is_clnp-clause-
 returns-then-not-is_clnp-clause-none c =
     let differs : (octet c.args.frame.now 1 == 0x81) ≡ false = search rules in
     other_protocol c.args.frame.now differs
+
+pub returns-in-Ok-clause-spells : goal.returns-in-Ok-clause-spells
+returns-in-Ok-clause-spells c = record { pdu = (returns-in-Ok-clause-found c).spells.pdu; octets_are = returns-in-Ok-clause-header c }
+
+pub returns-in-Ok-clause-size : goal.returns-in-Ok-clause-size
+returns-in-Ok-clause-size c = ap length (returns-in-Ok-clause-header c) ∙ length-header (pdu_value c.in-Ok.pdu)

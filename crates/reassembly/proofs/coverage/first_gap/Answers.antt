@@ -1,7 +1,8 @@
 -- Each step goes on to the end of a segment that has the octet.
 use Rattle.std.proofs.Common.{rules, ◌∙◌, sym, arith}
 use Rattle.reassembly.specs.Offered.{MayCome}
-use Rattle.reassembly.proofs.Finding.{all_read, is_first, none_found}
+use Rattle.clnp_base.proofs.Found.{is_first, none_found}
+use Rattle.clnp_base.proofs.Lists.{AllByRecursion-read}
 use Rattle.reassembly.proofs.Run.{covered_is, covers_less, covers_more, does_give, gives}
 use Rattle.reassembly.proofs.coverage.first_gap.Goals as goal
 
@@ -18,7 +19,7 @@ bounds-segments-index c =
 pub end-place-requires : goal.end-place-requires
 end-place-requires c =
     let first = is_first (gives c.args.key.now c.loop-place.place) c.in-Some.index c.args.segments.now (sym c.in-Some.ensures) in
-    all_read MayCome c.in-Some.index c.args.segments.now c.index-segments-index.result first.within c.index-segments-index.is c.requires.came
+    AllByRecursion-read MayCome c.args.segments.now c.in-Some.index c.index-segments-index.result first.within c.index-segments-index.is c.requires.came
 
 pub loop-place-smaller : goal.loop-place-smaller
 loop-place-smaller c =

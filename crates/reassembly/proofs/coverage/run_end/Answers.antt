@@ -7,10 +7,11 @@ use Rattle.std.proofs.lemmas.Grind.{common_steps}
 use Rattle.reassembly.specs.declared.segment.Segment.{Segment}
 use Rattle.reassembly.specs.Arrival.{same_key}
 use Rattle.reassembly.specs.Offered.{MayCome}
-use Rattle.reassembly.proofs.Finding.{all_read, is_first, position_read}
+use Rattle.clnp_base.proofs.Found.{is_first, position_read}
+use Rattle.clnp_base.proofs.Lists.{AllByRecursion-read}
 use Rattle.reassembly.proofs.Run.{RunsTo, does_give, gives, gives_from, run_more}
 use Rattle.reassembly.proofs.coverage.run_end.Goals as goal
-use Rattle.reassembly.proofs.coverage.run_end.Goals.{then-eq+then-place-start, else-eq}
+use Rattle.reassembly.proofs.coverage.run_end.Goals.{then-is+then-place-start, else-is}
 
 pub offset_bounds-segments-index : goal.offset_bounds-segments-index
 offset_bounds-segments-index c =
@@ -24,7 +25,7 @@ bounds-segments-index c = (is_first (gives c.args.key.now c.args.place) c.args.i
 pub end-end-requires : goal.end-end-requires
 end-end-requires c =
     let first = is_first (gives c.args.key.now c.args.place) c.args.index c.args.segments.now c.requires.first in
-    all_read MayCome c.args.index c.args.segments.now c.index-segments-index.result first.within c.index-segments-index.is c.requires.came
+    AllByRecursion-read MayCome c.args.segments.now c.args.index c.index-segments-index.result first.within c.index-segments-index.is c.requires.came
 
 pub slice_bounds-segment-items-end : goal.slice_bounds-segment-items-end
 slice_bounds-segment-items-end c =
@@ -49,13 +50,13 @@ loop-segment-preserved c =
     → RunsTo c.args.key.now (take c.args.index c.args.segments.now) (c.loop-segment.segment-index + 1) c.args.place c.end-end.result next
     = λ next later within begins. run_more c.args.key.now (take c.args.index c.args.segments.now) c.loop-segment.segment-index c.args.place
     c.end-end.result c.loop-segment.end next segment run c.loop-segment-test.true c.segment-item.is first.before later within begins in
-    elim c.if-eq.branch [
-      | then-eq+then-place-start w ↦ more c.if-eq.end (omega (arith, run.later)) (omega arith) (λ key begins. omega arith)
-      | else-eq w ↦
-          more c.if-eq.end (omega (arith, run.later)) (omega arith)
-          (λ key begins. elim w.else-eq.either [
+    elim c.if-is.branch [
+      | then-is+then-place-start w ↦ more c.if-is.end (omega (arith, run.later)) (omega arith) (λ key begins. omega arith)
+      | else-is w ↦
+          more c.if-is.end (omega (arith, run.later)) (omega arith)
+          (λ key begins. elim w.else-is.either [
             | inl past ↦ absurd (omega (arith, past.1))
-            | inr other ↦ absurd (both_ways c.eq.result other (c.eq.ensures ∙ key))
+            | inr other ↦ absurd (both_ways c.is.result other (c.is.ensures ∙ key))
           ])
     ]
 

@@ -1,9 +1,9 @@
 use Rattle.std.proofs.Common.{sym, ◌∙◌}
 use Rattle.std.specs.Str.{bytes_eq}
 use Rattle.clnp_plan.specs.Configuration.{SystemConfiguration}
-use Rattle.scenario.proofs.Lists.{position_map}
+use Rattle.clnp_base.proofs.Maps.{position-map}
 use Rattle.scenario.proofs.event_line.place_of.Goals as goal
 
 pub returns-clause-place : goal.returns-clause-place
 returns-clause-place c =
-    c.first_named.ensures.place ∙ sym (position_map (λ (system : SystemConfiguration). system.name) (λ name. bytes_eq name c.args.name.now) c.args.systems.now)
+    c.first_named.ensures.place ∙ sym (position-map (λ (system : SystemConfiguration). system.name) (λ name. bytes_eq name c.args.name.now) c.args.systems.now)

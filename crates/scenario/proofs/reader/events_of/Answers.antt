@@ -58,5 +58,6 @@ loop-line-preserved c =
 pub returns : goal.returns
 returns c =
     let names : List (List ℕ) = map (λ (system : SystemConfiguration). system.name) c.args.systems.now in
-    lacks_end c.loop-line.events.items names c.args.systems.now c.loop-line.number c.loop-line.counts
-    (events_from names c.args.systems.now c.args.number nothing_counted (lines_of c.args.text.now)) (rw c.in_default.ensures.line at c.loop-line.invariant.same)
+    rw c.bad_line.ensures
+    (lacks_end c.loop-line.events.items names c.args.systems.now c.loop-line.number c.loop-line.counts
+    (events_from names c.args.systems.now c.args.number nothing_counted (lines_of c.args.text.now)) (rw c.in_default.ensures.line at c.loop-line.invariant.same))

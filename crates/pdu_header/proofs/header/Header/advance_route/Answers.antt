@@ -3,7 +3,7 @@ use Rattle.clnp_options.specs.Parameter.{source_route}
 use Rattle.clnp_options.specs.Edits.{edited, advanced}
 use Rattle.pdu_header.specs.Value.{PduValue}
 use Rattle.pdu_header.specs.Headers.{SpellsHeader, with_options}
-use Rattle.pdu_header.proofs.Edited.{StartsAt, start_within, options_formed, options_lead, edit_spells, nine_kept}
+use Rattle.pdu_header.proofs.Edited.{StartsAt, start_within, options_formed, options_lead, edit_spells}
 use Rattle.pdu_header.proofs.header.Header.advance_route.Goals as goal
 
 pub advance_route-requires-clause-start : goal.advance_route-requires-clause-start
@@ -30,8 +30,12 @@ advance_route-requires-clause-target c =
     let start : StartsAt v c.options_index-start.result = c.options_index-start.ensures v read in
     options_lead v c.self.inside.cells c.options_index-start.result h start c.requires.2
 
-pub reseal-requires : goal.reseal-requires
-reseal-requires c = nine_kept c.self.inside.cells _ c.self.invariant c.advance_route.ensures.len
+pub take_over-requires-clause-within : goal.take_over-requires-clause-within
+take_over-requires-clause-within c =
+    let v : PduValue = c.requires.0 in
+    let h : SpellsHeader v c.self.inside.cells = rw c.self.view_is c.requires.1 in
+    let read : SpellsHeader v c.as_bytes.result.now = rw c.as_bytes.ensures.octets h in
+    start_within v c.self.inside.cells c.options_index-start.result h (c.options_index-start.ensures v read)
 
 pub invariant_of-self : goal.invariant_of-self
 invariant_of-self c =
@@ -39,7 +43,7 @@ invariant_of-self c =
     let h : SpellsHeader v c.self.inside.cells = rw c.self.view_is c.requires.1 in
     let read : SpellsHeader v c.as_bytes.result.now = rw c.as_bytes.ensures.octets h in
     let start : StartsAt v c.options_index-start.result = c.options_index-start.ensures v read in
-    (with_options ((edited source_route advanced) v.options) v, edit_spells v (edited source_route advanced) c.self.inside.cells _ _ c.options_index-start.result h start c.advance_route.ensures c.reseal.ensures.value)
+    (with_options ((edited source_route advanced) v.options) v, edit_spells v (edited source_route advanced) c.self.inside.cells _ _ _ c.options_index-start.result h start c.advance_route.ensures c.as_bytes-2.ensures.octets c.take_over.ensures.changed)
 
 pub returns-clause-spells : goal.returns-clause-spells
 returns-clause-spells c w spelt =
@@ -47,7 +51,7 @@ returns-clause-spells c w spelt =
     let h : SpellsHeader v c.self.inside.cells = rw c.self.view_is spelt in
     let read : SpellsHeader v c.as_bytes.result.now = rw c.as_bytes.ensures.octets h in
     let start : StartsAt v c.options_index-start.result = c.options_index-start.ensures v read in
-    edit_spells v (edited source_route advanced) c.self.inside.cells _ _ c.options_index-start.result h start c.advance_route.ensures c.reseal.ensures.value
+    edit_spells v (edited source_route advanced) c.self.inside.cells _ _ _ c.options_index-start.result h start c.advance_route.ensures c.as_bytes-2.ensures.octets c.take_over.ensures.changed
 
 pub returns-clause-len : goal.returns-clause-len
-returns-clause-len c = c.reseal.ensures.len ∙ c.advance_route.ensures.len ∙ ap length c.self.view_is
+returns-clause-len c = c.take_over.ensures.len ∙ ap length c.self.view_is

@@ -3,7 +3,7 @@ use Rattle.clnp_options.specs.Parameter.{recording}
 use Rattle.clnp_options.specs.Edits.{edited, recorded}
 use Rattle.pdu_header.specs.Value.{PduValue}
 use Rattle.pdu_header.specs.Headers.{SpellsHeader, IsEdited, with_options}
-use Rattle.pdu_header.proofs.Edited.{StartsAt, start_within, options_formed, edit_spells, nine_kept}
+use Rattle.pdu_header.proofs.Edited.{StartsAt, start_within, options_formed, edit_spells}
 use Rattle.pdu_header.proofs.header.Header.record_title.Goals as goal
 
 pub record_title-requires-clause-start : goal.record_title-requires-clause-start
@@ -22,8 +22,12 @@ record_title-requires-clause-well_formed c =
     let start : StartsAt v c.options_index-start.result = c.options_index-start.ensures v read in
     options_formed v c.self.inside.cells c.options_index-start.result h start
 
-pub reseal-requires : goal.reseal-requires
-reseal-requires c = nine_kept c.self.inside.cells _ c.self.invariant c.record_title.ensures.len
+pub take_over-requires-clause-within : goal.take_over-requires-clause-within
+take_over-requires-clause-within c =
+    let v : PduValue = c.self.invariant.0 in
+    let h : SpellsHeader v c.self.inside.cells = c.self.invariant.1 in
+    let read : SpellsHeader v c.as_bytes.result.now = rw c.as_bytes.ensures.octets h in
+    start_within v c.self.inside.cells c.options_index-start.result h (c.options_index-start.ensures v read)
 
 pub invariant_of-self : goal.invariant_of-self
 invariant_of-self c =
@@ -33,7 +37,7 @@ invariant_of-self c =
     let start : StartsAt v c.options_index-start.result = c.options_index-start.ensures v read in
     let P : List ℕ → Type 0 = λ t. IsEdited c.options_index-start.result (edited recording (recorded t)) c.self.inside.cells c.record_title.new.self in
     let edit = subst P c.as_bytes-2.ensures.octets c.record_title.ensures in
-    (with_options ((edited recording (recorded c.args.title.now)) v.options) v, edit_spells v (edited recording (recorded c.args.title.now)) c.self.inside.cells _ _ c.options_index-start.result h start edit c.reseal.ensures.value)
+    (with_options ((edited recording (recorded c.args.title.now)) v.options) v, edit_spells v (edited recording (recorded c.args.title.now)) c.self.inside.cells _ _ _ c.options_index-start.result h start edit c.as_bytes-3.ensures.octets c.take_over.ensures.changed)
 
 pub returns-clause-spells : goal.returns-clause-spells
 returns-clause-spells c w spelt =
@@ -43,7 +47,7 @@ returns-clause-spells c w spelt =
     let start : StartsAt v c.options_index-start.result = c.options_index-start.ensures v read in
     let P : List ℕ → Type 0 = λ t. IsEdited c.options_index-start.result (edited recording (recorded t)) c.self.inside.cells c.record_title.new.self in
     let edit = subst P c.as_bytes-2.ensures.octets c.record_title.ensures in
-    edit_spells v (edited recording (recorded c.args.title.now)) c.self.inside.cells _ _ c.options_index-start.result h start edit c.reseal.ensures.value
+    edit_spells v (edited recording (recorded c.args.title.now)) c.self.inside.cells _ _ _ c.options_index-start.result h start edit c.as_bytes-3.ensures.octets c.take_over.ensures.changed
 
 pub returns-clause-len : goal.returns-clause-len
-returns-clause-len c = c.reseal.ensures.len ∙ c.record_title.ensures.len ∙ ap length c.self.view_is
+returns-clause-len c = c.take_over.ensures.len ∙ ap length c.self.view_is

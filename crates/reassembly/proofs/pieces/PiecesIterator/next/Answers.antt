@@ -6,7 +6,8 @@ use Rattle.std.proofs.lemmas.Option.{slice_get-get_or}
 use Rattle.reassembly.specs.Arrival.{is_covered}
 use Rattle.reassembly.specs.Offered.{MayCome}
 use Rattle.reassembly.proofs.Covered.{each_covered, covered_rest}
-use Rattle.reassembly.proofs.Finding.{all_at, is_first, none_found}
+use Rattle.clnp_base.proofs.Found.{is_first, none_found}
+use Rattle.clnp_base.proofs.Lists.{AllByRecursion-get_or}
 use Rattle.reassembly.proofs.Run.{arrivals_of, covered_is, does_give, gives}
 use Rattle.reassembly.proofs.Walk.{octets-add, octet_at, octets_at, piece_is}
 use Rattle.reassembly.proofs.pieces.PiecesIterator.next.Goals as goal
@@ -34,7 +35,7 @@ pub octets-piece-requires-clause-came : goal.octets-piece-requires-clause-came
 octets-piece-requires-clause-came c =
     let p = c.self.inside in
     let first = is_first (gives p.key p.place) c.in-Some.index p.segments.now (sym c.in-Some.ensures) in
-    all_at MayCome c.in-Some.index p.segments.now c.index-self-index.result first.within c.self.invariant.1
+    AllByRecursion-get_or MayCome p.segments.now c.in-Some.index c.index-self-index.result first.within c.self.invariant.1
 
 pub octets-piece-requires-clause-from : goal.octets-piece-requires-clause-from
 octets-piece-requires-clause-from c =

@@ -1,9 +1,9 @@
 use Rattle.std.proofs.Common.{sym, ◌∙◌}
 use Rattle.std.specs.Str.{bytes_eq}
 use Rattle.scenario.specs.Declarations.{DeclaredSystem}
-use Rattle.scenario.proofs.Lists.{position_map}
+use Rattle.clnp_base.proofs.Maps.{position-map}
 use Rattle.scenario.proofs.declarations.Declared.system_place.Goals as goal
 
 pub returns-clause-place : goal.returns-clause-place
 returns-clause-place c =
-    c.first_system.ensures.place ∙ sym (position_map (λ (system : DeclaredSystem). system.name) (λ name. bytes_eq name c.args.name.now) c.args.self.now.systems)
+    c.first_system.ensures.place ∙ sym (position-map (λ (system : DeclaredSystem). system.name) (λ name. bytes_eq name c.args.name.now) c.args.self.now.systems)

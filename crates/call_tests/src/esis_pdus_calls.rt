@@ -1,0 +1,157 @@
+//! ES-IS PDUs. All have the holding time 120.
+use esis_pdus::{AddressList, EsisBody, EsisRefusal, HelloRefusal, decode, encode, esh, ish, rd};
+use nsap::{Address, Snpa};
+use std::alloc::Global;
+use std::test::Fail;
+
+/// The end system hello of the address 47002702.
+const HOST: &[u8] = b"\x82\x0f\x01\x00\x02\x00\x78\x32\x4b\x01\x04\x47\x00\x27\x02";
+
+/// The intermediate system hello of the title 470027ff.
+const ROUTER: &[u8] = b"\x82\x0e\x01\x00\x04\x00\x78\xb1\xcd\x04\x47\x00\x27\xff";
+
+/// The same with a suggested timer of 30 seconds.
+const SUGGESTS: &[u8] = b"\x82\x12\x01\x00\x04\x00\x78\x5b\x39\x04\x47\x00\x27\xff\xc6\x02\x00\x1e";
+
+/// The redirect towards 47002701, which is itself at the subnetwork address 02.
+const REDIRECT: &[u8] = b"\x82\x11\x01\x00\x06\x00\x78\xad\xc8\x04\x47\x00\x27\x01\x01\x02\x00";
+
+#[test]
+fn makes_the_worked_pdus(rt: HostRuntime) -> Result<(), Fail> {
+    let host = Address::from_text(b"47002702")?;
+    let title = Address::from_text(b"470027ff")?;
+    let to = Address::from_text(b"47002701")?;
+    let via = Snpa::from_text(b"02")?;
+    let hello = esh(120, &[host], true).ok().ok_or("too long")?;
+    assert!(rt; hello.as_bytes() == HOST);
+    assert!(rt; ish(120, &title, None, true).as_bytes() == ROUTER);
+    assert!(rt; ish(120, &title, Some(30), true).as_bytes() == SUGGESTS);
+    assert!(rt; rd(120, &to, &via, None, true).as_bytes() == REDIRECT);
+    let other = rd(120, &to, &via, Some(&title), false);
+    assert!(rt;
+        other.as_bytes()
+            == b"\x82\x15\x01\x00\x06\x00\x78\x00\x00\x04\x47\x00\x27\x01\x01\x02\x04\x47\x00\x27\xff".as_slice()
+    );
+    Ok(())
+}
+
+#[test]
+fn counts_the_octets_of_a_hello(rt: HostRuntime) -> Result<(), Fail> {
+    let address = Address::from_bytes(&[0x47; 20])?;
+    let eleven = esh(120, &[address; 11], true).ok().ok_or("too long")?;
+    assert!(rt; eleven.as_bytes().len() == 241);
+    let refused = esh(120, &[address; 12], true).err();
+    assert!(rt; refused == Some(HelloRefusal::TooLong { octets: 262 }));
+    let none = esh(120, &[], false).ok().ok_or("too long")?;
+    assert!(rt; none.as_bytes() == b"\x82\x0a\x01\x00\x02\x00\x78\x00\x00\x00".as_slice());
+    Ok(())
+}
+
+/// The holding time of a frame's PDU, where the frame is that PDU and it is written again as it stands.
+fn hold_again(alloc: Global, frame: &[u8]) -> Option<u16> {
+    let Ok(pdu) = decode(frame) else {
+        return None;
+    };
+    let mut out = Vec::new(alloc);
+    match encode(alloc, &pdu, &mut out) {
+        Ok(()) => (out.as_slice() == frame).then_some(pdu.hold),
+        Err(_) => None,
+    }
+}
+
+#[test]
+fn reads_and_writes_the_worked_pdus(rt: HostRuntime) {
+    for frame in [HOST, ROUTER, SUGGESTS, REDIRECT] {
+        assert!(rt; hold_again(rt.alloc(), frame) == Some(120), "at {frame:?}");
+    }
+}
+
+/// The addresses of a frame's end system hello.
+fn addresses(frame: &[u8]) -> Option<AddressList<'_>> {
+    let Ok(pdu) = decode(frame) else {
+        return None;
+    };
+    match pdu.body {
+        EsisBody::Esh { addresses } => Some(addresses),
+        EsisBody::Ish { .. } | EsisBody::Rd { .. } => None,
+    }
+}
+
+#[test]
+fn reads_addresses_in_order(rt: HostRuntime) -> Result<(), Fail> {
+    let one = Address::from_text(b"47002702")?;
+    let two = Address::from_text(b"49")?;
+    let hello = esh(0, &[one, two], true).ok().ok_or("too long")?;
+    let mut list = addresses(hello.as_bytes()).ok_or("no end system hello")?;
+    assert!(rt; list.next() == Some(one));
+    assert!(rt; list.next() == Some(two));
+    assert!(rt; list.next() == None);
+    Ok(())
+}
+
+/// The octets of the title in a frame's intermediate system hello.
+fn title_again(alloc: Global, frame: &[u8]) -> Option<Vec<u8>> {
+    let Ok(pdu) = decode(frame) else {
+        return None;
+    };
+    match pdu.body {
+        EsisBody::Ish { title } => Vec::from_slice(alloc, title.as_bytes()).ok(),
+        EsisBody::Esh { .. } | EsisBody::Rd { .. } => None,
+    }
+}
+
+#[test]
+fn reads_fields(rt: HostRuntime) -> Result<(), Fail> {
+    let mut frame = SUGGESTS.to_vec(rt.alloc())?;
+    frame.push(0xff)?;
+    let title = title_again(rt.alloc(), &frame).ok_or("no title")?;
+    assert!(rt; title.as_slice() == b"\x47\x00\x27\xff".as_slice());
+    let mut read = false;
+    if let Ok(pdu) = decode(frame.as_slice()) {
+        assert!(rt; pdu.sum == 0x5b39 && pdu.suggested == Some(30));
+        assert!(rt; pdu.options == b"\xc6\x02\x00\x1e".as_slice());
+        assert!(rt; pdu.rest == b"\xff".as_slice());
+        read = true;
+    }
+    assert!(rt; read);
+    Ok(())
+}
+
+#[test]
+fn refuses_frames(rt: HostRuntime) {
+    let broken = |rule: u8, place: u8| EsisRefusal::Broken { rule, place };
+    let rows: [(&[u8], EsisRefusal); 8] = [
+        (b"", EsisRefusal::NotEsis),
+        (b"\x81", EsisRefusal::NotEsis),
+        (b"\x82", broken(1, 0)),
+        (
+            b"\x82\x0e\x01\x00\x24\x00\x78\xb1\xcd\x04\x47\x00\x27\xff",
+            broken(6, 5),
+        ),
+        (
+            b"\x82\x0e\x01\x00\x04\x00\x78\xb1\x00\x04\x47\x00\x27\xff",
+            broken(7, 8),
+        ),
+        (
+            b"\x82\x0e\x01\x00\x04\x00\x78\x00\x00\x05\x47\x00\x27\xff",
+            broken(9, 10),
+        ),
+        (
+            b"\x82\x0f\x01\x00\x04\x00\x78\x00\x00\x04\x47\x00\x27\xff\xc6",
+            broken(11, 15),
+        ),
+        (
+            b"\x82\x16\x01\x00\x04\x00\x78\x00\x00\x04\x47\x00\x27\xff\xc6\x02\x00\x1e\xc6\x02\x00\x1e",
+            broken(12, 19),
+        ),
+    ];
+    for (frame, want) in rows {
+        assert!(rt; decode(frame).err() == Some(want), "at {frame:?}");
+    }
+}
+
+#[test]
+fn laws_can_be_called() {
+    esis_pdus::laws::one_value();
+    esis_pdus::laws::spelled_where_no_rule_is_broken();
+}

@@ -1,0 +1,175 @@
+use clnp_base::lines;
+use clnp_plan::{Ask, Limits, Role, Settings};
+use scenario::{Body, Code, Event, Scenario, ScenarioRefusal, read};
+use std::alloc::Global;
+use std::process::Abort;
+use std::test::Fail;
+
+const TEXT: &[u8] = b"# two subnetworks
+
+clnp-sim 1
+subnet lan 1500
+# hosts
+system a host hello=0
+system b host life=7 checksum=off rhold=0 hello=0 slots=1024 segments=1 budget=512 neighbours=2 routers=3 redirects=4
+subnet wan 512
+address a 4701
+address b 47.02
+address b 4703
+port a 0 lan 01
+
+port b 0 wan 01 255
+limits 4 2 6
+events
+# what happens
+send a 4701 4702 hex:6869
+send b 4703 4701 hex: noreport whole opt=
+send b 4702 4701 pat:70000:255 opt=c501c0cd0105 life=9
+deliver 3 b
+settle 2
+
+lose 5
+tick 65535
+restart b
+end
+
+# nothing more
+";
+
+/// What `read` says of a text, which is short.
+fn answer(alloc: Global, text: &[u8]) -> Option<Result<Scenario, ScenarioRefusal>> {
+    let _lines = lines(text);
+    if text.len() > 4_000_000 {
+        return None;
+    }
+    Some(read(alloc, text))
+}
+
+/// An ask has this lifetime, is reported on and may be cut where it says so, and has these options.
+fn expect_ask(rt: &impl Abort, ask: &Ask, life: u8, report: bool, segment: bool, options: &[u8]) {
+    assert_eq!(rt; ask.life, life);
+    assert_eq!(rt; ask.report, report);
+    assert_eq!(rt; ask.segment, segment);
+    assert_eq!(rt; ask.options.as_bytes(), options);
+}
+
+#[test]
+fn reads_what_is_declared(rt: HostRuntime) -> Result<(), Fail> {
+    let Some(Ok(scenario)) = answer(rt.alloc(), TEXT) else {
+        assert!(rt; false);
+        return Ok(());
+    };
+    let limits = Limits {
+        age: 4,
+        hold: 2,
+        reuse: 6,
+    };
+    assert_eq!(rt; *scenario.limits(), limits);
+    for (subnet, (name, mtu)) in scenario
+        .subnets()
+        .iter()
+        .zip([(b"lan", 1500), (b"wan", 512)])
+    {
+        assert_eq!(rt; subnet.name(), name.as_slice());
+        assert_eq!(rt; subnet.mtu, mtu);
+    }
+    let [a, b] = scenario.systems() else {
+        assert!(rt; false);
+        return Ok(());
+    };
+    let settings = Settings {
+        hello: 0,
+        suggest: 0,
+        rhold: 0,
+        slots: 1024,
+        segments: 1,
+        budget: 512,
+        neighbours: 2,
+        routers: 3,
+        redirects: 4,
+        life: 7,
+        sealed: false,
+    };
+    assert_eq!(rt; a.name(), b"a".as_slice());
+    assert_eq!(rt; b.role(), Role::Host);
+    assert_eq!(rt; *b.settings(), settings);
+    for (address, octets) in b.addresses().iter().zip([[0x47, 2], [0x47, 3]]) {
+        assert_eq!(rt; address.as_bytes(), octets.as_slice());
+    }
+    for port in b.ports() {
+        assert_eq!(rt; port.subnet, 1);
+        assert_eq!(rt; port.snpa.as_bytes(), b"\x01".as_slice());
+        assert_eq!(rt; port.transit, 255);
+        assert_eq!(rt; port.mtu, 512);
+    }
+    Ok(())
+}
+
+#[test]
+fn reads_what_happens(rt: HostRuntime) -> Result<(), Fail> {
+    let Some(Ok(scenario)) = answer(rt.alloc(), TEXT) else {
+        assert!(rt; false);
+        return Ok(());
+    };
+    let [
+        Event::Send {
+            system: 0,
+            from,
+            to,
+            body: Body::Hex(octets),
+            ask,
+        },
+        Event::Send {
+            system: 1,
+            body: Body::Hex(none),
+            ask: quiet,
+            ..
+        },
+        Event::Send {
+            system: 1,
+            body: Body::Pattern {
+                len: 70_000,
+                start: 255,
+            },
+            ask: long,
+            ..
+        },
+        Event::Deliver { copy: 3, system: 1 },
+        Event::Settle { count: 2 },
+        Event::Lose { count: 5 },
+        Event::Tick { count: 65_535 },
+        Event::Restart { system: 1 },
+    ] = scenario.events()
+    else {
+        assert!(rt; false);
+        return Ok(());
+    };
+    assert_eq!(rt; from.as_bytes(), [0x47, 1].as_slice());
+    assert_eq!(rt; to.as_bytes(), [0x47, 2].as_slice());
+    assert_eq!(rt; octets.as_bytes(), b"hi".as_slice());
+    assert_eq!(rt; none.as_bytes(), b"".as_slice());
+    expect_ask(&rt, ask, 64, true, true, b"");
+    expect_ask(&rt, quiet, 7, false, false, b"");
+    expect_ask(&rt, long, 9, true, true, b"\xc5\x01\xc0\xcd\x01\x05");
+    Ok(())
+}
+
+#[test]
+fn refuses_bad_lines(rt: HostRuntime) -> Result<(), Fail> {
+    let cases = [
+        (b"".as_slice(), 1, Code::Header),
+        (b"clnp-sim 1\n\n# a\n", 4, Code::Syntax),
+        (b"clnp-sim 1\nlimits 4 2 5\nevents\nend", 2, Code::Limits),
+        (b"clnp-sim 1\nsubnet lan 511\nevents\nend", 2, Code::Mtu),
+    ];
+    for (text, line, code) in cases {
+        let refusal = ScenarioRefusal::BadLine {
+            line,
+            code: code.number(),
+        };
+        assert!(rt; matches!(answer(rt.alloc(), text), Some(Err(found)) if found == refusal));
+        assert_eq!(rt; Code::of_number(code.number()), Some(code));
+    }
+    assert_eq!(rt; Code::Limits.name(), "limits");
+    Ok(())
+}

@@ -1,0 +1,148 @@
+-- The clock of a network is set on by the ticks among the moves, and by nothing else.
+use Rattle.std.proofs.Common.{◌≡◌, ℕ, ◌+◌, ◌-◌, ◌^◌, ◌<◌, ◌≤◌, zero, suc, Bool, true, false, if◌then◌else◌, List, [], ◌∷◌, ◌++◌, length, Option, None, Some, refl, ap, ◌∙◌, arith}
+use Rattle.std.specs.Prelude.{replicate, slice_get, slice_set}
+use Rattle.std.specs.List.{range_with_len, sum_by}
+use Rattle.std.proofs.lemmas.List.Sums.{sum-map, sum_by-cons}
+use Rattle.clnp_plan.specs.Configuration.{SystemConfiguration}
+use Rattle.clnp_plan.specs.Journal.{Late}
+use Rattle.clnp_plan.specs.declared.config.Limits.{Limits}
+use Rattle.scenario.specs.Scenario.{Plan, IsFit, octets_of, moves_of, moves_from, ticks_of}
+use Rattle.scenario.specs.declared.event.Event.{Event}
+use Rattle.scenario.specs.declared.event.Event.TheVariants.{Send, Deliver, Settle, Lose, Tick, Restart}
+use Rattle.scenario.specs.declared.event.Move.{Move}
+use Rattle.scenario.specs.declared.event.Move.TheVariants.{One, SettleOne, LoseOne, TickOne}
+use Rattle.clnp_machine.specs.System.{SystemState, Output, Transmits, Notes, Effect}
+use Rattle.clnp_machine.specs.Host as host
+use Rattle.clnp_network.specs.World.{World, Step, Copy, Numbered, after, first_world, copy_from, put_all_out, takes_effect, at_system, system_does, writes, is_late, give_to, give, give_each, addressees_from, settle_copy, lose_copy, deliver_to, deliver_at, is_addressee, is_void, tick_each, event_happens}
+use Rattle.clnp_network.specs.Run.{moves_of_plan, world_after}
+use Rattle.clnp_world.specs.State.{WorldState}
+use Rattle.clnp_world.specs.Stands.{Stands}
+use Rattle.clnp_commands.specs.Time.{tick_of, ticks_in, HasTime}
+
+of_outputs : (system : SystemConfiguration) (w : World) (outputs : List Output) → (put_all_out system w outputs).world.clock ≡ w.clock
+of_outputs system w [] = refl
+of_outputs system w (Notes note ∷ outputs) = of_outputs system w outputs
+of_outputs system w (Transmits port target packet ∷ outputs) =
+    of_outputs system (record w { copies = w.copies ++ copy_from (slice_get system.ports port) target packet }) outputs
+
+of_effect : (w : World) (place : ℕ) (effect : Effect) → (takes_effect w place effect).world.clock ≡ w.clock
+of_effect w place effect = of_outputs effect.after.configuration (record w { systems = slice_set w.systems place effect.after }) effect.outputs
+
+of_system : (w : World) (place : ℕ) (does : SystemState → Effect) (found : Option SystemState) → (at_system w place does found).world.clock ≡ w.clock
+of_system w place does None = refl
+of_system w place does (Some system) = of_effect w place (does system)
+
+either : (first : Bool) (one other : Step) (now : ℕ) → one.world.clock ≡ now → other.world.clock ≡ now → (if first then one else other).world.clock ≡ now
+either true one other now p q = p
+either false one other now p q = q
+
+of_giving : (limits : Limits) (given : Numbered) (w : World) (place : ℕ) (found : Option SystemState) → (give_to limits given w place found).world.clock ≡ w.clock
+of_giving limits given w place None = refl
+of_giving limits given w place (Some system) =
+    either (is_late limits w given.copy) (writes w (Late w.clock system.configuration.name given.number))
+    (takes_effect w place (host.arrive system given.copy.content)) w.clock refl (of_effect w place (host.arrive system given.copy.content))
+
+of_giving_each : (limits : Limits) (given : Numbered) (w : World) (places : List ℕ) → (give_each limits given w places).world.clock ≡ w.clock
+of_giving_each limits given w [] = refl
+of_giving_each limits given w (place ∷ places) =
+    of_giving_each limits given (give limits given w place).world places ∙ of_giving limits given w place (slice_get w.systems place)
+
+of_settling : (limits : Limits) (w : World) (found : Option Copy) → (settle_copy limits w found).world.clock ≡ w.clock
+of_settling limits w None = refl
+of_settling limits w (Some copy) =
+    of_giving_each limits (record { number = w.cursor + 1; copy = copy }) (record w { cursor = w.cursor + 1 }) (addressees_from 0 copy w.systems)
+
+of_losing : (w : World) (found : Option Copy) → (lose_copy w found).world.clock ≡ w.clock
+of_losing w None = refl
+of_losing w (Some copy) = refl
+
+of_delivery : (limits : Limits) (w : World) (number place : ℕ) (found : Option Copy) (system : SystemState)
+    → (deliver_to limits w number place found system).world.clock ≡ w.clock
+of_delivery limits w number place None system = refl
+of_delivery limits w number place (Some copy) system =
+    either (is_addressee copy system.configuration) (give limits (record { number = number; copy = copy }) w place) (is_void w system number) w.clock
+    (of_giving limits (record { number = number; copy = copy }) w place (slice_get w.systems place)) refl
+
+of_delivery_at : (limits : Limits) (w : World) (number place : ℕ) (found : Option SystemState)
+    → (deliver_at limits w number place found).world.clock ≡ w.clock
+of_delivery_at limits w number place None = refl
+of_delivery_at limits w number place (Some system) = of_delivery limits w number place (slice_get w.copies (number - 1)) system
+
+of_ticking : (w : World) (places : List ℕ) → (tick_each w places).world.clock ≡ w.clock
+of_ticking w [] = refl
+of_ticking w (place ∷ places) =
+    of_ticking (system_does w place (λ system. host.tick system w.clock)).world places
+    ∙ of_system w place (λ system. host.tick system w.clock) (slice_get w.systems place)
+
+of_event : (limits : Limits) (w : World) (event : Option Event) → (event_happens limits w event).world.clock ≡ w.clock
+of_event limits w None = refl
+of_event limits w (Some (Settle count)) = refl
+of_event limits w (Some (Lose count)) = refl
+of_event limits w (Some (Tick count)) = refl
+of_event limits w (Some (Deliver copy system)) = of_delivery_at limits w copy system (slice_get w.systems system)
+of_event limits w (Some (Restart system)) = of_system w system host.restart (slice_get w.systems system)
+of_event limits w (Some (Send system from to body ask)) =
+    of_system w system (λ (s : SystemState). host.send s from to (octets_of body) ask) (slice_get w.systems system)
+
+pub clock_after : (plan : Plan) (w : World) (move : Move) → (after plan w move).world.clock ≡ w.clock + tick_of move
+clock_after plan w (One place) = omega (arith, of_event plan.limits w (slice_get plan.events place))
+clock_after plan w SettleOne = omega (arith, of_settling plan.limits w (slice_get w.copies w.cursor))
+clock_after plan w LoseOne = omega (arith, of_losing w (slice_get w.copies w.cursor))
+clock_after plan w TickOne = of_ticking (record w { clock = w.clock + 1 }) (range_with_len 0 (length w.systems))
+
+pub clock_after_all : (plan : Plan) (w : World) (moves : List Move) → (world_after plan w moves).clock ≡ w.clock + ticks_in moves
+clock_after_all plan w [] = omega arith
+clock_after_all plan w (move ∷ moves) =
+    omega (arith, clock_after_all plan (after plan w move).world moves, clock_after plan w move)
+
+pub ticks_in-append : (made more : List Move) → ticks_in (made ++ more) ≡ ticks_in made + ticks_in more
+ticks_in-append [] more = omega arith
+ticks_in-append (move ∷ made) more = omega (arith, ticks_in-append made more)
+
+ticks_of_none : (count : ℕ) (move : Move) → tick_of move ≡ 0 → ticks_in (replicate count move) ≡ 0
+ticks_of_none zero move h = refl
+ticks_of_none (suc count) move h = omega (arith, ticks_of_none count move h)
+
+ticks_of_each : (count : ℕ) → ticks_in (replicate count TickOne) ≡ count
+ticks_of_each zero = refl
+ticks_of_each (suc count) = omega (arith, ticks_of_each count)
+
+ticks_in_event : (place : ℕ) (event : Event) → ticks_in (moves_of place event) ≡ ticks_of event
+ticks_in_event place (Settle count) = ticks_of_none count SettleOne refl
+ticks_in_event place (Lose count) = ticks_of_none count LoseOne refl
+ticks_in_event place (Tick count) = ticks_of_each count
+ticks_in_event place (Send system from to body ask) = refl
+ticks_in_event place (Deliver copy system) = refl
+ticks_in_event place (Restart system) = refl
+
+ticks_in_events : (place : ℕ) (events : List Event) → ticks_in (moves_from place events) ≡ sum_by ticks_of events
+ticks_in_events place [] = refl
+ticks_in_events place (event ∷ events) =
+    let rest : ticks_in (moves_from (place + 1) events) ≡ sum_by ticks_of events = ticks_in_events (place + 1) events in
+    omega (arith, ticks_in-append (moves_of place event) (moves_from (place + 1) events), ticks_in_event place event, sum_by-cons ticks_of event events, rest)
+
+-- few ticks pass in a scenario, so there is time for them all at its start
+pub time_at_first : (plan : Plan) (world : WorldState) → IsFit plan → Stands world (first_world plan) → HasTime world (moves_of_plan plan)
+time_at_first plan world fit stands =
+    let few : ticks_in (moves_of_plan plan) ≤ 1000000 = omega (arith, ticks_in_events 0 plan.events, sum-map ticks_of plan.events, fit.ticks) in
+    record {
+      model = first_world plan;
+      stands = stands;
+      early = omega (arith, few);
+    }
+
+-- where there was time for all moves, there is time for the next ones behind the first
+pub time_for_next : (plan : Plan) (old new : WorldState) (all made next later : List Move) → (time : HasTime old all)
+    → all ≡ (made ++ next) ++ later → Stands new (world_after plan time.model made) → HasTime new next
+time_for_next plan old new all made next later time split stands =
+    let sums : ticks_in all ≡ ticks_in made + ticks_in next + ticks_in later =
+    ap ticks_in split ∙ (ticks_in-append (made ++ next) later ∙ ap (λ (t : ℕ). t + ticks_in later) (ticks_in-append made next)) in
+    record {
+      model = world_after plan time.model made;
+      stands = stands;
+      early = omega (arith, clock_after_all plan time.model made, sums, time.early);
+    }
+
+-- where there is time for a move the clock may go on
+pub time_for_one : (world : WorldState) (moves : List Move) → HasTime world moves → world.network.clock + 1 < 2 ^ 62
+time_for_one world moves time = omega (arith, time.stands.holds.shows.clock, time.early)

@@ -1,0 +1,33 @@
+use Rattle.std.proofs.Common.{arith, append-nil, append_assoc, refl}
+use Rattle.std.proofs.lemmas.List.{replicate_more}
+use Rattle.std.proofs.lemmas.Result.{err_from_is_err_and}
+use Rattle.clnp_commands.proofs.Playing.{stopped_next}
+use Rattle.clnp_commands.proofs.Clocks.{time_for_next}
+use Rattle.clnp_commands.proofs.Runs.{replicate_next, world_after-append}
+use Rattle.clnp_commands.proofs.sim.play_times.Goals as goal
+
+pub loop-made-init : goal.loop-made-init
+loop-made-init g c = (λ model stands. stands, λ model past before u. rw append-nil u, omega arith)
+
+pub play_move-requires : goal.play_move-requires
+play_move-requires g c =
+    time_for_next c.args.scenario.now c.args.world.now c.loop-made.world _ _ _ _ c.requires
+    (replicate_next c.loop-made._made c.args.count c.args.mv.now (omega arith)) (c.loop-made.invariant.0 c.requires.model c.requires.stands)
+
+pub returns-in_err-play_move-clause-comes_to : goal.returns-in_err-play_move-clause-comes_to
+returns-in_err-play_move-clause-comes_to g c = λ model past before u.
+    let p = err_from_is_err_and c.from_residual.result c.from_residual.ensures.1 in
+    rw (p.1, p.2) (stopped_next c.args.scenario.now model past _ _ _ _ _ _ c.in_err-play_move.field-0.0
+    (replicate_next c.loop-made._made c.args.count c.args.mv.now (omega arith))
+    (c.in_err-play_move.ensures.comes_to model _ before (c.loop-made.invariant.1 model past before u)))
+
+pub loop-made-preserved : goal.loop-made-preserved
+loop-made-preserved g c = (
+  λ model stands.
+      rw (← replicate_more c.loop-made._made c.args.mv.now, world_after-append)
+      (c.in_ok-play_move.ensures.stands _ (c.loop-made.invariant.0 model stands)),
+  λ model past before u.
+      rw (← replicate_more c.loop-made._made c.args.mv.now, ← append_assoc)
+      (c.in_ok-play_move.ensures.comes_to model _ before (c.loop-made.invariant.1 model past before u)),
+  omega (arith, c.loop-made.invariant.2, c.in_ok-play_move.ensures.later),
+)

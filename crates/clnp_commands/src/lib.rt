@@ -1,0 +1,17 @@
+//! The commands of the program `clnp`: words and input in, output and a status out.
+//!
+//! [`clnp_main`] is the top call. It simulates a connectionless network (ISO/IEC 8473, RFC 994),
+//! shows its frames as text, and judges vectors of frames.
+#![tactic(auto)]
+
+mod block;
+mod check;
+mod command;
+mod show;
+mod sim;
+mod status;
+mod top;
+
+pub use command::Command;
+pub use status::Status;
+pub use top::clnp_main;

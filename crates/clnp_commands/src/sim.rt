@@ -1,0 +1,220 @@
+//! The command `sim`: the journal of a scenario, written in blocks of whole moves.
+ghost use Rattle.std.specs.Prelude.{◌≡◌, ◌≤◌, ◌++◌, List, Option, [], ◌∷◌, ℕ, length, replicate, Err, OnOk};
+ghost use Rattle.clnp_base.specs.Streams.{Rose};
+ghost use Rattle.clnp_base.specs.Text.{lines_of};
+ghost use Rattle.scenario.specs.Scenario.{IsFit, moves_of};
+ghost use Rattle.clnp_network.specs.World as network;
+ghost use Rattle.clnp_network.specs.Run.{moves_of_plan, world_after, world_end};
+ghost use Rattle.clnp_world.specs.Stands.{Stands};
+ghost use Rattle.clnp_commands.specs.Sim.{most_input};
+ghost use Rattle.clnp_commands.specs.Play.{ComesTo, FullOf, JournalOf, PieceOf, PlayOf, UnderWay};
+ghost use Rattle.clnp_commands.specs.Time.{HasTime};
+
+use crate::block::{flush, flush_full};
+use crate::command::Command;
+use crate::status::Status;
+use clnp_base::{Failed, Sink};
+use clnp_world::{World, WorldRefusal};
+use scenario::{Event, Move, Scenario, ScenarioRefusal};
+use std::alloc::Global;
+
+/// Writes the journal of the scenario that a text is.
+pub fn sim<K: Sink>(alloc: Global, text: &[u8], sink: &mut K) -> Status
+    requires { length text.now ≤ most_input }
+    ensures later { K.faults sink.old ≤ K.faults sink.new }
+    ensures comes_to { ComesTo Command.Sim text.now (K.written sink.old) (K.written sink.new) result }
+    ensures failed { result ≡ Status.WriteFault → Rose (K.faults sink.old) (K.faults sink.new) }
+{
+    few_lines();
+    scenario::laws::accepted_is_fit();
+    match scenario::read(alloc, text) {
+        Ok(scenario) => match play(alloc, &scenario, sink) {
+            Ok(()) => Status::Done,
+            Err(Stop::WorldFull { octets }) => Status::WorldFull { octets },
+            Err(Stop::WriteFault) => Status::WriteFault,
+            Err(Stop::NoMemory) => Status::NoMemory,
+        },
+        Err(ScenarioRefusal::BadLine { line, code }) => Status::BadInput { line, code },
+        Err(ScenarioRefusal::NoMemory) => Status::NoMemory,
+    }
+}
+
+/// A text has no more lines than octets.
+fn few_lines()
+    ensures { (text : List ℕ) → length (lines_of text) ≤ length text }
+{}
+
+/// Why the writing of a journal stopped.
+#[derive(Clone, Copy, Debug, PartialEq, Eq)]
+enum Stop {
+    /// The copies weigh too much: so many octets.
+    WorldFull { octets: u64 },
+    WriteFault,
+    NoMemory,
+}
+
+/// Plays a scenario: makes its moves and writes their lines, and then the journal's last line.
+fn play<K: Sink>(alloc: Global, scenario: &Scenario, sink: &mut K) -> Result<(), Stop>
+    requires { IsFit scenario.now }
+    ensures later { K.faults sink.old ≤ K.faults sink.new }
+    ensures comes_to { JournalOf scenario.now (K.written sink.old) (K.written sink.new) result }
+    ensures failed { result ≡ Err Stop.WriteFault → Rose (K.faults sink.old) (K.faults sink.new) }
+{
+    match World::new(alloc, scenario) {
+        Ok(mut world) => {
+            let mut block = Vec::new(alloc);
+            play_events(alloc, scenario, &mut world, &mut block, sink)?;
+            write_end(alloc, &world, &mut block, sink)
+        }
+        Err(_) => Err(Stop::NoMemory),
+    }
+}
+
+/// Makes the moves of all events, puts their lines into the block, and writes it where it is full.
+fn play_events<K: Sink>(
+    alloc: Global,
+    scenario: &Scenario,
+    world: &mut World,
+    block: &mut Vec<u8>,
+    sink: &mut K,
+) -> Result<(), Stop>
+    requires { HasTime world.old (moves_of_plan scenario.now) }
+    ensures later { K.faults sink.old ≤ K.faults sink.new }
+    ensures comes_to { (model : network.World) (past : List Move) (before : Option (List ℕ))
+        → UnderWay scenario.now model past world.old before (K.written sink.old) block.old.items
+        → PlayOf scenario.now model (past ++ moves_of_plan scenario.now) world.new before (K.written sink.new) block.new.items result }
+    ensures failed { result ≡ Err Stop.WriteFault → Rose (K.faults sink.old) (K.faults sink.new) }
+{
+    for (place, event) in scenario.events().iter().enumerate() {
+        play_event(alloc, scenario, place, event, world, block, sink)?;
+    }
+    Ok(())
+}
+
+/// Makes the moves of the event at a place, puts their lines into the block, and writes it where it
+/// is full.
+fn play_event<K: Sink>(
+    alloc: Global,
+    scenario: &Scenario,
+    place: usize,
+    event: &Event,
+    world: &mut World,
+    block: &mut Vec<u8>,
+    sink: &mut K,
+) -> Result<(), Stop>
+    requires { HasTime world.old (moves_of place event.now) }
+    ensures later { K.faults sink.old ≤ K.faults sink.new }
+    ensures stands { OnOk result ((model : network.World) → Stands world.old model
+        → Stands world.new (world_after scenario.now model (moves_of place event.now))) }
+    ensures comes_to { (model : network.World) (past : List Move) (before : Option (List ℕ))
+        → UnderWay scenario.now model past world.old before (K.written sink.old) block.old.items
+        → PlayOf scenario.now model (past ++ moves_of place event.now) world.new before (K.written sink.new) block.new.items result }
+    ensures failed { result ≡ Err Stop.WriteFault → Rose (K.faults sink.old) (K.faults sink.new) }
+{
+    match event {
+        Event::Settle { count } => play_times(
+            alloc,
+            scenario,
+            &Move::SettleOne,
+            *count,
+            world,
+            block,
+            sink,
+        ),
+        Event::Lose { count } => {
+            play_times(alloc, scenario, &Move::LoseOne, *count, world, block, sink)
+        }
+        Event::Tick { count } => {
+            play_times(alloc, scenario, &Move::TickOne, *count, world, block, sink)
+        }
+        Event::Send { .. } | Event::Deliver { .. } | Event::Restart { .. } => {
+            play_move(alloc, scenario, &Move::One(place), world, block, sink)
+        }
+    }
+}
+
+/// Makes one move so many times, puts the lines into the block, and writes it where it is full.
+fn play_times<K: Sink>(
+    alloc: Global,
+    scenario: &Scenario,
+    mv: &Move,
+    count: u32,
+    world: &mut World,
+    block: &mut Vec<u8>,
+    sink: &mut K,
+) -> Result<(), Stop>
+    requires { HasTime world.old (replicate count mv.now) }
+    ensures later { K.faults sink.old ≤ K.faults sink.new }
+    ensures stands { OnOk result ((model : network.World) → Stands world.old model
+        → Stands world.new (world_after scenario.now model (replicate count mv.now))) }
+    ensures comes_to { (model : network.World) (past : List Move) (before : Option (List ℕ))
+        → UnderWay scenario.now model past world.old before (K.written sink.old) block.old.items
+        → PlayOf scenario.now model (past ++ replicate count mv.now) world.new before (K.written sink.new) block.new.items result }
+    ensures failed { result ≡ Err Stop.WriteFault → Rose (K.faults sink.old) (K.faults sink.new) }
+{
+    for _made in 0..count {
+        play_move(alloc, scenario, mv, world, block, sink)?;
+    }
+    Ok(())
+}
+
+/// Makes one move, puts its lines into the block, and writes it where it is full.
+fn play_move<K: Sink>(
+    alloc: Global,
+    scenario: &Scenario,
+    mv: &Move,
+    world: &mut World,
+    block: &mut Vec<u8>,
+    sink: &mut K,
+) -> Result<(), Stop>
+    requires { HasTime world.old (mv.now ∷ []) }
+    ensures later { K.faults sink.old ≤ K.faults sink.new }
+    ensures stands { OnOk result ((model : network.World) → Stands world.old model
+        → Stands world.new (world_after scenario.now model (mv.now ∷ []))) }
+    ensures comes_to { (model : network.World) (past : List Move) (before : Option (List ℕ))
+        → UnderWay scenario.now model past world.old before (K.written sink.old) block.old.items
+        → PlayOf scenario.now model (past ++ (mv.now ∷ [])) world.new before (K.written sink.new) block.new.items result }
+    ensures failed { result ≡ Err Stop.WriteFault → Rose (K.faults sink.old) (K.faults sink.new) }
+{
+    match world.step(alloc, scenario, mv, block) {
+        Ok(()) => match flush_full(block, sink) {
+            Ok(()) => Ok(()),
+            Err(Failed) => Err(Stop::WriteFault),
+        },
+        Err(WorldRefusal::WorldFull { octets }) => Err(stop_full(octets, block, sink)),
+        Err(WorldRefusal::NoMemory) => Err(Stop::NoMemory),
+    }
+}
+
+/// Writes the block before a move that isn't made since the network is full.
+fn stop_full<K: Sink>(octets: u64, block: &mut Vec<u8>, sink: &mut K) -> Stop
+    ensures later { K.faults sink.old ≤ K.faults sink.new }
+    ensures written { FullOf octets block.old.items (K.written sink.old) (K.written sink.new) result }
+    ensures failed { result ≡ Stop.WriteFault → Rose (K.faults sink.old) (K.faults sink.new) }
+{
+    match flush(block, sink) {
+        Ok(()) => Stop::WorldFull { octets },
+        Err(Failed) => Stop::WriteFault,
+    }
+}
+
+/// Writes the block and the journal's last line.
+fn write_end<K: Sink>(
+    alloc: Global,
+    world: &World,
+    block: &mut Vec<u8>,
+    sink: &mut K,
+) -> Result<(), Stop>
+    ensures later { K.faults sink.old ≤ K.faults sink.new }
+    ensures comes_to { (model : network.World) → Stands world.now model
+        → PieceOf (block.old.items ++ world_end model) (K.written sink.old) (K.written sink.new) result }
+    ensures failed { result ≡ Err Stop.WriteFault → Rose (K.faults sink.old) (K.faults sink.new) }
+{
+    if world.finish(alloc, block).is_err() {
+        return Err(Stop::NoMemory);
+    }
+    match flush(block, sink) {
+        Ok(()) => Ok(()),
+        Err(Failed) => Err(Stop::WriteFault),
+    }
+}

@@ -1,0 +1,148 @@
+//! The top call: words and input in, output and a status out.
+ghost use Rattle.std.specs.Prelude.{◌≡◌, ◌<◌, ◌≤◌, ◌⊎◌, ◌↔◌, ℕ, List, length, map, IfSome, IfOk, Ok, Err, string_bytes};
+ghost use Rattle.std.specs.List.{AllByRecursion};
+ghost use Rattle.std.specs.Io.KnownBytes.{Consumes, Keeps};
+ghost use Rattle.clnp_base.specs.Streams.{Rose};
+ghost use Rattle.scenario.specs.Grammar.{plan_of};
+ghost use Rattle.clnp_network.specs.World.{first_world};
+ghost use Rattle.clnp_network.specs.Run.{run, world_after};
+ghost use Rattle.clnp_network.specs.Safe.{IsHonest, IsWithinBudgets, NoInterference};
+ghost use Rattle.clnp_commands.specs.Words.{command_of, called, called_by, AppendsOutput, AppendsOutputFront, AppendsOutputParts, Excuses};
+ghost use Rattle.clnp_commands.specs.Sim.{most_input, ReadsWhole};
+ghost use Rattle.clnp_commands.specs.Play.{ComesTo};
+
+use crate::check::check;
+use crate::command::Command;
+use crate::show::show;
+use crate::sim::sim;
+use crate::status::Status;
+use clnp_base::{ReadStop, Sink, Source, read_all};
+use clnp_safety::laws;
+use scenario::Move;
+use std::alloc::Global;
+
+/// The most octets of an input.
+const MOST_INPUT: usize = 16_777_216;
+
+/// Runs the command that the words name, on what the source gives, and writes to the sink.
+///
+/// `sim` reads a scenario text and writes its journal. Nothing is written before the whole text
+/// was accepted. `show` reads a capture and writes a line for each of its frames, up to the first
+/// bad line. `check` reads vectors and writes the verdict on each, up to the first bad line, and at
+/// the end how many passed and how many failed.
+pub fn clnp_main<S: Source, K: Sink>(
+    alloc: Global,
+    words: &[String],
+    source: &mut S,
+    sink: &mut K,
+) -> Status
+    // The counts of faults never fall.
+    ensures later { (S.faults source.old ≤ S.faults source.new) × (K.faults sink.old ≤ K.faults sink.new) }
+
+    // Where the source tells its octets, the answer is the one that words and octets call for,
+    // but for want of memory and for faults that came in this call.
+    ensures answer { IfSome (S.left source.old) (λ text.
+        (result ≡ called (command_of (map string_bytes words.now)) text)
+        ⊎ Excuses (Rose (S.faults source.old) (S.faults source.new)) (Rose (K.faults sink.old) (K.faults sink.new)) result) }
+
+    // Bad words are answered exactly where they are no command; then nothing is read or written.
+    ensures bad_words { (at : ℕ) → (result ≡ Status.BadWords at) ↔ (command_of (map string_bytes words.now) ≡ Err at) }
+    ensures untouched { (at : ℕ) → result ≡ Status.BadWords at
+        → Keeps (S.left source.old) (S.left source.new) × Keeps (K.written sink.old) (K.written sink.new) }
+
+    // Done: all was read, and the output that the command and the text call for was written: the
+    // journal of the run of the scenario that the text is, or the shown lines of a capture, or the
+    // verdicts on vectors and their counts.
+    ensures done { result ≡ Status.Done → (command : Command) × (command_of (map string_bytes words.now) ≡ Ok command)
+        × ((text : List ℕ) × ReadsWhole (S.left source.old) (S.left source.new) text
+        × (called_by command text ≡ Status.Done) × AppendsOutput command text (K.written sink.old) (K.written sink.new)) }
+
+    // Too long: more octets came, and nothing was written.
+    ensures too_long { result ≡ Status.TooLong → (text : List ℕ) × Consumes (S.left source.old) (S.left source.new) text
+        × (most_input < length text) × Keeps (K.written sink.old) (K.written sink.new) }
+
+    // Bad input: all was read, and this is its first bad line. The output of the lines of a
+    // capture or of a file of vectors before it was written, and nothing of a text that is no
+    // scenario.
+    ensures bad_input { (line code : ℕ) → result ≡ Status.BadInput line code
+        → (command : Command) × (command_of (map string_bytes words.now) ≡ Ok command)
+        × ((text : List ℕ) × ReadsWhole (S.left source.old) (S.left source.new) text
+        × (called_by command text ≡ Status.BadInput line code)
+        × AppendsOutput command text (K.written sink.old) (K.written sink.new)) }
+
+    // World full: all was read, and the journal of the scenario that the text is was written, up to
+    // the move before which the copies weighed so much.
+    ensures world_full { (octets : ℕ) → result ≡ Status.WorldFull octets
+        → (command : Command) × (command_of (map string_bytes words.now) ≡ Ok command)
+        × ((text : List ℕ) × ReadsWhole (S.left source.old) (S.left source.new) text
+        × (called_by command text ≡ Status.WorldFull octets)
+        × AppendsOutput command text (K.written sink.old) (K.written sink.new)) }
+
+    // Read fault: the source failed in this call, and nothing was written.
+    ensures read_fault { result ≡ Status.ReadFault
+        → Rose (S.faults source.old) (S.faults source.new) × Keeps (K.written sink.old) (K.written sink.new) }
+
+    // Write fault: the sink failed in this call, and has a front of what would have been written.
+    ensures write_fault { result ≡ Status.WriteFault → Rose (K.faults sink.old) (K.faults sink.new)
+        × ((command : Command) × (command_of (map string_bytes words.now) ≡ Ok command)
+        × ((text : List ℕ) × ReadsWhole (S.left source.old) (S.left source.new) text
+        × AppendsOutputFront command text (K.written sink.old) (K.written sink.new))) }
+
+    // No memory: nothing was written, or the journal of some of the moves, or what some of the
+    // lines of a capture or of a file of vectors call for.
+    ensures no_memory { result ≡ Status.NoMemory → Keeps (K.written sink.old) (K.written sink.new)
+        ⊎ ((command : Command) × (command_of (map string_bytes words.now) ≡ Ok command)
+        × ((text : List ℕ) × ReadsWhole (S.left source.old) (S.left source.new) text
+        × AppendsOutputParts command text (K.written sink.old) (K.written sink.new))) }
+
+    // Each data unit that the run of a scenario hands up is one that was sent before in that run.
+    ensures safe { (text : List ℕ) → IfOk (plan_of text) (λ plan. IsHonest plan (run plan)) }
+
+    // In no run of a scenario does a segment meet another unit's in a buffer.
+    ensures apart { (text : List ℕ) → IfOk (plan_of text) (λ plan. AllByRecursion (λ entry. NoInterference entry.lines) (run plan)) }
+
+    // After whatever moves of a scenario no system holds more octets for reassembly than its budget.
+    ensures bounded { (text : List ℕ) → IfOk (plan_of text) (λ plan. (moves : List Move)
+        → IsWithinBudgets (world_after plan (first_world plan) moves)) }
+{
+    every_run_is_safe();
+    let command = match Command::of(words) {
+        Ok(command) => command,
+        Err(at) => return Status::BadWords { at },
+    };
+    let mut text = Vec::new(alloc);
+    match read_all(alloc, source, MOST_INPUT, &mut text) {
+        Ok(()) => obey(alloc, command, text.as_slice(), sink),
+        Err(ReadStop::Failed) => Status::ReadFault,
+        Err(ReadStop::TooLong) => Status::TooLong,
+        Err(ReadStop::NoMemory) => Status::NoMemory,
+    }
+}
+
+/// The run of the scenario that a text is hands up only what it sent before, no segment meets
+/// another unit's in it, and whatever its moves each system keeps its budget.
+fn every_run_is_safe()
+    ensures safe { (text : List ℕ) → IfOk (plan_of text) (λ plan. IsHonest plan (run plan)) }
+    ensures apart { (text : List ℕ) → IfOk (plan_of text) (λ plan. AllByRecursion (λ entry. NoInterference entry.lines) (run plan)) }
+    ensures bounded { (text : List ℕ) → IfOk (plan_of text) (λ plan. (moves : List Move)
+        → IsWithinBudgets (world_after plan (first_world plan) moves)) }
+{
+    scenario::laws::accepted_is_fit();
+    laws::handed_up_was_sent();
+    laws::no_unit_meets_another();
+    laws::budgets_are_kept();
+}
+
+/// Runs a command on a text.
+fn obey<K: Sink>(alloc: Global, command: Command, text: &[u8], sink: &mut K) -> Status
+    requires { length text.now ≤ most_input }
+    ensures later { K.faults sink.old ≤ K.faults sink.new }
+    ensures comes_to { ComesTo command text.now (K.written sink.old) (K.written sink.new) result }
+    ensures failed { result ≡ Status.WriteFault → Rose (K.faults sink.old) (K.faults sink.new) }
+{
+    match command {
+        Command::Sim => sim(alloc, text, sink),
+        Command::Show => show(alloc, text, sink),
+        Command::Check => check(alloc, text, sink),
+    }
+}

@@ -1,0 +1,14 @@
+-- The words of a line, as the code has them.
+use Rattle.std.specs.Prelude.{ℕ, List, [], ◌∷◌}
+use Rattle.std.specs.Fmt.{decimal}
+use Rattle.nsap.specs.Text.{hex_text}
+use Rattle.pdu_header.specs.Spelling.{pair_of}
+use Rattle.clnp_plan.specs.declared.journal.Word.{Word}
+use Rattle.clnp_plan.specs.declared.journal.Word.TheVariants.{Text, Number, Octet, Identifier, Octets}
+
+abbrev pub word_text : Word → List ℕ
+word_text (Text text) = text.now
+word_text (Number number) = decimal number
+word_text (Octet octet) = hex_text (octet ∷ [])
+word_text (Identifier identifier) = hex_text (pair_of identifier)
+word_text (Octets octets) = hex_text octets.now

@@ -1,0 +1,77 @@
+//! What the program says of itself.
+ghost use Rattle.std.specs.Prelude.{◌≡◌, map, string_bytes, option_copied};
+ghost use Rattle.clnp_program.specs.Texts.{help_text, information, information_on, version_text};
+
+const VERSION: &str = "clnp 0.1.0\n";
+
+const HELP: &str = "\
+clnp simulates a connectionless network (ISO/IEC 8473, RFC 994).
+
+  clnp sim < SCENARIO    reads a scenario and writes its journal
+  clnp show < CAPTURE    reads frames in hexadecimal digits and writes a line for each
+  clnp check < VECTORS   reads frames with the lines expected of show and writes which pass
+  clnp --help            writes this text
+  clnp --version         writes the version
+
+Exit numbers:
+  0  done
+  1  the words are no command
+  2  the input has more than 16,777,216 octets
+  3  the input isn't a scenario, or has a bad line
+  4  the frames of the simulated network weigh 268,435,456 octets or more
+  5  standard input failed
+  6  standard output failed
+  8  no memory
+
+A scenario, in which the host a sends two octets to the host b:
+
+  clnp-sim 1
+  subnet lan 1500
+  system a host hello=0
+  system b host hello=0
+  address a 47002702
+  address b 47002701
+  port a 0 lan 01
+  port b 0 lan 02
+  events
+  send a 47002702 47002701 hex:6869 life=10 whole
+  settle 1
+  end
+";
+
+/// The text that the words ask for about the program itself, if they do: a word that stands alone.
+pub(crate) fn information(words: &[String]) -> Option<&'static str>
+    ensures { option_copied result ≡ information (map string_bytes words.now) }
+{
+    match words {
+        [word] => information_on(word.as_str()),
+        _ => None,
+    }
+}
+
+/// The text that a word asks for about the program itself, if it does.
+fn information_on(word: &str) -> Option<&'static str>
+    ensures { option_copied result ≡ information_on word.now }
+{
+    if word == "--help" {
+        Some(help())
+    } else if word == "--version" {
+        Some(version())
+    } else {
+        None
+    }
+}
+
+/// The answer to `--help`.
+fn help() -> &'static str
+    ensures { result.now ≡ help_text }
+{
+    HELP
+}
+
+/// The answer to `--version`.
+fn version() -> &'static str
+    ensures { result.now ≡ version_text }
+{
+    VERSION
+}

@@ -1,0 +1,10 @@
+//! A call of the program `clnp` over its words, its input, its output and standard error: what it
+//! says of itself, what it says of a fault, and its exit number.
+#![tactic(auto)]
+
+mod call;
+mod fault;
+mod help;
+
+pub use call::{end, run};
+pub use fault::Fault;

@@ -1,0 +1,6 @@
+use Rattle.std.proofs.Common.{◌≡◌, ◌++◌, take}
+use Rattle.clnp_options.specs.Grammar.{joined}
+use Rattle.esis_pdus.proofs.hello.push_addresses.Given as goal
+
+abbrev pub invariant-loop-address : goal.invariant-loop-address
+invariant-loop-address l = l.plain ≡ l.initial.plain ++ joined (take l.address-index l.addresses)

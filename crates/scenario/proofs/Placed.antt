@@ -1,0 +1,48 @@
+-- Each system that an event line names is declared.
+use Rattle.std.proofs.Common.{ℕ, ◌<◌, List, [], ◌∷◌, length, codes, Ok, IfOk}
+use Rattle.std.specs.Str.{bytes_eq}
+use Rattle.clnp_plan.specs.Configuration.{SystemConfiguration}
+use Rattle.scenario.specs.Scenario.{IsPlaced}
+use Rattle.scenario.specs.Words.{declared_word, address_word, data_word, number_word, one_word, two_words, first_four, each_once}
+use Rattle.scenario.specs.Events.{wish_words, wish_key, send_line, deliver_line, count_line, tick_line, restart_line, event_line}
+use Rattle.scenario.specs.declared.event.Event.{Event}
+use Rattle.scenario.specs.declared.event.Event.TheVariants.{Settle, Lose, Tick}
+use Rattle.scenario.proofs.Behind.{behind_result, behind_found, behind_wanted, behind_such, either_way, declared_is_within}
+
+abbrev pub AreAmong : List (List ℕ) → Event → Type 0
+AreAmong names event = IsPlaced (length names) event
+
+send_placed : (names : List (List ℕ)) (systems : List SystemConfiguration) (words : List (List ℕ)) → IfOk (send_line names systems words) (AreAmong names)
+unfolding send_line
+send_placed names systems words =
+    behind_found (first_four words) _ _ (AreAmong names) (λ w _.
+    behind_such (declared_word names w.0) _ (λ place. place < length names) (AreAmong names) (declared_is_within names w.0) (λ system within.
+    behind_result (address_word w.1) _ (AreAmong names) (λ from _.
+    behind_result (address_word w.2) _ (AreAmong names) (λ to _.
+    behind_result (data_word w.3) _ (AreAmong names) (λ body _.
+    behind_result (wish_words w.4) _ (AreAmong names) (λ wishes _.
+    behind_wanted (each_once wish_key wishes) _ _ (AreAmong names) (λ _. within)))))))
+
+deliver_placed : (names : List (List ℕ)) (words : List (List ℕ)) → IfOk (deliver_line names words) (AreAmong names)
+unfolding deliver_line
+deliver_placed names words =
+    behind_found (two_words words) _ _ (AreAmong names) (λ w _.
+    behind_result (number_word 1 1000000000 w.0) _ (AreAmong names) (λ copy _.
+    behind_such (declared_word names w.1) _ (λ place. place < length names) (AreAmong names) (declared_is_within names w.1) (λ system within. within)))
+
+restart_placed : (names : List (List ℕ)) (words : List (List ℕ)) → IfOk (restart_line names words) (AreAmong names)
+unfolding restart_line
+restart_placed names words =
+    behind_found (one_word words) _ _ (AreAmong names) (λ word _.
+    behind_such (declared_word names word) _ (λ place. place < length names) (AreAmong names) (declared_is_within names word) (λ system within. within))
+
+pub event_placed : (names : List (List ℕ)) (systems : List SystemConfiguration) (words : List (List ℕ)) → IfOk (event_line names systems words) (AreAmong names)
+unfolding event_line
+event_placed names systems [] = tt
+event_placed names systems (keyword ∷ words) =
+    either_way (bytes_eq keyword (codes "send")) _ _ (AreAmong names) (send_placed names systems words)
+    (either_way (bytes_eq keyword (codes "deliver")) _ _ (AreAmong names) (deliver_placed names words)
+    (either_way (bytes_eq keyword (codes "settle")) _ _ (AreAmong names) (behind_result (count_line words) (λ count. Ok (Settle count)) (AreAmong names) (λ count _. tt))
+    (either_way (bytes_eq keyword (codes "lose")) _ _ (AreAmong names) (behind_result (count_line words) (λ count. Ok (Lose count)) (AreAmong names) (λ count _. tt))
+    (either_way (bytes_eq keyword (codes "tick")) _ _ (AreAmong names) (behind_result (tick_line words) (λ count. Ok (Tick count)) (AreAmong names) (λ count _. tt))
+    (either_way (bytes_eq keyword (codes "restart")) _ _ (AreAmong names) (restart_placed names words) tt)))))

@@ -1,0 +1,79 @@
+//! The cases, as their file tells them.
+use crate::selection::Selection;
+use clnp_base::decimal;
+use std::alloc::{AllocError, Global};
+
+/// A call of the program, and what it must come to.
+#[derive(Debug, Drop)]
+pub struct Case<'a> {
+    /// No octets before the first case of a file.
+    pub name: &'a [u8],
+    /// The words of the command line, with spaces between them.
+    pub words: &'a [u8],
+    pub input: Vec<u8>,
+    /// The exit number.
+    pub number: u64,
+    /// Which lines of the output are compared.
+    pub selection: Selection<'a>,
+    pub output: Vec<u8>,
+    /// What is said on standard error.
+    pub said: Vec<u8>,
+    /// Whether each of its lines has a mark that stands for something.
+    pub is_read: bool,
+}
+
+impl<'a> Case<'a> {
+    /// A case of this name, with no words, no input, no output, and the exit number 0.
+    pub fn new(alloc: Global, name: &'a [u8]) -> Case<'a> {
+        Case {
+            name,
+            words: b"",
+            input: Vec::new(alloc),
+            number: 0,
+            selection: Selection::All,
+            output: Vec::new(alloc),
+            said: Vec::new(alloc),
+            is_read: true,
+        }
+    }
+}
+
+/// Takes a line of a case.
+pub fn take_line<'a>(case: &mut Case<'a>, line: &'a [u8]) -> Result<(), AllocError> {
+    match line {
+        [] | [b'#', ..] => {}
+        [b'<'] => push_line(b"", &mut case.input)?,
+        [b'<', b' ', text @ ..] => push_line(text, &mut case.input)?,
+        [b'[', b' ', text @ ..] => case.input.extend_from_slice(text)?,
+        [b'>', b' ', text @ ..] => push_line(text, &mut case.output)?,
+        [b'!', b' ', text @ ..] => push_line(text, &mut case.said)?,
+        [b'$', b' ', text @ ..] => case.words = text,
+        [b'?', b' ', text @ ..] => take_number(case, text),
+        [b'~', b' ', text @ ..] => take_selection(case, text),
+        _ => case.is_read = false,
+    }
+    Ok(())
+}
+
+/// Takes the exit number of a case.
+fn take_number(case: &mut Case<'_>, text: &[u8]) {
+    match decimal(text) {
+        Some(number) => case.number = number,
+        None => case.is_read = false,
+    }
+}
+
+/// Takes which lines of the output of a case are compared.
+fn take_selection<'a>(case: &mut Case<'a>, text: &'a [u8]) {
+    match Selection::of(text) {
+        Some(selection) => case.selection = selection,
+        None => case.is_read = false,
+    }
+}
+
+/// Appends a line and its end.
+fn push_line(text: &[u8], out: &mut Vec<u8>) -> Result<(), AllocError> {
+    out.extend_from_slice(text)?;
+    out.push(b'\n')?;
+    Ok(())
+}

@@ -1,0 +1,24 @@
+#!/usr/bin/env bash
+# Runs each example through the built program and compares what it writes with what stands beside it: the folders of
+# examples/ with a scenario.txt and its journal.txt, the capture, and the vectors, all of which pass.
+set -u
+cd "$(dirname "$0")/.." || exit 2
+failed=0
+
+compare() {
+    local wanted="$1" words="$2" given="$3"
+    if ! ./clnp $words <"$given" | cmp - "$wanted"; then
+        echo "$given isn't answered by $wanted" >&2
+        failed=1
+    fi
+}
+
+for scenario in examples/*/scenario.txt; do
+    compare "$(dirname "$scenario")/journal.txt" sim "$scenario"
+done
+compare examples/captures-shown.txt show examples/captures.txt
+if [ "$(./clnp check <examples/vectors.txt | tail -n 1)" != "passed $(grep -c -v -e '^#' -e '^$' examples/vectors.txt) failed 0" ]; then
+    echo "not all of examples/vectors.txt pass" >&2
+    failed=1
+fi
+exit "$failed"
