@@ -6,8 +6,9 @@ use Rattle.std.proofs.lemmas.List.{take_all}
 use Rattle.std.proofs.lemmas.Option.{slice_get_past}
 use Rattle.clnp_plan.specs.Journal.{Void, Late, line_text}
 use Rattle.clnp_plan.specs.declared.config.Limits.{Limits}
-use Rattle.clnp_machine.specs.System.{SystemState, IsCarried}
-use Rattle.clnp_machine.specs.Host.{arrive}
+use Rattle.clnp_machine.specs.Content.{IsCarried}
+use Rattle.clnp_machine.specs.System.{SystemState}
+use Rattle.clnp_machine.specs.Step.{step}
 use Rattle.clnp_network.specs.World as network
 use Rattle.clnp_network.specs.Run.{lines_text}
 use Rattle.clnp_world.specs.Seen.{frame_copy}
@@ -78,21 +79,21 @@ gives_late code before after limits number at place within tells writes model co
     let part = puts_line code before after model (Late model.clock (system.0).configuration.name number) h.shows (writes model system.0 h.shows system.1) in
     subst (λ (s : Option SystemState). Follows code before after (network.give_to limits (numbered number copy) model place s)) (sym system.1)
     (subst (λ (b : Bool). Follows code before after (cond b (network.writes model (Late model.clock (system.0).configuration.name number))
-    (network.takes_effect model place (arrive system.0 copy.content)))) (tells model copy h.shows there)
+    (network.takes_effect model place (step system.0 (network.frame_to system.0 copy))))) (tells model copy h.shows there)
     record { holds = h; lines = part.lines })
 
 pub gives_now : (old code : Network) (before after : List ℕ) (limits : Limits) (number at place : ℕ) → place < length old.hosts.items
     → TellsLate old limits at false
     → ((model : network.World) (copy : network.Copy) (system : SystemState) → Holds old model → slice_get model.copies at ≡ Some copy
     → slice_get model.systems place ≡ Some system
-    → Follows code before after (network.takes_effect model place (arrive system copy.content)))
+    → Follows code before after (network.takes_effect model place (step system (network.frame_to system copy))))
     → (model : network.World) (copy : network.Copy) → Holds old model → slice_get model.copies at ≡ Some copy
     → Follows code before after (network.give limits (numbered number copy) model place)
 gives_now old code before after limits number at place within tells hands model copy h there =
     let system = system_there old model place h.shows within in
     subst (λ (s : Option SystemState). Follows code before after (network.give_to limits (numbered number copy) model place s)) (sym system.1)
     (subst (λ (b : Bool). Follows code before after (cond b (network.writes model (Late model.clock (system.0).configuration.name number))
-    (network.takes_effect model place (arrive system.0 copy.content)))) (tells model copy h.shows there)
+    (network.takes_effect model place (step system.0 (network.frame_to system.0 copy))))) (tells model copy h.shows there)
     (hands model copy system.0 h there system.1))
 
 -- One copy for each of its addressees.

@@ -1,5 +1,4 @@
 pub mod ListSteps
-pub mod EffectSteps
 pub mod ModelSteps
 pub mod EachSteps
 pub mod PutSteps

@@ -6,13 +6,12 @@ use Rattle.std.proofs.lemmas.List.Concat.{flat_map-append}
 use Rattle.clnp_plan.specs.Configuration.{SystemConfiguration}
 use Rattle.clnp_plan.specs.Journal.{Line, Late, line_text}
 use Rattle.clnp_plan.specs.declared.config.Limits.{Limits}
-use Rattle.clnp_machine.specs.System.{SystemState, Output, Transmits, Notes, Effect, first_state}
-use Rattle.clnp_machine.specs.Host.{arrive, tick}
+use Rattle.clnp_machine.specs.System.{SystemState, MomentComes, Output, Transmits, Notes, Effect, first_state}
+use Rattle.clnp_machine.specs.Step.{step}
+use Rattle.clnp_machine.proofs.Deeds.{step_itself}
 use Rattle.clnp_network.specs.World as network
 use Rattle.clnp_network.specs.Run.{lines_text}
 use Rattle.clnp_world.specs.Stands.{IsCurrent}
-use Rattle.clnp_world.specs.Parts.{}
-use Rattle.clnp_world.proofs.EffectSteps.{keeps_arrive}
 use Rattle.clnp_world.proofs.ListSteps.{slice_get_front, take_push, map_set, all_set, range_push}
 
 pub lines_text-append : (xs ys : List Line) → lines_text (xs ++ ys) ≡ lines_text xs ++ lines_text ys
@@ -75,13 +74,13 @@ copy-put_all_out c w (first ∷ outs) i copy e =
 copy-takes_effect : (w : network.World) (place : ℕ) (effect : Effect) (i : ℕ) (copy : network.Copy)
     → slice_get w.copies i ≡ Some copy → slice_get (network.takes_effect w place effect).world.copies i ≡ Some copy
 copy-takes_effect w place effect i copy e =
-    copy-put_all_out effect.after.configuration (record w { systems = slice_set w.systems place effect.after }) effect.outputs i copy e
+    copy-put_all_out effect.after.configuration (network.with_effect w place effect) effect.outputs i copy e
 
 -- a step at the clock's moment leaves each system at it
 pub current-takes_effect : (w : network.World) (place : ℕ) (effect : Effect) → IsCurrent w → effect.after.moment ≡ w.clock
     → IsCurrent (network.takes_effect w place effect).world
 current-takes_effect w place effect h now =
-    let v : network.World = record w { systems = slice_set w.systems place effect.after } in
+    let v = network.with_effect w place effect in
     let set : AllByRecursion (λ (s : SystemState). s.moment ≡ w.clock) v.systems
     = all_set (λ (s : SystemState). s.moment ≡ w.clock) w.systems place effect.after h now in
     subst (λ (t : ℕ). AllByRecursion (λ (s : SystemState). s.moment ≡ t) (network.put_all_out effect.after.configuration v effect.outputs).world.systems)
@@ -99,20 +98,20 @@ configurations-takes_effect : (w : network.World) (place : ℕ) (system : System
     → map configuration_of (network.takes_effect w place effect).world.systems ≡ map configuration_of w.systems
 configurations-takes_effect w place system effect e same =
     ap (λ (ss : List SystemState). map configuration_of ss)
-    (systems-put_all_out effect.after.configuration (record w { systems = slice_set w.systems place effect.after }) effect.outputs)
+    (systems-put_all_out effect.after.configuration (network.with_effect w place effect) effect.outputs)
     ∙ map_set configuration_of w.systems place system effect.after e same
 
 abbrev given_to : Limits → network.Numbered → network.World → ℕ → SystemState → Bool → network.Step
 given_to limits given w place system late =
     cond late (network.writes w (Late w.clock system.configuration.name given.number))
-    (network.takes_effect w place (arrive system given.copy.content))
+    (network.takes_effect w place (step system (network.frame_to system given.copy)))
 
 configurations-given : (limits : Limits) (given : network.Numbered) (w : network.World) (place : ℕ) (system : SystemState) (late : Bool)
     → slice_get w.systems place ≡ Some system
     → map configuration_of (given_to limits given w place system late).world.systems ≡ map configuration_of w.systems
 configurations-given limits given w place system true e = refl
 configurations-given limits given w place system false e =
-    configurations-takes_effect w place system (arrive system given.copy.content) e (keeps_arrive system given.copy.content).configuration
+    configurations-takes_effect w place system (step system (network.frame_to system given.copy)) e (step_itself system (network.frame_to system given.copy)).configuration
 
 configurations-give_to : (limits : Limits) (given : network.Numbered) (w : network.World) (place : ℕ) (s : Option SystemState) → slice_get w.systems place ≡ s
     → map configuration_of (network.give_to limits given w place s).world.systems ≡ map configuration_of w.systems
@@ -133,7 +132,7 @@ configurations-give_each limits given w (place ∷ places) =
 copy-given : (limits : Limits) (given : network.Numbered) (w : network.World) (place : ℕ) (system : SystemState) (late : Bool) (i : ℕ) (copy : network.Copy)
     → slice_get w.copies i ≡ Some copy → slice_get (given_to limits given w place system late).world.copies i ≡ Some copy
 copy-given limits given w place system true i copy e = e
-copy-given limits given w place system false i copy e = copy-takes_effect w place (arrive system given.copy.content) i copy e
+copy-given limits given w place system false i copy e = copy-takes_effect w place (step system (network.frame_to system given.copy)) i copy e
 
 copy-give_to : (limits : Limits) (given : network.Numbered) (w : network.World) (place : ℕ) (s : Option SystemState) (i : ℕ) (copy : network.Copy)
     → slice_get w.copies i ≡ Some copy → slice_get (network.give_to limits given w place s).world.copies i ≡ Some copy
@@ -158,7 +157,7 @@ give_each-push limits given w (first ∷ places) place =
     ∙ sym (followed_by-followed_by (network.give limits given w first) (λ v. network.give_each limits given v places) (λ v. network.give limits given v place))
 
 abbrev pub tick_at : network.World → ℕ → network.Step
-tick_at w place = network.system_does w place (λ system. tick system w.clock)
+tick_at w place = network.comes w place (MomentComes w.clock)
 
 tick_each-push : (w : network.World) (places : List ℕ) (place : ℕ)
     → network.tick_each w (places ++ place ∷ []) ≡ network.followed_by (network.tick_each w places) (λ v. tick_at v place)

@@ -15,7 +15,8 @@ use Rattle.clnp_plan.specs.declared.output.Output.TheVariants.{Transmit, Note as
 use Rattle.clnp_plan.specs.declared.output.Sending.{Sending}
 use Rattle.clnp_plan.specs.Journal.{Noted, Transmitted, Line, line_text}
 use Rattle.clnp_machine.specs.Unit.{Packet, value_of, wire, IsCarriable}
-use Rattle.clnp_machine.specs.System.{SystemState, Output, Transmits, Notes, IsCarried}
+use Rattle.clnp_machine.specs.Content.{IsCarried}
+use Rattle.clnp_machine.specs.System.{SystemState, Output, Transmits, Notes}
 use Rattle.clnp_network.specs.World as network
 use Rattle.clnp_network.specs.Run.{lines_text}
 use Rattle.end_system.specs.State.{HostState}

@@ -10,7 +10,8 @@ use Rattle.clnp_plan.specs.declared.output.Output as output
 use Rattle.clnp_plan.specs.declared.output.Output.TheVariants.{Note as Told}
 use Rattle.clnp_plan.specs.Journal.{Noted, line_text}
 use Rattle.clnp_machine.specs.System as machine
-use Rattle.clnp_machine.specs.System.{SystemState, Notes, Effect}
+use Rattle.clnp_machine.specs.System.{SystemState, Input, Notes, Effect}
+use Rattle.clnp_machine.specs.Step.{step}
 use Rattle.clnp_network.specs.World as network
 use Rattle.end_system.specs.State.{HostState}
 use Rattle.end_system.specs.Stands as end_system
@@ -27,11 +28,11 @@ use Rattle.clnp_world.proofs.PutSteps.{PutsOut, puts_none, puts_more, puts_note,
 abbrev pub with_host : Network → ℕ → HostState → Network
 with_host code place host = record code { hosts = with_item code.hosts place host }
 
-pub shows_with : (code : Network) (place : ℕ) (host : HostState) (model : network.World) (system : SystemState) → Shows code model
-    → end_system.Stands host system → Shows (with_host code place host) (record model { systems = slice_set model.systems place system })
-shows_with code place host model system h stands = record {
+pub shows_with : (code : Network) (place : ℕ) (host : HostState) (model : network.World) (effect : Effect) → Shows code model
+    → end_system.Stands host effect.after → Shows (with_host code place host) (network.with_effect model place effect)
+shows_with code place host model effect h stands = record {
   clock = h.clock;
-  systems = each_set code.hosts.items model.systems place host system h.systems stands;
+  systems = each_set code.hosts.items model.systems place host effect.after h.systems stands;
   copies = h.copies;
   cursor = h.cursor;
   carried = h.carried;
@@ -60,22 +61,22 @@ pub takes : (old code : Network) (before after : List ℕ) (place : ℕ) (host :
     → (model : network.World) → Shows old model → Puts code before after (network.takes_effect model place effect)
 takes old code before after place host outputs effect within stands gives puts model h =
     let same = each_length old.hosts.items model.systems h.systems in
-    puts (record model { systems = slice_set model.systems place effect.after }) effect.after effect.outputs
-    (shows_with old place host model effect.after h stands)
+    puts (network.with_effect model place effect) effect.after effect.outputs
+    (shows_with old place host model effect h stands)
     (slice_get-set model.systems place effect.after (omega arith))
     (subst (λ (os : List output.Output). GiveAll old.clock os effect.outputs) (sym gives.appended) gives.give_all)
 
 -- the system at a place does something, whatever its moment
-pub does_put : (old code : Network) (before after : List ℕ) (place : ℕ) (does : SystemState → Effect) (host new : HostState) (outputs : List output.Output)
+pub does_put : (old code : Network) (before after : List ℕ) (place : ℕ) (input : Input) (host new : HostState) (outputs : List output.Output)
     → slice_get old.hosts.items place ≡ Some host
-    → ((s : SystemState) → end_system.Stands host s → end_system.Stands new (does s).after)
-    → ((s : SystemState) → end_system.Stands host s → Appends old.clock [] outputs (does s).outputs)
+    → ((s : SystemState) → end_system.Stands host s → end_system.Stands new (step s input).after)
+    → ((s : SystemState) → end_system.Stands host s → Appends old.clock [] outputs (step s input).outputs)
     → PutsOut (with_host old place new) code before after place outputs
-    → (model : network.World) → Shows old model → Puts code before after (network.system_does model place does)
-does_put old code before after place does host new outputs here stands gives puts model h =
+    → (model : network.World) → Shows old model → Puts code before after (network.comes model place input)
+does_put old code before after place input host new outputs here stands gives puts model h =
     let there = is_there old model place host h here in
-    subst (λ (s : Option SystemState). Puts code before after (network.at_system model place does s)) (sym there.at)
-    (takes old code before after place new outputs (does there.system) (within_get old.hosts.items place host here)
+    subst (λ (s : Option SystemState). Puts code before after (network.comes_to model place input s)) (sym there.at)
+    (takes old code before after place new outputs (step there.system input) (within_get old.hosts.items place host here)
     (stands there.system there.stands) (gives there.system there.stands) puts model h)
 
 -- the same at the clock's moment
@@ -98,27 +99,27 @@ takes_now old code before after place host new outputs effect system here stands
     }
 
 -- the system at a place does something
-pub does_follow : (old code : Network) (before after : List ℕ) (place : ℕ) (does : SystemState → Effect) (host new : HostState) (outputs : List output.Output)
+pub does_follow : (old code : Network) (before after : List ℕ) (place : ℕ) (input : Input) (host new : HostState) (outputs : List output.Output)
     → slice_get old.hosts.items place ≡ Some host
-    → ((s : SystemState) → end_system.Stands host s → end_system.Stands new (does s).after)
-    → ((s : SystemState) → end_system.Stands host s → Appends host.moment [] outputs (does s).outputs)
-    → ((s : SystemState) → (does s).after.moment ≡ s.moment)
+    → ((s : SystemState) → end_system.Stands host s → end_system.Stands new (step s input).after)
+    → ((s : SystemState) → end_system.Stands host s → Appends host.moment [] outputs (step s input).outputs)
+    → ((s : SystemState) → (step s input).after.moment ≡ s.moment)
     → PutsOut (with_host old place new) code before after place outputs
-    → (model : network.World) → Holds old model → Follows code before after (network.system_does model place does)
-does_follow old code before after place does host new outputs here stands gives moment puts model h =
+    → (model : network.World) → Holds old model → Follows code before after (network.comes model place input)
+does_follow old code before after place input host new outputs here stands gives moment puts model h =
     let there = is_there old model place host h.shows here in
-    subst (λ (s : Option SystemState). Follows code before after (network.at_system model place does s)) (sym there.at)
-    (takes_now old code before after place host new outputs (does there.system) there.system here (stands there.system there.stands)
+    subst (λ (s : Option SystemState). Follows code before after (network.comes_to model place input s)) (sym there.at)
+    (takes_now old code before after place host new outputs (step there.system input) there.system here (stands there.system there.stands)
     (gives there.system there.stands) (moment there.system) puts model h there.at)
 
 -- there is no host at the place
-pub does_nothing : (code : Network) (lines : List ℕ) (place : ℕ) (does : SystemState → Effect) → length code.hosts.items ≤ place
-    → (model : network.World) → Holds code model → Follows code lines lines (network.system_does model place does)
-does_nothing code lines place does past model h =
+pub does_nothing : (code : Network) (lines : List ℕ) (place : ℕ) (input : Input) → length code.hosts.items ≤ place
+    → (model : network.World) → Holds code model → Follows code lines lines (network.comes model place input)
+does_nothing code lines place input past model h =
     let same = each_length code.hosts.items model.systems h.shows.systems in
     let none = slice_get_past model.systems place (omega arith) in
     let part = puts_nothing code model lines h.shows in
-    subst (λ (s : Option SystemState). Follows code lines lines (network.at_system model place does s)) (sym none)
+    subst (λ (s : Option SystemState). Follows code lines lines (network.comes_to model place input s)) (sym none)
     record { holds = h; lines = part.lines }
 
 -- the line of a note of the host at a place is written

@@ -3,8 +3,9 @@ use Rattle.std.proofs.Common.{◌≡◌, ℕ, ◌+◌, ◌<◌, ◌≤◌, List,
 use Rattle.std.specs.Prelude.{slice_get, slice_set}
 use Rattle.std.specs.List.{AllByRecursion, range_with_len}
 use Rattle.std.proofs.lemmas.List.{take_all}
-use Rattle.clnp_machine.specs.System.{SystemState}
-use Rattle.clnp_machine.specs.Host.{tick}
+use Rattle.clnp_machine.specs.System.{SystemState, MomentComes, Effect}
+use Rattle.clnp_machine.specs.Step.{step}
+use Rattle.clnp_machine.proofs.Deeds.{step_moment}
 use Rattle.clnp_network.specs.World as network
 use Rattle.end_system.specs.State.{HostState}
 use Rattle.clnp_world.specs.Stands.{IsCurrent}
@@ -13,7 +14,6 @@ use Rattle.clnp_world.specs.declared.network.Network.{Network}
 use Rattle.clnp_base.proofs.Lists.{AllByRecursion-implies, AllByRecursion-slice_get, slice_get_some}
 use Rattle.clnp_world.proofs.ListSteps.{all_set, all_take_set}
 use Rattle.clnp_world.proofs.EachSteps.{each_length}
-use Rattle.clnp_world.proofs.EffectSteps.{ticked}
 use Rattle.clnp_world.proofs.ModelSteps.{tick_at, tick_each-more, systems-put_all_out, clock-put_all_out}
 use Rattle.clnp_world.proofs.PutSteps.{puts_nothing, puts_then}
 use Rattle.clnp_world.proofs.TakeSteps.{is_there}
@@ -41,11 +41,11 @@ pub record AreTicked (w : network.World) (place : ℕ) : Type 0 where
   pub behind : IsBehind w
   pub current : AllByRecursion (λ (s : SystemState). s.moment ≡ w.clock) (take place w.systems)
 
-ticked_set : (w : network.World) (place : ℕ) (after : SystemState) → AreTicked w place → after.moment ≡ w.clock
-    → AreTicked (record w { systems = slice_set w.systems place after }) (place + 1)
-ticked_set w place after h e = record {
-  behind = all_set (λ (s : SystemState). s.moment ≤ w.clock) w.systems place after h.behind (omega arith);
-  current = all_take_set (λ (s : SystemState). s.moment ≡ w.clock) w.systems place after h.current e;
+ticked_set : (w : network.World) (place : ℕ) (effect : Effect) → AreTicked w place → effect.after.moment ≡ w.clock
+    → AreTicked (network.with_effect w place effect) (place + 1)
+ticked_set w place effect h e = record {
+  behind = all_set (λ (s : SystemState). s.moment ≤ w.clock) w.systems place effect.after h.behind (omega arith);
+  current = all_take_set (λ (s : SystemState). s.moment ≡ w.clock) w.systems place effect.after h.current e;
 }
 
 ticked_same : (w v : network.World) (place : ℕ) → AreTicked w place → v.systems ≡ w.systems → v.clock ≡ w.clock → AreTicked v place
@@ -59,10 +59,10 @@ ticked_same w v place h systems clock = record {
 ticked_at : (w : network.World) (place : ℕ) (system : SystemState) → slice_get w.systems place ≡ Some system → AreTicked w place
     → AreTicked (tick_at w place).world (place + 1)
 ticked_at w place system there h =
-    let effect = tick system w.clock in
-    let v : network.World = record w { systems = slice_set w.systems place effect.after } in
-    subst (λ (s : Option SystemState). AreTicked (network.at_system w place (λ t. tick t w.clock) s).world (place + 1)) (sym there)
-    (ticked_same v (network.takes_effect w place effect).world (place + 1) (ticked_set w place effect.after h (ticked system w.clock))
+    let effect = step system (MomentComes w.clock) in
+    let v = network.with_effect w place effect in
+    subst (λ (s : Option SystemState). AreTicked (network.comes_to w place (MomentComes w.clock) s).world (place + 1)) (sym there)
+    (ticked_same v (network.takes_effect w place effect).world (place + 1) (ticked_set w place effect h (step_moment system (MomentComes w.clock)))
     (systems-put_all_out effect.after.configuration v effect.outputs) (clock-put_all_out effect.after.configuration v effect.outputs))
 
 -- the code's network after the ticks of the systems below a place

@@ -1,7 +1,8 @@
 -- What a simulated network of the code stands for.
 use Rattle.std.specs.Prelude.{◌≡◌, ◌≤◌, List, [], ◌∷◌, true, false, length, map, Result, Ok, Err}
 use Rattle.std.specs.List.{AllByRecursion}
-use Rattle.clnp_machine.specs.System.{SystemState, IsCarried}
+use Rattle.clnp_machine.specs.Content.{IsCarried}
+use Rattle.clnp_machine.specs.System.{SystemState}
 use Rattle.end_system.specs.State.{HostState}
 use Rattle.end_system.specs.Stands as end_system
 use Rattle.clnp_network.specs.World as network

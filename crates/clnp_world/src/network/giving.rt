@@ -1,7 +1,7 @@
 //! Copies that are given to the systems that they are for.
 ghost use Rattle.std.specs.Prelude.{◌≡◌, ◌+◌, ◌<◌, ◌≤◌, ◌++◌, OnOk, Some, slice_get, vec_len};
 ghost use Rattle.clnp_machine.specs.System.{SystemState};
-ghost use Rattle.clnp_machine.specs.Host as machine;
+ghost use Rattle.clnp_machine.specs.Step.{step};
 ghost use Rattle.clnp_network.specs.World as network;
 ghost use Rattle.clnp_plan.specs.Journal.{Late, Void, line_text};
 ghost use Rattle.clnp_world.specs.Parts.{Follows, Holds, IsRunning, Shows};
@@ -146,7 +146,7 @@ impl Network {
         requires running { IsRunning self.old }
         ensures follows { OnOk result ((model : network.World) (copy : network.Copy) (system : SystemState) → Holds self.old model
             → slice_get model.copies at ≡ Some copy → slice_get model.systems place ≡ Some system
-            → Follows self.new lines.old.items lines.new.items (network.takes_effect model place (machine.arrive system copy.content))) }
+            → Follows self.new lines.old.items lines.new.items (network.takes_effect model place (step system (network.frame_to system copy)))) }
         ensures hosts { vec_len self.new.hosts ≡ vec_len self.old.hosts }
         ensures copies { vec_len self.old.copies ≤ vec_len self.new.copies }
     {

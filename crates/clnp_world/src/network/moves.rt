@@ -1,8 +1,7 @@
 //! The moves, and what an event does.
 ghost use Rattle.std.specs.Prelude.{◌≡◌, ◌+◌, ◌<◌, ◌≤◌, ◌^◌, ℕ, List, ◌++◌, OnOk, OnErr, Some, length, slice_get, vec_len};
 ghost use Rattle.std.specs.List.{AllByRecursion, range_with_len};
-ghost use Rattle.clnp_machine.specs.System.{SystemState};
-ghost use Rattle.clnp_machine.specs.Host as machine;
+ghost use Rattle.clnp_machine.specs.System.{IsRestarted, MomentComes};
 ghost use Rattle.clnp_network.specs.World as network;
 ghost use Rattle.clnp_world.specs.Parts.{Follows, Holds, IsBehind, IsRunning, Puts, Shows};
 ghost use Rattle.end_system.specs.State.{HostState};
@@ -126,7 +125,7 @@ impl Network {
     /// Restarts the host at a place.
     fn restart(&mut self, alloc: Global, place: usize, lines: &mut Vec<u8>) -> Result<(), NoMemory>
         ensures { OnOk result ((model : network.World) → Holds self.old model
-            → Follows self.new lines.old.items lines.new.items (network.system_does model place machine.restart)) }
+            → Follows self.new lines.old.items lines.new.items (network.comes model place IsRestarted)) }
     {
         if place >= self.hosts.len() {
             return Ok(());
@@ -170,7 +169,7 @@ impl Network {
         requires place_in { place < vec_len self.old.hosts }
         requires later { (host : HostState) → slice_get self.old.hosts.items place ≡ Some host → host.moment ≤ self.old.clock }
         ensures puts { OnOk result ((model : network.World) → Shows self.old model
-            → Puts self.new lines.old.items lines.new.items (network.system_does model place (λ system. machine.tick system model.clock))) }
+            → Puts self.new lines.old.items lines.new.items (network.comes model place (MomentComes model.clock))) }
         ensures hosts { vec_len self.new.hosts ≡ vec_len self.old.hosts }
         ensures clock { self.new.clock ≡ self.old.clock }
     {

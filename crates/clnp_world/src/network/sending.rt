@@ -1,6 +1,6 @@
 //! Data units that a host is asked to send.
 ghost use Rattle.std.specs.Prelude.{◌≡◌, ◌+◌, ◌/◌, ◌%◌, IfOk, OnOk, Some, false};
-ghost use Rattle.clnp_machine.specs.Host as machine;
+ghost use Rattle.clnp_machine.specs.System.{AsksToSend};
 ghost use Rattle.clnp_network.specs.World as network;
 ghost use Rattle.clnp_options.specs.Grammar.{FitsKind};
 ghost use Rattle.clnp_options.specs.Parameter.{parameters};
@@ -31,7 +31,7 @@ impl Network {
         requires { FitsKind false (parameters ask.now.options) }
         ensures { OnOk result ((model : network.World) → Holds self.old model
             → Follows self.new lines.old.items lines.new.items
-            (network.system_does model place (λ s. machine.send s from to (octets_of body.now) ask.now))) }
+            (network.comes model place (AsksToSend from to (octets_of body.now) ask.now))) }
     {
         match body {
             Body::Hex(octets) => {
@@ -58,7 +58,7 @@ impl Network {
         requires { FitsKind false (parameters ask.now.options) }
         ensures { OnOk result ((model : network.World) → Holds self.old model
             → Follows self.new lines.old.items lines.new.items
-            (network.system_does model place (λ s. machine.send s from to body.now ask.now))) }
+            (network.comes model place (AsksToSend from to body.now ask.now))) }
     {
         if place >= self.hosts.len() {
             return Ok(());

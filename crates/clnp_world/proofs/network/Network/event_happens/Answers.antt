@@ -3,7 +3,7 @@ use Rattle.std.proofs.Common.{ℕ, Some, sym, subst}
 use Rattle.std.proofs.lemmas.Result.{on_ok_weaker}
 use Rattle.scenario.specs.Scenario.{octets_of}
 use Rattle.scenario.specs.declared.event.Event.{Event}
-use Rattle.clnp_machine.specs.Host.{send}
+use Rattle.clnp_machine.specs.System.{AsksToSend}
 use Rattle.clnp_network.specs.World as network
 use Rattle.clnp_world.specs.Parts.{Follows}
 use Rattle.clnp_world.proofs.network.Network.event_happens.Goals as goal
@@ -14,6 +14,6 @@ returns-in-Send c =
     subst (λ (event : Event). Follows c.send.new.self c.args.lines.now.items c.send.new.lines.items
     (network.event_happens c.args.limits model (Some event))) (sym c.in-Send.is)
     (subst (λ (place : ℕ). Follows c.send.new.self c.args.lines.now.items c.send.new.lines.items
-    (network.system_does model place (λ s. send s c.in-Send.from c.in-Send.to (octets_of c.in-Send.body) c.in-Send.ask))) c.from.ensures
+    (network.comes model place (AsksToSend c.in-Send.from c.in-Send.to (octets_of c.in-Send.body) c.in-Send.ask))) c.from.ensures
     (sends model h)))
     c.send.ensures

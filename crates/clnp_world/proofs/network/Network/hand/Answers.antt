@@ -1,10 +1,11 @@
 -- The copy's frame comes to the host, and what it gives out is put out.
 use Rattle.std.proofs.Common.{sym, ap, arith}
 use Rattle.std.proofs.lemmas.Result.{on_ok_weaker}
-use Rattle.clnp_machine.specs.Host as machine
+use Rattle.clnp_machine.specs.Step.{step}
+use Rattle.clnp_machine.proofs.Deeds.{step_moment}
+use Rattle.clnp_network.specs.World as network
 use Rattle.clnp_world.specs.declared.copy.FrameCopy.{FrameCopy}
 use Rattle.clnp_world.proofs.EachSteps.{each_at}
-use Rattle.clnp_world.proofs.EffectSteps.{keeps_arrive}
 use Rattle.clnp_world.proofs.GiveSteps.{copy_at, carried_at}
 use Rattle.clnp_world.proofs.ListSteps.{slice_get_read}
 use Rattle.clnp_world.proofs.TakeSteps.{takes_now, from_none}
@@ -17,7 +18,8 @@ returns-clause-follows c =
     let seen = c.index-copy.result.now in
     let here = slice_get_read old.hosts.items c.args.place host (omega (arith, old.hosts.ok.0)) c.index_mut.ensures.value in
     on_ok_weaker c.put_all_out.result (λ puts model copy system h at there.
-    let effect = machine.arrive system copy.content in
+    let input = network.frame_to system copy in
+    let effect = step system input in
     let same = copy_at old model c.args.at seen copy h.shows (omega (arith, old.copies.ok.0)) c.index-copy.ensures at in
     let carried = carried_at model.copies c.args.at copy h.shows.carried at in
     let octets = ap (λ (f : FrameCopy). f.frame) (sym same) in
@@ -26,5 +28,5 @@ returns-clause-follows c =
     effect system here (c.in_ok-frame.ensures.stands system copy.content stands carried octets)
     (from_none host.moment c.new-outputs.result.items c.frame.new.out.items effect.outputs c.new-outputs.ensures.items
     (c.in_ok-frame.ensures.outputs system copy.content stands carried octets))
-    (keeps_arrive system copy.content).moment puts model h there)
+    (step_moment system input) puts model h there)
     c.put_all_out.ensures.puts

@@ -1,7 +1,7 @@
 -- The octets are those of the body.
 use Rattle.std.proofs.Common.{List, ℕ, ◌∙◌, ap, sym, subst}
 use Rattle.std.proofs.lemmas.Result.{on_ok_weaker}
-use Rattle.clnp_machine.specs.Host.{send}
+use Rattle.clnp_machine.specs.System.{AsksToSend}
 use Rattle.clnp_network.specs.World as network
 use Rattle.scenario.specs.Scenario.{octets_of}
 use Rattle.clnp_world.specs.Parts.{Follows}
@@ -11,7 +11,7 @@ pub returns-in-Hex : goal.returns-in-Hex
 returns-in-Hex c =
     on_ok_weaker c.send_octets.result (λ sends model h.
     subst (λ (octets : List ℕ). Follows c.send_octets.new.self c.args.lines.now.items c.send_octets.new.lines.items
-    (network.system_does model c.args.place (λ s. send s c.args.from c.args.to octets c.args.ask.now)))
+    (network.comes model c.args.place (AsksToSend c.args.from c.args.to octets c.args.ask.now)))
     (c.as_bytes.ensures ∙ sym (ap octets_of c.in-Hex.is)) (sends model h))
     c.send_octets.ensures
 
@@ -19,6 +19,6 @@ pub returns-in_ok-octets-in-Pattern : goal.returns-in_ok-octets-in-Pattern
 returns-in_ok-octets-in-Pattern c =
     on_ok_weaker c.send_octets-in-Pattern.result (λ sends model h.
     subst (λ (octets : List ℕ). Follows c.send_octets-in-Pattern.new.self c.args.lines.now.items c.send_octets-in-Pattern.new.lines.items
-    (network.system_does model c.args.place (λ s. send s c.args.from c.args.to octets c.args.ask.now)))
+    (network.comes model c.args.place (AsksToSend c.args.from c.args.to octets c.args.ask.now)))
     (c.deref.ensures.value ∙ c.in_ok-octets-in-Pattern.ensures ∙ sym (ap octets_of c.in-Pattern.is)) (sends model h))
     c.send_octets-in-Pattern.ensures

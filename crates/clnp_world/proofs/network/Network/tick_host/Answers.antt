@@ -1,7 +1,8 @@
 -- The clock's moment comes to the host, and what it gives out is put out.
 use Rattle.std.proofs.Common.{ℕ, arith, subst}
 use Rattle.std.proofs.lemmas.Result.{on_ok_weaker}
-use Rattle.clnp_machine.specs.Host as machine
+use Rattle.clnp_machine.specs.System.{MomentComes}
+use Rattle.clnp_machine.specs.Step.{step}
 use Rattle.clnp_network.specs.World as network
 use Rattle.clnp_world.specs.Parts.{Puts}
 use Rattle.clnp_world.proofs.ListSteps.{slice_get_read}
@@ -14,12 +15,12 @@ returns-clause-puts c =
     let host = c.index_mut.result.now in
     on_ok_weaker c.put_all_out.result (λ puts model h.
     subst (λ (now : ℕ). Puts c.put_all_out.new.self c.args.lines.now.items c.put_all_out.new.lines.items
-    (network.system_does model c.args.place (λ s. machine.tick s now))) h.clock
-    (does_put old c.put_all_out.new.self c.args.lines.now.items c.put_all_out.new.lines.items c.args.place (λ s. machine.tick s old.clock)
+    (network.comes model c.args.place (MomentComes now))) h.clock
+    (does_put old c.put_all_out.new.self c.args.lines.now.items c.put_all_out.new.lines.items c.args.place (MomentComes old.clock)
     host c.tick.new.self c.tick.new.out.items
     (slice_get_read old.hosts.items c.args.place host (omega (arith, old.hosts.ok.0)) c.index_mut.ensures.value)
     c.in_ok-tick.ensures.stands
-    (λ s stands. from_none old.clock c.new-outputs.result.items c.tick.new.out.items (machine.tick s old.clock).outputs c.new-outputs.ensures.items
+    (λ s stands. from_none old.clock c.new-outputs.result.items c.tick.new.out.items (step s (MomentComes old.clock)).outputs c.new-outputs.ensures.items
     (c.in_ok-tick.ensures.outputs s stands))
     puts model h))
     c.put_all_out.ensures.puts
