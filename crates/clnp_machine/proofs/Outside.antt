@@ -35,7 +35,7 @@ value_again number moment w (Some part) pdu =
     let fits = pdu.segmentation in
     with_parts w (Some part) (Some part) (nat_lt (part.offset + length w.body) (part.total - header_length v)) w.more
     (take (length w.body) (drop (part.offset - part.offset) w.body)) w.body refl
-    (follows (part.offset + length w.body) (part.total - header_length v) w.more fits.within fits.ends.0 fits.ends.1) (body_again part.offset w.body)
+    (follows (part.offset + length w.body) (part.total - header_length v) w.more fits.range.within fits.range.ends.0 fits.range.ends.1) (body_again part.offset w.body)
 
 carriable : (number moment : ℕ) (v : PduValue) → IsPdu v → IsCarriable (packet_from_outside number moment v)
 carriable number moment v pdu = record {
