@@ -1,10 +1,8 @@
 -- What each deed of a system leaves: the same system at the same moment, within its budget, and units that are fresh.
-use Rattle.clnp_base.proofs.Lists.{AllByRecursion-implies}
 use Rattle.clnp_base.proofs.Sums.{sum_filter}
-use Rattle.std.proofs.Common.{◌≡◌, ◌∙◌, sym, ap, subst, refl, ℕ, zero, suc, ◌≤◌, Bool, true, false, not, List, [], ◌∷◌, ◌++◌, length, Option, None, Some, arith}
+use Rattle.std.proofs.Common.{◌≡◌, ◌∙◌, ap, refl, ℕ, zero, suc, ◌≤◌, Bool, true, false, not, List, [], ◌∷◌, ◌++◌, length, Option, None, Some, arith}
 use Rattle.std.specs.Prelude.{◌==◌, if◌then◌else◌}
-use Rattle.std.specs.List.{AllByRecursion, list_any}
-use Rattle.std.specs.Str.{bytes_eq}
+use Rattle.std.specs.List.{AllByRecursion}
 use Rattle.pdu_header.specs.declared.kind.Kind.{Kind}
 use Rattle.pdu_header.specs.declared.kind.Kind.TheVariants.{Dt}
 use Rattle.pdu_header.specs.Rules.{octet, refusal as rule_broken}
@@ -12,7 +10,6 @@ use Rattle.clnp_options.specs.declared.judge.OptionRefusal.{OptionRefusal}
 use Rattle.reassembly.specs.Arrival.{Arrival, same_key}
 use Rattle.reassembly.specs.Buffer as buffer
 use Rattle.reassembly.specs.Buffer.{Answer, Buffer, held, size_of}
-use Rattle.clnp_plan.specs.Configuration.{SystemConfiguration}
 use Rattle.clnp_plan.specs.declared.ask.Ask.{Ask}
 use Rattle.clnp_plan.specs.declared.config.Role.{Role}
 use Rattle.clnp_plan.specs.declared.config.Role.TheVariants.{Host, Router}
@@ -22,7 +19,7 @@ use Rattle.clnp_machine.specs.Unit as unit
 use Rattle.clnp_machine.specs.Unit.{DeclaredAt, Packet}
 use Rattle.clnp_machine.specs.Content.{Content, Labelled, Unlabelled}
 use Rattle.clnp_machine.specs.System.{SystemState, Input, AsksToSend, FrameComes, MomentComes, IsRestarted, table_limits}
-use Rattle.clnp_machine.specs.Local.{Action, Sends, Tells, Deed, tells, and_then, made_in, is_own, is_all, offered, takes_in, offer, receive, refusal, unit_of, make, makes, unless_refused, with_use, discard_first, gives_up, give_up_due, expire, at_moment, tick}
+use Rattle.clnp_machine.specs.Local.{Action, Sends, Tells, Deed, tells, and_then, made_in, is_own, is_all, offered, takes_in, offer, receive, refusal, unit_of, make, unless_refused, with_use, discard_first, gives_up, give_up_due, expire, at_moment, tick}
 use Rattle.clnp_machine.specs.Step.{passes_by, packet_comes, discard_refused, octets_come, content_comes, restart, deed, step}
 use Rattle.clnp_machine.specs.Steps.{AsksNothing, IsDeed, StaysItself, moment_after, IsFresh, IsWithinBudget}
 use Rattle.clnp_machine.proofs.Kept.{held_after}

@@ -1,10 +1,10 @@
 -- A system keeps only segments that it kept before, or that come in a frame.
 use Rattle.clnp_base.proofs.Filters.{AllByRecursion-filter}
 use Rattle.clnp_base.proofs.Lists.{AllByRecursion-append, AllByRecursion-implies, AllByRecursion-push}
-use Rattle.std.proofs.Common.{◌≡◌, refl, ℕ, zero, suc, inl, inr, Bool, true, false, not, List, [], ◌∷◌, ◌++◌, Option, None, Some, Contains, length, get_or, arith}
+use Rattle.std.proofs.Common.{refl, ℕ, zero, suc, inl, inr, Bool, true, false, not, List, [], ◌∷◌, Option, None, Some, Contains, length, get_or}
 use Rattle.std.specs.Prelude.{◌==◌, if◌then◌else◌}
-use Rattle.std.specs.List.{AllByRecursion, flat_map}
-use Rattle.std.proofs.lemmas.List.Elements.{All-from_recursion, All-contains, All-contains_itself, recursion_from_All, Contains-append_left, Contains-append_right}
+use Rattle.std.specs.List.{AllByRecursion}
+use Rattle.std.proofs.lemmas.List.Elements.{All-contains_itself, recursion_from_All, Contains-append_left, Contains-append_right}
 use Rattle.pdu_header.specs.Rules.{octet, refusal as rule_broken}
 use Rattle.clnp_options.specs.declared.judge.OptionRefusal.{OptionRefusal}
 use Rattle.pdu_header.specs.declared.kind.Kind.TheVariants.{Dt}
@@ -19,9 +19,9 @@ use Rattle.clnp_machine.specs.Unit.{Packet}
 use Rattle.clnp_machine.specs.Content.{Content, Labelled, Unlabelled}
 use Rattle.clnp_machine.specs.System.{SystemState, Input, AsksToSend, FrameComes, MomentComes, IsRestarted, table_limits}
 use Rattle.clnp_machine.specs.Local.{Deed, is_own, is_all, offered, takes_in, offer, receive, refusal, unit_of, unless_refused, discard_first, gives_up, give_up_due, expire, at_moment}
-use Rattle.clnp_machine.specs.Step.{passes_by, packet_comes, discard_refused, octets_come, content_comes, deed, step}
+use Rattle.clnp_machine.specs.Step.{passes_by, packet_comes, discard_refused, content_comes, deed, step}
 use Rattle.clnp_machine.specs.Steps.{segments_in, CarriesSegment, ComesWith, WasKeptOrComes}
-use Rattle.clnp_machine.proofs.Kept.{KeptIn, all_after}
+use Rattle.clnp_machine.proofs.Kept.{all_after}
 
 module _ (P : Arrival Packet → Type 0) where
   -- P holds of each segment that is kept

@@ -1,5 +1,5 @@
 -- The unit that is asked for, where it isn't refused.
-use Rattle.std.proofs.Common.{◌≡◌, ℕ, ◌+◌, ◌≤◌, Bool, true, false, not, if◌then◌else◌, nat_lt, List, ◌++◌, length, Option, None, Some, option_map, refl, ap, ◌∙◌, arith, length-append}
+use Rattle.std.proofs.Common.{◌≡◌, ℕ, ◌+◌, ◌≤◌, Bool, true, not, if◌then◌else◌, nat_lt, List, ◌++◌, length, Option, None, Some, option_map, refl, ap, arith, length-append}
 use Rattle.std.proofs.lemmas.Bool.Decides.{nat_tests}
 use Rattle.clnp_options.specs.Parameter.{spelled}
 use Rattle.pdu_header.specs.declared.kind.Kind.{Kind}

@@ -1,6 +1,6 @@
 -- What octets from outside carry: they are the frame of their content.
 use Rattle.std.proofs.Common.{◌≡◌, ◌∙◌, refl, sym, ap, subst, ℕ, ◌+◌, ◌-◌, ◌≤◌, inl, inr, Bool, true, false, Option, None, Some, List, ◌++◌, length, take, drop, arith}
-use Rattle.std.specs.Prelude.{◌==◌, ◌&&◌, if◌then◌else◌, is_none, nat_lt}
+use Rattle.std.specs.Prelude.{◌==◌, ◌&&◌, is_none, nat_lt}
 use Rattle.std.proofs.lemmas.Bool.{and_parts, cases_Bool, eqb-true}
 use Rattle.std.proofs.lemmas.Bool.Decides.{nat_tests}
 use Rattle.std.proofs.lemmas.List.{take_all}
@@ -12,8 +12,8 @@ use Rattle.pdu_header.specs.Grammar.{BeginsWith, IsPdu}
 use Rattle.pdu_header.specs.Rules.{octet, refusal}
 use Rattle.pdu_header.specs.Reading.{rest_of}
 use Rattle.pdu_header.proofs.Frames.{front, nothing_spelled, other_protocol}
-use Rattle.clnp_machine.specs.Unit.{Packet, IsCarriable, segmentation_of, value_of, wire}
-use Rattle.clnp_machine.specs.Content.{Content, Labelled, Unlabelled, IsCarried, content_of, frame_of, is_accepted, packet_from_outside, value_in}
+use Rattle.clnp_machine.specs.Unit.{IsCarriable, value_of}
+use Rattle.clnp_machine.specs.Content.{Content, Labelled, IsCarried, content_of, frame_of, is_accepted, packet_from_outside, value_in}
 use Rattle.clnp_machine.proofs.Pieces.{with_parts}
 
 follows : (end all : ℕ) (more : Bool) → end ≤ all → (more ≡ false → end ≡ all) → (end ≡ all → more ≡ false) → nat_lt end all ≡ more
@@ -35,7 +35,7 @@ value_again number moment w (Some part) pdu =
     let fits = pdu.segmentation in
     with_parts w (Some part) (Some part) (nat_lt (part.offset + length w.body) (part.total - header_length v)) w.more
     (take (length w.body) (drop (part.offset - part.offset) w.body)) w.body refl
-    (follows (part.offset + length w.body) (part.total - header_length v) w.more fits.within fits.ends.0 fits.ends.1) (body_again part.offset w.body)
+    (follows (part.offset + length w.body) (part.total - header_length v) w.more fits.range.within fits.range.ends.0 fits.range.ends.1) (body_again part.offset w.body)
 
 carriable : (number moment : ℕ) (v : PduValue) → IsPdu v → IsCarriable (packet_from_outside number moment v)
 carriable number moment v pdu = record {

@@ -1,17 +1,14 @@
 -- A system hands up only what is for its own addresses.
 use Rattle.clnp_base.proofs.Lists.{AllByRecursion-append, AllByRecursion-implies}
-use Rattle.std.proofs.Common.{◌≡◌, ℕ, zero, suc, List, [], ◌∷◌, ◌++◌, length, map, Bool, true, false, refl, subst}
+use Rattle.std.proofs.Common.{◌≡◌, ℕ, zero, suc, List, [], ◌∷◌, length, map, Bool, true, false, refl}
 use Rattle.std.specs.Prelude.{◌==◌, if◌then◌else◌, not, nat_lt, Option, None, Some, option_map}
-use Rattle.std.specs.List.{AllByRecursion, flat_map, list_any}
-use Rattle.std.specs.Str.{bytes_eq}
+use Rattle.std.specs.List.{AllByRecursion, flat_map}
 use Rattle.pdu_header.specs.declared.kind.Kind.TheVariants.{Dt}
 use Rattle.pdu_header.specs.Rules.{octet, refusal as rule_broken}
 use Rattle.clnp_options.specs.declared.judge.OptionRefusal.{OptionRefusal}
 use Rattle.reassembly.specs.Arrival.{Arrival}
 use Rattle.reassembly.specs.Buffer as buffer
 use Rattle.reassembly.specs.Buffer.{Answer, Buffer}
-use Rattle.clnp_plan.specs.Configuration.{SystemConfiguration}
-use Rattle.clnp_plan.specs.declared.ask.Ask.{Ask}
 use Rattle.clnp_plan.specs.declared.config.Role.{Role}
 use Rattle.clnp_plan.specs.declared.config.Role.TheVariants.{Host, Router}
 use Rattle.clnp_plan.specs.declared.note.Note.{Note}
@@ -22,8 +19,8 @@ use Rattle.clnp_machine.specs.Unit as unit
 use Rattle.clnp_machine.specs.Unit.{Packet, value_of, whole_packet, cut}
 use Rattle.clnp_machine.specs.Content.{Content, Labelled, Unlabelled}
 use Rattle.clnp_machine.specs.System.{SystemState, Input, AsksToSend, FrameComes, MomentComes, IsRestarted, Output, Transmits, Notes, table_limits}
-use Rattle.clnp_machine.specs.Local.{Action, Sends, Tells, Deed, and_then, tells, hand_up, is_own, is_all, most_octets, header_size, not_drawn_note, identifier_refusal, offered, takes_in, offer, receive, refusal, unit_of, unless_refused, discard_first, gives_up, give_up_due, expire, at_moment}
-use Rattle.clnp_machine.specs.Step.{Hop, next_hop, mtu_at, transmissions, first_sent, outputs_of, effect_of, passes_by, packet_comes, discard_refused, octets_come, content_comes, deed, step}
+use Rattle.clnp_machine.specs.Local.{Action, Sends, Tells, Deed, hand_up, is_own, is_all, most_octets, header_size, not_drawn_note, identifier_refusal, offered, takes_in, offer, receive, refusal, unit_of, unless_refused, discard_first, gives_up, give_up_due, expire, at_moment}
+use Rattle.clnp_machine.specs.Step.{Hop, next_hop, mtu_at, transmissions, first_sent, outputs_of, passes_by, packet_comes, discard_refused, content_comes, deed, step}
 use Rattle.clnp_machine.specs.Steps.{IsForOwn, NotesOnly}
 
 -- a note that neither hands up nor refuses, and tells of no interference

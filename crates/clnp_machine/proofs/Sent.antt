@@ -2,7 +2,7 @@
 use Rattle.clnp_base.proofs.Lists.{AllByRecursion-append, AllByRecursion-implies}
 use Rattle.std.proofs.Common.{◌≡◌, ℕ, zero, suc, ◌+◌, ◌-◌, ◌*◌, ◌/◌, ◌<◌, ◌≤◌, Bool, true, false, List, [], ◌∷◌, ◌++◌, length, map, Option, None, Some, nat_le, option_map, if◌then◌else◌, Contains, refl, subst, arith}
 use Rattle.std.specs.List.{AllByRecursion, flat_map, range_with_len}
-use Rattle.std.proofs.lemmas.List.Elements.{Contains-append_left, Contains-append_right}
+use Rattle.std.proofs.lemmas.List.Elements.{Contains-append_right}
 use Rattle.segmenter.specs.Range.{Range}
 use Rattle.segmenter.specs.Cut.{data_room, nth_range, ranges}
 use Rattle.clnp_machine.specs.Unit as unit

@@ -1,6 +1,6 @@
 -- One step of a system, whatever comes to it: hosts and routers differ in where they send, and in what they do with a
 -- packet for another address (ISO 8473, section 6; ISO 9542's hellos come later).
-use Rattle.std.specs.Prelude.{ℕ, ◌==◌, Bool, if◌then◌else◌, List, [], ◌∷◌, length, map, slice_get, Option, None, Some}
+use Rattle.std.specs.Prelude.{ℕ, ◌==◌, if◌then◌else◌, List, [], ◌∷◌, map, slice_get, Option, None, Some}
 use Rattle.std.specs.List.{flat_map}
 use Rattle.nsap.specs.declared.target.Target.{Target}
 use Rattle.nsap.specs.declared.target.Target.TheVariants.{EndSystems}
@@ -9,11 +9,9 @@ use Rattle.clnp_options.specs.declared.judge.OptionRefusal.{OptionRefusal}
 use Rattle.clnp_options.specs.Reasons.{reason_code}
 use Rattle.clnp_options.specs.declared.reasons.Reason.TheVariants.{DestinationUnknown, LifetimeExpiredInTransit, NotSpecified, SegmentationNotPermitted}
 use Rattle.pdu_header.specs.Rules.{octet, refusal as rule_broken}
-use Rattle.clnp_plan.specs.declared.ask.Ask.{Ask}
 use Rattle.clnp_plan.specs.declared.config.PortConfig.{PortConfig}
 use Rattle.clnp_plan.specs.declared.config.Role.{Role}
 use Rattle.clnp_plan.specs.declared.config.Role.TheVariants.{Host, Router}
-use Rattle.clnp_plan.specs.declared.note.Note.{Note}
 use Rattle.clnp_plan.specs.declared.note.Note.TheVariants.{Discard, NotMine, Alien, Restart}
 use Rattle.clnp_machine.specs.Unit.{Unit, Packet, whole_packet, cut}
 use Rattle.clnp_machine.specs.Content.{Content, Labelled, Unlabelled}

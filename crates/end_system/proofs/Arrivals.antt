@@ -86,9 +86,22 @@ frame_other s frame none (Labelled p following) carriable e =
 frame_other s frame none (Unlabelled octets) carried e = ap (octets_come s) (sym e)
 
 -- octets that don't begin as a CLNP PDU
-pub other_octets : (s : SystemState) (octets : List ℕ) → octet octets 1 ≢ 0x81
+other_octets : (s : SystemState) (octets : List ℕ) → octet octets 1 ≢ 0x81
     → octets_come s octets ≡ (if octet octets 1 == 0x82 then discard s (Unlabelled octets) (reason_code NotSpecified) 0 else tells s Alien)
 other_octets s octets other =
     ap (λ (b : Bool). cond b (discard_refused s octets (refusal octets))
     (cond (octet octets 1 == 0x82) (discard s (Unlabelled octets) (reason_code NotSpecified) 0) (tells s Alien)))
     (ne_eqb (octet octets 1) 0x81 other)
+
+-- octets of no protocol that is known
+pub alien_octets : (s : SystemState) (octets : List ℕ) → octet octets 1 ≢ 0x81 → octet octets 1 ≢ 0x82 → octets_come s octets ≡ tells s Alien
+alien_octets s octets other alien =
+    other_octets s octets other
+    ∙ ap (λ (b : Bool). cond b (discard s (Unlabelled octets) (reason_code NotSpecified) 0) (tells s Alien)) (ne_eqb (octet octets 1) 0x82 alien)
+
+-- octets of ISO 9542's protocol, of which none is read
+pub es_is_octets : (s : SystemState) (octets : List ℕ) → octet octets 1 ≢ 0x81 → octet octets 1 ≡ 0x82
+    → octets_come s octets ≡ discard s (Unlabelled octets) (reason_code NotSpecified) 0
+es_is_octets s octets other begins =
+    other_octets s octets other
+    ∙ ap (λ (b : Bool). cond b (discard s (Unlabelled octets) (reason_code NotSpecified) 0) (tells s Alien)) (eq-eqb (octet octets 1) 0x82 begins)

@@ -1,11 +1,11 @@
 -- The PDU is a packet's, and what is done is what the model does with it.
-use Rattle.std.proofs.Common.{◌≡◌, ◌∙◌, [], ◌∷◌, refl, sym, ap, subst}
+use Rattle.std.proofs.Common.{◌≡◌, ◌∙◌, ℕ, refl, sym, ap, subst}
 use Rattle.std.proofs.lemmas.Result.{on_ok_weaker}
 use Rattle.clnp_plan.specs.Configuration.{SystemConfiguration}
-use Rattle.clnp_plan.specs.declared.note.Note.{Note}
 use Rattle.clnp_plan.specs.declared.note.Note.TheVariants.{NotMine}
 use Rattle.clnp_machine.specs.System.{SystemState}
-use Rattle.clnp_machine.specs.Local.{Deed, Tells, at_moment, receive}
+use Rattle.clnp_machine.specs.Content.{Labelled}
+use Rattle.clnp_machine.specs.Local.{Deed, at_moment, discard, receive}
 use Rattle.local_entity.specs.Local as entity
 use Rattle.end_system.specs.State.{HostState}
 use Rattle.end_system.specs.Stands.{Stands}
@@ -13,42 +13,53 @@ use Rattle.end_system.proofs.Deeds.{appends_note, deed_expired, deed_foreign, de
 use Rattle.end_system.proofs.Packets.{frame_is, packet_carriable, packet_of}
 use Rattle.end_system.proofs.host.EndSystem.receive.Goals as goal
 
+pub discard-requires-clause-content : goal.discard-requires-clause-content
+discard-requires-clause-content c =
+    let v = c.requires.pdu.0 in
+    let rest = c.requires.pdu.1 in
+    let begins = c.requires.pdu.2 in
+    (Labelled (packet_of v) rest, packet_carriable v begins.spells.pdu, sym (frame_is c.args.frame.now v rest begins))
+
+pub returns-then-life-eq0-clause-stands : goal.returns-then-life-eq0-clause-stands
+returns-then-life-eq0-clause-stands c =
+    on_ok_weaker c.discard.result
+    (λ stands s p following h carriable frame life to.
+    subst (λ (deed : Deed). Stands c.discard.new.self deed.after)
+    (ap (λ (reason : ℕ). discard s (Labelled p following) reason 0) c.code.ensures ∙ sym (deed_expired s p following c.args.life life c.if-life-eq0.true))
+    (stands s (Labelled p following) h carriable (sym frame)))
+    c.discard.ensures.stands
+
 pub returns-then-life-eq0-clause-actions : goal.returns-then-life-eq0-clause-actions
 returns-then-life-eq0-clause-actions c =
-    on_ok_weaker c.note.result
-    (λ written s p following h carriable frame life to.
-    subst (λ (deed : Deed). entity.Appends c.args.actions.now.items c.note.new.actions.items deed.actions)
-    (sym (deed_expired s p following c.args.life life c.if-life-eq0.true))
-    (subst (λ (told : Note). entity.Appends c.args.actions.now.items c.note.new.actions.items (Tells told ∷ [])) c.discarded.ensures
-    (appends_note c.args.actions.now.items c.note.new.actions.items c.discarded.result written)))
-    c.note.ensures
-
-pub returns-then-life-eq0-clause-done : goal.returns-then-life-eq0-clause-done
-returns-then-life-eq0-clause-done c =
-    on_ok_weaker c.note.result (some_note c.args.actions.now.items c.note.new.actions.items c.discarded.result) c.note.ensures
+    on_ok_weaker c.discard.result
+    (λ gives s p following h carriable frame life to.
+    subst (λ (deed : Deed). entity.Appends c.args.actions.now.items c.discard.new.actions.items deed.actions)
+    (ap (λ (reason : ℕ). discard s (Labelled p following) reason 0) c.code.ensures ∙ sym (deed_expired s p following c.args.life life c.if-life-eq0.true))
+    (gives s (Labelled p following) h carriable (sym frame)))
+    c.discard.ensures.actions
 
 pub returns-then-not-is_own-clause-stands : goal.returns-then-not-is_own-clause-stands
 returns-then-not-is_own-clause-stands c =
-    on_ok_weaker c.note-then-not-is_own.result
+    on_ok_weaker c.note.result
     (λ written s p following h carriable frame life to.
     subst (λ (deed : Deed). Stands c.args.self.now deed.after)
     (sym (deed_foreign s c.self.inside.entity.configuration p following c.args.life c.args.to
-    (ap (λ (host : HostState). host.entity.configuration) c.self.view_is ∙ h.entity.configuration) life c.if-life-eq0.false to c.if-not-is_own.ensures)) h)
-    c.note-then-not-is_own.ensures
+    (ap (λ (host : HostState). host.entity.configuration) c.self.view_is ∙ h.entity.configuration) c.self.invariant.role life c.if-life-eq0.false to c.if-not-is_own.ensures)) h)
+    c.note.ensures
 
 pub returns-then-not-is_own-clause-actions : goal.returns-then-not-is_own-clause-actions
 returns-then-not-is_own-clause-actions c =
-    on_ok_weaker c.note-then-not-is_own.result
+    on_ok_weaker c.note.result
     (λ written s p following h carriable frame life to.
-    subst (λ (deed : Deed). entity.Appends c.args.actions.now.items c.note-then-not-is_own.new.actions.items deed.actions)
+    subst (λ (deed : Deed). entity.Appends c.args.actions.now.items c.note.new.actions.items deed.actions)
     (sym (deed_foreign s c.self.inside.entity.configuration p following c.args.life c.args.to
-    (ap (λ (host : HostState). host.entity.configuration) c.self.view_is ∙ h.entity.configuration) life c.if-life-eq0.false to c.if-not-is_own.ensures))
-    (appends_note c.args.actions.now.items c.note-then-not-is_own.new.actions.items (NotMine c.args.to) written))
-    c.note-then-not-is_own.ensures
+    (ap (λ (host : HostState). host.entity.configuration) c.self.view_is ∙ h.entity.configuration) c.self.invariant.role life c.if-life-eq0.false to c.if-not-is_own.ensures))
+    (appends_note c.args.actions.now.items c.note.new.actions.items (NotMine c.args.to) written))
+    c.note.ensures
 
 pub returns-then-not-is_own-clause-done : goal.returns-then-not-is_own-clause-done
 returns-then-not-is_own-clause-done c =
-    on_ok_weaker c.note-then-not-is_own.result (some_note c.args.actions.now.items c.note-then-not-is_own.new.actions.items (NotMine c.args.to)) c.note-then-not-is_own.ensures
+    on_ok_weaker c.note.result (some_note c.args.actions.now.items c.note.new.actions.items (NotMine c.args.to)) c.note.ensures
 
 pub invariant_of-self : goal.invariant_of-self
 invariant_of-self c =
