@@ -1,6 +1,6 @@
 -- The clock of a network is set on by the ticks among the moves, and by nothing else.
 use Rattle.std.proofs.Common.{◌≡◌, ℕ, ◌+◌, ◌-◌, ◌^◌, ◌<◌, ◌≤◌, zero, suc, Bool, true, false, if◌then◌else◌, List, [], ◌∷◌, ◌++◌, length, Option, None, Some, refl, ap, ◌∙◌, arith}
-use Rattle.std.specs.Prelude.{replicate, slice_get, slice_set}
+use Rattle.std.specs.Prelude.{replicate, slice_get}
 use Rattle.std.specs.List.{range_with_len, sum_by}
 use Rattle.std.proofs.lemmas.List.Sums.{sum-map, sum_by-cons}
 use Rattle.clnp_plan.specs.Configuration.{SystemConfiguration}
@@ -11,9 +11,9 @@ use Rattle.scenario.specs.declared.event.Event.{Event}
 use Rattle.scenario.specs.declared.event.Event.TheVariants.{Send, Deliver, Settle, Lose, Tick, Restart}
 use Rattle.scenario.specs.declared.event.Move.{Move}
 use Rattle.scenario.specs.declared.event.Move.TheVariants.{One, SettleOne, LoseOne, TickOne}
-use Rattle.clnp_machine.specs.System.{SystemState, Output, Transmits, Notes, Effect}
-use Rattle.clnp_machine.specs.Host as host
-use Rattle.clnp_network.specs.World.{World, Step, Copy, Numbered, after, first_world, copy_from, put_all_out, takes_effect, at_system, system_does, writes, is_late, give_to, give, give_each, addressees_from, settle_copy, lose_copy, deliver_to, deliver_at, is_addressee, is_void, tick_each, event_happens}
+use Rattle.clnp_machine.specs.System.{SystemState, Input, AsksToSend, MomentComes, IsRestarted, Output, Transmits, Notes, Effect}
+use Rattle.clnp_machine.specs.Step.{step}
+use Rattle.clnp_network.specs.World.{World, Step, Copy, Numbered, after, first_world, copy_from, put_all_out, with_effect, takes_effect, comes_to, comes, frame_to, writes, is_late, give_to, give, give_each, addressees_from, settle_copy, lose_copy, deliver_to, deliver_at, is_addressee, is_void, tick_each, event_happens}
 use Rattle.clnp_network.specs.Run.{moves_of_plan, world_after}
 use Rattle.clnp_world.specs.State.{WorldState}
 use Rattle.clnp_world.specs.Stands.{Stands}
@@ -26,11 +26,11 @@ of_outputs system w (Transmits port target packet ∷ outputs) =
     of_outputs system (record w { copies = w.copies ++ copy_from (slice_get system.ports port) target packet }) outputs
 
 of_effect : (w : World) (place : ℕ) (effect : Effect) → (takes_effect w place effect).world.clock ≡ w.clock
-of_effect w place effect = of_outputs effect.after.configuration (record w { systems = slice_set w.systems place effect.after }) effect.outputs
+of_effect w place effect = of_outputs effect.after.configuration (with_effect w place effect) effect.outputs
 
-of_system : (w : World) (place : ℕ) (does : SystemState → Effect) (found : Option SystemState) → (at_system w place does found).world.clock ≡ w.clock
-of_system w place does None = refl
-of_system w place does (Some system) = of_effect w place (does system)
+of_system : (w : World) (place : ℕ) (input : Input) (found : Option SystemState) → (comes_to w place input found).world.clock ≡ w.clock
+of_system w place input None = refl
+of_system w place input (Some system) = of_effect w place (step system input)
 
 either : (first : Bool) (one other : Step) (now : ℕ) → one.world.clock ≡ now → other.world.clock ≡ now → (if first then one else other).world.clock ≡ now
 either true one other now p q = p
@@ -40,7 +40,7 @@ of_giving : (limits : Limits) (given : Numbered) (w : World) (place : ℕ) (foun
 of_giving limits given w place None = refl
 of_giving limits given w place (Some system) =
     either (is_late limits w given.copy) (writes w (Late w.clock system.configuration.name given.number))
-    (takes_effect w place (host.arrive system given.copy.content)) w.clock refl (of_effect w place (host.arrive system given.copy.content))
+    (takes_effect w place (step system (frame_to system given.copy))) w.clock refl (of_effect w place (step system (frame_to system given.copy)))
 
 of_giving_each : (limits : Limits) (given : Numbered) (w : World) (places : List ℕ) → (give_each limits given w places).world.clock ≡ w.clock
 of_giving_each limits given w [] = refl
@@ -71,8 +71,8 @@ of_delivery_at limits w number place (Some system) = of_delivery limits w number
 of_ticking : (w : World) (places : List ℕ) → (tick_each w places).world.clock ≡ w.clock
 of_ticking w [] = refl
 of_ticking w (place ∷ places) =
-    of_ticking (system_does w place (λ system. host.tick system w.clock)).world places
-    ∙ of_system w place (λ system. host.tick system w.clock) (slice_get w.systems place)
+    of_ticking (comes w place (MomentComes w.clock)).world places
+    ∙ of_system w place (MomentComes w.clock) (slice_get w.systems place)
 
 of_event : (limits : Limits) (w : World) (event : Option Event) → (event_happens limits w event).world.clock ≡ w.clock
 of_event limits w None = refl
@@ -80,9 +80,9 @@ of_event limits w (Some (Settle count)) = refl
 of_event limits w (Some (Lose count)) = refl
 of_event limits w (Some (Tick count)) = refl
 of_event limits w (Some (Deliver copy system)) = of_delivery_at limits w copy system (slice_get w.systems system)
-of_event limits w (Some (Restart system)) = of_system w system host.restart (slice_get w.systems system)
+of_event limits w (Some (Restart system)) = of_system w system IsRestarted (slice_get w.systems system)
 of_event limits w (Some (Send system from to body ask)) =
-    of_system w system (λ (s : SystemState). host.send s from to (octets_of body) ask) (slice_get w.systems system)
+    of_system w system (AsksToSend from to (octets_of body) ask) (slice_get w.systems system)
 
 pub clock_after : (plan : Plan) (w : World) (move : Move) → (after plan w move).world.clock ≡ w.clock + tick_of move
 clock_after plan w (One place) = omega (arith, of_event plan.limits w (slice_get plan.events place))
