@@ -220,6 +220,8 @@ impl EndSystem {
     pub fn next_hop(&self, to: &Address) -> Target
         ensures { (s : SystemState) → Stands self.now s → next_hop s to.now ≡ Some (record { port = 0; target = result }) }
     {
+        // Only a host does so.
+        let _ = &self.entity;
         Target::EndSystems
     }
 
