@@ -1,6 +1,6 @@
 -- What `decode` says of a frame determines what is done where it comes.
 use Rattle.std.proofs.Common.{◌≡◌, ◌≢◌, ◌∙◌, refl, sym, ap, subst, ℕ, Bool, true, false, Option, Some, None, List, ◌++◌, cond, option_map}
-use Rattle.std.specs.Prelude.{◌==◌, if◌then◌else◌}
+use Rattle.std.specs.Prelude.{◌==◌}
 use Rattle.std.proofs.lemmas.Bool.{ne_eqb, eq-eqb}
 use Rattle.clnp_options.specs.declared.judge.OptionRefusal.{OptionRefusal}
 use Rattle.pdu_header.specs.declared.pdu.Refusal.{Refusal}
@@ -68,16 +68,6 @@ frame_broken s frame broken why none (Labelled p following) carriable e =
 frame_broken s frame broken why none (Unlabelled octets) carried e =
     sym (octets_broken s octets broken (ap why_refused e ∙ why))
 
-never_told : (octets : List ℕ) (least : Option OptionRefusal) → option_map (told octets) least ≡ Some refused.NotClnp → ⊥
-never_told octets None e = absurd (cc)
-never_told octets (Some least) e = absurd (cc)
-
--- a frame that is refused since it is no CLNP PDU doesn't begin as one
-pub begins_otherwise : (frame : List ℕ) → why_refused frame ≡ Some refused.NotClnp → octet frame 1 ≢ 0x81
-begins_otherwise frame why begun =
-    never_told frame (refusal frame)
-    (subst (λ (b : Bool). cond b (option_map (told frame) (refusal frame)) (Some refused.NotClnp) ≡ Some refused.NotClnp) (eq-eqb (octet frame 1) 0x81 begun) why)
-
 -- what is done where octets come is done where a frame of them comes
 pub frame_other : (s : SystemState) (frame : List ℕ) → ((v : PduValue) (rest : List ℕ) → BeginsWith frame v rest → ⊥)
     → (content : Content) → IsCarried content → frame_of content ≡ frame → octets_come s frame ≡ content_comes s content
@@ -85,23 +75,11 @@ frame_other s frame none (Labelled p following) carriable e =
     absurd (none (value_of p) following (record { octets = wire p; spells = record { pdu = carriable.pdu; octets_are = refl }; split = sym e }))
 frame_other s frame none (Unlabelled octets) carried e = ap (octets_come s) (sym e)
 
--- octets that don't begin as a CLNP PDU
-other_octets : (s : SystemState) (octets : List ℕ) → octet octets 1 ≢ 0x81
-    → octets_come s octets ≡ (if octet octets 1 == 0x82 then discard s (Unlabelled octets) (reason_code NotSpecified) 0 else tells s Alien)
-other_octets s octets other =
-    ap (λ (b : Bool). cond b (discard_refused s octets (refusal octets))
-    (cond (octet octets 1 == 0x82) (discard s (Unlabelled octets) (reason_code NotSpecified) 0) (tells s Alien)))
-    (ne_eqb (octet octets 1) 0x81 other)
-
--- octets of no protocol that is known
-pub alien_octets : (s : SystemState) (octets : List ℕ) → octet octets 1 ≢ 0x81 → octet octets 1 ≢ 0x82 → octets_come s octets ≡ tells s Alien
-alien_octets s octets other alien =
-    other_octets s octets other
-    ∙ ap (λ (b : Bool). cond b (discard s (Unlabelled octets) (reason_code NotSpecified) 0) (tells s Alien)) (ne_eqb (octet octets 1) 0x82 alien)
-
 -- octets of ISO 9542's protocol, of which none is read
 pub es_is_octets : (s : SystemState) (octets : List ℕ) → octet octets 1 ≢ 0x81 → octet octets 1 ≡ 0x82
     → octets_come s octets ≡ discard s (Unlabelled octets) (reason_code NotSpecified) 0
 es_is_octets s octets other begins =
-    other_octets s octets other
+    ap (λ (b : Bool). cond b (discard_refused s octets (refusal octets))
+    (cond (octet octets 1 == 0x82) (discard s (Unlabelled octets) (reason_code NotSpecified) 0) (tells s Alien)))
+    (ne_eqb (octet octets 1) 0x81 other)
     ∙ ap (λ (b : Bool). cond b (discard s (Unlabelled octets) (reason_code NotSpecified) 0) (tells s Alien)) (eq-eqb (octet octets 1) 0x82 begins)

@@ -220,6 +220,8 @@ impl EndSystem {
     pub fn next_hop(&self, to: &Address) -> Target
         ensures { (s : SystemState) → Stands self.now s → next_hop s to.now ≡ Some (record { port = 0; target = result }) }
     {
+        // Only a host does so.
+        let _ = &self.entity;
         Target::EndSystems
     }
 
@@ -344,7 +346,8 @@ impl EndSystem {
         ensures moment { self.new.moment ≡ self.old.moment }
         ensures config { self.new.entity.configuration ≡ self.old.entity.configuration }
     {
-        self.entity.discard(alloc, self.moment, frame, reason, place, actions)
+        self.entity
+            .discard(alloc, self.moment, frame, reason, place, actions)
     }
 
     /// What is done where a PDU comes: its lifetime is over (ISO 8473, section 6.4), or it is for the host (section 6.2),

@@ -1,5 +1,5 @@
 //! Data unit identifiers.
-ghost use Rattle.std.specs.Prelude.{◌≡◌, ◌<◌, ◌≤◌, ◌+◌, ◌%◌, ◌^◌, ℕ, [], ◌∷◌, ◌++◌, MatchResult, IfOk, OnErr, None, Some, length, slice_get, slice_set};
+ghost use Rattle.std.specs.Prelude.{◌≡◌, ◌<◌, ◌≤◌, ◌+◌, ◌%◌, ◌^◌, [], ◌∷◌, ◌++◌, MatchResult, IfOk, OnErr, None, Some, length, slice_get, slice_set};
 ghost use Rattle.clnp_machine.specs.Identifiers.{Identifiers, after_use, drawn, next, not_drawn, opening, restarted};
 ghost use Rattle.local_entity.specs.Pool.{Stands, told};
 

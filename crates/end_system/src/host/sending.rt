@@ -8,6 +8,7 @@ ghost use Rattle.clnp_machine.specs.Step.{mtu_of, outputs_of};
 ghost use Rattle.clnp_machine.specs.Unit.{Unit};
 ghost use Rattle.clnp_machine.specs.Local as local;
 ghost use Rattle.clnp_machine.specs.Local.{Sends};
+ghost use Rattle.clnp_plan.specs.declared.config.Role.TheVariants.{Host};
 ghost use Rattle.clnp_plan.specs.declared.output.Output.TheVariants.{Transmit, Note as Noted};
 ghost use Rattle.segmenter.specs.Left.{IsCutOf};
 ghost use Rattle.local_entity.specs.declared.action.Action.TheVariants.{Send};
@@ -84,6 +85,7 @@ impl EndSystem {
     fn mtu(&self) -> u16
         ensures port { result ≡ mtu_of (slice_get self.now.entity.configuration.ports 0) }
         ensures least { 512 ≤ result }
+        ensures role { self.now.entity.configuration.role ≡ Host }
     {
         let config = self.entity.config();
         config.is_system();

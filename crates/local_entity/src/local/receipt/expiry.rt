@@ -1,5 +1,5 @@
 //! Reassembly buffers whose time has ended (ISO/IEC 8473, section 6.9).
-ghost use Rattle.std.specs.Prelude.{◌≡◌, ◌<◌, ◌≤◌, ◌+◌, ◌^◌, ◌++◌, ◌∷◌, [], if◌then◌else◌, ℕ, List, None, OnOk, OnErr, is_some, vec_capacity, vec_len};
+ghost use Rattle.std.specs.Prelude.{◌≡◌, ◌<◌, ◌≤◌, ◌+◌, ◌^◌, ◌++◌, ◌∷◌, [], if◌then◌else◌, ℕ, List, OnOk, OnErr, is_some, vec_capacity, vec_len};
 ghost use Rattle.clnp_views.specs.Extent.{Extent};
 ghost use Rattle.reassembly.specs.Buffer as buffer;
 ghost use Rattle.reassembly.specs.Buffer.{Buffer};

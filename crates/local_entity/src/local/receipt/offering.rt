@@ -1,5 +1,5 @@
 //! Segments that are offered to the reassembly buffers (ISO/IEC 8473, section 6.8).
-ghost use Rattle.std.specs.Prelude.{◌≡◌, ◌≢◌, ◌≤◌, ◌<◌, ◌+◌, ◌^◌, ◌++◌, ◌∷◌, [], ℕ, List, Some, IfOk, OnOk, OnErr, vec_capacity, vec_len};
+ghost use Rattle.std.specs.Prelude.{◌≡◌, ◌≢◌, ◌≤◌, ◌<◌, ◌+◌, ◌^◌, [], List, Some, IfOk, OnOk, OnErr, vec_capacity, vec_len};
 ghost use Rattle.clnp_views.specs.Extent.{Extent};
 ghost use Rattle.reassembly.specs.Arrival.{Arrival, data_len, octet_in};
 ghost use Rattle.reassembly.specs.Buffer as buffer;

@@ -29,3 +29,6 @@ returns-clause-least c =
     let role : c.config-config.result.now.role ≡ Host = ap (λ (s : SystemConfiguration). s.role) c.config-config.ensures ∙ c.self.invariant.role in
     let mtu = mtu_is c.config-config.result.now c.ports.result.now c.index-ports-0.result c.ports.ensures c.is_system.ensures role in
     subst (λ (n : ℕ). 512 ≤ n) (sym mtu) (mtu_least c.config-config.result.now c.is_system.ensures role)
+
+pub returns-clause-role : goal.returns-clause-role
+returns-clause-role c = sym (ap (λ (h : HostState). h.entity.configuration.role) c.self.view_is) ∙ c.self.invariant.role

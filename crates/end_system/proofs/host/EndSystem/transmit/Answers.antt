@@ -8,7 +8,6 @@ use Rattle.clnp_plan.specs.declared.output.Output.TheVariants.{Note as Told}
 use Rattle.clnp_machine.specs.Unit.{value_of, whole_packet}
 use Rattle.std.specs.Prelude.{slice_get}
 use Rattle.clnp_machine.specs.Step.{mtu_of}
-use Rattle.end_system.specs.State.{HostState}
 use Rattle.end_system.proofs.Sent.{unit_is_dropped, unit_is_sent, unit_length}
 use Rattle.end_system.proofs.host.EndSystem.transmit.Goals as goal
 
@@ -31,7 +30,7 @@ returns-in-Ok c =
     c.in-Ok.cuts c.args.out.now.items c.give_pieces.new.out.items (record { spells = does.1; shown = does.2; whole = all })
     (ap length c.bytes-octets.ensures.octets) c.new.ensures.cut c.in-Ok.is
     (c.mtu.ensures.port ∙ ap (λ (configuration : SystemConfiguration). mtu_of (slice_get configuration.ports 0)) same)
-    (ap (λ (configuration : SystemConfiguration). configuration.role) (sym same ∙ sym (ap (λ (h : HostState). h.entity.configuration) c.self.view_is)) ∙ c.self.invariant.role) c.mtu.ensures.least fresh.0 fresh.1 written)
+    (ap (λ (configuration : SystemConfiguration). configuration.role) (sym same) ∙ c.mtu.ensures.role) c.mtu.ensures.least fresh.0 fresh.1 written)
     c.give_pieces.ensures
 
 pub returns-in-Err : goal.returns-in-Err
@@ -43,6 +42,6 @@ returns-in-Err c =
     c.in-Err.field-0 c.args.out.now.items c.give_note.new.out.items (record { spells = does.1; shown = does.2; whole = all })
     (ap length c.bytes-octets.ensures.octets) c.new.ensures.cut c.in-Err.is
     (c.mtu.ensures.port ∙ ap (λ (configuration : SystemConfiguration). mtu_of (slice_get configuration.ports 0)) same)
-    (ap (λ (configuration : SystemConfiguration). configuration.role) (sym same ∙ sym (ap (λ (h : HostState). h.entity.configuration) c.self.view_is)) ∙ c.self.invariant.role) c.mtu.ensures.least fresh.1
+    (ap (λ (configuration : SystemConfiguration). configuration.role) (sym same) ∙ c.mtu.ensures.role) c.mtu.ensures.least fresh.1
     (subst (λ (told : Note). c.give_note.new.out.items ≡ c.args.out.now.items ++ Told told ∷ []) c.discarded.ensures written))
     c.give_note.ensures
