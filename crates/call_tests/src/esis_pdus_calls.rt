@@ -1,7 +1,5 @@
 //! ES-IS PDUs. All have the holding time 120.
-use esis_pdus::{
-    AddressList, EsisBody, EsisRefusal, HelloRefusal, decode, encode, esh, ish, rd,
-};
+use esis_pdus::{AddressList, EsisBody, EsisRefusal, HelloRefusal, decode, encode, esh, ish, rd};
 use nsap::{Address, Snpa};
 use std::alloc::Global;
 use std::test::Fail;
@@ -13,12 +11,10 @@ const HOST: &[u8] = b"\x82\x0f\x01\x00\x02\x00\x78\x32\x4b\x01\x04\x47\x00\x27\x
 const ROUTER: &[u8] = b"\x82\x0e\x01\x00\x04\x00\x78\xb1\xcd\x04\x47\x00\x27\xff";
 
 /// The same with a suggested timer of 30 seconds.
-const SUGGESTS: &[u8] =
-    b"\x82\x12\x01\x00\x04\x00\x78\x5b\x39\x04\x47\x00\x27\xff\xc6\x02\x00\x1e";
+const SUGGESTS: &[u8] = b"\x82\x12\x01\x00\x04\x00\x78\x5b\x39\x04\x47\x00\x27\xff\xc6\x02\x00\x1e";
 
 /// The redirect towards 47002701, which is itself at the subnetwork address 02.
-const REDIRECT: &[u8] =
-    b"\x82\x11\x01\x00\x06\x00\x78\xad\xc8\x04\x47\x00\x27\x01\x01\x02\x00";
+const REDIRECT: &[u8] = b"\x82\x11\x01\x00\x06\x00\x78\xad\xc8\x04\x47\x00\x27\x01\x01\x02\x00";
 
 #[test]
 fn makes_the_worked_pdus(rt: HostRuntime) -> Result<(), Fail> {
@@ -32,8 +28,10 @@ fn makes_the_worked_pdus(rt: HostRuntime) -> Result<(), Fail> {
     assert!(rt; ish(120, &title, Some(30), true).as_bytes() == SUGGESTS);
     assert!(rt; rd(120, &to, &via, None, true).as_bytes() == REDIRECT);
     let other = rd(120, &to, &via, Some(&title), false);
-    assert!(rt; other.as_bytes()
-        == b"\x82\x15\x01\x00\x06\x00\x78\x00\x00\x04\x47\x00\x27\x01\x01\x02\x04\x47\x00\x27\xff".as_slice());
+    assert!(rt;
+        other.as_bytes()
+            == b"\x82\x15\x01\x00\x06\x00\x78\x00\x00\x04\x47\x00\x27\x01\x01\x02\x04\x47\x00\x27\xff".as_slice()
+    );
     Ok(())
 }
 
