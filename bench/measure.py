@@ -1,25 +1,23 @@
 #!/usr/bin/env python3
 """Runs the program and a plain Rust program on one input, in turn, and prints the best time of each, its rate, its
-peak of memory, and the ratio of both times. Their outputs must be the same.
+peak of memory, and the ratio of both times. Their outputs must be the same. The time is that of the processor, so that
+other work on the machine changes it little.
 
 usage: bench/measure.py RUNS INPUT PROGRAM COMMAND PLAIN
 """
 import os
 import subprocess
 import sys
-import time
 
 
 def run(command, source, target):
-    """The seconds and the peak in KiB of one run."""
+    """The seconds on the processor and the peak in KiB of one run."""
     with open(source, "rb") as given, open(target, "wb") as taken:
-        begun = time.monotonic()
         process = subprocess.Popen(command, stdin=given, stdout=taken)
         _, status, used = os.wait4(process.pid, 0)
-        seconds = time.monotonic() - begun
     if status != 0:
         sys.exit(f"{command} ended with {status}")
-    return seconds, used.ru_maxrss
+    return used.ru_utime + used.ru_stime, used.ru_maxrss
 
 
 def main():

@@ -1,5 +1,5 @@
 #!/usr/bin/env bash
-# Measures `clnp show` beside a plain Rust program that does the same: 200,000 short frames, and 20,000 of 1,400 octets.
+# Measures `clnp show` beside a plain Rust program that does the same: 200,000 short frames, and 5,000 of 1,400 octets.
 # Each is the best of so many runs of both, in turn. It needs rustc.
 # usage: bench/show.sh [RUNS]
 set -eu
@@ -27,7 +27,7 @@ with open(sys.argv[1] + "/short", "w") as out:
             frame[random.randrange(len(frame))] = random.randrange(256)
         out.write(frame.hex() + "\n")
 with open(sys.argv[1] + "/long", "w") as out:
-    for number in range(20_000):
+    for number in range(5_000):
         length = 1_400
         header = "8113010a3c" + length.to_bytes(2, "big").hex() + "0000" + "04470027010447002702"
         out.write(header + random.randbytes(length - 19).hex() + "\n")

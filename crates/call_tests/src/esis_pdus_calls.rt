@@ -89,23 +89,10 @@ fn reads_addresses_in_order(rt: HostRuntime) -> Result<(), Fail> {
     Ok(())
 }
 
-/// The octets of the title in a frame's intermediate system hello.
-fn title_again(alloc: Global, frame: &[u8]) -> Option<Vec<u8>> {
-    let Ok(pdu) = decode(frame) else {
-        return None;
-    };
-    match pdu.body {
-        EsisBody::Ish { title } => Vec::from_slice(alloc, title.as_bytes()).ok(),
-        EsisBody::Esh { .. } | EsisBody::Rd { .. } => None,
-    }
-}
-
 #[test]
 fn reads_fields(rt: HostRuntime) -> Result<(), Fail> {
     let mut frame = SUGGESTS.to_vec(rt.alloc())?;
     frame.push(0xff)?;
-    let title = title_again(rt.alloc(), &frame).ok_or("no title")?;
-    assert!(rt; title.as_slice() == b"\x47\x00\x27\xff".as_slice());
     let mut read = false;
     if let Ok(pdu) = decode(frame.as_slice()) {
         assert!(rt; pdu.sum == 0x5b39 && pdu.suggested == Some(30));

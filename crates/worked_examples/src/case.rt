@@ -44,6 +44,7 @@ pub fn take_line<'a>(case: &mut Case<'a>, line: &'a [u8]) -> Result<(), AllocErr
         [] | [b'#', ..] => {}
         [b'<'] => push_line(b"", &mut case.input)?,
         [b'<', b' ', text @ ..] => push_line(text, &mut case.input)?,
+        [b'(', b' ', text @ ..] => push_returned_line(text, &mut case.input)?,
         [b'[', b' ', text @ ..] => case.input.extend_from_slice(text)?,
         [b'>', b' ', text @ ..] => push_line(text, &mut case.output)?,
         [b'!', b' ', text @ ..] => push_line(text, &mut case.said)?,
@@ -69,6 +70,13 @@ fn take_selection<'a>(case: &mut Case<'a>, text: &'a [u8]) {
         Some(selection) => case.selection = selection,
         None => case.is_read = false,
     }
+}
+
+/// Appends a line that ends in a carriage return and a line feed.
+fn push_returned_line(text: &[u8], out: &mut Vec<u8>) -> Result<(), AllocError> {
+    out.extend_from_slice(text)?;
+    out.extend_from_slice(b"\r\n")?;
+    Ok(())
 }
 
 /// Appends a line and its end.

@@ -10,6 +10,7 @@
 //! ? NUMBER      the exit number; 0 where this line isn't there
 //! ~ SELECTION   which lines of the output are compared; all where this line isn't there
 //! < TEXT        a line of the input
+//! ( TEXT        a line of the input that ends in a carriage return and a line feed
 //! [ TEXT        the end of the input, without a line end
 //! > TEXT        a line of the output, among those that are compared
 //! ! TEXT        a line on standard error

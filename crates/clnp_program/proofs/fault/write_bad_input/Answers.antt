@@ -14,6 +14,7 @@ behind (Err e) a b c front number mark rest p q = tt
 
 pub returns-clause-written : goal.returns-clause-written
 returns-clause-written g c =
+    let name : c.as_bytes.result.now ≡ code_name c.args.code = c.as_bytes.ensures.value ∙ c.code_name.ensures in
     behind c.write_pair.result (g.K.Sink.written c.args.errors.now) (g.K.Sink.written c.write_number.new.errors) (g.K.Sink.written c.write_pair.new.errors)
     (codes "clnp: bad input at line ") (decimal c.args.line) (codes ": ") (code_name c.args.code ++ (10 ∷ []))
-    (rw c.from.ensures at c.in_ok-write_number.ensures.written) (rw c.code_name.ensures at (rw c.as_bytes.ensures at c.write_pair.ensures.written))
+    (rw c.from.ensures at c.in_ok-write_number.ensures.written) (rw name at c.write_pair.ensures.written)
