@@ -1,5 +1,5 @@
-//! Tests of the public calls of the crates: worked examples, and a happy path of each call that
-//! takes memory. A module for each crate.
+//! Tests of the public calls of the crates below the machine of a system: worked examples, and a happy
+//! path of each call that takes memory. A module for each crate.
 #![tactic(auto)]
 
 #[cfg(test)]
@@ -7,27 +7,17 @@ mod captures_calls;
 #[cfg(test)]
 mod clnp_base_calls;
 #[cfg(test)]
-mod clnp_commands_calls;
-#[cfg(test)]
 mod clnp_options_calls;
 #[cfg(test)]
 mod clnp_plan_calls;
 #[cfg(test)]
-mod clnp_program_calls;
-#[cfg(test)]
 mod clnp_views_calls;
-#[cfg(test)]
-mod clnp_world_calls;
-#[cfg(test)]
-mod end_system_calls;
 #[cfg(test)]
 mod esis_pdus_calls;
 #[cfg(test)]
 mod esis_tables_calls;
 #[cfg(test)]
 mod fletcher_calls;
-#[cfg(test)]
-mod local_entity_calls;
 #[cfg(test)]
 mod nsap_calls;
 #[cfg(test)]

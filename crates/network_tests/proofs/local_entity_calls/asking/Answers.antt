@@ -2,7 +2,7 @@
 use Rattle.std.proofs.Common.{List, ℕ, false, refl, sym, subst}
 use Rattle.clnp_options.specs.Grammar.{FitsKind}
 use Rattle.clnp_options.specs.Parameter.{parameters}
-use Rattle.call_tests.proofs.local_entity_calls.asking.Goals as goal
+use Rattle.network_tests.proofs.local_entity_calls.asking.Goals as goal
 
 pub returns : goal.returns
 returns g c =
