@@ -12,7 +12,7 @@ use Rattle.reassembly.specs.Buffer.{Answer, Buffer}
 use Rattle.clnp_plan.specs.declared.config.Role.{Role}
 use Rattle.clnp_plan.specs.declared.config.Role.TheVariants.{Host, Router}
 use Rattle.clnp_plan.specs.declared.note.Note.{Note}
-use Rattle.clnp_plan.specs.declared.note.Note.TheVariants.{Refused, Got, Interference}
+use Rattle.clnp_plan.specs.declared.note.Note.TheVariants.{Refused, Got, Interference, Alien}
 use Rattle.clnp_plan.specs.declared.note.Why.TheVariants as why
 use Rattle.clnp_machine.specs.Identifiers.{NotDrawn, IsQuiet, IsBusy, not_drawn}
 use Rattle.clnp_machine.specs.Unit as unit
@@ -23,11 +23,12 @@ use Rattle.clnp_machine.specs.Local.{Action, Sends, Tells, Deed, hand_up, is_own
 use Rattle.clnp_machine.specs.Step.{Hop, next_hop, mtu_at, transmissions, first_sent, outputs_of, passes_by, packet_comes, discard_refused, content_comes, deed, step}
 use Rattle.clnp_machine.specs.Steps.{IsForOwn, NotesOnly}
 
--- a note that neither hands up nor refuses, and tells of no interference
+-- a note that neither hands up nor refuses, and tells of no interference and of no frame of no protocol
 abbrev pub NoteIsQuiet : Note → Type 0
 NoteIsQuiet (Got from to octets) = ⊥
 NoteIsQuiet (Refused why value) = ⊥
 NoteIsQuiet (Interference id) = ⊥
+NoteIsQuiet Alien = ⊥
 NoteIsQuiet _ = Unit {0}
 
 -- an action tells only what Q holds of

@@ -2,7 +2,7 @@
 -- reassembly than it may.
 use Rattle.std.specs.Prelude.{◌≡◌, ℕ, ◌+◌, ◌≤◌, ◌⊎◌, List, [], ◌∷◌, ◌++◌, slice_get, Option, Some, AllPairs}
 use Rattle.clnp_plan.specs.Journal.{Line, Noted}
-use Rattle.clnp_plan.specs.declared.note.Note.TheVariants.{Refused, Got, Interference}
+use Rattle.clnp_plan.specs.declared.note.Note.TheVariants.{Refused, Got, Interference, Alien}
 use Rattle.scenario.specs.Scenario.{Plan, octets_of}
 use Rattle.scenario.specs.declared.event.Event.{Event}
 use Rattle.scenario.specs.declared.event.Event.TheVariants.{Send}
@@ -106,3 +106,9 @@ abbrev pub NoInterference : List Line → Type 0
 NoInterference [] = Unit {0}
 NoInterference (Noted now name (Interference id) ∷ lines) = ⊥
 NoInterference (_ ∷ lines) = NoInterference lines
+
+-- no line says that a frame belonged to no protocol
+abbrev pub NoneIsAlien : List Line → Type 0
+NoneIsAlien [] = Unit {0}
+NoneIsAlien (Noted now name Alien ∷ lines) = ⊥
+NoneIsAlien (_ ∷ lines) = NoneIsAlien lines

@@ -23,7 +23,7 @@ use Rattle.clnp_network.specs.Safe.{IsSend, WasSent}
 use Rattle.clnp_safety.specs.Invariant.{NoteIsHonest, SystemIsSound, UnitIsSound, UnitsAreSound, WorldIsSound}
 use Rattle.clnp_safety.specs.Outputs.{OutputIsSound}
 use Rattle.clnp_safety.proofs.Past.{sent_last, units_later}
-use Rattle.clnp_safety.proofs.Lines.{LineIs, lines_are, lines_are_apart, lines_are_honest, quiet_is_honest, quiet_lines_refuse_nothing}
+use Rattle.clnp_safety.proofs.Lines.{LineIs, lines_are, lines_are_apart, lines_are_honest, lines_are_known, quiet_is_honest, quiet_lines_refuse_nothing}
 use Rattle.clnp_safety.proofs.Steps.{Keeps, keeps-map}
 use Rattle.clnp_safety.proofs.Outputs.{Stands, takes_effect_notes, takes_effect_stands}
 use Rattle.clnp_safety.proofs.SendAsked.{asked_is_new, asked_is_sound}
@@ -107,6 +107,7 @@ module _ (plan : Plan) (fit : IsFit plan) (past : List Entry) (move : Move) (w :
             (sound_with plan (past ++ entry ∷ []) w.clock Each later (sending w place s this).world units_are_sound world_stands);
         honest = lines_are_honest plan past (sending w place s this).lines honest;
         apart = lines_are_apart plan past (sending w place s this).lines honest;
+        known = lines_are_known plan past (sending w place s this).lines honest;
       }
 
     refusing_is_sound : (note : Note) → IsRefusal (Some note) → MoveIsSound plan past move (refusing w place s this note)

@@ -3,10 +3,10 @@ use Rattle.clnp_base.proofs.Lists.{AllByRecursion-implies}
 use Rattle.std.proofs.Common.{◌≡◌, ℕ, List, [], ◌∷◌, inl, inr, subst}
 use Rattle.clnp_plan.specs.Journal.{Line, Noted}
 use Rattle.clnp_plan.specs.declared.note.Note.{Note}
-use Rattle.clnp_plan.specs.declared.note.Note.TheVariants.{Refused, Got, Interference}
+use Rattle.clnp_plan.specs.declared.note.Note.TheVariants.{Refused, Got, Interference, Alien}
 use Rattle.scenario.specs.Scenario.{Plan}
 use Rattle.clnp_network.specs.Run.{Entry}
-use Rattle.clnp_network.specs.Safe.{HandsUp, NoRefusal, NoInterference, WasSent}
+use Rattle.clnp_network.specs.Safe.{HandsUp, NoRefusal, NoInterference, NoneIsAlien, WasSent}
 use Rattle.std.specs.List.{AllByRecursion}
 use Rattle.clnp_machine.proofs.Own.{NoteIsQuiet}
 use Rattle.clnp_safety.specs.Invariant.{NoteIsHonest}
@@ -46,9 +46,16 @@ lines_are_apart plan past [] h = tt
 lines_are_apart plan past (Noted now name (Interference id) ∷ lines) h = h.0
 lines_are_apart plan past (_ ∷ lines) h = lines_are_apart plan past lines h.1
 
+-- and each frame is of a protocol
+pub lines_are_known : (plan : Plan) (past : List Entry) (lines : List Line) → AllByRecursion (LineIs (NoteIsHonest plan past)) lines → NoneIsAlien lines
+lines_are_known plan past [] h = tt
+lines_are_known plan past (Noted now name Alien ∷ lines) h = h.0
+lines_are_known plan past (_ ∷ lines) h = lines_are_known plan past lines h.1
+
 pub quiet_is_honest : (plan : Plan) (past : List Entry) (note : Note) → NoteIsQuiet note → NoteIsHonest plan past note
 quiet_is_honest plan past (Got from to octets) h = absurd h
 quiet_is_honest plan past (Interference id) h = h
+quiet_is_honest plan past Alien h = h
 quiet_is_honest plan past _ h = tt
 
 line_is : (P Q : Note → Type 0) → ((note : Note) → P note → Q note) → (line : Line) → LineIs P line → LineIs Q line

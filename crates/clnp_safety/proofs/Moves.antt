@@ -4,10 +4,10 @@ use Rattle.scenario.specs.Scenario.{Plan}
 use Rattle.scenario.specs.declared.event.Move.{Move}
 use Rattle.clnp_network.specs.World.{World, Step, nothing}
 use Rattle.clnp_network.specs.Run.{Entry}
-use Rattle.clnp_network.specs.Safe.{NoInterference}
+use Rattle.clnp_network.specs.Safe.{NoInterference, NoneIsAlien}
 use Rattle.clnp_safety.specs.Invariant.{NoteIsHonest, SystemIsSound, UnitsAreSound, SystemsAreSound, WorldIsSound}
 use Rattle.clnp_safety.proofs.Past.{units_later}
-use Rattle.clnp_safety.proofs.Lines.{LineIs, LinesAreHonest, lines_are_honest, lines_are_apart}
+use Rattle.clnp_safety.proofs.Lines.{LineIs, LinesAreHonest, lines_are_honest, lines_are_apart, lines_are_known}
 use Rattle.clnp_safety.proofs.Steps.{Keeps}
 use Rattle.clnp_safety.proofs.Effects.{IsSoundWith}
 
@@ -29,11 +29,12 @@ sound_from_clock plan past now w k = record {
 }
 
 -- the world after the move is sound beside the past with the move's entry, and its lines hand up only
--- what the past before it sent, and tell of no interference
+-- what the past before it sent, and tell of no interference and of no alien frame
 pub record MoveIsSound (plan : Plan) (past : List Entry) (move : Move) (taken : Step) : Type 0 where
   pub world : WorldIsSound plan (past ++ record { move = move; lines = taken.lines } ∷ []) taken.world
   pub honest : LinesAreHonest plan past taken.lines
   pub apart : NoInterference taken.lines
+  pub known : NoneIsAlien taken.lines
 
 -- a move that keeps a world sound beside the past
 pub kept_is_sound : (plan : Plan) (past : List Entry) (move : Move) (now : ℕ) (taken : Step)
@@ -45,6 +46,7 @@ kept_is_sound plan past move now taken kept =
           (record { made = units_later plan past (entry ∷ []) now now taken.world.units (omega arith) kept.world.made; stands = kept.world.stands });
       honest = lines_are_honest plan past taken.lines kept.lines;
       apart = lines_are_apart plan past taken.lines kept.lines;
+      known = lines_are_known plan past taken.lines kept.lines;
     }
 
 pub nothing_is_sound : (plan : Plan) (past : List Entry) (move : Move) (w : World) → WorldIsSound plan past w → MoveIsSound plan past move (nothing w)

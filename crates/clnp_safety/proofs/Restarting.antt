@@ -25,16 +25,16 @@ pub restart_is_sound : (plan : Plan) (past : List Entry) (units : List unit.Unit
     → UnitsAreSound plan past now units → SystemIsSound plan units now place s
     → SystemIsSound plan units now place (restart s).after
 restart_is_sound plan past units now place s made sound =
-  record {
-    stands_at = sound.stands_at;
-    declared = sound.declared;
-    hold = sound.hold;
-    moment = sound.moment;
-    reuse = sound.reuse;
-    uses = no_uses now;
-    used = λ u within maker. rests_in_quiet plan past units now place s made sound u within;
-    buffers = tt;
-    not_due = tt;
-    not_whole = tt;
-    budget = omega arith;
-  }
+    record {
+      stands_at = sound.stands_at;
+      declared = sound.declared;
+      hold = sound.hold;
+      moment = sound.moment;
+      reuse = sound.reuse;
+      uses = no_uses now;
+      used = λ u within maker. rests_in_quiet plan past units now place s made sound u within;
+      buffers = tt;
+      not_due = tt;
+      not_whole = tt;
+      budget = omega arith;
+    }

@@ -17,7 +17,7 @@ use Rattle.reassembly.specs.Arrival.{Arrival}
 use Rattle.reassembly.specs.Buffer.{Buffer}
 use Rattle.clnp_network.specs.World.{World, Copy, after, event_happens, comes, deliver, settle_one, lose_one, tick_one, first_world}
 use Rattle.clnp_network.specs.Run.{Entry, entries_of, moves_made, run, world_after}
-use Rattle.clnp_network.specs.Safe.{AsksFor, CarriesRanges, EachWasSent, HoldsOneUnit, HoldsUnitsApart, IdentifiersRest, IsHonest, IsSend, NoInterference, RangeIn}
+use Rattle.clnp_network.specs.Safe.{AsksFor, CarriesRanges, EachWasSent, HoldsOneUnit, HoldsUnitsApart, IdentifiersRest, IsHonest, IsSend, NoInterference, NoneIsAlien, RangeIn}
 use Rattle.clnp_safety.specs.Invariant.{BufferIsSound, Carries, CopyIsSound, IsBornWithUnit, IsOfUnit, WorldIsSound}
 use Rattle.clnp_safety.proofs.Moves.{MoveIsSound, sound_at_clock, kept_is_sound, nothing_is_sound}
 use Rattle.clnp_safety.proofs.Settles.{settle_one_is_sound, deliver_is_sound, lose_one_is_sound, restarted_is_sound}
@@ -68,6 +68,13 @@ module _ (plan : Plan) (fit : IsFit plan) where
       let this = move_is_sound past w h move in
       (this.apart, moves_are_apart moves (past ++ record { move = move; lines = (after plan w move).lines } ∷ []) (after plan w move).world this.world)
 
+  moves_are_known : (moves : List Move) (past : List Entry) (w : World) → WorldIsSound plan past w
+      → AllByRecursion (λ (entry : Entry). NoneIsAlien entry.lines) (entries_of plan w moves)
+  moves_are_known [] past w h = tt
+  moves_are_known (move ∷ moves) past w h =
+      let this = move_is_sound past w h move in
+      (this.known, moves_are_known moves (past ++ record { move = move; lines = (after plan w move).lines } ∷ []) (after plan w move).world this.world)
+
   -- a world that moves lead to is sound beside some past
   moves_are_sound : (moves : List Move) (past : List Entry) (w : World) → WorldIsSound plan past w
       → (later : List Entry) × WorldIsSound plan later (world_after plan w moves)
@@ -84,6 +91,10 @@ run_is_honest plan fit = each_was_sent plan fit (moves_made plan)
 pub none_interferes : (plan : Plan) → IsFit plan → (moves : List Move)
     → AllByRecursion (λ (entry : Entry). NoInterference entry.lines) (entries_of plan (first_world plan) moves)
 none_interferes plan fit moves = moves_are_apart plan fit moves [] (first_world plan) (first_world_is_sound plan)
+
+pub none_is_alien : (plan : Plan) → IsFit plan → (moves : List Move)
+    → AllByRecursion (λ (entry : Entry). NoneIsAlien entry.lines) (entries_of plan (first_world plan) moves)
+none_is_alien plan fit moves = moves_are_known plan fit moves [] (first_world plan) (first_world_is_sound plan)
 
 -- What is so of each world of a run.
 

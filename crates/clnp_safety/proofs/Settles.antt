@@ -60,11 +60,13 @@ module _ (plan : Plan) (fit : IsFit plan) (past : List Entry) (now : ℕ) where
       keeps-map (StaysSound plan past now Each Each v) (SoundWith copy) Told (takes_effect v place (step s (frame_to s copy)))
       (λ u stays. (stays.0, subst (λ us. CopyIsSound us copy) (sym stays.1) both.1))
       (taken_is_sound given v place both.1 both.0 s there soon))
-      (record w { cursor = w.cursor + 1 })
-      (record {
-        made = k.made;
-        stands = record { made = refl; clock = k.stands.clock; copies = k.stands.copies; number = k.stands.number; each = k.stands.each };
-      }, h copy refl))
+      (record w { cursor = w.cursor + 1 }) (
+        record {
+          made = k.made;
+          stands = record { made = refl; clock = k.stands.clock; copies = k.stands.copies; number = k.stands.number; each = k.stands.each };
+        },
+        h copy refl,
+      ))
 
   copy_is_sound : (w : World) (at : ℕ) → Sound w → (copy : Copy) → slice_get w.copies at ≡ Some copy → CopyIsSound w.units copy
   copy_is_sound w at k copy e = AllByRecursion-slice_get (CopyIsSound w.units) w.copies at copy e k.stands.copies

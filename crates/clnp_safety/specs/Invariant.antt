@@ -4,7 +4,7 @@ use Rattle.std.specs.List.{AllByRecursion, Contains}
 use Rattle.scenario.specs.Scenario.{Plan}
 use Rattle.clnp_plan.specs.Configuration.{SystemConfiguration}
 use Rattle.clnp_plan.specs.declared.note.Note.{Note}
-use Rattle.clnp_plan.specs.declared.note.Note.TheVariants.{Got, Interference}
+use Rattle.clnp_plan.specs.declared.note.Note.TheVariants.{Got, Interference, Alien}
 use Rattle.pdu_header.specs.Spelling.{type_code}
 use Rattle.reassembly.specs.Arrival.{Arrival}
 use Rattle.reassembly.specs.Buffer.{Buffer, held, is_whole}
@@ -113,8 +113,9 @@ pub record WorldIsSound (plan : Plan) (past : List Entry) (w : World) : Type 0 w
   pub copies : AllByRecursion (CopyIsSound w.units) w.copies
   pub systems : SystemsAreSound plan w.units w.clock w.systems
 
--- A note says only what is so: what is handed up was sent before, and nothing interferes.
+-- A note says only what is so: what is handed up was sent before, nothing interferes, and each frame is of a protocol.
 abbrev pub NoteIsHonest : Plan → List Entry → Note → Type 0
 NoteIsHonest plan past (Got from to octets) = WasSent plan past from to octets
 NoteIsHonest plan past (Interference id) = ⊥
+NoteIsHonest plan past Alien = ⊥
 NoteIsHonest plan past _ = Unit {0}

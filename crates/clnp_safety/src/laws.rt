@@ -5,7 +5,7 @@ ghost use Rattle.scenario.specs.Scenario.{Plan, IsFit};
 ghost use Rattle.scenario.specs.declared.event.Move.{Move};
 ghost use Rattle.clnp_network.specs.World.{World, after, first_world};
 ghost use Rattle.clnp_network.specs.Run.{Entry, entries_of, full_weight, run, text_of, until_full, world_after};
-ghost use Rattle.clnp_network.specs.Safe.{CarriesRanges, EachWasSent, HoldsUnitsApart, IdentifiersRest, IsHonest, IsSend, NoRefusal, IsWithinBudgets, IsWithinLifetimes, NoInterference};
+ghost use Rattle.clnp_network.specs.Safe.{CarriesRanges, EachWasSent, HoldsUnitsApart, IdentifiersRest, IsHonest, IsSend, NoRefusal, IsWithinBudgets, IsWithinLifetimes, NoInterference, NoneIsAlien};
 ghost use Rattle.clnp_safety.specs.Growth.{IsFront, IsFullAt, IsWithinCopies};
 ghost use Rattle.clnp_safety.specs.Owners.{IsByOwner};
 ghost use Rattle.clnp_safety.specs.Refusal.{LeavesNothing};
@@ -29,6 +29,12 @@ pub fn no_unit_meets_another()
 /// nothing behind its PDU.
 pub fn ranges_of_units_are_carried()
     ensures { (plan : Plan) → IsFit plan → (moves : List Move) → CarriesRanges (world_after plan (first_world plan) moves) }
+{}
+
+/// No frame of a run belongs to no protocol, and no line says so.
+pub fn no_frame_is_alien()
+    ensures { (plan : Plan) → IsFit plan → (moves : List Move)
+        → AllByRecursion (λ (entry : Entry). NoneIsAlien entry.lines) (entries_of plan (first_world plan) moves) }
 {}
 
 /// Each reassembly buffer of a run holds segments of one unit that was made.
