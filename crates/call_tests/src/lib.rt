@@ -9,4 +9,6 @@ mod clnp_options_calls;
 #[cfg(test)]
 mod clnp_views_calls;
 #[cfg(test)]
+mod esis_tables_calls;
+#[cfg(test)]
 mod nsap_calls;

@@ -1,0 +1,204 @@
+-- The entry that was heard last.
+use Rattle.std.proofs.Common.{◌≡◌, ℕ, suc, ◌+◌, ◌<◌, ◌≤◌, Bool, true, false, ◌&&◌, cond, nat_lt, List, [], ◌∷◌, Option, None, Some, MatchOption, ◌⊎◌, refl, sym, ap, subst, ◌∙◌, inl, inr, arith, length, fold}
+use Rattle.std.proofs.lemmas.Bool.{cases_Bool, ltb-true, ltb-false, and_parts, and_cases, both_ways, false_from_ne_true}
+use Rattle.std.specs.List.{AllByRecursion, filter}
+use Rattle.std.specs.Option.{option_map, option_or}
+use Rattle.esis_tables.specs.declared.fact.Place.{Place}
+use Rattle.esis_tables.specs.declared.table.Entry.{Entry}
+use Rattle.esis_tables.specs.Fact.{Fact, is_held}
+use Rattle.esis_tables.specs.Keeps.{Keeps, entries_of}
+use Rattle.esis_tables.specs.NextHop.{last, place_of}
+use Rattle.esis_tables.specs.Order.{in_order, put_in, is_before}
+use Rattle.esis_tables.specs.State.{TableState, entry_for, is_kept, is_later_than, key_in, latest_kept, place_in}
+use Rattle.esis_tables.proofs.Rising.{filter_none}
+
+-- the entry is one of these
+abbrev Among : Entry → List Entry → Type 0
+Among entry [] = ⊥
+Among entry (first ∷ rest) = (first ≡ entry) ⊎ Among entry rest
+
+-- an entry that holds has at least this rank
+abbrev HasNoLess : ℕ → ℕ → Entry → Type 0
+HasNoLess now rank entry = is_kept now entry ≡ true → rank ≤ entry.rank
+
+-- the latest one of those that hold, and of one found before
+record IsLatest (now : ℕ) (found : Option Entry) (entries : List Entry) (latest : Entry) : Type 0 where
+  pub among : (found ≡ Some latest) ⊎ (Among latest entries × (is_kept now latest ≡ true))
+  pub least : AllByRecursion (HasNoLess now latest.rank) entries
+  pub found_no_less : (entry : Entry) → found ≡ Some entry → latest.rank ≤ entry.rank
+
+record IsNone (now : ℕ) (found : Option Entry) (entries : List Entry) : Type 0 where
+  pub none_found : found ≡ None
+  pub none_holds : AllByRecursion (λ entry. is_kept now entry ≡ false) entries
+
+abbrev Tells : ℕ → Option Entry → List Entry → Option Entry → Type 0
+Tells now found entries result = MatchOption result (IsNone now found entries) (IsLatest now found entries)
+
+taken : (now : ℕ) (found : Option Entry) (x : Entry) (xs : List Entry) (r : Option Entry) → is_kept now x ≡ true → is_later_than x found ≡ true
+    → Tells now (Some x) xs r → Tells now found (x ∷ xs) r
+taken now found x xs None holds later tells = absurd (some_none tells.none_found)
+  where
+    some_none : {e : Entry} → Some e ≡ None → ⊥
+    some_none h = cc
+taken now found x xs (Some latest) holds later tells = record {
+  among = inr (among_more tells.among);
+  least = ((λ _. tells.found_no_less x refl), tells.least);
+  found_no_less = λ entry there. below entry (subst (λ (f : Option Entry). is_later_than x f ≡ true) there later);
+}
+  where
+    same_entry : {a b : Entry} → Some a ≡ Some b → a ≡ b
+    same_entry h = cc
+    among_more : (Some x ≡ Some latest) ⊎ (Among latest xs × (is_kept now latest ≡ true)) → Among latest (x ∷ xs) × (is_kept now latest ≡ true)
+    among_more (inl e) = let s = same_entry e in (inl s, subst (λ (l : Entry). is_kept now l ≡ true) s holds)
+    among_more (inr a) = (inr a.0, a.1)
+    below : (entry : Entry) → is_later_than x (Some entry) ≡ true → latest.rank ≤ entry.rank
+    below entry later = omega (arith, tells.found_no_less x refl, ltb-true x.rank entry.rank later)
+
+kept_on : (now : ℕ) (found : Option Entry) (x : Entry) (xs : List Entry) (r : Option Entry) → (is_kept now x && is_later_than x found) ≡ false
+    → Tells now found xs r → Tells now found (x ∷ xs) r
+kept_on now found x xs None passed tells = record {
+  none_found = tells.none_found;
+  none_holds = (not_kept (subst (λ (f : Option Entry). (is_kept now x && is_later_than x f) ≡ false) tells.none_found passed), tells.none_holds);
+}
+  where
+    not_kept : (is_kept now x && true) ≡ false → is_kept now x ≡ false
+    not_kept h = elim (and_cases (is_kept now x) true h) [ inl e ↦ e | inr e ↦ absurd (cc) ]
+kept_on now found x xs (Some latest) passed tells = record {
+  among = among_more tells.among;
+  least = (low found refl, tells.least);
+  found_no_less = tells.found_no_less;
+}
+  where
+    among_more : (found ≡ Some latest) ⊎ (Among latest xs × (is_kept now latest ≡ true)) → (found ≡ Some latest) ⊎ (Among latest (x ∷ xs) × (is_kept now latest ≡ true))
+    among_more (inl e) = inl e
+    among_more (inr a) = inr (inr a.0, a.1)
+    low : (o : Option Entry) → found ≡ o → is_kept now x ≡ true → latest.rank ≤ x.rank
+    low None is holds =
+        elim (and_cases (is_kept now x) true (subst (λ (f : Option Entry). (is_kept now x && is_later_than x f) ≡ false) is passed)) [
+          | inl e ↦ absurd (both_ways (is_kept now x) e holds)
+          | inr e ↦ absurd (cc)
+        ]
+    low (Some o) is holds =
+        elim (and_cases (is_kept now x) (nat_lt x.rank o.rank) (subst (λ (f : Option Entry). (is_kept now x && is_later_than x f) ≡ false) is passed)) [
+          | inl e ↦ absurd (both_ways (is_kept now x) e holds)
+          | inr e ↦ omega (arith, tells.found_no_less o is, ltb-false x.rank o.rank e)
+        ]
+
+tells_latest : (now : ℕ) (found : Option Entry) (entries : List Entry) → Tells now found entries (latest_kept now found entries)
+tells_latest now None [] = record { none_found = refl; none_holds = tt }
+tells_latest now (Some entry) [] = record {
+  among = inl refl;
+  least = tt;
+  found_no_less = λ other same. at_most other same;
+}
+  where
+    same_entry : {a b : Entry} → Some a ≡ Some b → a ≡ b
+    same_entry h = cc
+    at_most : (other : Entry) → Some entry ≡ Some other → entry.rank ≤ other.rank
+    at_most other same = subst (λ (e : Entry). entry.rank ≤ e.rank) (same_entry same) (omega arith)
+tells_latest now found (x ∷ xs) =
+    elim (cases_Bool (is_kept now x && is_later_than x found)) [
+      | inl t ↦
+          let parts = and_parts (is_kept now x) (is_later_than x found) t in
+          rw t (taken now found x xs (latest_kept now (Some x) xs) parts.0 parts.1 (tells_latest now (Some x) xs))
+      | inr f ↦ rw f (kept_on now found x xs (latest_kept now found xs) f (tells_latest now found xs))
+    ]
+
+among_put_in : (entry x : Entry) (xs : List Entry) → Among entry (put_in key_in x xs) → Among entry (x ∷ xs)
+among_put_in entry x [] among = among
+among_put_in entry x (y ∷ ys) among =
+    elim (cases_Bool (is_before x.key y.key)) [
+      | inl t ↦ rw t at among
+      | inr f ↦ swapped (among_put_in entry x ys) (rw f at among)
+    ]
+  where
+    swapped : (Among entry (put_in key_in x ys) → Among entry (x ∷ ys)) → (y ≡ entry) ⊎ Among entry (put_in key_in x ys) → Among entry (x ∷ y ∷ ys)
+    swapped step (inl e) = inr (inl e)
+    swapped step (inr a) = elim (step a) [ inl e ↦ inl e | inr b ↦ inr (inr b) ]
+
+among_put_all : (entry : Entry) (sorted xs : List Entry) → Among entry (fold (λ s x. put_in key_in x s) sorted xs) → Among entry xs ⊎ Among entry sorted
+among_put_all entry sorted [] among = inr among
+among_put_all entry sorted (x ∷ xs) among =
+    elim (among_put_all entry (put_in key_in x sorted) xs among) [
+      | inl a ↦ inl (inr a)
+      | inr a ↦ elim (among_put_in entry x sorted a) [ inl e ↦ inl (inl e) | inr b ↦ inr b ]
+    ]
+
+all_put_in-back : (P : Entry → Type 0) (x : Entry) (xs : List Entry) → AllByRecursion P (put_in key_in x xs) → P x × AllByRecursion P xs
+all_put_in-back P x [] all = all
+all_put_in-back P x (y ∷ ys) all =
+    elim (cases_Bool (is_before x.key y.key)) [
+      | inl t ↦ let all' = rw t at all in (all'.0, all'.1)
+      | inr f ↦ let all' = rw f at all in let rest = all_put_in-back P x ys all'.1 in (rest.0, (all'.0, rest.1))
+    ]
+
+all_put_all-back : (P : Entry → Type 0) (sorted xs : List Entry) → AllByRecursion P (fold (λ s x. put_in key_in x s) sorted xs)
+    → AllByRecursion P sorted × AllByRecursion P xs
+all_put_all-back P sorted [] all = (all, tt)
+all_put_all-back P sorted (x ∷ xs) all =
+    let rest = all_put_all-back P (put_in key_in x sorted) xs all in
+    let here = all_put_in-back P x sorted rest.0 in
+    (here.1, (here.0, rest.1))
+
+none_higher : (now n : ℕ) (kept : List Fact) → length kept < n → AllByRecursion (HasNoLess now n) (entries_of kept)
+    → AllByRecursion (λ fact. is_held now fact ≡ false) kept
+none_higher now n [] few all = tt
+none_higher now n (fact ∷ later) few all =
+    (false_from_ne_true (is_held now fact) (λ holds. absurd (too_low (all.0 holds))), none_higher now n later (omega arith) all.1)
+  where
+    too_low : n ≤ length later + 1 → ⊥
+    too_low h = omega arith
+
+or_some : (o : Option Fact) (other : Option Fact) (place : Place) → option_map place_of o ≡ Some place → option_map place_of (option_or o other) ≡ Some place
+or_some None other place h = absurd (none_some h)
+  where
+    none_some : None ≡ Some place → ⊥
+    none_some e = cc
+or_some (Some fact) other place h = h
+
+latest_place : (now : ℕ) (kept : List Fact) (latest : Entry) → Among latest (entries_of kept) → is_kept now latest ≡ true
+    → AllByRecursion (HasNoLess now latest.rank) (entries_of kept)
+    → option_map place_of (last (filter (is_held now) kept)) ≡ Some latest.place
+latest_place now [] latest among holds least = absurd among
+latest_place now (fact ∷ later) latest (inl e) holds least =
+    let held : is_held now fact ≡ true = subst (λ (l : Entry). is_kept now l ≡ true) (sym e) holds in
+    let low : AllByRecursion (HasNoLess now (length later + 1)) (entries_of later) =
+    subst (λ (l : Entry). AllByRecursion (HasNoLess now l.rank) (entries_of later)) (sym e) least.1 in
+    let alone : filter (is_held now) later ≡ [] = filter_none (is_held now) later (none_higher now (length later + 1) later (omega arith) low) in
+    rw held (rw alone (ap (λ (l : Entry). Some l.place) e))
+latest_place now (fact ∷ later) latest (inr a) holds least =
+    let step = latest_place now later latest a holds least.1 in
+    elim (cases_Bool (is_held now fact)) [
+      | inl t ↦ rw t (or_some (last (filter (is_held now) later)) (Some fact) latest.place step)
+      | inr f ↦ rw f step
+    ]
+
+none_held : (now : ℕ) (kept : List Fact) → AllByRecursion (λ entry. is_kept now entry ≡ false) (entries_of kept)
+    → AllByRecursion (λ fact. is_held now fact ≡ false) kept
+none_held now [] none = tt
+none_held now (fact ∷ later) none = (none.0, none_held now later none.1)
+
+answered : (now : ℕ) (kept : List Fact) (result : Option Entry) → Tells now None (in_order key_in (entries_of kept)) result
+    → option_map place_in result ≡ option_map place_of (last (filter (is_held now) kept))
+answered now kept None tells =
+    let none = all_put_all-back (λ entry. is_kept now entry ≡ false) [] (entries_of kept) tells.none_holds in
+    sym (ap (λ l. option_map place_of (last l)) (filter_none (is_held now) kept (none_held now kept none.1)))
+answered now kept (Some latest) tells =
+    elim tells.among [
+      | inl e ↦ absurd (none_some e)
+      | inr a ↦
+          elim (among_put_all latest [] (entries_of kept) a.0) [
+            | inl b ↦ sym (latest_place now kept latest b a.1 (all_put_all-back (HasNoLess now latest.rank) [] (entries_of kept) tells.least).1)
+            | inr b ↦ absurd b
+          ]
+    ]
+  where
+    none_some : None ≡ Some latest → ⊥
+    none_some e = cc
+
+-- the place of the entry heard last is that of the kept fact heard last
+pub last_kept : (now : ℕ) (table : TableState) (kept : List Fact) → Keeps table kept
+    → option_map place_in (latest_kept now None table.entries) ≡ option_map place_of (last (filter (is_held now) kept))
+last_kept now table kept keeps =
+    ap (λ l. option_map place_in (latest_kept now None l)) keeps.entries
+    ∙ answered now kept (latest_kept now None (in_order key_in (entries_of kept))) (tells_latest now None (in_order key_in (entries_of kept)))

@@ -1,0 +1,71 @@
+-- What a look-up in a table answers.
+use Rattle.std.proofs.Common.{◌≡◌, ℕ, suc, ◌+◌, ◌<◌, ◌≤◌, Bool, true, false, ◌&&◌, ◌||◌, cond, nat_lt, if◌then◌else◌, List, [], ◌∷◌, ◌++◌, Option, None, Some, MatchOption, ◌⊎◌, refl, sym, ap, subst, ◌∙◌, inl, inr, arith, length, fold, slice_get, get_or}
+use Rattle.std.proofs.lemmas.Bool.{cases_Bool, cond_both, cond-true, cond-false, lt-ltb, le-ltb, ltb-true, ltb-false, and_parts, and_cases, and_from}
+use Rattle.std.proofs.lemmas.Option.{get_or_from_slice_get}
+use Rattle.std.specs.List.{AllByRecursion, filter, find, list_any}
+use Rattle.std.specs.Option.{option_map, option_or}
+use Rattle.esis_tables.specs.declared.fact.Place.{Place}
+use Rattle.esis_tables.specs.declared.table.Entry.{Entry}
+use Rattle.esis_tables.specs.Fact.{Fact, end_of, has_key, is_held, while_held}
+use Rattle.esis_tables.specs.Keeps.{Keeps, entries_of, without}
+use Rattle.esis_tables.specs.NextHop.{is_at, last, place_of}
+use Rattle.esis_tables.specs.Order.{in_order, put_in, IsRising}
+use Rattle.esis_tables.specs.State.{TableState, IsAt, IsGap, entry_for, is_kept, is_kept_at, is_later_than, is_of, key_in, latest_kept, place_in, place_while_kept}
+use Rattle.esis_tables.proofs.Keeping.{any_kept, found_in, splits_of}
+use Rattle.esis_tables.proofs.Places.{find_is, find_none, none_has}
+use Rattle.esis_tables.proofs.Rising.{filter_none}
+
+-- the entry of a key, read at its place
+read_there : (entries : List Entry) (key : List ℕ) (at : ℕ) (entry : Entry) → IsAt entries key at → entry ≡ get_or entries at entry
+    → IsRising key_in entries → find (is_of key) entries ≡ Some entry
+read_there entries key at entry place read rising =
+    let same : place.entry ≡ entry = sym (get_or_from_slice_get entries at place.entry entry place.stands_at) ∙ sym read in
+    find_is key_in entries at place.entry key rising place.stands_at place.is_its ∙ ap Some same
+
+pub held_there : (now : ℕ) (entries : List Entry) (key : List ℕ) (at : ℕ) (entry : Entry) → IsAt entries key at → entry ≡ get_or entries at entry
+    → now < entry.until → IsRising key_in entries → Some entry.place ≡ place_while_kept now (find (is_of key) entries)
+held_there now entries key at entry place read holds rising =
+    sym (ap (place_while_kept now) (read_there entries key at entry place read rising)
+    ∙ cond-true (is_kept now entry) (Some entry.place) None (lt-ltb now entry.until holds))
+
+pub ended_there : (now : ℕ) (entries : List Entry) (key : List ℕ) (at : ℕ) (entry : Entry) → IsAt entries key at → entry ≡ get_or entries at entry
+    → entry.until ≤ now → IsRising key_in entries → None ≡ place_while_kept now (find (is_of key) entries)
+ended_there now entries key at entry place read ended rising =
+    sym (ap (place_while_kept now) (read_there entries key at entry place read rising)
+    ∙ cond-false (is_kept now entry) (Some entry.place) None (le-ltb now entry.until ended))
+
+pub held_nowhere : (now : ℕ) (entries : List Entry) (key : List ℕ) (at : ℕ) → IsGap entries key at
+    → None ≡ place_while_kept now (find (is_of key) entries)
+held_nowhere now entries key at gap =
+    sym (ap (place_while_kept now) (find_none key_in entries key (none_has key_in entries at key (splits_of entries key at gap))))
+
+place-entries : (now : ℕ) (key : List ℕ) (kept : List Fact)
+    → place_while_kept now (find (is_of key) (entries_of kept)) ≡ option_map place_of (while_held now (find (has_key key) kept))
+place-entries now key [] = refl
+place-entries now key (fact ∷ later) =
+    elim (cases_Bool (has_key key fact)) [
+      | inl t ↦ rw t (elim (cases_Bool (is_held now fact)) [
+        | inl h ↦ rw h refl
+        | inr e ↦ rw e refl
+      ])
+      | inr f ↦ rw f (place-entries now key later)
+    ]
+
+-- the place of a key in a table is that of the kept fact
+pub place_kept : (now : ℕ) (key : List ℕ) (table : TableState) (kept : List Fact) → Keeps table kept
+    → place_while_kept now (find (is_of key) table.entries) ≡ option_map place_of (while_held now (find (has_key key) kept))
+place_kept now key table kept keeps = ap (place_while_kept now) (found_in table kept keeps key) ∙ place-entries now key kept
+
+any-filter : {X : Type 0} (p q : X → Bool) (xs : List X) → list_any (λ x. p x && q x) xs ≡ list_any q (filter p xs)
+any-filter p q [] = refl
+any-filter p q (x ∷ xs) =
+    elim (cases_Bool (p x)) [
+      | inl t ↦ rw t (ap (λ b. q x || b) (any-filter p q xs))
+      | inr f ↦ rw f (any-filter p q xs)
+    ]
+
+pub at_kept : (now : ℕ) (snpa : List ℕ) (table : TableState) (kept : List Fact) → Keeps table kept
+    → list_any (is_kept_at now snpa) table.entries ≡ list_any (is_at snpa) (filter (is_held now) kept)
+at_kept now snpa table kept keeps =
+    any_kept (is_kept_at now snpa) (λ fact. is_held now fact && is_at snpa fact) (λ fact rank. refl) table kept keeps
+    ∙ any-filter (is_held now) (is_at snpa) kept

@@ -1,0 +1,73 @@
+-- What a table keeps, and where a key is in it.
+use Rattle.std.specs.Prelude.{◌≡◌, ℕ, ◌+◌, ◌-◌, ◌<◌, ◌≤◌, ◌^◌, true, false, Bool, ◌&&◌, not, min, nat_lt, fold, if◌then◌else◌, List, [], ◌∷◌, length, filter, Option, None, Some, slice_get}
+use Rattle.std.specs.List.{AllWithin}
+use Rattle.std.specs.Str.{bytes_eq}
+use Rattle.esis_tables.specs.declared.fact.Place.{Place}
+use Rattle.esis_tables.specs.declared.table.Entry.{Entry}
+use Rattle.esis_tables.specs.Fact.{Fact, end_of}
+use Rattle.esis_tables.specs.Order.{is_before}
+
+-- how many keys it may keep, and its entries
+pub record TableState : Type 0 where
+  pub limit : ℕ
+  pub entries : List Entry
+
+-- the entry of a fact at a rank
+abbrev pub entry_for : Fact → ℕ → Entry
+entry_for fact rank = record { key = fact.key; place = fact.place; until = end_of fact; rank = rank }
+
+-- a new entry, which has no rank yet
+abbrev pub new_entry : List ℕ → Place → ℕ → Entry
+new_entry key place until = record { key = key; place = place; until = until; rank = 0 }
+
+abbrev pub key_in : Entry → List ℕ
+key_in entry = entry.key
+
+abbrev pub is_of : List ℕ → Entry → Bool
+is_of key entry = bytes_eq entry.key key
+
+-- whether the time of an entry hasn't ended
+abbrev pub is_kept : ℕ → Entry → Bool
+is_kept now entry = nat_lt now entry.until
+
+-- the entry at a place is that of a key
+pub record IsAt (entries : List Entry) (key : List ℕ) (place : ℕ) : Type 0 where
+  pub entry : Entry
+  pub stands_at : slice_get entries place ≡ Some entry
+  pub is_its : is_of key entry ≡ true
+
+-- an entry of this key would go to this place
+pub record IsGap (entries : List Entry) (key : List ℕ) (place : ℕ) : Type 0 where
+  pub within : place ≤ length entries
+  pub before : AllWithin (λ entry. is_before entry.key key ≡ true) entries 0 place
+  pub behind : AllWithin (λ entry. is_before key entry.key ≡ true) entries place (length entries)
+
+-- an entry after one more hearing
+abbrev pub raised : Entry → Entry
+raised entry = record entry { rank = min (entry.rank + 1) (2 ^ 16 - 1) }
+
+-- an entry after the one of this rank is taken out
+abbrev pub closed : ℕ → Entry → Entry
+closed rank entry = record entry { rank = (if nat_lt rank entry.rank then entry.rank - 1 else entry.rank) }
+
+abbrev pub place_in : Entry → Place
+place_in entry = entry.place
+
+-- where the system of an entry is reached, while what was heard of it holds
+abbrev pub place_while_kept : ℕ → Option Entry → Option Place
+place_while_kept now None = None
+place_while_kept now (Some entry) = if is_kept now entry then Some entry.place else None
+
+-- whether an entry holds and its system is at this address on its subnetwork
+abbrev pub is_kept_at : ℕ → List ℕ → Entry → Bool
+is_kept_at now snpa entry = is_kept now entry && bytes_eq entry.place.snpa snpa
+
+-- whether an entry was heard after another, if there is one
+abbrev pub is_later_than : Entry → Option Entry → Bool
+is_later_than entry None = true
+is_later_than entry (Some other) = nat_lt entry.rank other.rank
+
+-- the one that was heard last of those that hold, and of one found before
+abbrev pub latest_kept : ℕ → Option Entry → List Entry → Option Entry
+latest_kept now found entries =
+    fold (λ latest entry. if is_kept now entry && is_later_than entry latest then Some entry else latest) found entries

@@ -1,0 +1,11 @@
+//! What a system knows of its neighbours: which end systems, which intermediate systems and which better hops were heard of, for
+//! how long each holds, and which next hop follows (ISO 9542, sections 6 and 7).
+#![tactic(auto)]
+
+mod fact;
+pub mod laws;
+mod table;
+mod tables;
+
+pub use crate::fact::{EsisLimits, Gone, Heard, Place, TableKind};
+pub use crate::tables::Tables;
