@@ -1,14 +1,13 @@
 -- A table that keeps the current facts, as time goes on and as facts are heard.
-use Rattle.std.proofs.Common.{◌≡◌, ℕ, suc, ◌+◌, ◌*◌, ◌<◌, ◌≤◌, ◌==◌, Bool, true, false, ◌&&◌, ◌||◌, cond, not, if◌then◌else◌, nat_lt, nat_le, List, [], ◌∷◌, ◌++◌, Option, None, Some, is_none, is_some, refl, sym, ap, subst, ◌∙◌, inl, inr, arith, length, map}
-use Rattle.std.proofs.lemmas.Bool.{cases_Bool, cond_both, cond-true, cond-false, lt-ltb, le-ltb, ltb-true, eqb-true, eqb-false, not-false}
+use Rattle.std.proofs.Common.{◌≡◌, ℕ, ◌<◌, ◌≤◌, ◌==◌, Bool, true, false, cond, not, if◌then◌else◌, nat_le, List, [], ◌∷◌, ◌++◌, Option, None, Some, is_some, refl, sym, ap, subst, ◌∙◌, inl, inr, arith, length, map}
+use Rattle.std.proofs.lemmas.Bool.{cases_Bool, cond_both, cond-true, cond-false, lt-ltb, le-ltb, ltb-true, eqb-true, eqb-false}
 use Rattle.std.proofs.lemmas.List.Elements.{filter-append}
 use Rattle.std.specs.List.{AllByRecursion, filter, find, list_any}
-use Rattle.std.specs.Option.{option_or}
 use Rattle.esis_tables.specs.declared.fact.EsisLimits.{EsisLimits}
 use Rattle.esis_tables.specs.declared.fact.Heard.{Heard}
 use Rattle.esis_tables.specs.declared.fact.Heard.TheVariants.{New, Again, Zero, Full}
 use Rattle.esis_tables.specs.declared.fact.TableKind.{TableKind}
-use Rattle.esis_tables.specs.Fact.{Fact, after, answer, current, currents, end_of, has_key, is_held, is_noted, last_of, latest, limit_of, same_table, while_held}
+use Rattle.esis_tables.specs.Fact.{Fact, after, answer, current, currents, end_of, has_key, is_held, is_noted, latest, limit_of, same_table, while_held}
 use Rattle.esis_tables.specs.Gone.{ended_keys, gone_keys, key_of}
 use Rattle.esis_tables.specs.Keeps.{AreDistinct, Keeps, answer_of, kept_after, kept_with, without}
 use Rattle.esis_tables.specs.Order.{in_order}
@@ -82,6 +81,7 @@ find_filter now key (fact ∷ later) distinct =
     found_none : (xs : List Fact) → AllByRecursion (λ other. has_key key other ≡ false) xs → find (has_key key) xs ≡ None
     found_none [] none = refl
     found_none (x ∷ xs) none = rw none.0 (found_none xs none.1)
+
     passed : (b : Bool) {o : Option Fact} → has_key key fact ≡ false → find (has_key key) (filter (is_held now) later) ≡ o
         → find (has_key key) (cond b (fact ∷ filter (is_held now) later) (filter (is_held now) later)) ≡ o
     passed true f step = cond-false (has_key key fact) (Some fact) (find (has_key key) (filter (is_held now) later)) f ∙ step
@@ -211,9 +211,9 @@ module _ (state : TableState) (limits : EsisLimits) (fact : Fact) (facts : List 
       record {
         all = all_filter (λ other. is_held fact.moment other ≡ true) (λ other. not (has_key fact.key other)) keeps.kept hold;
         is = ap (without fact.key) (kept_is fact.table state facts fact.moment keeps)
-        ∙ sym (append_none (without fact.key (currents fact.moment fact.table facts)))
-        ∙ ap (λ b. without fact.key (currents fact.moment fact.table facts) ++ cond b (fact ∷ []) []) (sym not_held)
-        ∙ sym (currents-there fact.moment fact facts same);
+            ∙ sym (append_none (without fact.key (currents fact.moment fact.table facts)))
+            ∙ ap (λ b. without fact.key (currents fact.moment fact.table facts) ++ cond b (fact ∷ []) []) (sym not_held)
+            ∙ sym (currents-there fact.moment fact facts same);
       }
     where
       append_none : (l : List Fact) → l ++ [] ≡ l
@@ -226,10 +226,10 @@ module _ (state : TableState) (limits : EsisLimits) (fact : Fact) (facts : List 
       let held : is_held fact.moment fact ≡ true = lt-ltb fact.moment (end_of fact) holds in
       record {
         all = all_push fact.moment (without fact.key keeps.kept) fact
-        (all_filter (λ other. is_held fact.moment other ≡ true) (λ other. not (has_key fact.key other)) keeps.kept hold) held;
+            (all_filter (λ other. is_held fact.moment other ≡ true) (λ other. not (has_key fact.key other)) keeps.kept hold) held;
         is = ap (λ l. without fact.key l ++ fact ∷ []) (kept_is fact.table state facts fact.moment keeps)
-        ∙ ap (λ b. without fact.key (currents fact.moment fact.table facts) ++ cond b (fact ∷ []) []) (sym held)
-        ∙ sym (currents-there fact.moment fact facts same);
+            ∙ ap (λ b. without fact.key (currents fact.moment fact.table facts) ++ cond b (fact ∷ []) []) (sym held)
+            ∙ sym (currents-there fact.moment fact facts same);
       }
 
   heard : Heard' (kept_after state.limit fact keeps.kept) (after limits fact facts)

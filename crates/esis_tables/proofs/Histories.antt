@@ -1,14 +1,12 @@
 -- The last facts of the keys of a table.
-use Rattle.std.proofs.Common.{◌≡◌, ℕ, ◌+◌, ◌*◌, ◌<◌, ◌≤◌, Bool, true, false, ◌&&◌, ◌||◌, cond, not, if◌then◌else◌, nat_lt, List, [], ◌∷◌, ◌++◌, Option, None, Some, is_none, is_some, refl, sym, ap, subst, ◌∙◌, inl, inr, arith, length}
+use Rattle.std.proofs.Common.{◌≡◌, ℕ, Bool, true, false, ◌&&◌, if◌then◌else◌, List, [], ◌∷◌, ◌++◌, Option, None, Some, is_none, refl, sym, ap, ◌∙◌, inl, inr}
 use Rattle.std.proofs.lemmas.Bool.{cases_Bool, cond_both, cond-true, cond-false, and_left, and_right, and_from, and_parts}
-use Rattle.std.proofs.lemmas.List.Elements.{filter-append}
-use Rattle.std.specs.List.{AllByRecursion, filter, find, list_any}
+use Rattle.std.specs.List.{AllByRecursion, find}
 use Rattle.std.specs.Option.{option_or}
 use Rattle.esis_tables.specs.declared.fact.TableKind.{TableKind}
-use Rattle.esis_tables.specs.Fact.{Fact, current, currents, end_of, has_key, is_about, is_held, last_of, latest, same_table, while_held}
+use Rattle.esis_tables.specs.Fact.{Fact, has_key, is_about, last_of, latest, same_table}
 use Rattle.esis_tables.specs.Keeps.{AreDistinct, without}
 use Rattle.esis_tables.proofs.Addresses.{same_from, same-back, other-back}
-use Rattle.esis_tables.proofs.Rising.{all_filter}
 
 or_none : (o : Option Fact) → option_or o None ≡ o
 or_none None = refl
@@ -77,6 +75,7 @@ found_latest table key fact latest' last own step same true is =
         ∙ cond-true (has_key key fact) (Some fact) (find (has_key key) latest') t
         ∙ sym (cond-true (has_key key fact) (Some fact) None t)
     here (Some last) step e t = ap (λ x. find (has_key key) (if is_none x then fact ∷ latest' else latest')) e ∙ step
+
     elsewhere : (x : Option Fact) → has_key key fact ≡ false → find (has_key key) (if is_none x then fact ∷ latest' else latest') ≡ last
     elsewhere None f = cond-false (has_key key fact) (Some fact) (find (has_key key) latest') f ∙ step
     elsewhere (Some other) f = step
@@ -107,8 +106,10 @@ distinct-latest table [] = tt
 distinct-latest table (fact ∷ later) =
     let own : Option Fact = last_of table fact.key later in
     cond_both (same_table fact.table table && is_none own) (fact ∷ latest table later) (latest table later) AreDistinct
-    (λ t. (none_found (has_key fact.key) (latest table later) (find_latest table fact.key later ∙ is_none_from own (and_parts (same_table fact.table table) (is_none own) t).1),
-    distinct-latest table later))
+    (λ t. (
+      none_found (has_key fact.key) (latest table later) (find_latest table fact.key later ∙ is_none_from own (and_parts (same_table fact.table table) (is_none own) t).1),
+      distinct-latest table later,
+    ))
     (λ f. distinct-latest table later)
 
 -- a hearing in another table changes nothing
@@ -144,6 +145,7 @@ latest-there table (first ∷ later) fact same =
         → without fact.key (if b then first ∷ latest table later else latest table later) ≡ without fact.key (latest table later)
     dropped true h = rw h refl
     dropped false h = refl
+
     stays : (b : Bool) → has_key fact.key first ≡ false
         → (if b then first ∷ (without fact.key (latest table later) ++ fact ∷ []) else without fact.key (latest table later) ++ fact ∷ [])
         ≡ without fact.key (if b then first ∷ latest table later else latest table later) ++ fact ∷ []

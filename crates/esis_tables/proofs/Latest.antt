@@ -1,5 +1,5 @@
 -- The entry that was heard last.
-use Rattle.std.proofs.Common.{◌≡◌, ℕ, suc, ◌+◌, ◌<◌, ◌≤◌, Bool, true, false, ◌&&◌, cond, nat_lt, List, [], ◌∷◌, Option, None, Some, MatchOption, ◌⊎◌, refl, sym, ap, subst, ◌∙◌, inl, inr, arith, length, fold}
+use Rattle.std.proofs.Common.{◌≡◌, ℕ, ◌+◌, ◌<◌, ◌≤◌, true, false, ◌&&◌, nat_lt, List, [], ◌∷◌, Option, None, Some, MatchOption, ◌⊎◌, refl, sym, ap, subst, ◌∙◌, inl, inr, arith, length, fold}
 use Rattle.std.proofs.lemmas.Bool.{cases_Bool, ltb-true, ltb-false, and_parts, and_cases, both_ways, false_from_ne_true}
 use Rattle.std.specs.List.{AllByRecursion, filter}
 use Rattle.std.specs.Option.{option_map, option_or}
@@ -9,7 +9,7 @@ use Rattle.esis_tables.specs.Fact.{Fact, is_held}
 use Rattle.esis_tables.specs.Keeps.{Keeps, entries_of}
 use Rattle.esis_tables.specs.NextHop.{last, place_of}
 use Rattle.esis_tables.specs.Order.{in_order, put_in, is_before}
-use Rattle.esis_tables.specs.State.{TableState, entry_for, is_kept, is_later_than, key_in, latest_kept, place_in}
+use Rattle.esis_tables.specs.State.{TableState, is_kept, is_later_than, key_in, latest_kept, place_in}
 use Rattle.esis_tables.proofs.Rising.{filter_none}
 
 -- the entry is one of these
@@ -48,9 +48,11 @@ taken now found x xs (Some latest) holds later tells = record {
   where
     same_entry : {a b : Entry} → Some a ≡ Some b → a ≡ b
     same_entry h = cc
+
     among_more : (Some x ≡ Some latest) ⊎ (Among latest xs × (is_kept now latest ≡ true)) → Among latest (x ∷ xs) × (is_kept now latest ≡ true)
     among_more (inl e) = let s = same_entry e in (inl s, subst (λ (l : Entry). is_kept now l ≡ true) s holds)
     among_more (inr a) = (inr a.0, a.1)
+
     below : (entry : Entry) → is_later_than x (Some entry) ≡ true → latest.rank ≤ entry.rank
     below entry later = omega (arith, tells.found_no_less x refl, ltb-true x.rank entry.rank later)
 
@@ -72,6 +74,7 @@ kept_on now found x xs (Some latest) passed tells = record {
     among_more : (found ≡ Some latest) ⊎ (Among latest xs × (is_kept now latest ≡ true)) → (found ≡ Some latest) ⊎ (Among latest (x ∷ xs) × (is_kept now latest ≡ true))
     among_more (inl e) = inl e
     among_more (inr a) = inr (inr a.0, a.1)
+
     low : (o : Option Entry) → found ≡ o → is_kept now x ≡ true → latest.rank ≤ x.rank
     low None is holds =
         elim (and_cases (is_kept now x) true (subst (λ (f : Option Entry). (is_kept now x && is_later_than x f) ≡ false) is passed)) [
@@ -94,6 +97,7 @@ tells_latest now (Some entry) [] = record {
   where
     same_entry : {a b : Entry} → Some a ≡ Some b → a ≡ b
     same_entry h = cc
+
     at_most : (other : Entry) → Some entry ≡ Some other → entry.rank ≤ other.rank
     at_most other same = subst (λ (e : Entry). entry.rank ≤ e.rank) (same_entry same) (omega arith)
 tells_latest now found (x ∷ xs) =

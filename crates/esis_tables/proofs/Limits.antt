@@ -1,5 +1,5 @@
 -- No table has more current keys than it may keep.
-use Rattle.std.proofs.Common.{◌≡◌, ℕ, suc, ◌+◌, ◌-◌, ◌*◌, ◌<◌, ◌≤◌, ◌==◌, Bool, true, false, cond, not, nat_lt, nat_le, if◌then◌else◌, List, [], ◌∷◌, ◌++◌, Option, None, Some, is_some, refl, sym, ap, subst, ◌∙◌, inl, inr, arith, length, length-append, fold}
+use Rattle.std.proofs.Common.{◌≡◌, ℕ, suc, ◌+◌, ◌<◌, ◌≤◌, ◌==◌, true, false, cond, not, nat_le, List, [], ◌∷◌, ◌++◌, is_some, refl, ap, subst, ◌∙◌, inl, inr, arith, length, length-append, fold}
 use Rattle.std.proofs.lemmas.Bool.{cases_Bool, cond_both, cond-true, cond-false, le-ltb, leb-false, eqb-true}
 use Rattle.std.specs.List.{filter, find}
 use Rattle.esis_tables.specs.declared.fact.EsisLimits.{EsisLimits}
@@ -8,7 +8,7 @@ use Rattle.esis_tables.specs.declared.fact.Heard.TheVariants.{New, Again, Zero, 
 use Rattle.esis_tables.specs.declared.fact.TableKind.{TableKind}
 use Rattle.esis_tables.specs.declared.fact.TableKind.TheVariants.{Es, Is, Rd}
 use Rattle.esis_tables.specs.Claims.{NeverFall, heard_all}
-use Rattle.esis_tables.specs.Fact.{Fact, after, answer, current, currents, end_of, has_key, is_held, is_noted, last_of, latest, limit_of, same_table, while_held}
+use Rattle.esis_tables.specs.Fact.{Fact, after, answer, current, currents, end_of, has_key, is_held, is_noted, limit_of, same_table}
 use Rattle.esis_tables.specs.Keeps.{without}
 use Rattle.esis_tables.proofs.Current.{after-elsewhere, currents-there, found_current, fewer_later}
 
@@ -78,8 +78,10 @@ module _ (limits : EsisLimits) (fact : Fact) (facts : List Fact) where
     where
       few : length (without fact.key (currents fact.moment fact.table facts)) ≤ length (currents fact.moment fact.table facts)
       few = fewer_without fact.key (currents fact.moment fact.table facts)
+
       becomes : (a : Heard) → answer limits fact facts ≡ a → is_noted a ≡ true → after limits fact facts ≡ facts ++ fact ∷ []
       becomes a is noted = cond-true (is_noted (answer limits fact facts)) (facts ++ fact ∷ []) facts (ap is_noted is ∙ noted)
+
       zero_within : (fact.holding == 0) ≡ true → length (currents fact.moment fact.table (after limits fact facts)) ≤ limit_of fact.table limits
       zero_within zero =
           let ended : end_of fact ≤ fact.moment = omega (arith, eqb-true fact.holding 0 zero) in
@@ -87,12 +89,14 @@ module _ (limits : EsisLimits) (fact : Fact) (facts : List Fact) where
           ap (λ b. length (cond b (fact ∷ []) [])) (le-ltb fact.moment (end_of fact) ended) in
           let is : after limits fact facts ≡ facts ++ fact ∷ [] = becomes Zero (rw zero refl) refl in
           omega (arith, ap (λ l. length (currents fact.moment fact.table l)) is, grown, few, none, within)
+
       again_within : (fact.holding == 0) ≡ false → is_some (current fact.moment fact.table fact.key facts) ≡ true
           → length (currents fact.moment fact.table (after limits fact facts)) ≤ limit_of fact.table limits
       again_within lasts again =
           let is : after limits fact facts ≡ facts ++ fact ∷ [] = becomes Again (rw (lasts, again) refl) refl in
           let less = one_less fact.key (currents fact.moment fact.table facts) (ap is_some (found_current fact.moment fact.table fact.key facts) ∙ again) in
           omega (arith, ap (λ l. length (currents fact.moment fact.table l)) is, grown, less, at_most_one fact.moment fact, within)
+
       full_within : (fact.holding == 0) ≡ false → is_some (current fact.moment fact.table fact.key facts) ≡ false
           → nat_le (limit_of fact.table limits) (length (currents fact.moment fact.table facts)) ≡ true
           → length (currents fact.moment fact.table (after limits fact facts)) ≤ limit_of fact.table limits
@@ -100,6 +104,7 @@ module _ (limits : EsisLimits) (fact : Fact) (facts : List Fact) where
           let answered : answer limits fact facts ≡ Full (length (currents fact.moment fact.table facts)) = rw (lasts, new, full) refl in
           let is : after limits fact facts ≡ facts = cond-false (is_noted (answer limits fact facts)) (facts ++ fact ∷ []) facts (ap is_noted answered) in
           omega (arith, ap (λ l. length (currents fact.moment fact.table l)) is, within)
+
       new_within : (fact.holding == 0) ≡ false → is_some (current fact.moment fact.table fact.key facts) ≡ false
           → nat_le (limit_of fact.table limits) (length (currents fact.moment fact.table facts)) ≡ false
           → length (currents fact.moment fact.table (after limits fact facts)) ≤ limit_of fact.table limits

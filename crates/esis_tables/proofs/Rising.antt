@@ -1,5 +1,5 @@
 -- Lists whose keys rise, and one more item in them.
-use Rattle.std.proofs.Common.{◌≡◌, ℕ, suc, if◌then◌else◌, Bool, true, false, cond, List, [], ◌∷◌, ◌++◌, refl, sym, ap, ◌∙◌, inl, inr, ◌+◌, arith, length, map, fold}
+use Rattle.std.proofs.Common.{◌≡◌, ℕ, suc, if◌then◌else◌, Bool, true, false, cond, List, [], ◌∷◌, refl, sym, ap, ◌∙◌, inl, inr, arith, length, fold}
 use Rattle.std.proofs.lemmas.Bool.{cases_Bool, cond_both}
 use Rattle.std.specs.List.{AllByRecursion, filter}
 use Rattle.std.specs.Str.{bytes_eq}
@@ -35,10 +35,18 @@ module _ {X : Type 0} (key : X → List ℕ) where
   put_in-rising x [] rising new = (tt, tt)
   put_in-rising x (y ∷ ys) rising new =
       cond_both (is_before (key x) (key y)) (x ∷ y ∷ ys) (y ∷ put_in key x ys) (IsRising key)
-      (λ t. ((t, all_weaker (λ z. is_before (key y) (key z) ≡ true) (λ z. is_before (key x) (key z) ≡ true)
-      (λ z before. before-trans (key x) (key y) (key z) t before) ys rising.0), rising))
-      (λ f. (all_put_in (λ z. is_before (key y) (key z) ≡ true) x ys (after-other (key x) (key y) (other-back (key y) (key x) new.0) f) rising.0,
-      put_in-rising x ys rising.1 new.1))
+      (λ t. (
+        (
+          t,
+          all_weaker (λ z. is_before (key y) (key z) ≡ true) (λ z. is_before (key x) (key z) ≡ true)
+              (λ z before. before-trans (key x) (key y) (key z) t before) ys rising.0,
+        ),
+        rising,
+      ))
+      (λ f. (
+        all_put_in (λ z. is_before (key y) (key z) ≡ true) x ys (after-other (key x) (key y) (other-back (key y) (key x) new.0) f) rising.0,
+        put_in-rising x ys rising.1 new.1,
+      ))
 
   -- before all of these
   pub put_in-front : (x : X) (xs : List X) → AllByRecursion (λ y. is_before (key x) (key y) ≡ true) xs → put_in key x xs ≡ x ∷ xs
@@ -58,9 +66,11 @@ module _ {X : Type 0} (key : X → List ℕ) where
       let step = filter-put_in p x ys rising.1 in
       elim (cases_Bool (is_before (key x) (key y))) [
         | inl t ↦
-            let before : AllByRecursion (λ z. is_before (key x) (key z) ≡ true) (y ∷ ys) =
-            (t, all_weaker (λ z. is_before (key y) (key z) ≡ true) (λ z. is_before (key x) (key z) ≡ true)
-            (λ z before. before-trans (key x) (key y) (key z) t before) ys rising.0) in
+            let before : AllByRecursion (λ z. is_before (key x) (key z) ≡ true) (y ∷ ys) = (
+              t,
+              all_weaker (λ z. is_before (key y) (key z) ≡ true) (λ z. is_before (key x) (key z) ≡ true)
+                  (λ z before. before-trans (key x) (key y) (key z) t before) ys rising.0,
+            ) in
             let front : put_in key x (filter p (y ∷ ys)) ≡ x ∷ filter p (y ∷ ys) =
             put_in-front x (filter p (y ∷ ys)) (all_filter (λ z. is_before (key x) (key z) ≡ true) p (y ∷ ys) before) in
             ap (filter p) (put_in-front x (y ∷ ys) before) ∙ ap (λ l. cond (p x) l (filter p (y ∷ ys))) (sym front)

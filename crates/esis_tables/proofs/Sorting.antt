@@ -1,6 +1,6 @@
 -- What putting a list in order leaves as it is.
-use Rattle.std.proofs.Common.{◌≡◌, ℕ, zero, suc, ◌+◌, ◌<◌, ◌≤◌, Bool, true, false, cond, ◌||◌, subst, if◌then◌else◌, List, [], ◌∷◌, ◌++◌, Option, None, Some, refl, sym, ap, ◌∙◌, inl, inr, arith, length, map, fold, slice_get}
-use Rattle.std.proofs.lemmas.Bool.{cases_Bool, cond_both}
+use Rattle.std.proofs.Common.{◌≡◌, ℕ, ◌+◌, Bool, true, false, cond, ◌||◌, subst, List, [], ◌∷◌, ◌++◌, Option, None, Some, refl, ap, ◌∙◌, inl, inr, arith, length, map, fold, slice_get}
+use Rattle.std.proofs.lemmas.Bool.{cases_Bool}
 use Rattle.std.specs.List.{AllByRecursion, filter, find, list_any}
 use Rattle.std.specs.Option.{option_to_list}
 use Rattle.std.specs.Str.{bytes_eq}
@@ -21,9 +21,10 @@ module _ {X : Type 0} (key : X → List ℕ) where
   new_with : (x : X) (sorted xs : List X) → NoneHas key (key x) xs → AllByRecursion (λ y. NoneHas key (key y) sorted) xs
       → AllByRecursion (λ y. NoneHas key (key y) (put_in key x sorted)) xs
   new_with x sorted [] others new = tt
-  new_with x sorted (y ∷ ys) others new =
-      (all_put_in key (λ z. bytes_eq (key z) (key y) ≡ false) x sorted (other-back (key y) (key x) others.0) new.0,
-      new_with x sorted ys others.1 new.1)
+  new_with x sorted (y ∷ ys) others new = (
+    all_put_in key (λ z. bytes_eq (key z) (key y) ≡ false) x sorted (other-back (key y) (key x) others.0) new.0,
+    new_with x sorted ys others.1 new.1,
+  )
 
   pub apart-step : (x : X) (sorted xs : List X) → AreApart sorted (x ∷ xs) → AreApart (put_in key x sorted) xs
   apart-step x sorted xs apart = record {

@@ -1,22 +1,19 @@
 -- What the three tables stand for.
-use Rattle.std.proofs.Common.{◌≡◌, ℕ, ◌≤◌, Bool, true, false, List, [], ◌∷◌, ◌++◌, Option, None, Some, MatchOption, refl, sym, ap, subst, ◌∙◌, map}
+use Rattle.std.proofs.Common.{◌≡◌, ℕ, ◌≤◌, List, [], ◌∷◌, None, Some, refl, sym, ap, subst, ◌∙◌}
 use Rattle.std.specs.List.{filter, find, list_any}
 use Rattle.esis_tables.specs.Order.{IsRising}
 use Rattle.std.specs.Option.{option_map}
-use Rattle.esis_tables.specs.declared.fact.EsisLimits.{EsisLimits}
 use Rattle.esis_tables.specs.declared.fact.Gone.{Gone}
-use Rattle.esis_tables.specs.declared.fact.Heard.{Heard}
-use Rattle.esis_tables.specs.declared.fact.Place.{Place}
 use Rattle.esis_tables.specs.declared.fact.TableKind.{TableKind}
 use Rattle.esis_tables.specs.declared.fact.TableKind.TheVariants.{Es, Is, Rd}
 use Rattle.esis_tables.specs.declared.tables.Tables.{Tables}
-use Rattle.esis_tables.specs.Fact.{Fact, after, answer, current, currents, has_key, hearing, is_held, same_table, while_held}
+use Rattle.esis_tables.specs.Fact.{Fact, currents, is_held}
 use Rattle.esis_tables.specs.Gone.{all_gone, ended_keys, gone, gone_from, gone_keys}
-use Rattle.esis_tables.specs.Keeps.{Keeps, answer_of, kept_after, without}
-use Rattle.esis_tables.specs.NextHop.{current_place, is_at, is_router, last, last_router, place_of}
-use Rattle.esis_tables.specs.Stands.{FlushesFirst, KeepsCurrent, Stands, limits_of}
+use Rattle.esis_tables.specs.Keeps.{Keeps, without}
+use Rattle.esis_tables.specs.NextHop.{current_place, is_at, last, place_of}
+use Rattle.esis_tables.specs.Stands.{FlushesFirst, KeepsCurrent, Stands}
 use Rattle.esis_tables.specs.State.{TableState, is_kept_at, is_of, key_in, latest_kept, place_in, place_while_kept}
-use Rattle.esis_tables.proofs.Current.{answer_is, current_is, currents_later, heard_keeps, keeps-elsewhere, later_keeps}
+use Rattle.esis_tables.proofs.Current.{current_is, currents_later, later_keeps}
 use Rattle.esis_tables.proofs.Keeping.{rising_of}
 use Rattle.esis_tables.proofs.Latest.{last_kept}
 use Rattle.esis_tables.proofs.LookingUp.{at_kept, place_kept}
@@ -130,59 +127,63 @@ module _ (old new : Tables) (facts : List Fact) (now : ℕ) (left : List Gone) (
   pub flush_system : (key : List ℕ) → Flushed Es new.systems facts now stands.systems_left key
       → KeepsCurrent Is new.routers facts now stands.routers_left → KeepsCurrent Rd new.redirects facts now stands.redirects_left
       → FlushesFirst (Some (gone_from Es key)) new facts now left
-  flush_system key flushed routers redirects =
-      (all_gone flushed.others stands.routers_left stands.redirects_left,
-      stands.left_is ∙ ap (λ l. all_gone l stands.routers_left stands.redirects_left) flushed.left_is,
-      record {
-        systems_left = flushed.others;
-        routers_left = stands.routers_left;
-        redirects_left = stands.redirects_left;
-        systems = flushed.keeps;
-        routers = routers;
-        redirects = redirects;
-        left_is = refl;
-      })
+  flush_system key flushed routers redirects = (
+    all_gone flushed.others stands.routers_left stands.redirects_left,
+    stands.left_is ∙ ap (λ l. all_gone l stands.routers_left stands.redirects_left) flushed.left_is,
+    record {
+      systems_left = flushed.others;
+      routers_left = stands.routers_left;
+      redirects_left = stands.redirects_left;
+      systems = flushed.keeps;
+      routers = routers;
+      redirects = redirects;
+      left_is = refl;
+    },
+  )
 
   pub flush_router : (key : List ℕ) → (stands.systems_left ≡ []) × KeepsCurrent Es new.systems facts now []
       → Flushed Is new.routers facts now stands.routers_left key → KeepsCurrent Rd new.redirects facts now stands.redirects_left
       → FlushesFirst (Some (gone_from Is key)) new facts now left
-  flush_router key systems flushed redirects =
-      (all_gone [] flushed.others stands.redirects_left,
-      stands.left_is ∙ ap (λ l. all_gone l stands.routers_left stands.redirects_left) systems.0
-      ∙ ap (λ l. all_gone [] l stands.redirects_left) flushed.left_is,
-      record {
-        systems_left = [];
-        routers_left = flushed.others;
-        redirects_left = stands.redirects_left;
-        systems = systems.1;
-        routers = flushed.keeps;
-        redirects = redirects;
-        left_is = refl;
-      })
+  flush_router key systems flushed redirects = (
+    all_gone [] flushed.others stands.redirects_left,
+    stands.left_is ∙ ap (λ l. all_gone l stands.routers_left stands.redirects_left) systems.0
+        ∙ ap (λ l. all_gone [] l stands.redirects_left) flushed.left_is,
+    record {
+      systems_left = [];
+      routers_left = flushed.others;
+      redirects_left = stands.redirects_left;
+      systems = systems.1;
+      routers = flushed.keeps;
+      redirects = redirects;
+      left_is = refl;
+    },
+  )
 
   pub flush_redirect : (key : List ℕ) → (stands.systems_left ≡ []) × KeepsCurrent Es new.systems facts now []
       → (stands.routers_left ≡ []) × KeepsCurrent Is new.routers facts now []
       → Flushed Rd new.redirects facts now stands.redirects_left key
       → FlushesFirst (Some (gone_from Rd key)) new facts now left
-  flush_redirect key systems routers flushed =
-      (all_gone [] [] flushed.others,
-      stands.left_is ∙ ap (λ l. all_gone l stands.routers_left stands.redirects_left) systems.0
-      ∙ ap (λ l. all_gone [] l stands.redirects_left) routers.0 ∙ ap (all_gone [] []) flushed.left_is,
-      record {
-        systems_left = [];
-        routers_left = [];
-        redirects_left = flushed.others;
-        systems = systems.1;
-        routers = routers.1;
-        redirects = flushed.keeps;
-        left_is = refl;
-      })
+  flush_redirect key systems routers flushed = (
+    all_gone [] [] flushed.others,
+    stands.left_is ∙ ap (λ l. all_gone l stands.routers_left stands.redirects_left) systems.0
+        ∙ ap (λ l. all_gone [] l stands.redirects_left) routers.0 ∙ ap (all_gone [] []) flushed.left_is,
+    record {
+      systems_left = [];
+      routers_left = [];
+      redirects_left = flushed.others;
+      systems = systems.1;
+      routers = routers.1;
+      redirects = flushed.keeps;
+      left_is = refl;
+    },
+  )
 
   pub flush_nothing : (stands.systems_left ≡ []) × KeepsCurrent Es new.systems facts now []
       → (stands.routers_left ≡ []) × KeepsCurrent Is new.routers facts now []
       → (stands.redirects_left ≡ []) × KeepsCurrent Rd new.redirects facts now []
       → FlushesFirst None new facts now left
-  flush_nothing systems routers redirects =
-      (stands.left_is ∙ ap (λ l. all_gone l stands.routers_left stands.redirects_left) systems.0
-      ∙ ap (λ l. all_gone [] l stands.redirects_left) routers.0 ∙ ap (all_gone [] []) redirects.0,
-      stands_from new facts now (record { systems = systems.1; routers = routers.1; redirects = redirects.1 }))
+  flush_nothing systems routers redirects = (
+    stands.left_is ∙ ap (λ l. all_gone l stands.routers_left stands.redirects_left) systems.0
+        ∙ ap (λ l. all_gone [] l stands.redirects_left) routers.0 ∙ ap (all_gone [] []) redirects.0,
+    stands_from new facts now (record { systems = systems.1; routers = routers.1; redirects = redirects.1 }),
+  )

@@ -53,7 +53,14 @@ impl Tables {
     /// `Zero` comes exactly where `hold` is 0, and the key is then kept no more; else `Again` where the key is kept, with
     /// what is heard now in place of what was heard before; else `Full` exactly where the table keeps as many keys as it
     /// may, and nothing changes; else `New`. It takes no memory.
-    pub fn hear(&mut self, now: u64, table: TableKind, key: Address, place: Place, hold: u16) -> Heard
+    pub fn hear(
+        &mut self,
+        now: u64,
+        table: TableKind,
+        key: Address,
+        place: Place,
+        hold: u16,
+    ) -> Heard
         requires { now < 2 ^ 62 }
         // Whatever facts the tables stand for, the answer is theirs, and they then stand for the facts after this one.
         ensures answered { (facts : List Fact) → Stands self.old facts now []

@@ -21,9 +21,9 @@ returns-in-Es-clause-stands c facts stands =
     let limits = limits_of old in
     let fact = hearing c.args.now Es c.args.key c.args.place c.args.hold in
     rw c.in-Es.is (stands_from (record { systems = c.hear.new.self; routers = c.args.self.now.routers; redirects = c.args.self.now.redirects }) (after limits fact facts) c.args.now (record {
-    systems = heard_keeps old.systems limits fact facts refl refl ready.systems c.hear.new.self (c.hear.ensures.keeps Es ready.systems.kept ready.systems.keeps);
-    routers = keeps-elsewhere Is old.routers c.args.now limits fact facts [] refl ready.routers;
-    redirects = keeps-elsewhere Rd old.redirects c.args.now limits fact facts [] refl ready.redirects;
+      systems = heard_keeps old.systems limits fact facts refl refl ready.systems c.hear.new.self (c.hear.ensures.keeps Es ready.systems.kept ready.systems.keeps);
+      routers = keeps-elsewhere Is old.routers c.args.now limits fact facts [] refl ready.routers;
+      redirects = keeps-elsewhere Rd old.redirects c.args.now limits fact facts [] refl ready.redirects;
     }))
 
 pub returns-in-Is-clause-answered : goal.returns-in-Is-clause-answered
@@ -41,9 +41,9 @@ returns-in-Is-clause-stands c facts stands =
     let limits = limits_of old in
     let fact = hearing c.args.now Is c.args.key c.args.place c.args.hold in
     rw c.in-Is.is (stands_from (record { systems = c.args.self.now.systems; routers = c.hear-in-Is.new.self; redirects = c.args.self.now.redirects }) (after limits fact facts) c.args.now (record {
-    systems = keeps-elsewhere Es old.systems c.args.now limits fact facts [] refl ready.systems;
-    routers = heard_keeps old.routers limits fact facts refl refl ready.routers c.hear-in-Is.new.self (c.hear-in-Is.ensures.keeps Is ready.routers.kept ready.routers.keeps);
-    redirects = keeps-elsewhere Rd old.redirects c.args.now limits fact facts [] refl ready.redirects;
+      systems = keeps-elsewhere Es old.systems c.args.now limits fact facts [] refl ready.systems;
+      routers = heard_keeps old.routers limits fact facts refl refl ready.routers c.hear-in-Is.new.self (c.hear-in-Is.ensures.keeps Is ready.routers.kept ready.routers.keeps);
+      redirects = keeps-elsewhere Rd old.redirects c.args.now limits fact facts [] refl ready.redirects;
     }))
 
 pub returns-in-Rd-clause-answered : goal.returns-in-Rd-clause-answered
@@ -61,7 +61,7 @@ returns-in-Rd-clause-stands c facts stands =
     let limits = limits_of old in
     let fact = hearing c.args.now Rd c.args.key c.args.place c.args.hold in
     rw c.in-Rd.is (stands_from (record { systems = c.args.self.now.systems; routers = c.args.self.now.routers; redirects = c.hear-in-Rd.new.self }) (after limits fact facts) c.args.now (record {
-    systems = keeps-elsewhere Es old.systems c.args.now limits fact facts [] refl ready.systems;
-    routers = keeps-elsewhere Is old.routers c.args.now limits fact facts [] refl ready.routers;
-    redirects = heard_keeps old.redirects limits fact facts refl refl ready.redirects c.hear-in-Rd.new.self (c.hear-in-Rd.ensures.keeps Rd ready.redirects.kept ready.redirects.keeps);
+      systems = keeps-elsewhere Es old.systems c.args.now limits fact facts [] refl ready.systems;
+      routers = keeps-elsewhere Is old.routers c.args.now limits fact facts [] refl ready.routers;
+      redirects = heard_keeps old.redirects limits fact facts refl refl ready.redirects c.hear-in-Rd.new.self (c.hear-in-Rd.ensures.keeps Rd ready.redirects.kept ready.redirects.keeps);
     }))
