@@ -49,12 +49,6 @@ at_most_one now fact = cond_both (is_held now fact) (fact ∷ []) [] (λ l. leng
 
 -- a hearing of this table
 module _ (limits : EsisLimits) (fact : Fact) (facts : List Fact) where
-  known : List Fact
-  known = currents fact.moment fact.table facts
-
-  limit : ℕ
-  limit = limit_of fact.table limits
-
   grown : length (currents fact.moment fact.table (facts ++ fact ∷ []))
       ≡ length (without fact.key (currents fact.moment fact.table facts)) + length (filter (is_held fact.moment) (fact ∷ []))
   grown = ap length (currents-there fact.moment fact facts (same_table-itself fact.table))
