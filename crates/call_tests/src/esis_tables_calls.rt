@@ -39,23 +39,21 @@ fn heard(alloc: Global) -> Result<Tables, Fail> {
 fn answers_hearings(rt: HostRuntime) -> Result<(), Fail> {
     let mut tables = Tables::new(rt.alloc(), LIMITS)?;
     let hearings = [
-        (0, TableKind::Is, 0xff, 120, Heard::New),
-        (1, TableKind::Is, 0xff, 120, Heard::Again),
-        (1, TableKind::Es, 0x02, 120, Heard::New),
-        (1, TableKind::Es, 0x01, 120, Heard::New),
-        (1, TableKind::Es, 0x03, 120, Heard::Full { entries: 2 }),
-        (2, TableKind::Es, 0x01, 60, Heard::Again),
-        (2, TableKind::Es, 0x03, 0, Heard::Zero),
-        (2, TableKind::Es, 0x02, 0, Heard::Zero),
-        (2, TableKind::Es, 0x03, 120, Heard::New),
-        (2, TableKind::Rd, 0x01, 120, Heard::New),
-        (2, TableKind::Rd, 0x04, 120, Heard::Full { entries: 1 }),
+        (TableKind::Is, 0xff, 120, Heard::New),
+        (TableKind::Is, 0xff, 120, Heard::Again),
+        (TableKind::Es, 0x02, 120, Heard::New),
+        (TableKind::Es, 0x01, 120, Heard::New),
+        (TableKind::Es, 0x03, 120, Heard::Full { entries: 2 }),
+        (TableKind::Es, 0x01, 60, Heard::Again),
+        (TableKind::Es, 0x03, 0, Heard::Zero),
+        (TableKind::Es, 0x02, 0, Heard::Zero),
+        (TableKind::Es, 0x03, 120, Heard::New),
+        (TableKind::Rd, 0x01, 120, Heard::New),
+        (TableKind::Rd, 0x04, 120, Heard::Full { entries: 1 }),
     ];
-    for (now, table, key, hold, answer) in hearings {
-        assert_eq!(rt;
-            tables.hear(now, table, address(key)?, place(0x0a)?, hold),
-            answer
-        );
+    for (table, key, hold, answer) in hearings {
+        let heard = tables.hear(1, table, address(key)?, place(0x0a)?, hold);
+        assert_eq!(rt; heard, answer);
     }
     Ok(())
 }
@@ -97,11 +95,7 @@ fn flushes_in_order(rt: HostRuntime) -> Result<(), Fail> {
 #[test]
 fn gives_the_router_heard_last(rt: HostRuntime) -> Result<(), Fail> {
     let mut tables = Tables::new(rt.alloc(), LIMITS)?;
-    let hearings = [
-        (0, 0xff, 0x0a, 120),
-        (1, 0xfe, 0x0c, 120),
-        (2, 0xff, 0x0a, 60),
-    ];
+    let hearings = [(0, 0xff, 0x0a, 120), (1, 0xfe, 0x0c, 120), (2, 0xff, 0x0a, 60)];
     for (now, key, snpa, hold) in hearings {
         let _ = tables.hear(now, TableKind::Is, address(key)?, place(snpa)?, hold);
         assert_eq!(rt; tables.last_router(now), Some(place(snpa)?));

@@ -1,10 +1,10 @@
 -- Which keys are gone.
-use Rattle.std.proofs.Common.{◌≡◌, ℕ, ◌≤◌, Bool, true, false, ◌&&◌, ◌||◌, cond, not, List, [], ◌∷◌, Option, None, Some, is_none, is_some, refl, sym, ap, subst, ◌∙◌, inl, inr, map}
+use Rattle.std.proofs.Common.{◌≡◌, ℕ, ◌≤◌, Bool, false, ◌&&◌, ◌||◌, not, List, [], ◌∷◌, is_none, is_some, refl, ap, ◌∙◌, inl, inr, map}
 use Rattle.std.proofs.lemmas.Bool.{cases_Bool, or_left}
 use Rattle.std.specs.List.{AllByRecursion, filter, find, list_any}
 use Rattle.std.specs.Str.{bytes_eq}
 use Rattle.esis_tables.specs.declared.fact.TableKind.{TableKind}
-use Rattle.esis_tables.specs.Fact.{Fact, current, currents, has_key, is_held, last_of, latest, while_held}
+use Rattle.esis_tables.specs.Fact.{Fact, current, currents, has_key, is_held, latest, while_held}
 use Rattle.esis_tables.specs.Gone.{gone_keys, key_of}
 use Rattle.esis_tables.specs.Keeps.{AreDistinct}
 use Rattle.esis_tables.specs.Order.{IsRising}

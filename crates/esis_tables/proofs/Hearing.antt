@@ -1,16 +1,15 @@
 -- What a table keeps after a hearing.
-use Rattle.std.proofs.Common.{◌≡◌, ℕ, suc, ◌+◌, ◌-◌, ◌*◌, ◌<◌, ◌≤◌, ◌^◌, ◌==◌, nat_le, Bool, true, false, not, List, [], ◌∷◌, ◌++◌, Option, None, Some, Result, Ok, Err, refl, sym, ap, subst, ◌∙◌, ◌⊎◌, inl, inr, arith, length, map, slice_get, remove, insert, IfOk, IfErr}
-use Rattle.std.proofs.lemmas.Bool.{cases_Bool, or_parts, or_from, lt-leb, le-leb, leb-false, leb-true, ne_eqb, both_ways}
+use Rattle.std.proofs.Common.{◌≡◌, ℕ, suc, ◌-◌, ◌<◌, ◌≤◌, ◌^◌, ◌==◌, nat_le, Bool, true, false, List, [], ◌∷◌, Some, refl, sym, ap, subst, ◌∙◌, ◌⊎◌, inl, inr, arith, length, map, slice_get, remove, insert}
+use Rattle.std.proofs.lemmas.Bool.{cases_Bool, or_parts, or_from, lt-leb, le-leb, leb-false, ne_eqb, both_ways}
 use Rattle.std.proofs.lemmas.List.Edits.{length-remove}
 use Rattle.std.proofs.lemmas.Option.{slice_get_within}
 use Rattle.std.specs.List.{AllByRecursion, list_any}
-use Rattle.esis_tables.specs.declared.fact.Heard.{Heard}
-use Rattle.esis_tables.specs.declared.fact.Heard.TheVariants.{New, Again, Zero, Full}
+use Rattle.esis_tables.specs.declared.fact.Heard.TheVariants.{New, Again, Full}
 use Rattle.esis_tables.specs.declared.table.Entry.{Entry}
 use Rattle.esis_tables.specs.Fact.{Fact, end_of, has_key}
-use Rattle.esis_tables.specs.Keeps.{Keeps, AreDistinct, answer_of, kept_after, kept_with, without, entries_of}
+use Rattle.esis_tables.specs.Keeps.{Keeps, answer_of, kept_after, kept_with, without, entries_of}
 use Rattle.esis_tables.specs.Order.{IsRising, put_in}
-use Rattle.esis_tables.specs.State.{TableState, IsAt, IsGap, closed, entry_for, is_of, key_in, new_entry, raised}
+use Rattle.esis_tables.specs.State.{TableState, IsAt, IsGap, closed, is_of, key_in, new_entry, raised}
 use Rattle.esis_tables.proofs.Keeping.{rising_of, any_kept, noted, forgotten, distinct-push, distinct-without, splits_of, found_any}
 use Rattle.esis_tables.proofs.Places.{insert_is, find_is}
 use Rattle.esis_tables.proofs.Ranks.{length-entries, without_none}

@@ -1,14 +1,12 @@
 -- The last facts of the keys of a table.
-use Rattle.std.proofs.Common.{◌≡◌, ℕ, ◌+◌, ◌*◌, ◌<◌, ◌≤◌, Bool, true, false, ◌&&◌, ◌||◌, cond, not, if◌then◌else◌, nat_lt, List, [], ◌∷◌, ◌++◌, Option, None, Some, is_none, is_some, refl, sym, ap, subst, ◌∙◌, inl, inr, arith, length}
+use Rattle.std.proofs.Common.{◌≡◌, ℕ, Bool, true, false, ◌&&◌, if◌then◌else◌, List, [], ◌∷◌, ◌++◌, Option, None, Some, is_none, refl, sym, ap, ◌∙◌, inl, inr}
 use Rattle.std.proofs.lemmas.Bool.{cases_Bool, cond_both, cond-true, cond-false, and_left, and_right, and_from, and_parts}
-use Rattle.std.proofs.lemmas.List.Elements.{filter-append}
-use Rattle.std.specs.List.{AllByRecursion, filter, find, list_any}
+use Rattle.std.specs.List.{AllByRecursion, find}
 use Rattle.std.specs.Option.{option_or}
 use Rattle.esis_tables.specs.declared.fact.TableKind.{TableKind}
-use Rattle.esis_tables.specs.Fact.{Fact, current, currents, end_of, has_key, is_about, is_held, last_of, latest, same_table, while_held}
+use Rattle.esis_tables.specs.Fact.{Fact, has_key, is_about, last_of, latest, same_table}
 use Rattle.esis_tables.specs.Keeps.{AreDistinct, without}
 use Rattle.esis_tables.proofs.Addresses.{same_from, same-back, other-back}
-use Rattle.esis_tables.proofs.Rising.{all_filter}
 
 or_none : (o : Option Fact) → option_or o None ≡ o
 or_none None = refl

@@ -1,17 +1,17 @@
 -- What a table keeps after an entry is put in or taken out.
-use Rattle.std.proofs.Common.{◌≡◌, ℕ, ◌+◌, ◌-◌, ◌<◌, ◌≤◌, ◌^◌, Bool, true, false, ◌||◌, cond, not, List, [], ◌∷◌, ◌++◌, Option, None, Some, refl, sym, ap, subst, ◌∙◌, inl, inr, arith, length, map, slice_get, remove}
+use Rattle.std.proofs.Common.{◌≡◌, ℕ, ◌+◌, ◌-◌, ◌<◌, ◌^◌, Bool, true, false, ◌||◌, not, List, [], ◌∷◌, ◌++◌, Some, refl, sym, ap, subst, ◌∙◌, inl, inr, length, map, slice_get, remove}
 use Rattle.std.proofs.lemmas.Bool.{cases_Bool, cond_both, or_parts, or_left, or_right}
 use Rattle.std.specs.List.{AllByRecursion, filter, find, list_any}
 use Rattle.esis_tables.specs.declared.table.Entry.{Entry}
-use Rattle.esis_tables.specs.Fact.{Fact, end_of, has_key}
-use Rattle.esis_tables.specs.Keeps.{Keeps, entries_of, AreDistinct, without, kept_with}
+use Rattle.esis_tables.specs.Fact.{Fact, has_key}
+use Rattle.esis_tables.specs.Keeps.{Keeps, entries_of, AreDistinct, without}
 use Rattle.esis_tables.specs.Order.{in_order, put_in, IsRising}
-use Rattle.esis_tables.specs.State.{TableState, IsAt, IsGap, entry_for, new_entry, key_in, is_of, raised, closed}
+use Rattle.esis_tables.specs.State.{TableState, IsAt, IsGap, entry_for, key_in, is_of, raised, closed}
 use Rattle.esis_tables.proofs.Addresses.{other-back}
 use Rattle.esis_tables.proofs.Rising.{NoneHas, all_filter}
 use Rattle.esis_tables.proofs.Sorting.{in_order-rising, filter-in_order, in_order-push, list_any-in_order, find-in_order, map-in_order}
-use Rattle.esis_tables.proofs.Places.{remove_is, find_is, find_none, none_has, Splits}
-use Rattle.esis_tables.proofs.Ranks.{differ-entries, length-entries, entries_of-push, entries_of-without}
+use Rattle.esis_tables.proofs.Places.{remove_is, find_is, none_has, Splits}
+use Rattle.esis_tables.proofs.Ranks.{differ-entries, entries_of-push, entries_of-without}
 
 pub rising_of : (table : TableState) (kept : List Fact) → Keeps table kept → IsRising key_in table.entries
 rising_of table kept keeps =

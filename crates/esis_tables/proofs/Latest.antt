@@ -1,5 +1,5 @@
 -- The entry that was heard last.
-use Rattle.std.proofs.Common.{◌≡◌, ℕ, suc, ◌+◌, ◌<◌, ◌≤◌, Bool, true, false, ◌&&◌, cond, nat_lt, List, [], ◌∷◌, Option, None, Some, MatchOption, ◌⊎◌, refl, sym, ap, subst, ◌∙◌, inl, inr, arith, length, fold}
+use Rattle.std.proofs.Common.{◌≡◌, ℕ, ◌+◌, ◌<◌, ◌≤◌, true, false, ◌&&◌, nat_lt, List, [], ◌∷◌, Option, None, Some, MatchOption, ◌⊎◌, refl, sym, ap, subst, ◌∙◌, inl, inr, arith, length, fold}
 use Rattle.std.proofs.lemmas.Bool.{cases_Bool, ltb-true, ltb-false, and_parts, and_cases, both_ways, false_from_ne_true}
 use Rattle.std.specs.List.{AllByRecursion, filter}
 use Rattle.std.specs.Option.{option_map, option_or}
@@ -9,7 +9,7 @@ use Rattle.esis_tables.specs.Fact.{Fact, is_held}
 use Rattle.esis_tables.specs.Keeps.{Keeps, entries_of}
 use Rattle.esis_tables.specs.NextHop.{last, place_of}
 use Rattle.esis_tables.specs.Order.{in_order, put_in, is_before}
-use Rattle.esis_tables.specs.State.{TableState, entry_for, is_kept, is_later_than, key_in, latest_kept, place_in}
+use Rattle.esis_tables.specs.State.{TableState, is_kept, is_later_than, key_in, latest_kept, place_in}
 use Rattle.esis_tables.proofs.Rising.{filter_none}
 
 -- the entry is one of these

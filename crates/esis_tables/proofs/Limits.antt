@@ -1,5 +1,5 @@
 -- No table has more current keys than it may keep.
-use Rattle.std.proofs.Common.{◌≡◌, ℕ, suc, ◌+◌, ◌-◌, ◌*◌, ◌<◌, ◌≤◌, ◌==◌, Bool, true, false, cond, not, nat_lt, nat_le, if◌then◌else◌, List, [], ◌∷◌, ◌++◌, Option, None, Some, is_some, refl, sym, ap, subst, ◌∙◌, inl, inr, arith, length, length-append, fold}
+use Rattle.std.proofs.Common.{◌≡◌, ℕ, suc, ◌+◌, ◌<◌, ◌≤◌, ◌==◌, true, false, cond, not, nat_le, List, [], ◌∷◌, ◌++◌, is_some, refl, ap, subst, ◌∙◌, inl, inr, arith, length, length-append, fold}
 use Rattle.std.proofs.lemmas.Bool.{cases_Bool, cond_both, cond-true, cond-false, le-ltb, leb-false, eqb-true}
 use Rattle.std.specs.List.{filter, find}
 use Rattle.esis_tables.specs.declared.fact.EsisLimits.{EsisLimits}
@@ -8,7 +8,7 @@ use Rattle.esis_tables.specs.declared.fact.Heard.TheVariants.{New, Again, Zero, 
 use Rattle.esis_tables.specs.declared.fact.TableKind.{TableKind}
 use Rattle.esis_tables.specs.declared.fact.TableKind.TheVariants.{Es, Is, Rd}
 use Rattle.esis_tables.specs.Claims.{NeverFall, heard_all}
-use Rattle.esis_tables.specs.Fact.{Fact, after, answer, current, currents, end_of, has_key, is_held, is_noted, last_of, latest, limit_of, same_table, while_held}
+use Rattle.esis_tables.specs.Fact.{Fact, after, answer, current, currents, end_of, has_key, is_held, is_noted, limit_of, same_table}
 use Rattle.esis_tables.specs.Keeps.{without}
 use Rattle.esis_tables.proofs.Current.{after-elsewhere, currents-there, found_current, fewer_later}
 
@@ -49,12 +49,6 @@ at_most_one now fact = cond_both (is_held now fact) (fact ∷ []) [] (λ l. leng
 
 -- a hearing of this table
 module _ (limits : EsisLimits) (fact : Fact) (facts : List Fact) where
-  known : List Fact
-  known = currents fact.moment fact.table facts
-
-  limit : ℕ
-  limit = limit_of fact.table limits
-
   grown : length (currents fact.moment fact.table (facts ++ fact ∷ []))
       ≡ length (without fact.key (currents fact.moment fact.table facts)) + length (filter (is_held fact.moment) (fact ∷ []))
   grown = ap length (currents-there fact.moment fact facts (same_table-itself fact.table))

@@ -1,19 +1,17 @@
 -- What a look-up in a table answers.
-use Rattle.std.proofs.Common.{◌≡◌, ℕ, suc, ◌+◌, ◌<◌, ◌≤◌, Bool, true, false, ◌&&◌, ◌||◌, cond, nat_lt, if◌then◌else◌, List, [], ◌∷◌, ◌++◌, Option, None, Some, MatchOption, ◌⊎◌, refl, sym, ap, subst, ◌∙◌, inl, inr, arith, length, fold, slice_get, get_or}
-use Rattle.std.proofs.lemmas.Bool.{cases_Bool, cond_both, cond-true, cond-false, lt-ltb, le-ltb, ltb-true, ltb-false, and_parts, and_cases, and_from}
+use Rattle.std.proofs.Common.{◌≡◌, ℕ, ◌<◌, ◌≤◌, Bool, ◌&&◌, ◌||◌, List, [], ◌∷◌, None, Some, refl, sym, ap, ◌∙◌, inl, inr, get_or}
+use Rattle.std.proofs.lemmas.Bool.{cases_Bool, cond-true, cond-false, lt-ltb, le-ltb}
 use Rattle.std.proofs.lemmas.Option.{get_or_from_slice_get}
-use Rattle.std.specs.List.{AllByRecursion, filter, find, list_any}
-use Rattle.std.specs.Option.{option_map, option_or}
-use Rattle.esis_tables.specs.declared.fact.Place.{Place}
+use Rattle.std.specs.List.{filter, find, list_any}
+use Rattle.std.specs.Option.{option_map}
 use Rattle.esis_tables.specs.declared.table.Entry.{Entry}
-use Rattle.esis_tables.specs.Fact.{Fact, end_of, has_key, is_held, while_held}
-use Rattle.esis_tables.specs.Keeps.{Keeps, entries_of, without}
-use Rattle.esis_tables.specs.NextHop.{is_at, last, place_of}
-use Rattle.esis_tables.specs.Order.{in_order, put_in, IsRising}
-use Rattle.esis_tables.specs.State.{TableState, IsAt, IsGap, entry_for, is_kept, is_kept_at, is_later_than, is_of, key_in, latest_kept, place_in, place_while_kept}
+use Rattle.esis_tables.specs.Fact.{Fact, has_key, is_held, while_held}
+use Rattle.esis_tables.specs.Keeps.{Keeps, entries_of}
+use Rattle.esis_tables.specs.NextHop.{is_at, place_of}
+use Rattle.esis_tables.specs.Order.{IsRising}
+use Rattle.esis_tables.specs.State.{TableState, IsAt, IsGap, is_kept, is_kept_at, is_of, key_in, place_while_kept}
 use Rattle.esis_tables.proofs.Keeping.{any_kept, found_in, splits_of}
 use Rattle.esis_tables.proofs.Places.{find_is, find_none, none_has}
-use Rattle.esis_tables.proofs.Rising.{filter_none}
 
 -- the entry of a key, read at its place
 read_there : (entries : List Entry) (key : List ℕ) (at : ℕ) (entry : Entry) → IsAt entries key at → entry ≡ get_or entries at entry

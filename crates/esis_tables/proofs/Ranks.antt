@@ -1,11 +1,11 @@
 -- The entries of facts, and their ranks after a hearing and after one is taken out.
-use Rattle.std.proofs.Common.{◌≡◌, ℕ, suc, ◌+◌, ◌-◌, ◌<◌, ◌≤◌, ◌^◌, Bool, true, false, cond, not, min, nat_lt, if◌then◌else◌, List, [], ◌∷◌, ◌++◌, Option, None, Some, refl, sym, ap, subst, ◌∙◌, inl, inr, arith, length, map, length-append}
+use Rattle.std.proofs.Common.{◌≡◌, ℕ, suc, ◌+◌, ◌-◌, ◌<◌, ◌≤◌, ◌^◌, true, false, not, min, nat_lt, List, [], ◌∷◌, ◌++◌, Some, refl, sym, ap, subst, ◌∙◌, inl, inr, arith, length, map, length-append}
 use Rattle.std.proofs.lemmas.Bool.{cases_Bool, cond-true, cond-false, lt-ltb, le-ltb}
-use Rattle.std.specs.List.{AllByRecursion, filter, find, list_any}
+use Rattle.std.specs.List.{AllByRecursion, filter, find}
 use Rattle.esis_tables.specs.declared.table.Entry.{Entry}
-use Rattle.esis_tables.specs.Fact.{Fact, end_of, has_key}
-use Rattle.esis_tables.specs.Keeps.{entries_of, AreDistinct, without, kept_with}
-use Rattle.esis_tables.specs.State.{entry_for, key_in, is_of, raised, closed, new_entry}
+use Rattle.esis_tables.specs.Fact.{Fact, has_key}
+use Rattle.esis_tables.specs.Keeps.{entries_of, AreDistinct, without}
+use Rattle.esis_tables.specs.State.{entry_for, key_in, is_of, raised, closed}
 use Rattle.esis_tables.proofs.Addresses.{same_from}
 use Rattle.esis_tables.proofs.Rising.{Differ, NoneHas, filter_all, all_weaker}
 use Rattle.esis_tables.proofs.Steps.{with_rank}

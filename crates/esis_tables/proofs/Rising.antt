@@ -1,9 +1,9 @@
 -- Lists whose keys rise, and one more item in them.
-use Rattle.std.proofs.Common.{◌≡◌, ℕ, suc, if◌then◌else◌, Bool, true, false, cond, List, [], ◌∷◌, ◌++◌, refl, sym, ap, ◌∙◌, inl, inr, ◌+◌, arith, length, map, fold}
+use Rattle.std.proofs.Common.{◌≡◌, ℕ, suc, if◌then◌else◌, Bool, true, false, cond, List, [], ◌∷◌, refl, sym, ap, ◌∙◌, inl, inr, arith, length}
 use Rattle.std.proofs.lemmas.Bool.{cases_Bool, cond_both}
 use Rattle.std.specs.List.{AllByRecursion, filter}
 use Rattle.std.specs.Str.{bytes_eq}
-use Rattle.esis_tables.specs.Order.{is_before, put_in, in_order, IsRising}
+use Rattle.esis_tables.specs.Order.{is_before, put_in, IsRising}
 use Rattle.esis_tables.proofs.Addresses.{before-trans, after-other, other-back}
 
 pub all_weaker : {X : Type 0} (P Q : X → Type 0) → ((x : X) → P x → Q x) → (xs : List X) → AllByRecursion P xs → AllByRecursion Q xs
@@ -76,13 +76,6 @@ module _ {X : Type 0} (key : X → List ℕ) where
             ap (filter p) (put_in-front x (y ∷ ys) before) ∙ ap (λ l. cond (p x) l (filter p (y ∷ ys))) (sym front)
         | inr f ↦ grind (arith, f, step)
       ]
-
-  all_in_order_from : (P : X → Type 0) (sorted xs : List X) → AllByRecursion P sorted → AllByRecursion P xs → AllByRecursion P (fold (λ s x. put_in key x s) sorted xs)
-  all_in_order_from P sorted [] here all = here
-  all_in_order_from P sorted (x ∷ xs) here all = all_in_order_from P (put_in key x sorted) xs (all_put_in P x sorted all.0 here) all.1
-
-  pub all_in_order : (P : X → Type 0) (xs : List X) → AllByRecursion P xs → AllByRecursion P (in_order key xs)
-  all_in_order P xs all = all_in_order_from P [] xs tt all
 
 -- nothing passes a test that nothing passes
 pub filter_none : {X : Type 0} (p : X → Bool) (xs : List X) → AllByRecursion (λ x. p x ≡ false) xs → filter p xs ≡ []

@@ -1,22 +1,19 @@
 -- What the three tables stand for.
-use Rattle.std.proofs.Common.{◌≡◌, ℕ, ◌≤◌, Bool, true, false, List, [], ◌∷◌, ◌++◌, Option, None, Some, MatchOption, refl, sym, ap, subst, ◌∙◌, map}
+use Rattle.std.proofs.Common.{◌≡◌, ℕ, ◌≤◌, List, [], ◌∷◌, None, Some, refl, sym, ap, subst, ◌∙◌}
 use Rattle.std.specs.List.{filter, find, list_any}
 use Rattle.esis_tables.specs.Order.{IsRising}
 use Rattle.std.specs.Option.{option_map}
-use Rattle.esis_tables.specs.declared.fact.EsisLimits.{EsisLimits}
 use Rattle.esis_tables.specs.declared.fact.Gone.{Gone}
-use Rattle.esis_tables.specs.declared.fact.Heard.{Heard}
-use Rattle.esis_tables.specs.declared.fact.Place.{Place}
 use Rattle.esis_tables.specs.declared.fact.TableKind.{TableKind}
 use Rattle.esis_tables.specs.declared.fact.TableKind.TheVariants.{Es, Is, Rd}
 use Rattle.esis_tables.specs.declared.tables.Tables.{Tables}
-use Rattle.esis_tables.specs.Fact.{Fact, after, answer, current, currents, has_key, hearing, is_held, same_table, while_held}
+use Rattle.esis_tables.specs.Fact.{Fact, currents, is_held}
 use Rattle.esis_tables.specs.Gone.{all_gone, ended_keys, gone, gone_from, gone_keys}
-use Rattle.esis_tables.specs.Keeps.{Keeps, answer_of, kept_after, without}
-use Rattle.esis_tables.specs.NextHop.{current_place, is_at, is_router, last, last_router, place_of}
-use Rattle.esis_tables.specs.Stands.{FlushesFirst, KeepsCurrent, Stands, limits_of}
+use Rattle.esis_tables.specs.Keeps.{Keeps, without}
+use Rattle.esis_tables.specs.NextHop.{current_place, is_at, last, place_of}
+use Rattle.esis_tables.specs.Stands.{FlushesFirst, KeepsCurrent, Stands}
 use Rattle.esis_tables.specs.State.{TableState, is_kept_at, is_of, key_in, latest_kept, place_in, place_while_kept}
-use Rattle.esis_tables.proofs.Current.{answer_is, current_is, currents_later, heard_keeps, keeps-elsewhere, later_keeps}
+use Rattle.esis_tables.proofs.Current.{current_is, currents_later, later_keeps}
 use Rattle.esis_tables.proofs.Keeping.{rising_of}
 use Rattle.esis_tables.proofs.Latest.{last_kept}
 use Rattle.esis_tables.proofs.LookingUp.{at_kept, place_kept}

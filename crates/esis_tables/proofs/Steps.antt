@@ -1,5 +1,5 @@
 -- One more entry whose rank changes.
-use Rattle.std.proofs.Common.{◌≡◌, ℕ, ◌+◌, ◌-◌, ◌<◌, ◌≤◌, ◌^◌, min, nat_lt, cond, if◌then◌else◌, List, ◌++◌, refl, sym, ap, ◌∙◌, length, get_or, slice_set, take, drop, map}
+use Rattle.std.proofs.Common.{◌≡◌, ℕ, ◌+◌, ◌-◌, ◌<◌, ◌≤◌, ◌^◌, min, nat_lt, List, ◌++◌, sym, ap, ◌∙◌, length, get_or, slice_set, take, drop, map}
 use Rattle.std.proofs.lemmas.Bool.{cond-true, cond-false, lt-ltb, le-ltb}
 use Rattle.std.proofs.lemmas.List.Edits.{map_over_more}
 use Rattle.esis_tables.specs.declared.table.Entry.{Entry}

@@ -3,8 +3,8 @@ use Rattle.std.proofs.Common.{◌≡◌, ℕ, true, List, [], ◌∷◌, None, S
 use Rattle.esis_tables.specs.declared.fact.EsisLimits.{EsisLimits}
 use Rattle.esis_tables.specs.declared.fact.Place.{Place}
 use Rattle.esis_tables.specs.declared.fact.Heard.TheVariants.{New, Again, Zero, Full}
-use Rattle.esis_tables.specs.declared.fact.TableKind.TheVariants.{Es, Is, Rd}
-use Rattle.esis_tables.specs.Fact.{Fact, after, answer, current, hearing}
+use Rattle.esis_tables.specs.declared.fact.TableKind.TheVariants.{Is, Rd}
+use Rattle.esis_tables.specs.Fact.{Fact, answer, current, hearing}
 use Rattle.esis_tables.specs.Gone.{gone, gone_from}
 use Rattle.esis_tables.specs.NextHop.{is_router, last_router, next_hop}
 

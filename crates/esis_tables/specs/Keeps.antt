@@ -1,10 +1,10 @@
 -- Which facts one table keeps.
-use Rattle.std.specs.Prelude.{◌≡◌, ℕ, ◌+◌, ◌==◌, nat_le, not, true, false, if◌then◌else◌, List, [], ◌∷◌, ◌++◌, length, filter}
+use Rattle.std.specs.Prelude.{◌≡◌, ℕ, ◌+◌, ◌==◌, nat_le, not, false, if◌then◌else◌, List, [], ◌∷◌, ◌++◌, length, filter}
 use Rattle.std.specs.List.{AllByRecursion, list_any}
 use Rattle.esis_tables.specs.declared.fact.Heard.{Heard}
 use Rattle.esis_tables.specs.declared.fact.Heard.TheVariants.{New, Again, Zero, Full}
 use Rattle.esis_tables.specs.declared.table.Entry.{Entry}
-use Rattle.esis_tables.specs.Fact.{Fact, end_of, has_key, is_noted}
+use Rattle.esis_tables.specs.Fact.{Fact, has_key, is_noted}
 use Rattle.esis_tables.specs.Order.{in_order}
 use Rattle.esis_tables.specs.State.{TableState, entry_for, key_in}
 

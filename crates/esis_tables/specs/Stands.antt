@@ -1,5 +1,5 @@
 -- Which facts the tables stand for.
-use Rattle.std.specs.Prelude.{◌≡◌, ℕ, List, [], ◌∷◌, ◌++◌, filter, map, Option, MatchOption}
+use Rattle.std.specs.Prelude.{◌≡◌, ℕ, List, [], ◌∷◌, filter, Option, MatchOption}
 use Rattle.esis_tables.specs.declared.fact.EsisLimits.{EsisLimits}
 use Rattle.esis_tables.specs.declared.fact.Gone.{Gone}
 use Rattle.esis_tables.specs.declared.fact.TableKind.{TableKind}

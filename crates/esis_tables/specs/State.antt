@@ -1,5 +1,5 @@
 -- What a table keeps, and where a key is in it.
-use Rattle.std.specs.Prelude.{◌≡◌, ℕ, ◌+◌, ◌-◌, ◌<◌, ◌≤◌, ◌^◌, true, false, Bool, ◌&&◌, not, min, nat_lt, fold, if◌then◌else◌, List, [], ◌∷◌, length, filter, Option, None, Some, slice_get}
+use Rattle.std.specs.Prelude.{◌≡◌, ℕ, ◌+◌, ◌-◌, ◌≤◌, ◌^◌, true, Bool, ◌&&◌, min, nat_lt, fold, if◌then◌else◌, List, length, Option, None, Some, slice_get}
 use Rattle.std.specs.List.{AllWithin}
 use Rattle.std.specs.Str.{bytes_eq}
 use Rattle.esis_tables.specs.declared.fact.Place.{Place}

@@ -1,5 +1,4 @@
 use Rattle.esis_tables.proofs.Ended.{gone_rise, gone_those}
-use Rattle.esis_tables.proofs.Worked as worked
 use Rattle.esis_tables.proofs.laws.gone_are_those_that_ended.Goals as goal
 
 pub returns : goal.returns

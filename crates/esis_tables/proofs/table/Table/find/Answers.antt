@@ -1,4 +1,4 @@
-use Rattle.std.proofs.Common.{rules, sym, ap, ◌∙◌, subst, length}
+use Rattle.std.proofs.Common.{rules}
 use Rattle.std.proofs.lemmas.List.Sorted.{answers_always}
 use Rattle.esis_tables.specs.State.{key_in}
 use Rattle.esis_tables.proofs.Places.{found_at, gap_at}

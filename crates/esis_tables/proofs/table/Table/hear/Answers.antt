@@ -1,7 +1,6 @@
-use Rattle.std.proofs.Common.{◌≡◌, ◌+◌, ◌*◌, ◌≤◌, ◌<◌, ◌⊎◌, true, false, inl, inr, length, sym, ap, ◌∙◌, subst, arith}
+use Rattle.std.proofs.Common.{◌≡◌, ◌≤◌, ◌⊎◌, true, false, inl, inr, length, sym, ap, ◌∙◌, subst, arith}
 use Rattle.std.proofs.lemmas.Bool.{leb-true}
-use Rattle.std.specs.List.{list_any}
-use Rattle.esis_tables.specs.Fact.{Fact, has_key, hearing}
+use Rattle.esis_tables.specs.Fact.{hearing}
 use Rattle.esis_tables.specs.Keeps.{Keeps, kept_after}
 use Rattle.esis_tables.specs.State.{TableState}
 use Rattle.esis_tables.proofs.Hearing.{answer_full, answer_again, answer_new, kept_full, kept_again, kept_new, length_kept, noted_kept, room_after, room_for_new}
