@@ -6,7 +6,7 @@ ghost use Rattle.clnp_base.specs.Streams.{Rose};
 ghost use Rattle.scenario.specs.Grammar.{plan_of};
 ghost use Rattle.clnp_network.specs.World.{first_world};
 ghost use Rattle.clnp_network.specs.Run.{run, world_after};
-ghost use Rattle.clnp_network.specs.Safe.{IsHonest, IsWithinBudgets, NoInterference};
+ghost use Rattle.clnp_network.specs.Safe.{CarriesRanges, HoldsUnitsApart, IdentifiersRest, IsHonest, IsWithinBudgets, IsWithinLifetimes, NoInterference, NoneIsAlien};
 ghost use Rattle.clnp_commands.specs.Words.{command_of, called, called_by, AppendsOutput, AppendsOutputFront, AppendsOutputParts, Excuses};
 ghost use Rattle.clnp_commands.specs.Sim.{most_input, ReadsWhole};
 ghost use Rattle.clnp_commands.specs.Play.{ComesTo};
@@ -104,6 +104,24 @@ pub fn clnp_main<S: Source, K: Sink>(
     // After whatever moves of a scenario no system holds more octets for reassembly than its budget.
     ensures bounded { (text : List ℕ) → IfOk (plan_of text) (λ plan. (moves : List Move)
         → IsWithinBudgets (world_after plan (first_world plan) moves)) }
+
+    // After whatever moves of a scenario each copy carries a range of a unit that was made, with nothing
+    // behind its PDU, each reassembly buffer holds segments of one such unit, and two units of one maker
+    // with one identifier were made as long apart as an identifier rests.
+    ensures carried { (text : List ℕ) → IfOk (plan_of text) (λ plan. (moves : List Move)
+        → CarriesRanges (world_after plan (first_world plan) moves)) }
+    ensures held_apart { (text : List ℕ) → IfOk (plan_of text) (λ plan. (moves : List Move)
+        → HoldsUnitsApart (world_after plan (first_world plan) moves)) }
+    ensures rest { (text : List ℕ) → IfOk (plan_of text) (λ plan. (moves : List Move)
+        → IdentifiersRest plan.limits.reuse (world_after plan (first_world plan) moves)) }
+
+    // No line of a run notes a frame of no protocol.
+    ensures known { (text : List ℕ) → IfOk (plan_of text) (λ plan. AllByRecursion (λ entry. NoneIsAlien entry.lines) (run plan)) }
+
+    // After whatever moves of a scenario hops and lifetime of each packet are together at most the
+    // lifetime of its unit.
+    ensures lifetimes { (text : List ℕ) → IfOk (plan_of text) (λ plan. (moves : List Move)
+        → IsWithinLifetimes (world_after plan (first_world plan) moves)) }
 {
     every_run_is_safe();
     let command = match Command::of(words) {
@@ -119,18 +137,31 @@ pub fn clnp_main<S: Source, K: Sink>(
     }
 }
 
-/// The run of the scenario that a text is hands up only what it sent before, no segment meets
-/// another unit's in it, and whatever its moves each system keeps its budget.
+/// What is so of the run of the scenario that a text is, and of whatever moves of it.
 fn every_run_is_safe()
     ensures safe { (text : List ℕ) → IfOk (plan_of text) (λ plan. IsHonest plan (run plan)) }
     ensures apart { (text : List ℕ) → IfOk (plan_of text) (λ plan. AllByRecursion (λ entry. NoInterference entry.lines) (run plan)) }
     ensures bounded { (text : List ℕ) → IfOk (plan_of text) (λ plan. (moves : List Move)
         → IsWithinBudgets (world_after plan (first_world plan) moves)) }
+    ensures carried { (text : List ℕ) → IfOk (plan_of text) (λ plan. (moves : List Move)
+        → CarriesRanges (world_after plan (first_world plan) moves)) }
+    ensures held_apart { (text : List ℕ) → IfOk (plan_of text) (λ plan. (moves : List Move)
+        → HoldsUnitsApart (world_after plan (first_world plan) moves)) }
+    ensures rest { (text : List ℕ) → IfOk (plan_of text) (λ plan. (moves : List Move)
+        → IdentifiersRest plan.limits.reuse (world_after plan (first_world plan) moves)) }
+    ensures known { (text : List ℕ) → IfOk (plan_of text) (λ plan. AllByRecursion (λ entry. NoneIsAlien entry.lines) (run plan)) }
+    ensures lifetimes { (text : List ℕ) → IfOk (plan_of text) (λ plan. (moves : List Move)
+        → IsWithinLifetimes (world_after plan (first_world plan) moves)) }
 {
     scenario::laws::accepted_is_fit();
     laws::handed_up_was_sent();
     laws::no_unit_meets_another();
     laws::budgets_are_kept();
+    laws::ranges_of_units_are_carried();
+    laws::units_are_held_apart();
+    laws::identifiers_rest();
+    laws::no_frame_is_alien();
+    laws::hops_are_within_lifetimes();
 }
 
 /// Runs a command on a text.

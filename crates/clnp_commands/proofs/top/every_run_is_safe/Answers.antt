@@ -3,7 +3,7 @@ use Rattle.std.specs.List.{AllByRecursion}
 use Rattle.scenario.specs.declared.event.Move.{Move}
 use Rattle.clnp_network.specs.World.{first_world}
 use Rattle.clnp_network.specs.Run.{moves_made, run, world_after}
-use Rattle.clnp_network.specs.Safe.{IsHonest, IsWithinBudgets, NoInterference}
+use Rattle.clnp_network.specs.Safe.{CarriesRanges, HoldsUnitsApart, IdentifiersRest, IsHonest, IsWithinBudgets, IsWithinLifetimes, NoInterference, NoneIsAlien}
 use Rattle.clnp_commands.proofs.Fit.{of_fit}
 use Rattle.clnp_commands.proofs.top.every_run_is_safe.Goals as goal
 
@@ -17,4 +17,30 @@ returns-clause-apart c =
 
 pub returns-clause-bounded : goal.returns-clause-bounded
 returns-clause-bounded c =
-    of_fit (λ plan. (moves : List Move) → IsWithinBudgets (world_after plan (first_world plan) moves)) c.accepted_is_fit.ensures c.budgets_are_kept.ensures
+    of_fit (λ plan. (moves : List Move) → IsWithinBudgets (world_after plan (first_world plan) moves)) c.accepted_is_fit.ensures
+    (λ plan fit. c.budgets_are_kept.ensures plan)
+
+pub returns-clause-carried : goal.returns-clause-carried
+returns-clause-carried c =
+    of_fit (λ plan. (moves : List Move) → CarriesRanges (world_after plan (first_world plan) moves)) c.accepted_is_fit.ensures
+    c.ranges_of_units_are_carried.ensures
+
+pub returns-clause-held_apart : goal.returns-clause-held_apart
+returns-clause-held_apart c =
+    of_fit (λ plan. (moves : List Move) → HoldsUnitsApart (world_after plan (first_world plan) moves)) c.accepted_is_fit.ensures
+    c.units_are_held_apart.ensures
+
+pub returns-clause-rest : goal.returns-clause-rest
+returns-clause-rest c =
+    of_fit (λ plan. (moves : List Move) → IdentifiersRest plan.limits.reuse (world_after plan (first_world plan) moves)) c.accepted_is_fit.ensures
+    c.identifiers_rest.ensures
+
+pub returns-clause-known : goal.returns-clause-known
+returns-clause-known c =
+    of_fit (λ plan. AllByRecursion (λ entry. NoneIsAlien entry.lines) (run plan)) c.accepted_is_fit.ensures
+    (λ plan fit. c.no_frame_is_alien.ensures plan fit (moves_made plan))
+
+pub returns-clause-lifetimes : goal.returns-clause-lifetimes
+returns-clause-lifetimes c =
+    of_fit (λ plan. (moves : List Move) → IsWithinLifetimes (world_after plan (first_world plan) moves)) c.accepted_is_fit.ensures
+    (λ plan fit. c.hops_are_within_lifetimes.ensures plan)
