@@ -95,7 +95,11 @@ fn flushes_in_order(rt: HostRuntime) -> Result<(), Fail> {
 #[test]
 fn gives_the_router_heard_last(rt: HostRuntime) -> Result<(), Fail> {
     let mut tables = Tables::new(rt.alloc(), LIMITS)?;
-    let hearings = [(0, 0xff, 0x0a, 120), (1, 0xfe, 0x0c, 120), (2, 0xff, 0x0a, 60)];
+    let hearings = [
+        (0, 0xff, 0x0a, 120),
+        (1, 0xfe, 0x0c, 120),
+        (2, 0xff, 0x0a, 60),
+    ];
     for (now, key, snpa, hold) in hearings {
         let _ = tables.hear(now, TableKind::Is, address(key)?, place(snpa)?, hold);
         assert_eq!(rt; tables.last_router(now), Some(place(snpa)?));
