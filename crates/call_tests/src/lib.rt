@@ -1,30 +1,12 @@
-//! Tests of the public calls of the crates below the machine of a system: worked examples, and a happy
-//! path of each call that takes memory. A module for each crate.
+//! Tests of the public calls of reassembly, the ES-IS tables, journal lines and scenario texts: worked
+//! examples, and a happy path of each call that takes memory. A module for each crate.
 #![tactic(auto)]
 
 #[cfg(test)]
-mod captures_calls;
-#[cfg(test)]
-mod clnp_base_calls;
-#[cfg(test)]
-mod clnp_options_calls;
-#[cfg(test)]
 mod clnp_plan_calls;
 #[cfg(test)]
-mod clnp_views_calls;
-#[cfg(test)]
-mod esis_pdus_calls;
-#[cfg(test)]
 mod esis_tables_calls;
-#[cfg(test)]
-mod fletcher_calls;
-#[cfg(test)]
-mod nsap_calls;
-#[cfg(test)]
-mod pdu_header_calls;
 #[cfg(test)]
 mod reassembly_calls;
 #[cfg(test)]
 mod scenario_calls;
-#[cfg(test)]
-mod segmenter_calls;
