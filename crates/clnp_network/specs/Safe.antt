@@ -8,10 +8,10 @@ use Rattle.scenario.specs.declared.event.Event.{Event}
 use Rattle.scenario.specs.declared.event.Event.TheVariants.{Send}
 use Rattle.scenario.specs.declared.event.Move.{Move}
 use Rattle.scenario.specs.declared.event.Move.TheVariants.{One, SettleOne, LoseOne, TickOne}
-use Rattle.clnp_machine.specs.Content.{Labelled, Unlabelled, Content}
+use Rattle.clnp_machine.specs.Content.{Labelled, Unlabelled, Content, frame_of}
 use Rattle.clnp_machine.specs.Unit as unit
 use Rattle.clnp_machine.specs.Unit.{Packet}
-use Rattle.clnp_machine.specs.Steps.{IsRangeOf}
+use Rattle.clnp_machine.specs.Steps.{BreaksNoRule, IsRangeOf}
 use Rattle.reassembly.specs.Arrival.{Arrival}
 use Rattle.clnp_network.specs.World.{World}
 use Rattle.clnp_network.specs.Run.{Entry}
@@ -82,6 +82,15 @@ RangeIn units birth (Unlabelled octets) = ⊥
 -- each frame on the network does
 abbrev pub CarriesRanges : World → Type 0
 CarriesRanges w = AllByRecursion (λ copy. RangeIn w.units copy.birth copy.content) w.copies
+
+-- a frame carries a packet, and breaks no rule of PDUs
+abbrev pub IsUnbroken : Content → Type 0
+IsUnbroken (Labelled packet following) = BreaksNoRule (frame_of (Labelled packet following))
+IsUnbroken (Unlabelled octets) = ⊥
+
+-- each frame on the network does
+abbrev pub FramesAreUnbroken : World → Type 0
+FramesAreUnbroken w = AllByRecursion (λ copy. IsUnbroken copy.content) w.copies
 
 -- all segments of a buffer are of one unit that was made
 abbrev pub HoldsOneUnit : List unit.Unit → Buffer Packet → Type 0

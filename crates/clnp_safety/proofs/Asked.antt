@@ -24,11 +24,11 @@ use Rattle.clnp_safety.specs.Invariant.{NoteIsHonest, SystemIsSound, UnitIsSound
 use Rattle.clnp_safety.specs.Outputs.{OutputIsSound}
 use Rattle.clnp_safety.proofs.Past.{sent_last, units_later}
 use Rattle.clnp_safety.proofs.Lines.{LineIs, lines_are, lines_are_apart, lines_are_honest, lines_are_known, quiet_is_honest, quiet_lines_refuse_nothing}
-use Rattle.clnp_safety.proofs.Steps.{Keeps, keeps-map}
+use Rattle.clnp_safety.proofs.Steps.{keeps-map}
 use Rattle.clnp_safety.proofs.Outputs.{Stands, takes_effect_notes, takes_effect_stands}
 use Rattle.clnp_safety.proofs.SendAsked.{asked_is_new, asked_is_sound}
 use Rattle.clnp_safety.proofs.SendUnits.{maker_after, new_rests, others_after}
-use Rattle.clnp_safety.proofs.Effects.{IsSoundWith, StaysSound, effect_keeps, outputs_are_sound, sound_with}
+use Rattle.clnp_safety.proofs.Effects.{StaysSound, effect_keeps, outputs_are_sound, sound_with}
 use Rattle.clnp_safety.proofs.Moves.{IsSoundAt, MoveIsSound, sound_at_clock, sound_from_clock, kept_is_sound, nothing_is_sound}
 
 -- the step by which a unit is sent, and that by which none is

@@ -1,10 +1,8 @@
 -- A step of a system that is asked nothing keeps a world sound.
 use Rattle.clnp_base.proofs.Lists.{AllByRecursion-contains}
-use Rattle.std.proofs.Common.{◌≡◌, ◌≢◌, ◌∙◌, sym, ap, subst, refl, ℕ, List, [], ◌∷◌, ◌++◌, length}
-use Rattle.std.specs.Prelude.{slice_get, Some}
+use Rattle.std.proofs.Common.{◌≡◌, ◌≢◌, ◌∙◌, sym, ap, subst, ℕ, List, [], ◌∷◌, ◌++◌, length}
 use Rattle.std.specs.List.{AllByRecursion}
 use Rattle.std.proofs.lemmas.List.{append-nil}
-use Rattle.std.proofs.lemmas.List.Elements.{Contains-append_right}
 use Rattle.scenario.specs.Scenario.{Plan}
 use Rattle.clnp_plan.specs.Journal.{Line}
 use Rattle.clnp_plan.specs.declared.note.Note.{Note}
@@ -12,7 +10,7 @@ use Rattle.clnp_machine.specs.Unit as unit
 use Rattle.clnp_machine.specs.Unit.{Packet}
 use Rattle.clnp_machine.specs.System.{SystemState, Input, Output, Transmits, Notes, Effect}
 use Rattle.clnp_machine.specs.Step.{deed, step}
-use Rattle.clnp_machine.specs.Steps.{AsksNothing, IsFresh, IsRangeOf, NotesOnly, SendsRangesOf, moment_after}
+use Rattle.clnp_machine.specs.Steps.{AsksNothing, IsFresh, NotesOnly, SendsRangesOf, moment_after}
 use Rattle.clnp_machine.proofs.Deeds.{makes_none, step_fresh}
 use Rattle.clnp_machine.proofs.Sent.{step_sends_ranges, range_later}
 use Rattle.clnp_machine.proofs.Own.{TellsOnly, outputs_note}

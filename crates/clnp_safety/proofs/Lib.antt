@@ -12,6 +12,7 @@ pub mod Lines
 pub mod Steps
 pub mod EveryMove
 pub mod Bounds
+pub mod Frames
 pub mod Outputs
 pub mod Past
 pub mod Effects

@@ -1,28 +1,24 @@
 -- Only a system that has the destination among its addresses hands up a unit.
 use Rattle.clnp_base.proofs.Lists.{AllByRecursion-implies, set_each}
-use Rattle.std.proofs.Common.{◌≡◌, ℕ, List, [], ◌∷◌, ◌+◌, length, true, refl, sym, ap, ◌∙◌, subst}
-use Rattle.std.specs.Prelude.{slice_get, slice_set, Option, None, Some}
-use Rattle.std.specs.List.{AllByRecursion, list_any, range_with_len}
+use Rattle.std.proofs.Common.{◌≡◌, ℕ, List, true, refl, sym, ap, ◌∙◌, subst}
+use Rattle.std.specs.Prelude.{slice_get, Some}
+use Rattle.std.specs.List.{AllByRecursion, list_any}
 use Rattle.std.specs.Str.{bytes_eq}
 use Rattle.clnp_plan.specs.Configuration.{SystemConfiguration}
-use Rattle.clnp_plan.specs.declared.config.Limits.{Limits}
 use Rattle.clnp_plan.specs.Journal.{Line, Noted}
 use Rattle.clnp_plan.specs.declared.note.Note.{Note}
 use Rattle.clnp_plan.specs.declared.note.Note.TheVariants.{Got}
-use Rattle.scenario.specs.Scenario.{Plan, octets_of}
-use Rattle.scenario.specs.declared.event.Event.{Event}
-use Rattle.scenario.specs.declared.event.Event.TheVariants.{Send, Deliver, Restart}
+use Rattle.scenario.specs.Scenario.{Plan}
 use Rattle.scenario.specs.declared.event.Move.{Move}
-use Rattle.scenario.specs.declared.event.Move.TheVariants.{One, SettleOne, LoseOne, TickOne}
-use Rattle.clnp_machine.specs.System.{SystemState, Input, AsksToSend, MomentComes, IsRestarted, Output, Transmits, Notes, Effect}
+use Rattle.clnp_machine.specs.System.{SystemState, Input, Output, Transmits, Notes, Effect}
 use Rattle.clnp_machine.specs.Step.{step}
 use Rattle.clnp_machine.specs.Steps.{IsForOwn, NotesOnly}
 use Rattle.clnp_machine.proofs.Deeds.{step_itself}
 use Rattle.clnp_machine.proofs.Own.{step_is_own}
-use Rattle.clnp_network.specs.World.{World, Copy, put_out, with_effect, takes_effect, comes, frame_to, addressees_from, settle_copy, lose_copy, tick_each, event_happens, after}
+use Rattle.clnp_network.specs.World.{World, put_out, with_effect, takes_effect, after}
 use Rattle.clnp_safety.specs.Owners.{IsByOwner}
-use Rattle.clnp_safety.proofs.EveryMove.{EachStepKeeps, keeps-move}
-use Rattle.clnp_safety.proofs.Steps.{Keeps, NotGivenIsFine, keeps-nothing, keeps-followed_by, keeps-put_all_out, keeps-comes_to, keeps-give_each, keeps-deliver}
+use Rattle.clnp_safety.proofs.EveryMove.{AnyInput, EachStepKeeps, any_events, keeps-move}
+use Rattle.clnp_safety.proofs.Steps.{Keeps, NotGivenIsFine, keeps-put_all_out}
 
 module _ (systems : List SystemState) where
   -- the system was configured so at a place before
@@ -60,8 +56,8 @@ module _ (systems : List SystemState) where
   put_out_by_owner place s configuration (Transmits port target packet) was e own v k = record { world = k; lines = (tt, tt) }
 
   takes_effect_by_owner : (w : World) (place : ℕ) (s : SystemState) (input : Input) → slice_get w.systems place ≡ Some s
-      → AreConfigured w → Keeps AreConfigured ByOwner (takes_effect w place (step s input))
-  takes_effect_by_owner w place s input there k =
+      → AnyInput input → AreConfigured w → Keeps AreConfigured ByOwner (takes_effect w place (step s input))
+  takes_effect_by_owner w place s input there any k =
       let was = k place s there in
       let effect : Effect = step s input in
       let same = (step_itself s input).configuration in
@@ -72,11 +68,12 @@ module _ (systems : List SystemState) where
       (set_each WasConfigured WasConfigured w.systems place effect.after k (λ other t apart h. h)
       (record { before = was.before; there = was.there; same = same ∙ was.same }))
 
-  each_by_owner : EachStepKeeps AreConfigured ByOwner
-  each_by_owner = record { steps = takes_effect_by_owner; cursor = λ w next k. k; clock = λ w now k. k; fine = fine }
+  each_by_owner : EachStepKeeps AnyInput AreConfigured ByOwner
+  each_by_owner = record { steps = takes_effect_by_owner; quiet = λ input none. tt; cursor = λ w next k. k; clock = λ w now k. k; fine = fine }
 
 unchanged : (w : World) → AreConfigured w.systems w
 unchanged w place s there = record { before = s; there = there; same = refl }
 
 pub move_by_owner : (plan : Plan) (w : World) (move : Move) → AllByRecursion (IsByOwner w.systems) (after plan w move).lines
-move_by_owner plan w move = (keeps-move (AreConfigured w.systems) (IsByOwner w.systems) (each_by_owner w.systems) plan w move (unchanged w)).lines
+move_by_owner plan w move =
+    (keeps-move AnyInput (AreConfigured w.systems) (IsByOwner w.systems) (each_by_owner w.systems) plan (any_events plan.events) w move (unchanged w)).lines

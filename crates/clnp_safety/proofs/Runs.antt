@@ -1,6 +1,6 @@
 -- Each move keeps the world sound, and so does each series of moves.
 use Rattle.clnp_base.proofs.Lists.{AllByRecursion-from_places, AllByRecursion-implies}
-use Rattle.std.proofs.Common.{◌≡◌, ℕ, List, [], ◌∷◌, ◌++◌, ◌+◌, ◌≤◌, refl, arith}
+use Rattle.std.proofs.Common.{◌≡◌, ℕ, List, [], ◌∷◌, ◌++◌, ◌+◌, refl}
 use Rattle.std.specs.Prelude.{slice_get, Option, None, Some}
 use Rattle.std.specs.List.{AllByRecursion}
 use Rattle.scenario.specs.Scenario.{Plan, IsFit, octets_of}

@@ -1,5 +1,5 @@
 -- The unit that is asked for, where it isn't refused.
-use Rattle.std.proofs.Common.{◌≡◌, ℕ, ◌+◌, ◌≤◌, Bool, true, false, List, length, Option, None, Some, option_map, Contains, refl, ap, subst, ◌∙◌, sym, arith, bytes_eq}
+use Rattle.std.proofs.Common.{◌≡◌, ℕ, Bool, true, false, List, Option, None, Some, option_map, Contains, refl, ap, subst, ◌∙◌, sym, arith, bytes_eq}
 use Rattle.std.proofs.lemmas.List.Folds.{Any-from_list_any}
 use Rattle.std.proofs.lemmas.Slice.Eq.{bytes_eq-Decides}
 use Rattle.pdu_header.specs.declared.kind.Kind.{Kind}

@@ -1,6 +1,6 @@
 -- Settling, delivering and losing copies, and a restart.
 use Rattle.clnp_base.proofs.Lists.{AllByRecursion-slice_get}
-use Rattle.std.proofs.Common.{◌≡◌, ◌≤◌, ℕ, List, ◌+◌, ◌-◌, length, false, refl, sym, subst, arith}
+use Rattle.std.proofs.Common.{◌≡◌, ◌≤◌, ℕ, List, ◌+◌, ◌-◌, false, refl, sym, subst, arith}
 use Rattle.std.specs.Prelude.{slice_get, Option, None, Some}
 use Rattle.scenario.specs.Scenario.{Plan, IsFit}
 use Rattle.clnp_plan.specs.Journal.{Line}

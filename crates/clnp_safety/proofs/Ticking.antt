@@ -1,10 +1,10 @@
 -- When a moment comes, the buffers that are due are taken out, and what is left is sound.
 use Rattle.clnp_base.proofs.Filters.{AllByRecursion-filter, filter-fewer}
-use Rattle.clnp_base.proofs.Lists.{AllByRecursion-append, AllByRecursion-implies, AllByRecursion-no_element}
+use Rattle.clnp_base.proofs.Lists.{AllByRecursion-implies, AllByRecursion-no_element}
 use Rattle.clnp_base.proofs.Sums.{sum_filter}
-use Rattle.std.proofs.Common.{◌≡◌, sym, ap, subst, refl, ℕ, zero, suc, ◌+◌, ◌<◌, ◌≤◌, true, false, not, List, [], ◌∷◌, ◌++◌, length, Option, None, Some, arith}
+use Rattle.std.proofs.Common.{◌≡◌, sym, ap, subst, refl, ℕ, zero, suc, ◌+◌, ◌<◌, ◌≤◌, true, false, not, List, ◌∷◌, ◌++◌, length, Option, None, Some, arith}
 use Rattle.std.specs.Prelude.{slice_get}
-use Rattle.std.specs.List.{AllByRecursion, Contains, flat_map}
+use Rattle.std.specs.List.{AllByRecursion, Contains}
 use Rattle.std.proofs.lemmas.List.Elements.{recursion_from_All}
 use Rattle.scenario.specs.Scenario.{Plan}
 use Rattle.reassembly.specs.declared.segment.Key.{Key}
@@ -17,7 +17,7 @@ use Rattle.clnp_machine.specs.Unit as unit
 use Rattle.clnp_machine.specs.Unit.{DeclaredAt, Packet}
 use Rattle.clnp_machine.specs.System.{SystemState}
 use Rattle.clnp_machine.proofs.Deeds.{given_up_after}
-use Rattle.clnp_machine.specs.Local.{at_moment, expire, give_up_due, gives_up, tick}
+use Rattle.clnp_machine.specs.Local.{at_moment, expire, give_up_due, tick}
 use Rattle.clnp_safety.specs.Invariant.{AreUsesUntil, BufferIsSound, IsInUses, SystemIsSound}
 
 -- there are fewer without the due one

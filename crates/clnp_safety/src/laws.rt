@@ -5,7 +5,7 @@ ghost use Rattle.scenario.specs.Scenario.{Plan, IsFit};
 ghost use Rattle.scenario.specs.declared.event.Move.{Move};
 ghost use Rattle.clnp_network.specs.World.{World, after, first_world};
 ghost use Rattle.clnp_network.specs.Run.{Entry, entries_of, full_weight, run, text_of, until_full, world_after};
-ghost use Rattle.clnp_network.specs.Safe.{CarriesRanges, EachWasSent, HoldsUnitsApart, IdentifiersRest, IsHonest, IsSend, NoRefusal, IsWithinBudgets, IsWithinLifetimes, NoInterference, NoneIsAlien};
+ghost use Rattle.clnp_network.specs.Safe.{CarriesRanges, EachWasSent, FramesAreUnbroken, HoldsUnitsApart, IdentifiersRest, IsHonest, IsSend, NoRefusal, IsWithinBudgets, IsWithinLifetimes, NoInterference, NoneIsAlien};
 ghost use Rattle.clnp_safety.specs.Growth.{IsFront, IsFullAt, IsWithinCopies};
 ghost use Rattle.clnp_safety.specs.Owners.{IsByOwner};
 ghost use Rattle.clnp_safety.specs.Refusal.{LeavesNothing};
@@ -30,6 +30,15 @@ pub fn no_unit_meets_another()
 pub fn ranges_of_units_are_carried()
     ensures { (plan : Plan) → IsFit plan → (moves : List Move) → CarriesRanges (world_after plan (first_world plan) moves) }
 {}
+
+/// Each frame of a run breaks no rule of PDUs: it begins with 0x81, and none of the rules refuses it.
+pub fn no_frame_breaks_a_rule()
+    ensures { (plan : Plan) → IsFit plan → (moves : List Move) → FramesAreUnbroken (world_after plan (first_world plan) moves) }
+{
+    clnp_machine::laws::a_system_stays_itself();
+    clnp_machine::laws::what_is_sent_is_carriable();
+    clnp_machine::laws::carriable_packets_break_no_rule();
+}
 
 /// No frame of a run belongs to no protocol, and no line says so.
 pub fn no_frame_is_alien()

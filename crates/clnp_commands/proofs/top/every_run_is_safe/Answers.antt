@@ -3,7 +3,7 @@ use Rattle.std.specs.List.{AllByRecursion}
 use Rattle.scenario.specs.declared.event.Move.{Move}
 use Rattle.clnp_network.specs.World.{first_world}
 use Rattle.clnp_network.specs.Run.{moves_made, run, world_after}
-use Rattle.clnp_network.specs.Safe.{CarriesRanges, HoldsUnitsApart, IdentifiersRest, IsHonest, IsWithinBudgets, IsWithinLifetimes, NoInterference, NoneIsAlien}
+use Rattle.clnp_network.specs.Safe.{CarriesRanges, FramesAreUnbroken, HoldsUnitsApart, IdentifiersRest, IsHonest, IsWithinBudgets, IsWithinLifetimes, NoInterference, NoneIsAlien}
 use Rattle.clnp_commands.proofs.Fit.{of_fit}
 use Rattle.clnp_commands.proofs.top.every_run_is_safe.Goals as goal
 
@@ -34,6 +34,11 @@ pub returns-clause-rest : goal.returns-clause-rest
 returns-clause-rest c =
     of_fit (λ plan. (moves : List Move) → IdentifiersRest plan.limits.reuse (world_after plan (first_world plan) moves)) c.accepted_is_fit.ensures
     c.identifiers_rest.ensures
+
+pub returns-clause-unbroken : goal.returns-clause-unbroken
+returns-clause-unbroken c =
+    of_fit (λ plan. (moves : List Move) → FramesAreUnbroken (world_after plan (first_world plan) moves)) c.accepted_is_fit.ensures
+    c.no_frame_breaks_a_rule.ensures
 
 pub returns-clause-known : goal.returns-clause-known
 returns-clause-known c =

@@ -1,0 +1,110 @@
+-- No frame of a run breaks a rule of PDUs: PDUs can carry all that is sent where what is asked is fair.
+use Rattle.clnp_base.proofs.Lists.{AllByRecursion-append, AllByRecursion-both, AllByRecursion-implies, AllByRecursion-slice_get}
+use Rattle.std.proofs.Common.{◌≡◌, ℕ, zero, suc, List, [], ◌∷◌, ◌++◌, ◌+◌, sym, subst}
+use Rattle.std.specs.Prelude.{slice_get, slice_set, Option, None, Some}
+use Rattle.std.specs.List.{AllByRecursion}
+use Rattle.nsap.specs.declared.target.Target.{Target}
+use Rattle.clnp_plan.specs.Configuration.{IsSystem, SystemConfiguration}
+use Rattle.clnp_plan.specs.declared.config.Limits.{Limits}
+use Rattle.clnp_plan.specs.declared.config.PortConfig.{PortConfig}
+use Rattle.scenario.specs.Scenario.{AsksFairly, AsksInForm, IsFit, Plan}
+use Rattle.scenario.specs.declared.event.Event.{Event}
+use Rattle.scenario.specs.declared.event.Event.TheVariants.{Send, Deliver, Settle, Lose, Tick, Restart}
+use Rattle.scenario.specs.declared.event.Move.{Move}
+use Rattle.clnp_machine.specs.Unit.{IsCarriable, Packet, wire}
+use Rattle.clnp_machine.specs.System.{SystemState, Input, AsksToSend, FrameComes, MomentComes, IsRestarted, Output, Transmits, Notes, Effect}
+use Rattle.clnp_machine.specs.Step.{step}
+use Rattle.clnp_machine.specs.Steps.{AsksNothing, BreaksNoRule, IsFairlyAsked, SendsCarriable, StaysItself}
+use Rattle.clnp_network.specs.World.{World, Copy, copy_from, put_out, takes_effect, with_effect, states_from, first_world}
+use Rattle.clnp_network.specs.Run.{world_after}
+use Rattle.clnp_network.specs.Safe.{FramesAreUnbroken, IsUnbroken}
+use Rattle.clnp_safety.proofs.Lines.{AnyLine, any_line_is_fine}
+use Rattle.clnp_safety.proofs.Steps.{Keeps, keeps-put_all_out}
+use Rattle.clnp_safety.proofs.EveryMove.{GivesOnly, keeps-moves}
+
+-- what is so of each step of a system
+pub record StepLaws : Type 0 where
+  pub itself : (s : SystemState) (input : Input) → StaysItself s (step s input).after
+  pub carriable : (s : SystemState) (input : Input) → IsSystem s.configuration → IsFairlyAsked input → AllByRecursion SendsCarriable (step s input).outputs
+  pub unbroken : (p : Packet) (following : List ℕ) → IsCarriable p → BreaksNoRule (wire p ++ following)
+
+abbrev Unbroken : Copy → Type 0
+Unbroken copy = IsUnbroken copy.content
+
+abbrev IsConfigured : SystemState → Type 0
+IsConfigured s = IsSystem s.configuration
+
+-- no frame breaks a rule, and each system is configured as it must be
+record IsRuled (w : World) : Type 0 where
+  frames : FramesAreUnbroken w
+  systems : AllByRecursion IsConfigured w.systems
+
+module _ (laws : StepLaws) where
+  copy_unbroken : (found : Option PortConfig) (target : Target) (packet : Packet) → IsCarriable packet
+      → AllByRecursion Unbroken (copy_from found target packet)
+  copy_unbroken None target packet h = tt
+  copy_unbroken (Some port) target packet h = (laws.unbroken packet [] h, tt)
+
+  put_out_unbroken : (system : SystemConfiguration) (output : Output) → SendsCarriable output → (v : World) → IsRuled v
+      → Keeps IsRuled AnyLine (put_out system v output)
+  put_out_unbroken system (Notes note) sends v k = record { world = k; lines = (tt, tt) }
+  put_out_unbroken system (Transmits port target packet) sends v k = record {
+    world = record {
+      frames = AllByRecursion-append Unbroken v.copies (copy_from (slice_get system.ports port) target packet) k.frames
+          (copy_unbroken (slice_get system.ports port) target packet sends);
+      systems = k.systems;
+    };
+    lines = (tt, tt);
+  }
+
+  set_configured : (systems : List SystemState) (place : ℕ) (s : SystemState) → AllByRecursion IsConfigured systems → IsConfigured s
+      → AllByRecursion IsConfigured (slice_set systems place s)
+  set_configured [] place s h k = tt
+  set_configured (t ∷ systems) zero s h k = (k, h.1)
+  set_configured (t ∷ systems) (suc place) s h k = (h.0, set_configured systems place s h.1 k)
+
+  step_unbroken : (w : World) (place : ℕ) (s : SystemState) (input : Input) → slice_get w.systems place ≡ Some s → IsFairlyAsked input → IsRuled w
+      → Keeps IsRuled AnyLine (takes_effect w place (step s input))
+  step_unbroken w place s input there fair k =
+      let effect : Effect = step s input in
+      let is : IsConfigured s = AllByRecursion-slice_get IsConfigured w.systems place s there k.systems in
+      keeps-put_all_out IsRuled AnyLine effect.after.configuration effect.outputs
+      (AllByRecursion-implies SendsCarriable (λ output. (v : World) → IsRuled v → Keeps IsRuled AnyLine (put_out effect.after.configuration v output))
+      (put_out_unbroken effect.after.configuration) effect.outputs (laws.carriable s input is fair))
+      (with_effect w place effect)
+      (record {
+        frames = k.frames;
+        systems = set_configured w.systems place effect.after k.systems (subst IsSystem (sym (laws.itself s input).configuration) is);
+      })
+
+  quiet_is_fair : (input : Input) → AsksNothing input → IsFairlyAsked input
+  quiet_is_fair (AsksToSend from to octets ask) h = absurd h
+  quiet_is_fair (FrameComes port sender to_group content) h = tt
+  quiet_is_fair (MomentComes now) h = tt
+  quiet_is_fair IsRestarted h = tt
+
+  event_is_fair : (event : Event) → AsksFairly event → AsksInForm event → GivesOnly IsFairlyAsked event
+  event_is_fair (Send system from to body ask) fair formed = (formed, fair)
+  event_is_fair (Deliver copy system) fair formed = tt
+  event_is_fair (Settle count) fair formed = tt
+  event_is_fair (Lose count) fair formed = tt
+  event_is_fair (Tick count) fair formed = tt
+  event_is_fair (Restart system) fair formed = tt
+
+  opened_configured : (limits : Limits) (place : ℕ) (systems : List SystemConfiguration) → AllByRecursion IsSystem systems
+      → AllByRecursion IsConfigured (states_from limits place systems)
+  opened_configured limits place [] h = tt
+  opened_configured limits place (system ∷ systems) h = (h.0, opened_configured limits (place + 1) systems h.1)
+
+  pub frames_are_unbroken : (plan : Plan) → IsFit plan → (moves : List Move) → FramesAreUnbroken (world_after plan (first_world plan) moves)
+  frames_are_unbroken plan fit moves =
+      (keeps-moves IsFairlyAsked IsRuled AnyLine
+      (record {
+        steps = step_unbroken;
+        quiet = quiet_is_fair;
+        cursor = λ w next k. record { frames = k.frames; systems = k.systems };
+        clock = λ w now k. record { frames = k.frames; systems = k.systems };
+        fine = any_line_is_fine;
+      })
+      plan (AllByRecursion-both AsksFairly AsksInForm (GivesOnly IsFairlyAsked) event_is_fair plan.events fit.asks fit.formed) moves (first_world plan)
+      (record { frames = tt; systems = opened_configured plan.limits 0 plan.systems fit.systems })).frames
