@@ -5,3 +5,4 @@ pub mod System
 pub mod Local
 pub mod Step
 pub mod Steps
+pub mod Told

@@ -1,18 +1,23 @@
 //! Laws of one step of a system: each holds for every state and whatever comes, and its function
 //! does nothing.
-ghost use Rattle.std.specs.Prelude.{◌≡◌, ◌≤◌, ℕ, List, [], ◌++◌, map, option_map};
-ghost use Rattle.std.specs.List.{AllByRecursion};
+ghost use Rattle.std.specs.Prelude.{◌≡◌, ◌↔◌, ◌≤◌, ℕ, false, None, List, [], ◌++◌, map, option_map};
+ghost use Rattle.std.specs.List.{AllByRecursion, Contains, flat_map};
 ghost use Rattle.hex.specs.Hex.{IsBytes};
 ghost use Rattle.pdu_header.specs.declared.kind.Kind.{Kind};
 ghost use Rattle.segmenter.specs.Cut as segmenter;
+ghost use Rattle.reassembly.specs.declared.table.TableLimits.{TableLimits};
+ghost use Rattle.reassembly.specs.Arrival.{Arrival};
+ghost use Rattle.reassembly.specs.Buffer as buffer;
+ghost use Rattle.reassembly.specs.Buffer.{Buffer, buffer_of, clashes, held, without};
 ghost use Rattle.clnp_plan.specs.Configuration.{IsSystem};
 ghost use Rattle.clnp_plan.specs.declared.ask.Ask.{Ask};
-ghost use Rattle.clnp_machine.specs.Unit.{Packet, IsCarriable, cut, value_of, wire};
+ghost use Rattle.clnp_machine.specs.Unit.{Unit, Packet, IsCarriable, cut, value_of, wire};
 ghost use Rattle.clnp_machine.specs.Content.{Content, IsCarried, content_of, frame_of};
-ghost use Rattle.clnp_machine.specs.Local.{at_moment, make, receive, tick};
+ghost use Rattle.clnp_machine.specs.Local.{Action, at_moment, gives_up, make, receive, refusal, tick};
 ghost use Rattle.clnp_machine.specs.System.{SystemState, Input};
-ghost use Rattle.clnp_machine.specs.Step.{content_comes, step};
+ghost use Rattle.clnp_machine.specs.Step.{content_comes, outputs_of, step};
 ghost use Rattle.clnp_machine.specs.Steps.{AreCarriable, AsksNothing, BreaksNoRule, CarriesOnePacket, IsDeed, IsFairlyAsked, IsForOwn, IsFresh, IsWithinBudget, NotesOnly, SendsCarriable, SendsRangesOf, StaysItself, WasKeptOrComes, moment_after, segments_in};
+ghost use Rattle.clnp_machine.specs.Told.{IsAllowed, IsRefusal, IsToldBy, NoteIsQuiet, TellsNoInterference, TellsOnly, WasThereOrTakes};
 
 /// A step leaves a system at its place with its configuration, at the moment that came last.
 pub fn a_system_stays_itself()
@@ -50,6 +55,39 @@ pub fn what_is_sent_is_carriable()
 /// What a step hands up is for one of the system's own addresses.
 pub fn only_owners_hand_up()
     ensures { (s : SystemState) (input : Input) → AllByRecursion (NotesOnly (IsForOwn s)) (step s input).outputs }
+{}
+
+/// A unit is made exactly where its source is the system's own, data and header are short enough, and
+/// an identifier can be drawn for it, if it needs one; where it isn't made, a refusal is noted.
+pub fn units_are_made_where_allowed()
+    ensures allowed { (s : SystemState) (u : Unit) → (refusal s u ≡ None) ↔ IsAllowed s u }
+    ensures refused { (s : SystemState) (u : Unit) → IsRefusal (refusal s u) }
+{}
+
+/// What is noted is told, or says that a unit is dropped; and where a moment comes, nothing is told of
+/// what is handed up or refused, of interference, or of a frame of no protocol.
+pub fn what_is_noted_was_told()
+    ensures told { (s : SystemState) (actions : List Action) → AllByRecursion (NotesOnly (IsToldBy actions)) (flat_map (outputs_of s) actions) }
+    ensures tick { (s : SystemState) (now : ℕ) → AllByRecursion (TellsOnly NoteIsQuiet) (tick s now).actions }
+{}
+
+/// A buffer whose time has ended is taken out, and all else stays.
+pub fn ended_buffers_are_taken_out()
+    ensures { (s : SystemState) (ended : Buffer Packet) → (gives_up s ended).after ≡ record s { buffers = without ended.key s.buffers } }
+{}
+
+/// A segment that is offered leaves each buffer as it was, or opens one, or is kept in that of its key;
+/// the buffers of other keys stay, budgets are kept, and where no buffer clashes with the segment,
+/// nothing interferes.
+pub fn a_segment_is_kept_in_its_buffer()
+    ensures buffers { (limits : TableLimits) (moment : ℕ) (arrival : Arrival Packet) (buffers : List (Buffer Packet))
+        → AllByRecursion (WasThereOrTakes limits moment arrival buffers) (buffer.after limits moment arrival buffers) }
+    ensures others { (limits : TableLimits) (moment : ℕ) (arrival : Arrival Packet) (buffers : List (Buffer Packet))
+        → AllByRecursion (Contains buffers) (without arrival.key (buffer.with_kept limits moment arrival buffers)) }
+    ensures within { (limits : TableLimits) (moment : ℕ) (arrival : Arrival Packet) (buffers : List (Buffer Packet))
+        → held buffers ≤ limits.budget → held (buffer.after limits moment arrival buffers) ≤ limits.budget }
+    ensures apart { (limits : TableLimits) (moment : ℕ) (arrival : Arrival Packet) (buffers : List (Buffer Packet))
+        → clashes (buffer_of arrival.key buffers) arrival.shape ≡ false → TellsNoInterference (buffer.answer limits moment arrival buffers) }
 {}
 
 /// A system that keeps its budget for reassembly keeps it after each step.

@@ -1,6 +1,6 @@
 -- No frame of a run breaks a rule of PDUs: PDUs can carry all that is sent where what is asked is fair.
 use Rattle.clnp_base.proofs.Lists.{AllByRecursion-append, AllByRecursion-both, AllByRecursion-implies, AllByRecursion-slice_get}
-use Rattle.std.proofs.Common.{◌≡◌, ℕ, zero, suc, List, [], ◌∷◌, ◌++◌, ◌+◌, sym, subst}
+use Rattle.std.proofs.Common.{◌≡◌, ℕ, zero, suc, List, [], ◌∷◌, ◌+◌, sym, subst}
 use Rattle.std.specs.Prelude.{slice_get, slice_set, Option, None, Some}
 use Rattle.std.specs.List.{AllByRecursion}
 use Rattle.nsap.specs.declared.target.Target.{Target}
@@ -11,22 +11,17 @@ use Rattle.scenario.specs.Scenario.{AsksFairly, AsksInForm, IsFit, Plan}
 use Rattle.scenario.specs.declared.event.Event.{Event}
 use Rattle.scenario.specs.declared.event.Event.TheVariants.{Send, Deliver, Settle, Lose, Tick, Restart}
 use Rattle.scenario.specs.declared.event.Move.{Move}
-use Rattle.clnp_machine.specs.Unit.{IsCarriable, Packet, wire}
+use Rattle.clnp_machine.specs.Unit.{IsCarriable, Packet}
 use Rattle.clnp_machine.specs.System.{SystemState, Input, AsksToSend, FrameComes, MomentComes, IsRestarted, Output, Transmits, Notes, Effect}
 use Rattle.clnp_machine.specs.Step.{step}
-use Rattle.clnp_machine.specs.Steps.{AsksNothing, BreaksNoRule, IsFairlyAsked, SendsCarriable, StaysItself}
+use Rattle.clnp_machine.specs.Steps.{AsksNothing, IsFairlyAsked, SendsCarriable}
 use Rattle.clnp_network.specs.World.{World, Copy, copy_from, put_out, takes_effect, with_effect, states_from, first_world}
 use Rattle.clnp_network.specs.Run.{world_after}
 use Rattle.clnp_network.specs.Safe.{FramesAreUnbroken, IsUnbroken}
+use Rattle.clnp_safety.specs.StepLaws.{StepLaws}
 use Rattle.clnp_safety.proofs.Lines.{AnyLine, any_line_is_fine}
 use Rattle.clnp_safety.proofs.Steps.{Keeps, keeps-put_all_out}
 use Rattle.clnp_safety.proofs.EveryMove.{GivesOnly, keeps-moves}
-
--- what is so of each step of a system
-pub record StepLaws : Type 0 where
-  pub itself : (s : SystemState) (input : Input) → StaysItself s (step s input).after
-  pub carriable : (s : SystemState) (input : Input) → IsSystem s.configuration → IsFairlyAsked input → AllByRecursion SendsCarriable (step s input).outputs
-  pub unbroken : (p : Packet) (following : List ℕ) → IsCarriable p → BreaksNoRule (wire p ++ following)
 
 abbrev Unbroken : Copy → Type 0
 Unbroken copy = IsUnbroken copy.content
@@ -43,7 +38,7 @@ module _ (laws : StepLaws) where
   copy_unbroken : (found : Option PortConfig) (target : Target) (packet : Packet) → IsCarriable packet
       → AllByRecursion Unbroken (copy_from found target packet)
   copy_unbroken None target packet h = tt
-  copy_unbroken (Some port) target packet h = (laws.unbroken packet [] h, tt)
+  copy_unbroken (Some port) target packet h = (laws.frames packet [] h, tt)
 
   put_out_unbroken : (system : SystemConfiguration) (output : Output) → SendsCarriable output → (v : World) → IsRuled v
       → Keeps IsRuled AnyLine (put_out system v output)
@@ -70,11 +65,11 @@ module _ (laws : StepLaws) where
       let is : IsConfigured s = AllByRecursion-slice_get IsConfigured w.systems place s there k.systems in
       keeps-put_all_out IsRuled AnyLine effect.after.configuration effect.outputs
       (AllByRecursion-implies SendsCarriable (λ output. (v : World) → IsRuled v → Keeps IsRuled AnyLine (put_out effect.after.configuration v output))
-      (put_out_unbroken effect.after.configuration) effect.outputs (laws.carriable s input is fair))
+      (put_out_unbroken effect.after.configuration) effect.outputs (laws.steps.carriable s input is fair))
       (with_effect w place effect)
       (record {
         frames = k.frames;
-        systems = set_configured w.systems place effect.after k.systems (subst IsSystem (sym (laws.itself s input).configuration) is);
+        systems = set_configured w.systems place effect.after k.systems (subst IsSystem (sym (laws.steps.itself s input).configuration) is);
       })
 
   quiet_is_fair : (input : Input) → AsksNothing input → IsFairlyAsked input

@@ -1,5 +1,7 @@
 pub mod Units
 pub mod Uses
+pub mod Kept
+pub mod Told
 pub mod SendUnits
 pub mod SendAsked
 pub mod BufferUnits

@@ -8,7 +8,7 @@ use Rattle.scenario.specs.Scenario.{Plan}
 use Rattle.clnp_network.specs.Run.{Entry}
 use Rattle.clnp_network.specs.Safe.{HandsUp, NoRefusal, NoInterference, NoneIsAlien, WasSent}
 use Rattle.std.specs.List.{AllByRecursion}
-use Rattle.clnp_machine.proofs.Own.{NoteIsQuiet}
+use Rattle.clnp_machine.specs.Told.{NoteIsQuiet}
 use Rattle.clnp_safety.specs.Invariant.{NoteIsHonest}
 use Rattle.clnp_safety.proofs.Steps.{NotGivenIsFine}
 

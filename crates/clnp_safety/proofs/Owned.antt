@@ -13,14 +13,13 @@ use Rattle.scenario.specs.declared.event.Move.{Move}
 use Rattle.clnp_machine.specs.System.{SystemState, Input, Output, Transmits, Notes, Effect}
 use Rattle.clnp_machine.specs.Step.{step}
 use Rattle.clnp_machine.specs.Steps.{IsForOwn, NotesOnly}
-use Rattle.clnp_machine.proofs.Deeds.{step_itself}
-use Rattle.clnp_machine.proofs.Own.{step_is_own}
 use Rattle.clnp_network.specs.World.{World, put_out, with_effect, takes_effect, after}
 use Rattle.clnp_safety.specs.Owners.{IsByOwner}
+use Rattle.clnp_safety.specs.StepLaws.{StepLaws}
 use Rattle.clnp_safety.proofs.EveryMove.{AnyInput, EachStepKeeps, any_events, keeps-move}
 use Rattle.clnp_safety.proofs.Steps.{Keeps, NotGivenIsFine, keeps-put_all_out}
 
-module _ (systems : List SystemState) where
+module _ (laws : StepLaws) (systems : List SystemState) where
   -- the system was configured so at a place before
   record WasConfigured (place : ℕ) (s : SystemState) : Type 0 where
     before : SystemState
@@ -60,10 +59,10 @@ module _ (systems : List SystemState) where
   takes_effect_by_owner w place s input there any k =
       let was = k place s there in
       let effect : Effect = step s input in
-      let same = (step_itself s input).configuration in
+      let same = (laws.steps.itself s input).configuration in
       keeps-put_all_out AreConfigured ByOwner effect.after.configuration effect.outputs
       (AllByRecursion-implies (NotesOnly (IsForOwn s)) (λ output. (v : World) → AreConfigured v → Keeps AreConfigured ByOwner (put_out effect.after.configuration v output))
-      (λ output own_output. put_out_by_owner place s effect.after.configuration output was same own_output) effect.outputs (step_is_own s input))
+      (λ output own_output. put_out_by_owner place s effect.after.configuration output was same own_output) effect.outputs (laws.steps.own s input))
       (with_effect w place effect)
       (set_each WasConfigured WasConfigured w.systems place effect.after k (λ other t apart h. h)
       (record { before = was.before; there = was.there; same = same ∙ was.same }))
@@ -71,9 +70,9 @@ module _ (systems : List SystemState) where
   each_by_owner : EachStepKeeps AnyInput AreConfigured ByOwner
   each_by_owner = record { steps = takes_effect_by_owner; quiet = λ input none. tt; cursor = λ w next k. k; clock = λ w now k. k; fine = fine }
 
-unchanged : (w : World) → AreConfigured w.systems w
-unchanged w place s there = record { before = s; there = there; same = refl }
+unchanged : (laws : StepLaws) (w : World) → AreConfigured laws w.systems w
+unchanged laws w place s there = record { before = s; there = there; same = refl }
 
-pub move_by_owner : (plan : Plan) (w : World) (move : Move) → AllByRecursion (IsByOwner w.systems) (after plan w move).lines
-move_by_owner plan w move =
-    (keeps-move AnyInput (AreConfigured w.systems) (IsByOwner w.systems) (each_by_owner w.systems) plan (any_events plan.events) w move (unchanged w)).lines
+pub move_by_owner : StepLaws → (plan : Plan) (w : World) (move : Move) → AllByRecursion (IsByOwner w.systems) (after plan w move).lines
+move_by_owner laws plan w move =
+    (keeps-move AnyInput (AreConfigured laws w.systems) (IsByOwner w.systems) (each_by_owner laws w.systems) plan (any_events plan.events) w move (unchanged laws w)).lines

@@ -79,6 +79,15 @@ module _ (units more : List unit.Unit) where
     whole = h.whole;
   }
 
+  pub packet_of_more : (p : Packet) → IsRangeOf more p → IsRangeOf (units ++ more) p
+  packet_of_more p h = record {
+    unit = Contains-append_right units more p.unit h.unit;
+    options = h.options;
+    lifetime = h.lifetime;
+    within = h.within;
+    whole = h.whole;
+  }
+
   content_later : (content : Content) → Carries (IsRangeOf units) content → Carries (IsRangeOf (units ++ more)) content
   content_later (Labelled packet following) h = (packet_later packet h.0, h.1)
   content_later (Unlabelled octets) h = absurd h
