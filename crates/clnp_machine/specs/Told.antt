@@ -1,13 +1,15 @@
 -- What a system tells of in what it does, and when it makes a unit.
-use Rattle.std.specs.Prelude.{◌≡◌, ℕ, ◌≤◌, ◌⊎◌, true, List, [], ◌∷◌, ◌++◌, length, Option, None, Some}
-use Rattle.std.specs.List.{Contains}
+use Rattle.std.specs.Prelude.{◌≡◌, ◌≢◌, ℕ, ◌≤◌, ◌⊎◌, true, List, [], ◌∷◌, ◌++◌, length, Option, None, Some}
+use Rattle.std.specs.List.{AllByRecursion, Contains}
+use Rattle.pdu_header.specs.Table.{table}
 use Rattle.reassembly.specs.declared.table.TableLimits.{TableLimits}
 use Rattle.reassembly.specs.Arrival.{Arrival, same_key}
 use Rattle.reassembly.specs.Buffer.{Answer, Buffer, Interference, opened_by}
 use Rattle.clnp_plan.specs.declared.note.Note.{Note}
 use Rattle.clnp_plan.specs.declared.note.Note.TheVariants as note
 use Rattle.clnp_machine.specs.Unit.{Packet, Unit as DataUnit}
-use Rattle.clnp_machine.specs.System.{SystemState}
+use Rattle.clnp_machine.specs.Content.{Unlabelled}
+use Rattle.clnp_machine.specs.System.{SystemState, Input, FrameComes}
 use Rattle.clnp_machine.specs.Local.{Action, Sends, Tells, header_size, identifier_refusal, is_own, most_octets}
 
 -- a note that neither hands up nor refuses, and tells of no interference and of no frame of no protocol
@@ -39,6 +41,22 @@ pub record IsAllowed (s : SystemState) (u : DataUnit) : Type 0 where
   pub octets : length u.octets ≤ most_octets
   pub header : header_size u ≤ 254
   pub identifier : identifier_refusal s u.identifier ≡ None
+
+-- Discards for a rule of PDUs.
+
+-- no rule gives the reason, whatever the frame
+abbrev pub IsOfNoRule : ℕ → Type 0
+IsOfNoRule reason = (frame : List ℕ) → AllByRecursion (λ rule. rule.reason ≢ reason) (table frame)
+
+-- where a note tells of a discard, it isn't for a rule
+abbrev pub NotesNoRule : Note → Type 0
+NotesNoRule (note.Discard reason place) = IsOfNoRule reason
+NotesNoRule _ = Unit {0}
+
+-- no octets come that spell no PDU
+abbrev pub SpellsPdus : Input → Type 0
+SpellsPdus (FrameComes port sender to_group (Unlabelled octets)) = ⊥
+SpellsPdus _ = Unit {0}
 
 -- Segments that are offered to buffers.
 

@@ -17,7 +17,7 @@ ghost use Rattle.clnp_machine.specs.Local.{Action, at_moment, gives_up, make, re
 ghost use Rattle.clnp_machine.specs.System.{SystemState, Input};
 ghost use Rattle.clnp_machine.specs.Step.{content_comes, outputs_of, step};
 ghost use Rattle.clnp_machine.specs.Steps.{AreCarriable, AsksNothing, BreaksNoRule, CarriesOnePacket, IsDeed, IsFairlyAsked, IsForOwn, IsFresh, IsWithinBudget, NotesOnly, SendsCarriable, SendsRangesOf, StaysItself, WasKeptOrComes, moment_after, segments_in};
-ghost use Rattle.clnp_machine.specs.Told.{IsAllowed, IsRefusal, IsToldBy, NoteIsQuiet, TellsNoInterference, TellsOnly, WasThereOrTakes};
+ghost use Rattle.clnp_machine.specs.Told.{IsAllowed, IsRefusal, IsToldBy, NoteIsQuiet, NotesNoRule, SpellsPdus, TellsNoInterference, TellsOnly, WasThereOrTakes};
 
 /// A step leaves a system at its place with its configuration, at the moment that came last.
 pub fn a_system_stays_itself()
@@ -69,6 +69,11 @@ pub fn units_are_made_where_allowed()
 pub fn what_is_noted_was_told()
     ensures told { (s : SystemState) (actions : List Action) → AllByRecursion (NotesOnly (IsToldBy actions)) (flat_map (outputs_of s) actions) }
     ensures tick { (s : SystemState) (now : ℕ) → AllByRecursion (TellsOnly NoteIsQuiet) (tick s now).actions }
+{}
+
+/// A discard for a rule of PDUs is noted only where octets come that spell no PDU.
+pub fn rules_are_noted_of_octets_alone()
+    ensures { (s : SystemState) (input : Input) → SpellsPdus input → AllByRecursion (NotesOnly NotesNoRule) (step s input).outputs }
 {}
 
 /// A buffer whose time has ended is taken out, and all else stays.

@@ -12,6 +12,7 @@ use Rattle.clnp_machine.specs.Content.{Labelled, Unlabelled, Content, frame_of}
 use Rattle.clnp_machine.specs.Unit as unit
 use Rattle.clnp_machine.specs.Unit.{Packet}
 use Rattle.clnp_machine.specs.Steps.{BreaksNoRule, IsRangeOf}
+use Rattle.clnp_machine.specs.Told.{NotesNoRule}
 use Rattle.reassembly.specs.Arrival.{Arrival}
 use Rattle.clnp_network.specs.World.{World}
 use Rattle.clnp_network.specs.Run.{Entry}
@@ -121,3 +122,8 @@ abbrev pub NoneIsAlien : List Line → Type 0
 NoneIsAlien [] = Unit {0}
 NoneIsAlien (Noted now name Alien ∷ lines) = ⊥
 NoneIsAlien (_ ∷ lines) = NoneIsAlien lines
+
+-- no line says that a frame was discarded for a rule of PDUs
+abbrev pub TellsNoRule : Line → Type 0
+TellsNoRule (Noted now name note) = NotesNoRule note
+TellsNoRule _ = Unit {0}

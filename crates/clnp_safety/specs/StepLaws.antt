@@ -14,7 +14,7 @@ use Rattle.clnp_machine.specs.System.{SystemState, Input}
 use Rattle.clnp_machine.specs.Local.{Action, gives_up, make, refusal, tick}
 use Rattle.clnp_machine.specs.Step.{outputs_of, step}
 use Rattle.clnp_machine.specs.Steps.{AsksNothing, BreaksNoRule, IsDeed, IsFairlyAsked, IsForOwn, IsFresh, IsWithinBudget, NotesOnly, SendsCarriable, SendsRangesOf, StaysItself, moment_after}
-use Rattle.clnp_machine.specs.Told.{IsAllowed, IsRefusal, IsToldBy, NoteIsQuiet, TellsNoInterference, TellsOnly, WasThereOrTakes}
+use Rattle.clnp_machine.specs.Told.{IsAllowed, IsRefusal, IsToldBy, NoteIsQuiet, NotesNoRule, SpellsPdus, TellsNoInterference, TellsOnly, WasThereOrTakes}
 
 -- of a whole step
 pub record OfSteps : Type 0 where
@@ -23,6 +23,7 @@ pub record OfSteps : Type 0 where
   pub asked : (s : SystemState) (input : Input) → AsksNothing input → (step s input).units ≡ []
   pub ranges : (s : SystemState) (input : Input) → AllByRecursion (SendsRangesOf (step s input).units) (step s input).outputs
   pub carriable : (s : SystemState) (input : Input) → IsSystem s.configuration → IsFairlyAsked input → AllByRecursion SendsCarriable (step s input).outputs
+  pub no_rule : (s : SystemState) (input : Input) → SpellsPdus input → AllByRecursion (NotesOnly NotesNoRule) (step s input).outputs
   pub own : (s : SystemState) (input : Input) → AllByRecursion (NotesOnly (IsForOwn s)) (step s input).outputs
   pub budget : (s : SystemState) (input : Input) → IsWithinBudget s → IsWithinBudget (step s input).after
 

@@ -5,7 +5,7 @@ ghost use Rattle.scenario.specs.Scenario.{Plan, IsFit};
 ghost use Rattle.scenario.specs.declared.event.Move.{Move};
 ghost use Rattle.clnp_network.specs.World.{World, after, first_world};
 ghost use Rattle.clnp_network.specs.Run.{Entry, entries_of, full_weight, run, text_of, until_full, world_after};
-ghost use Rattle.clnp_network.specs.Safe.{CarriesRanges, EachWasSent, FramesAreUnbroken, HoldsUnitsApart, IdentifiersRest, IsHonest, IsSend, NoRefusal, IsWithinBudgets, IsWithinLifetimes, NoInterference, NoneIsAlien};
+ghost use Rattle.clnp_network.specs.Safe.{CarriesRanges, EachWasSent, FramesAreUnbroken, HoldsUnitsApart, IdentifiersRest, IsHonest, IsSend, NoRefusal, IsWithinBudgets, IsWithinLifetimes, NoInterference, NoneIsAlien, TellsNoRule};
 ghost use Rattle.clnp_safety.specs.Growth.{IsFront, IsFullAt, IsWithinCopies};
 ghost use Rattle.clnp_safety.specs.Owners.{IsByOwner};
 ghost use Rattle.clnp_safety.specs.Refusal.{LeavesNothing};
@@ -43,6 +43,14 @@ pub fn ranges_of_units_are_carried()
 /// Each frame of a run breaks no rule of PDUs: it begins with 0x81, and none of the rules refuses it.
 pub fn no_frame_breaks_a_rule()
     ensures { (plan : Plan) → IsFit plan → (moves : List Move) → FramesAreUnbroken (world_after plan (first_world plan) moves) }
+{
+    laws_of_steps();
+}
+
+/// No line of a run says that a frame was discarded for a rule of PDUs.
+pub fn no_frame_is_refused()
+    ensures { (plan : Plan) → IsFit plan → (moves : List Move)
+        → AllByRecursion (λ (entry : Entry). AllByRecursion TellsNoRule entry.lines) (entries_of plan (first_world plan) moves) }
 {
     laws_of_steps();
 }
@@ -131,6 +139,7 @@ fn laws_of_steps()
     machine::new_units_are_fresh();
     machine::ranges_of_units_are_sent();
     machine::what_is_sent_is_carriable();
+    machine::rules_are_noted_of_octets_alone();
     machine::only_owners_hand_up();
     machine::budgets_are_kept();
     machine::units_are_made_where_allowed();

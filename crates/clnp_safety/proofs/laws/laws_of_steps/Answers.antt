@@ -8,6 +8,7 @@ returns c = record {
     asked = c.new_units_are_fresh.ensures.asked;
     ranges = c.ranges_of_units_are_sent.ensures;
     carriable = c.what_is_sent_is_carriable.ensures;
+    no_rule = c.rules_are_noted_of_octets_alone.ensures;
     own = c.only_owners_hand_up.ensures;
     budget = c.budgets_are_kept.ensures;
   };
