@@ -121,7 +121,8 @@ pub fn clnp_main<S: Source, K: Sink>(
         → FramesAreUnbroken (world_after plan (first_world plan) moves)) }
 
     // No line of a run says that a frame was discarded for a rule of PDUs.
-    ensures unrefused { (text : List ℕ) → IfOk (plan_of text) (λ plan. AllByRecursion (λ entry. AllByRecursion TellsNoRule entry.lines) (run plan)) }
+    ensures unrefused { (text : List ℕ) → IfOk (plan_of text) (λ plan.
+        AllByRecursion (λ entry. AllByRecursion TellsNoRule entry.lines) (run plan)) }
 
     // No line of a run notes a frame of no protocol.
     ensures known { (text : List ℕ) → IfOk (plan_of text) (λ plan. AllByRecursion (λ entry. NoneIsAlien entry.lines) (run plan)) }
@@ -159,7 +160,8 @@ fn every_run_is_safe()
         → IdentifiersRest plan.limits.reuse (world_after plan (first_world plan) moves)) }
     ensures unbroken { (text : List ℕ) → IfOk (plan_of text) (λ plan. (moves : List Move)
         → FramesAreUnbroken (world_after plan (first_world plan) moves)) }
-    ensures unrefused { (text : List ℕ) → IfOk (plan_of text) (λ plan. AllByRecursion (λ entry. AllByRecursion TellsNoRule entry.lines) (run plan)) }
+    ensures unrefused { (text : List ℕ) → IfOk (plan_of text) (λ plan.
+        AllByRecursion (λ entry. AllByRecursion TellsNoRule entry.lines) (run plan)) }
     ensures known { (text : List ℕ) → IfOk (plan_of text) (λ plan. AllByRecursion (λ entry. NoneIsAlien entry.lines) (run plan)) }
     ensures lifetimes { (text : List ℕ) → IfOk (plan_of text) (λ plan. (moves : List Move)
         → IsWithinLifetimes (world_after plan (first_world plan) moves)) }
