@@ -49,7 +49,8 @@ pub fn ranges_of_units_are_sent()
 
 /// PDUs can carry all that is sent in a step of a system of sound configuration that is fairly asked.
 pub fn what_is_sent_is_carriable()
-    ensures { (s : SystemState) (input : Input) → IsSystem s.configuration → IsFairlyAsked input → AllByRecursion SendsCarriable (step s input).outputs }
+    ensures { (s : SystemState) (input : Input) → IsSystem s.configuration → IsFairlyAsked input
+        → AllByRecursion SendsCarriable (step s input).outputs }
 {}
 
 /// What a step hands up is for one of the system's own addresses.
@@ -67,18 +68,21 @@ pub fn units_are_made_where_allowed()
 /// What is noted is told, or says that a unit is dropped; and where a moment comes, nothing is told of
 /// what is handed up or refused, of interference, or of a frame of no protocol.
 pub fn what_is_noted_was_told()
-    ensures told { (s : SystemState) (actions : List Action) → AllByRecursion (NotesOnly (IsToldBy actions)) (flat_map (outputs_of s) actions) }
+    ensures told { (s : SystemState) (actions : List Action)
+        → AllByRecursion (NotesOnly (IsToldBy actions)) (flat_map (outputs_of s) actions) }
     ensures tick { (s : SystemState) (now : ℕ) → AllByRecursion (TellsOnly NoteIsQuiet) (tick s now).actions }
 {}
 
 /// A discard for a rule of PDUs is noted only where octets come that spell no PDU.
 pub fn rules_are_noted_of_octets_alone()
-    ensures { (s : SystemState) (input : Input) → SpellsPdus input → AllByRecursion (NotesOnly NotesNoRule) (step s input).outputs }
+    ensures { (s : SystemState) (input : Input) → SpellsPdus input
+        → AllByRecursion (NotesOnly NotesNoRule) (step s input).outputs }
 {}
 
 /// A buffer whose time has ended is taken out, and all else stays.
 pub fn ended_buffers_are_taken_out()
-    ensures { (s : SystemState) (ended : Buffer Packet) → (gives_up s ended).after ≡ record s { buffers = without ended.key s.buffers } }
+    ensures { (s : SystemState) (ended : Buffer Packet)
+        → (gives_up s ended).after ≡ record s { buffers = without ended.key s.buffers } }
 {}
 
 /// A segment that is offered leaves each buffer as it was, or opens one, or is kept in that of its key;
@@ -92,7 +96,8 @@ pub fn a_segment_is_kept_in_its_buffer()
     ensures within { (limits : TableLimits) (moment : ℕ) (arrival : Arrival Packet) (buffers : List (Buffer Packet))
         → held buffers ≤ limits.budget → held (buffer.after limits moment arrival buffers) ≤ limits.budget }
     ensures apart { (limits : TableLimits) (moment : ℕ) (arrival : Arrival Packet) (buffers : List (Buffer Packet))
-        → clashes (buffer_of arrival.key buffers) arrival.shape ≡ false → TellsNoInterference (buffer.answer limits moment arrival buffers) }
+        → clashes (buffer_of arrival.key buffers) arrival.shape ≡ false
+        → TellsNoInterference (buffer.answer limits moment arrival buffers) }
 {}
 
 /// A system that keeps its budget for reassembly keeps it after each step.

@@ -42,7 +42,8 @@ pub fn ranges_of_units_are_carried()
 
 /// Each frame of a run breaks no rule of PDUs: it begins with 0x81, and none of the rules refuses it.
 pub fn no_frame_breaks_a_rule()
-    ensures { (plan : Plan) → IsFit plan → (moves : List Move) → FramesAreUnbroken (world_after plan (first_world plan) moves) }
+    ensures { (plan : Plan) → IsFit plan → (moves : List Move)
+        → FramesAreUnbroken (world_after plan (first_world plan) moves) }
 {
     laws_of_steps();
 }
