@@ -15,10 +15,12 @@ use Rattle.reassembly.proofs.Shared.{made_whole, none_whole-after}
 use Rattle.reassembly.proofs.Shared.{same_key-true}
 use Rattle.clnp_machine.specs.Unit as unit
 use Rattle.clnp_machine.specs.Unit.{Packet, value_of}
-use Rattle.clnp_machine.specs.Content.{Content, Labelled, Unlabelled}
+use Rattle.clnp_machine.specs.Content.{Content, Labelled, Esis, Unlabelled}
+use Rattle.esis_tables.specs.declared.fact.Place.{Place}
+use Rattle.clnp_machine.specs.Esis.{esis_comes}
 use Rattle.clnp_machine.specs.System.{SystemState, table_limits}
 use Rattle.clnp_machine.specs.Local.{Deed, data_in, is_all, is_own, octet_of, offer, offered, receive, takes_in}
-use Rattle.clnp_machine.specs.Step.{content_comes, packet_comes, passes_by}
+use Rattle.clnp_machine.specs.Step.{content_comes, effect_of, packet_comes, passes_by, responds}
 use Rattle.clnp_machine.specs.Steps.{IsRangeOf}
 use Rattle.clnp_machine.specs.Told.{TellsNoInterference, TellsOnly}
 use Rattle.clnp_plan.specs.declared.config.Role.{Role}
@@ -29,17 +31,20 @@ use Rattle.clnp_safety.specs.Invariant.{BufferIsSound, Carries, IsBornWithUnit, 
 use Rattle.clnp_safety.specs.StepLaws.{StepLaws}
 use Rattle.clnp_safety.proofs.Lines.{sent_alike}
 use Rattle.clnp_safety.proofs.BufferOffers.{IsLive, clashes_with_none, stay_live, unit_sound}
+use Rattle.clnp_safety.proofs.Hellos.{EffectIsSound, deed_is_sound, hellos_are_sound, then_is_sound}
 use Rattle.clnp_safety.proofs.Kept.{all_after, find_passes, others_with_kept}
 use Rattle.clnp_safety.proofs.Joining.{joined_is_unit, whole_is_unit}
 
 -- a packet that comes at a moment is of a unit that isn't older
 abbrev pub ComesYoung : (age now : ℕ) → Content → Type 0
 ComesYoung age now (Labelled packet following) = now ≤ packet.unit.made + age
+ComesYoung age now (Esis value following) = Unit {0}
 ComesYoung age now (Unlabelled octets) = Unit {0}
 
 -- a frame that isn't older than that since its unit was made
 pub comes_young : (age now birth : ℕ) (content : Content) → IsBornWithUnit birth content → now ≤ birth + age → ComesYoung age now content
 comes_young age now birth (Labelled packet following) born young = subst (λ moment. now ≤ moment + age) born young
+comes_young age now birth (Esis value following) born young = tt
 comes_young age now birth (Unlabelled octets) born young = tt
 
 module _ (laws : StepLaws) (plan : Plan) (past : List Entry) (units : List unit.Unit) (now place : ℕ) where
@@ -169,8 +174,15 @@ module _ (laws : StepLaws) (plan : Plan) (past : List Entry) (units : List unit.
             ])
       ]
 
-  pub arrival_is_sound : IsFit plan → (s : SystemState) (content : Content) → UnitsAreSound plan past now units → SystemIsSound plan units now place s
-      → Carries (IsRangeOf units) content → ComesYoung plan.limits.age now content → DeedIsSound (content_comes s content)
-  arrival_is_sound fit s (Labelled p following) made sound carries young =
-      subst (λ rest. DeedIsSound (packet_comes s p rest)) (sym carries.1) (packet_is_sound fit made s sound p carries.0 young)
-  arrival_is_sound fit s (Unlabelled octets) made sound carries young = absurd carries
+  pub arrival_is_sound : IsFit plan → (s : SystemState) (from : Place) (to_group : Bool) (content : Content) → UnitsAreSound plan past now units
+      → SystemIsSound plan units now place s → Carries (IsRangeOf units) content → ComesYoung plan.limits.age now content
+      → EffectIsSound plan past units now place (content_comes s from to_group content)
+  arrival_is_sound fit s from to_group (Labelled p following) made sound carries young =
+      let done = subst (λ rest. DeedIsSound (packet_comes s p rest)) (sym carries.1) (packet_is_sound fit made s sound p carries.0 young) in
+      let comes = effect_of (packet_comes s p following) in
+      then_is_sound plan past units now place comes (λ t. responds t from to_group p)
+      (deed_is_sound plan past units now place laws (packet_comes s p following) done.0 done.1)
+      (hellos_are_sound plan past units now place comes.after (responds comes.after from to_group p) (laws.hellos.answers comes.after from to_group p))
+  arrival_is_sound fit s from to_group (Esis value following) made sound carries young =
+      hellos_are_sound plan past units now place s (esis_comes s from value) (laws.hellos.comes s from value) sound
+  arrival_is_sound fit s from to_group (Unlabelled octets) made sound carries young = absurd carries

@@ -5,6 +5,8 @@ use Rattle.std.specs.Prelude.{slice_get, Option, None, Some}
 use Rattle.std.specs.List.{AllByRecursion}
 use Rattle.pdu_header.specs.declared.kind.Kind.TheVariants.{Dt}
 use Rattle.clnp_plan.specs.declared.ask.Ask.{Ask}
+use Rattle.clnp_plan.specs.declared.config.Role.{Role}
+use Rattle.clnp_plan.specs.declared.config.Role.TheVariants.{Host, Router}
 use Rattle.clnp_plan.specs.declared.note.Note.{Note}
 use Rattle.clnp_plan.specs.declared.note.Note.TheVariants.{Refused}
 use Rattle.scenario.specs.Scenario.{Plan, IsFit}
@@ -15,7 +17,7 @@ use Rattle.clnp_machine.specs.Local.{refusal, unit_of, makes, unless_refused}
 use Rattle.clnp_machine.specs.Step.{effect_of, step}
 use Rattle.clnp_machine.specs.Steps.{IsFresh, SendsRangesOf}
 use Rattle.clnp_machine.specs.Told.{IsRefusal, NoteIsQuiet}
-use Rattle.clnp_network.specs.World.{World, Step, takes_effect, comes_to, comes}
+use Rattle.clnp_network.specs.World.{World, Step, takes_effect, comes_to, asks_role, asks_system, asks}
 use Rattle.clnp_network.specs.Run.{Entry}
 use Rattle.clnp_network.specs.Safe.{IsSend, WasSent}
 use Rattle.clnp_safety.specs.Invariant.{NoteIsHonest, SystemIsSound, UnitIsSound, UnitsAreSound, WorldIsSound}
@@ -133,6 +135,17 @@ module _ (laws : StepLaws) (plan : Plan) (fit : IsFit plan) (past : List Entry) 
   asked_at_is_sound place from to octets ask None e asked = nothing_is_sound plan past move w h
   asked_at_is_sound place from to octets ask (Some s) e asked = asked_soundly place s e from to octets ask asked
 
+  -- nobody asks a router
+  asked_by_role : (role : Role) (place : ℕ) (from to octets : List ℕ) (ask : Ask) → IsSend plan move from to octets
+      → MoveIsSound plan past move (asks_role role w place (AsksToSend from to octets ask))
+  asked_by_role Host place from to octets ask asked = asked_at_is_sound place from to octets ask (slice_get w.systems place) refl asked
+  asked_by_role Router place from to octets ask asked = nothing_is_sound plan past move w h
+
+  system_is_asked_at : (place : ℕ) (from to octets : List ℕ) (ask : Ask) (found : Option SystemState) → IsSend plan move from to octets
+      → MoveIsSound plan past move (asks_system w place (AsksToSend from to octets ask) found)
+  system_is_asked_at place from to octets ask None asked = nothing_is_sound plan past move w h
+  system_is_asked_at place from to octets ask (Some s) asked = asked_by_role s.configuration.role place from to octets ask asked
+
   pub system_is_asked : (place : ℕ) (from to octets : List ℕ) (ask : Ask) → IsSend plan move from to octets
-      → MoveIsSound plan past move (comes w place (AsksToSend from to octets ask))
-  system_is_asked place from to octets ask asked = asked_at_is_sound place from to octets ask (slice_get w.systems place) refl asked
+      → MoveIsSound plan past move (asks w place (AsksToSend from to octets ask))
+  system_is_asked place from to octets ask asked = system_is_asked_at place from to octets ask (slice_get w.systems place) asked

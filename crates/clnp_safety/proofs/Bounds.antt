@@ -10,11 +10,12 @@ use Rattle.clnp_plan.specs.declared.config.PortConfig.{PortConfig}
 use Rattle.scenario.specs.Scenario.{Plan}
 use Rattle.scenario.specs.declared.event.Move.{Move}
 use Rattle.clnp_machine.specs.Unit as unit
-use Rattle.clnp_machine.specs.Unit.{Packet}
-use Rattle.clnp_machine.specs.System.{SystemState, Input, Output, Transmits, Notes, Effect}
+use Rattle.clnp_machine.specs.Unit.{Maker, DeclaredAt}
+use Rattle.clnp_machine.specs.Content.{Content, Labelled, Esis}
+use Rattle.clnp_machine.specs.System.{SystemState, Input, Output, Transmits, SendsEsis, Notes, Effect}
 use Rattle.clnp_machine.specs.Step.{step}
 use Rattle.clnp_machine.specs.Steps.{IsWithinBudget, SendsRangesOf}
-use Rattle.clnp_network.specs.World.{World, Copy, copy_from, put_out, takes_effect, with_effect, states_from, first_world}
+use Rattle.clnp_network.specs.World.{World, Copy, copy_from, sends_frame, put_out, takes_effect, with_effect, states_from, first_world}
 use Rattle.clnp_network.specs.Run.{world_after}
 use Rattle.clnp_network.specs.Safe.{IsWithinBudgets, IsWithinLifetimes, MeetsLifetime}
 use Rattle.clnp_safety.specs.StepLaws.{StepLaws}
@@ -27,28 +28,35 @@ use Rattle.clnp_safety.proofs.EveryMove.{AnyInput, any_events, keeps-moves}
 abbrev Bounded : Copy → Type 0
 Bounded copy = MeetsLifetime copy.content
 
-copy_meets : (found : Option PortConfig) (target : Target) (packet : Packet) → packet.hops + packet.lifetime ≤ packet.unit.lifetime
-    → AllByRecursion Bounded (copy_from found target packet)
-copy_meets None target packet h = tt
-copy_meets (Some port) target packet h = (h, tt)
+copy_meets : (found : Option PortConfig) (target : Target) (maker : Maker) (birth : ℕ) (content : Content) → MeetsLifetime content
+    → AllByRecursion Bounded (copy_from found target maker birth content)
+copy_meets None target maker birth content h = tt
+copy_meets (Some port) target maker birth content h = (h, tt)
 
-put_out_meets : (units : List unit.Unit) (system : SystemConfiguration) (output : Output) → SendsRangesOf units output → (v : World) → IsWithinLifetimes v
-    → Keeps IsWithinLifetimes AnyLine (put_out system v output)
-put_out_meets units system (Notes note) sends v k = record { world = k; lines = (tt, tt) }
-put_out_meets units system (Transmits port target packet) sends v k = record {
-  world = AllByRecursion-append Bounded v.copies (copy_from (slice_get system.ports port) target packet) k
-      (copy_meets (slice_get system.ports port) target packet sends.lifetime);
+frame_meets : (system : SystemState) (v : World) (port : ℕ) (target : Target) (maker : Maker) (birth : ℕ) (content : Content) → MeetsLifetime content
+    → IsWithinLifetimes v → Keeps IsWithinLifetimes AnyLine (sends_frame system v port target maker birth content)
+frame_meets system v port target maker birth content h k = record {
+  world = AllByRecursion-append Bounded v.copies (copy_from (slice_get system.configuration.ports port) target maker birth content) k
+      (copy_meets (slice_get system.configuration.ports port) target maker birth content h);
   lines = (tt, tt);
 }
+
+put_out_meets : (units : List unit.Unit) (system : SystemState) (output : Output) → SendsRangesOf units output → (v : World) → IsWithinLifetimes v
+    → Keeps IsWithinLifetimes AnyLine (put_out system v output)
+put_out_meets units system (Notes note) sends v k = record { world = k; lines = (tt, tt) }
+put_out_meets units system (Transmits port target packet) sends v k =
+    frame_meets system v port target packet.unit.maker packet.unit.made (Labelled packet []) sends.lifetime k
+put_out_meets units system (SendsEsis port target value) sends v k =
+    frame_meets system v port target (DeclaredAt system.place) v.clock (Esis value []) tt k
 
 step_meets : StepLaws → (w : World) (place : ℕ) (s : SystemState) (input : Input) → slice_get w.systems place ≡ Some s → AnyInput input → IsWithinLifetimes w
     → Keeps IsWithinLifetimes AnyLine (takes_effect w place (step s input))
 step_meets laws w place s input there any k =
     let effect : Effect = step s input in
-    keeps-put_all_out IsWithinLifetimes AnyLine effect.after.configuration effect.outputs
+    keeps-put_all_out IsWithinLifetimes AnyLine effect.after effect.outputs
     (AllByRecursion-implies (SendsRangesOf effect.units)
-    (λ output. (v : World) → IsWithinLifetimes v → Keeps IsWithinLifetimes AnyLine (put_out effect.after.configuration v output))
-    (put_out_meets effect.units effect.after.configuration) effect.outputs (laws.steps.ranges s input))
+    (λ output. (v : World) → IsWithinLifetimes v → Keeps IsWithinLifetimes AnyLine (put_out effect.after v output))
+    (put_out_meets effect.units effect.after) effect.outputs (laws.steps.ranges s input))
     (with_effect w place effect) k
 
 pub lifetimes_hold : StepLaws → (plan : Plan) (moves : List Move) → IsWithinLifetimes (world_after plan (first_world plan) moves)
@@ -65,17 +73,18 @@ set_within [] place s h k = tt
 set_within (t ∷ systems) zero s h k = (k, h.1)
 set_within (t ∷ systems) (suc place) s h k = (h.0, set_within systems place s h.1 k)
 
-put_out_within : (system : SystemConfiguration) (output : Output) (v : World) → IsWithinBudgets v → Keeps IsWithinBudgets AnyLine (put_out system v output)
+put_out_within : (system : SystemState) (output : Output) (v : World) → IsWithinBudgets v → Keeps IsWithinBudgets AnyLine (put_out system v output)
 put_out_within system (Notes note) v k = record { world = k; lines = (tt, tt) }
 put_out_within system (Transmits port target packet) v k = record { world = k; lines = (tt, tt) }
+put_out_within system (SendsEsis port target value) v k = record { world = k; lines = (tt, tt) }
 
 step_within : StepLaws → (w : World) (place : ℕ) (s : SystemState) (input : Input) → slice_get w.systems place ≡ Some s → AnyInput input → IsWithinBudgets w
     → Keeps IsWithinBudgets AnyLine (takes_effect w place (step s input))
 step_within laws w place s input there any k =
     let effect : Effect = step s input in
-    keeps-put_all_out IsWithinBudgets AnyLine effect.after.configuration effect.outputs
-    (AllByRecursion-any (λ output. (v : World) → IsWithinBudgets v → Keeps IsWithinBudgets AnyLine (put_out effect.after.configuration v output))
-    (put_out_within effect.after.configuration) effect.outputs)
+    keeps-put_all_out IsWithinBudgets AnyLine effect.after effect.outputs
+    (AllByRecursion-any (λ output. (v : World) → IsWithinBudgets v → Keeps IsWithinBudgets AnyLine (put_out effect.after v output))
+    (put_out_within effect.after) effect.outputs)
     (with_effect w place effect)
     (set_within w.systems place effect.after k (laws.steps.budget s input (AllByRecursion-slice_get IsWithinBudget w.systems place s there k)))
 

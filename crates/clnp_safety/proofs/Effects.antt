@@ -8,19 +8,17 @@ use Rattle.clnp_plan.specs.Journal.{Line}
 use Rattle.clnp_plan.specs.declared.note.Note.{Note}
 use Rattle.clnp_machine.specs.Unit as unit
 use Rattle.clnp_machine.specs.Unit.{Packet}
-use Rattle.clnp_machine.specs.System.{SystemState, Input, Output, Transmits, Notes, Effect}
-use Rattle.clnp_machine.specs.Step.{deed, step}
+use Rattle.clnp_machine.specs.System.{SystemState, Input, Output, Transmits, SendsEsis, Notes, Effect}
+use Rattle.clnp_machine.specs.Step.{step}
 use Rattle.clnp_machine.specs.Steps.{AsksNothing, IsFresh, NotesOnly, SendsRangesOf, moment_after}
-use Rattle.clnp_machine.specs.Told.{TellsOnly}
 use Rattle.clnp_network.specs.Run.{Entry}
 use Rattle.clnp_network.specs.World.{World, takes_effect}
 use Rattle.clnp_safety.specs.Invariant.{NoteIsHonest, UnitsAreSound}
 use Rattle.clnp_safety.specs.Outputs.{OutputIsSound}
 use Rattle.clnp_safety.specs.StepLaws.{StepLaws}
-use Rattle.clnp_safety.proofs.Lines.{LineIs, quiet_is_honest}
+use Rattle.clnp_safety.proofs.Lines.{LineIs}
 use Rattle.clnp_safety.proofs.Outputs.{Stands, takes_effect_stands}
 use Rattle.clnp_safety.proofs.Steps.{Keeps}
-use Rattle.clnp_safety.proofs.Told.{outputs_note}
 use Rattle.clnp_safety.proofs.Units.{packet_of_more}
 
 -- What a step gives out is sound, where its notes are: what it sends is of units that are made now.
@@ -29,6 +27,7 @@ module _ (Q : Note → Type 0) (units made : List unit.Unit) (s : SystemState) (
   output_is_sound : (output : Output) → SendsRangesOf made output → NotesOnly Q output → OutputIsSound Q (units ++ made) now output
   output_is_sound (Transmits port target packet) sends notes =
       (packet_of_more units made packet sends, (AllByRecursion-contains (IsFresh s now) made packet.unit sends.unit fresh).made)
+  output_is_sound (SendsEsis port target value) sends notes = tt
   output_is_sound (Notes note) sends notes = notes
 
   pub outputs_are_sound : (outputs : List Output) → AllByRecursion (SendsRangesOf made) outputs → AllByRecursion (NotesOnly Q) outputs
@@ -83,11 +82,10 @@ module _ (plan : Plan) (past : List Entry) (now : ℕ) where
     -- a system takes a step that makes nothing
     pub step_keeps : StepLaws → (w : World) (place : ℕ) (s : SystemState) (input : Input) → AsksNothing input → moment_after s input ≡ now
         → ((other : ℕ) (t : SystemState) → other ≢ place → P w.units other t → Q w.units other t) → Q w.units place (step s input).after
-        → AllByRecursion (TellsOnly (NoteIsHonest plan past)) (deed s input).actions → IsSoundWith P w
+        → AllByRecursion (NotesOnly (NoteIsHonest plan past)) (step s input).outputs → IsSoundWith P w
         → Keeps (StaysSound w) Told (takes_effect w place (step s input))
     step_keeps laws w place s input nothing at others here honest k =
         effect_keeps w place (step s input) (laws.steps.asked s input nothing) others here
         (subst (λ n. AllByRecursion (OutputIsSound (NoteIsHonest plan past) (w.units ++ (step s input).units) n) (step s input).outputs) at
-        (step_gives_soundly laws (NoteIsHonest plan past) w.units s input
-        (outputs_note laws (NoteIsHonest plan past) (quiet_is_honest plan past) (deed s input).after (deed s input).actions honest)))
+        (step_gives_soundly laws (NoteIsHonest plan past) w.units s input honest))
         k

@@ -14,7 +14,7 @@ use Rattle.clnp_machine.specs.System.{SystemState, Input, AsksToSend, MomentCome
 use Rattle.clnp_machine.specs.Step.{step}
 use Rattle.clnp_network.specs.World.{World, Copy, takes_effect, comes, frame_to, addressees_from, settle_copy, lose_copy, tick_each, event_happens, after}
 use Rattle.clnp_network.specs.Run.{Entry, entries_of, world_after}
-use Rattle.clnp_safety.proofs.Steps.{Keeps, NotGivenIsFine, keeps-nothing, keeps-followed_by, keeps-comes_to, keeps-give_each, keeps-deliver}
+use Rattle.clnp_safety.proofs.Steps.{Keeps, NotGivenIsFine, keeps-nothing, keeps-followed_by, keeps-comes_to, keeps-asks, keeps-give_each, keeps-deliver}
 
 -- what an event asks of a system is such as Comes says
 abbrev pub GivesOnly : (Input → Type 0) → Event → Type 0
@@ -61,7 +61,8 @@ module _ (Comes : Input → Type 0) (K : World → Type 0) (Q : Line → Type 0)
       (λ copy e s there soon. each.steps w system s (frame_to s copy) there (each.frames w (number - 1) copy e k s) k)
   keeps-event limits w (Some (Restart system)) may k = keeps-comes w system IsRestarted each.restarts k
   keeps-event limits w (Some (Send system from to body ask)) may k =
-      keeps-comes w system (AsksToSend from to (octets_of body) ask) (may (Send system from to body ask) refl) k
+      keeps-asks K Q w system (AsksToSend from to (octets_of body) ask) k
+      (keeps-comes w system (AsksToSend from to (octets_of body) ask) (may (Send system from to body ask) refl) k)
   keeps-event limits w (Some (Settle count)) may k = keeps-nothing K Q w k
   keeps-event limits w (Some (Lose count)) may k = keeps-nothing K Q w k
   keeps-event limits w (Some (Tick count)) may k = keeps-nothing K Q w k

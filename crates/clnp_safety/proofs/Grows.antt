@@ -5,20 +5,22 @@ use Rattle.std.specs.Prelude.{slice_get, Option, None, Some}
 use Rattle.std.specs.List.{range_with_len}
 use Rattle.std.proofs.lemmas.Option.{slice_get_within}
 use Rattle.std.proofs.lemmas.List.{append-nil}
-use Rattle.clnp_plan.specs.Configuration.{SystemConfiguration}
+use Rattle.nsap.specs.declared.target.Target.{Target}
 use Rattle.clnp_plan.specs.declared.config.Limits.{Limits}
 use Rattle.scenario.specs.Scenario.{Plan, octets_of}
 use Rattle.scenario.specs.declared.event.Event.{Event}
 use Rattle.scenario.specs.declared.event.Event.TheVariants.{Send, Deliver, Settle, Lose, Tick, Restart}
 use Rattle.scenario.specs.declared.event.Move.{Move}
 use Rattle.scenario.specs.declared.event.Move.TheVariants.{One, SettleOne, LoseOne, TickOne}
-use Rattle.clnp_machine.specs.System.{Input, AsksToSend, MomentComes, IsRestarted, Output, Transmits, Notes, Effect}
+use Rattle.clnp_machine.specs.Unit.{Maker, DeclaredAt}
+use Rattle.clnp_machine.specs.Content.{Content, Labelled, Esis}
+use Rattle.clnp_machine.specs.System.{SystemState, Input, AsksToSend, MomentComes, IsRestarted, Output, Transmits, SendsEsis, Notes, Effect}
 use Rattle.clnp_machine.specs.Step.{step}
-use Rattle.clnp_network.specs.World.{World, Copy, copy_from, put_out, with_effect, takes_effect, comes, frame_to, addressees_from, settle_copy, deliver, lose_copy, tick_each, tick_one, event_happens, after, first_world}
+use Rattle.clnp_network.specs.World.{World, Copy, copy_from, sends_frame, put_out, with_effect, takes_effect, comes, asks, frame_to, addressees_from, settle_copy, deliver, lose_copy, tick_each, tick_one, event_happens, after, first_world}
 use Rattle.clnp_network.specs.Run.{world_after}
 use Rattle.clnp_safety.specs.Growth.{IsFront, IsWithinCopies}
 use Rattle.clnp_safety.proofs.Lines.{AnyLine, any_line_is_fine}
-use Rattle.clnp_safety.proofs.Steps.{Keeps, keeps-nothing, keeps-followed_by, keeps-put_all_out, keeps-comes_to, keeps-give_each, keeps-deliver}
+use Rattle.clnp_safety.proofs.Steps.{Keeps, keeps-nothing, keeps-followed_by, keeps-put_all_out, keeps-comes_to, keeps-asks, keeps-give_each, keeps-deliver}
 
 -- a world with more copies behind these, and this cursor
 record Grown (copies : List Copy) (cursor : ℕ) (w : World) : Type 0 where
@@ -29,19 +31,29 @@ front-more : {A : Type 0} (xs ys zs : List A) → IsFront xs ys → IsFront xs (
 front-more xs ys zs h = (h.0 ++ zs, ap (λ l. l ++ zs) h.1 ∙ append_assoc xs h.0 zs)
 
 module _ (copies : List Copy) (cursor : ℕ) where
-  put_out_grows : (system : SystemConfiguration) (output : Output) (v : World) → Grown copies cursor v
-      → Keeps (Grown copies cursor) AnyLine (put_out system v output)
-  put_out_grows system (Notes note) v k = record { world = k; lines = (tt, tt) }
-  put_out_grows system (Transmits port target packet) v k = record {
-    world = record { front = front-more copies v.copies (copy_from (slice_get system.ports port) target packet) k.front; at = k.at };
+  frame_grows : (system : SystemState) (v : World) (port : ℕ) (target : Target) (maker : Maker) (birth : ℕ) (content : Content) → Grown copies cursor v
+      → Keeps (Grown copies cursor) AnyLine (sends_frame system v port target maker birth content)
+  frame_grows system v port target maker birth content k = record {
+    world = record {
+      front = front-more copies v.copies (copy_from (slice_get system.configuration.ports port) target maker birth content) k.front;
+      at = k.at;
+    };
     lines = (tt, tt);
   }
 
+  put_out_grows : (system : SystemState) (output : Output) (v : World) → Grown copies cursor v
+      → Keeps (Grown copies cursor) AnyLine (put_out system v output)
+  put_out_grows system (Notes note) v k = record { world = k; lines = (tt, tt) }
+  put_out_grows system (Transmits port target packet) v k =
+      frame_grows system v port target packet.unit.maker packet.unit.made (Labelled packet []) k
+  put_out_grows system (SendsEsis port target value) v k =
+      frame_grows system v port target (DeclaredAt system.place) v.clock (Esis value []) k
+
   takes_effect_grows : (w : World) (place : ℕ) (effect : Effect) → Grown copies cursor w → Keeps (Grown copies cursor) AnyLine (takes_effect w place effect)
   takes_effect_grows w place effect k =
-      keeps-put_all_out (Grown copies cursor) AnyLine effect.after.configuration effect.outputs
-      (AllByRecursion-any (λ output. (v : World) → Grown copies cursor v → Keeps (Grown copies cursor) AnyLine (put_out effect.after.configuration v output))
-      (put_out_grows effect.after.configuration) effect.outputs)
+      keeps-put_all_out (Grown copies cursor) AnyLine effect.after effect.outputs
+      (AllByRecursion-any (λ output. (v : World) → Grown copies cursor v → Keeps (Grown copies cursor) AnyLine (put_out effect.after v output))
+      (put_out_grows effect.after) effect.outputs)
       (with_effect w place effect) (record { front = k.front; at = k.at })
 
   comes_grows : (w : World) (place : ℕ) (input : Input) → Grown copies cursor w → Keeps (Grown copies cursor) AnyLine (comes w place input)
@@ -88,7 +100,10 @@ event_grows limits w (Some (Deliver number place)) =
     (keeps-deliver (Grown w.copies w.cursor) AnyLine any_line_is_fine limits w number place (stays w)
     (λ copy e s there soon. takes_effect_grows w.copies w.cursor w place (step s (frame_to s copy)) (stays w))).world
 event_grows limits w (Some (Restart system)) = does_grow w system IsRestarted
-event_grows limits w (Some (Send system from to body ask)) = does_grow w system (AsksToSend from to (octets_of body) ask)
+event_grows limits w (Some (Send system from to body ask)) =
+    let asked = AsksToSend from to (octets_of body) ask in
+    grows_to w (asks w system asked).world w.cursor (λ k. k)
+    (keeps-asks (Grown w.copies w.cursor) AnyLine w system asked (stays w) (comes_grows w.copies w.cursor w system asked (stays w))).world
 
 settle_copy_grows : (limits : Limits) (w : World) (found : Option Copy) → ((copy : Copy) → found ≡ Some copy → w.cursor + 1 ≤ length w.copies)
     → GrowsFrom w (settle_copy limits w found).world

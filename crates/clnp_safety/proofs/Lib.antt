@@ -7,6 +7,7 @@ pub mod SendAsked
 pub mod BufferUnits
 pub mod BufferOffers
 pub mod Joining
+pub mod Hellos
 pub mod Arriving
 pub mod Ticking
 pub mod Restarting

@@ -1,18 +1,18 @@
 -- What the outputs of a system leave of a world, and what their lines are.
 use Rattle.clnp_base.proofs.Lists.{AllByRecursion-append, AllByRecursion-implies, set_each}
-use Rattle.std.proofs.Common.{◌≡◌, ◌≢◌, ℕ, List, ◌++◌, length, refl, ap, ◌∙◌, length-set}
+use Rattle.std.proofs.Common.{◌≡◌, ◌≢◌, ℕ, List, [], ◌++◌, length, refl, ap, ◌∙◌, length-set}
 use Rattle.std.specs.Prelude.{slice_get, Option, None, Some}
 use Rattle.nsap.specs.declared.target.Target.{Target}
-use Rattle.clnp_plan.specs.Configuration.{SystemConfiguration}
 use Rattle.clnp_plan.specs.declared.config.PortConfig.{PortConfig}
 use Rattle.clnp_plan.specs.declared.note.Note.{Note}
 use Rattle.clnp_machine.specs.Unit as unit
-use Rattle.clnp_machine.specs.Unit.{Packet}
-use Rattle.clnp_machine.specs.System.{SystemState, Output, Transmits, Notes, Effect}
+use Rattle.clnp_machine.specs.Unit.{Maker, DeclaredAt}
+use Rattle.clnp_machine.specs.Content.{Content, Labelled, Esis}
+use Rattle.clnp_machine.specs.System.{SystemState, Output, Transmits, SendsEsis, Notes, Effect}
 use Rattle.clnp_machine.specs.Steps.{IsRangeOf, NotesOnly}
-use Rattle.clnp_network.specs.World.{World, copy_from, put_out, with_effect, takes_effect}
+use Rattle.clnp_network.specs.World.{World, copy_from, sends_frame, put_out, with_effect, takes_effect}
 use Rattle.std.specs.List.{AllByRecursion}
-use Rattle.clnp_safety.specs.Invariant.{CopyIsSound}
+use Rattle.clnp_safety.specs.Invariant.{Carries, CopyIsSound, IsBornWithUnit}
 use Rattle.clnp_safety.specs.Outputs.{OutputIsSound}
 use Rattle.clnp_safety.proofs.Units.{copies_later}
 use Rattle.clnp_safety.proofs.Lines.{LineIs}
@@ -26,27 +26,35 @@ pub record Stands (units : List unit.Unit) (now count : ℕ) (P : ℕ → System
   pub number : length w.systems ≡ count
   pub each : (place : ℕ) (s : SystemState) → slice_get w.systems place ≡ Some s → P place s
 
-copy_from_is_sound : (units : List unit.Unit) (found : Option PortConfig) (target : Target) (packet : Packet) → IsRangeOf units packet
-    → AllByRecursion (CopyIsSound units) (copy_from found target packet)
-copy_from_is_sound units None target packet h = tt
-copy_from_is_sound units (Some port) target packet h = (record { carries = (h, refl); birth = refl }, tt)
+copy_from_is_sound : (units : List unit.Unit) (found : Option PortConfig) (target : Target) (maker : Maker) (birth : ℕ) (content : Content)
+    → Carries (IsRangeOf units) content → IsBornWithUnit birth content → AllByRecursion (CopyIsSound units) (copy_from found target maker birth content)
+copy_from_is_sound units None target maker birth content carries born = tt
+copy_from_is_sound units (Some port) target maker birth content carries born = (record { carries = carries; birth = born }, tt)
 
 module _ (now count : ℕ) (N : Note → Type 0) where
-  put_out_stands : (units : List unit.Unit) (P : ℕ → SystemState → Type 0) (system : SystemConfiguration) (output : Output)
-      → OutputIsSound N units now output → (v : World) → Stands units now count P v
-      → Keeps (Stands units now count P) (LineIs N) (put_out system v output)
-  put_out_stands units P system (Notes note) h v k = record { world = k; lines = (h, tt) }
-  put_out_stands units P system (Transmits port target packet) h v k = record {
+  frame_stands : (units : List unit.Unit) (P : ℕ → SystemState → Type 0) (system : SystemState) (v : World) (port : ℕ) (target : Target) (maker : Maker)
+      (birth : ℕ) (content : Content) → Carries (IsRangeOf units) content → IsBornWithUnit birth content → Stands units now count P v
+      → Keeps (Stands units now count P) (LineIs N) (sends_frame system v port target maker birth content)
+  frame_stands units P system v port target maker birth content carries born k = record {
     world = record {
       made = k.made;
       clock = k.clock;
-      copies = AllByRecursion-append (CopyIsSound units) v.copies (copy_from (slice_get system.ports port) target packet) k.copies
-          (copy_from_is_sound units (slice_get system.ports port) target packet h.0);
+      copies = AllByRecursion-append (CopyIsSound units) v.copies (copy_from (slice_get system.configuration.ports port) target maker birth content) k.copies
+          (copy_from_is_sound units (slice_get system.configuration.ports port) target maker birth content carries born);
       number = k.number;
       each = k.each;
     };
     lines = (tt, tt);
   }
+
+  put_out_stands : (units : List unit.Unit) (P : ℕ → SystemState → Type 0) (system : SystemState) (output : Output)
+      → OutputIsSound N units now output → (v : World) → Stands units now count P v
+      → Keeps (Stands units now count P) (LineIs N) (put_out system v output)
+  put_out_stands units P system (Notes note) h v k = record { world = k; lines = (h, tt) }
+  put_out_stands units P system (Transmits port target packet) h v k =
+      frame_stands units P system v port target packet.unit.maker packet.unit.made (Labelled packet []) (h.0, refl) refl k
+  put_out_stands units P system (SendsEsis port target value) h v k =
+      frame_stands units P system v port target (DeclaredAt system.place) v.clock (Esis value []) refl tt k
 
   -- a system that gives out only what is sound leaves a sound world
   pub takes_effect_stands : (units : List unit.Unit) (P Q : ℕ → SystemState → Type 0) (w : World) (place : ℕ) (effect : Effect)
@@ -55,9 +63,9 @@ module _ (now count : ℕ) (N : Note → Type 0) where
       → Stands units now count P w → Keeps (Stands (units ++ effect.units) now count Q) (LineIs N) (takes_effect w place effect)
   takes_effect_stands units P Q w place effect others here outputs k =
       let later : List unit.Unit = units ++ effect.units in
-      keeps-put_all_out (Stands later now count Q) (LineIs N) effect.after.configuration effect.outputs
-      (AllByRecursion-implies (OutputIsSound N later now) (λ output. (v : World) → Stands later now count Q v → Keeps (Stands later now count Q) (LineIs N) (put_out effect.after.configuration v output))
-      (put_out_stands later Q effect.after.configuration) effect.outputs outputs)
+      keeps-put_all_out (Stands later now count Q) (LineIs N) effect.after effect.outputs
+      (AllByRecursion-implies (OutputIsSound N later now) (λ output. (v : World) → Stands later now count Q v → Keeps (Stands later now count Q) (LineIs N) (put_out effect.after v output))
+      (put_out_stands later Q effect.after) effect.outputs outputs)
       (with_effect w place effect)
       (record {
         made = ap (λ us. us ++ effect.units) k.made;
@@ -71,16 +79,17 @@ module _ (now count : ℕ) (N : Note → Type 0) where
 abbrev AnyWorld : World → Type 0
 AnyWorld w = Unit {0}
 
-put_out_notes : (Q : Note → Type 0) (system : SystemConfiguration) (output : Output) → NotesOnly Q output → (v : World) → AnyWorld v
+put_out_notes : (Q : Note → Type 0) (system : SystemState) (output : Output) → NotesOnly Q output → (v : World) → AnyWorld v
     → Keeps AnyWorld (LineIs Q) (put_out system v output)
 put_out_notes Q system (Notes note) h v k = record { world = tt; lines = (h, tt) }
 put_out_notes Q system (Transmits port target packet) h v k = record { world = tt; lines = (tt, tt) }
+put_out_notes Q system (SendsEsis port target value) h v k = record { world = tt; lines = (tt, tt) }
 
 -- a system that notes only what Q holds of writes only such lines
 pub takes_effect_notes : (Q : Note → Type 0) (w : World) (place : ℕ) (effect : Effect) → AllByRecursion (NotesOnly Q) effect.outputs
     → AllByRecursion (LineIs Q) (takes_effect w place effect).lines
 takes_effect_notes Q w place effect h =
-    (keeps-put_all_out AnyWorld (LineIs Q) effect.after.configuration effect.outputs
-    (AllByRecursion-implies (NotesOnly Q) (λ output. (v : World) → AnyWorld v → Keeps AnyWorld (LineIs Q) (put_out effect.after.configuration v output))
-    (put_out_notes Q effect.after.configuration) effect.outputs h)
+    (keeps-put_all_out AnyWorld (LineIs Q) effect.after effect.outputs
+    (AllByRecursion-implies (NotesOnly Q) (λ output. (v : World) → AnyWorld v → Keeps AnyWorld (LineIs Q) (put_out effect.after v output))
+    (put_out_notes Q effect.after) effect.outputs h)
     (with_effect w place effect) tt).lines

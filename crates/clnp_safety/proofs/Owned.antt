@@ -10,7 +10,7 @@ use Rattle.clnp_plan.specs.declared.note.Note.{Note}
 use Rattle.clnp_plan.specs.declared.note.Note.TheVariants.{Got}
 use Rattle.scenario.specs.Scenario.{Plan}
 use Rattle.scenario.specs.declared.event.Move.{Move}
-use Rattle.clnp_machine.specs.System.{SystemState, Input, Output, Transmits, Notes, Effect}
+use Rattle.clnp_machine.specs.System.{SystemState, Input, Output, Transmits, SendsEsis, Notes, Effect}
 use Rattle.clnp_machine.specs.Step.{step}
 use Rattle.clnp_machine.specs.Steps.{IsForOwn, NotesOnly}
 use Rattle.clnp_network.specs.World.{World, put_out, with_effect, takes_effect, after}
@@ -48,11 +48,15 @@ module _ (laws : StepLaws) (systems : List SystemState) where
   }
   noted_by_owner place now s configuration _ was e own = tt
 
-  put_out_by_owner : (place : ℕ) (s : SystemState) (configuration : SystemConfiguration) (output : Output) → WasConfigured place s
-      → configuration ≡ s.configuration → NotesOnly (IsForOwn s) output
-      → (v : World) → AreConfigured v → Keeps AreConfigured ByOwner (put_out configuration v output)
-  put_out_by_owner place s configuration (Notes note) was e own v k = record { world = k; lines = (noted_by_owner place v.clock s configuration note was e own, tt) }
-  put_out_by_owner place s configuration (Transmits port target packet) was e own v k = record { world = k; lines = (tt, tt) }
+  put_out_by_owner : (place : ℕ) (s later : SystemState) (output : Output) → WasConfigured place s
+      → later.configuration ≡ s.configuration → NotesOnly (IsForOwn s) output
+      → (v : World) → AreConfigured v → Keeps AreConfigured ByOwner (put_out later v output)
+  put_out_by_owner place s later (Notes note) was e own v k = record {
+    world = k;
+    lines = (noted_by_owner place v.clock s later.configuration note was e own, tt);
+  }
+  put_out_by_owner place s later (Transmits port target packet) was e own v k = record { world = k; lines = (tt, tt) }
+  put_out_by_owner place s later (SendsEsis port target value) was e own v k = record { world = k; lines = (tt, tt) }
 
   takes_effect_by_owner : (w : World) (place : ℕ) (s : SystemState) (input : Input) → slice_get w.systems place ≡ Some s
       → AnyInput input → AreConfigured w → Keeps AreConfigured ByOwner (takes_effect w place (step s input))
@@ -60,9 +64,9 @@ module _ (laws : StepLaws) (systems : List SystemState) where
       let was = k place s there in
       let effect : Effect = step s input in
       let same = (laws.steps.itself s input).configuration in
-      keeps-put_all_out AreConfigured ByOwner effect.after.configuration effect.outputs
-      (AllByRecursion-implies (NotesOnly (IsForOwn s)) (λ output. (v : World) → AreConfigured v → Keeps AreConfigured ByOwner (put_out effect.after.configuration v output))
-      (λ output own_output. put_out_by_owner place s effect.after.configuration output was same own_output) effect.outputs (laws.steps.own s input))
+      keeps-put_all_out AreConfigured ByOwner effect.after effect.outputs
+      (AllByRecursion-implies (NotesOnly (IsForOwn s)) (λ output. (v : World) → AreConfigured v → Keeps AreConfigured ByOwner (put_out effect.after v output))
+      (λ output own_output. put_out_by_owner place s effect.after output was same own_output) effect.outputs (laws.steps.own s input))
       (with_effect w place effect)
       (set_each WasConfigured WasConfigured w.systems place effect.after k (λ other t apart h. h)
       (record { before = was.before; there = was.there; same = same ∙ was.same }))

@@ -5,6 +5,8 @@ use Rattle.std.specs.Prelude.{slice_get, Option, None, Some}
 use Rattle.pdu_header.specs.declared.kind.Kind.TheVariants.{Dt}
 use Rattle.clnp_plan.specs.declared.ask.Ask.{Ask}
 use Rattle.clnp_plan.specs.declared.config.Limits.{Limits}
+use Rattle.clnp_plan.specs.declared.config.Role.{Role}
+use Rattle.clnp_plan.specs.declared.config.Role.TheVariants.{Host, Router}
 use Rattle.clnp_plan.specs.declared.note.Note.TheVariants.{Refused}
 use Rattle.scenario.specs.Scenario.{Plan, octets_of}
 use Rattle.scenario.specs.declared.event.Event.{Event}
@@ -16,7 +18,7 @@ use Rattle.clnp_machine.specs.System.{SystemState, AsksToSend}
 use Rattle.clnp_machine.specs.Local.{refusal, unit_of, unless_refused}
 use Rattle.clnp_machine.specs.Step.{effect_of}
 use Rattle.std.proofs.lemmas.List.{append-nil}
-use Rattle.clnp_network.specs.World.{World, after, comes_to, takes_effect, event_happens}
+use Rattle.clnp_network.specs.World.{World, after, comes_to, asks_role, asks_system, takes_effect, event_happens}
 use Rattle.clnp_network.specs.Safe.{AsksFor, IsSend, NoRefusal}
 use Rattle.clnp_plan.specs.declared.note.Note.{Note}
 use Rattle.clnp_safety.specs.Refusal.{LeavesNothing}
@@ -43,10 +45,21 @@ send_leaves laws w place from to octets ask None e told = absurd (told tt)
 send_leaves laws w place from to octets ask (Some s) e told =
     refused_leaves laws w place s (unit_of s Dt from to octets ask) (refusal s (unit_of s Dt from to octets ask)) (laws.deeds.refused s (unit_of s Dt from to octets ask)) e told
 
+asked_leaves : StepLaws → (role : Role) (w : World) (place : ℕ) (from to octets : List ℕ) (ask : Ask)
+    → ¬ (NoRefusal (asks_role role w place (AsksToSend from to octets ask)).lines) → LeavesNothing w (asks_role role w place (AsksToSend from to octets ask))
+asked_leaves laws Host w place from to octets ask told = send_leaves laws w place from to octets ask (slice_get w.systems place) refl told
+asked_leaves laws Router w place from to octets ask told = absurd (told tt)
+
+asked_at_leaves : StepLaws → (w : World) (place : ℕ) (from to octets : List ℕ) (ask : Ask) (found : Option SystemState)
+    → ¬ (NoRefusal (asks_system w place (AsksToSend from to octets ask) found).lines)
+    → LeavesNothing w (asks_system w place (AsksToSend from to octets ask) found)
+asked_at_leaves laws w place from to octets ask None told = absurd (told tt)
+asked_at_leaves laws w place from to octets ask (Some s) told = asked_leaves laws s.configuration.role w place from to octets ask told
+
 event_leaves : StepLaws → (limits : Limits) (w : World) (asked : Option Event) (from to octets : List ℕ) → AsksFor asked from to octets
     → ¬ (NoRefusal (event_happens limits w asked).lines) → LeavesNothing w (event_happens limits w asked)
 event_leaves laws limits w (Some (Send system source destination body ask)) from to octets h told =
-    send_leaves laws w system source destination (octets_of body) ask (slice_get w.systems system) refl told
+    asked_at_leaves laws w system source destination (octets_of body) ask (slice_get w.systems system) told
 event_leaves laws limits w _ from to octets h told = absurd h
 
 pub refused_send_leaves : StepLaws → (plan : Plan) (w : World) (move : Move) (from to octets : List ℕ) → IsSend plan move from to octets

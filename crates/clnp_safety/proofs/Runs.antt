@@ -1,5 +1,5 @@
 -- Each move keeps the world sound, and so does each series of moves.
-use Rattle.clnp_base.proofs.Lists.{AllByRecursion-from_places, AllByRecursion-implies}
+use Rattle.clnp_base.proofs.Lists.{AllByRecursion-both, AllByRecursion-from_places, AllByRecursion-implies}
 use Rattle.std.proofs.Common.{◌≡◌, ℕ, List, [], ◌∷◌, ◌++◌, ◌+◌, refl}
 use Rattle.std.specs.Prelude.{slice_get, Option, None, Some}
 use Rattle.std.specs.List.{AllByRecursion}
@@ -10,7 +10,7 @@ use Rattle.scenario.specs.declared.event.Move.{Move}
 use Rattle.scenario.specs.declared.event.Move.TheVariants.{One, SettleOne, LoseOne, TickOne}
 use Rattle.clnp_machine.specs.Unit as unit
 use Rattle.clnp_machine.specs.Unit.{Packet}
-use Rattle.clnp_machine.specs.Content.{Content, Labelled, Unlabelled}
+use Rattle.clnp_machine.specs.Content.{Content, Labelled, Esis, Unlabelled}
 use Rattle.clnp_machine.specs.System.{SystemState, IsRestarted}
 use Rattle.clnp_machine.specs.Steps.{IsRangeOf}
 use Rattle.reassembly.specs.Arrival.{Arrival}
@@ -24,6 +24,7 @@ use Rattle.clnp_safety.proofs.Moves.{MoveIsSound, sound_at_clock, kept_is_sound,
 use Rattle.clnp_safety.proofs.Settles.{settle_one_is_sound, deliver_is_sound, lose_one_is_sound, restarted_is_sound}
 use Rattle.clnp_safety.proofs.Ticks.{tick_one_is_sound}
 use Rattle.clnp_safety.proofs.Asked.{system_is_asked}
+use Rattle.clnp_safety.proofs.Frames.{FrameIsOfProtocol, IsOfProtocol, frames_are_of_protocols}
 use Rattle.clnp_safety.proofs.Opens.{first_world_is_sound}
 
 module _ (laws : StepLaws) (plan : Plan) (fit : IsFit plan) where
@@ -99,16 +100,19 @@ none_is_alien laws plan fit moves = moves_are_known laws plan fit moves [] (firs
 
 -- What is so of each world of a run.
 
-range_in : (units : List unit.Unit) (birth : ℕ) (content : Content) → Carries (IsRangeOf units) content → IsBornWithUnit birth content → RangeIn units birth content
-range_in units birth (Labelled packet following) carries born = (carries.0, carries.1, born)
-range_in units birth (Unlabelled octets) carries born = absurd carries
+range_in : (units : List unit.Unit) (birth : ℕ) (content : Content) → Carries (IsRangeOf units) content → IsBornWithUnit birth content
+    → IsOfProtocol content → RangeIn units birth content
+range_in units birth (Labelled packet following) carries born is = (carries.0, carries.1, born)
+range_in units birth (Esis value following) carries born is = is
+range_in units birth (Unlabelled octets) carries born is = absurd carries
 
 pub ranges_are_carried : StepLaws → (plan : Plan) → IsFit plan → (moves : List Move) → CarriesRanges (world_after plan (first_world plan) moves)
 ranges_are_carried laws plan fit moves =
     let w = world_after plan (first_world plan) moves in
-    AllByRecursion-implies (CopyIsSound w.units) (λ (copy : Copy). RangeIn w.units copy.birth copy.content)
-    (λ copy h. range_in w.units copy.birth copy.content h.carries h.birth) w.copies
+    AllByRecursion-both (CopyIsSound w.units) FrameIsOfProtocol (λ (copy : Copy). RangeIn w.units copy.birth copy.content)
+    (λ copy h is. range_in w.units copy.birth copy.content h.carries h.birth is) w.copies
     (moves_are_sound laws plan fit moves [] (first_world plan) (first_world_is_sound plan)).1.copies
+    (frames_are_of_protocols laws plan fit moves)
 
 one_unit : (plan : Plan) (units : List unit.Unit) (buffer : Buffer Packet) → BufferIsSound plan units buffer → HoldsOneUnit units buffer
 one_unit plan units buffer h =

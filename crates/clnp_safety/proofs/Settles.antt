@@ -3,11 +3,12 @@ use Rattle.clnp_base.proofs.Lists.{AllByRecursion-slice_get}
 use Rattle.std.proofs.Common.{◌≡◌, ◌≤◌, ℕ, List, ◌+◌, ◌-◌, false, refl, sym, subst, arith}
 use Rattle.std.specs.Prelude.{slice_get, Option, None, Some}
 use Rattle.scenario.specs.Scenario.{Plan, IsFit}
+use Rattle.esis_tables.specs.declared.fact.Place.{Place}
 use Rattle.clnp_plan.specs.Journal.{Line}
 use Rattle.clnp_machine.specs.Unit as unit
 use Rattle.clnp_machine.specs.System.{SystemState, IsRestarted}
 use Rattle.clnp_machine.specs.Step.{step}
-use Rattle.clnp_network.specs.World.{World, Copy, Numbered, is_late, frame_to, takes_effect, comes, addressees_from, settle_copy, settle_one, deliver, lose_copy, lose_one}
+use Rattle.clnp_network.specs.World.{World, Copy, Numbered, first_port, is_group, is_late, frame_to, takes_effect, comes, addressees_from, settle_copy, settle_one, deliver, lose_copy, lose_one}
 use Rattle.clnp_network.specs.Run.{Entry}
 use Rattle.clnp_safety.specs.Invariant.{CopyIsSound, NoteIsHonest, SystemIsSound}
 use Rattle.clnp_safety.specs.StepLaws.{StepLaws}
@@ -42,7 +43,8 @@ module _ (laws : StepLaws) (plan : Plan) (fit : IsFit plan) (past : List Entry) 
       → Keeps (StaysSound plan past now Each Each v) Told (takes_effect v place (step s (frame_to s given.copy)))
   taken_is_sound given v place h k s there soon =
       let sound : SystemIsSound plan v.units now place s = k.stands.each place s there in
-      let done = arrival_is_sound laws plan past v.units now place fit s given.copy.content k.made sound h.carries
+      let from : Place = record { port = first_port given.copy s.configuration.role s.configuration.ports; snpa = given.copy.sender } in
+      let done = arrival_is_sound laws plan past v.units now place fit s from (is_group given.copy.target) given.copy.content k.made sound h.carries
       (comes_young plan.limits.age now given.copy.birth given.copy.content h.birth (is_soon given.copy v k.stands.clock soon)) in
       step_keeps plan past now Each Each laws v place s (frame_to s given.copy) tt sound.moment (λ other t apart held. held) done.0 done.1 k
 

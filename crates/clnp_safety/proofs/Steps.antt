@@ -2,12 +2,13 @@
 use Rattle.clnp_base.proofs.Lists.{AllByRecursion-append}
 use Rattle.std.proofs.Common.{◌≡◌, ℕ, ◌-◌, List, [], ◌∷◌, refl, Bool, true, false}
 use Rattle.std.specs.Prelude.{if◌then◌else◌, Option, None, Some, slice_get}
-use Rattle.clnp_plan.specs.Configuration.{SystemConfiguration}
 use Rattle.clnp_plan.specs.Journal.{Line, Void, Late}
 use Rattle.clnp_plan.specs.declared.config.Limits.{Limits}
+use Rattle.clnp_plan.specs.declared.config.Role.{Role}
+use Rattle.clnp_plan.specs.declared.config.Role.TheVariants.{Host, Router}
 use Rattle.clnp_machine.specs.System.{SystemState, Input, Output}
 use Rattle.clnp_machine.specs.Step.{step}
-use Rattle.clnp_network.specs.World.{World, Copy, Numbered, Step, nothing, writes, followed_by, put_out, put_all_out, takes_effect, comes_to, frame_to, is_late, give_to, give, give_each, is_void, is_addressee, deliver_to, deliver_at, deliver}
+use Rattle.clnp_network.specs.World.{World, Copy, Numbered, Step, nothing, writes, followed_by, put_out, put_all_out, takes_effect, comes, comes_to, asks_role, asks_system, asks, frame_to, is_late, give_to, give, give_each, is_void, is_addressee, deliver_to, deliver_at, deliver}
 use Rattle.std.specs.List.{AllByRecursion}
 
 -- K holds of the world after a step, and Q of each of its lines
@@ -35,7 +36,7 @@ module _ (K : World → Type 0) (Q : Line → Type 0) where
     lines = AllByRecursion-append Q first.lines (next first.world).lines h.lines (k first.world h.world).lines;
   }
 
-  pub keeps-put_all_out : (system : SystemConfiguration) (outputs : List Output)
+  pub keeps-put_all_out : (system : SystemState) (outputs : List Output)
       → AllByRecursion (λ output. (v : World) → K v → Keeps K Q (put_out system v output)) outputs → (w : World) → K w
       → Keeps K Q (put_all_out system w outputs)
   keeps-put_all_out system [] h w k = keeps-nothing w k
@@ -46,6 +47,19 @@ module _ (K : World → Type 0) (Q : Line → Type 0) where
       → ((s : SystemState) → found ≡ Some s → Keeps K Q (takes_effect w place (step s input))) → Keeps K Q (comes_to w place input found)
   keeps-comes_to w place input None h k = keeps-nothing w (h refl)
   keeps-comes_to w place input (Some s) h k = k s refl
+
+  -- nobody asks a router
+  keeps-asks_role : (role : Role) (w : World) (place : ℕ) (asked : Input) → K w → Keeps K Q (comes w place asked) → Keeps K Q (asks_role role w place asked)
+  keeps-asks_role Host w place asked k h = h
+  keeps-asks_role Router w place asked k h = keeps-nothing w k
+
+  keeps-asks_system : (w : World) (place : ℕ) (asked : Input) (found : Option SystemState) → K w → Keeps K Q (comes w place asked)
+      → Keeps K Q (asks_system w place asked found)
+  keeps-asks_system w place asked None k h = keeps-nothing w k
+  keeps-asks_system w place asked (Some system) k h = keeps-asks_role system.configuration.role w place asked k h
+
+  pub keeps-asks : (w : World) (place : ℕ) (asked : Input) → K w → Keeps K Q (comes w place asked) → Keeps K Q (asks w place asked)
+  keeps-asks w place asked k h = keeps-asks_system w place asked (slice_get w.systems place) k h
 
   module _ (fine : NotGivenIsFine Q) (limits : Limits) (given : Numbered) where
     -- the system takes in the copy that is given to it

@@ -7,9 +7,10 @@ use Rattle.std.proofs.lemmas.Option.{slice_get_within}
 use Rattle.scenario.specs.Scenario.{Plan}
 use Rattle.clnp_plan.specs.Journal.{Line}
 use Rattle.clnp_machine.specs.Unit as unit
-use Rattle.clnp_machine.specs.System.{SystemState, MomentComes}
+use Rattle.clnp_machine.specs.System.{SystemState, MomentComes, then_does}
 use Rattle.clnp_machine.specs.Local.{Action, Sends, Tells, tick}
-use Rattle.clnp_machine.specs.Step.{step}
+use Rattle.clnp_machine.specs.Esis.{forgets, says_hello}
+use Rattle.clnp_machine.specs.Step.{effect_of, moment_comes, step}
 use Rattle.clnp_machine.specs.Told.{NoteIsQuiet, TellsOnly}
 use Rattle.clnp_network.specs.Run.{Entry}
 use Rattle.clnp_network.specs.World.{World, comes, takes_effect, tick_each, tick_one}
@@ -19,6 +20,7 @@ use Rattle.clnp_safety.proofs.Past.{units_stay}
 use Rattle.clnp_safety.proofs.Lines.{LineIs, quiet_is_honest}
 use Rattle.clnp_safety.proofs.Steps.{Keeps, keeps-map, keeps-nothing, keeps-followed_by, keeps-comes_to}
 use Rattle.clnp_safety.proofs.Effects.{IsSoundWith, StaysSound, step_keeps}
+use Rattle.clnp_safety.proofs.Hellos.{EffectIsSound, deed_is_sound, hellos_are_sound, then_is_sound}
 use Rattle.clnp_safety.proofs.Ticking.{tick_is_sound}
 use Rattle.clnp_safety.proofs.Moves.{IsSoundAt}
 
@@ -30,6 +32,18 @@ tick_is_honest : StepLaws → (plan : Plan) (past : List Entry) (s : SystemState
 tick_is_honest laws plan past s now =
     AllByRecursion-implies (TellsOnly NoteIsQuiet) (TellsOnly (NoteIsHonest plan past)) (quiet_action plan past) (tick s now).actions
     (laws.deeds.tick s now)
+
+moment_is_sound : StepLaws → (plan : Plan) (past : List Entry) (units : List unit.Unit) (before now place : ℕ) (s : SystemState) → before ≤ now
+    → SystemIsSound plan units before place s → EffectIsSound plan past units now place (moment_comes s now)
+moment_is_sound laws plan past units before now place s later sound =
+    let ticked = effect_of (tick s now) in
+    let forgotten = forgets s.moment ticked.after in
+    then_is_sound plan past units now place ticked (λ t. then_does (forgets s.moment t) says_hello)
+    (deed_is_sound plan past units now place laws (tick s now) (tick_is_sound laws plan units before now place s sound later) (tick_is_honest laws plan past s now))
+    (λ is.
+    then_is_sound plan past units now place forgotten says_hello
+    (hellos_are_sound plan past units now place ticked.after forgotten (laws.hellos.forgotten ticked.after s.moment) is)
+    (hellos_are_sound plan past units now place forgotten.after (says_hello forgotten.after) (laws.hellos.said forgotten.after)))
 
 module _ (laws : StepLaws) (plan : Plan) (past : List Entry) (before now : ℕ) (later : before ≤ now) where
   -- the moment has come to the systems before a place, and to none from there on
@@ -50,14 +64,14 @@ module _ (laws : StepLaws) (plan : Plan) (past : List Entry) (before now : ℕ) 
       keeps-comes_to (HasComeTo (place + 1)) Told w place (MomentComes w.clock) (slice_get w.systems place)
       (λ none. let past = slice_get_none w.systems place none in let number = k.stands.number in absurd (omega arith))
       (λ s there.
-      let sound : SystemIsSound plan w.units now place (tick s w.clock).after =
-      subst (λ n. SystemIsSound plan w.units now place (tick s n).after) (sym k.stands.clock)
-      (tick_is_sound laws plan w.units before now place s ((k.stands.each place s there).yet (omega arith)) later) in
+      let done : EffectIsSound plan past w.units now place (moment_comes s w.clock) =
+      subst (λ n. EffectIsSound plan past w.units now place (moment_comes s n)) (sym k.stands.clock)
+      (moment_is_sound laws plan past w.units before now place s later ((k.stands.each place s there).yet (omega arith))) in
       keeps-map (StaysSound plan past now (HasCome place) (HasCome (place + 1)) w) (HasComeTo (place + 1)) Told (takes_effect w place (step s (MomentComes w.clock)))
       (λ v stays. stays.0)
       (step_keeps plan past now (HasCome place) (HasCome (place + 1)) laws w place s (MomentComes w.clock) tt k.stands.clock
       (λ other t apart h. record { come = λ l. h.come (omega arith); yet = λ l. h.yet (omega arith) })
-      (record { come = λ l. sound; yet = λ l. absurd (omega arith) }) (tick_is_honest laws plan past s w.clock) k))
+      (record { come = λ l. done.0; yet = λ l. absurd (omega arith) }) done.1 k))
 
   each_ticks : (count place : ℕ) → length plan.systems ≡ place + count → (w : World) → HasComeTo place w
       → Keeps (IsSoundAt plan past now) Told (tick_each w (range_with_len place count))

@@ -9,7 +9,7 @@ use Rattle.scenario.specs.Scenario.{Plan, IsFit}
 use Rattle.clnp_plan.specs.Configuration.{SystemConfiguration, AreDistinct}
 use Rattle.clnp_machine.specs.Unit as unit
 use Rattle.clnp_machine.specs.Unit.{Packet}
-use Rattle.clnp_machine.specs.Content.{Content, Labelled, Unlabelled}
+use Rattle.clnp_machine.specs.Content.{Content, Labelled, Esis, Unlabelled}
 use Rattle.clnp_machine.specs.Steps.{IsRangeOf}
 use Rattle.std.specs.List.{AllByRecursion}
 use Rattle.clnp_network.specs.World.{Copy}
@@ -90,6 +90,7 @@ module _ (units more : List unit.Unit) where
 
   content_later : (content : Content) → Carries (IsRangeOf units) content → Carries (IsRangeOf (units ++ more)) content
   content_later (Labelled packet following) h = (packet_later packet h.0, h.1)
+  content_later (Esis value following) h = h
   content_later (Unlabelled octets) h = absurd h
 
   pub copy_later : (copy : Copy) → CopyIsSound units copy → CopyIsSound (units ++ more) copy

@@ -11,7 +11,7 @@ use Rattle.reassembly.specs.Buffer.{Buffer, held, is_whole}
 use Rattle.clnp_machine.specs.Identifiers.{Identifiers, Use}
 use Rattle.clnp_machine.specs.Unit as unit
 use Rattle.clnp_machine.specs.Unit.{DeclaredAt, Packet}
-use Rattle.clnp_machine.specs.Content.{Content, Labelled, Unlabelled}
+use Rattle.clnp_machine.specs.Content.{Content, Labelled, Esis, Unlabelled}
 use Rattle.clnp_machine.specs.System.{SystemState}
 use Rattle.clnp_machine.specs.Steps.{IsRangeOf}
 use Rattle.clnp_machine.specs.Local.{header_size, offered}
@@ -40,13 +40,16 @@ pub record UnitIsSound (plan : Plan) (past : List Entry) (now : ℕ) (u : unit.U
 abbrev pub EachRests : ℕ → List unit.Unit → Type 0
 EachRests reuse units = AllPairs (Rests reuse) units
 
--- a frame carries a packet of which P holds, and nothing behind it
+-- a frame carries a packet of which P holds, or an ES-IS value, and nothing behind it
 abbrev pub Carries : (Packet → Type 0) → Content → Type 0
 Carries P (Labelled packet following) = P packet × (following ≡ [])
+Carries P (Esis value following) = following ≡ []
 Carries P (Unlabelled octets) = ⊥
 
+-- the copy of a packet is as old as its unit
 abbrev pub IsBornWithUnit : ℕ → Content → Type 0
 IsBornWithUnit birth (Labelled packet following) = birth ≡ packet.unit.made
+IsBornWithUnit birth (Esis value following) = Unit {0}
 IsBornWithUnit birth (Unlabelled octets) = ⊥
 
 pub record CopyIsSound (units : List unit.Unit) (copy : Copy) : Type 0 where

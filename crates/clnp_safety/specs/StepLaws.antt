@@ -1,7 +1,12 @@
 -- What is so of each step of a system, as the machine's laws say.
-use Rattle.std.specs.Prelude.{◌≡◌, ◌↔◌, ℕ, ◌≤◌, false, List, [], ◌++◌, None}
+use Rattle.std.specs.Prelude.{◌≡◌, ◌↔◌, ℕ, ◌≤◌, Bool, false, List, [], ◌++◌, None, All}
 use Rattle.std.specs.List.{AllByRecursion, Contains, flat_map}
+use Rattle.nsap.specs.Address.{IsAddress}
 use Rattle.pdu_header.specs.declared.kind.Kind.{Kind}
+use Rattle.esis_pdus.specs.Grammar.{IsPdu}
+use Rattle.esis_pdus.specs.Spelling.{spelling}
+use Rattle.esis_pdus.specs.Value.{EsisValue}
+use Rattle.esis_tables.specs.declared.fact.Place.{Place}
 use Rattle.reassembly.specs.declared.table.TableLimits.{TableLimits}
 use Rattle.reassembly.specs.Arrival.{Arrival}
 use Rattle.reassembly.specs.Buffer as buffer
@@ -12,8 +17,9 @@ use Rattle.clnp_machine.specs.Unit as unit
 use Rattle.clnp_machine.specs.Unit.{IsCarriable, Packet, wire}
 use Rattle.clnp_machine.specs.System.{SystemState, Input}
 use Rattle.clnp_machine.specs.Local.{Action, gives_up, make, refusal, tick}
-use Rattle.clnp_machine.specs.Step.{outputs_of, step}
-use Rattle.clnp_machine.specs.Steps.{AsksNothing, BreaksNoRule, IsDeed, IsFairlyAsked, IsForOwn, IsFresh, IsWithinBudget, NotesOnly, SendsCarriable, SendsRangesOf, StaysItself, moment_after}
+use Rattle.clnp_machine.specs.Esis.{esis_comes, forgets, says_hello}
+use Rattle.clnp_machine.specs.Step.{outputs_of, responds, step}
+use Rattle.clnp_machine.specs.Steps.{AsksNothing, BreaksNoEsisRule, BreaksNoRule, IsDeed, IsFairlyAsked, IsForOwn, IsFresh, IsWithinBudget, NotesOnly, OnlyHellos, SendsCarriable, SendsEsisPdus, SendsRangesOf, StaysItself, moment_after}
 use Rattle.clnp_machine.specs.Told.{IsAllowed, IsRefusal, IsToldBy, NoteIsQuiet, NotesNoRule, SpellsPdus, TellsNoInterference, TellsOnly, WasThereOrTakes}
 
 -- of a whole step
@@ -23,6 +29,8 @@ pub record OfSteps : Type 0 where
   pub asked : (s : SystemState) (input : Input) → AsksNothing input → (step s input).units ≡ []
   pub ranges : (s : SystemState) (input : Input) → AllByRecursion (SendsRangesOf (step s input).units) (step s input).outputs
   pub carriable : (s : SystemState) (input : Input) → IsSystem s.configuration → IsFairlyAsked input → AllByRecursion SendsCarriable (step s input).outputs
+  pub esis_pdus : (s : SystemState) (input : Input) → IsSystem s.configuration → All IsAddress s.configuration.addresses
+      → AllByRecursion SendsEsisPdus (step s input).outputs
   pub no_rule : (s : SystemState) (input : Input) → SpellsPdus input → AllByRecursion (NotesOnly NotesNoRule) (step s input).outputs
   pub own : (s : SystemState) (input : Input) → AllByRecursion (NotesOnly (IsForOwn s)) (step s input).outputs
   pub budget : (s : SystemState) (input : Input) → IsWithinBudget s → IsWithinBudget (step s input).after
@@ -35,6 +43,13 @@ pub record OfDeeds : Type 0 where
   pub told : (s : SystemState) (actions : List Action) → AllByRecursion (NotesOnly (IsToldBy actions)) (flat_map (outputs_of s) actions)
   pub tick : (s : SystemState) (now : ℕ) → AllByRecursion (TellsOnly NoteIsQuiet) (tick s now).actions
   pub ended : (s : SystemState) (ended : Buffer Packet) → (gives_up s ended).after ≡ record s { buffers = without ended.key s.buffers }
+
+-- of what a system says and hears of others
+pub record OfHellos : Type 0 where
+  pub comes : (s : SystemState) (place : Place) (value : EsisValue) → OnlyHellos s (esis_comes s place value)
+  pub answers : (s : SystemState) (place : Place) (to_group : Bool) (p : Packet) → OnlyHellos s (responds s place to_group p)
+  pub forgotten : (s : SystemState) (before : ℕ) → OnlyHellos s (forgets before s)
+  pub said : (s : SystemState) → OnlyHellos s (says_hello s)
 
 -- of a segment that is offered to buffers
 pub record OfSegments : Type 0 where
@@ -50,5 +65,7 @@ pub record OfSegments : Type 0 where
 pub record StepLaws : Type 0 where
   pub steps : OfSteps
   pub deeds : OfDeeds
+  pub hellos : OfHellos
   pub segments : OfSegments
   pub frames : (p : Packet) (following : List ℕ) → IsCarriable p → BreaksNoRule (wire p ++ following)
+  pub esis_frames : (value : EsisValue) (following : List ℕ) → IsPdu value → BreaksNoEsisRule (spelling value ++ following)

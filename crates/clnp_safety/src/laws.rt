@@ -140,6 +140,8 @@ fn laws_of_steps()
     machine::new_units_are_fresh();
     machine::ranges_of_units_are_sent();
     machine::what_is_sent_is_carriable();
+    machine::hellos_leave_the_rest();
+    machine::hellos_are_pdus();
     machine::rules_are_noted_of_octets_alone();
     machine::only_owners_hand_up();
     machine::budgets_are_kept();
@@ -148,4 +150,5 @@ fn laws_of_steps()
     machine::ended_buffers_are_taken_out();
     machine::a_segment_is_kept_in_its_buffer();
     machine::carriable_packets_break_no_rule();
+    machine::esis_pdus_break_no_rule();
 }

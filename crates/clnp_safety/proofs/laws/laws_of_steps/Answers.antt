@@ -8,6 +8,7 @@ returns c = record {
     asked = c.new_units_are_fresh.ensures.asked;
     ranges = c.ranges_of_units_are_sent.ensures;
     carriable = c.what_is_sent_is_carriable.ensures;
+    esis_pdus = c.hellos_are_pdus.ensures.pdus;
     no_rule = c.rules_are_noted_of_octets_alone.ensures;
     own = c.only_owners_hand_up.ensures;
     budget = c.budgets_are_kept.ensures;
@@ -20,6 +21,12 @@ returns c = record {
     tick = c.what_is_noted_was_told.ensures.tick;
     ended = c.ended_buffers_are_taken_out.ensures;
   };
+  hellos = record {
+    comes = c.hellos_leave_the_rest.ensures.comes;
+    answers = c.hellos_leave_the_rest.ensures.responds;
+    forgotten = c.hellos_leave_the_rest.ensures.forgets;
+    said = c.hellos_leave_the_rest.ensures.says_hello;
+  };
   segments = record {
     buffers = c.a_segment_is_kept_in_its_buffer.ensures.buffers;
     others = c.a_segment_is_kept_in_its_buffer.ensures.others;
@@ -27,4 +34,5 @@ returns c = record {
     apart = c.a_segment_is_kept_in_its_buffer.ensures.apart;
   };
   frames = c.carriable_packets_break_no_rule.ensures;
+  esis_frames = c.esis_pdus_break_no_rule.ensures;
 }
