@@ -3,14 +3,15 @@ use Rattle.std.specs.Prelude.{◌≡◌, ℕ, ◌+◌, ◌≤◌, ◌⊎◌, tru
 use Rattle.std.specs.List.{AllByRecursion, Contains, flat_map}
 use Rattle.pdu_header.specs.Grammar.{BeginsWith}
 use Rattle.pdu_header.specs.Value.{PduValue}
+use Rattle.esis_pdus.specs.Grammar.{IsPdu}
 use Rattle.reassembly.specs.Arrival.{Arrival}
 use Rattle.reassembly.specs.Buffer.{Buffer, held}
 use Rattle.clnp_plan.specs.declared.note.Note.{Note}
 use Rattle.clnp_plan.specs.declared.note.Note.TheVariants.{Got}
 use Rattle.clnp_machine.specs.Unit as unit
 use Rattle.clnp_machine.specs.Unit.{DeclaredAt, Packet, IsCarriable, value_of, wire}
-use Rattle.clnp_machine.specs.Content.{Content, Labelled, Unlabelled}
-use Rattle.clnp_machine.specs.System.{SystemState, next_number, Input, AsksToSend, FrameComes, MomentComes, IsRestarted, Output, Transmits, Notes}
+use Rattle.clnp_machine.specs.Content.{Content, Labelled, Esis, Unlabelled}
+use Rattle.clnp_machine.specs.System.{SystemState, next_number, Input, AsksToSend, FrameComes, MomentComes, IsRestarted, Output, Transmits, SendsEsis, Notes}
 use Rattle.clnp_machine.specs.Local.{Deed, made_in, is_own, header_size, offered}
 
 -- it is still the same system, at its place, of the same configuration
@@ -56,14 +57,21 @@ pub record IsRangeOf (units : List unit.Unit) (p : Packet) : Type 0 where
   pub within : p.offset + p.length ≤ length p.unit.octets
   pub whole : p.unit.identifier ≡ None → (p.offset ≡ 0) × (p.length ≡ length p.unit.octets)
 
--- what is sent is a range of one of some units
+-- what is sent is a range of one of some units, or an ES-IS PDU
 abbrev pub SendsRangesOf : List unit.Unit → Output → Type 0
 SendsRangesOf units (Transmits port target packet) = IsRangeOf units packet
+SendsRangesOf units (SendsEsis port target value) = Unit {0}
 SendsRangesOf units (Notes note) = Unit {0}
+
+-- each ES-IS value that is sent is one that a PDU can carry
+abbrev pub SendsEsisPdus : Output → Type 0
+SendsEsisPdus (SendsEsis port target value) = IsPdu value
+SendsEsisPdus _ = Unit {0}
 
 -- what is noted is such as Q says
 abbrev pub NotesOnly : (Note → Type 0) → Output → Type 0
 NotesOnly Q (Transmits port target packet) = Unit {0}
+NotesOnly Q (SendsEsis port target value) = Unit {0}
 NotesOnly Q (Notes note) = Q note
 
 -- what a note hands up is for an address of the system
@@ -82,6 +90,7 @@ segments_in buffers = flat_map (λ buffer. buffer.kept) buffers
 -- the segment that comes in a frame
 abbrev pub CarriesSegment : Content → Arrival Packet → Type 0
 CarriesSegment (Labelled packet following) arrival = arrival ≡ offered packet following
+CarriesSegment (Esis value following) arrival = ⊥
 CarriesSegment (Unlabelled octets) arrival = ⊥
 
 abbrev pub ComesWith : Input → Arrival Packet → Type 0

@@ -8,7 +8,8 @@ use Rattle.scenario.specs.declared.event.Event.{Event}
 use Rattle.scenario.specs.declared.event.Event.TheVariants.{Send}
 use Rattle.scenario.specs.declared.event.Move.{Move}
 use Rattle.scenario.specs.declared.event.Move.TheVariants.{One, SettleOne, LoseOne, TickOne}
-use Rattle.clnp_machine.specs.Content.{Labelled, Unlabelled, Content}
+use Rattle.esis_pdus.specs.Grammar.{IsPdu}
+use Rattle.clnp_machine.specs.Content.{Labelled, Esis, Unlabelled, Content}
 use Rattle.clnp_machine.specs.Unit as unit
 use Rattle.clnp_machine.specs.Unit.{Packet}
 use Rattle.clnp_machine.specs.Steps.{IsRangeOf}
@@ -68,15 +69,18 @@ IsWithinBudgets w = AllByRecursion (λ system. held system.buffers ≤ system.co
 -- a packet's hops and its lifetime are together at most its unit's lifetime
 abbrev pub MeetsLifetime : Content → Type 0
 MeetsLifetime (Labelled packet following) = packet.hops + packet.lifetime ≤ packet.unit.lifetime
+MeetsLifetime (Esis value following) = Unit {0}
 MeetsLifetime (Unlabelled octets) = Unit {0}
 
 -- no PDU of the network was forwarded more often than its lifetime allowed
 abbrev pub IsWithinLifetimes : World → Type 0
 IsWithinLifetimes w = AllByRecursion (λ copy. MeetsLifetime copy.content) w.copies
 
--- a frame carries a range of a unit that was made, and nothing behind its PDU; its copy is as old as the unit
+-- A frame carries a range of a unit that was made, and its copy is as old as the unit; or it carries an ES-IS value that a PDU
+-- can carry. Nothing is behind its PDU.
 abbrev pub RangeIn : List unit.Unit → (birth : ℕ) → Content → Type 0
 RangeIn units birth (Labelled packet following) = IsRangeOf units packet × (following ≡ []) × (birth ≡ packet.unit.made)
+RangeIn units birth (Esis value following) = IsPdu value × (following ≡ [])
 RangeIn units birth (Unlabelled octets) = ⊥
 
 -- each frame on the network does
