@@ -337,11 +337,11 @@ fn push_rule(rule: u8, out: &mut Vec<u8>) -> Result<(), NoMemory>
     ensures written { OnOk result (out.new.items ≡ out.old.items ++ rule_word rule) }
     ensures same { OnErr result (out.new.items ≡ out.old.items) }
 {
-    let len = out.len();
+    let before = out.len();
     push(b"E", out)?;
     let written = push_decimal(u64::from(rule), out);
     if written.is_err() {
-        out.truncate(len);
+        out.truncate(before);
     }
     written
 }
