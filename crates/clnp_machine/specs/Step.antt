@@ -50,23 +50,24 @@ hop_of Router s to = option_map hop_to (heard.current_place s.moment Es to s.fac
 abbrev pub next_hop : SystemState → List ℕ → Option Hop
 next_hop s to = hop_of s.configuration.role s to
 
-abbrev pub mtu_of : Option PortConfig → ℕ
-mtu_of None = 0
-mtu_of (Some port) = port.mtu
-
--- the most octets that a frame on a port's subnetwork may have
-abbrev pub mtu_at : SystemState → ℕ → ℕ
-mtu_at s port = mtu_of (slice_get s.configuration.ports port)
-
 -- the pieces are sent; a unit that may not be cut is dropped (ISO 8473, section 6.9)
 abbrev pub transmissions : Hop → Option (List Packet) → List Output
 transmissions hop None = Notes (Discard (reason_code SegmentationNotPermitted) 0) ∷ []
 transmissions hop (Some pieces) = map (λ piece. Transmits hop.port hop.target piece) pieces
 
--- the first transmission of a unit; without a way it is dropped, its destination unknown
+-- there is no way for a unit: its destination is unknown
+abbrev pub no_way : List Output
+no_way = Notes (Discard (reason_code DestinationUnknown) 0) ∷ []
+
+-- a unit goes out on a port in frames that its subnetwork takes; by a port that isn't there is no way
+abbrev pub sent_on : Hop → Option PortConfig → Unit → List Output
+sent_on hop None u = no_way
+sent_on hop (Some port) u = transmissions hop (cut (whole_packet u) port.mtu)
+
+-- the first transmission of a unit
 abbrev pub first_sent : SystemState → Unit → Option Hop → List Output
-first_sent s u None = Notes (Discard (reason_code DestinationUnknown) 0) ∷ []
-first_sent s u (Some hop) = transmissions hop (cut (whole_packet u) (mtu_at s hop.port))
+first_sent s u None = no_way
+first_sent s u (Some hop) = sent_on hop (slice_get s.configuration.ports hop.port) u
 
 -- what a system gives out for what it does at its own addresses
 abbrev pub outputs_of : SystemState → Action → List Output
