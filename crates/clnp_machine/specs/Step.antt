@@ -18,6 +18,7 @@ use Rattle.pdu_header.specs.Rules.{octet, refusal as rule_broken}
 use Rattle.clnp_plan.specs.declared.config.PortConfig.{PortConfig}
 use Rattle.clnp_plan.specs.declared.config.Role.{Role}
 use Rattle.clnp_plan.specs.declared.config.Role.TheVariants.{Host, Router}
+use Rattle.clnp_plan.specs.declared.note.Note.{Note}
 use Rattle.clnp_plan.specs.declared.note.Note.TheVariants.{BadEsis, Discard, NotMine, Alien, Restart}
 use Rattle.clnp_machine.specs.Unit.{Unit, Packet, whole_packet, cut}
 use Rattle.clnp_machine.specs.Content.{Content, Labelled, Esis, Unlabelled}
