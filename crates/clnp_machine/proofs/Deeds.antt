@@ -127,7 +127,8 @@ does_take_in s frame arrival kept buffer.Whole within = record {
       let less = sum_filter size_of (λ (b : Buffer Packet). not (same_key b.key arrival.key)) kept in
       let most = within h in
       omega arith);
-  heard = record { facts = refl; hello = refl; next_hello = refl }; makes_none = refl;
+  heard = record { facts = refl; hello = refl; next_hello = refl };
+  makes_none = refl;
 }
 does_take_in s frame arrival kept (buffer.Interference there other) within = record { goes = goes-nowhere s; heard = hears-nothing s; makes_none = refl }
 does_take_in s frame arrival kept buffer.Repeat within = does_tell s _
@@ -191,7 +192,8 @@ does_give_up s ended =
           (λ h.
           let less = sum_filter size_of (λ (b : Buffer Packet). not (same_key b.key ended.key)) s.buffers in
           omega arith);
-      heard = record { facts = refl; hello = refl; next_hello = refl }; makes_none = refl;
+      heard = record { facts = refl; hello = refl; next_hello = refl };
+      makes_none = refl;
     })
     (λ t. does_discard_first t (buffer.first_carried ended))
 

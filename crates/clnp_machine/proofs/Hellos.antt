@@ -1,5 +1,5 @@
 -- What is said and heard between systems (ISO 9542) leaves all else as it is, makes no unit and sends no packet.
-use Rattle.std.proofs.Common.{◌≡◌, ◌∙◌, refl, sym, ap, subst, ℕ, ◌+◌, ◌*◌, Bool, true, false, List, [], ◌∷◌, ◌++◌, length, map, Option, None, Some}
+use Rattle.std.proofs.Common.{◌∙◌, refl, ap, ℕ, ◌+◌, ◌*◌, Bool, true, false, List, [], ◌∷◌, ◌++◌, length, map, Option, None, Some}
 use Rattle.std.specs.Prelude.{◌==◌, ◌&&◌, ◌||◌, not, nat_le, min, if◌then◌else◌}
 use Rattle.std.specs.List.{AllByRecursion, list_any, range_with_len}
 use Rattle.clnp_base.proofs.Lists.{AllByRecursion-append, AllByRecursion-map_any}
@@ -13,7 +13,7 @@ use Rattle.esis_tables.specs.Gone.{gone}
 use Rattle.clnp_plan.specs.declared.config.Role.{Role}
 use Rattle.clnp_plan.specs.declared.config.Role.TheVariants.{Host, Router}
 use Rattle.clnp_machine.specs.Unit.{Packet}
-use Rattle.clnp_machine.specs.System.{SystemState, Output, SendsEsis, Notes, Effect, idles, gives, then_does}
+use Rattle.clnp_machine.specs.System.{SystemState, Output, SendsEsis, Effect, idles, gives, then_does}
 use Rattle.clnp_machine.specs.Esis.{tells_of_itself, is_silent, own_hello, hearers, hello_everywhere, says_hello, hears, hears_each, tells_new, answers_new, follows, end_system_heard, intermediate_system_heard, esis_heard, esis_comes, gone_note, forgets}
 use Rattle.clnp_machine.specs.Step.{is_asked_for, responds}
 use Rattle.clnp_machine.specs.Steps.{IsOfHellos, LeavesTheRest, OnlyHellos}
