@@ -1,5 +1,5 @@
 -- What is so of every step of a system.
-use Rattle.std.specs.Prelude.{◌≡◌, ℕ, ◌+◌, ◌≤◌, ◌⊎◌, true, List, ◌++◌, length, Option, None, Some}
+use Rattle.std.specs.Prelude.{◌≡◌, ℕ, ◌+◌, ◌≤◌, ◌⊎◌, true, List, [], ◌++◌, length, Option, None, Some}
 use Rattle.std.specs.List.{AllByRecursion, Contains, flat_map}
 use Rattle.pdu_header.specs.Grammar.{BeginsWith}
 use Rattle.pdu_header.specs.Value.{PduValue}
@@ -7,11 +7,11 @@ use Rattle.esis_pdus.specs.Grammar.{IsPdu}
 use Rattle.reassembly.specs.Arrival.{Arrival}
 use Rattle.reassembly.specs.Buffer.{Buffer, held}
 use Rattle.clnp_plan.specs.declared.note.Note.{Note}
-use Rattle.clnp_plan.specs.declared.note.Note.TheVariants.{Got}
+use Rattle.clnp_plan.specs.declared.note.Note.TheVariants.{Gone, Got, Hear, Ignored}
 use Rattle.clnp_machine.specs.Unit as unit
 use Rattle.clnp_machine.specs.Unit.{DeclaredAt, Packet, IsCarriable, value_of, wire}
 use Rattle.clnp_machine.specs.Content.{Content, Labelled, Esis, Unlabelled}
-use Rattle.clnp_machine.specs.System.{SystemState, next_number, Input, AsksToSend, FrameComes, MomentComes, IsRestarted, Output, Transmits, SendsEsis, Notes}
+use Rattle.clnp_machine.specs.System.{SystemState, next_number, Input, AsksToSend, FrameComes, MomentComes, IsRestarted, Output, Transmits, SendsEsis, Notes, Effect}
 use Rattle.clnp_machine.specs.Local.{Deed, made_in, is_own, header_size, offered}
 
 -- it is still the same system, at its place, of the same configuration
@@ -42,10 +42,41 @@ pub record IsFresh (s : SystemState) (now : ℕ) (u : unit.Unit) : Type 0 where
   pub first_position : u.first_position ≡ 0
   pub total : u.total ≡ header_size u + length u.octets
 
+-- what it heard, and when it says hello, is as before
+pub record HearsNothing (before after : SystemState) : Type 0 where
+  pub facts : after.facts ≡ before.facts
+  pub hello : after.hello ≡ before.hello
+  pub next_hello : after.next_hello ≡ before.next_hello
+
+-- all else is as before
+pub record LeavesTheRest (before after : SystemState) : Type 0 where
+  pub place : after.place ≡ before.place
+  pub configuration : after.configuration ≡ before.configuration
+  pub hold : after.hold ≡ before.hold
+  pub moment : after.moment ≡ before.moment
+  pub count : after.count ≡ before.count
+  pub identifiers : after.identifiers ≡ before.identifiers
+  pub buffers : after.buffers ≡ before.buffers
+
+-- an ES-IS PDU, or a note of what is heard or gone
+abbrev pub IsOfHellos : Output → Type 0
+IsOfHellos (SendsEsis port target value) = Unit {0}
+IsOfHellos (Notes (Hear table key heard)) = Unit {0}
+IsOfHellos (Notes (Gone table key)) = Unit {0}
+IsOfHellos (Notes (Ignored rd)) = Unit {0}
+IsOfHellos _ = ⊥
+
+-- what is said and heard between systems: nothing else changes, and nothing else is given out
+pub record OnlyHellos (s : SystemState) (effect : Effect) : Type 0 where
+  pub rest : LeavesTheRest s effect.after
+  pub outputs : AllByRecursion IsOfHellos effect.outputs
+  pub units : effect.units ≡ []
+
 -- what a deed of a system leaves and makes: the same system, at the same moment, and units that are fresh
 pub record IsDeed (s : SystemState) (deed : Deed) : Type 0 where
   pub itself : StaysItself s deed.after
   pub moment : deed.after.moment ≡ s.moment
+  pub heard : HearsNothing s deed.after
   pub fresh : AllByRecursion (IsFresh s s.moment) (made_in deed.actions)
 
 -- What holds of a packet of one of some units: it is a range of the unit, and all of it where the unit may not be

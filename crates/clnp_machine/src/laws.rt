@@ -1,17 +1,20 @@
 //! Laws of one step of a system: each holds for every state and whatever comes, and its function
 //! does nothing.
-ghost use Rattle.std.specs.Prelude.{◌≡◌, ◌≤◌, ℕ, List, [], map, option_map};
+ghost use Rattle.std.specs.Prelude.{Bool, ◌≡◌, ◌≤◌, ℕ, List, [], map, option_map};
 ghost use Rattle.std.specs.List.{AllByRecursion};
 ghost use Rattle.hex.specs.Hex.{IsBytes};
 ghost use Rattle.pdu_header.specs.declared.kind.Kind.{Kind};
 ghost use Rattle.segmenter.specs.Cut as segmenter;
+ghost use Rattle.esis_pdus.specs.Value.{EsisValue};
+ghost use Rattle.esis_tables.specs.declared.fact.Place.{Place};
 ghost use Rattle.clnp_plan.specs.declared.ask.Ask.{Ask};
 ghost use Rattle.clnp_machine.specs.Unit.{Packet, IsCarriable, cut, value_of};
-ghost use Rattle.clnp_machine.specs.Content.{Content, IsCarried, content_of, frame_of};
+ghost use Rattle.clnp_machine.specs.Content.{IsCarried, content_of, frame_of};
+ghost use Rattle.clnp_machine.specs.Esis.{esis_comes, forgets, says_hello, tells_of_itself};
 ghost use Rattle.clnp_machine.specs.Local.{at_moment, make, receive, tick};
 ghost use Rattle.clnp_machine.specs.System.{SystemState, Input};
-ghost use Rattle.clnp_machine.specs.Step.{content_comes, step};
-ghost use Rattle.clnp_machine.specs.Steps.{AreCarriable, AsksNothing, CarriesOnePacket, IsDeed, IsForOwn, IsFresh, IsWithinBudget, NotesOnly, SendsRangesOf, StaysItself, WasKeptOrComes, moment_after, segments_in};
+ghost use Rattle.clnp_machine.specs.Step.{octets_come, packet_comes, responds, step};
+ghost use Rattle.clnp_machine.specs.Steps.{AreCarriable, AsksNothing, CarriesOnePacket, IsDeed, IsForOwn, IsFresh, IsWithinBudget, NotesOnly, OnlyHellos, SendsRangesOf, StaysItself, WasKeptOrComes, moment_after, segments_in};
 
 /// A step leaves a system at its place with its configuration, at the moment that came last.
 pub fn a_system_stays_itself()
@@ -24,8 +27,19 @@ pub fn a_system_stays_itself()
 pub fn deeds_are_of_their_moment()
     ensures make { (s : SystemState) (kind : Kind) (from to octets : List ℕ) (ask : Ask) → IsDeed s (make s kind from to octets ask) }
     ensures receive { (s : SystemState) (p : Packet) (following : List ℕ) → IsDeed s (receive s p following) }
-    ensures comes { (s : SystemState) (content : Content) → IsDeed s (content_comes s content) }
+    ensures packet { (s : SystemState) (p : Packet) (following : List ℕ) → IsDeed s (packet_comes s p following) }
+    ensures octets { (s : SystemState) (octets : List ℕ) → IsDeed s (octets_come s octets) }
     ensures tick { (s : SystemState) (now : ℕ) → IsDeed (at_moment now s) (tick s now) }
+{}
+
+/// What a system says and hears of others leaves all else of it as it is; it makes no unit and sends
+/// no packet.
+pub fn hellos_leave_the_rest()
+    ensures comes { (s : SystemState) (place : Place) (value : EsisValue) → OnlyHellos s (esis_comes s place value) }
+    ensures tells { (s : SystemState) (port : ℕ) (snpa : List ℕ) → OnlyHellos s (tells_of_itself s port snpa) }
+    ensures responds { (s : SystemState) (place : Place) (to_group : Bool) (p : Packet) → OnlyHellos s (responds s place to_group p) }
+    ensures forgets { (s : SystemState) (before : ℕ) → OnlyHellos s (forgets before s) }
+    ensures says_hello { (s : SystemState) → OnlyHellos s (says_hello s) }
 {}
 
 /// The units that are made in a step are made now by the system, of a source that is its own, and
