@@ -139,6 +139,7 @@ impl SystemEntity {
         ensures comes { IfOk result (λ arrival. (s : SystemState) (content : Content) → Stands self.old s → IsCarried content
             → frame_of content ≡ frame.now → ComesOf arrival s place group content self.new out.old.items out.new.items) }
         ensures left { IfOk result (λ arrival. LeavesAsItWas arrival self.old self.new out.old.items out.new.items) }
+        ensures not_spent { OnOk result (self.new.spent ≡ false) }
         ensures none { OnErr result (out.new.items ≡ out.old.items) }
         ensures spent { OnErr result (self.new.spent ≡ true) }
         ensures refused { self.old.spent ≡ true → IsErr result }
