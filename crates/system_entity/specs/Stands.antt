@@ -8,11 +8,16 @@ use Rattle.esis_entity.specs.Stands as esis
 use Rattle.local_entity.specs.Local as local
 use Rattle.system_entity.specs.State.{SystemEntityState}
 
--- its parts stand for the state of a system, whatever its place
-pub record PartsStand (entity : SystemEntityState) (s : SystemState) : Type 0 where
+-- Its parts stand for the state of a system, whatever its place, where what had ended by an earlier moment is forgotten.
+pub record PartsStandSince (before : ℕ) (entity : SystemEntityState) (s : SystemState) : Type 0 where
   pub local : local.Stands entity.local s
-  pub esis : esis.Stands entity.esis s
+  pub esis : esis.StandsSince before entity.esis s
   pub moment : entity.moment ≡ s.moment
+  pub since : before ≤ s.moment
+
+-- and what has ended by its own moment
+abbrev pub PartsStand : SystemEntityState → SystemState → Type 0
+PartsStand entity s = PartsStandSince s.moment entity s
 
 -- an entity stands for the state of a system
 pub record Stands (entity : SystemEntityState) (s : SystemState) : Type 0 where

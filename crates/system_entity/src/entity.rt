@@ -15,7 +15,7 @@ ghost use Rattle.clnp_machine.specs.System.{SystemState, first_state, next_numbe
 ghost use Rattle.local_entity.specs.Local.{IsWhy};
 ghost use Rattle.local_entity.specs.Sending.{hop_option, machine_hop};
 ghost use Rattle.system_entity.specs.Comes.{ComesOf, LeavesAsItWas};
-ghost use Rattle.system_entity.specs.Stands.{IsLeftBy, PartsStand, Stands};
+ghost use Rattle.system_entity.specs.Stands.{IsLeftBy, PartsStandSince, Stands};
 
 use clnp_base::NoMemory;
 use clnp_plan::{Ask, Limits, Note, Output, Role, SendRefusal, SystemConfig};
@@ -278,7 +278,7 @@ impl SystemEntity {
 
     /// Where it sends a PDU for an address, if it knows a way (ISO 9542, section 6.5).
     pub fn next_hop(&self, to: &Address) -> Option<Hop>
-        ensures { (s : SystemState) → PartsStand self.now s → hop_option result ≡ next_hop s to.now }
+        ensures { (s : SystemState) (before : ℕ) → PartsStandSince before self.now s → hop_option result ≡ next_hop s to.now }
     {
         match self.local.config().role() {
             Role::Host => Some(host_hop(self.esis.next_hop(self.moment, to))),

@@ -17,7 +17,7 @@ ghost use Rattle.clnp_machine.specs.Unit.{IsCarriable, Packet, wire};
 ghost use Rattle.local_entity.specs.Local.{DoAll, Does, IsWhy};
 ghost use Rattle.system_entity.specs.Comes.{ComesOf, LeavesAsItWas};
 ghost use Rattle.system_entity.specs.Deeds.{IsFresh, LeavesParts};
-ghost use Rattle.system_entity.specs.Stands.{PartsStand};
+ghost use Rattle.system_entity.specs.Stands.{PartsStand, PartsStandSince};
 
 use super::{Arrival, SystemEntity};
 use clnp_base::NoMemory;
@@ -302,7 +302,7 @@ impl SystemEntity {
     /// Gives out what was done at the system's addresses.
     fn give_out(&self, actions: Vec<Action>, out: &mut Vec<Output>) -> Result<(), NoMemory>
         requires { (others : List machine.Action) × DoAll actions.items others }
-        ensures { OnOk result ((s : SystemState) (others : List machine.Action) → PartsStand self.now s
+        ensures { OnOk result ((s : SystemState) (before : ℕ) (others : List machine.Action) → PartsStandSince before self.now s
             → DoAll actions.items others → AllByRecursion (IsFresh s.moment) others
             → Appends s.moment out.old.items out.new.items (flat_map (outputs_of s) others)) }
     {
@@ -315,7 +315,7 @@ impl SystemEntity {
     /// Gives out one thing that was done.
     fn give(&self, action: Action, out: &mut Vec<Output>) -> Result<(), NoMemory>
         requires { (other : machine.Action) × Does action other }
-        ensures { OnOk result ((s : SystemState) (other : machine.Action) → PartsStand self.now s
+        ensures { OnOk result ((s : SystemState) (before : ℕ) (other : machine.Action) → PartsStandSince before self.now s
             → Does action other → IsFresh s.moment other
             → Appends s.moment out.old.items out.new.items (outputs_of s other)) }
     {
