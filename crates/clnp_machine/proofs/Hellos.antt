@@ -1,6 +1,6 @@
 -- What is said and heard between systems (ISO 9542) leaves all else as it is, makes no unit and sends no packet.
-use Rattle.std.proofs.Common.{◌∙◌, refl, ap, ℕ, ◌+◌, ◌*◌, Bool, true, false, List, [], ◌∷◌, ◌++◌, length, map, Option, None, Some}
-use Rattle.std.specs.Prelude.{◌==◌, ◌&&◌, ◌||◌, not, nat_le, min, if◌then◌else◌}
+use Rattle.std.proofs.Common.{sym, ◌≡◌, ◌∙◌, refl, ap, ℕ, ◌+◌, ◌*◌, Bool, true, false, List, [], ◌∷◌, ◌++◌, length, map, Option, None, Some}
+use Rattle.std.specs.Prelude.{◌==◌, ◌&&◌, ◌||◌, not, nat_le, min, slice_get, if◌then◌else◌}
 use Rattle.std.specs.List.{AllByRecursion, list_any, range_with_len}
 use Rattle.clnp_base.proofs.Lists.{AllByRecursion-append, AllByRecursion-map_any}
 use Rattle.esis_pdus.specs.declared.pdu.EsisBody.{EsisBody}
@@ -10,11 +10,13 @@ use Rattle.esis_tables.specs.declared.fact.Place.{Place}
 use Rattle.esis_tables.specs.declared.fact.TableKind.{TableKind}
 use Rattle.esis_tables.specs.declared.fact.TableKind.TheVariants.{Es, Is}
 use Rattle.esis_tables.specs.Gone.{gone}
+use Rattle.esis_pdus.specs.Making.{timer_options, value}
+use Rattle.clnp_plan.specs.Configuration.{SystemConfiguration}
 use Rattle.clnp_plan.specs.declared.config.Role.{Role}
 use Rattle.clnp_plan.specs.declared.config.Role.TheVariants.{Host, Router}
 use Rattle.clnp_machine.specs.Unit.{Packet}
 use Rattle.clnp_machine.specs.System.{SystemState, Output, SendsEsis, Effect, idles, gives, then_does}
-use Rattle.clnp_machine.specs.Esis.{tells_of_itself, is_silent, own_hello, hearers, hello_everywhere, says_hello, hears, hears_each, tells_new, answers_new, follows, end_system_heard, intermediate_system_heard, esis_heard, esis_comes, gone_note, forgets}
+use Rattle.clnp_machine.specs.Esis.{tells_of_itself, is_silent, own_hello, hearers, hello_everywhere, says_hello, hears, hears_each, tells_new, answers_new, follows, end_system_heard, intermediate_system_heard, esis_heard, esis_comes, gone_note, forgets, first_of, hello_of, holding_time, wish}
 use Rattle.clnp_machine.specs.Step.{is_asked_for, responds}
 use Rattle.clnp_machine.specs.Steps.{IsOfHellos, LeavesTheRest, OnlyHellos}
 
@@ -130,3 +132,24 @@ only_forgets before s = only_gives s s (map gone_note (gone before s.moment s.fa
 pub only_responds : (s : SystemState) (place : Place) (to_group : Bool) (p : Packet) → OnlyHellos s (responds s place to_group p)
 only_responds s place to_group p =
     only_one_of s (is_asked_for s.configuration.role s to_group p) _ _ (only_tells s place.port place.snpa) (only_idles s)
+
+-- A system's own hello goes by its configuration and by how often it is said.
+
+abbrev pub said : Role → SystemConfiguration → ℕ → EsisValue
+said Host c seconds = value (holding_time seconds) c.settings.sealed (Esh c.addresses) []
+said Router c seconds =
+    value (holding_time seconds) c.settings.sealed (Ish (first_of (slice_get c.addresses 0))) (timer_options (wish c.settings.suggest))
+
+said_by : (role : Role) (s : SystemState) → hello_of role s ≡ said role s.configuration s.hello
+said_by Host s = refl
+said_by Router s = refl
+
+pub hello_is : (s : SystemState) → own_hello s ≡ said s.configuration.role s.configuration s.hello
+hello_is s = said_by s.configuration.role s
+
+pub same_hello : (s t : SystemState) → t.configuration ≡ s.configuration → t.hello ≡ s.hello → own_hello t ≡ own_hello s
+same_hello s t same often =
+    hello_is t
+    ∙ ap (λ (c : SystemConfiguration). said c.role c t.hello) same
+    ∙ ap (λ (seconds : ℕ). said s.configuration.role s.configuration seconds) often
+    ∙ sym (hello_is s)

@@ -1,9 +1,14 @@
 -- What is so of every step of a system.
-use Rattle.std.specs.Prelude.{◌≡◌, ℕ, ◌+◌, ◌≤◌, ◌⊎◌, true, List, [], ◌++◌, length, Option, None, Some}
+use Rattle.std.specs.Prelude.{◌≡◌, ℕ, ◌+◌, ◌≤◌, ◌⊎◌, Bool, true, false, List, [], ◌∷◌, ◌++◌, length, Option, None, Some}
 use Rattle.std.specs.List.{AllByRecursion, Contains, flat_map}
 use Rattle.pdu_header.specs.Grammar.{BeginsWith}
 use Rattle.pdu_header.specs.Value.{PduValue}
+use Rattle.esis_pdus.specs.Grammar as esis
 use Rattle.esis_pdus.specs.Grammar.{IsPdu}
+use Rattle.esis_pdus.specs.Spelling.{spelling}
+use Rattle.esis_pdus.specs.Value.{EsisValue}
+use Rattle.esis_tables.specs.declared.fact.Place.{Place}
+use Rattle.nsap.specs.declared.target.Target.TheVariants.{System}
 use Rattle.reassembly.specs.Arrival.{Arrival}
 use Rattle.reassembly.specs.Buffer.{Buffer, held}
 use Rattle.clnp_plan.specs.declared.note.Note.{Note}
@@ -12,6 +17,7 @@ use Rattle.clnp_machine.specs.Unit as unit
 use Rattle.clnp_machine.specs.Unit.{DeclaredAt, Packet, IsCarriable, value_of, wire}
 use Rattle.clnp_machine.specs.Content.{Content, Labelled, Esis, Unlabelled}
 use Rattle.clnp_machine.specs.System.{SystemState, next_number, Input, AsksToSend, FrameComes, MomentComes, IsRestarted, Output, Transmits, SendsEsis, Notes, Effect}
+use Rattle.clnp_machine.specs.Esis.{own_hello}
 use Rattle.clnp_machine.specs.Local.{Deed, made_in, is_own, header_size, offered}
 
 -- it is still the same system, at its place, of the same configuration
@@ -94,6 +100,31 @@ SendsRangesOf units (Transmits port target packet) = IsRangeOf units packet
 SendsRangesOf units (SendsEsis port target value) = Unit {0}
 SendsRangesOf units (Notes note) = Unit {0}
 
+-- whether an output is a frame that is sent
+abbrev pub sends_frame : Output → Bool
+sends_frame (Transmits port target packet) = true
+sends_frame (SendsEsis port target value) = true
+sends_frame (Notes note) = false
+
+-- whether it is an ES-IS PDU
+abbrev pub sends_esis : Output → Bool
+sends_esis (Transmits port target packet) = false
+sends_esis (SendsEsis port target value) = true
+sends_esis (Notes note) = false
+
+-- what is sent is at most the system's own hello, to one place
+abbrev pub IsAtMostItsHello : SystemState → Place → List Output → Type 0
+IsAtMostItsHello s place sent = (sent ≡ []) ⊎ (sent ≡ SendsEsis place.port (System place.snpa) (own_hello s) ∷ [])
+
+-- a system's own hello, whatever its period is then
+abbrev pub IsItsHello : SystemState → EsisValue → Type 0
+IsItsHello s value = (seconds : ℕ) × (value ≡ own_hello (record s { hello = seconds }))
+
+-- each ES-IS value that is sent is the system's own hello
+abbrev pub SendsItsHellos : SystemState → Output → Type 0
+SendsItsHellos s (SendsEsis port target value) = IsItsHello s value
+SendsItsHellos s _ = Unit {0}
+
 -- each ES-IS value that is sent is one that a PDU can carry
 abbrev pub SendsEsisPdus : Output → Type 0
 SendsEsisPdus (SendsEsis port target value) = IsPdu value
@@ -136,6 +167,12 @@ WasKeptOrComes s input arrival = Contains (segments_in s.buffers) arrival ⊎ Co
 abbrev pub AreCarriable : Option (List Packet) → Type 0
 AreCarriable None = Unit {0}
 AreCarriable (Some packets) = AllByRecursion IsCarriable packets
+
+-- the ES-IS PDU at the front of a frame that carries an ES-IS value is that value, and what follows it is what follows the value
+abbrev pub CarriesOneEsisValue : Type 0
+CarriesOneEsisValue =
+    (v : EsisValue) (following : List ℕ) (w : EsisValue) (rest : List ℕ) → IsPdu v → esis.BeginsWith (spelling v ++ following) w rest
+    → (w ≡ v) × (rest ≡ following)
 
 -- the PDU at the front of a frame that carries a packet is the packet's, and what follows it is what follows the packet
 abbrev pub CarriesOnePacket : Type 0
