@@ -1,5 +1,5 @@
 -- The parts of an entity stand for states that differ in nothing that they keep.
-use Rattle.std.proofs.Common.{◌≡◌, ◌∙◌, refl, sym, ap, subst, ℕ, ◌≤◌, List, [], ◌∷◌}
+use Rattle.std.proofs.Common.{◌≡◌, ◌∙◌, refl, sym, ap, subst, ℕ, ◌≤◌, List, [], ◌∷◌, arith}
 use Rattle.std.specs.List.{AllByRecursion}
 use Rattle.reassembly.specs.Buffer.{Buffer}
 use Rattle.reassembly.specs.Mapped.{map_buffers}
@@ -86,7 +86,7 @@ parts_after_hello before here esis s effect only done h =
       local = local_same here.local s effect.after (keeps_rest s effect.after only.rest) h.local;
       esis = done;
       moment = h.moment ∙ sym only.rest.moment;
-      since = search;
+      since = omega arith;
     }
 
 fresh_of : (s : SystemState) (actions : List machine.Action) → AllByRecursion (steps.IsFresh s s.moment) (made_in actions)

@@ -40,6 +40,7 @@ impl SystemEntity {
         now: u64,
         out: &mut Vec<Output>,
     ) -> Result<(), NoMemory>
+        requires at_work { self.old.spent ≡ true }
         requires later { self.old.moment ≤ now }
         requires moment { now < 2 ^ 62 }
         ensures stands { OnOk result ((s : SystemState) → PartsStand self.old s → PartsStand self.new (moment_comes s now).after) }
@@ -72,6 +73,7 @@ impl SystemEntity {
         frame: &Frame,
         out: &mut Vec<Output>,
     ) -> Result<Arrival, NoMemory>
+        requires at_work { self.old.spent ≡ true }
         requires few { length frame.now ≤ 70000 }
         requires ready { IsReady self.old.moment self.old.local.table }
         ensures comes { IfOk result (λ arrival. (s : SystemState) (content : Content) → PartsStand self.old s → IsCarried content
@@ -110,6 +112,7 @@ impl SystemEntity {
         frame: &Frame,
         out: &mut Vec<Output>,
     ) -> Result<Arrival, NoMemory>
+        requires at_work { self.old.spent ≡ true }
         requires few { length frame.now ≤ 70000 }
         requires ready { IsReady self.old.moment self.old.local.table }
         requires pdu { (v : PduValue) × (rest : List ℕ) × BeginsWith frame.now v rest × (v.lifetime ≡ life) }
@@ -145,6 +148,7 @@ impl SystemEntity {
         frame: &Frame,
         out: &mut Vec<Output>,
     ) -> Result<(), NoMemory>
+        requires at_work { self.old.spent ≡ true }
         requires few { length frame.now ≤ 70000 }
         requires ready { IsReady self.old.moment self.old.local.table }
         requires alive { (v : PduValue) × (rest : List ℕ) × BeginsWith frame.now v rest × (1 ≤ v.lifetime) }
@@ -183,6 +187,7 @@ impl SystemEntity {
         frame: &Frame,
         out: &mut Vec<Output>,
     ) -> Result<(), NoMemory>
+        requires at_work { self.old.spent ≡ true }
         requires ready { IsReady self.old.moment self.old.local.table }
         requires other { octet frame.now 1 ≢ 0x81 }
         ensures stands { OnOk result ((s : SystemState) (group : Bool) (content : Content) → PartsStand self.old s → IsCarried content
@@ -228,6 +233,7 @@ impl SystemEntity {
         place: u8,
         out: &mut Vec<Output>,
     ) -> Result<(), NoMemory>
+        requires at_work { self.old.spent ≡ true }
         requires few { length frame.now ≤ 70000 }
         requires ready { IsReady self.old.moment self.old.local.table }
         ensures stands { OnOk result ((s : SystemState) (content : Content) → PartsStand self.old s → IsCarried content
@@ -262,6 +268,7 @@ impl SystemEntity {
         ask: &Ask,
         out: &mut Vec<Output>,
     ) -> Result<u64, SendRefusal>
+        requires at_work { self.old.spent ≡ true }
         requires options { FitsKind (is_report kind) (parameters ask.now.options) }
         requires ready { IsReady self.old.moment self.old.local.table }
         ensures answer { (s : SystemState) → PartsStand self.old s → MatchResult result
