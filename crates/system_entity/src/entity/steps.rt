@@ -57,8 +57,7 @@ impl SystemEntity {
         self.local.tick(alloc, now, &mut actions)?;
         self.moment = now;
         self.give_out(actions, &mut outputs)?;
-        self.esis
-            .tick(alloc, self.local.config(), now, &mut outputs)?;
+        self.esis.tick(self.local.config(), now, &mut outputs)?;
         out.append(&mut outputs)?;
         Ok(())
     }
@@ -167,8 +166,7 @@ impl SystemEntity {
             .receive(alloc, self.moment, frame, &mut actions)?;
         self.give_out(actions, &mut outputs)?;
         if group && self.local.config().role() == Role::Host {
-            self.esis
-                .tell(alloc, self.local.config(), place, &mut outputs)?;
+            self.esis.tell(self.local.config(), place, &mut outputs)?;
         }
         out.append(&mut outputs)?;
         Ok(())
@@ -199,14 +197,9 @@ impl SystemEntity {
         match esis_pdus::decode(frame.bytes()) {
             Ok(pdu) => {
                 let mut outputs = Vec::new(alloc);
-                self.esis.hear(
-                    alloc,
-                    self.local.config(),
-                    self.moment,
-                    place,
-                    &pdu,
-                    &mut outputs,
-                )?;
+                let config = self.local.config();
+                self.esis
+                    .hear(config, self.moment, place, pdu, &mut outputs)?;
                 out.append(&mut outputs)?;
                 Ok(())
             }
