@@ -1,5 +1,5 @@
--- Worked examples of two hosts on one subnetwork, computed with the definitions: with a checksum and without one, copies
--- that come again, and a host that is restarted.
+-- Worked examples of systems on one subnetwork, computed with the definitions: with a checksum and without one, copies that come
+-- again, a host that is restarted, and hellos that are said, heard and answered.
 use Rattle.std.proofs.Common.{◌≡◌, ℕ, true, List, [], ◌∷◌, refl, Result, Ok, Err, codes}
 use Rattle.hex.specs.Hex.{encode_with, decode_pairs}
 use Rattle.fletcher.specs.Checksum.{sealed, checksum_x, checksum_y}
