@@ -176,7 +176,7 @@ unanswered_one_of false first second h k = k
 pub octets_unanswered : (s : SystemState) (octets : List ℕ) → Unanswered (octets_come s octets)
 octets_unanswered s octets =
     unanswered_one_of (octet octets 1 == 0x81) (discard_refused s octets (rule_broken octets)) _ (refused_unanswered s octets (rule_broken octets))
-    (unanswered_one_of (octet octets 1 == 0x82) _ _ refl refl)
+    refl
 
 -- What isn't new is answered by nothing.
 

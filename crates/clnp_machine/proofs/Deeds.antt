@@ -166,7 +166,7 @@ does_discard_refused s octets (Some broken) = does_tell s _
 does_with_octets : (s : SystemState) (octets : List ℕ) → Does s (octets_come s octets)
 does_with_octets s octets =
     does_one_of s (octet octets 1 == 0x81) (discard_refused s octets (rule_broken octets)) _ (does_discard_refused s octets (rule_broken octets))
-    (does_one_of s (octet octets 1 == 0x82) _ _ (does_tell s _) (does_tell s _))
+    (does_tell s _)
 
 -- Moments that come.
 

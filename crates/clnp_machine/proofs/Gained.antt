@@ -76,8 +76,7 @@ module _ (P : Arrival Packet → Type 0) where
 
   keeps_with_octets : (s : SystemState) (octets : List ℕ) → KeepsOnly s.buffers → KeepsOnly (octets_come s octets).after.buffers
   keeps_with_octets s octets h =
-      keeps_one_of (octet octets 1 == 0x81) (discard_refused s octets (rule_broken octets)) _ (keeps_discard_refused s octets (rule_broken octets) h)
-      (keeps_one_of (octet octets 1 == 0x82) _ _ h h)
+      keeps_one_of (octet octets 1 == 0x81) (discard_refused s octets (rule_broken octets)) _ (keeps_discard_refused s octets (rule_broken octets) h) h
 
   -- what is said and heard between systems leaves the buffers
   keeps_by_hellos : (s : SystemState) (effect : Effect) → OnlyHellos s effect → KeepsOnly s.buffers → KeepsOnly effect.after.buffers

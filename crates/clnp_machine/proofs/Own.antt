@@ -11,7 +11,7 @@ use Rattle.reassembly.specs.Buffer as buffer
 use Rattle.reassembly.specs.Buffer.{Answer, Buffer}
 use Rattle.esis_pdus.specs.declared.pdu.EsisRefusal.{EsisRefusal}
 use Rattle.esis_pdus.specs.declared.pdu.EsisRefusal.TheVariants.{NotEsis, Broken}
-use Rattle.esis_pdus.specs.Rules as esis
+use Rattle.esis_pdus.specs.Rules.{why_refused}
 use Rattle.esis_tables.specs.declared.fact.Place.{Place}
 use Rattle.clnp_plan.specs.declared.config.PortConfig.{PortConfig}
 use Rattle.clnp_plan.specs.declared.config.Role.{Role}
@@ -26,7 +26,7 @@ use Rattle.clnp_machine.specs.Content.{Content, Labelled, Esis, Unlabelled}
 use Rattle.clnp_machine.specs.System.{SystemState, Input, AsksToSend, FrameComes, MomentComes, IsRestarted, Output, Transmits, SendsEsis, Notes, Effect, then_does, table_limits}
 use Rattle.clnp_machine.specs.Local.{Action, Sends, Tells, Deed, tells, hand_up, is_own, is_all, most_octets, header_size, not_drawn_note, identifier_refusal, offered, takes_in, offer, receive, refusal, unit_of, make, unless_refused, discard_first, gives_up, give_up_due, expire, at_moment, tick}
 use Rattle.clnp_machine.specs.Esis.{esis_comes, forgets, says_hello}
-use Rattle.clnp_machine.specs.Step.{Hop, next_hop, transmissions, sent_on, first_sent, outputs_of, effect_of, passes_by, packet_comes, discard_refused, bad_esis, octets_come, responds, content_comes, step}
+use Rattle.clnp_machine.specs.Step.{Hop, next_hop, transmissions, sent_on, first_sent, outputs_of, effect_of, passes_by, packet_comes, discard_refused, unheard_note, octets_come, responds, content_comes, step}
 use Rattle.clnp_machine.specs.Steps.{IsForOwn, IsOfHellos, NotesOnly, OnlyHellos}
 use Rattle.clnp_machine.proofs.Hellos.{only_comes, only_forgets, only_responds, only_says_hello, only_then}
 
@@ -171,15 +171,15 @@ refused_is_own : (s : SystemState) (octets : List ℕ) (broken : Option OptionRe
 refused_is_own s octets None = (tt, tt)
 refused_is_own s octets (Some broken) = (tt, tt)
 
-bad_is_own : (s : SystemState) (broken : Option EsisRefusal) → IsForOwn s (bad_esis broken)
-bad_is_own s None = tt
-bad_is_own s (Some NotEsis) = tt
-bad_is_own s (Some (Broken rule place)) = tt
+unheard_is_own : (s : SystemState) (broken : Option EsisRefusal) → IsForOwn s (unheard_note broken)
+unheard_is_own s None = tt
+unheard_is_own s (Some NotEsis) = tt
+unheard_is_own s (Some (Broken rule place)) = tt
 
 octets_are_own : (s : SystemState) (octets : List ℕ) → TellOnly (IsForOwn s) (octets_come s octets)
 octets_are_own s octets =
     one_is_own s (octet octets 1 == 0x81) (discard_refused s octets (rule_broken octets)) _ (λ begun. refused_is_own s octets (rule_broken octets))
-    (one_is_own s (octet octets 1 == 0x82) (tells s (bad_esis (esis.refusal octets))) _ (λ begun. (bad_is_own s (esis.refusal octets), tt)) (tt, tt))
+    (unheard_is_own s (why_refused octets), tt)
 
 -- where buffers end, nothing is handed up
 

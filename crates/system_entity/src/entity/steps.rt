@@ -52,6 +52,7 @@ impl SystemEntity {
         ensures config { self.new.local.configuration ≡ self.old.local.configuration }
     {
         laws::deeds_are_of_their_moment();
+        laws::hellos_leave_the_rest();
         let mut outputs = Vec::new(alloc);
         let mut actions = Vec::new(alloc);
         self.local.tick(alloc, now, &mut actions)?;
@@ -83,7 +84,7 @@ impl SystemEntity {
         ensures config { self.new.local.configuration ≡ self.old.local.configuration }
     {
         laws::a_frame_carries_one_packet();
-        laws::a_frame_carries_one_esis_value();
+        laws::no_frame_is_of_both_protocols();
         match decode(frame.bytes()) {
             Ok(pdu) => self.pdu_comes(alloc, pdu.life, pdu.to, place, group, frame, out),
             Err(Refusal::Broken(broken)) => {
@@ -160,6 +161,7 @@ impl SystemEntity {
         ensures config { self.new.local.configuration ≡ self.old.local.configuration }
     {
         laws::deeds_are_of_their_moment();
+        laws::hellos_leave_the_rest();
         let mut outputs = Vec::new(alloc);
         let mut actions = Vec::new(alloc);
         self.local
@@ -194,6 +196,9 @@ impl SystemEntity {
         ensures spent { self.new.spent ≡ self.old.spent }
         ensures config { self.new.local.configuration ≡ self.old.local.configuration }
     {
+        laws::a_frame_carries_one_esis_value();
+        laws::no_frame_is_of_both_protocols();
+        laws::hellos_leave_the_rest();
         match esis_pdus::decode(frame.bytes()) {
             Ok(pdu) => {
                 let mut outputs = Vec::new(alloc);
