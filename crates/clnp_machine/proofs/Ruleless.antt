@@ -20,7 +20,7 @@ use Rattle.clnp_machine.specs.Unit as unit
 use Rattle.clnp_machine.specs.Unit.{Packet, cut, value_of, whole_packet}
 use Rattle.clnp_machine.specs.Content.{Content, Labelled, Esis, Unlabelled}
 use Rattle.clnp_machine.specs.System.{SystemState, Input, AsksToSend, FrameComes, MomentComes, IsRestarted, Output, Transmits, SendsEsis, Notes, Effect, then_does, table_limits}
-use Rattle.clnp_machine.specs.Local.{Action, Sends, Tells, Deed, at_moment, discard_first, expire, give_up_due, gives_up, hand_up, is_all, is_own, make, offer, offered, receive, refusal, takes_in, unit_of, unless_refused}
+use Rattle.clnp_machine.specs.Local.{Action, Sends, Tells, Deed, at_moment, discard_first, expire, give_up_due, gives_up, hand_up, is_all, is_own, make, offer, offered, receive, refusal, takes_in, unit_of, unless_refused, tick}
 use Rattle.clnp_machine.specs.Esis.{esis_comes, forgets, says_hello}
 use Rattle.clnp_machine.specs.Step.{Hop, effect_of, first_sent, next_hop, outputs_of, packet_comes, passes_by, responds, sent_on, step, transmissions}
 use Rattle.clnp_machine.specs.Steps.{IsOfHellos, NotesOnly, OnlyHellos}

@@ -1,7 +1,7 @@
 -- PDUs can carry what a system sends, where what is asked of it is fair.
 use Rattle.clnp_base.proofs.Choices.{below_not}
 use Rattle.clnp_base.proofs.Lists.{AllByRecursion-append, AllByRecursion-implies, AllByRecursion-slice_get, length_part}
-use Rattle.std.proofs.Common.{◌≡◌, ℕ, ◌+◌, ◌-◌, ◌^◌, ◌<◌, ◌≤◌, Bool, true, false, nat_lt, List, [], ◌∷◌, ◌++◌, length, map, take, drop, Option, None, Some, option_map, refl, arith}
+use Rattle.std.proofs.Common.{◌≡◌, ℕ, ◌+◌, ◌-◌, ◌^◌, ◌<◌, ◌≤◌, Bool, true, false, nat_lt, List, [], ◌∷◌, ◌++◌, length, map, take, drop, Option, None, Some, option_map, refl, arith, subst}
 use Rattle.std.specs.Prelude.{slice_get}
 use Rattle.std.specs.List.{AllByRecursion, flat_map}
 use Rattle.clnp_options.specs.Grammar.{FitsKind}
@@ -10,16 +10,14 @@ use Rattle.pdu_header.specs.Grammar.{IsSegment, is_report}
 use Rattle.pdu_header.proofs.Frames.{is_front}
 use Rattle.nsap.specs.Address.{IsAddress}
 use Rattle.clnp_options.specs.Grammar.{AreFormed}
-use Rattle.clnp_plan.specs.Configuration.{HasItsPorts, IsPort, IsSystem}
+use Rattle.clnp_plan.specs.Configuration.{IsPort, IsSystem}
 use Rattle.clnp_plan.specs.declared.ask.Ask.{Ask}
 use Rattle.clnp_plan.specs.declared.config.PortConfig.{PortConfig}
-use Rattle.clnp_plan.specs.declared.config.Role.{Role}
-use Rattle.clnp_plan.specs.declared.config.Role.TheVariants.{Host, Router}
 use Rattle.clnp_plan.specs.declared.note.Note.{Note}
 use Rattle.clnp_machine.specs.Unit as unit
 use Rattle.clnp_machine.specs.Unit.{Packet, IsCarriable, cut, more_follows, segmentation_of, value_of, value_with, whole_packet, wire}
-use Rattle.clnp_machine.specs.System.{SystemState, Input, AsksToSend, FrameComes, MomentComes, IsRestarted, Transmits}
-use Rattle.clnp_machine.specs.Local.{Action, Sends, Tells, header_size, identifier_for, made_in, makes, most_octets, refusal, unit_of, unless_refused}
+use Rattle.clnp_machine.specs.System.{SystemState, Input, AsksToSend, FrameComes, MomentComes, IsRestarted, Output, Transmits, SendsEsis, Notes}
+use Rattle.clnp_machine.specs.Local.{header_size, identifier_for, makes, most_octets, refusal, unit_of, unless_refused}
 use Rattle.clnp_machine.specs.Step.{Hop, next_hop, sent_on, transmissions, first_sent, outputs_of, step}
 use Rattle.clnp_machine.specs.Steps.{AreCarriable, AsksNothing, BreaksNoEsisRule, BreaksNoRule, IsFairlyAsked, SendsCarriable, SendsRangesOf}
 use Rattle.clnp_machine.proofs.Deeds.{makes_none}
