@@ -1,7 +1,7 @@
 -- What a system discards where no octets come that spell no PDU, it discards for none of the rules of PDUs.
-use Rattle.clnp_base.proofs.Lists.{AllByRecursion-append}
+use Rattle.clnp_base.proofs.Lists.{AllByRecursion-append, AllByRecursion-implies}
 use Rattle.std.proofs.Common.{◌≢◌, ℕ, zero, suc, Bool, true, false, List, [], ◌∷◌, length, map, arith}
-use Rattle.std.specs.Prelude.{◌==◌, if◌then◌else◌, Option, None, Some}
+use Rattle.std.specs.Prelude.{◌==◌, if◌then◌else◌, slice_get, Option, None, Some}
 use Rattle.std.specs.List.{AllByRecursion, flat_map}
 use Rattle.clnp_options.specs.declared.reasons.Reason.TheVariants.{Congestion, DestinationUnknown, LifetimeExpiredInReassembly, LifetimeExpiredInTransit, ReassemblyInterference, SegmentationNotPermitted}
 use Rattle.clnp_options.specs.Reasons.{reason_code}
@@ -10,18 +10,22 @@ use Rattle.pdu_header.specs.Table.{table}
 use Rattle.reassembly.specs.Arrival.{Arrival}
 use Rattle.reassembly.specs.Buffer as buffer
 use Rattle.reassembly.specs.Buffer.{Answer, Buffer}
+use Rattle.esis_tables.specs.declared.fact.Place.{Place}
+use Rattle.clnp_plan.specs.declared.config.PortConfig.{PortConfig}
 use Rattle.clnp_plan.specs.declared.config.Role.{Role}
 use Rattle.clnp_plan.specs.declared.config.Role.TheVariants.{Host, Router}
 use Rattle.clnp_plan.specs.declared.note.Note.{Note}
-use Rattle.clnp_plan.specs.declared.note.Note.TheVariants.{Refused}
+use Rattle.clnp_plan.specs.declared.note.Note.TheVariants.{Gone, Hear, Ignored, Refused}
 use Rattle.clnp_machine.specs.Unit as unit
 use Rattle.clnp_machine.specs.Unit.{Packet, cut, value_of, whole_packet}
-use Rattle.clnp_machine.specs.Content.{Content, Labelled, Unlabelled}
-use Rattle.clnp_machine.specs.System.{SystemState, Input, AsksToSend, FrameComes, MomentComes, IsRestarted, Transmits, table_limits}
-use Rattle.clnp_machine.specs.Local.{Action, Sends, Tells, Deed, at_moment, discard_first, expire, give_up_due, gives_up, hand_up, is_all, is_own, offer, offered, receive, refusal, takes_in, unit_of, unless_refused}
-use Rattle.clnp_machine.specs.Step.{Hop, deed, first_sent, mtu_at, next_hop, outputs_of, packet_comes, passes_by, step, transmissions}
-use Rattle.clnp_machine.specs.Steps.{NotesOnly}
+use Rattle.clnp_machine.specs.Content.{Content, Labelled, Esis, Unlabelled}
+use Rattle.clnp_machine.specs.System.{SystemState, Input, AsksToSend, FrameComes, MomentComes, IsRestarted, Output, Transmits, SendsEsis, Notes, Effect, then_does, table_limits}
+use Rattle.clnp_machine.specs.Local.{Action, Sends, Tells, Deed, at_moment, discard_first, expire, give_up_due, gives_up, hand_up, is_all, is_own, make, offer, offered, receive, refusal, takes_in, unit_of, unless_refused, tick}
+use Rattle.clnp_machine.specs.Esis.{esis_comes, forgets, says_hello}
+use Rattle.clnp_machine.specs.Step.{Hop, effect_of, first_sent, next_hop, outputs_of, packet_comes, passes_by, responds, sent_on, step, transmissions}
+use Rattle.clnp_machine.specs.Steps.{IsOfHellos, NotesOnly, OnlyHellos}
 use Rattle.clnp_machine.specs.Told.{IsOfNoRule, IsRefusal, NotesNoRule, SpellsPdus, TellsOnly}
+use Rattle.clnp_machine.proofs.Hellos.{only_comes, only_forgets, only_responds, only_says_hello, only_then}
 use Rattle.clnp_machine.proofs.Own.{refusal_refuses}
 
 -- a reason that differs from those of the rules
@@ -88,9 +92,13 @@ transmissions_ruleless : (hop : Hop) (pieces : Option (List Packet)) → AllByRe
 transmissions_ruleless hop None = (segmentation, tt)
 transmissions_ruleless hop (Some pieces) = pieces_ruleless hop pieces
 
+sent_on_ruleless : (hop : Hop) (found : Option PortConfig) (u : unit.Unit) → AllByRecursion (NotesOnly NotesNoRule) (sent_on hop found u)
+sent_on_ruleless hop None u = (unknown, tt)
+sent_on_ruleless hop (Some port) u = transmissions_ruleless hop (cut (whole_packet u) port.mtu)
+
 first_ruleless : (s : SystemState) (u : unit.Unit) (hop : Option Hop) → AllByRecursion (NotesOnly NotesNoRule) (first_sent s u hop)
 first_ruleless s u None = (unknown, tt)
-first_ruleless s u (Some hop) = transmissions_ruleless hop (cut (whole_packet u) (mtu_at s hop.port))
+first_ruleless s u (Some hop) = sent_on_ruleless hop (slice_get s.configuration.ports hop.port) u
 
 outputs_ruleless : (s : SystemState) (actions : List Action) → AllByRecursion (TellsOnly NotesNoRule) actions
     → AllByRecursion (NotesOnly NotesNoRule) (flat_map (outputs_of s) actions)
@@ -159,13 +167,41 @@ expire_ruleless : (most : ℕ) (s : SystemState) → IsRuleless (expire most s)
 expire_ruleless zero s = tt
 expire_ruleless (suc most) s = due_ruleless (buffer.due s.moment s.buffers) s (expire most) (expire_ruleless most)
 
-deed_ruleless : (s : SystemState) (input : Input) → SpellsPdus input → IsRuleless (deed s input)
-deed_ruleless s (AsksToSend from to octets ask) h =
-    asked_ruleless s (unit_of s Dt from to octets ask) (refusal s (unit_of s Dt from to octets ask)) (refusal_refuses s (unit_of s Dt from to octets ask))
-deed_ruleless s (FrameComes port sender to_group (Labelled p following)) h = packet_ruleless s p following
-deed_ruleless s (FrameComes port sender to_group (Unlabelled octets)) h = absurd h
-deed_ruleless s (MomentComes now) h = expire_ruleless (length s.buffers) (at_moment now s)
-deed_ruleless s IsRestarted h = (tt, tt)
+-- What is given out.
+
+hello_ruleless : (output : Output) → IsOfHellos output → NotesOnly NotesNoRule output
+hello_ruleless (SendsEsis port target value) h = tt
+hello_ruleless (Notes (Hear table key heard)) h = tt
+hello_ruleless (Notes (Gone table key)) h = tt
+hello_ruleless (Notes (Ignored rd)) h = tt
+hello_ruleless (Transmits port target packet) h = absurd h
+hello_ruleless (Notes _) h = absurd h
+
+hellos_ruleless : (s : SystemState) (effect : Effect) → OnlyHellos s effect → AllByRecursion (NotesOnly NotesNoRule) effect.outputs
+hellos_ruleless s effect h = AllByRecursion-implies IsOfHellos (NotesOnly NotesNoRule) hello_ruleless effect.outputs h.outputs
+
+-- a deed, and then what is said and heard
+then_ruleless : (deed : Deed) (next : SystemState → Effect) → IsRuleless deed → OnlyHellos deed.after (next deed.after)
+    → AllByRecursion (NotesOnly NotesNoRule) (then_does (effect_of deed) next).outputs
+then_ruleless deed next h k =
+    AllByRecursion-append (NotesOnly NotesNoRule) (effect_of deed).outputs (next deed.after).outputs (outputs_ruleless deed.after deed.actions h)
+    (hellos_ruleless deed.after (next deed.after) k)
 
 pub step_ruleless : (s : SystemState) (input : Input) → SpellsPdus input → AllByRecursion (NotesOnly NotesNoRule) (step s input).outputs
-step_ruleless s input h = outputs_ruleless (deed s input).after (deed s input).actions (deed_ruleless s input h)
+step_ruleless s (AsksToSend from to octets ask) h =
+    let deed = make s Dt from to octets ask in
+    outputs_ruleless deed.after deed.actions
+    (asked_ruleless s (unit_of s Dt from to octets ask) (refusal s (unit_of s Dt from to octets ask)) (refusal_refuses s (unit_of s Dt from to octets ask)))
+step_ruleless s (FrameComes port sender to_group (Labelled p following)) h =
+    let place : Place = record { port = port; snpa = sender } in
+    then_ruleless (packet_comes s p following) (λ t. responds t place to_group p) (packet_ruleless s p following)
+    (only_responds (packet_comes s p following).after place to_group p)
+step_ruleless s (FrameComes port sender to_group (Esis value following)) h =
+    let place : Place = record { port = port; snpa = sender } in
+    hellos_ruleless s (esis_comes s place value) (only_comes s place value)
+step_ruleless s (FrameComes port sender to_group (Unlabelled octets)) h = absurd h
+step_ruleless s (MomentComes now) h =
+    let ticked = (tick s now).after in
+    then_ruleless (tick s now) (λ t. then_does (forgets s.moment t) says_hello) (expire_ruleless (length s.buffers) (at_moment now s))
+    (only_then ticked (forgets s.moment ticked) says_hello (only_forgets s.moment ticked) (only_says_hello ticked))
+step_ruleless s IsRestarted h = (tt, tt)

@@ -1,7 +1,7 @@
 -- PDUs can carry what a system sends, where what is asked of it is fair.
 use Rattle.clnp_base.proofs.Choices.{below_not}
-use Rattle.clnp_base.proofs.Lists.{AllByRecursion-append, length_part}
-use Rattle.std.proofs.Common.{◌≡◌, ℕ, ◌+◌, ◌-◌, ◌^◌, ◌<◌, ◌≤◌, Bool, true, false, nat_lt, List, [], ◌∷◌, ◌++◌, length, map, take, drop, Option, None, Some, option_map, refl, arith}
+use Rattle.clnp_base.proofs.Lists.{AllByRecursion-append, AllByRecursion-implies, AllByRecursion-slice_get, length_part}
+use Rattle.std.proofs.Common.{◌≡◌, ℕ, ◌+◌, ◌-◌, ◌^◌, ◌<◌, ◌≤◌, Bool, true, false, nat_lt, List, [], ◌∷◌, ◌++◌, length, map, take, drop, Option, None, Some, option_map, refl, arith, subst}
 use Rattle.std.specs.Prelude.{slice_get}
 use Rattle.std.specs.List.{AllByRecursion, flat_map}
 use Rattle.clnp_options.specs.Grammar.{FitsKind}
@@ -10,21 +10,24 @@ use Rattle.pdu_header.specs.Grammar.{IsSegment, is_report}
 use Rattle.pdu_header.proofs.Frames.{is_front}
 use Rattle.nsap.specs.Address.{IsAddress}
 use Rattle.clnp_options.specs.Grammar.{AreFormed}
-use Rattle.clnp_plan.specs.Configuration.{HasItsPorts, IsPort, IsSystem}
+use Rattle.clnp_plan.specs.Configuration.{IsPort, IsSystem}
 use Rattle.clnp_plan.specs.declared.ask.Ask.{Ask}
 use Rattle.clnp_plan.specs.declared.config.PortConfig.{PortConfig}
-use Rattle.clnp_plan.specs.declared.config.Role.{Role}
-use Rattle.clnp_plan.specs.declared.config.Role.TheVariants.{Host, Router}
 use Rattle.clnp_plan.specs.declared.note.Note.{Note}
 use Rattle.clnp_machine.specs.Unit as unit
 use Rattle.clnp_machine.specs.Unit.{Packet, IsCarriable, cut, more_follows, segmentation_of, value_of, value_with, whole_packet, wire}
-use Rattle.clnp_machine.specs.System.{SystemState, Input, AsksToSend, FrameComes, MomentComes, IsRestarted, Transmits}
-use Rattle.clnp_machine.specs.Local.{Action, Sends, Tells, header_size, identifier_for, made_in, makes, most_octets, refusal, unit_of, unless_refused}
-use Rattle.clnp_machine.specs.Step.{Hop, hop_of, mtu_of, mtu_at, transmissions, first_sent, outputs_of, deed, step}
-use Rattle.clnp_machine.specs.Steps.{AreCarriable, BreaksNoRule, IsFairlyAsked, SendsCarriable}
+use Rattle.clnp_machine.specs.System.{SystemState, Input, AsksToSend, FrameComes, MomentComes, IsRestarted, Output, Transmits, SendsEsis, Notes}
+use Rattle.clnp_machine.specs.Local.{header_size, identifier_for, makes, most_octets, refusal, unit_of, unless_refused}
+use Rattle.clnp_machine.specs.Step.{Hop, next_hop, sent_on, transmissions, first_sent, outputs_of, step}
+use Rattle.clnp_machine.specs.Steps.{AreCarriable, AsksNothing, BreaksNoEsisRule, BreaksNoRule, IsFairlyAsked, SendsCarriable, SendsRangesOf}
 use Rattle.clnp_machine.proofs.Deeds.{makes_none}
 use Rattle.clnp_machine.proofs.Making.{allowed, total_is}
 use Rattle.clnp_machine.proofs.Pieces.{cut_carriable}
+use Rattle.clnp_machine.proofs.Sent.{step_sends_ranges}
+use Rattle.esis_pdus.specs.Grammar as esis
+use Rattle.esis_pdus.specs.Spelling.{spelling}
+use Rattle.esis_pdus.specs.Value.{EsisValue}
+use Rattle.esis_pdus.proofs.Frames as esis_frames
 
 -- an identifier, where there is one, has two octets
 abbrev IsSmall : Option ℕ → Type 0
@@ -96,16 +99,16 @@ module _ (u : unit.Unit) (h : IsSendable u) where
   pieces_sent hop None k = (tt, tt)
   pieces_sent hop (Some packets) k = each_sent hop packets k
 
-  -- the one port of a host has room enough
-  host_mtu : (ports : List PortConfig) → length ports ≡ 1 → AllByRecursion IsPort ports → 512 ≤ mtu_of (slice_get ports 0)
-  host_mtu [] one each = absurd (omega (arith, one))
-  host_mtu (port ∷ others) one each = each.0.mtu.least
+  sent_on_is_carriable : (hop : Hop) (found : Option PortConfig) → ((port : PortConfig) → found ≡ Some port → 512 ≤ port.mtu)
+      → AllByRecursion SendsCarriable (sent_on hop found u)
+  sent_on_is_carriable hop None wide = (tt, tt)
+  sent_on_is_carriable hop (Some port) wide = pieces_sent hop (cut whole port.mtu) (cut_carriable whole port.mtu whole_carriable (wide port refl))
 
-  first_is_carriable : (role : Role) (s : SystemState) → HasItsPorts role s.configuration.ports → AllByRecursion IsPort s.configuration.ports
-      → AllByRecursion SendsCarriable (first_sent s u (hop_of role s u.destination))
-  first_is_carriable Host s its each =
-      pieces_sent _ (cut whole (mtu_at s 0)) (cut_carriable whole (mtu_at s 0) whole_carriable (host_mtu s.configuration.ports its each))
-  first_is_carriable Router s its each = (tt, tt)
+  first_is_carriable : (s : SystemState) (hop : Option Hop) → AllByRecursion IsPort s.configuration.ports → AllByRecursion SendsCarriable (first_sent s u hop)
+  first_is_carriable s None each = (tt, tt)
+  first_is_carriable s (Some hop) each =
+      sent_on_is_carriable hop (slice_get s.configuration.ports hop.port)
+      (λ port there. (AllByRecursion-slice_get IsPort s.configuration.ports hop.port port there each).mtu.least)
 
 small_identifier : (s : SystemState) (segment : Bool) → IsSmall (identifier_for s segment)
 small_identifier s true = omega arith
@@ -133,8 +136,8 @@ made_is_carriable : (s : SystemState) (u : unit.Unit) → IsSystem s.configurati
     → AllByRecursion SendsCarriable (flat_map (outputs_of (makes s u).after) (makes s u).actions)
 made_is_carriable s u system h = (
   tt,
-  AllByRecursion-append SendsCarriable (first_sent (makes s u).after u (hop_of s.configuration.role (makes s u).after u.destination)) []
-      (first_is_carriable u h s.configuration.role (makes s u).after system.ports system.each_port) tt,
+  AllByRecursion-append SendsCarriable (first_sent (makes s u).after u (next_hop (makes s u).after u.destination)) []
+      (first_is_carriable u h (makes s u).after (next_hop (makes s u).after u.destination) system.each_port) tt,
 )
 
 unless_refused_carriable : (s : SystemState) (u : unit.Unit) (refused : Option Note) → IsSystem s.configuration → (refused ≡ None → IsSendable u)
@@ -142,21 +145,24 @@ unless_refused_carriable : (s : SystemState) (u : unit.Unit) (refused : Option N
 unless_refused_carriable s u None system h = made_is_carriable s u system (h refl)
 unless_refused_carriable s u (Some told) system h = (tt, tt)
 
--- where nothing is made, nothing is sent
-quiet_is_carriable : (s : SystemState) (actions : List Action) → made_in actions ≡ [] → AllByRecursion SendsCarriable (flat_map (outputs_of s) actions)
-quiet_is_carriable s [] none = tt
-quiet_is_carriable s (Tells told ∷ actions) none = (tt, quiet_is_carriable s actions none)
-quiet_is_carriable s (Sends u ∷ actions) none = absurd (cc)
+-- where nothing is made, no packet is sent
+
+none_sent : (output : Output) → SendsRangesOf [] output → SendsCarriable output
+none_sent (Transmits port target packet) h = let within = h.unit.1 in absurd (omega arith)
+none_sent (SendsEsis port target value) h = tt
+none_sent (Notes note) h = tt
+
+quiet_is_carriable : (s : SystemState) (input : Input) → AsksNothing input → AllByRecursion SendsCarriable (step s input).outputs
+quiet_is_carriable s input nothing =
+    AllByRecursion-implies (SendsRangesOf []) SendsCarriable none_sent (step s input).outputs
+    (subst (λ units. AllByRecursion (SendsRangesOf units) (step s input).outputs) (makes_none s input nothing) (step_sends_ranges s input))
 
 pub step_carriable : (s : SystemState) (input : Input) → IsSystem s.configuration → IsFairlyAsked input → AllByRecursion SendsCarriable (step s input).outputs
 step_carriable s (AsksToSend from to octets ask) system fair =
     unless_refused_carriable s (unit_of s Dt from to octets ask) (refusal s (unit_of s Dt from to octets ask)) system
     (asked_is_sendable s from to octets ask fair)
-step_carriable s (FrameComes port sender to_group content) system fair =
-    quiet_is_carriable (deed s (FrameComes port sender to_group content)).after (deed s (FrameComes port sender to_group content)).actions
-    (makes_none s (FrameComes port sender to_group content) tt)
-step_carriable s (MomentComes now) system fair =
-    quiet_is_carriable (deed s (MomentComes now)).after (deed s (MomentComes now)).actions (makes_none s (MomentComes now) tt)
+step_carriable s (FrameComes port sender to_group content) system fair = quiet_is_carriable s (FrameComes port sender to_group content) tt
+step_carriable s (MomentComes now) system fair = quiet_is_carriable s (MomentComes now) tt
 step_carriable s IsRestarted system fair = (tt, tt)
 
 -- a frame of such a packet breaks no rule
@@ -164,4 +170,10 @@ pub carriable_unbroken : (p : Packet) (following : List ℕ) → IsCarriable p �
 carriable_unbroken p following h =
     let front = is_front (wire p ++ following) (value_of p) following
     (record { octets = wire p; spells = record { pdu = h.pdu; octets_are = refl }; split = refl }) in
+    record { protocol = front.protocol; rules = front.unbroken }
+
+pub esis_unbroken : (value : EsisValue) (following : List ℕ) → esis.IsPdu value → BreaksNoEsisRule (spelling value ++ following)
+esis_unbroken value following h =
+    let front = esis_frames.is_front (spelling value ++ following) value following
+    (record { octets = spelling value; spells = record { pdu = h; octets_are = refl }; split = refl }) in
     record { protocol = front.protocol; rules = front.unbroken }

@@ -5,21 +5,34 @@ use Rattle.pdu_header.specs.Spelling.{segment_length}
 use Rattle.pdu_header.specs.Grammar.{BeginsWith}
 use Rattle.pdu_header.specs.Rules.{octet, header_of, refusal}
 use Rattle.pdu_header.specs.Reading.{value_of, body_of, rest_of}
+use Rattle.esis_pdus.specs.Grammar as esis
+use Rattle.esis_pdus.specs.Reading as esis_reading
+use Rattle.esis_pdus.specs.Rules.{why_refused}
+use Rattle.esis_pdus.specs.Spelling as esis_spelling
+use Rattle.esis_pdus.specs.Value.{EsisValue}
 use Rattle.clnp_machine.specs.Unit.{Outside, Unit, Packet, wire, IsCarriable}
 
--- A packet and the octets that follow its PDU in the frame, or octets that spell no PDU.
+-- A packet, or the value of an ES-IS PDU, and the octets that follow its PDU in the frame; or octets that spell no PDU.
 pub data Content : Type 0 where
   Labelled : (packet : Packet) (following : List ℕ) → Content
+  Esis : (value : EsisValue) (following : List ℕ) → Content
   Unlabelled : (octets : List ℕ) → Content
 
 abbrev pub frame_of : Content → List ℕ
 frame_of (Labelled packet following) = wire packet ++ following
+frame_of (Esis value following) = esis_spelling.spelling value ++ following
 frame_of (Unlabelled octets) = octets
 
--- what a frame may carry: a packet that a PDU can carry, or octets that don't begin with a PDU
+-- octets that begin with no PDU, neither of CLNP nor of ES-IS
+pub record SpellsNothing (octets : List ℕ) : Type 0 where
+  pub clnp : (value : PduValue) (rest : List ℕ) → BeginsWith octets value rest → ⊥
+  pub esis : (value : EsisValue) (rest : List ℕ) → esis.BeginsWith octets value rest → ⊥
+
+-- what a frame may carry: a packet or an ES-IS value that a PDU can carry, or octets that don't begin with a PDU
 abbrev pub IsCarried : Content → Type 0
 IsCarried (Labelled packet following) = IsCarriable packet
-IsCarried (Unlabelled octets) = (value : PduValue) (rest : List ℕ) → BeginsWith octets value rest → ⊥
+IsCarried (Esis value following) = esis.IsPdu value
+IsCarried (Unlabelled octets) = SpellsNothing octets
 
 -- Frames from outside: nobody knows more of the unit than the PDU tells.
 
@@ -73,8 +86,14 @@ value_in octets = value_of (header_of octets) (body_of octets)
 abbrev pub is_accepted : List ℕ → Bool
 is_accepted octets = (octet octets 1 == 0x81) && is_none (refusal octets)
 
--- What octets from outside carry: a packet of the unit with a number that came at a moment, where they begin with a PDU.
+-- the value of the ES-IS PDU with which octets begin
+abbrev pub esis_value_in : List ℕ → EsisValue
+esis_value_in octets = esis_reading.value_of (header_of octets)
+
+-- What octets from outside carry: a packet of the unit with a number that came at a moment, where they begin with a CLNP PDU;
+-- an ES-IS value, where they begin with an ES-IS PDU.
 abbrev pub content_of : (number moment : ℕ) → List ℕ → Content
 content_of number moment octets =
     if is_accepted octets then Labelled (packet_from_outside number moment (value_in octets)) (rest_of octets)
+    else if is_none (why_refused octets) then Esis (esis_value_in octets) (esis_reading.rest_of octets)
     else Unlabelled octets

@@ -3,6 +3,8 @@ pub mod Identifiers
 pub mod Content
 pub mod System
 pub mod Local
+pub mod Esis
 pub mod Step
 pub mod Steps
 pub mod Told
+pub mod Given

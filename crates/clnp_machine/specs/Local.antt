@@ -234,6 +234,14 @@ at_moment now s = record s { moment = now }
 abbrev pub tick : SystemState → ℕ → Deed
 tick s now = expire (length s.buffers) (at_moment now s)
 
--- all that it keeps is forgotten, and it is quiet as long as an identifier rests; the count of its units goes on
+-- All that it keeps and heard is forgotten, and it is quiet as long as an identifier rests; its hello is due. The count of its
+-- units goes on.
 abbrev pub restarted : SystemState → SystemState
-restarted s = record s { identifiers = ids.restarted s.moment s.identifiers; buffers = [] }
+restarted s =
+    record s {
+      identifiers = ids.restarted s.moment s.identifiers;
+      buffers = [];
+      facts = [];
+      hello = s.configuration.settings.hello;
+      next_hello = s.moment;
+    }

@@ -1,9 +1,15 @@
--- One step of a system, whatever comes to it: hosts and routers differ in where they send, and in what they do with a
--- packet for another address (ISO 8473, section 6; ISO 9542's hellos come later).
-use Rattle.std.specs.Prelude.{ℕ, ◌==◌, if◌then◌else◌, List, [], ◌∷◌, map, slice_get, Option, None, Some}
+-- One step of a system, whatever comes to it: hosts and routers differ in where they send, in what they do with a packet for
+-- another address (ISO 8473, section 6), and in what they say and hear of each other (ISO 9542, section 6).
+use Rattle.std.specs.Prelude.{ℕ, ◌==◌, ◌&&◌, not, Bool, false, if◌then◌else◌, List, [], ◌∷◌, map, slice_get, Option, None, Some, option_map}
 use Rattle.std.specs.List.{flat_map}
 use Rattle.nsap.specs.declared.target.Target.{Target}
-use Rattle.nsap.specs.declared.target.Target.TheVariants.{EndSystems}
+use Rattle.nsap.specs.declared.target.Target.TheVariants.{System, EndSystems}
+use Rattle.esis_pdus.specs.declared.pdu.EsisRefusal.{EsisRefusal}
+use Rattle.esis_pdus.specs.declared.pdu.EsisRefusal.TheVariants.{NotEsis, Broken}
+use Rattle.esis_pdus.specs.Rules.{why_refused}
+use Rattle.esis_tables.specs.declared.fact.Place.{Place}
+use Rattle.esis_tables.specs.declared.fact.TableKind.TheVariants.{Es}
+use Rattle.esis_tables.specs.NextHop as heard
 use Rattle.pdu_header.specs.declared.kind.Kind.TheVariants.{Dt}
 use Rattle.clnp_options.specs.declared.judge.OptionRefusal.{OptionRefusal}
 use Rattle.clnp_options.specs.Reasons.{reason_code}
@@ -12,10 +18,12 @@ use Rattle.pdu_header.specs.Rules.{octet, refusal as rule_broken}
 use Rattle.clnp_plan.specs.declared.config.PortConfig.{PortConfig}
 use Rattle.clnp_plan.specs.declared.config.Role.{Role}
 use Rattle.clnp_plan.specs.declared.config.Role.TheVariants.{Host, Router}
-use Rattle.clnp_plan.specs.declared.note.Note.TheVariants.{Discard, NotMine, Alien, Restart}
+use Rattle.clnp_plan.specs.declared.note.Note.{Note}
+use Rattle.clnp_plan.specs.declared.note.Note.TheVariants.{BadEsis, Discard, NotMine, Alien, Restart}
 use Rattle.clnp_machine.specs.Unit.{Unit, Packet, whole_packet, cut}
-use Rattle.clnp_machine.specs.Content.{Content, Labelled, Unlabelled}
-use Rattle.clnp_machine.specs.System.{SystemState, Input, AsksToSend, FrameComes, MomentComes, IsRestarted, Output, Transmits, Notes, Effect}
+use Rattle.clnp_machine.specs.Content.{Content, Labelled, Esis, Unlabelled}
+use Rattle.clnp_machine.specs.System.{SystemState, Input, AsksToSend, FrameComes, MomentComes, IsRestarted, Output, Transmits, Notes, Effect, idles, then_does}
+use Rattle.clnp_machine.specs.Esis.{esis_comes, forgets, says_hello, tells_of_itself}
 use Rattle.clnp_machine.specs.Local.{Action, Sends, Tells, Deed, tells, made_in, is_own, make, discard, receive, tick, restarted}
 
 -- Where a system sends.
@@ -25,32 +33,42 @@ pub record Hop : Type 0 where
   pub port : ℕ
   pub target : Target
 
--- Where a packet for an address goes. A host that has heard of no system sends to all end systems (ISO 9542, section 6.5);
--- a router without routes knows no way.
+-- where a place that was heard of is
+abbrev pub hop_to : Place → Hop
+hop_to place = record { port = place.port; target = System place.snpa }
+
+-- a host that knows of none asks all end systems (ISO 9542, section 6.5)
+abbrev pub host_hop : Option Place → Hop
+host_hop None = record { port = 0; target = EndSystems }
+host_hop (Some place) = hop_to place
+
+-- Where a packet for an address goes. A host sends it where it heard of: to the better hop of a redirect, to the end system, or
+-- to the router that it heard last. A router without routes knows the way to its neighbours alone.
 abbrev pub hop_of : Role → SystemState → List ℕ → Option Hop
-hop_of Host s to = Some (record { port = 0; target = EndSystems })
-hop_of Router s to = None
+hop_of Host s to = Some (host_hop (heard.next_hop s.moment to s.facts))
+hop_of Router s to = option_map hop_to (heard.current_place s.moment Es to s.facts)
 
 abbrev pub next_hop : SystemState → List ℕ → Option Hop
 next_hop s to = hop_of s.configuration.role s to
-
-abbrev pub mtu_of : Option PortConfig → ℕ
-mtu_of None = 0
-mtu_of (Some port) = port.mtu
-
--- the most octets that a frame on a port's subnetwork may have
-abbrev pub mtu_at : SystemState → ℕ → ℕ
-mtu_at s port = mtu_of (slice_get s.configuration.ports port)
 
 -- the pieces are sent; a unit that may not be cut is dropped (ISO 8473, section 6.9)
 abbrev pub transmissions : Hop → Option (List Packet) → List Output
 transmissions hop None = Notes (Discard (reason_code SegmentationNotPermitted) 0) ∷ []
 transmissions hop (Some pieces) = map (λ piece. Transmits hop.port hop.target piece) pieces
 
--- the first transmission of a unit; without a way it is dropped, its destination unknown
+-- there is no way for a unit: its destination is unknown
+abbrev pub no_way : List Output
+no_way = Notes (Discard (reason_code DestinationUnknown) 0) ∷ []
+
+-- a unit goes out on a port in frames that its subnetwork takes; by a port that isn't there is no way
+abbrev pub sent_on : Hop → Option PortConfig → Unit → List Output
+sent_on hop None u = no_way
+sent_on hop (Some port) u = transmissions hop (cut (whole_packet u) port.mtu)
+
+-- the first transmission of a unit
 abbrev pub first_sent : SystemState → Unit → Option Hop → List Output
-first_sent s u None = Notes (Discard (reason_code DestinationUnknown) 0) ∷ []
-first_sent s u (Some hop) = transmissions hop (cut (whole_packet u) (mtu_at s hop.port))
+first_sent s u None = no_way
+first_sent s u (Some hop) = sent_on hop (slice_get s.configuration.ports hop.port) u
 
 -- what a system gives out for what it does at its own addresses
 abbrev pub outputs_of : SystemState → Action → List Output
@@ -80,28 +98,47 @@ abbrev pub discard_refused : SystemState → List ℕ → Option OptionRefusal �
 discard_refused s octets None = discard s (Unlabelled octets) (reason_code NotSpecified) 0
 discard_refused s octets (Some broken) = discard s (Unlabelled octets) broken.reason broken.place
 
--- Octets come that spell no PDU. Of those that begin as an ES-IS PDU nothing is said as long as none is read, so the
--- reason is not specified (section 7.9.5); what begins as no PDU at all is alien.
+-- what is noted of octets that don't begin as a CLNP PDU: the rule of ES-IS PDUs that they break, with the place (ISO 9542,
+-- section 6.12), or that they are alien
+abbrev pub unheard_note : Option EsisRefusal → Note
+unheard_note None = Alien
+unheard_note (Some NotEsis) = Alien
+unheard_note (Some (Broken rule place)) = BadEsis rule place
+
+-- Octets come that spell no PDU.
 abbrev pub octets_come : SystemState → List ℕ → Deed
 octets_come s octets =
     if octet octets 1 == 0x81 then discard_refused s octets (rule_broken octets)
-    else if octet octets 1 == 0x82 then discard s (Unlabelled octets) (reason_code NotSpecified) 0
-    else tells s Alien
+    else tells s (unheard_note (why_refused octets))
 
-abbrev pub content_comes : SystemState → Content → Deed
-content_comes s (Labelled packet following) = packet_comes s packet following
-content_comes s (Unlabelled octets) = octets_come s octets
+-- whether a host was asked for by a group, as one that has the packet's destination (ISO 9542, section 6.6)
+abbrev pub is_asked_for : Role → SystemState → (to_group : Bool) → Packet → Bool
+is_asked_for Host s to_group p = to_group && (not (p.lifetime == 0) && is_own s p.unit.destination)
+is_asked_for Router s to_group p = false
+
+-- then it tells the sender of itself
+abbrev pub responds : SystemState → Place → (to_group : Bool) → Packet → Effect
+responds s place to_group p =
+    if is_asked_for s.configuration.role s to_group p then tells_of_itself s place.port place.snpa else idles s
+
+-- a frame comes from a place, to a group of systems or to this one alone
+abbrev pub content_comes : SystemState → Place → (to_group : Bool) → Content → Effect
+content_comes s place to_group (Labelled packet following) =
+    then_does (effect_of (packet_comes s packet following)) (λ t. responds t place to_group packet)
+content_comes s place to_group (Esis value following) = esis_comes s place value
+content_comes s place to_group (Unlabelled octets) = effect_of (octets_come s octets)
+
+-- a moment comes: buffers end, what was heard is forgotten, and a hello may be due
+abbrev pub moment_comes : SystemState → ℕ → Effect
+moment_comes s now =
+    then_does (effect_of (tick s now)) (λ t. then_does (forgets s.moment t) says_hello)
 
 abbrev pub restart : SystemState → Deed
 restart s = tells (restarted s) Restart
 
--- what a system does, whatever comes to it
-abbrev pub deed : SystemState → Input → Deed
-deed s (AsksToSend from to octets ask) = make s Dt from to octets ask
-deed s (FrameComes port sender to_group content) = content_comes s content
-deed s (MomentComes now) = tick s now
-deed s IsRestarted = restart s
-
--- One step.
+-- One step, whatever comes.
 abbrev pub step : SystemState → Input → Effect
-step s input = effect_of (deed s input)
+step s (AsksToSend from to octets ask) = effect_of (make s Dt from to octets ask)
+step s (FrameComes port sender to_group content) = content_comes s (record { port = port; snpa = sender }) to_group content
+step s (MomentComes now) = moment_comes s now
+step s IsRestarted = effect_of (restart s)

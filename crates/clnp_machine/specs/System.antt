@@ -1,8 +1,10 @@
 -- One system: its state, what comes to it, and what it does.
-use Rattle.std.specs.Prelude.{ℕ, ◌+◌, ◌-◌, ◌^◌, min, Bool, List, []}
+use Rattle.std.specs.Prelude.{ℕ, ◌+◌, ◌-◌, ◌^◌, min, Bool, List, [], ◌++◌}
 use Rattle.nsap.specs.declared.target.Target.{Target}
 use Rattle.reassembly.specs.declared.table.TableLimits.{TableLimits}
 use Rattle.reassembly.specs.Buffer.{Buffer}
+use Rattle.esis_pdus.specs.Value.{EsisValue}
+use Rattle.esis_tables.specs.Fact.{Fact}
 use Rattle.clnp_plan.specs.Configuration.{SystemConfiguration}
 use Rattle.clnp_plan.specs.declared.config.Limits.{Limits}
 use Rattle.clnp_plan.specs.declared.ask.Ask.{Ask}
@@ -23,6 +25,12 @@ pub record SystemState : Type 0 where
   pub identifiers : Identifiers
   -- the segments of units that aren't whole yet
   pub buffers : List (Buffer Packet)
+  -- what it heard of other systems since its last restart, in order (ISO 9542, section 6.3)
+  pub facts : List Fact
+  -- its configuration timer: how often it says hello, in seconds; 0 is never (ISO 9542, section 6.1.1)
+  pub hello : ℕ
+  -- the moment from which on its next hello is due
+  pub next_hello : ℕ
 
 -- a system at its start, with a quiet time that ends at a moment
 abbrev pub first_state : (place : ℕ) → SystemConfiguration → Limits → (now quiet : ℕ) → SystemState
@@ -35,6 +43,9 @@ first_state place configuration limits now quiet =
       count = 0;
       identifiers = opening limits.reuse quiet;
       buffers = [];
+      facts = [];
+      hello = configuration.settings.hello;
+      next_hello = now;
     }
 
 -- the numbers that the buffers keep to
@@ -55,9 +66,10 @@ pub data Input : Type 0 where
   MomentComes : (now : ℕ) → Input
   IsRestarted : Input
 
--- what a system gives out: it sends a packet on a port, or notes something
+-- what a system gives out: it sends a packet or an ES-IS PDU on a port, or notes something
 pub data Output : Type 0 where
   Transmits : (port : ℕ) (target : Target) (packet : Packet) → Output
+  SendsEsis : (port : ℕ) (target : Target) (value : EsisValue) → Output
   Notes : (note : Note) → Output
 
 -- one step of a system: its state after it, its outputs in their order, and the units that it made
@@ -65,6 +77,23 @@ pub record Effect : Type 0 where
   pub after : SystemState
   pub outputs : List Output
   pub units : List Unit
+
+-- nothing is done
+abbrev pub idles : SystemState → Effect
+idles s = record { after = s; outputs = []; units = [] }
+
+-- nothing changes but that something is given out
+abbrev pub gives : SystemState → List Output → Effect
+gives s outputs = record { after = s; outputs = outputs; units = [] }
+
+-- one effect, and then the next
+abbrev pub then_does : Effect → (SystemState → Effect) → Effect
+then_does effect next =
+    record {
+      after = (next effect.after).after;
+      outputs = effect.outputs ++ (next effect.after).outputs;
+      units = effect.units ++ (next effect.after).units;
+    }
 
 -- the number of the next unit: one more than the last, and the greatest one for ever
 abbrev pub next_number : SystemState → ℕ

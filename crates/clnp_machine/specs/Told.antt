@@ -48,9 +48,10 @@ pub record IsAllowed (s : SystemState) (u : DataUnit) : Type 0 where
 abbrev pub IsOfNoRule : ℕ → Type 0
 IsOfNoRule reason = (frame : List ℕ) → AllByRecursion (λ rule. rule.reason ≢ reason) (table frame)
 
--- where a note tells of a discard, it isn't for a rule
+-- where a note tells of a discard, it isn't for a rule; nor does it tell of an ES-IS PDU that breaks one
 abbrev pub NotesNoRule : Note → Type 0
 NotesNoRule (note.Discard reason place) = IsOfNoRule reason
+NotesNoRule (note.BadEsis rule place) = ⊥
 NotesNoRule _ = Unit {0}
 
 -- no octets come that spell no PDU

@@ -8,10 +8,11 @@ use Rattle.scenario.specs.declared.event.Event.{Event}
 use Rattle.scenario.specs.declared.event.Event.TheVariants.{Send}
 use Rattle.scenario.specs.declared.event.Move.{Move}
 use Rattle.scenario.specs.declared.event.Move.TheVariants.{One, SettleOne, LoseOne, TickOne}
-use Rattle.clnp_machine.specs.Content.{Labelled, Unlabelled, Content, frame_of}
+use Rattle.esis_pdus.specs.Grammar.{IsPdu}
+use Rattle.clnp_machine.specs.Content.{Labelled, Esis, Unlabelled, Content, frame_of}
 use Rattle.clnp_machine.specs.Unit as unit
 use Rattle.clnp_machine.specs.Unit.{Packet}
-use Rattle.clnp_machine.specs.Steps.{BreaksNoRule, IsRangeOf}
+use Rattle.clnp_machine.specs.Steps.{BreaksNoEsisRule, BreaksNoRule, IsRangeOf}
 use Rattle.clnp_machine.specs.Told.{NotesNoRule}
 use Rattle.reassembly.specs.Arrival.{Arrival}
 use Rattle.clnp_network.specs.World.{World}
@@ -69,24 +70,28 @@ IsWithinBudgets w = AllByRecursion (λ system. held system.buffers ≤ system.co
 -- a packet's hops and its lifetime are together at most its unit's lifetime
 abbrev pub MeetsLifetime : Content → Type 0
 MeetsLifetime (Labelled packet following) = packet.hops + packet.lifetime ≤ packet.unit.lifetime
+MeetsLifetime (Esis value following) = Unit {0}
 MeetsLifetime (Unlabelled octets) = Unit {0}
 
 -- no PDU of the network was forwarded more often than its lifetime allowed
 abbrev pub IsWithinLifetimes : World → Type 0
 IsWithinLifetimes w = AllByRecursion (λ copy. MeetsLifetime copy.content) w.copies
 
--- a frame carries a range of a unit that was made, and nothing behind its PDU; its copy is as old as the unit
+-- A frame carries a range of a unit that was made, and its copy is as old as the unit; or it carries an ES-IS value that a PDU
+-- can carry. Nothing is behind its PDU.
 abbrev pub RangeIn : List unit.Unit → (birth : ℕ) → Content → Type 0
 RangeIn units birth (Labelled packet following) = IsRangeOf units packet × (following ≡ []) × (birth ≡ packet.unit.made)
+RangeIn units birth (Esis value following) = IsPdu value × (following ≡ [])
 RangeIn units birth (Unlabelled octets) = ⊥
 
 -- each frame on the network does
 abbrev pub CarriesRanges : World → Type 0
 CarriesRanges w = AllByRecursion (λ copy. RangeIn w.units copy.birth copy.content) w.copies
 
--- a frame carries a packet, and breaks no rule of PDUs
+-- a frame carries a packet and breaks no rule of PDUs, or an ES-IS value and breaks none of ES-IS PDUs
 abbrev pub IsUnbroken : Content → Type 0
 IsUnbroken (Labelled packet following) = BreaksNoRule (frame_of (Labelled packet following))
+IsUnbroken (Esis value following) = BreaksNoEsisRule (frame_of (Esis value following))
 IsUnbroken (Unlabelled octets) = ⊥
 
 -- each frame on the network does

@@ -15,9 +15,9 @@ use Rattle.scenario.specs.declared.event.Event.{Event}
 use Rattle.scenario.specs.declared.event.Event.TheVariants.{Send, Deliver, Settle, Lose, Tick, Restart}
 use Rattle.scenario.specs.declared.event.Move.{Move}
 use Rattle.scenario.specs.declared.event.Move.TheVariants.{One, SettleOne, LoseOne, TickOne}
-use Rattle.clnp_machine.specs.Unit.{Maker, Unit, Packet, wire}
-use Rattle.clnp_machine.specs.Content.{Content, Labelled, frame_of}
-use Rattle.clnp_machine.specs.System.{SystemState, first_state, Input, AsksToSend, FrameComes, MomentComes, IsRestarted, Output, Transmits, Notes, Effect}
+use Rattle.clnp_machine.specs.Unit.{Maker, DeclaredAt, Unit}
+use Rattle.clnp_machine.specs.Content.{Content, Labelled, Esis, frame_of}
+use Rattle.clnp_machine.specs.System.{SystemState, first_state, Input, AsksToSend, FrameComes, MomentComes, IsRestarted, Output, Transmits, SendsEsis, Notes, Effect}
 use Rattle.clnp_machine.specs.Step.{step}
 
 -- a frame on a subnetwork, for good
@@ -26,7 +26,7 @@ pub record Copy : Type 0 where
   -- the sender's address there
   pub sender : List ℕ
   pub target : Target
-  -- who made what it carries, and when
+  -- who made what it carries, and when: its unit, or the ES-IS PDU
   pub maker : Maker
   pub birth : ℕ
   pub content : Content
@@ -57,29 +57,37 @@ writes w line = record { world = w; lines = line ∷ [] }
 abbrev pub followed_by : Step → (World → Step) → Step
 followed_by step next = record { world = (next step.world).world; lines = step.lines ++ (next step.world).lines }
 
--- the copy that a packet makes on a port's subnetwork, where there is such a port
-abbrev pub copy_from : Option PortConfig → Target → Packet → List Copy
-copy_from None target packet = []
-copy_from (Some port) target packet =
+-- the copy that a frame makes on a port's subnetwork, where there is such a port
+abbrev pub copy_from : Option PortConfig → Target → Maker → (birth : ℕ) → Content → List Copy
+copy_from None target maker birth content = []
+copy_from (Some port) target maker birth content =
     record {
       subnet = port.subnet;
       sender = port.snpa;
       target = target;
-      maker = packet.unit.maker;
-      birth = packet.unit.made;
-      content = Labelled packet [];
+      maker = maker;
+      birth = birth;
+      content = content;
     } ∷ []
 
--- one output of a system: its note, or the copy that it puts on a port's subnetwork
-abbrev pub put_out : SystemConfiguration → World → Output → Step
-put_out system w (Notes note) = writes w (Noted w.clock system.name note)
-put_out system w (Transmits port target packet) =
+-- a frame goes out on a system's port, as the next copy
+abbrev pub sends_frame : SystemState → World → (port : ℕ) → Target → Maker → (birth : ℕ) → Content → Step
+sends_frame system w port target maker birth content =
     record {
-      world = record w { copies = w.copies ++ copy_from (slice_get system.ports port) target packet };
-      lines = Transmitted w.clock system.name (length w.copies + 1) port target (wire packet) ∷ [];
+      world = record w { copies = w.copies ++ copy_from (slice_get system.configuration.ports port) target maker birth content };
+      lines = Transmitted w.clock system.configuration.name (length w.copies + 1) port target (frame_of content) ∷ [];
     }
 
-abbrev pub put_all_out : SystemConfiguration → World → List Output → Step
+-- One output of a system: its note, or the copy that it puts on a port's subnetwork, which is as old as its unit, and as this
+-- moment where it carries an ES-IS PDU.
+abbrev pub put_out : SystemState → World → Output → Step
+put_out system w (Notes note) = writes w (Noted w.clock system.configuration.name note)
+put_out system w (Transmits port target packet) =
+    sends_frame system w port target packet.unit.maker packet.unit.made (Labelled packet [])
+put_out system w (SendsEsis port target value) =
+    sends_frame system w port target (DeclaredAt system.place) w.clock (Esis value [])
+
+abbrev pub put_all_out : SystemState → World → List Output → Step
 put_all_out system w [] = nothing w
 put_all_out system w (output ∷ outputs) = followed_by (put_out system w output) (λ v. put_all_out system v outputs)
 
@@ -89,7 +97,7 @@ with_effect w place effect = record w { systems = slice_set w.systems place effe
 
 -- and what it gives out goes out
 abbrev pub takes_effect : World → ℕ → Effect → Step
-takes_effect w place effect = put_all_out effect.after.configuration (with_effect w place effect) effect.outputs
+takes_effect w place effect = put_all_out effect.after (with_effect w place effect) effect.outputs
 
 -- something comes to the system at a place, where there is one
 abbrev pub comes_to : World → ℕ → Input → Option SystemState → Step
@@ -205,6 +213,18 @@ tick_each w (place ∷ places) =
 abbrev pub tick_one : World → Step
 tick_one w = tick_each (record w { clock = w.clock + 1 }) (range_with_len 0 (length w.systems))
 
+-- Octets are asked to be sent of a host; nobody asks a router.
+abbrev pub asks_role : Role → World → ℕ → Input → Step
+asks_role Host w place asked = comes w place asked
+asks_role Router w place asked = nothing w
+
+abbrev pub asks_system : World → ℕ → Input → Option SystemState → Step
+asks_system w place asked None = nothing w
+asks_system w place asked (Some system) = asks_role system.configuration.role w place asked
+
+abbrev pub asks : World → ℕ → Input → Step
+asks w place asked = asks_system w place asked (slice_get w.systems place)
+
 -- what an event of one move does
 abbrev pub event_happens : Limits → World → Option Event → Step
 event_happens limits w None = nothing w
@@ -213,7 +233,7 @@ event_happens limits w (Some (Lose count)) = nothing w
 event_happens limits w (Some (Tick count)) = nothing w
 event_happens limits w (Some (Deliver copy system)) = deliver limits w copy system
 event_happens limits w (Some (Restart system)) = comes w system IsRestarted
-event_happens limits w (Some (Send system from to body ask)) = comes w system (AsksToSend from to (octets_of body) ask)
+event_happens limits w (Some (Send system from to body ask)) = asks w system (AsksToSend from to (octets_of body) ask)
 
 -- one move of the network
 abbrev pub after : Plan → World → Move → Step

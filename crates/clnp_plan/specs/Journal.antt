@@ -1,5 +1,5 @@
 -- The lines of a journal, and their text.
-use Rattle.std.specs.Prelude.{ℕ, List, [], ◌∷◌, ◌++◌, codes, Option, None, Some}
+use Rattle.std.specs.Prelude.{ℕ, Bool, true, false, List, [], ◌∷◌, ◌++◌, codes, Option, None, Some}
 use Rattle.std.specs.List.{flat_map}
 use Rattle.std.specs.Fmt.{decimal}
 use Rattle.nsap.specs.Text.{hex_text}
@@ -8,8 +8,12 @@ use Rattle.nsap.specs.declared.target.Target.TheVariants.{System, EndSystems, Ro
 use Rattle.pdu_header.specs.Spelling.{pair_of}
 use Rattle.pdu_header.specs.declared.kind.Kind.{Kind}
 use Rattle.pdu_header.specs.declared.kind.Kind.TheVariants.{Dt, Er, Erq, Erp}
+use Rattle.esis_tables.specs.declared.fact.Heard.{Heard}
+use Rattle.esis_tables.specs.declared.fact.Heard.TheVariants as heard
+use Rattle.esis_tables.specs.declared.fact.TableKind.{TableKind}
+use Rattle.esis_tables.specs.declared.fact.TableKind.TheVariants as table
 use Rattle.clnp_plan.specs.declared.note.Note.{Note}
-use Rattle.clnp_plan.specs.declared.note.Note.TheVariants.{Sent, Refused, Got, Discard, Held, Repeat, Crowded, Many, NoSlot, Interference, Expired, NotMine, Alien, Restart}
+use Rattle.clnp_plan.specs.declared.note.Note.TheVariants.{Sent, Refused, Got, Discard, Held, Repeat, Crowded, Many, NoSlot, Interference, Expired, NotMine, Alien, BadEsis, Hear, Gone, Ignored, Restart}
 use Rattle.clnp_plan.specs.declared.note.Why.{Why}
 use Rattle.clnp_plan.specs.declared.note.Why.TheVariants as why
 
@@ -38,6 +42,28 @@ why_word why.NotMine = codes "not-mine"
 why_word why.TooLong = codes "too-long"
 why_word why.Quiet = codes "quiet"
 why_word why.IdsBusy = codes "ids-busy"
+
+-- of whom was heard: end systems, intermediate systems, redirects
+abbrev pub table_word : TableKind → List ℕ
+table_word table.Es = codes "es"
+table_word table.Is = codes "is"
+table_word table.Rd = codes "rd"
+
+-- what came of a hearing; a full table is told with the number of its entries
+abbrev pub heard_words : Heard → List (List ℕ)
+heard_words heard.New = codes "new" ∷ []
+heard_words heard.Again = codes "again" ∷ []
+heard_words heard.Zero = codes "zero" ∷ []
+heard_words (heard.Full entries) = codes "full" ∷ decimal entries ∷ []
+
+-- a rule of ES-IS PDUs
+abbrev pub rule_word : ℕ → List ℕ
+rule_word rule = codes "E" ++ decimal rule
+
+-- what isn't heard: a redirect, or an intermediate system's hello
+abbrev pub ignored_word : Bool → List ℕ
+ignored_word true = codes "rd"
+ignored_word false = codes "ish"
 
 -- where a frame goes: to one system, or to a group
 abbrev pub target_word : Target → List ℕ
@@ -69,6 +95,10 @@ note_words (Interference id) = codes "interference" ∷ hex_text (pair_of id) �
 note_words (Expired id held) = codes "expired" ∷ hex_text (pair_of id) ∷ decimal held ∷ []
 note_words (NotMine to) = codes "notmine" ∷ hex_text to ∷ []
 note_words Alien = codes "alien" ∷ []
+note_words (BadEsis rule place) = codes "badesis" ∷ rule_word rule ∷ octet_word place ∷ []
+note_words (Hear table key heard) = codes "hear" ∷ table_word table ∷ hex_text key ∷ heard_words heard
+note_words (Gone table key) = codes "gone" ∷ table_word table ∷ hex_text key ∷ []
+note_words (Ignored rd) = codes "ignored" ∷ ignored_word rd ∷ []
 note_words Restart = codes "restart" ∷ []
 
 -- A line: what a system notes, a frame that it transmits as a copy with a number on a port, a copy that isn't there

@@ -4,11 +4,13 @@ use Rattle.std.specs.Fmt.{decimal}
 use Rattle.nsap.specs.Text.{hex_text}
 use Rattle.pdu_header.specs.Spelling.{pair_of}
 use Rattle.clnp_plan.specs.declared.journal.Word.{Word}
-use Rattle.clnp_plan.specs.declared.journal.Word.TheVariants.{Text, Number, Octet, Identifier, Octets}
+use Rattle.clnp_plan.specs.declared.journal.Word.TheVariants.{Text, Number, Octet, Identifier, Rule, Octets}
+use Rattle.clnp_plan.specs.Journal.{rule_word}
 
 abbrev pub word_text : Word → List ℕ
 word_text (Text text) = text.now
 word_text (Number number) = decimal number
 word_text (Octet octet) = hex_text (octet ∷ [])
 word_text (Identifier identifier) = hex_text (pair_of identifier)
+word_text (Rule rule) = rule_word rule
 word_text (Octets octets) = hex_text octets.now

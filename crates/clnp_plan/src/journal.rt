@@ -1,11 +1,12 @@
 //! The text of journal lines: words separated by one space, each line ended by `\n`.
-ghost use Rattle.std.specs.Prelude.{◌≡◌, ◌++◌, map, take, length, OnOk, OnErr};
+ghost use Rattle.std.specs.Prelude.{◌≡◌, ◌∷◌, ◌++◌, codes, map, take, length, OnOk, OnErr};
 ghost use Rattle.nsap.specs.Text.{hex_text};
-ghost use Rattle.clnp_plan.specs.Journal.{Late, Noted, Transmitted, Void, line_of, line_text, end_text, kind_word, why_word, octets_word, identifier_word, target_word};
+ghost use Rattle.clnp_plan.specs.Journal.{Late, Noted, Transmitted, Void, line_of, line_text, end_text, heard_words, ignored_word, kind_word, table_word, why_word, octets_word, identifier_word, rule_word, target_word};
 ghost use Rattle.clnp_plan.specs.Words.{word_text};
 
 use crate::note::{Note, Why};
 use clnp_base::{NoMemory, push, push_decimal, push_hex};
+use esis_tables::{Heard, TableKind};
 use nsap::{Address, Target};
 use pdu_header::Kind;
 use std::alloc::Global;
@@ -21,6 +22,8 @@ enum Word<'a> {
     Octet(u8),
     /// A data unit identifier, in four hexadecimal digits.
     Identifier(u16),
+    /// A rule of ES-IS PDUs, by its number.
+    Rule(u8),
     /// Octets, in two hexadecimal digits each.
     Octets(&'a [u8]),
 }
@@ -145,7 +148,58 @@ pub fn journal_text<'a>(
             push_line(first, &words, out)
         }
         Note::Alien => push_line(first, &[name, Word::Text(b"alien")], out),
+        Note::BadEsis { rule, place } => {
+            let words = [
+                name,
+                Word::Text(b"badesis"),
+                Word::Rule(*rule),
+                Word::Octet(*place),
+            ];
+            push_line(first, &words, out)
+        }
+        Note::Hear { table, key, heard } => push_hearing(first, name, *table, key, *heard, out),
+        Note::Gone { table, key } => {
+            let words = [
+                name,
+                Word::Text(b"gone"),
+                table_word(*table),
+                address_word(key),
+            ];
+            push_line(first, &words, out)
+        }
+        Note::Ignored { rd } => {
+            let words = [name, Word::Text(b"ignored"), ignored_word(*rd)];
+            push_line(first, &words, out)
+        }
         Note::Restart => push_line(first, &[name, Word::Text(b"restart")], out),
+    }
+}
+
+/// Appends the line of a hearing.
+fn push_hearing<'a>(
+    first: Word<'a>,
+    name: Word<'a>,
+    table: TableKind,
+    key: &'a Address,
+    heard: Heard,
+    out: &mut Vec<u8>,
+) -> Result<(), NoMemory>
+    ensures written { OnOk result (out.new.items ≡ out.old.items
+        ++ line_of (word_text first.entry) (word_text name.entry ∷ codes "hear" ∷ table_word table ∷ hex_text key.now ∷ heard_words heard)) }
+    ensures same { OnErr result (out.new.items ≡ out.old.items) }
+{
+    let hear = Word::Text(b"hear");
+    let table = table_word(table);
+    let key = address_word(key);
+    match heard {
+        Heard::New => push_line(first, &[name, hear, table, key, Word::Text(b"new")], out),
+        Heard::Again => push_line(first, &[name, hear, table, key, Word::Text(b"again")], out),
+        Heard::Zero => push_line(first, &[name, hear, table, key, Word::Text(b"zero")], out),
+        Heard::Full { entries } => {
+            let full = Word::Text(b"full");
+            let entries = Word::Number(u64::from(entries));
+            push_line(first, &[name, hear, table, key, full, entries], out)
+        }
     }
 }
 
@@ -273,8 +327,23 @@ fn push_word(word: Word<'_>, out: &mut Vec<u8>) -> Result<(), NoMemory>
         Word::Number(number) => push_decimal(number, out),
         Word::Octet(octet) => push_hex(&[octet], out),
         Word::Identifier(identifier) => push_hex(&identifier.to_be_bytes(), out),
+        Word::Rule(rule) => push_rule(rule, out),
         Word::Octets(octets) => push_hex(octets, out),
     }
+}
+
+/// Appends a rule of ES-IS PDUs.
+fn push_rule(rule: u8, out: &mut Vec<u8>) -> Result<(), NoMemory>
+    ensures written { OnOk result (out.new.items ≡ out.old.items ++ rule_word rule) }
+    ensures same { OnErr result (out.new.items ≡ out.old.items) }
+{
+    let before = out.len();
+    push(b"E", out)?;
+    let written = push_decimal(u64::from(rule), out);
+    if written.is_err() {
+        out.truncate(before);
+    }
+    written
 }
 
 /// The word of a kind of PDU.
@@ -287,6 +356,24 @@ fn kind_word(kind: Kind) -> Word<'static>
         Kind::Erq => Word::Text(b"erq"),
         Kind::Erp => Word::Text(b"erp"),
     }
+}
+
+/// The word of whom was heard of.
+fn table_word(table: TableKind) -> Word<'static>
+    ensures { word_text result ≡ table_word table }
+{
+    match table {
+        TableKind::Es => Word::Text(b"es"),
+        TableKind::Is => Word::Text(b"is"),
+        TableKind::Rd => Word::Text(b"rd"),
+    }
+}
+
+/// The word of what isn't heard: a redirect, or an intermediate system's hello.
+fn ignored_word(rd: bool) -> Word<'static>
+    ensures { word_text result ≡ ignored_word rd }
+{
+    if rd { Word::Text(b"rd") } else { Word::Text(b"ish") }
 }
 
 /// The word of why a unit wasn't made.

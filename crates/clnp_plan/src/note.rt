@@ -1,4 +1,5 @@
 use clnp_base::Octets;
+use esis_tables::{Heard, TableKind};
 use nsap::Address;
 use pdu_header::Kind;
 
@@ -83,6 +84,26 @@ pub enum Note {
     },
     /// A frame came that begins neither as a CLNP PDU nor as an ES-IS PDU.
     Alien,
+    /// An ES-IS PDU came that breaks a rule (ISO 9542, section 6.12), with the place of the octet at fault.
+    BadEsis {
+        rule: u8,
+        place: u8,
+    },
+    /// A system was heard of, and what came of it (ISO 9542, section 6.3).
+    Hear {
+        table: TableKind,
+        key: Address,
+        heard: Heard,
+    },
+    /// A holding time has ended (ISO 9542, sections 6.4 and 6.11).
+    Gone {
+        table: TableKind,
+        key: Address,
+    },
+    /// A redirect came that isn't heard, or else an intermediate system's hello.
+    Ignored {
+        rd: bool,
+    },
     /// The system was restarted.
     Restart,
 }

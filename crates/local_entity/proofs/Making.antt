@@ -37,12 +37,12 @@ stands_making local used units s u refused none stands uses number =
 -- its note and then itself are appended
 pub appends_making : (before after : List Action) (note : Note) (unit : Made) (s : SystemState) (u : Unit) (refused : Option Note) → refused ≡ None
     → after ≡ (before ++ Noted note ∷ []) ++ Send unit ∷ []
-    → note ≡ sent_note u → unit.unit ≡ u.number → SpellsHeader (value_of (whole_packet u)) unit.head → seen unit.body ≡ u.octets
+    → note ≡ sent_note u → unit.unit ≡ u.number → unit.to ≡ u.destination → SpellsHeader (value_of (whole_packet u)) unit.head → seen unit.body ≡ u.octets
     → Appends before after (unless_refused refused s u).actions
-appends_making before after note unit s u refused none appended noted number head body =
+appends_making before after note unit s u refused none appended noted number to head body =
     subst (λ (d : Deed). Appends before after d.actions) (made refused s u none)
     record {
       actions = Noted note ∷ Send unit ∷ [];
       appended = appended ∙ append_assoc before (Noted note ∷ []) (Send unit ∷ []);
-      do_all = (noted, ((number, head, body), tt));
+      do_all = (noted, ((number, to, head, body), tt));
     }

@@ -4,3 +4,4 @@ pub mod Apart
 pub mod Local
 pub mod Receipt
 pub mod Seen
+pub mod Sending

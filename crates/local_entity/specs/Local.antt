@@ -43,7 +43,7 @@ pub record Stands (entity : EntityState) (s : SystemState) : Type 0 where
 abbrev pub Does : Action → machine.Action → Type 0
 Does (Noted note) (machine.Tells told) = note ≡ told
 Does (Send made) (machine.Sends u) =
-    (made.unit ≡ u.number) × SpellsHeader (value_of (whole_packet u)) made.head × (seen made.body ≡ u.octets)
+    (made.unit ≡ u.number) × (made.to ≡ u.destination) × SpellsHeader (value_of (whole_packet u)) made.head × (seen made.body ≡ u.octets)
 Does (Noted note) (machine.Sends u) = ⊥
 Does (Send made) (machine.Tells told) = ⊥
 

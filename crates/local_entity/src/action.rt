@@ -1,12 +1,15 @@
 //! What the entity of a system does at the system's own addresses.
 use clnp_plan::Note;
 use clnp_views::View;
+use nsap::Address;
 use pdu_header::Header;
 
-/// A data unit that was made: its number among the system's units, the header of its initial PDU, and its data.
+/// A data unit that was made: its number among the system's units, its destination, the header of its initial PDU, and its
+/// data.
 #[derive(Debug, Drop)]
 pub struct Made {
     pub unit: u64,
+    pub to: Address,
     pub head: Header,
     pub body: View,
 }

@@ -6,7 +6,9 @@ mod action;
 pub mod laws;
 mod local;
 mod pool;
+mod sending;
 
 pub use action::{Action, Made};
 pub use local::Local;
 pub use pool::{DrawRefusal, IdPool};
+pub use sending::{Hop, send_unit};

@@ -144,7 +144,12 @@ impl Local {
             len: len as u32,
         };
         out.push_reserved(Action::Note(sent));
-        out.push_reserved(Action::Send(Made { unit, head, body }));
+        out.push_reserved(Action::Send(Made {
+            unit,
+            to,
+            head,
+            body,
+        }));
         Ok(unit)
     }
 

@@ -45,7 +45,7 @@ returns-clause-actions c = λ s stands moment.
     let before = c.try_reserve.ensures.items in
     appends_making c.args.out.now.items c.push_reserved-2.new.self.items
     (Sent c.args.kind c.saturating_add-unit.result c.drawn-id.result c.args.from c.args.to (length c.bytes-len.result.now))
-    (record { unit = c.saturating_add-unit.result; head = c.in_ok-head.head; body = c.in-Ok.body })
+    (record { unit = c.saturating_add-unit.result; to = c.args.to; head = c.in_ok-head.head; body = c.in-Ok.body })
     s u (refusal s u) answer.0
     (c.push_reserved-2.ensures.items ∙ rw (c.push_reserved.ensures.items, before) refl)
-    (rw (number, id, size) refl) number answer.1 body
+    (rw (number, id, size) refl) number refl answer.1 body

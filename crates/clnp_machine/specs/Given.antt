@@ -1,0 +1,60 @@
+-- The outputs of a system of the code, and those of the model.
+use Rattle.std.specs.Prelude.{◌≡◌, ℕ, false, List, [], ◌∷◌, ◌++◌, Option, None, Some}
+use Rattle.nsap.specs.declared.target.Target.{Target}
+use Rattle.clnp_views.specs.Extent.{Extent, seen}
+use Rattle.esis_pdus.specs.Grammar as esis
+use Rattle.esis_pdus.specs.Spelling as esis_spelling
+use Rattle.esis_pdus.specs.Value.{EsisValue}
+use Rattle.clnp_plan.specs.declared.output.Output.{Output}
+use Rattle.clnp_plan.specs.declared.output.Output.TheVariants.{Transmit, Note}
+use Rattle.clnp_plan.specs.declared.output.Sending.{Sending}
+use Rattle.clnp_machine.specs.Unit.{Packet, wire, IsCarriable}
+use Rattle.clnp_machine.specs.System as machine
+
+-- the data behind the header, if there are any
+abbrev pub body_of : Option Extent → List ℕ
+body_of None = []
+body_of (Some body) = seen body
+
+-- the octets of a frame that goes out
+abbrev pub frame_in : Sending → List ℕ
+frame_in sending = sending.head ++ body_of sending.body
+
+-- A frame goes out for a packet: its octets are those of the packet's PDU, and it is the first transmission of a unit
+-- that was made at this moment.
+pub record IsSentFor (moment : ℕ) (sending : Sending) (port : ℕ) (target : Target) (packet : Packet) : Type 0 where
+  pub port_is : sending.port ≡ port
+  pub target_is : sending.to ≡ target
+  pub octets : frame_in sending ≡ wire packet
+  pub first : sending.forwarded ≡ false
+  pub carriable : IsCarriable packet
+  pub made : packet.unit.made ≡ moment
+
+-- a frame goes out for an ES-IS PDU: its octets are those of the PDU
+pub record IsSentForEsis (sending : Sending) (port : ℕ) (target : Target) (value : EsisValue) : Type 0 where
+  pub port_is : sending.port ≡ port
+  pub target_is : sending.to ≡ target
+  pub octets : frame_in sending ≡ esis_spelling.spelling value
+  pub first : sending.forwarded ≡ false
+  pub pdu : esis.IsPdu value
+
+-- an output of the code is one of the model
+abbrev pub Gives : ℕ → Output → machine.Output → Type 0
+Gives moment (Note note) (machine.Notes told) = note ≡ told
+Gives moment (Transmit sending) (machine.Transmits port target packet) = IsSentFor moment sending port target packet
+Gives moment (Transmit sending) (machine.SendsEsis port target value) = IsSentForEsis sending port target value
+Gives moment (Note note) (machine.Transmits port target packet) = ⊥
+Gives moment (Note note) (machine.SendsEsis port target value) = ⊥
+Gives moment (Transmit sending) (machine.Notes told) = ⊥
+
+abbrev pub GiveAll : ℕ → List Output → List machine.Output → Type 0
+GiveAll moment [] [] = Unit {0}
+GiveAll moment (output ∷ outputs) (other ∷ others) = Gives moment output other × GiveAll moment outputs others
+GiveAll moment [] (other ∷ others) = ⊥
+GiveAll moment (output ∷ outputs) [] = ⊥
+
+-- outputs that are these ones of the model were appended
+pub record Appends (moment : ℕ) (before after : List Output) (others : List machine.Output) : Type 0 where
+  pub outputs : List Output
+  pub appended : after ≡ before ++ outputs
+  pub give_all : GiveAll moment outputs others

@@ -1,0 +1,6 @@
+//! What a system says of itself to its neighbours, and hears of them (ISO 9542, section 6): hosts and routers alike.
+#![tactic(auto)]
+
+mod entity;
+
+pub use entity::EsisEntity;

@@ -1,0 +1,103 @@
+//! The first transmission of a unit: its pieces, cut for the MTU of the port by which it goes out (ISO/IEC 8473, section 6.7).
+ghost use Rattle.std.specs.Prelude.{◌≡◌, ◌≤◌, ◌+◌, ◌++◌, [], ◌∷◌, IfOk, OnOk, Some, map};
+ghost use Rattle.std.specs.List.{AllByRecursion};
+ghost use Rattle.clnp_machine.specs.Given.{Appends};
+ghost use Rattle.clnp_machine.specs.Local.{Sends};
+ghost use Rattle.clnp_machine.specs.Step.{first_sent, sent_on};
+ghost use Rattle.clnp_machine.specs.System.{SystemState};
+ghost use Rattle.clnp_machine.specs.Unit.{Unit};
+ghost use Rattle.clnp_options.specs.Reasons.{reason_code};
+ghost use Rattle.clnp_plan.specs.declared.note.Note.TheVariants.{Discard};
+ghost use Rattle.clnp_plan.specs.declared.output.Output.TheVariants.{Transmit, Note as Noted};
+ghost use Rattle.segmenter.specs.Left.{IsCutOf};
+ghost use Rattle.local_entity.specs.declared.action.Action.TheVariants.{Send};
+ghost use Rattle.local_entity.specs.Local.{Does};
+ghost use Rattle.local_entity.specs.Sending.{hop_option, machine_hop, transmission};
+
+use crate::action::Made;
+use clnp_base::NoMemory;
+use clnp_options::Reason;
+use clnp_plan::{Note, Output, PortConfig, Sending, SystemConfig};
+use clnp_views::View;
+use nsap::Target;
+use segmenter::{Cut, Cuts, NotPermitted};
+
+/// Where a PDU goes next: the number of a port, and whom a frame is for on its subnetwork.
+#[derive(Clone, Copy, Debug, PartialEq, Eq)]
+pub struct Hop {
+    pub port: u8,
+    pub target: Target,
+}
+
+/// Sends a unit in pieces to where it goes next, or notes that it may not be cut, or that there is no way for it.
+///
+/// # Errors
+///
+/// `NoMemory`; some of the pieces may have been appended.
+pub fn send_unit(
+    made: &Made,
+    hop: Option<Hop>,
+    config: &SystemConfig,
+    out: &mut Vec<Output>,
+) -> Result<(), NoMemory>
+    requires { (u : Unit) × Does (Send made.now) (Sends u) }
+    ensures { OnOk result ((s : SystemState) (u : Unit) → config.now ≡ s.configuration → Does (Send made.now) (Sends u)
+        → u.first_position ≡ 0 → Appends u.made out.old.items out.new.items (first_sent s u (hop_option hop))) }
+{
+    let Some(hop) = hop else {
+        return note(Reason::DestinationUnknown, out);
+    };
+    config.is_system();
+    let Some(port) = config.ports().get(usize::from(hop.port)) else {
+        return note(Reason::DestinationUnknown, out);
+    };
+    send_on(made, hop, port, out)
+}
+
+/// Sends a unit in pieces on a port, or notes that it may not be cut.
+fn send_on(made: &Made, hop: Hop, port: &PortConfig, out: &mut Vec<Output>) -> Result<(), NoMemory>
+    requires made { (u : Unit) × Does (Send made.now) (Sends u) }
+    requires least { 512 ≤ port.now.mtu }
+    ensures { OnOk result ((u : Unit) → Does (Send made.now) (Sends u) → u.first_position ≡ 0
+        → Appends u.made out.old.items out.new.items (sent_on (machine_hop hop) (Some port.now) u)) }
+{
+    let octets = made.body.bytes().len();
+    match Cuts::new(made.head, octets, port.mtu) {
+        Ok(cuts) => give_pieces(cuts, hop, &made.body, out),
+        Err(NotPermitted { .. }) => note(Reason::SegmentationNotPermitted, out),
+    }
+}
+
+/// Gives out the pieces of a unit with these data.
+fn give_pieces(cuts: Cuts, hop: Hop, body: &View, out: &mut Vec<Output>) -> Result<(), NoMemory>
+    requires { AllByRecursion (IsCutOf body.now.len) cuts }
+    ensures { OnOk result (out.new.items ≡ out.old.items ++ map (transmission hop body.now) cuts) }
+{
+    for cut in cuts {
+        out.push(Output::Transmit(sending(&cut, hop, body)?))?;
+    }
+    Ok(())
+}
+
+/// The frame of a piece of a unit with these data.
+fn sending(cut: &Cut, hop: Hop, body: &View) -> Result<Sending, NoMemory>
+    requires { cut.now.from + cut.now.len ≤ body.now.len }
+    ensures { IfOk result (λ sending. Transmit sending ≡ transmission hop body.now cut.now) }
+{
+    Ok(Sending {
+        port: hop.port,
+        to: hop.target,
+        head: cut.head.head(),
+        body: Some(body.part(cut.from, cut.len)?),
+        forwarded: false,
+    })
+}
+
+/// Notes that a unit is discarded for a reason, for which no place in it is told.
+fn note(reason: Reason, out: &mut Vec<Output>) -> Result<(), NoMemory>
+    ensures { OnOk result (out.new.items ≡ out.old.items ++ Noted (Discard (reason_code reason) 0) ∷ []) }
+{
+    let reason = reason.code();
+    out.push(Output::Note(Note::Discard { reason, place: 0 }))?;
+    Ok(())
+}

@@ -1,0 +1,6 @@
+//! Routers: intermediate systems (ISO/IEC 8473; ISO 9542).
+#![tactic(auto)]
+
+mod router;
+
+pub use router::Router;

@@ -1,0 +1,41 @@
+-- What the entity of a system stands for.
+use Rattle.std.specs.Prelude.{◌≡◌, ℕ, ◌<◌, ◌≤◌, ◌^◌, false, true}
+use Rattle.reassembly.specs.State.{IsReady}
+use Rattle.clnp_plan.specs.declared.ask.SendRefusal.{SendRefusal}
+use Rattle.clnp_plan.specs.declared.ask.SendRefusal.TheVariants.{NoMemory}
+use Rattle.clnp_machine.specs.System.{SystemState}
+use Rattle.esis_entity.specs.Stands as esis_entity
+use Rattle.local_entity.specs.Local as local_entity
+use Rattle.system_entity.specs.State.{SystemEntityState}
+
+-- Its parts stand for the state of a system, whatever its place, where what had ended by an earlier moment is forgotten.
+pub record PartsStandSince (before : ℕ) (entity : SystemEntityState) (s : SystemState) : Type 0 where
+  pub local : local_entity.Stands entity.local s
+  pub esis : esis_entity.StandsSince before entity.esis s
+  pub moment : entity.moment ≡ s.moment
+  pub since : before ≤ s.moment
+
+-- and what has ended by its own moment
+abbrev pub PartsStand : SystemEntityState → SystemState → Type 0
+PartsStand entity s = PartsStandSince s.moment entity s
+
+-- an entity stands for the state of a system
+pub record Stands (entity : SystemEntityState) (s : SystemState) : Type 0 where
+  pub not_spent : entity.spent ≡ false
+  pub parts : PartsStand entity s
+
+-- What is always so of it: while it isn't spent, it stands for some state, no buffer is due at its moment and none is whole.
+pub record IsReadyFor (entity : SystemEntityState) : Type 0 where
+  pub state : SystemState
+  pub stands : Stands entity state
+  pub ready : IsReady entity.moment entity.local.table
+
+pub record IsSound (entity : SystemEntityState) : Type 0 where
+  pub moment : entity.moment < 2 ^ 62
+  pub hold : 1 ≤ entity.local.table.limits.hold
+  pub ready : entity.spent ≡ false → IsReadyFor entity
+
+-- a refused entity is as before, but spent where memory was refused
+abbrev pub IsLeftBy : SendRefusal → SystemEntityState → SystemEntityState → Type 0
+IsLeftBy NoMemory before after = after.spent ≡ true
+IsLeftBy _ before after = after ≡ before

@@ -1,0 +1,318 @@
+//! The entity of a system, be it a host or a router.
+ghost use Rattle.std.specs.Prelude.{◌≡◌, ◌≤◌, ◌<◌, ◌+◌, ◌^◌, ℕ, List, IfErr, IfOk, OnOk, OnErr, IsErr, MatchResult, None, Err, true, false, [], ◌∷◌, ◌++◌, length};
+ghost use Rattle.clnp_options.specs.Grammar.{FitsKind};
+ghost use Rattle.clnp_options.specs.Parameter.{parameters};
+ghost use Rattle.pdu_header.specs.Grammar.{is_report};
+ghost use Rattle.reassembly.specs.Buffer.{held};
+ghost use Rattle.clnp_plan.specs.declared.ask.SendRefusal.TheVariants.{NoMemory as WantsMemory};
+ghost use Rattle.clnp_plan.specs.declared.output.Output.TheVariants.{Note as Noted};
+ghost use Rattle.clnp_machine.specs.Content.{Content, IsCarried, frame_of};
+ghost use Rattle.clnp_machine.specs.Given.{Appends};
+ghost use Rattle.clnp_machine.specs.Local as machine;
+ghost use Rattle.clnp_machine.specs.Local.{has_address, restarted};
+ghost use Rattle.clnp_machine.specs.Step.{effect_of, hop_to, host_hop, moment_comes, next_hop};
+ghost use Rattle.clnp_machine.specs.System.{SystemState, first_state, next_number};
+ghost use Rattle.local_entity.specs.Local.{IsWhy};
+ghost use Rattle.local_entity.specs.Sending.{hop_option, machine_hop};
+ghost use Rattle.system_entity.specs.Comes.{ComesOf, LeavesAsItWas};
+ghost use Rattle.system_entity.specs.Stands.{IsLeftBy, PartsStandSince, Stands};
+
+use clnp_base::NoMemory;
+use clnp_plan::{Ask, Limits, Note, Output, Role, SendRefusal, SystemConfig};
+use clnp_views::Frame;
+use esis_entity::EsisEntity;
+use esis_tables::Place;
+use local_entity::{Hop, Local};
+use nsap::{Address, Target};
+use pdu_header::Kind;
+use std::alloc::Global;
+use std::marker::Model;
+
+mod steps;
+
+/// What came of a frame.
+#[derive(Clone, Copy, Debug, PartialEq, Eq)]
+pub enum Arrival {
+    /// All was done that is to be done.
+    Done,
+    /// It carries a PDU with a lifetime left for an address that isn't the system's, and nothing was done yet.
+    Passes {
+        to: Address,
+    },
+}
+
+/// What a system does whatever its role. Its moment is that of its last `tick`, or of its start.
+///
+/// Once memory was refused in `tick`, `frame`, `discard`, `note` or `make` it is spent: from then on each of them answers
+/// `NoMemory`.
+///
+/// A contract says by `Stands` which states of a system it stands for.
+#[derive(Debug, Drop)]
+pub struct SystemEntity {
+    local: Local,
+    esis: EsisEntity,
+    moment: u64,
+    spent: bool,
+}
+
+impl Model for SystemEntity {
+    ghost use Rattle.system_entity.specs.State.{SystemEntityState};
+    ghost use Rattle.system_entity.specs.Stands.{IsSound};
+
+    ghost Value = { SystemEntityState };
+
+    ghost view = { λ e. record { local = e.local; esis = e.esis; moment = e.moment; spent = e.spent } };
+
+    ghost invariant = { λ e. IsSound (record { local = e.local; esis = e.esis; moment = e.moment; spent = e.spent }) };
+}
+
+impl SystemEntity {
+    /// The entity of a system at its start, at a moment. It makes no unit with an identifier before the moment `quiet`.
+    ///
+    /// # Errors
+    ///
+    /// `NoMemory`.
+    pub fn new(
+        alloc: Global,
+        config: &SystemConfig,
+        limits: &Limits,
+        now: u64,
+        quiet: u64,
+    ) -> Result<SystemEntity, NoMemory>
+        requires hold { 1 ≤ limits.now.hold }
+        requires moment { now < 2 ^ 62 }
+        requires quiet { quiet ≤ 2 ^ 62 + 16384 }
+        ensures stands { IfOk result (λ entity. (place : ℕ) → Stands entity (first_state place config.now limits.now now quiet)) }
+        ensures moment { IfOk result (λ entity. entity.moment ≡ now) }
+    {
+        let local = Local::new(alloc, config, limits, quiet)?;
+        let esis = EsisEntity::new(alloc, config, now)?;
+        Ok(SystemEntity {
+            local,
+            esis,
+            moment: now,
+            spent: false,
+        })
+    }
+
+    /// A moment has come: what was waiting for it happens, and what the system gives out is appended.
+    ///
+    /// # Errors
+    ///
+    /// `NoMemory`: `out` is then as it was, and the entity is spent.
+    pub fn tick(&mut self, alloc: Global, now: u64, out: &mut Vec<Output>) -> Result<(), NoMemory>
+        requires later { self.old.moment ≤ now }
+        requires moment { now < 2 ^ 62 }
+        ensures stands { OnOk result ((s : SystemState) → Stands self.old s → Stands self.new (moment_comes s now).after) }
+        ensures outputs { OnOk result ((s : SystemState) → Stands self.old s
+            → Appends now out.old.items out.new.items (moment_comes s now).outputs) }
+        ensures moment { OnOk result (self.new.moment ≡ now) }
+        ensures none { OnErr result (out.new.items ≡ out.old.items) }
+        ensures spent { OnErr result (self.new.spent ≡ true) }
+        ensures refused { self.old.spent ≡ true → IsErr result }
+        ensures config { self.new.local.configuration ≡ self.old.local.configuration }
+    {
+        if self.spent {
+            return Err(NoMemory);
+        }
+        self.spent = true;
+        self.come_to(alloc, now, out)?;
+        self.spent = false;
+        Ok(())
+    }
+
+    /// A frame comes from a place on a subnetwork of the system's, to the system alone or through a group; what the system
+    /// gives out is appended. A PDU for another address is left to the caller.
+    ///
+    /// # Errors
+    ///
+    /// `NoMemory`: `out` is then as it was, and the entity is spent.
+    pub fn frame(
+        &mut self,
+        alloc: Global,
+        place: Place,
+        group: bool,
+        frame: &Frame,
+        out: &mut Vec<Output>,
+    ) -> Result<Arrival, NoMemory>
+        requires few { length frame.now ≤ 70000 }
+        ensures comes { IfOk result (λ arrival. (s : SystemState) (content : Content) → Stands self.old s → IsCarried content
+            → frame_of content ≡ frame.now → ComesOf arrival s place group content self.new out.old.items out.new.items) }
+        ensures left { IfOk result (λ arrival. LeavesAsItWas arrival self.old self.new out.old.items out.new.items) }
+        ensures not_spent { OnOk result (self.new.spent ≡ false) }
+        ensures none { OnErr result (out.new.items ≡ out.old.items) }
+        ensures spent { OnErr result (self.new.spent ≡ true) }
+        ensures refused { self.old.spent ≡ true → IsErr result }
+        ensures moment { self.new.moment ≡ self.old.moment }
+        ensures config { self.new.local.configuration ≡ self.old.local.configuration }
+    {
+        if self.spent {
+            return Err(NoMemory);
+        }
+        self.spent = true;
+        let arrival = self.arrive(alloc, place, group, frame, out)?;
+        self.spent = false;
+        Ok(arrival)
+    }
+
+    /// A PDU that came in a frame is discarded, for a reason and with the place of the octet at fault (ISO/IEC 8473, section
+    /// 6.9); what the system gives out is appended.
+    ///
+    /// # Errors
+    ///
+    /// `NoMemory`: `out` is then as it was, and the entity is spent.
+    pub fn discard(
+        &mut self,
+        alloc: Global,
+        frame: &Frame,
+        reason: u8,
+        place: u8,
+        out: &mut Vec<Output>,
+    ) -> Result<(), NoMemory>
+        requires few { length frame.now ≤ 70000 }
+        ensures stands { OnOk result ((s : SystemState) (content : Content) → Stands self.old s → IsCarried content
+            → frame_of content ≡ frame.now → Stands self.new (machine.discard s content reason place).after) }
+        ensures outputs { OnOk result ((s : SystemState) (content : Content) → Stands self.old s → IsCarried content
+            → frame_of content ≡ frame.now
+            → Appends s.moment out.old.items out.new.items (effect_of (machine.discard s content reason place)).outputs) }
+        ensures none { OnErr result (out.new.items ≡ out.old.items) }
+        ensures spent { OnErr result (self.new.spent ≡ true) }
+        ensures refused { self.old.spent ≡ true → IsErr result }
+        ensures moment { self.new.moment ≡ self.old.moment }
+        ensures config { self.new.local.configuration ≡ self.old.local.configuration }
+    {
+        if self.spent {
+            return Err(NoMemory);
+        }
+        self.spent = true;
+        self.drop_frame(alloc, frame, reason, place, out)?;
+        self.spent = false;
+        Ok(())
+    }
+
+    /// Something is noted.
+    ///
+    /// # Errors
+    ///
+    /// `NoMemory`: `out` is then as it was, and the entity is spent.
+    pub fn note(&mut self, note: Note, out: &mut Vec<Output>) -> Result<(), NoMemory>
+        ensures noted { OnOk result (out.new.items ≡ out.old.items ++ Noted note ∷ []) }
+        ensures same { OnOk result (self.new ≡ self.old) }
+        ensures none { OnErr result (out.new.items ≡ out.old.items) }
+        ensures spent { OnErr result (self.new.spent ≡ true) }
+        ensures refused { self.old.spent ≡ true → IsErr result }
+        ensures moment { self.new.moment ≡ self.old.moment }
+        ensures config { self.new.local.configuration ≡ self.old.local.configuration }
+    {
+        if self.spent {
+            return Err(NoMemory);
+        }
+        match out.push(Output::Note(note)) {
+            Ok(()) => Ok(()),
+            Err(_) => {
+                self.spent = true;
+                Err(NoMemory)
+            }
+        }
+    }
+
+    /// Makes a unit of some octets and sends it, cut for the MTU where it may be; what the system gives out is appended.
+    /// Gives the unit's number.
+    ///
+    /// # Errors
+    ///
+    /// The first of these that holds: `NotMine` exactly where the source isn't one of the system's addresses; `TooLong`
+    /// exactly where the body has more than 64,512 octets, or else its header would have more than 254; `Quiet` or
+    /// `IdsBusy` exactly where it may be segmented and no identifier can be drawn for it. Nothing changes then. At
+    /// `NoMemory` `out` is as it was, and the entity is spent.
+    pub fn make(
+        &mut self,
+        alloc: Global,
+        kind: Kind,
+        from: Address,
+        to: Address,
+        body: &[u8],
+        ask: &Ask,
+        out: &mut Vec<Output>,
+    ) -> Result<u64, SendRefusal>
+        requires { FitsKind (is_report kind) (parameters ask.now.options) }
+        ensures answer { (s : SystemState) → Stands self.old s → MatchResult result
+            (λ unit. (machine.refusal s (machine.unit_of s kind from to body.now ask.now) ≡ None) × (unit ≡ next_number s))
+            (λ e. IsWhy e (machine.refusal s (machine.unit_of s kind from to body.now ask.now))) }
+        ensures stands { OnOk result ((s : SystemState) → Stands self.old s
+            → Stands self.new (machine.make s kind from to body.now ask.now).after) }
+        ensures outputs { OnOk result ((s : SystemState) → Stands self.old s
+            → Appends s.moment out.old.items out.new.items (effect_of (machine.make s kind from to body.now ask.now)).outputs) }
+        ensures none { OnErr result (out.new.items ≡ out.old.items) }
+        ensures left { IfErr result (λ e. IsLeftBy e self.old self.new) }
+        ensures refused { self.old.spent ≡ true → result ≡ Err WantsMemory }
+        ensures moment { self.new.moment ≡ self.old.moment }
+        ensures config { self.new.local.configuration ≡ self.old.local.configuration }
+    {
+        if self.spent {
+            return Err(SendRefusal::NoMemory);
+        }
+        self.spent = true;
+        let answer = self.make_unit(alloc, kind, from, to, body, ask, out);
+        self.spent = answer == Err(SendRefusal::NoMemory);
+        answer
+    }
+
+    /// Forgets all that it keeps and heard, and is quiet as long as an identifier rests; the count of its units goes on.
+    pub fn restart(&mut self)
+        ensures stands { (s : SystemState) → Stands self.old s → Stands self.new (restarted s) }
+        ensures spent { self.new.spent ≡ self.old.spent }
+        ensures moment { self.new.moment ≡ self.old.moment }
+        ensures config { self.new.local.configuration ≡ self.old.local.configuration }
+    {
+        self.local.restart(self.moment);
+        self.esis.restart(self.local.config(), self.moment);
+    }
+
+    /// How many octets are held for reassembly: of the whole frames in which kept segments came.
+    pub fn held(&self) -> u32
+        ensures { (s : SystemState) → Stands self.now s → result ≡ held s.buffers }
+    {
+        self.local.held()
+    }
+
+    /// Where it sends a PDU for an address, if it knows a way (ISO 9542, section 6.5).
+    pub fn next_hop(&self, to: &Address) -> Option<Hop>
+        ensures { (s : SystemState) (before : ℕ) → PartsStandSince before self.now s → hop_option result ≡ next_hop s to.now }
+    {
+        match self.local.config().role() {
+            Role::Host => Some(host_hop(self.esis.next_hop(self.moment, to))),
+            Role::Router => Some(hop_to(self.esis.neighbour(self.moment, to)?)),
+        }
+    }
+
+    /// What the scenario says of it.
+    pub fn config(&self) -> &SystemConfig
+        ensures { result.now ≡ self.now.local.configuration }
+    {
+        self.local.config()
+    }
+}
+
+/// Where a host sends what is for a place, or else for a system that it knows no place of.
+fn host_hop(place: Option<Place>) -> Hop
+    ensures { machine_hop result ≡ host_hop place }
+{
+    match place {
+        Some(place) => hop_to(place),
+        None => Hop {
+            port: 0,
+            target: Target::EndSystems,
+        },
+    }
+}
+
+/// The hop to a place that was heard of.
+fn hop_to(place: Place) -> Hop
+    ensures { machine_hop result ≡ hop_to place }
+{
+    Hop {
+        port: place.port,
+        target: Target::System(place.snpa),
+    }
+}
