@@ -1,17 +1,18 @@
 //! Laws of one step of a system: each holds for every state and whatever comes, and its function
 //! does nothing.
-ghost use Rattle.std.specs.Prelude.{◌≡◌, ◌≤◌, ℕ, List, [], map, option_map};
+ghost use Rattle.std.specs.Prelude.{◌≡◌, ◌≤◌, ℕ, List, [], ◌++◌, map, option_map};
 ghost use Rattle.std.specs.List.{AllByRecursion};
 ghost use Rattle.hex.specs.Hex.{IsBytes};
 ghost use Rattle.pdu_header.specs.declared.kind.Kind.{Kind};
 ghost use Rattle.segmenter.specs.Cut as segmenter;
+ghost use Rattle.clnp_plan.specs.Configuration.{IsSystem};
 ghost use Rattle.clnp_plan.specs.declared.ask.Ask.{Ask};
-ghost use Rattle.clnp_machine.specs.Unit.{Packet, IsCarriable, cut, value_of};
+ghost use Rattle.clnp_machine.specs.Unit.{Packet, IsCarriable, cut, value_of, wire};
 ghost use Rattle.clnp_machine.specs.Content.{Content, IsCarried, content_of, frame_of};
 ghost use Rattle.clnp_machine.specs.Local.{at_moment, make, receive, tick};
 ghost use Rattle.clnp_machine.specs.System.{SystemState, Input};
 ghost use Rattle.clnp_machine.specs.Step.{content_comes, step};
-ghost use Rattle.clnp_machine.specs.Steps.{AreCarriable, AsksNothing, CarriesOnePacket, IsDeed, IsForOwn, IsFresh, IsWithinBudget, NotesOnly, SendsRangesOf, StaysItself, WasKeptOrComes, moment_after, segments_in};
+ghost use Rattle.clnp_machine.specs.Steps.{AreCarriable, AsksNothing, BreaksNoRule, CarriesOnePacket, IsDeed, IsFairlyAsked, IsForOwn, IsFresh, IsWithinBudget, NotesOnly, SendsCarriable, SendsRangesOf, StaysItself, WasKeptOrComes, moment_after, segments_in};
 
 /// A step leaves a system at its place with its configuration, at the moment that came last.
 pub fn a_system_stays_itself()
@@ -39,6 +40,11 @@ pub fn new_units_are_fresh()
 /// on hops and lifetime.
 pub fn ranges_of_units_are_sent()
     ensures { (s : SystemState) (input : Input) → AllByRecursion (SendsRangesOf (step s input).units) (step s input).outputs }
+{}
+
+/// PDUs can carry all that is sent in a step of a system of sound configuration that is fairly asked.
+pub fn what_is_sent_is_carriable()
+    ensures { (s : SystemState) (input : Input) → IsSystem s.configuration → IsFairlyAsked input → AllByRecursion SendsCarriable (step s input).outputs }
 {}
 
 /// What a step hands up is for one of the system's own addresses.
@@ -77,3 +83,8 @@ pub fn a_frame_carries_one_packet()
 {
     pdu_header::laws::one_value();
 }
+
+/// A frame that carries a packet that a PDU can carry breaks no rule of PDUs, whatever follows in it.
+pub fn carriable_packets_break_no_rule()
+    ensures { (p : Packet) (following : List ℕ) → IsCarriable p → BreaksNoRule (wire p ++ following) }
+{}

@@ -8,4 +8,5 @@ pub mod Placed
 pub mod Senders
 pub mod Fit
 pub mod Asks
+pub mod Forms
 pub mod Accepted
