@@ -1,5 +1,5 @@
 -- What a `send` asks for is formed as it should be: between addresses, with a lifetime of an octet and options in their form.
-use Rattle.std.proofs.Common.{◌≡◌, ℕ, ◌<◌, ◌≤◌, ◌&&◌, Bool, false, not, nat_le, List, [], ◌∷◌, length, codes, Option, None, Some, is_some, slice_get, Result, Ok, Err, IfOk, refl, arith}
+use Rattle.std.proofs.Common.{◌≡◌, ℕ, ◌<◌, ◌&&◌, false, not, nat_le, List, [], ◌∷◌, length, codes, Option, None, Some, is_some, slice_get, Result, Ok, Err, IfOk, refl, arith}
 use Rattle.std.specs.List.{AllByRecursion}
 use Rattle.std.specs.Str.{bytes_eq}
 use Rattle.std.proofs.lemmas.Bool.{and_parts, not-true}
@@ -12,7 +12,7 @@ use Rattle.clnp_options.specs.Parameter.{parameters, parameters_after}
 use Rattle.clnp_options.specs.Rules.{Accepts, refusal}
 use Rattle.clnp_plan.specs.Configuration.{IsSystem, IsWithin, SystemConfiguration}
 use Rattle.scenario.specs.Scenario.{AsksInForm}
-use Rattle.scenario.specs.Words.{literal, has_prefix, declared_word, address_read, address_word, data_word, number_word, number_behind, life_word, octets_behind, options_read, options_word, one_word, two_words, first_four, each_once}
+use Rattle.scenario.specs.Words.{literal, has_prefix, declared_word, address_read, address_word, data_word, number_word, life_word, octets_behind, options_read, options_word, one_word, two_words, first_four, each_once}
 use Rattle.scenario.specs.Events.{wish_word, wish_words, wish_key, life_in, own_life, options_in, host_word, send_line, deliver_line, count_line, tick_line, restart_line, event_line}
 use Rattle.scenario.specs.declared.code.Code.TheVariants as bad
 use Rattle.scenario.specs.declared.event.Event.TheVariants.{Settle, Lose, Tick}
