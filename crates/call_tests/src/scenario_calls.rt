@@ -36,6 +36,17 @@ end
 # nothing more
 ";
 
+const ROUTER: &[u8] = b"clnp-sim 1
+subnet one 1500
+subnet two 512
+system r router suggest=30
+port r 1 two 0b
+port r 0 one 0a
+address r 470027ff
+events
+end
+";
+
 /// What `read` says of a text, which is short.
 fn answer(alloc: Global, text: &[u8]) -> Option<Result<Scenario, ScenarioRefusal>> {
     let _lines = lines(text);
@@ -102,6 +113,27 @@ fn reads_what_is_declared(rt: HostRuntime) -> Result<(), Fail> {
         assert_eq!(rt; port.transit, 255);
         assert_eq!(rt; port.mtu, 512);
     }
+    Ok(())
+}
+
+#[test]
+fn reads_a_router(rt: HostRuntime) -> Result<(), Fail> {
+    let Some(Ok(scenario)) = answer(rt.alloc(), ROUTER) else {
+        assert!(rt; false);
+        return Ok(());
+    };
+    let [router] = scenario.systems() else {
+        assert!(rt; false);
+        return Ok(());
+    };
+    assert_eq!(rt; router.role(), Role::Router);
+    assert_eq!(rt; router.settings().hello, 60);
+    assert_eq!(rt; router.settings().suggest, 30);
+    for (port, (subnet, snpa)) in router.ports().iter().zip([(0, b"\x0a"), (1, b"\x0b")]) {
+        assert_eq!(rt; port.subnet, subnet);
+        assert_eq!(rt; port.snpa.as_bytes(), snpa.as_slice());
+    }
+    assert_eq!(rt; router.ports().len(), 2);
     Ok(())
 }
 

@@ -8,22 +8,22 @@ use Rattle.std.proofs.lemmas.Result.{IfOk-at_ok}
 use Rattle.clnp_base.specs.Text.{lines_of, words_of}
 use Rattle.clnp_plan.specs.Configuration.{SystemConfiguration, IsSystem}
 use Rattle.clnp_plan.specs.declared.config.Limits.{Limits}
-use Rattle.clnp_plan.specs.declared.config.Role.TheVariants.{Host}
-use Rattle.scenario.specs.Scenario.{Plan, Subnetwork, IsFit, AsksFairly, AsksInForm, IsPlaced, ticks_of}
+use Rattle.scenario.specs.Scenario.{Plan, Subnetwork, IsFit, AsksFairly, AsksInForm, IsPlaced, IsFromHost, ticks_of}
 use Rattle.scenario.specs.Words.{is_skipped}
-use Rattle.scenario.specs.Declarations.{Declarations, DeclaredSystem, nothing_declared, limits_of, snpas_on, host_of}
+use Rattle.scenario.specs.Declarations.{Declarations, DeclaredSystem, nothing_declared, limits_of, snpas_on, configuration_of}
 use Rattle.scenario.specs.Events.{event_line, counted, are_few, nothing_counted}
 use Rattle.scenario.specs.Grammar.{is_line_of, header_from, declarations_from, nothing_after, counted_event, events_from, plan_at, plan_of}
 use Rattle.scenario.specs.declared.counts.Counts.{Counts}
 use Rattle.scenario.specs.declared.event.Event.{Event}
 use Rattle.scenario.proofs.Behind.{behind_result, behind_wanted, behind_such, behind_line_such, either_way}
-use Rattle.scenario.proofs.Apart.{addresses_of, distinct_of, host_addresses}
+use Rattle.scenario.proofs.Apart.{addresses_of, distinct_of, configuration_addresses}
 use Rattle.scenario.proofs.Asks.{event_fair}
 use Rattle.scenario.proofs.Forms.{Laws, event_formed}
 use Rattle.scenario.proofs.Placed.{AreAmong, event_placed}
-use Rattle.scenario.proofs.Kept.{host_snpas, hosts_on}
-use Rattle.scenario.proofs.Lists.{host_names}
-use Rattle.scenario.proofs.Fit.{AreDeclared, declarations_fit, nothing_fit, hosts_fit}
+use Rattle.scenario.proofs.Senders.{events_from_hosts}
+use Rattle.scenario.proofs.Kept.{configuration_snpas, configurations_on}
+use Rattle.scenario.proofs.Lists.{configuration_names}
+use Rattle.scenario.proofs.Fit.{AreDeclared, declarations_fit, nothing_fit, configurations_fit}
 
 few_ticks : (counts : Counts) → are_few counts ≡ true → counts.ticks ≤ 1000000
 few_ticks counts h =
@@ -77,58 +77,57 @@ events_fit laws names systems are n counts (line ∷ lines) h =
       placed = (first.placed, rest.placed);
     }))))
 
-all_hosts : (systems : List DeclaredSystem) → AllByRecursion (λ (system : SystemConfiguration). system.role ≡ Host) (map host_of systems)
-all_hosts [] = tt
-all_hosts (system ∷ systems) = (refl, all_hosts systems)
-
 plan_fit : Laws → (lines : List (List ℕ)) → IfOk (plan_at lines) IsFit
 unfolding plan_at
 plan_fit laws lines =
     behind_result (header_from 1 lines) _ IsFit (λ header _.
     behind_such (declarations_from header.number nothing_declared header.lines) _ AreDeclared IsFit
     (declarations_fit header.number nothing_declared header.lines nothing_fit) (λ declared fits.
-    let systems : List SystemConfiguration = map host_of declared.value.systems in
+    let systems : List SystemConfiguration = map configuration_of declared.value.systems in
     let names : List (List ℕ) = map (λ (system : DeclaredSystem). system.name) declared.value.systems in
-    behind_such (events_from names systems declared.number nothing_counted declared.lines) _ (AreCounted names 0) IsFit
-    (events_fit laws names systems (hosts_fit declared fits) declared.number nothing_counted declared.lines (omega arith)) (λ events counted.
+    behind_such (events_from names systems declared.number nothing_counted declared.lines) _ (λ events. AreCounted names 0 events × AllByRecursion (IsFromHost systems) events) IsFit
+    (both (events_from names systems declared.number nothing_counted declared.lines) (AreCounted names 0) (AllByRecursion (IsFromHost systems))
+    (events_fit laws names systems (configurations_fit declared fits) declared.number nothing_counted declared.lines (omega arith))
+    (events_from_hosts names systems declared.number nothing_counted declared.lines)) (λ events are.
+    let counted : AreCounted names 0 events = are.0 in
     record {
+      senders = are.1;
       limits = fits.fit.limits;
-      systems = hosts_fit declared fits;
-      hosts = all_hosts declared.value.systems;
-      addresses = rw (host_addresses declared.value.systems) (distinct_of (addresses_of declared.value.systems) fits.fit.addresses);
+      systems = configurations_fit declared fits;
+      addresses = rw (configuration_addresses declared.value.systems) (distinct_of (addresses_of declared.value.systems) fits.fit.addresses);
       ticks = omega (arith, counted.ticks);
       asks = counted.fair;
       formed = counted.formed;
       subnet_names = distinct_of (map (λ (subnet : Subnetwork). subnet.name) declared.value.subnets) fits.fit.subnet_names;
-      system_names = rw (host_names declared.value.systems) (distinct_of names fits.fit.system_names);
+      system_names = rw (configuration_names declared.value.systems) (distinct_of names fits.fit.system_names);
       few_subnets = fits.fit.few_subnets;
-      few_systems = rw (length-map declared.value.systems host_of) fits.fit.few_systems;
+      few_systems = rw (length-map declared.value.systems configuration_of) fits.fit.few_systems;
       mtus = fits.fit.subnets;
-      snpas = λ q. rw (host_snpas q declared.value.systems) (distinct_of (flat_map (snpas_on q) declared.value.systems) (fits.fit.snpas q));
-      ports = hosts_on declared.value.subnets declared.value.systems fits.fit.on;
+      snpas = λ q. rw (configuration_snpas q declared.value.systems) (distinct_of (flat_map (snpas_on q) declared.value.systems) (fits.fit.snpas q));
+      ports = configurations_on declared.value.subnets declared.value.systems fits.fit.on;
       places = subst (λ n. AllByRecursion (IsPlaced n) events)
-          (length-map declared.value.systems (λ (system : DeclaredSystem). system.name) ∙ sym (length-map declared.value.systems host_of)) counted.placed;
+          (length-map declared.value.systems (λ (system : DeclaredSystem). system.name) ∙ sym (length-map declared.value.systems configuration_of)) counted.placed;
     })))
 
 pub accepted : Laws → (text : List ℕ) (plan : Plan) → plan_of text ≡ Ok plan → IsFit plan
 accepted laws text plan e = IfOk-at_ok IsFit e (plan_fit laws (lines_of text))
 
--- the systems that were declared up to `events` are what each host must be
-pub declared_hosts : (n : ℕ) (lines : List (List ℕ)) (d : Declarations) (number : ℕ) (others : List (List ℕ))
+-- the systems that were declared up to `events` are what each system is
+pub declared_systems : (n : ℕ) (lines : List (List ℕ)) (d : Declarations) (number : ℕ) (others : List (List ℕ))
     → declarations_from n nothing_declared lines ≡ Ok (record { value = d; number = number; lines = others })
-    → AllByRecursion IsSystem (map host_of d.systems)
-declared_hosts n lines d number others e =
-    hosts_fit (record { value = d; number = number; lines = others }) (IfOk-at_ok AreDeclared e (declarations_fit n nothing_declared lines nothing_fit))
+    → AllByRecursion IsSystem (map configuration_of d.systems)
+declared_systems n lines d number others e =
+    configurations_fit (record { value = d; number = number; lines = others }) (IfOk-at_ok AreDeclared e (declarations_fit n nothing_declared lines nothing_fit))
 
 -- the parts that are read make the plan
 pub plan_is : (text : List ℕ) (n m : ℕ) (left rest : List (List ℕ)) (d : Declarations) (limits : Limits) (subnets : List Subnetwork) (systems : List SystemConfiguration) (events : List Event)
     → header_from 1 (lines_of text) ≡ Ok (record { value = tt; number = n; lines = left })
     → declarations_from n nothing_declared left ≡ Ok (record { value = d; number = m; lines = rest })
-    → limits ≡ limits_of d.limits → subnets ≡ d.subnets → systems ≡ map host_of d.systems
+    → limits ≡ limits_of d.limits → subnets ≡ d.subnets → systems ≡ map configuration_of d.systems
     → events_from (map (λ (system : SystemConfiguration). system.name) systems) systems m nothing_counted rest ≡ Ok events
     → plan_of text ≡ Ok (record { limits = limits; subnets = subnets; systems = systems; events = events })
 unfolding plan_at
 plan_is text n m left rest d limits subnets systems events header declared limits_is subnets_is systems_is happens =
-    let named : events_from (map (λ (system : DeclaredSystem). system.name) d.systems) (map host_of d.systems) m nothing_counted rest ≡ Ok events
-    = rw (systems_is, host_names d.systems) at happens in
+    let named : events_from (map (λ (system : DeclaredSystem). system.name) d.systems) (map configuration_of d.systems) m nothing_counted rest ≡ Ok events
+    = rw (systems_is, configuration_names d.systems) at happens in
     rw (header, declared, named, limits_is, subnets_is, systems_is) refl

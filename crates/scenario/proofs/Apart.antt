@@ -7,7 +7,7 @@ use Rattle.std.proofs.lemmas.List.Elements.{All-from_recursion}
 use Rattle.std.proofs.lemmas.List.Kept.{AllPairs-cons}
 use Rattle.clnp_base.proofs.Lists.{AllByRecursion-put, AllByRecursion-front}
 use Rattle.clnp_plan.specs.Configuration.{AreDistinct}
-use Rattle.scenario.specs.Declarations.{DeclaredSystem, changed_at, is_among, with_address, with_port, NumberedPort, host_of}
+use Rattle.scenario.specs.Declarations.{DeclaredSystem, changed_at, is_among, with_address, with_port, NumberedPort, configuration_of}
 
 -- all addresses of some systems
 abbrev pub addresses_of : List DeclaredSystem → List (List ℕ)
@@ -87,9 +87,9 @@ pub system_leaves : (systems : List DeclaredSystem) (system : DeclaredSystem) �
 system_leaves [] system none = rw none refl
 system_leaves (first ∷ systems) system none = ap (λ others. first.addresses ++ others) (system_leaves systems system none)
 
-pub host_addresses : (systems : List DeclaredSystem) → flat_map (λ host. host.addresses) (map host_of systems) ≡ addresses_of systems
-host_addresses [] = refl
-host_addresses (system ∷ systems) = ap (λ others. system.addresses ++ others) (host_addresses systems)
+pub configuration_addresses : (systems : List DeclaredSystem) → flat_map (λ host. host.addresses) (map configuration_of systems) ≡ addresses_of systems
+configuration_addresses [] = refl
+configuration_addresses (system ∷ systems) = ap (λ others. system.addresses ++ others) (configuration_addresses systems)
 
 -- each system's own addresses, and those of the others
 

@@ -9,7 +9,7 @@ use Rattle.clnp_options.specs.Rules.{Accepts, refusal}
 use Rattle.clnp_plan.specs.Configuration.{SystemConfiguration}
 use Rattle.scenario.specs.Scenario.{AsksFairly}
 use Rattle.scenario.specs.Words.{literal, has_prefix, declared_word, address_word, data_word, number_word, life_word, octets_behind, options_read, options_word, one_word, two_words, first_four, each_once}
-use Rattle.scenario.specs.Events.{wish_word, wish_words, wish_key, options_in, send_line, deliver_line, count_line, tick_line, restart_line, event_line}
+use Rattle.scenario.specs.Events.{wish_word, wish_words, wish_key, options_in, host_word, send_line, deliver_line, count_line, tick_line, restart_line, event_line}
 use Rattle.scenario.specs.declared.code.Code.TheVariants as bad
 use Rattle.scenario.specs.declared.event.Event.TheVariants.{Settle, Lose, Tick}
 use Rattle.scenario.specs.declared.wish.Wish.{Wish}
@@ -67,7 +67,7 @@ send_fair : SpellsWhatItAccepts → (names : List (List ℕ)) (systems : List Sy
 unfolding send_line
 send_fair law names systems words =
     behind_found (first_four words) _ _ AsksFairly (λ w _.
-    behind_result (declared_word names w.0) _ AsksFairly (λ system _.
+    behind_result (host_word names systems w.0) _ AsksFairly (λ system _.
     behind_result (address_word w.1) _ AsksFairly (λ from _.
     behind_result (address_word w.2) _ AsksFairly (λ to _.
     behind_result (data_word w.3) _ AsksFairly (λ body _.

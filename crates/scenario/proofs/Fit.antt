@@ -1,27 +1,33 @@
 -- Each scenario that the grammar accepts is fit: what its lines declare stays fit, line by line.
-use Rattle.std.proofs.Common.{◌≡◌, ℕ, zero, suc, ◌+◌, ◌<◌, ◌≤◌, ◌==◌, ◌&&◌, Bool, true, false, not, nat_le, nat_lt, List, [], ◌∷◌, map, length, slice_get, codes, Option, Some, is_some, Ok, IfOk, refl, sym, subst, arith, length-append}
-use Rattle.std.specs.List.{AllByRecursion, flat_map, list_any, list_all}
+use Rattle.std.proofs.Common.{◌≡◌, ℕ, zero, suc, ◌+◌, ◌<◌, ◌≤◌, ◌==◌, ◌&&◌, Bool, true, false, not, nat_le, nat_lt, List, [], ◌∷◌, map, length, slice_get, codes, Option, Some, is_some, Ok, IfOk, refl, subst, arith, length-append}
+use Rattle.std.specs.List.{AllByRecursion, flat_map, list_all}
 use Rattle.std.specs.Str.{bytes_eq}
-use Rattle.std.proofs.lemmas.Bool.{leb-true, ltb-true, eqb-true, and_parts, not-true, true≢false}
+use Rattle.std.proofs.lemmas.Bool.{leb-true, ltb-true, eqb-true, and_parts, not-true}
 use Rattle.std.proofs.lemmas.List.{length-map, map-append}
+use Rattle.std.proofs.lemmas.List.Edits.{length-insert}
+use Rattle.std.proofs.lemmas.List.Sums.{count_by-le-length}
 use Rattle.clnp_base.proofs.Lists.{AllByRecursion-push}
 use Rattle.clnp_base.specs.Text.{decimal_of, words_of}
-use Rattle.clnp_plan.specs.Configuration.{IsWithin, IsPort, IsSystem, AreSettings, AreLimits}
+use Rattle.clnp_plan.specs.Configuration.{IsWithin, HasItsAddresses, HasItsPorts, IsPort, IsSystem, AreSettings, AreLimits}
+use Rattle.clnp_plan.specs.declared.config.PortConfig.{PortConfig}
+use Rattle.clnp_plan.specs.declared.config.Role.{Role}
+use Rattle.clnp_plan.specs.declared.config.Role.TheVariants.{Host, Router}
 use Rattle.clnp_plan.specs.declared.config.Settings.{Settings}
 use Rattle.scenario.specs.Scenario.{Subnetwork, IsOn}
-use Rattle.scenario.specs.Words.{◌>>=◌, wanted, found, literal, name_word, declared_word, number_within, number_word, number_behind, has_prefix, address_word, is_digits, is_taken, is_one_at_most, is_skipped, each_once, two_words, three_words, first_two, first_four}
-use Rattle.scenario.specs.Declarations.{Declarations, DeclaredSystem, NumberedPort, nothing_declared, subnet_names, system_names, changed_at, with_address, with_port, is_among, counted_in, has_port, snpas_on, mtu_at, limits_of, limits_line, subnet_line, checksum_word, room_word, setting_word, setting_words, key_of, is_hello, with_setting, settings_of, system_line, address_line, transit_word, port_line, declaration_line, is_complete, is_port_zero, host_of}
+use Rattle.scenario.specs.Words.{◌>>=◌, wanted, found, name_word, declared_word, number_within, number_word, number_behind, has_prefix, address_word, is_digits, is_taken, is_one_at_most, is_skipped, each_once, two_words, three_words, first_two, first_four}
+use Rattle.scenario.specs.Declarations.{Declarations, DeclaredSystem, NumberedPort, nothing_declared, subnet_names, system_names, changed_at, with_address, with_port, is_among, most_addresses, most_ports, takes_address, takes_port, count_below, has_port, snpas_on, mtu_at, limits_of, limits_line, subnet_line, checksum_word, room_word, setting_word, setting_words, key_of, with_setting, settings_of, role_word, system_line, address_line, transit_word, port_line, declaration_line, is_complete, have_no_gap, configuration_of}
 use Rattle.scenario.specs.Grammar.{ReadTo, is_line_of, declarations_from}
 use Rattle.scenario.specs.declared.code.Code.TheVariants as bad
 use Rattle.scenario.specs.declared.setting.Setting.{Setting}
-use Rattle.scenario.specs.declared.setting.Setting.TheVariants.{HelloOff, Checksum, Life, RedirectHold, Slots, Segments, Budget, Neighbours, Routers, Redirects}
+use Rattle.scenario.specs.declared.setting.Setting.TheVariants.{Hello, Suggest, Checksum, Life, RedirectHold, Slots, Segments, Budget, Neighbours, Routers, Redirects}
 use Rattle.scenario.proofs.Behind.{behind_result, behind_line, behind_found, behind_wanted, behind_such, behind_line_such, wanted_holds, either_way, found_is_within, number_is_within, number_behind_is_within, declared_is_within}
 use Rattle.scenario.proofs.Apart.{addresses_of, AreApart, new_of, add_address, port_leaves, system_leaves, distinct_of, front_apart, back_apart}
-use Rattle.scenario.proofs.Kept.{map_leaves, all_leaves, length_leaves, empty_leaves, one_gets, one_more_name, AreOn, all_stay, mtu_is, port_gets, port_elsewhere}
+use Rattle.scenario.proofs.Kept.{map_leaves, all_leaves, length_leaves, empty_leaves, one_gets, one_more_name, AreOn, all_stay, mtu_is, port_gets, port_elsewhere, all_among}
 
 -- what the lines so far say of a system is within bounds
 pub record IsDeclared (system : DeclaredSystem) : Type 0 where
-  pub addresses : length system.addresses ≤ 8
+  pub addresses : length system.addresses ≤ most_addresses system.role
+  pub few_ports : length system.ports ≤ most_ports system.role
   pub ports : AllByRecursion (λ (numbered : NumberedPort). IsPort numbered.port) system.ports
   pub settings : AreSettings system.settings
 
@@ -92,7 +98,8 @@ subnet_fit d words h =
 
 -- what a setting says is within bounds
 abbrev pub SaysWithin : Setting → Type 0
-SaysWithin HelloOff = Unit {0}
+SaysWithin (Hello seconds) = IsWithin 0 600 seconds
+SaysWithin (Suggest seconds) = IsWithin 0 32767 seconds
 SaysWithin (Checksum on) = Unit {0}
 SaysWithin (Life life) = IsWithin 1 255 life
 SaysWithin (RedirectHold seconds) = IsWithin 0 65535 seconds
@@ -128,12 +135,13 @@ setting_fit word =
     either_way (has_prefix (codes "life=") word) _ _ SaysWithin (number_says (codes "life=") 1 255 word (λ n. Life n) (λ n h. h))
     (either_way (has_prefix (codes "checksum=") word) _ _ SaysWithin (checksum_fit word)
     (either_way (has_prefix (codes "rhold=") word) _ _ SaysWithin (number_says (codes "rhold=") 0 65535 word (λ n. RedirectHold n) (λ n h. h))
-    (either_way (has_prefix (codes "hello=") word) _ _ SaysWithin
-    (behind_wanted (bytes_eq word (codes "hello=0")) bad.Syntax (λ _. Ok HelloOff) SaysWithin (λ _. tt))
-    (room_fit word))))
+    (either_way (has_prefix (codes "hello=") word) _ _ SaysWithin (number_says (codes "hello=") 0 600 word (λ n. Hello n) (λ n h. h))
+    (either_way (has_prefix (codes "suggest=") word) _ _ SaysWithin (number_says (codes "suggest=") 0 32767 word (λ n. Suggest n) (λ n h. h))
+    (room_fit word)))))
 
 with_fit : (setting : Setting) (settings : Settings) → SaysWithin setting → AreSettings settings → AreSettings (with_setting setting settings)
-with_fit HelloOff settings fits h = let none : IsWithin 0 600 0 = record { least = omega arith; most = omega arith } in assumption (none, h)
+with_fit (Hello seconds) settings fits h = assumption (fits, h)
+with_fit (Suggest seconds) settings fits h = assumption (fits, h)
 with_fit (Checksum on) settings fits h = assumption h
 with_fit (Life life) settings fits h = assumption (fits, h)
 with_fit (RedirectHold seconds) settings fits h = assumption (fits, h)
@@ -173,21 +181,29 @@ words_fit (word ∷ words) =
     behind_such (setting_words words) _ (λ settings. AllByRecursion SaysWithin settings) (λ settings. AllByRecursion SaysWithin settings) (words_fit words) (λ settings rest.
     (fits, rest)))
 
+none_yet : (role : Role) → (0 ≤ most_addresses role) × (0 ≤ most_ports role)
+none_yet Host = (omega arith, omega arith)
+none_yet Router = (omega arith, omega arith)
+
 pub system_fit : (d : Declarations) (words : List (List ℕ)) → AreFit d → IfOk (system_line d words) AreFit
 unfolding system_line
 system_fit d words h =
     behind_found (first_two words) _ _ AreFit (λ w _.
     behind_result (name_word w.0) _ AreFit (λ name _.
-    behind_result (literal (codes "host") w.1) _ AreFit (λ _ _.
+    behind_result (role_word w.1) _ AreFit (λ role _.
     behind_such (setting_words w.2) _ (λ settings. AllByRecursion SaysWithin settings) AreFit (words_fit w.2) (λ settings fits.
-    behind_wanted (list_any is_hello settings) _ _ AreFit (λ _.
     behind_wanted (not (is_taken (system_names d) name) && each_once key_of settings) _ _ AreFit (λ once.
     behind_wanted (nat_lt (length d.systems) 64) _ _ AreFit (λ few.
-    let system : DeclaredSystem = record { name = name; settings = settings_of settings; addresses = []; ports = [] } in
+    let system : DeclaredSystem = record { name = name; role = role; settings = settings_of settings; addresses = []; ports = [] } in
     record {
       limits = h.limits;
       subnets = h.subnets;
-      systems = AllByRecursion-push IsDeclared d.systems system h.systems (record { addresses = omega arith; ports = tt; settings = settings_fit settings fits });
+      systems = AllByRecursion-push IsDeclared d.systems system h.systems (record {
+        addresses = (none_yet role).0;
+        few_ports = (none_yet role).1;
+        ports = tt;
+        settings = settings_fit settings fits;
+      });
       addresses = rw (system_leaves d.systems system refl) h.addresses;
       subnet_names = h.subnet_names;
       system_names = rw (map-append (λ (system : DeclaredSystem). system.name) d.systems (system ∷ []))
@@ -197,11 +213,15 @@ system_fit d words h =
       few_systems = rw length-append (omega (arith, ltb-true (length d.systems) 64 few));
       snpas = λ q. rw (empty_leaves (snpas_on q) d.systems system refl) (h.snpas q);
       on = AllByRecursion-push (λ (system : DeclaredSystem). AreOn d.subnets system.ports) d.systems system h.on tt;
-    })))))))
+    }))))))
 
-counted_at : {X : Type 0} (items : DeclaredSystem → List X) (o : Option DeclaredSystem) (most : ℕ) (system : DeclaredSystem)
-    → o ≡ Some system → nat_lt (counted_in items o) most ≡ true → length (items system) < most
-counted_at items o most system e h = ltb-true (length (items system)) most (rw e at h)
+address_room : (o : Option DeclaredSystem) (system : DeclaredSystem) → o ≡ Some system → takes_address o ≡ true
+    → length system.addresses < most_addresses system.role
+address_room o system e h = ltb-true (length system.addresses) (most_addresses system.role) (rw e at h)
+
+port_room : (o : Option DeclaredSystem) (system : DeclaredSystem) → o ≡ Some system → takes_port o ≡ true
+    → length system.ports < most_ports system.role
+port_room o system e h = ltb-true (length system.ports) (most_ports system.role) (rw e at h)
 
 pub address_fit : (d : Declarations) (words : List (List ℕ)) → AreFit d → IfOk (address_line d words) AreFit
 unfolding address_line
@@ -210,12 +230,13 @@ address_fit d words h =
     behind_result (declared_word (system_names d) w.0) _ AreFit (λ place _.
     behind_result (address_word w.1) _ AreFit (λ address _.
     behind_wanted (not (is_among address (addresses_of d.systems))) _ _ AreFit (λ new.
-    behind_wanted (nat_lt (counted_in (λ (system : DeclaredSystem). system.addresses) (slice_get d.systems place)) 8) _ _ AreFit (λ few.
+    behind_wanted (takes_address (slice_get d.systems place)) _ _ AreFit (λ room.
     record {
       limits = h.limits;
       subnets = h.subnets;
       systems = changed IsDeclared (with_address address) place d.systems h.systems (λ system is fits. record {
-        addresses = rw length-append (omega (arith, counted_at (λ (system : DeclaredSystem). system.addresses) (slice_get d.systems place) 8 system is few));
+        addresses = rw length-append (omega (arith, address_room (slice_get d.systems place) system is room));
+        few_ports = fits.few_ports;
         ports = fits.ports;
         settings = fits.settings;
       });
@@ -249,6 +270,12 @@ snpas_fit numbered place systems q true e new h =
 snpas_fit numbered place systems q false e new h =
     rw (all_leaves (snpas_on q) (with_port numbered) (λ system. port_elsewhere numbered q system e) place systems) h
 
+one_port_more : (numbered : NumberedPort) (system : DeclaredSystem) → length system.ports < most_ports system.role
+    → length (with_port numbered system).ports ≤ most_ports system.role
+one_port_more numbered system room =
+    rw (length-insert system.ports (count_below numbered.number system.ports) numbered
+    (count_by-le-length (λ (other : NumberedPort). nat_lt other.number numbered.number) system.ports)) (omega (arith, room))
+
 pub port_fit : (d : Declarations) (words : List (List ℕ)) → AreFit d → IfOk (port_line d words) AreFit
 unfolding port_line
 port_fit d words h =
@@ -261,16 +288,17 @@ port_fit d words h =
     behind_such (transit_word w.4) _ (IsWithin 1 255) AreFit (transit_fit w.4) (λ transit transit_in.
     behind_wanted (not (has_port number subnet (slice_get d.systems place))) _ _ AreFit (λ _.
     behind_wanted (not (is_among snpa (flat_map (snpas_on subnet) d.systems))) _ _ AreFit (λ new.
-    behind_wanted (nat_lt (counted_in (λ (system : DeclaredSystem). system.ports) (slice_get d.systems place)) 1) _ _ AreFit (λ _.
+    behind_wanted (takes_port (slice_get d.systems place)) _ _ AreFit (λ room.
     let numbered : NumberedPort = record { number = number; port = record { subnet = subnet; snpa = snpa; transit = transit; mtu = mtu_at (slice_get d.subnets subnet) } } in
     let there : subnet < length d.subnets = rw (length-map d.subnets (λ (subnet : Subnetwork). subnet.name)) at within in
     record {
       limits = h.limits;
       subnets = h.subnets;
-      systems = changed IsDeclared (with_port numbered) place d.systems h.systems (λ system _ fits. record {
+      systems = changed IsDeclared (with_port numbered) place d.systems h.systems (λ system is fits. record {
         addresses = fits.addresses;
-        ports = AllByRecursion-push (λ (numbered : NumberedPort). IsPort numbered.port) system.ports numbered fits.ports
-            (record { transit = transit_in; mtu = mtu_fit d.subnets subnet h.subnets there });
+        few_ports = one_port_more numbered system (port_room (slice_get d.systems place) system is room);
+        ports = all_among (λ (numbered : NumberedPort). IsPort numbered.port) numbered (count_below number system.ports) system.ports
+            (record { transit = transit_in; mtu = mtu_fit d.subnets subnet h.subnets there }) fits.ports;
         settings = fits.settings;
       });
       addresses = rw (port_leaves numbered place d.systems) h.addresses;
@@ -280,7 +308,8 @@ port_fit d words h =
       few_systems = rw (length_leaves (with_port numbered) place d.systems) h.few_systems;
       snpas = λ q. snpas_fit numbered place d.systems q (subnet == q) refl (not-true (is_among snpa (flat_map (snpas_on subnet) d.systems)) new) (h.snpas q);
       on = changed (λ (system : DeclaredSystem). AreOn d.subnets system.ports) (with_port numbered) place d.systems h.on
-          (λ system _ on. AllByRecursion-push (λ (numbered : NumberedPort). IsOn d.subnets numbered.port) system.ports numbered on (mtu_is d.subnets subnet there));
+          (λ system _ on. all_among (λ (numbered : NumberedPort). IsOn d.subnets numbered.port) numbered (count_below number system.ports) system.ports
+          (mtu_is d.subnets subnet there) on);
     }))))))))))
 
 line_fit : (d : Declarations) (words : List (List ℕ)) → AreFit d → IfOk (declaration_line d words) AreFit
@@ -327,33 +356,39 @@ nothing_fit =
       on = tt;
     }
 
-one_port : (ports : List NumberedPort) → is_port_zero ports ≡ true → length (map (λ (numbered : NumberedPort). numbered.port) ports) ≡ 1
-one_port [] h = absurd (true≢false (sym h))
-one_port (numbered ∷ []) h = refl
-one_port (numbered ∷ other ∷ others) h = absurd (true≢false (sym h))
+its_addresses : (role : Role) (addresses : List (List ℕ)) → 1 ≤ length addresses → length addresses ≤ most_addresses role → HasItsAddresses role addresses
+its_addresses Host addresses least most = record { least = least; most = most }
+its_addresses Router addresses least most = omega (arith, least, most)
+
+its_ports : (role : Role) (ports : List PortConfig) → 1 ≤ length ports → length ports ≤ most_ports role → HasItsPorts role ports
+its_ports Host ports least most = omega (arith, least, most)
+its_ports Router ports least most = record { least = least; most = most }
 
 ports_fit : (ports : List NumberedPort) → AllByRecursion (λ (numbered : NumberedPort). IsPort numbered.port) ports
     → AllByRecursion IsPort (map (λ (numbered : NumberedPort). numbered.port) ports)
 ports_fit [] h = tt
 ports_fit (numbered ∷ others) h = (h.0, ports_fit others h.1)
 
--- complete systems as hosts
+-- complete systems as they are declared
 pub systems_fit : (systems : List DeclaredSystem) → AllByRecursion IsDeclared systems → AreApart (addresses_of systems)
-    → list_all is_complete systems ≡ true → AllByRecursion IsSystem (map host_of systems)
+    → list_all is_complete systems ≡ true → AllByRecursion IsSystem (map configuration_of systems)
 systems_fit [] h apart complete = tt
 systems_fit (system ∷ systems) h apart complete =
     let both = and_parts (is_complete system) (list_all is_complete systems) complete in
-    let own = and_parts (nat_le 1 (length system.addresses)) (is_port_zero system.ports) both.0 in (
+    let own = and_parts (nat_le 1 (length system.addresses)) (nat_le 1 (length system.ports) && have_no_gap system.ports) both.0 in
+    let port = and_parts (nat_le 1 (length system.ports)) (have_no_gap system.ports) own.1 in
+    let same = length-map system.ports (λ (numbered : NumberedPort). numbered.port) in (
       record {
-        addresses = record { least = leb-true 1 (length system.addresses) own.0; most = h.0.addresses };
+        addresses = its_addresses system.role system.addresses (leb-true 1 (length system.addresses) own.0) h.0.addresses;
         distinct = distinct_of system.addresses (front_apart system.addresses (addresses_of systems) apart);
-        ports = one_port system.ports own.1;
+        ports = its_ports system.role (map (λ (numbered : NumberedPort). numbered.port) system.ports)
+            (rw same (leb-true 1 (length system.ports) port.0)) (rw same h.0.few_ports);
         each_port = ports_fit system.ports h.0.ports;
         settings = h.0.settings;
       },
       systems_fit systems h.1 (back_apart system.addresses (addresses_of systems) apart) both.1,
     )
 
--- the declared systems are what a host must be
-pub hosts_fit : (r : ReadTo Declarations) → AreDeclared r → AllByRecursion IsSystem (map host_of r.value.systems)
-hosts_fit r h = systems_fit r.value.systems h.fit.systems h.fit.addresses h.complete
+-- the declared systems are what each system is
+pub configurations_fit : (r : ReadTo Declarations) → AreDeclared r → AllByRecursion IsSystem (map configuration_of r.value.systems)
+configurations_fit r h = systems_fit r.value.systems h.fit.systems h.fit.addresses h.complete

@@ -13,7 +13,7 @@ use Rattle.clnp_options.specs.Rules.{Accepts, refusal}
 use Rattle.clnp_plan.specs.Configuration.{IsSystem, IsWithin, SystemConfiguration}
 use Rattle.scenario.specs.Scenario.{AsksInForm}
 use Rattle.scenario.specs.Words.{literal, has_prefix, declared_word, address_read, address_word, data_word, number_word, life_word, octets_behind, options_read, options_word, one_word, two_words, first_four, each_once}
-use Rattle.scenario.specs.Events.{wish_word, wish_words, wish_key, life_in, own_life, options_in, send_line, deliver_line, count_line, tick_line, restart_line, event_line}
+use Rattle.scenario.specs.Events.{wish_word, wish_words, wish_key, life_in, own_life, options_in, host_word, send_line, deliver_line, count_line, tick_line, restart_line, event_line}
 use Rattle.scenario.specs.declared.code.Code.TheVariants as bad
 use Rattle.scenario.specs.declared.event.Event.TheVariants.{Settle, Lose, Tick}
 use Rattle.scenario.specs.declared.wish.Wish.{Wish}
@@ -106,7 +106,7 @@ send_formed : Laws → (names : List (List ℕ)) (systems : List SystemConfigura
 unfolding send_line
 send_formed laws names systems words are =
     behind_found (first_four words) _ _ AsksInForm (λ w _.
-    behind_result (declared_word names w.0) _ AsksInForm (λ system _.
+    behind_result (host_word names systems w.0) _ AsksInForm (λ system _.
     behind_such (address_word w.1) _ IsAddress AsksInForm (address_formed laws w.1) (λ from from_is.
     behind_such (address_word w.2) _ IsAddress AsksInForm (address_formed laws w.2) (λ to to_is.
     behind_result (data_word w.3) _ AsksInForm (λ body _.

@@ -1,20 +1,20 @@
 -- What a list keeps where one of its elements changes or one more comes, and names that aren't taken.
-use Rattle.std.proofs.Common.{◌≡◌, ◌≢◌, ℕ, zero, suc, ◌+◌, ◌<◌, ◌≤◌, ◌==◌, Bool, true, false, if◌then◌else◌, nat_lt, List, [], ◌∷◌, ◌++◌, map, filter, length, slice_get, None, Some, is_some, refl, sym, ap, ◌∙◌, arith, append_assoc}
-use Rattle.std.specs.List.{AllByRecursion, flat_map, list_any, position_or_len}
+use Rattle.std.proofs.Common.{◌≡◌, ◌≢◌, ℕ, zero, suc, ◌+◌, ◌<◌, ◌≤◌, ◌==◌, Bool, true, false, if◌then◌else◌, nat_lt, List, [], ◌∷◌, ◌++◌, map, filter, take, drop, length, slice_get, None, Some, is_some, refl, sym, ap, ◌∙◌, subst, arith, append_assoc}
+use Rattle.std.specs.List.{AllByRecursion, flat_map, list_any, position_or_len, insert}
 use Rattle.std.specs.Option.{option_map}
 use Rattle.std.specs.Str.{bytes_eq}
 use Rattle.std.proofs.lemmas.Bool.{true≢false}
-use Rattle.std.proofs.lemmas.List.{map-append, append-nil}
+use Rattle.std.proofs.lemmas.List.{map-append, append-nil, take-append-drop}
 use Rattle.std.proofs.lemmas.List.Elements.{filter-append}
 use Rattle.std.proofs.lemmas.Slice.Eq.{bytes_eq-Decides}
 use Rattle.clnp_base.proofs.Choices.{not_below, below_not}
-use Rattle.clnp_base.proofs.Lists.{AllByRecursion-implies, AllByRecursion-mapped}
+use Rattle.clnp_base.proofs.Lists.{AllByRecursion-implies, AllByRecursion-mapped, AllByRecursion-put}
 use Rattle.clnp_base.proofs.Maps.{filter-map, map-map}
 use Rattle.clnp_plan.specs.Configuration.{SystemConfiguration}
 use Rattle.clnp_plan.specs.declared.config.PortConfig.{PortConfig}
 use Rattle.scenario.specs.Scenario.{Subnetwork, IsOn, snpas_of}
 use Rattle.scenario.specs.Words.{is_taken}
-use Rattle.scenario.specs.Declarations.{DeclaredSystem, NumberedPort, changed_at, mtu_at, snpas_on, with_port, host_of}
+use Rattle.scenario.specs.Declarations.{DeclaredSystem, NumberedPort, changed_at, mtu_at, snpas_on, count_below, with_port, configuration_of}
 use Rattle.scenario.proofs.Apart.{IsNew, AreApart, put, either_false}
 
 pub map_leaves : {X A : Type 0} (f : X → A) (change : X → X) → ((x : X) → f (change x) ≡ f x) → (place : ℕ) (xs : List X)
@@ -38,15 +38,23 @@ pub empty_leaves : {X A : Type 0} (f : X → List A) (xs : List X) (x : X) → f
 empty_leaves f [] x none = rw none refl
 empty_leaves f (first ∷ xs) x none = ap (λ ys. f first ++ ys) (empty_leaves f xs x none)
 
+-- a list that gets one more address, somewhere in it
+pub record Gets (address : List ℕ) (old new : List (List ℕ)) : Type 0 where
+  pub before : List (List ℕ)
+  pub behind : List (List ℕ)
+  pub had : old ≡ before ++ behind
+  pub has : new ≡ before ++ address ∷ behind
+
 -- one element gets one more address
-pub one_gets : {X : Type 0} (f : X → List (List ℕ)) (change : X → X) (address : List ℕ) → ((x : X) → f (change x) ≡ f x ++ address ∷ [])
+pub one_gets : {X : Type 0} (f : X → List (List ℕ)) (change : X → X) (address : List ℕ) → ((x : X) → Gets address (f x) (f (change x)))
     → (front : List (List ℕ)) (place : ℕ) (xs : List X) → IsNew address (front ++ flat_map f xs) → AreApart (front ++ flat_map f xs)
     → AreApart (front ++ flat_map f (changed_at change place xs))
 one_gets f change address gets front place [] new h = h
 one_gets f change address gets front zero (x ∷ xs) new h =
-    let e : front ++ (f (change x) ++ flat_map f xs) ≡ (front ++ f x) ++ (address ∷ flat_map f xs) = rw (gets x) (simp append_assoc) in
-    let old : (front ++ f x) ++ flat_map f xs ≡ front ++ (f x ++ flat_map f xs) = simp append_assoc in
-    rw e (put (front ++ f x) address (flat_map f xs) (rw old new) (rw old h))
+    let g : Gets address (f x) (f (change x)) = gets x in
+    let e : front ++ (f (change x) ++ flat_map f xs) ≡ (front ++ g.before) ++ (address ∷ (g.behind ++ flat_map f xs)) = rw g.has (simp append_assoc) in
+    let old : (front ++ g.before) ++ (g.behind ++ flat_map f xs) ≡ front ++ (f x ++ flat_map f xs) = rw g.had (simp append_assoc) in
+    rw e (put (front ++ g.before) address (g.behind ++ flat_map f xs) (rw old new) (rw old h))
 one_gets f change address gets front (suc place) (x ∷ xs) new h =
     let old : (front ++ f x) ++ flat_map f xs ≡ front ++ (f x ++ flat_map f xs) = simp append_assoc in
     let e : (front ++ f x) ++ flat_map f (changed_at change place xs) ≡ front ++ (f x ++ flat_map f (changed_at change place xs)) = simp append_assoc in
@@ -123,40 +131,64 @@ mtu_is (subnet ∷ subnets) (suc k) within = mtu_is subnets k (omega (arith, wit
 
 -- the addresses of ports on a subnetwork
 
+abbrev snpas_in : ℕ → List NumberedPort → List (List ℕ)
+snpas_in q ports = map (λ (n : NumberedPort). n.port.snpa) (filter (λ (n : NumberedPort). n.port.subnet == q) ports)
+
+on_both : (q : ℕ) (before behind : List NumberedPort) → snpas_in q (before ++ behind) ≡ snpas_in q before ++ snpas_in q behind
+on_both q before behind =
+    rw (filter-append (λ (n : NumberedPort). n.port.subnet == q) before behind)
+    (map-append (λ (n : NumberedPort). n.port.snpa) (filter (λ (n : NumberedPort). n.port.subnet == q) before) (filter (λ (n : NumberedPort). n.port.subnet == q) behind))
+
 on_it : (numbered : NumberedPort) (q : ℕ) (ports : List NumberedPort) (b : Bool) → (numbered.port.subnet == q) ≡ b
-    → map (λ (n : NumberedPort). n.port.snpa) (filter (λ (n : NumberedPort). n.port.subnet == q) (ports ++ numbered ∷ []))
-    ≡ map (λ (n : NumberedPort). n.port.snpa) (filter (λ (n : NumberedPort). n.port.subnet == q) ports) ++ (if b then numbered.port.snpa ∷ [] else [])
-on_it numbered q ports true e =
-    rw (filter-append (λ (n : NumberedPort). n.port.subnet == q) ports (numbered ∷ []), e)
-    (map-append (λ (n : NumberedPort). n.port.snpa) (filter (λ (n : NumberedPort). n.port.subnet == q) ports) (numbered ∷ []))
-on_it numbered q ports false e =
-    rw (filter-append (λ (n : NumberedPort). n.port.subnet == q) ports (numbered ∷ []), e)
-    (map-append (λ (n : NumberedPort). n.port.snpa) (filter (λ (n : NumberedPort). n.port.subnet == q) ports) [])
+    → snpas_in q (numbered ∷ ports) ≡ (if b then numbered.port.snpa ∷ snpas_in q ports else snpas_in q ports)
+on_it numbered q ports true e = rw e refl
+on_it numbered q ports false e = rw e refl
+
+apart_at : (q k : ℕ) (ports : List NumberedPort) → snpas_in q ports ≡ snpas_in q (take k ports) ++ snpas_in q (drop k ports)
+apart_at q k ports = ap (snpas_in q) (sym (take-append-drop k ports)) ∙ on_both q (take k ports) (drop k ports)
 
 pub port_gets : (numbered : NumberedPort) (q : ℕ) (system : DeclaredSystem) → (numbered.port.subnet == q) ≡ true
-    → snpas_on q (with_port numbered system) ≡ snpas_on q system ++ numbered.port.snpa ∷ []
-port_gets numbered q system e = on_it numbered q system.ports true e
+    → Gets numbered.port.snpa (snpas_on q system) (snpas_on q (with_port numbered system))
+port_gets numbered q system e =
+    let k : ℕ = count_below numbered.number system.ports in
+    record {
+      before = snpas_in q (take k system.ports);
+      behind = snpas_in q (drop k system.ports);
+      had = apart_at q k system.ports;
+      has = on_both q (take k system.ports) (numbered ∷ drop k system.ports)
+          ∙ ap (λ others. snpas_in q (take k system.ports) ++ others) (on_it numbered q (drop k system.ports) true e);
+    }
 
 pub port_elsewhere : (numbered : NumberedPort) (q : ℕ) (system : DeclaredSystem) → (numbered.port.subnet == q) ≡ false
     → snpas_on q (with_port numbered system) ≡ snpas_on q system
-port_elsewhere numbered q system e = on_it numbered q system.ports false e ∙ append-nil (snpas_on q system)
+port_elsewhere numbered q system e =
+    let k : ℕ = count_below numbered.number system.ports in
+    on_both q (take k system.ports) (numbered ∷ drop k system.ports)
+    ∙ (ap (λ others. snpas_in q (take k system.ports) ++ others) (on_it numbered q (drop k system.ports) false e)
+    ∙ sym (apart_at q k system.ports))
 
--- the same of hosts
+-- what holds of ports, and of one more among them
+pub all_among : (P : NumberedPort → Type 0) (numbered : NumberedPort) (k : ℕ) (ports : List NumberedPort)
+    → P numbered → AllByRecursion P ports → AllByRecursion P (insert ports k numbered)
+all_among P numbered k ports own h =
+    AllByRecursion-put P (take k ports) numbered (drop k ports) own (subst (AllByRecursion P) (sym (take-append-drop k ports)) h)
 
-host_ports : (q : ℕ) (ports : List NumberedPort)
+-- the same of configurations
+
+configuration_ports : (q : ℕ) (ports : List NumberedPort)
     → map (λ (port : PortConfig). port.snpa) (filter (λ (port : PortConfig). port.subnet == q) (map (λ (n : NumberedPort). n.port) ports))
     ≡ map (λ (n : NumberedPort). n.port.snpa) (filter (λ (n : NumberedPort). n.port.subnet == q) ports)
-host_ports q ports =
+configuration_ports q ports =
     ap (map (λ (port : PortConfig). port.snpa)) (filter-map (λ (n : NumberedPort). n.port) (λ (port : PortConfig). port.subnet == q) ports)
     ∙ map-map (λ (n : NumberedPort). n.port) (λ (port : PortConfig). port.snpa) (filter (λ (n : NumberedPort). n.port.subnet == q) ports)
 
-pub host_snpas : (q : ℕ) (systems : List DeclaredSystem) → flat_map (snpas_of q) (map host_of systems) ≡ flat_map (snpas_on q) systems
-host_snpas q [] = refl
-host_snpas q (system ∷ systems) = rw (host_ports q system.ports, host_snpas q systems) refl
+pub configuration_snpas : (q : ℕ) (systems : List DeclaredSystem) → flat_map (snpas_of q) (map configuration_of systems) ≡ flat_map (snpas_on q) systems
+configuration_snpas q [] = refl
+configuration_snpas q (system ∷ systems) = rw (configuration_ports q system.ports, configuration_snpas q systems) refl
 
-pub hosts_on : (subnets : List Subnetwork) (systems : List DeclaredSystem)
+pub configurations_on : (subnets : List Subnetwork) (systems : List DeclaredSystem)
     → AllByRecursion (λ (system : DeclaredSystem). AreOn subnets system.ports) systems
-    → AllByRecursion (λ (system : SystemConfiguration). AllByRecursion (IsOn subnets) system.ports) (map host_of systems)
-hosts_on subnets systems =
-    AllByRecursion-mapped (λ (system : DeclaredSystem). AreOn subnets system.ports) (λ (system : SystemConfiguration). AllByRecursion (IsOn subnets) system.ports) host_of systems
+    → AllByRecursion (λ (system : SystemConfiguration). AllByRecursion (IsOn subnets) system.ports) (map configuration_of systems)
+configurations_on subnets systems =
+    AllByRecursion-mapped (λ (system : DeclaredSystem). AreOn subnets system.ports) (λ (system : SystemConfiguration). AllByRecursion (IsOn subnets) system.ports) configuration_of systems
     (λ system. AllByRecursion-mapped (λ (numbered : NumberedPort). IsOn subnets numbered.port) (IsOn subnets) (λ (numbered : NumberedPort). numbered.port) system.ports (λ numbered h. h))

@@ -5,6 +5,7 @@ pub mod Behind
 pub mod Apart
 pub mod Kept
 pub mod Placed
+pub mod Senders
 pub mod Fit
 pub mod Asks
 pub mod Forms

@@ -6,11 +6,11 @@ use Rattle.std.specs.Cmp.Lexicographic.{pointwise}
 use Rattle.clnp_base.proofs.Maps.{list_any-map-filter}
 use Rattle.scenario.specs.declared.fault.LineFault.{LineFault}
 use Rattle.scenario.specs.declared.fault.LineFault.TheVariants.{NoMemory}
-use Rattle.scenario.specs.Declarations.{changed_at, is_among, snpas_on, DeclaredSystem, NumberedPort, host_of}
+use Rattle.scenario.specs.Declarations.{changed_at, is_among, snpas_on, DeclaredSystem, NumberedPort, configuration_of}
 
-pub host_names : (systems : List DeclaredSystem) → map (λ host. host.name) (map host_of systems) ≡ map (λ system. system.name) systems
-host_names [] = refl
-host_names (system ∷ systems) = ap (λ names. system.name ∷ names) (host_names systems)
+pub configuration_names : (systems : List DeclaredSystem) → map (λ host. host.name) (map configuration_of systems) ≡ map (λ system. system.name) systems
+configuration_names [] = refl
+configuration_names (system ∷ systems) = ap (λ names. system.name ∷ names) (configuration_names systems)
 
 pub any_snpa : (subnet : ℕ) (snpa : List ℕ) (systems : List DeclaredSystem)
     → is_among snpa (flat_map (snpas_on subnet) systems)

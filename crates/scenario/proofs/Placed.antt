@@ -1,10 +1,11 @@
 -- Each system that an event line names is declared.
-use Rattle.std.proofs.Common.{ℕ, ◌<◌, List, [], ◌∷◌, length, codes, Ok, IfOk}
+use Rattle.std.proofs.Common.{ℕ, ◌<◌, List, [], ◌∷◌, length, slice_get, codes, Ok, IfOk}
 use Rattle.std.specs.Str.{bytes_eq}
 use Rattle.clnp_plan.specs.Configuration.{SystemConfiguration}
 use Rattle.scenario.specs.Scenario.{IsPlaced}
 use Rattle.scenario.specs.Words.{declared_word, address_word, data_word, number_word, one_word, two_words, first_four, each_once}
-use Rattle.scenario.specs.Events.{wish_words, wish_key, send_line, deliver_line, count_line, tick_line, restart_line, event_line}
+use Rattle.scenario.specs.Events.{wish_words, wish_key, is_host_at, host_word, send_line, deliver_line, count_line, tick_line, restart_line, event_line}
+use Rattle.scenario.specs.declared.code.Code.TheVariants as bad
 use Rattle.scenario.specs.declared.event.Event.{Event}
 use Rattle.scenario.specs.declared.event.Event.TheVariants.{Settle, Lose, Tick}
 use Rattle.scenario.proofs.Behind.{behind_result, behind_found, behind_wanted, behind_such, either_way, declared_is_within}
@@ -12,11 +13,16 @@ use Rattle.scenario.proofs.Behind.{behind_result, behind_found, behind_wanted, b
 abbrev pub AreAmong : List (List ℕ) → Event → Type 0
 AreAmong names event = IsPlaced (length names) event
 
+host_is_within : (names : List (List ℕ)) (systems : List SystemConfiguration) (word : List ℕ) → IfOk (host_word names systems word) (λ place. place < length names)
+host_is_within names systems word =
+    behind_such (declared_word names word) _ (λ place. place < length names) (λ place. place < length names) (declared_is_within names word) (λ place within.
+    behind_wanted (is_host_at (slice_get systems place)) bad.UnknownName (λ _. Ok place) (λ place. place < length names) (λ _. within))
+
 send_placed : (names : List (List ℕ)) (systems : List SystemConfiguration) (words : List (List ℕ)) → IfOk (send_line names systems words) (AreAmong names)
 unfolding send_line
 send_placed names systems words =
     behind_found (first_four words) _ _ (AreAmong names) (λ w _.
-    behind_such (declared_word names w.0) _ (λ place. place < length names) (AreAmong names) (declared_is_within names w.0) (λ system within.
+    behind_such (host_word names systems w.0) _ (λ place. place < length names) (AreAmong names) (host_is_within names systems w.0) (λ system within.
     behind_result (address_word w.1) _ (AreAmong names) (λ from _.
     behind_result (address_word w.2) _ (AreAmong names) (λ to _.
     behind_result (data_word w.3) _ (AreAmong names) (λ body _.

@@ -1,6 +1,6 @@
 -- The declarations of a scenario text: limits, subnetworks, systems, their addresses and their ports.
 use Rattle.std.specs.Prelude.{ℕ, ◌+◌, ◌==◌, ◌&&◌, ◌||◌, not, nat_le, nat_lt, nat_eq, Bool, true, false, if◌then◌else◌, List, [], ◌∷◌, ◌++◌, map, filter, length, slice_get, zero, suc, codes, Option, None, Some, is_some, Result, Ok, Err}
-use Rattle.std.specs.List.{list_any, flat_map}
+use Rattle.std.specs.List.{list_any, list_all, flat_map, insert, count_by, range_with_len}
 use Rattle.std.specs.Str.{bytes_eq}
 use Rattle.std.specs.Cmp.Lexicographic.{pointwise}
 use Rattle.clnp_base.specs.Text.{decimal_of}
@@ -8,13 +8,14 @@ use Rattle.clnp_plan.specs.Configuration.{SystemConfiguration}
 use Rattle.clnp_plan.specs.declared.config.Limits.{Limits}
 use Rattle.clnp_plan.specs.declared.config.PortConfig.{PortConfig}
 use Rattle.clnp_plan.specs.declared.config.Settings.{Settings}
-use Rattle.clnp_plan.specs.declared.config.Role.TheVariants.{Host}
+use Rattle.clnp_plan.specs.declared.config.Role.{Role}
+use Rattle.clnp_plan.specs.declared.config.Role.TheVariants.{Host, Router}
 use Rattle.scenario.specs.Scenario.{Subnetwork}
-use Rattle.scenario.specs.Words.{◌>>=◌, wanted, found, literal, name_word, declared_word, number_within, number_word, number_behind, is_digits, address_word, life_word, has_prefix, two_words, three_words, first_two, first_four, is_one_at_most, is_taken, each_once}
+use Rattle.scenario.specs.Words.{◌>>=◌, wanted, found, name_word, declared_word, number_within, number_word, number_behind, is_digits, address_word, life_word, has_prefix, two_words, three_words, first_two, first_four, is_one_at_most, is_taken, each_once}
 use Rattle.scenario.specs.declared.code.Code.{Code}
 use Rattle.scenario.specs.declared.code.Code.TheVariants as bad
 use Rattle.scenario.specs.declared.setting.Setting.{Setting}
-use Rattle.scenario.specs.declared.setting.Setting.TheVariants.{HelloOff, Checksum, Life, RedirectHold, Slots, Segments, Budget, Neighbours, Routers, Redirects}
+use Rattle.scenario.specs.declared.setting.Setting.TheVariants.{Hello, Suggest, Checksum, Life, RedirectHold, Slots, Segments, Budget, Neighbours, Routers, Redirects}
 
 -- a port by its number
 pub record NumberedPort : Type 0 where
@@ -24,8 +25,10 @@ pub record NumberedPort : Type 0 where
 -- what the lines so far say of a system
 pub record DeclaredSystem : Type 0 where
   pub name : List ℕ
+  pub role : Role
   pub settings : Settings
   pub addresses : List (List ℕ)
+  -- in the order of their numbers
   pub ports : List NumberedPort
 
 -- what the lines so far declare
@@ -69,7 +72,7 @@ abbrev pub limits_of : Option Limits → Limits
 limits_of None = record { age = 256; hold = 60; reuse = 320 }
 limits_of (Some limits) = limits
 
--- `NAME bad.Mtu`, behind `subnet`: an bad.Mtu that is decimal and out of its range has a code of its own
+-- `NAME MTU`, behind `subnet`: an MTU that is decimal and out of its range has a code of its own
 unfoldable pub subnet_line : Declarations → List (List ℕ) → Result Declarations Code
 subnet_line d words = do
   w ← found (two_words words) bad.Syntax
@@ -103,7 +106,8 @@ setting_word word =
     if has_prefix (codes "life=") word then (life_word word >>= λ life. Ok (Life life))
     else if has_prefix (codes "checksum=") word then checksum_word word
     else if has_prefix (codes "rhold=") word then (number_behind (codes "rhold=") 0 65535 word >>= λ seconds. Ok (RedirectHold seconds))
-    else if has_prefix (codes "hello=") word then (literal (codes "hello=0") word >>= λ _. Ok HelloOff)
+    else if has_prefix (codes "hello=") word then (number_behind (codes "hello=") 0 600 word >>= λ seconds. Ok (Hello seconds))
+    else if has_prefix (codes "suggest=") word then (number_behind (codes "suggest=") 0 32767 word >>= λ seconds. Ok (Suggest seconds))
     else room_word word
 
 abbrev pub setting_words : List (List ℕ) → Result (List Setting) Code
@@ -113,13 +117,10 @@ setting_words (word ∷ words) = do
   settings ← setting_words words
   Ok (setting ∷ settings)
 
-abbrev pub is_hello : Setting → Bool
-is_hello HelloOff = true
-is_hello _ = false
-
 -- the key of a setting
 abbrev pub key_of : Setting → List ℕ
-key_of HelloOff = codes "hello"
+key_of (Hello seconds) = codes "hello"
+key_of (Suggest seconds) = codes "suggest"
 key_of (Checksum on) = codes "checksum"
 key_of (Life life) = codes "life"
 key_of (RedirectHold seconds) = codes "rhold"
@@ -131,7 +132,8 @@ key_of (Routers routers) = codes "routers"
 key_of (Redirects redirects) = codes "redirects"
 
 abbrev pub with_setting : Setting → Settings → Settings
-with_setting HelloOff settings = record settings { hello = 0 }
+with_setting (Hello seconds) settings = record settings { hello = seconds }
+with_setting (Suggest seconds) settings = record settings { suggest = seconds }
 with_setting (Checksum on) settings = record settings { sealed = on }
 with_setting (Life life) settings = record settings { life = life }
 with_setting (RedirectHold seconds) settings = record settings { rhold = seconds }
@@ -163,34 +165,55 @@ abbrev pub settings_of : List Setting → Settings
 settings_of [] = usual_settings
 settings_of (setting ∷ others) = with_setting setting (settings_of others)
 
--- `NAME host` and settings, behind `system`; `hello=0` is one of them, as hellos aren't sent
+-- `host` or `router`: an end system or an intermediate system
+abbrev pub role_word : List ℕ → Result Role Code
+role_word word =
+    if bytes_eq word (codes "host") then Ok Host
+    else if bytes_eq word (codes "router") then Ok Router
+    else Err bad.Syntax
+
+-- `NAME`, `host` or `router`, and settings, behind `system`
 unfoldable pub system_line : Declarations → List (List ℕ) → Result Declarations Code
 system_line d words = do
   w ← found (first_two words) bad.Syntax
   name ← name_word w.0
-  _ ← literal (codes "host") w.1
+  role ← role_word w.1
   settings ← setting_words w.2
-  _ ← wanted (list_any is_hello settings) bad.Syntax
   _ ← wanted (not (is_taken (system_names d) name) && each_once key_of settings) bad.DupName
   _ ← wanted (nat_lt (length d.systems) 64) bad.Count
-  Ok (record d { systems = d.systems ++ record { name = name; settings = settings_of settings; addresses = []; ports = [] } ∷ [] })
+  Ok (record d { systems = d.systems ++ record { name = name; role = role; settings = settings_of settings; addresses = []; ports = [] } ∷ [] })
 
--- how many addresses or ports a system has so far
-abbrev pub counted_in : {X : Type 0} → (DeclaredSystem → List X) → Option DeclaredSystem → ℕ
-counted_in items None = 0
-counted_in items (Some system) = length (items system)
+-- the most addresses that a system of a role has
+abbrev pub most_addresses : Role → ℕ
+most_addresses Host = 8
+most_addresses Router = 1
+
+-- the most ports that a system of a role has
+abbrev pub most_ports : Role → ℕ
+most_ports Host = 1
+most_ports Router = 8
+
+-- whether its role lets a system have an address more
+abbrev pub takes_address : Option DeclaredSystem → Bool
+takes_address None = false
+takes_address (Some system) = nat_lt (length system.addresses) (most_addresses system.role)
+
+-- whether its role lets a system have a port more
+abbrev pub takes_port : Option DeclaredSystem → Bool
+takes_port None = false
+takes_port (Some system) = nat_lt (length system.ports) (most_ports system.role)
 
 abbrev pub with_address : List ℕ → DeclaredSystem → DeclaredSystem
 with_address address system = record system { addresses = system.addresses ++ address ∷ [] }
 
--- `NAME bad.Address`, behind `address`: a host has at most 8
+-- `NAME ADDRESS`, behind `address`
 unfoldable pub address_line : Declarations → List (List ℕ) → Result Declarations Code
 address_line d words = do
   w ← found (two_words words) bad.Syntax
   place ← declared_word (system_names d) w.0
   address ← address_word w.1
   _ ← wanted (not (is_among address (flat_map (λ system. system.addresses) d.systems))) bad.DupAddress
-  _ ← wanted (nat_lt (counted_in (λ system. system.addresses) (slice_get d.systems place)) 8) bad.Count
+  _ ← wanted (takes_address (slice_get d.systems place)) bad.Count
   Ok (record d { systems = changed_at (with_address address) place d.systems })
 
 -- the system at a place has a port with this number, or one on this subnetwork
@@ -203,8 +226,13 @@ has_port number subnet (Some system) =
 abbrev pub snpas_on : ℕ → DeclaredSystem → List (List ℕ)
 snpas_on subnet system = map (λ numbered. numbered.port.snpa) (filter (λ numbered. numbered.port.subnet == subnet) system.ports)
 
+-- how many of some ports have a lower number
+abbrev pub count_below : ℕ → List NumberedPort → ℕ
+count_below number ports = count_by (λ numbered. nat_lt numbered.number number) ports
+
+-- a port stands behind those of lower numbers
 abbrev pub with_port : NumberedPort → DeclaredSystem → DeclaredSystem
-with_port numbered system = record system { ports = system.ports ++ numbered ∷ [] }
+with_port numbered system = record system { ports = insert system.ports (count_below numbered.number system.ports) numbered }
 
 abbrev pub mtu_at : Option Subnetwork → ℕ
 mtu_at None = 0
@@ -215,7 +243,7 @@ abbrev pub transit_word : List (List ℕ) → Result ℕ Code
 transit_word [] = Ok 1
 transit_word (word ∷ words) = number_word 1 255 word
 
--- `NAME bad.Number SUBNET SNPA` and perhaps TRANSIT, behind `port`: a host has one
+-- `NAME NUMBER SUBNET SNPA` and perhaps TRANSIT, behind `port`
 unfoldable pub port_line : Declarations → List (List ℕ) → Result Declarations Code
 port_line d words = do
   w ← found (first_four words) bad.Syntax
@@ -227,7 +255,7 @@ port_line d words = do
   transit ← transit_word w.4
   _ ← wanted (not (has_port number subnet (slice_get d.systems place))) bad.DupName
   _ ← wanted (not (is_among snpa (flat_map (snpas_on subnet) d.systems))) bad.DupAddress
-  _ ← wanted (nat_lt (counted_in (λ system. system.ports) (slice_get d.systems place)) 1) bad.Count
+  _ ← wanted (takes_port (slice_get d.systems place)) bad.Count
   Ok (record d { systems = changed_at (with_port (record { number = number; port = record { subnet = subnet; snpa = snpa; transit = transit; mtu = mtu_at (slice_get d.subnets subnet) } })) place d.systems })
 
 -- a line that declares something
@@ -241,20 +269,23 @@ declaration_line d (keyword ∷ words) =
     else if bytes_eq keyword (codes "port") then port_line d words
     else Err bad.Syntax
 
--- whether there is one port, with the number 0
-abbrev pub is_port_zero : List NumberedPort → Bool
-is_port_zero (numbered ∷ []) = numbered.number == 0
-is_port_zero _ = false
+abbrev pub has_number : List NumberedPort → ℕ → Bool
+has_number ports number = list_any (λ numbered. numbered.number == number) ports
 
--- whether a host has all that it must: an address at least, and its one port
+-- whether ports are numbered from 0 without a gap
+abbrev pub have_no_gap : List NumberedPort → Bool
+have_no_gap ports = list_all (has_number ports) (range_with_len 0 (length ports))
+
+-- whether a system has all that it must: an address and a port at least, and its ports numbered from 0 without a gap
 abbrev pub is_complete : DeclaredSystem → Bool
-is_complete system = nat_le 1 (length system.addresses) && is_port_zero system.ports
+is_complete system = nat_le 1 (length system.addresses) && (nat_le 1 (length system.ports) && have_no_gap system.ports)
 
-abbrev pub host_of : DeclaredSystem → SystemConfiguration
-host_of system =
+-- a system as it is declared
+abbrev pub configuration_of : DeclaredSystem → SystemConfiguration
+configuration_of system =
     record {
       name = system.name;
-      role = Host;
+      role = system.role;
       addresses = system.addresses;
       ports = map (λ numbered. numbered.port) system.ports;
       settings = system.settings;

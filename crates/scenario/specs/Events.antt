@@ -4,6 +4,8 @@ use Rattle.std.specs.List.{list_any}
 use Rattle.std.specs.Str.{bytes_eq}
 use Rattle.clnp_plan.specs.Configuration.{SystemConfiguration}
 use Rattle.clnp_plan.specs.declared.ask.Ask.{Ask}
+use Rattle.clnp_plan.specs.declared.config.Role.{Role}
+use Rattle.clnp_plan.specs.declared.config.Role.TheVariants.{Host, Router}
 use Rattle.scenario.specs.Scenario.{ticks_of}
 use Rattle.scenario.specs.Words.{◌>>=◌, wanted, found, literal, declared_word, number_word, address_word, data_word, life_word, options_word, has_prefix, one_word, two_words, first_four, each_once}
 use Rattle.scenario.specs.declared.code.Code.{Code}
@@ -71,11 +73,27 @@ ask_of own wishes =
       options = options_in wishes;
     }
 
--- `NAME FROM TO DATA` and wishes, behind `send`
+abbrev pub is_host : Role → Bool
+is_host Host = true
+is_host Router = false
+
+-- whether a system is a host
+abbrev pub is_host_at : Option SystemConfiguration → Bool
+is_host_at None = false
+is_host_at (Some system) = is_host system.role
+
+-- the place of the host that a word names
+abbrev pub host_word : (names : List (List ℕ)) (systems : List SystemConfiguration) → List ℕ → Result ℕ Code
+host_word names systems word = do
+  place ← declared_word names word
+  _ ← wanted (is_host_at (slice_get systems place)) bad.UnknownName
+  Ok place
+
+-- `NAME FROM TO DATA` and wishes, behind `send`: a host sends
 unfoldable pub send_line : (names : List (List ℕ)) (systems : List SystemConfiguration) → List (List ℕ) → Result Event Code
 send_line names systems words = do
   w ← found (first_four words) bad.Syntax
-  system ← declared_word names w.0
+  system ← host_word names systems w.0
   from ← address_word w.1
   to ← address_word w.2
   body ← data_word w.3

@@ -7,7 +7,7 @@ use Rattle.clnp_plan.specs.Configuration.{SystemConfiguration}
 use Rattle.scenario.specs.Codes.{number_of}
 use Rattle.scenario.specs.Scenario.{Plan}
 use Rattle.scenario.specs.Words.{◌>>=◌, wanted, one_word, is_skipped}
-use Rattle.scenario.specs.Declarations.{Declarations, nothing_declared, declaration_line, limits_of, is_complete, host_of}
+use Rattle.scenario.specs.Declarations.{Declarations, nothing_declared, declaration_line, limits_of, is_complete, configuration_of}
 use Rattle.scenario.specs.Events.{event_line, counted, are_few, nothing_counted}
 use Rattle.scenario.specs.declared.counts.Counts.{Counts}
 use Rattle.scenario.specs.declared.event.Event.{Event}
@@ -83,8 +83,8 @@ unfoldable pub plan_at : List (List ℕ) → Result Plan BadLine
 plan_at lines = do
   header ← header_from 1 lines
   declared ← declarations_from header.number nothing_declared header.lines
-  events ← events_from (map (λ system. system.name) declared.value.systems) (map host_of declared.value.systems) declared.number nothing_counted declared.lines
-  Ok (record { limits = limits_of declared.value.limits; subnets = declared.value.subnets; systems = map host_of declared.value.systems; events = events })
+  events ← events_from (map (λ system. system.name) declared.value.systems) (map configuration_of declared.value.systems) declared.number nothing_counted declared.lines
+  Ok (record { limits = limits_of declared.value.limits; subnets = declared.value.subnets; systems = map configuration_of declared.value.systems; events = events })
 
 abbrev pub plan_of : List ℕ → Result Plan BadLine
 plan_of text = plan_at (lines_of text)

@@ -68,6 +68,11 @@ IsPlaced systems (Deliver copy system) = system < systems
 IsPlaced systems (Restart system) = system < systems
 IsPlaced systems _ = Unit {0}
 
+-- the system of an event that asks for a data unit is a host
+abbrev pub IsFromHost : List SystemConfiguration → Event → Type 0
+IsFromHost systems (Send system from to body ask) = option_map (λ (host : SystemConfiguration). host.role) (slice_get systems system) ≡ Some Host
+IsFromHost systems _ = Unit {0}
+
 -- the subnetwork of a port is there, and its MTU is the port's
 abbrev pub IsOn : List Subnetwork → PortConfig → Type 0
 IsOn subnets port = option_map (λ (subnet : Subnetwork). subnet.mtu) (slice_get subnets port.subnet) ≡ Some port.mtu
@@ -80,8 +85,6 @@ snpas_of subnet system = map (λ port. port.snpa) (filter (λ port. port.subnet 
 pub record IsFit (plan : Plan) : Type 0 where
   pub limits : AreLimits plan.limits
   pub systems : AllByRecursion IsSystem plan.systems
-  -- routers come later
-  pub hosts : AllByRecursion (λ system. system.role ≡ Host) plan.systems
   -- a name belongs to one subnetwork, and to one system
   pub subnet_names : AreDistinct (map (λ (subnet : Subnetwork). subnet.name) plan.subnets)
   pub system_names : AreDistinct (map (λ (system : SystemConfiguration). system.name) plan.systems)
@@ -97,3 +100,5 @@ pub record IsFit (plan : Plan) : Type 0 where
   pub asks : AllByRecursion AsksFairly plan.events
   pub formed : AllByRecursion AsksInForm plan.events
   pub places : AllByRecursion (IsPlaced (length plan.systems)) plan.events
+  -- hosts alone are asked to send
+  pub senders : AllByRecursion (IsFromHost plan.systems) plan.events

@@ -15,7 +15,7 @@ pub enum Code {
     Number = 3,
     /// An address or hexadecimal text that isn't one.
     Address = 4,
-    /// A system or subnetwork that isn't declared.
+    /// A system or subnetwork that isn't declared, or a router where a host is needed.
     UnknownName = 5,
     /// A name that is declared already, a word or a line that may stand once and stands twice, or
     /// a second port of a system with the same number or on the same subnetwork.
@@ -28,7 +28,7 @@ pub enum Code {
     /// An MTU that is decimal and out of its range.
     Mtu = 9,
     /// Too many subnetworks, systems, addresses, ports, events, copies settled and lost, or ticks;
-    /// or a system that lacks an address or its port.
+    /// or a system that lacks an address or a port, or whose ports' numbers, from 0, have a gap.
     Count = 10,
 }
 

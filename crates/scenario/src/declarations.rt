@@ -4,21 +4,21 @@ ghost use Rattle.std.specs.Cmp.Lexicographic.{pointwise};
 ghost use Rattle.std.specs.List.{position, list_any, list_all, flat_map};
 ghost use Rattle.std.specs.Str.{bytes_eq};
 ghost use Rattle.clnp_base.specs.Text.{words_of};
-ghost use Rattle.scenario.specs.Declarations.{nothing_declared, subnet_names, system_names, changed_at, is_among, has_port, snpas_on, counted_in, mtu_at, with_address, with_port, settings_of, limits_line, limits_of, subnet_line, system_line, address_line, transit_word, port_line, declaration_line, is_complete};
+ghost use Rattle.scenario.specs.Declarations.{nothing_declared, subnet_names, system_names, changed_at, is_among, has_port, snpas_on, takes_address, takes_port, mtu_at, with_address, with_port, settings_of, limits_line, limits_of, subnet_line, system_line, address_line, transit_word, port_line, declaration_line, is_complete};
 ghost use Rattle.scenario.specs.Words.{is_taken, declared_word};
 ghost use Rattle.scenario.specs.Refusal.{Faults};
 
 use crate::code::Code;
 use crate::fault::LineFault;
 use crate::plan::Subnet;
-use crate::setting::{each_once, has_hello, setting_words, settings_of};
-use crate::system::{PortAt, System};
+use crate::setting::{each_once, setting_words, settings_of};
+use crate::system::{PortAt, System, role_word};
 use crate::word::{
-    address_word, declared, first_four, first_two, is_digits, is_name, is_one_at_most, literal,
-    mtu_word, name_word, number_word, same, snpa_word, three_words, two_words, wanted,
+    address_word, declared, first_four, first_two, is_digits, is_name, is_one_at_most, mtu_word,
+    name_word, number_word, same, snpa_word, three_words, two_words, wanted,
 };
 use clnp_base::next_word;
-use clnp_plan::{Limits, PortConfig, Settings};
+use clnp_plan::{Limits, PortConfig, Role, Settings};
 use nsap::{Address, Snpa};
 use std::alloc::Global;
 use std::marker::Model;
@@ -217,15 +217,16 @@ impl Declared {
         Ok(())
     }
 
-    /// The name and the settings of the system that `NAME host` and settings declare.
+    /// The name, the role and the settings of the system that `NAME`, `host` or `router`, and settings
+    /// declare.
     #[tactic(auto, unfolding(crate::specs::Declarations::system_line))]
     fn system_of<'a>(
         &self,
         alloc: Global,
         line: &'a [u8],
-    ) -> Result<(&'a [u8], Settings), LineFault>
+    ) -> Result<(&'a [u8], Role, Settings), LineFault>
         ensures reading { MatchResult result
-            (λ r. system_line self.now (words_of line.now) ≡ Ok (record self.now { systems = self.now.systems ++ record { name = r.0.now; settings = r.1; addresses = []; ports = [] } ∷ [] }))
+            (λ r. system_line self.now (words_of line.now) ≡ Ok (record self.now { systems = self.now.systems ++ record { name = r.0.now; role = r.1; settings = r.2; addresses = []; ports = [] } ∷ [] }))
             (λ fault. Faults fault (system_line self.now (words_of line.now))) }
         ensures room { IfOk result (λ _. length self.now.systems < 64) }
     {
@@ -233,23 +234,22 @@ impl Declared {
             return Err(LineFault::Broken(Code::Syntax));
         };
         let name = name_word(name)?;
-        literal(b"host", role)?;
+        let role = role_word(role)?;
         let settings = setting_words(alloc, words)?;
-        wanted(has_hello(&settings), Code::Syntax)?;
         let is_new = self.system_place(name).is_none();
         wanted(is_new && each_once(&settings), Code::DupName)?;
         wanted(self.systems.len() < 64, Code::Count)?;
-        Ok((name, settings_of(&settings)))
+        Ok((name, role, settings_of(&settings)))
     }
 
-    /// `NAME host` and settings, behind `system`.
+    /// `NAME`, `host` or `router`, and settings, behind `system`.
     pub(crate) fn system_line(&mut self, alloc: Global, line: &[u8]) -> Result<(), LineFault>
         ensures { let reading = system_line self.old (words_of line.now) in
             MatchResult result (λ _. reading ≡ Ok self.new) (λ fault. Faults fault reading) }
     {
-        let (name, settings) = self.system_of(alloc, line)?;
+        let (name, role, settings) = self.system_of(alloc, line)?;
         let name = Vec::from_slice(alloc, name)?;
-        self.systems.push(System::new(alloc, name, settings))?;
+        self.systems.push(System::new(alloc, name, role, settings))?;
         Ok(())
     }
 
@@ -267,23 +267,23 @@ impl Declared {
         has_snpa(&self.systems, subnet, snpa)
     }
 
-    /// How many addresses the system at a place has.
-    fn address_count(&self, place: usize) -> usize
-        ensures { result ≡ counted_in (λ system. system.addresses) (slice_get self.now.systems place) }
+    /// Whether its role lets the system at a place have an address more.
+    fn takes_address(&self, place: usize) -> bool
+        ensures { result ≡ takes_address (slice_get self.now.systems place) }
     {
         match self.systems.get(place) {
-            Some(system) => system.address_count(),
-            None => 0,
+            Some(system) => system.takes_address(),
+            None => false,
         }
     }
 
-    /// How many ports the system at a place has.
-    fn port_count(&self, place: usize) -> usize
-        ensures { result ≡ counted_in (λ system. system.ports) (slice_get self.now.systems place) }
+    /// Whether its role lets the system at a place have a port more.
+    fn takes_port(&self, place: usize) -> bool
+        ensures { result ≡ takes_port (slice_get self.now.systems place) }
     {
         match self.systems.get(place) {
-            Some(system) => system.port_count(),
-            None => 0,
+            Some(system) => system.takes_port(),
+            None => false,
         }
     }
 
@@ -321,7 +321,7 @@ impl Declared {
         let place = self.system_word(name)?;
         let address = address_word(address)?;
         wanted(!self.has_address(&address), Code::DupAddress)?;
-        wanted(self.address_count(place) < 8, Code::Count)?;
+        wanted(self.takes_address(place), Code::Count)?;
         Ok((place, address))
     }
 
@@ -378,7 +378,7 @@ impl Declared {
             Code::DupName,
         )?;
         wanted(!self.has_snpa(port.port.subnet, &snpa), Code::DupAddress)?;
-        wanted(self.port_count(place) < 1, Code::Count)?;
+        wanted(self.takes_port(place), Code::Count)?;
         Ok((place, port))
     }
 

@@ -3,7 +3,7 @@ ghost use Rattle.std.specs.Prelude.{◌≡◌, ◌<◌, ◌≤◌, map, length, 
 ghost use Rattle.std.specs.List.{position};
 ghost use Rattle.std.specs.Str.{bytes_eq};
 ghost use Rattle.clnp_base.specs.Text.{words_of};
-ghost use Rattle.scenario.specs.Events.{own_life, send_line, deliver_line, count_line, tick_line, restart_line, event_line};
+ghost use Rattle.scenario.specs.Events.{own_life, is_host, is_host_at, host_word, send_line, deliver_line, count_line, tick_line, restart_line, event_line};
 ghost use Rattle.scenario.specs.Words.{declared_word};
 ghost use Rattle.scenario.specs.Refusal.{Faults};
 
@@ -15,7 +15,7 @@ use crate::word::{
     address_word, data_word, first_four, is_name, number_word, one_word, same, two_words, wanted,
 };
 use clnp_base::next_word;
-use clnp_plan::SystemConfig;
+use clnp_plan::{Role, SystemConfig};
 use std::alloc::Global;
 
 /// The place of the first system of this name.
@@ -48,6 +48,32 @@ fn system_word(systems: &[SystemConfig], word: &[u8]) -> Result<u8, Code>
     }
 }
 
+fn is_host(role: Role) -> bool
+    ensures { result ≡ is_host role }
+{
+    matches!(role, Role::Host)
+}
+
+/// Whether the system at a place is a host.
+fn is_host_at(systems: &[SystemConfig], place: u8) -> bool
+    ensures { result ≡ is_host_at (slice_get systems.now place) }
+{
+    match systems.get(usize::from(place)) {
+        Some(system) => is_host(system.role()),
+        None => false,
+    }
+}
+
+/// The place of the host that a word names.
+fn host_word(systems: &[SystemConfig], word: &[u8]) -> Result<u8, Code>
+    requires { length systems.now ≤ 64 }
+    ensures { result ≡ host_word (map (λ system. system.name) systems.now) systems.now word.now }
+{
+    let place = system_word(systems, word)?;
+    wanted(is_host_at(systems, place), Code::UnknownName)?;
+    Ok(place)
+}
+
 /// The lifetime that the setting of the system at a place says.
 fn own_life(systems: &[SystemConfig], place: u8) -> u8
     ensures { result ≡ own_life (slice_get systems.now place) }
@@ -68,7 +94,7 @@ fn send_line(alloc: Global, systems: &[SystemConfig], line: &[u8]) -> Result<Eve
     let Some((name, from, to, body, words)) = first_four(line) else {
         return Err(LineFault::Broken(Code::Syntax));
     };
-    let system = system_word(systems, name)?;
+    let system = host_word(systems, name)?;
     let from = address_word(from)?;
     let to = address_word(to)?;
     let body = data_word(alloc, body)?;

@@ -5,10 +5,11 @@ ghost use Rattle.scenario.specs.Grammar.{plan_of};
 ghost use Rattle.scenario.specs.Scenario.{IsFit, Plan};
 
 /// What the grammar accepts is fit to be run: its limits, settings and numbers are in their ranges,
-/// each host has an address and a port, no name, address or SNPA on a subnetwork stands twice, each
-/// port is on a declared subnetwork and has its MTU, events name declared systems, few ticks pass,
-/// each unit is asked for between addresses, with a lifetime that an octet holds and options in their
-/// form, and none with an option that an error report alone may have.
+/// each system has the addresses and ports that its role calls for, no name, address or SNPA on a
+/// subnetwork stands twice, each port is on a declared subnetwork and has its MTU, events name declared
+/// systems, hosts alone are asked to send, few ticks pass, each unit is asked for between addresses,
+/// with a lifetime that an octet holds and options in their form, and none with an option that an error
+/// report alone may have.
 pub fn accepted_is_fit()
     ensures { (text : List ℕ) (plan : Plan) → plan_of text ≡ Ok plan → IsFit plan }
 {

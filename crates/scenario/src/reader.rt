@@ -3,7 +3,7 @@ ghost use Rattle.std.specs.Prelude.{◌≡◌, ◌+◌, ◌-◌, ◌^◌, ◌≤
 ghost use Rattle.std.specs.List.{list_all, AllByRecursion};
 ghost use Rattle.clnp_base.specs.Text.{lines_of, words_of};
 ghost use Rattle.clnp_plan.specs.Configuration.{IsSystem};
-ghost use Rattle.scenario.specs.Declarations.{declaration_line, is_complete, host_of};
+ghost use Rattle.scenario.specs.Declarations.{declaration_line, is_complete, configuration_of};
 ghost use Rattle.scenario.specs.Events.{counted, are_few, nothing_counted};
 ghost use Rattle.scenario.specs.Grammar.{at_line, header_from, declarations_from, nothing_after, counted_event, events_from, plan_of};
 ghost use Rattle.scenario.specs.Codes.{number_of};
@@ -197,16 +197,16 @@ fn events_of(
     Err(bad_line(number, Code::Syntax))
 }
 
-/// The declared systems as hosts.
-fn hosts_of(alloc: Global, systems: Vec<System>) -> Result<Vec<SystemConfig>, AllocError>
-    requires { AllByRecursion IsSystem (map host_of systems.items) }
-    ensures { IfOk result (λ hosts. hosts.items ≡ map host_of systems.items) }
+/// The systems as they are declared.
+fn systems_of(alloc: Global, systems: Vec<System>) -> Result<Vec<SystemConfig>, AllocError>
+    requires { AllByRecursion IsSystem (map configuration_of systems.items) }
+    ensures { IfOk result (λ configs. configs.items ≡ map configuration_of systems.items) }
 {
-    let mut hosts = Vec::new(alloc);
+    let mut configs = Vec::new(alloc);
     for system in systems {
-        hosts.push(system.into_host(alloc)?)?;
+        configs.push(system.into_config(alloc)?)?;
     }
-    Ok(hosts)
+    Ok(configs)
 }
 
 /// What a scenario text says: its subnetworks, its systems and its events.
@@ -215,7 +215,7 @@ fn hosts_of(alloc: Global, systems: Vec<System>) -> Result<Vec<SystemConfig>, Al
 ///
 /// `BadLine` with the first line that breaks the grammar, from 1, and the code of what it breaks;
 /// `NoMemory` where memory is refused.
-#[tactic(auto, using(crate::proofs::Lists::host_names), unfolding(crate::specs::Grammar::plan_at))]
+#[tactic(auto, using(crate::proofs::Lists::configuration_names), unfolding(crate::specs::Grammar::plan_at))]
 pub fn read(alloc: Global, text: &[u8]) -> Result<Scenario, ScenarioRefusal>
     requires { length (lines_of text.now) < 2 ^ 32 - 1 }
     ensures { MatchResult result (λ scenario. plan_of text.now ≡ Ok scenario) (λ refusal. Refuses refusal (plan_of text.now)) }
@@ -226,7 +226,7 @@ pub fn read(alloc: Global, text: &[u8]) -> Result<Scenario, ScenarioRefusal>
     let (number, text) = declarations(alloc, &mut declared, number, text)?;
     let limits = declared.limits();
     let (subnets, systems) = declared.into_parts();
-    let systems = hosts_of(alloc, systems)?;
+    let systems = systems_of(alloc, systems)?;
     let events = events_of(alloc, systems.as_slice(), number, text)?;
     Ok(Scenario {
         limits,

@@ -3,13 +3,13 @@ ghost use Rattle.std.specs.Prelude.{◌≡◌, Ok, Err, MatchResult};
 ghost use Rattle.std.specs.List.{list_any};
 ghost use Rattle.std.specs.Str.{bytes_eq};
 ghost use Rattle.clnp_base.specs.Text.{words_of};
-ghost use Rattle.scenario.specs.Declarations.{checksum_word, room_word, setting_word, setting_words, is_hello, key_of, with_setting, usual_settings, settings_of};
+ghost use Rattle.scenario.specs.Declarations.{checksum_word, room_word, setting_word, setting_words, key_of, with_setting, usual_settings, settings_of};
 ghost use Rattle.scenario.specs.Words.{each_once};
 ghost use Rattle.scenario.specs.Refusal.{Faults};
 
 use crate::code::Code;
 use crate::fault::LineFault;
-use crate::word::{has_prefix, life_word, literal, number_behind, same};
+use crate::word::{has_prefix, life_word, number_behind, same};
 use clnp_base::next_word;
 use clnp_plan::Settings;
 use std::alloc::Global;
@@ -17,8 +17,10 @@ use std::alloc::Global;
 /// A setting of a system.
 #[derive(Clone, Copy, Debug, PartialEq, Eq)]
 pub(crate) enum Setting {
-    /// It sends no hellos.
-    HelloOff,
+    /// How often it says hello, in seconds; 0 is never.
+    Hello(u16),
+    /// How often a router asks end systems to say hello, in seconds; 0 is no wish.
+    Suggest(u16),
     /// Its headers have a checksum, or not.
     Checksum(bool),
     /// The lifetime of its units, in ticks of 500 ms.
@@ -98,8 +100,12 @@ fn setting_word(word: &[u8]) -> Result<Setting, Code>
         return Ok(Setting::RedirectHold(seconds as u16));
     }
     if has_prefix(b"hello=", word) {
-        literal(b"hello=0", word)?;
-        return Ok(Setting::HelloOff);
+        let seconds = number_behind(b"hello=", 0, 600, word)?;
+        return Ok(Setting::Hello(seconds as u16));
+    }
+    if has_prefix(b"suggest=", word) {
+        let seconds = number_behind(b"suggest=", 0, 32_767, word)?;
+        return Ok(Setting::Suggest(seconds as u16));
     }
     room_word(word)
 }
@@ -119,25 +125,13 @@ pub(crate) fn setting_words(alloc: Global, line: &[u8]) -> Result<Vec<Setting>, 
     Ok(settings)
 }
 
-fn is_hello(setting: Setting) -> bool
-    ensures { result ≡ is_hello setting }
-{
-    matches!(setting, Setting::HelloOff)
-}
-
-/// Whether hellos are switched off.
-pub(crate) fn has_hello(settings: &[Setting]) -> bool
-    ensures { result ≡ list_any is_hello settings.now }
-{
-    settings.iter().any(|setting| is_hello(*setting))
-}
-
 /// The key of a setting.
 fn key_of(setting: Setting) -> &'static [u8]
     ensures { result.now ≡ key_of setting }
 {
     match setting {
-        Setting::HelloOff => b"hello",
+        Setting::Hello(_) => b"hello",
+        Setting::Suggest(_) => b"suggest",
         Setting::Checksum(_) => b"checksum",
         Setting::Life(_) => b"life",
         Setting::RedirectHold(_) => b"rhold",
@@ -171,8 +165,9 @@ fn with_setting(setting: Setting, settings: Settings) -> Settings
     ensures { result ≡ with_setting setting settings }
 {
     match setting {
-        Setting::HelloOff => Settings {
-            hello: 0,
+        Setting::Hello(hello) => Settings { hello, ..settings },
+        Setting::Suggest(suggest) => Settings {
+            suggest,
             ..settings
         },
         Setting::Checksum(sealed) => Settings { sealed, ..settings },

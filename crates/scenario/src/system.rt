@@ -1,11 +1,13 @@
 //! What is declared of a system.
-ghost use Rattle.std.specs.Prelude.{◌≡◌, ◌==◌, ◌&&◌, ◌||◌, [], length, map, nat_eq, IfOk, MatchResult};
+ghost use Rattle.std.specs.Prelude.{◌≡◌, ◌≤◌, ◌==◌, ◌&&◌, ◌||◌, [], length, map, nat_eq, Some, IfOk, MatchResult};
 ghost use Rattle.std.specs.List.{list_any};
 ghost use Rattle.std.specs.Cmp.Lexicographic.{pointwise};
 ghost use Rattle.clnp_plan.specs.Configuration.{IsSystem};
-ghost use Rattle.scenario.specs.Declarations.{is_among, with_address, with_port, is_port_zero, is_complete, host_of};
+ghost use Rattle.scenario.specs.Declarations.{is_among, role_word, most_addresses, most_ports, takes_address, takes_port, count_below, with_address, with_port, has_number, have_no_gap, is_complete, configuration_of};
 
+use crate::code::Code;
 use crate::fault::LineFault;
+use crate::word::same;
 use clnp_plan::{PortConfig, Role, Settings, SystemConfig};
 use nsap::{Address, Snpa};
 use std::alloc::{AllocError, Global};
@@ -42,10 +44,52 @@ impl PortAt {
     }
 }
 
-/// What is declared of a system.
+/// `host` or `router`: an end system or an intermediate system.
+pub(crate) fn role_word(word: &[u8]) -> Result<Role, Code>
+    ensures { result ≡ role_word word.now }
+{
+    if same(word, b"host") {
+        return Ok(Role::Host);
+    }
+    if same(word, b"router") {
+        return Ok(Role::Router);
+    }
+    Err(Code::Syntax)
+}
+
+/// The most addresses that a system of a role has.
+fn most_addresses(role: Role) -> usize
+    ensures { result ≡ most_addresses role }
+{
+    match role {
+        Role::Host => 8,
+        Role::Router => 1,
+    }
+}
+
+/// The most ports that a system of a role has.
+fn most_ports(role: Role) -> usize
+    ensures { result ≡ most_ports role }
+{
+    match role {
+        Role::Host => 1,
+        Role::Router => 8,
+    }
+}
+
+/// How many of some ports have a lower number.
+fn count_below(number: u8, ports: &[PortAt]) -> usize
+    ensures below { result ≡ count_below number ports.now }
+    ensures within { result ≤ length ports.now }
+{
+    ports.iter().filter(|port| port.number < number).count()
+}
+
+/// What is declared of a system, its ports in the order of their numbers.
 #[derive(Drop)]
 pub(crate) struct System {
     name: Vec<u8>,
+    role: Role,
     settings: Settings,
     addresses: Vec<Address>,
     ports: Vec<PortAt>,
@@ -58,6 +102,7 @@ impl Model for System {
 
     ghost view = { λ s. record {
       name = s.name.items;
+      role = s.role;
       settings = s.settings;
       addresses = s.addresses.items;
       ports = s.ports.items;
@@ -66,11 +111,12 @@ impl Model for System {
 
 impl System {
     /// A system with neither an address nor a port.
-    pub(crate) fn new(alloc: Global, name: Vec<u8>, settings: Settings) -> System
-        ensures { result ≡ record { name = name.items; settings = settings; addresses = []; ports = [] } }
+    pub(crate) fn new(alloc: Global, name: Vec<u8>, role: Role, settings: Settings) -> System
+        ensures { result ≡ record { name = name.items; role = role; settings = settings; addresses = []; ports = [] } }
     {
         System {
             name,
+            role,
             settings,
             addresses: Vec::new(alloc),
             ports: Vec::new(alloc),
@@ -83,16 +129,18 @@ impl System {
         self.name.as_slice()
     }
 
-    pub(crate) fn address_count(&self) -> usize
-        ensures { result ≡ length self.now.addresses }
+    /// Whether its role lets it have an address more.
+    pub(crate) fn takes_address(&self) -> bool
+        ensures { result ≡ takes_address (Some self.now) }
     {
-        self.addresses.len()
+        self.addresses.len() < most_addresses(self.role)
     }
 
-    pub(crate) fn port_count(&self) -> usize
-        ensures { result ≡ length self.now.ports }
+    /// Whether its role lets it have a port more.
+    pub(crate) fn takes_port(&self) -> bool
+        ensures { result ≡ takes_port (Some self.now) }
     {
-        self.ports.len()
+        self.ports.len() < most_ports(self.role)
     }
 
     /// Whether it has this address.
@@ -126,41 +174,48 @@ impl System {
     pub(crate) fn add_port(&mut self, port: PortAt) -> Result<(), LineFault>
         ensures { MatchResult result (λ _. self.new ≡ with_port port self.old) (λ fault. fault ≡ LineFault.NoMemory) }
     {
-        self.ports.push(port)?;
+        let place = count_below(port.number, &self.ports);
+        self.ports.insert(place, port)?;
         Ok(())
     }
 
-    /// Whether its only port has the number 0.
-    fn has_port_zero(&self) -> bool
-        ensures { result ≡ is_port_zero self.now.ports }
-    {
-        match self.ports.as_slice() {
-            [port] => port.number == 0,
-            _ => false,
-        }
-    }
-
-    /// Whether it has all that a host must: an address at least, and its one port.
+    /// Whether it has all that it must: an address and a port at least, and its ports numbered from 0
+    /// without a gap.
     pub(crate) fn is_complete(&self) -> bool
         ensures { result ≡ is_complete self.now }
     {
-        !self.addresses.is_empty() && self.has_port_zero()
+        !self.addresses.is_empty() && !self.ports.is_empty() && have_no_gap(&self.ports)
     }
 
-    /// The system as a host.
-    pub(crate) fn into_host(self, alloc: Global) -> Result<SystemConfig, AllocError>
-        requires { IsSystem (host_of self) }
-        ensures { IfOk result (λ host. host ≡ host_of self) }
+    /// The system as it is declared.
+    pub(crate) fn into_config(self, alloc: Global) -> Result<SystemConfig, AllocError>
+        requires { IsSystem (configuration_of self) }
+        ensures { IfOk result (λ config. config ≡ configuration_of self) }
     {
         let ports = ports_of(alloc, &self.ports)?;
         let System {
             name,
+            role,
             settings,
             addresses,
             ports: _,
         } = self;
-        Ok(SystemConfig::new(name, Role::Host, addresses, ports, settings))
+        Ok(SystemConfig::new(name, role, addresses, ports, settings))
     }
+}
+
+/// Whether one of some ports has this number.
+fn has_number(ports: &[PortAt], number: usize) -> bool
+    ensures { result ≡ has_number ports.now number }
+{
+    ports.iter().any(|port| usize::from(port.number) == number)
+}
+
+/// Whether ports are numbered from 0 without a gap.
+fn have_no_gap(ports: &[PortAt]) -> bool
+    ensures { result ≡ have_no_gap ports.now }
+{
+    (0..ports.len()).all(|number| has_number(ports, number))
 }
 
 /// The ports without their numbers.

@@ -1,18 +1,18 @@
 use Rattle.std.proofs.Common.{◌∙◌, ap, map}
 use Rattle.clnp_base.specs.Text.{lines_of}
-use Rattle.scenario.specs.Declarations.{host_of}
-use Rattle.scenario.proofs.Accepted.{declared_hosts, plan_is}
+use Rattle.scenario.specs.Declarations.{configuration_of}
+use Rattle.scenario.proofs.Accepted.{declared_systems, plan_is}
 use Rattle.scenario.proofs.reader.read.Goals as goal
 
-pub hosts_of-requires : goal.hosts_of-requires
-hosts_of-requires c =
+pub systems_of-requires : goal.systems_of-requires
+systems_of-requires c =
     rw c.into_parts-subnets.ensures.systems
-    (declared_hosts c.in_ok-number.number (lines_of c.in_ok-number.text.now) c.declarations.new.declared c.in_ok-number-2.number (lines_of c.in_ok-number-2.text.now)
+    (declared_systems c.in_ok-number.number (lines_of c.in_ok-number.text.now) c.declarations.new.declared c.in_ok-number-2.number (lines_of c.in_ok-number-2.text.now)
     (rw c.new-declared.ensures at c.in_ok-number-2.ensures.declarations))
 
 pub invariant_of-result : goal.invariant_of-result
 invariant_of-result c =
-    let hosts = c.in_ok-systems.ensures ∙ ap (λ systems. map host_of systems) c.into_parts-subnets.ensures.systems in
+    let hosts = c.in_ok-systems.ensures ∙ ap (λ systems. map configuration_of systems) c.into_parts-subnets.ensures.systems in
     c.accepted_is_fit.ensures c.args.text.now
     (record { limits = c.limits-limits.result; subnets = c.into_parts-subnets.result.0.items; systems = c.in_ok-systems.systems.items; events = c.in_ok-events.events.items })
     (plan_is c.args.text.now c.in_ok-number.number c.in_ok-number-2.number (lines_of c.in_ok-number.text.now) (lines_of c.in_ok-number-2.text.now)
