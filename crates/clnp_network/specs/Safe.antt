@@ -88,10 +88,10 @@ RangeIn units birth (Unlabelled octets) = ⊥
 abbrev pub CarriesRanges : World → Type 0
 CarriesRanges w = AllByRecursion (λ copy. RangeIn w.units copy.birth copy.content) w.copies
 
--- a frame carries a packet and breaks no rule of PDUs, or an ES-IS value and breaks none of ES-IS PDUs
+-- a frame carries a packet and breaks no rule of PDUs, or an ES-IS value with nothing behind it and breaks none of ES-IS PDUs
 abbrev pub IsUnbroken : Content → Type 0
 IsUnbroken (Labelled packet following) = BreaksNoRule (frame_of (Labelled packet following))
-IsUnbroken (Esis value following) = BreaksNoEsisRule (frame_of (Esis value following))
+IsUnbroken (Esis value following) = BreaksNoEsisRule (frame_of (Esis value following)) × (following ≡ [])
 IsUnbroken (Unlabelled octets) = ⊥
 
 -- each frame on the network does
