@@ -19,6 +19,7 @@ use Rattle.scenario.proofs.Behind.{behind_result, behind_wanted, behind_such, be
 use Rattle.scenario.proofs.Apart.{addresses_of, distinct_of, configuration_addresses}
 use Rattle.scenario.proofs.Asks.{event_fair}
 use Rattle.scenario.proofs.Forms.{Laws, event_formed}
+use Rattle.scenario.proofs.Addresses.{ReadAddressed, configured_addresses, declared_addresses}
 use Rattle.scenario.proofs.Placed.{AreAmong, event_placed}
 use Rattle.scenario.proofs.Senders.{events_from_hosts}
 use Rattle.scenario.proofs.Kept.{configuration_snpas, configurations_on}
@@ -81,8 +82,10 @@ plan_fit : Laws → (lines : List (List ℕ)) → IfOk (plan_at lines) IsFit
 unfolding plan_at
 plan_fit laws lines =
     behind_result (header_from 1 lines) _ IsFit (λ header _.
-    behind_such (declarations_from header.number nothing_declared header.lines) _ AreDeclared IsFit
-    (declarations_fit header.number nothing_declared header.lines nothing_fit) (λ declared fits.
+    behind_such (declarations_from header.number nothing_declared header.lines) _ (λ declared. AreDeclared declared × ReadAddressed declared) IsFit
+    (both (declarations_from header.number nothing_declared header.lines) AreDeclared ReadAddressed
+    (declarations_fit header.number nothing_declared header.lines nothing_fit) (declared_addresses laws header.number header.lines)) (λ declared are_declared.
+    let fits : AreDeclared declared = are_declared.0 in
     let systems : List SystemConfiguration = map configuration_of declared.value.systems in
     let names : List (List ℕ) = map (λ (system : DeclaredSystem). system.name) declared.value.systems in
     behind_such (events_from names systems declared.number nothing_counted declared.lines) _ (λ events. AreCounted names 0 events × AllByRecursion (IsFromHost systems) events) IsFit
@@ -95,6 +98,7 @@ plan_fit laws lines =
       limits = fits.fit.limits;
       systems = configurations_fit declared fits;
       addresses = rw (configuration_addresses declared.value.systems) (distinct_of (addresses_of declared.value.systems) fits.fit.addresses);
+      each_address = configured_addresses declared.value.systems are_declared.1;
       ticks = omega (arith, counted.ticks);
       asks = counted.fair;
       formed = counted.formed;

@@ -44,7 +44,7 @@ pub record AreFit (d : Declarations) : Type 0 where
   pub snpas : (q : ℕ) → AreApart (flat_map (snpas_on q) d.systems)
   pub on : AllByRecursion (λ (system : DeclaredSystem). AreOn d.subnets system.ports) d.systems
 
-changed : {X : Type 0} (P : X → Type 0) (change : X → X) (place : ℕ) (xs : List X) → AllByRecursion P xs
+pub changed : {X : Type 0} (P : X → Type 0) (change : X → X) (place : ℕ) (xs : List X) → AllByRecursion P xs
     → ((x : X) → slice_get xs place ≡ Some x → P x → P (change x)) → AllByRecursion P (changed_at change place xs)
 changed P change place [] h keeps = tt
 changed P change zero (x ∷ xs) h keeps = (keeps x refl h.0, h.1)

@@ -36,7 +36,7 @@ is_read : (read : Result (List ℕ) NsapFault) → ((octets : List ℕ) → read
 is_read (Ok octets) h = h octets refl
 is_read (Err fault) h = tt
 
-address_formed : Laws → (word : List ℕ) → IfOk (address_word word) IsAddress
+pub address_formed : Laws → (word : List ℕ) → IfOk (address_word word) IsAddress
 address_formed laws word = is_read (nsap.octets_of word) (laws.addresses word)
 
 -- Options and lifetimes.

@@ -9,4 +9,5 @@ pub mod Senders
 pub mod Fit
 pub mod Asks
 pub mod Forms
+pub mod Addresses
 pub mod Accepted

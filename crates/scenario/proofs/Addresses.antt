@@ -1,0 +1,115 @@
+-- Each address that lines declare for a system is one.
+use Rattle.std.proofs.Common.{ℕ, ◌+◌, ◌&&◌, not, nat_le, nat_lt, List, [], ◌∷◌, map, length, slice_get, codes, is_some, IfOk, All}
+use Rattle.std.specs.List.{AllByRecursion, flat_map, list_all}
+use Rattle.std.specs.Str.{bytes_eq}
+use Rattle.std.proofs.lemmas.List.Elements.{All-from_recursion}
+use Rattle.clnp_base.proofs.Lists.{AllByRecursion-mapped, AllByRecursion-push}
+use Rattle.clnp_base.specs.Text.{decimal_of, words_of}
+use Rattle.nsap.specs.Address.{IsAddress}
+use Rattle.clnp_plan.specs.Configuration.{SystemConfiguration}
+use Rattle.scenario.specs.Words.{wanted, name_word, declared_word, number_within, number_word, address_word, is_digits, is_taken, is_one_at_most, is_skipped, each_once, two_words, three_words, first_two, first_four}
+use Rattle.scenario.specs.Declarations.{Declarations, DeclaredSystem, NumberedPort, nothing_declared, subnet_names, system_names, with_address, with_port, is_among, has_port, snpas_on, mtu_at, takes_address, takes_port, limits_line, subnet_line, role_word, setting_words, key_of, settings_of, system_line, address_line, transit_word, port_line, declaration_line, is_complete, configuration_of}
+use Rattle.scenario.specs.Grammar.{ReadTo, is_line_of, declarations_from}
+use Rattle.scenario.specs.declared.code.Code.TheVariants as bad
+use Rattle.scenario.proofs.Behind.{behind_result, behind_line, behind_found, behind_wanted, behind_such, behind_line_such, either_way}
+use Rattle.scenario.proofs.Apart.{addresses_of}
+use Rattle.scenario.proofs.Fit.{changed}
+use Rattle.scenario.proofs.Forms.{Laws, address_formed}
+
+abbrev pub HasAddresses : DeclaredSystem → Type 0
+HasAddresses system = AllByRecursion IsAddress system.addresses
+
+-- each address of each system that was declared so far is one
+abbrev pub AreAddressed : Declarations → Type 0
+AreAddressed d = AllByRecursion HasAddresses d.systems
+
+limits_keep : (d : Declarations) (words : List (List ℕ)) → AreAddressed d → IfOk (limits_line d words) AreAddressed
+unfolding limits_line
+limits_keep d words h =
+    behind_found (three_words words) _ _ AreAddressed (λ w _.
+    behind_result (number_word 1 4096 w.0) _ AreAddressed (λ age _.
+    behind_result (number_word 1 255 w.1) _ AreAddressed (λ hold _.
+    behind_result (number_word 1 16384 w.2) _ AreAddressed (λ reuse _.
+    behind_wanted (not (is_some d.limits)) _ _ AreAddressed (λ _.
+    behind_wanted (nat_le (age + hold) reuse) _ _ AreAddressed (λ _. h))))))
+
+subnet_keeps : (d : Declarations) (words : List (List ℕ)) → AreAddressed d → IfOk (subnet_line d words) AreAddressed
+unfolding subnet_line
+subnet_keeps d words h =
+    behind_found (two_words words) _ _ AreAddressed (λ w _.
+    behind_result (name_word w.0) _ AreAddressed (λ name _.
+    behind_wanted (is_digits w.1) _ _ AreAddressed (λ _.
+    behind_wanted (not (is_taken (subnet_names d) name)) _ _ AreAddressed (λ _.
+    behind_found (number_within 512 65535 (decimal_of w.1)) _ _ AreAddressed (λ mtu _.
+    behind_wanted (nat_lt (length d.subnets) 64) _ _ AreAddressed (λ _. h))))))
+
+system_has_none : (d : Declarations) (words : List (List ℕ)) → AreAddressed d → IfOk (system_line d words) AreAddressed
+unfolding system_line
+system_has_none d words h =
+    behind_found (first_two words) _ _ AreAddressed (λ w _.
+    behind_result (name_word w.0) _ AreAddressed (λ name _.
+    behind_result (role_word w.1) _ AreAddressed (λ role _.
+    behind_result (setting_words w.2) _ AreAddressed (λ settings _.
+    behind_wanted (not (is_taken (system_names d) name) && each_once key_of settings) _ _ AreAddressed (λ _.
+    behind_wanted (nat_lt (length d.systems) 64) _ _ AreAddressed (λ _.
+    let system : DeclaredSystem = record { name = name; role = role; settings = settings_of settings; addresses = []; ports = [] } in
+    AllByRecursion-push HasAddresses d.systems system h tt))))))
+
+address_is_one : Laws → (d : Declarations) (words : List (List ℕ)) → AreAddressed d → IfOk (address_line d words) AreAddressed
+unfolding address_line
+address_is_one laws d words h =
+    behind_found (two_words words) _ _ AreAddressed (λ w _.
+    behind_result (declared_word (system_names d) w.0) _ AreAddressed (λ place _.
+    behind_such (address_word w.1) _ IsAddress AreAddressed (address_formed laws w.1) (λ address is.
+    behind_wanted (not (is_among address (addresses_of d.systems))) _ _ AreAddressed (λ _.
+    behind_wanted (takes_address (slice_get d.systems place)) _ _ AreAddressed (λ _.
+    changed HasAddresses (with_address address) place d.systems h (λ system _ its. AllByRecursion-push IsAddress system.addresses address its is))))))
+
+port_keeps : (d : Declarations) (words : List (List ℕ)) → AreAddressed d → IfOk (port_line d words) AreAddressed
+unfolding port_line
+port_keeps d words h =
+    behind_found (first_four words) _ _ AreAddressed (λ w _.
+    behind_wanted (is_one_at_most w.4) _ _ AreAddressed (λ _.
+    behind_result (declared_word (system_names d) w.0) _ AreAddressed (λ place _.
+    behind_result (number_word 0 7 w.1) _ AreAddressed (λ number _.
+    behind_result (declared_word (subnet_names d) w.2) _ AreAddressed (λ subnet _.
+    behind_result (address_word w.3) _ AreAddressed (λ snpa _.
+    behind_result (transit_word w.4) _ AreAddressed (λ transit _.
+    behind_wanted (not (has_port number subnet (slice_get d.systems place))) _ _ AreAddressed (λ _.
+    behind_wanted (not (is_among snpa (flat_map (snpas_on subnet) d.systems))) _ _ AreAddressed (λ _.
+    behind_wanted (takes_port (slice_get d.systems place)) _ _ AreAddressed (λ _.
+    let numbered : NumberedPort = record { number = number; port = record { subnet = subnet; snpa = snpa; transit = transit; mtu = mtu_at (slice_get d.subnets subnet) } } in
+    changed HasAddresses (with_port numbered) place d.systems h (λ system _ its. its)))))))))))
+
+line_keeps : Laws → (d : Declarations) (words : List (List ℕ)) → AreAddressed d → IfOk (declaration_line d words) AreAddressed
+unfolding declaration_line
+line_keeps laws d [] h = tt
+line_keeps laws d (keyword ∷ words) h =
+    either_way (bytes_eq keyword (codes "limits")) _ _ AreAddressed (limits_keep d words h)
+    (either_way (bytes_eq keyword (codes "subnet")) _ _ AreAddressed (subnet_keeps d words h)
+    (either_way (bytes_eq keyword (codes "system")) _ _ AreAddressed (system_has_none d words h)
+    (either_way (bytes_eq keyword (codes "address")) _ _ AreAddressed (address_is_one laws d words h)
+    (either_way (bytes_eq keyword (codes "port")) _ _ AreAddressed (port_keeps d words h) tt))))
+
+-- so is each up to `events`
+abbrev pub ReadAddressed : ReadTo Declarations → Type 0
+ReadAddressed r = AreAddressed r.value
+
+declarations_keep : Laws → (n : ℕ) (d : Declarations) (lines : List (List ℕ)) → AreAddressed d → IfOk (declarations_from n d lines) ReadAddressed
+declarations_keep laws n d [] h = tt
+declarations_keep laws n d (line ∷ lines) h =
+    either_way (is_skipped line) _ _ ReadAddressed (declarations_keep laws (n + 1) d lines h)
+    (either_way (is_line_of (codes "events") (words_of line)) _ _ ReadAddressed
+    (behind_line n (wanted (list_all is_complete d.systems) bad.Count) _ ReadAddressed (λ _ e. h))
+    (behind_line_such n (declaration_line d (words_of line)) _ AreAddressed ReadAddressed (line_keeps laws d (words_of line) h) (λ declared keeps.
+    declarations_keep laws (n + 1) declared lines keeps)))
+
+pub declared_addresses : Laws → (n : ℕ) (lines : List (List ℕ)) → IfOk (declarations_from n nothing_declared lines) ReadAddressed
+declared_addresses laws n lines = declarations_keep laws n nothing_declared lines tt
+
+-- and so is each of the systems
+pub configured_addresses : (systems : List DeclaredSystem) → AllByRecursion HasAddresses systems
+    → AllByRecursion (λ (system : SystemConfiguration). All IsAddress system.addresses) (map configuration_of systems)
+configured_addresses systems h =
+    AllByRecursion-mapped HasAddresses (λ (system : SystemConfiguration). All IsAddress system.addresses) configuration_of systems
+    (λ system its. All-from_recursion IsAddress system.addresses its) h
