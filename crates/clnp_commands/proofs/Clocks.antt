@@ -3,34 +3,47 @@ use Rattle.std.proofs.Common.{◌≡◌, ℕ, ◌+◌, ◌-◌, ◌^◌, ◌<◌
 use Rattle.std.specs.Prelude.{replicate, slice_get}
 use Rattle.std.specs.List.{range_with_len, sum_by}
 use Rattle.std.proofs.lemmas.List.Sums.{sum-map, sum_by-cons}
-use Rattle.clnp_plan.specs.Configuration.{SystemConfiguration}
 use Rattle.clnp_plan.specs.Journal.{Late}
 use Rattle.clnp_plan.specs.declared.config.Limits.{Limits}
+use Rattle.clnp_plan.specs.declared.config.Role.{Role}
+use Rattle.clnp_plan.specs.declared.config.Role.TheVariants.{Host, Router}
 use Rattle.scenario.specs.Scenario.{Plan, IsFit, octets_of, moves_of, moves_from, ticks_of}
 use Rattle.scenario.specs.declared.event.Event.{Event}
 use Rattle.scenario.specs.declared.event.Event.TheVariants.{Send, Deliver, Settle, Lose, Tick, Restart}
 use Rattle.scenario.specs.declared.event.Move.{Move}
 use Rattle.scenario.specs.declared.event.Move.TheVariants.{One, SettleOne, LoseOne, TickOne}
-use Rattle.clnp_machine.specs.System.{SystemState, Input, AsksToSend, MomentComes, IsRestarted, Output, Transmits, Notes, Effect}
+use Rattle.clnp_machine.specs.System.{SystemState, Input, AsksToSend, MomentComes, IsRestarted, Output, Transmits, SendsEsis, Notes, Effect}
+use Rattle.clnp_machine.specs.Unit.{DeclaredAt}
+use Rattle.clnp_machine.specs.Content.{Labelled, Esis}
 use Rattle.clnp_machine.specs.Step.{step}
-use Rattle.clnp_network.specs.World.{World, Step, Copy, Numbered, after, first_world, copy_from, put_all_out, with_effect, takes_effect, comes_to, comes, frame_to, writes, is_late, give_to, give, give_each, addressees_from, settle_copy, lose_copy, deliver_to, deliver_at, is_addressee, is_void, tick_each, event_happens}
+use Rattle.clnp_network.specs.World.{World, Step, Copy, Numbered, after, first_world, sends_frame, put_all_out, with_effect, takes_effect, comes_to, comes, asks_role, asks_system, frame_to, writes, is_late, give_to, give, give_each, addressees_from, settle_copy, lose_copy, deliver_to, deliver_at, is_addressee, is_void, tick_each, event_happens}
 use Rattle.clnp_network.specs.Run.{moves_of_plan, world_after}
 use Rattle.clnp_world.specs.State.{WorldState}
 use Rattle.clnp_world.specs.Stands.{Stands}
 use Rattle.clnp_commands.specs.Time.{tick_of, ticks_in, HasTime}
 
-of_outputs : (system : SystemConfiguration) (w : World) (outputs : List Output) → (put_all_out system w outputs).world.clock ≡ w.clock
+of_outputs : (system : SystemState) (w : World) (outputs : List Output) → (put_all_out system w outputs).world.clock ≡ w.clock
 of_outputs system w [] = refl
 of_outputs system w (Notes note ∷ outputs) = of_outputs system w outputs
 of_outputs system w (Transmits port target packet ∷ outputs) =
-    of_outputs system (record w { copies = w.copies ++ copy_from (slice_get system.ports port) target packet }) outputs
+    of_outputs system (sends_frame system w port target packet.unit.maker packet.unit.made (Labelled packet [])).world outputs
+of_outputs system w (SendsEsis port target value ∷ outputs) =
+    of_outputs system (sends_frame system w port target (DeclaredAt system.place) w.clock (Esis value [])).world outputs
 
 of_effect : (w : World) (place : ℕ) (effect : Effect) → (takes_effect w place effect).world.clock ≡ w.clock
-of_effect w place effect = of_outputs effect.after.configuration (with_effect w place effect) effect.outputs
+of_effect w place effect = of_outputs effect.after (with_effect w place effect) effect.outputs
 
 of_system : (w : World) (place : ℕ) (input : Input) (found : Option SystemState) → (comes_to w place input found).world.clock ≡ w.clock
 of_system w place input None = refl
 of_system w place input (Some system) = of_effect w place (step system input)
+
+of_role : (role : Role) (w : World) (place : ℕ) (asked : Input) → (asks_role role w place asked).world.clock ≡ w.clock
+of_role Host w place asked = of_system w place asked (slice_get w.systems place)
+of_role Router w place asked = refl
+
+of_asking : (w : World) (place : ℕ) (asked : Input) (found : Option SystemState) → (asks_system w place asked found).world.clock ≡ w.clock
+of_asking w place asked None = refl
+of_asking w place asked (Some system) = of_role system.configuration.role w place asked
 
 either : (first : Bool) (one other : Step) (now : ℕ) → one.world.clock ≡ now → other.world.clock ≡ now → (if first then one else other).world.clock ≡ now
 either true one other now p q = p
@@ -82,7 +95,7 @@ of_event limits w (Some (Tick count)) = refl
 of_event limits w (Some (Deliver copy system)) = of_delivery_at limits w copy system (slice_get w.systems system)
 of_event limits w (Some (Restart system)) = of_system w system IsRestarted (slice_get w.systems system)
 of_event limits w (Some (Send system from to body ask)) =
-    of_system w system (AsksToSend from to (octets_of body) ask) (slice_get w.systems system)
+    of_asking w system (AsksToSend from to (octets_of body) ask) (slice_get w.systems system)
 
 pub clock_after : (plan : Plan) (w : World) (move : Move) → (after plan w move).world.clock ≡ w.clock + tick_of move
 clock_after plan w (One place) = omega (arith, of_event plan.limits w (slice_get plan.events place))

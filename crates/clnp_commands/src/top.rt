@@ -105,9 +105,10 @@ pub fn clnp_main<S: Source, K: Sink>(
     ensures bounded { (text : List ℕ) → IfOk (plan_of text) (λ plan. (moves : List Move)
         → IsWithinBudgets (world_after plan (first_world plan) moves)) }
 
-    // After whatever moves of a scenario each copy carries a range of a unit that was made, with nothing
-    // behind its PDU, each reassembly buffer holds segments of one such unit, and two units of one maker
-    // with one identifier were made as long apart as an identifier rests.
+    // After whatever moves of a scenario each copy carries a range of a unit that was made, or an ES-IS
+    // value that a PDU can carry, with nothing behind its PDU; each reassembly buffer holds segments of
+    // one such unit, and two units of one maker with one identifier were made as long apart as an
+    // identifier rests.
     ensures carried { (text : List ℕ) → IfOk (plan_of text) (λ plan. (moves : List Move)
         → CarriesRanges (world_after plan (first_world plan) moves)) }
     ensures held_apart { (text : List ℕ) → IfOk (plan_of text) (λ plan. (moves : List Move)
@@ -116,11 +117,11 @@ pub fn clnp_main<S: Source, K: Sink>(
         → IdentifiersRest plan.limits.reuse (world_after plan (first_world plan) moves)) }
 
     // After whatever moves of a scenario the frame of each copy begins with 0x81, and no rule of PDUs
-    // refuses it.
+    // refuses it; or it begins with 0x82, and no rule of ES-IS PDUs does.
     ensures unbroken { (text : List ℕ) → IfOk (plan_of text) (λ plan. (moves : List Move)
         → FramesAreUnbroken (world_after plan (first_world plan) moves)) }
 
-    // No line of a run says that a frame was discarded for a rule of PDUs.
+    // No line of a run says that a frame was discarded for a rule of PDUs, or broke one of ES-IS PDUs.
     ensures unrefused { (text : List ℕ) → IfOk (plan_of text) (λ plan.
         AllByRecursion (λ entry. AllByRecursion TellsNoRule entry.lines) (run plan)) }
 

@@ -88,7 +88,8 @@ RangeIn units birth (Unlabelled octets) = ⊥
 abbrev pub CarriesRanges : World → Type 0
 CarriesRanges w = AllByRecursion (λ copy. RangeIn w.units copy.birth copy.content) w.copies
 
--- a frame carries a packet and breaks no rule of PDUs, or an ES-IS value with nothing behind it and breaks none of ES-IS PDUs
+-- a frame carries a packet, and breaks no rule of PDUs; or it carries an ES-IS value with nothing behind it, and breaks none
+-- of ES-IS PDUs
 abbrev pub IsUnbroken : Content → Type 0
 IsUnbroken (Labelled packet following) = BreaksNoRule (frame_of (Labelled packet following))
 IsUnbroken (Esis value following) = BreaksNoEsisRule (frame_of (Esis value following)) × (following ≡ [])
@@ -128,7 +129,7 @@ NoneIsAlien [] = Unit {0}
 NoneIsAlien (Noted now name Alien ∷ lines) = ⊥
 NoneIsAlien (_ ∷ lines) = NoneIsAlien lines
 
--- no line says that a frame was discarded for a rule of PDUs
+-- a line doesn't say that a frame was discarded for a rule of PDUs, or broke one of ES-IS PDUs
 abbrev pub TellsNoRule : Line → Type 0
 TellsNoRule (Noted now name note) = NotesNoRule note
 TellsNoRule _ = Unit {0}

@@ -1,6 +1,6 @@
 -- Whatever the moves: packets meet the bound on hops and lifetime, and systems keep their budgets.
 use Rattle.clnp_base.proofs.Lists.{AllByRecursion-any, AllByRecursion-append, AllByRecursion-implies, AllByRecursion-slice_get}
-use Rattle.std.proofs.Common.{◌≡◌, ◌≤◌, ◌+◌, ℕ, zero, suc, List, [], ◌∷◌, arith}
+use Rattle.std.proofs.Common.{◌≡◌, ◌+◌, ℕ, zero, suc, List, [], ◌∷◌, arith}
 use Rattle.std.specs.Prelude.{slice_get, slice_set, Option, None, Some}
 use Rattle.std.specs.List.{AllByRecursion}
 use Rattle.nsap.specs.declared.target.Target.{Target}

@@ -32,15 +32,16 @@ pub fn no_unit_meets_another()
     laws_of_steps();
 }
 
-/// Each frame of a run carries a range of a unit that was made, however often it was cut, and
-/// nothing behind its PDU.
+/// Each frame of a run carries a range of a unit that was made, however often it was cut, or an ES-IS
+/// value that a PDU can carry, and nothing behind its PDU.
 pub fn ranges_of_units_are_carried()
     ensures { (plan : Plan) → IsFit plan → (moves : List Move) → CarriesRanges (world_after plan (first_world plan) moves) }
 {
     laws_of_steps();
 }
 
-/// Each frame of a run breaks no rule of PDUs: it begins with 0x81, and none of the rules refuses it.
+/// Each frame of a run breaks no rule of its protocol: it begins with 0x81, and none of the rules of
+/// PDUs refuses it, or it begins with 0x82, and none of the rules of ES-IS PDUs does.
 pub fn no_frame_breaks_a_rule()
     ensures { (plan : Plan) → IsFit plan → (moves : List Move)
         → FramesAreUnbroken (world_after plan (first_world plan) moves) }
@@ -48,7 +49,7 @@ pub fn no_frame_breaks_a_rule()
     laws_of_steps();
 }
 
-/// No line of a run says that a frame was discarded for a rule of PDUs.
+/// No line of a run says that a frame was discarded for a rule of PDUs, or broke one of ES-IS PDUs.
 pub fn no_frame_is_refused()
     ensures { (plan : Plan) → IsFit plan → (moves : List Move)
         → AllByRecursion (λ (entry : Entry). AllByRecursion TellsNoRule entry.lines) (entries_of plan (first_world plan) moves) }
