@@ -1,4 +1,4 @@
-use Rattle.std.proofs.Common.{arith, append-nil, append_assoc, refl}
+use Rattle.std.proofs.Common.{arith, append-nil, append_assoc}
 use Rattle.std.proofs.lemmas.List.{replicate_more}
 use Rattle.std.proofs.lemmas.Result.{err_from_is_err_and}
 use Rattle.clnp_commands.proofs.Playing.{stopped_next}
