@@ -1,3 +1,4 @@
 pub mod Parts
 pub mod Outputs
 pub mod Arrivals
+pub mod Hops
