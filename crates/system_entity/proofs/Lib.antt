@@ -2,3 +2,4 @@ pub mod Parts
 pub mod Outputs
 pub mod Arrivals
 pub mod Hops
+pub mod Discards

@@ -6,10 +6,10 @@ use Rattle.system_entity.specs.State.{SystemEntityState}
 use Rattle.system_entity.specs.Stands.{PartsStand, PartsStandSince, Stands}
 use Rattle.system_entity.proofs.entity.SystemEntity.restart.Goals as goal
 
-inside : goal.After-restart-2 → SystemEntityState
+abbrev inside : goal.After-restart-2 → SystemEntityState
 inside c = record { local = c.self.inside.local; esis = c.self.inside.esis; moment = c.self.inside.moment; spent = c.self.inside.spent }
 
-after : goal.After-restart-2 → SystemEntityState
+abbrev after : goal.After-restart-2 → SystemEntityState
 after c = record { local = c.restart.new.self; esis = c.restart-2.new.self; moment = c.self.inside.moment; spent = c.self.inside.spent }
 
 again : (c : goal.After-restart-2) (s : SystemState) → Stands (inside c) s → Stands (after c) (restarted s)
