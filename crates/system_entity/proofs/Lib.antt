@@ -3,3 +3,4 @@ pub mod Outputs
 pub mod Arrivals
 pub mod Hops
 pub mod Discards
+pub mod Receipt
