@@ -4,3 +4,4 @@ pub mod Arrivals
 pub mod Hops
 pub mod Discards
 pub mod Receipt
+pub mod Packets
