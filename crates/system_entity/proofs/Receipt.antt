@@ -32,11 +32,12 @@ asked_is t place group p role asked is same =
     ap (λ (r : Role). if is_asked_for r t group p then tells_of_itself t place.port place.snpa else idles t) is
     ∙ ap (λ (b : Bool). if b then tells_of_itself t place.port place.snpa else idles t) same
 
-pub host_responds : (t : SystemState) (place : Place) (p : Packet) → t.configuration.role ≡ Host → (p.lifetime == 0) ≡ false
-    → is_own t p.unit.destination ≡ true → responds t place true p ≡ tells_of_itself t place.port place.snpa
-host_responds t place p role alive own =
-    asked_is t place true p Host true role
-    (ap (λ (b : Bool). true && (not b && is_own t p.unit.destination)) alive ∙ ap (λ (b : Bool). true && (not false && b)) own)
+pub host_responds : (t : SystemState) (place : Place) (group : Bool) (p : Packet) → t.configuration.role ≡ Host → group ≡ true → (p.lifetime == 0) ≡ false
+    → is_own t p.unit.destination ≡ true → responds t place group p ≡ tells_of_itself t place.port place.snpa
+host_responds t place group p role asked alive own =
+    asked_is t place group p Host true role
+    (ap (λ (b : Bool). b && (not (p.lifetime == 0) && is_own t p.unit.destination)) asked
+    ∙ ap (λ (b : Bool). true && (not b && is_own t p.unit.destination)) alive ∙ ap (λ (b : Bool). true && (not false && b)) own)
 
 pub router_is_quiet : (t : SystemState) (place : Place) (group : Bool) (p : Packet) → t.configuration.role ≡ Router → responds t place group p ≡ idles t
 router_is_quiet t place group p role = asked_is t place group p Router false role refl
@@ -45,8 +46,10 @@ none_alone : (t : SystemState) (p : Packet) (role : Role) → is_asked_for role 
 none_alone t p Host = refl
 none_alone t p Router = refl
 
-pub alone_is_quiet : (t : SystemState) (place : Place) (p : Packet) → responds t place false p ≡ idles t
-alone_is_quiet t place p = asked_is t place false p t.configuration.role false refl (none_alone t p t.configuration.role)
+pub alone_is_quiet : (t : SystemState) (place : Place) (group : Bool) (p : Packet) → group ≡ false → responds t place group p ≡ idles t
+alone_is_quiet t place group p alone =
+    asked_is t place group p t.configuration.role false refl
+    (ap (λ (b : Bool). is_asked_for t.configuration.role t b p) alone ∙ none_alone t p t.configuration.role)
 
 none_over : (t : SystemState) (group : Bool) (p : Packet) (role : Role) → (p.lifetime == 0) ≡ true → is_asked_for role t group p ≡ false
 none_over t true p Host over = ap (λ (b : Bool). true && (not b && is_own t p.unit.destination)) over

@@ -2,6 +2,7 @@
 use Rattle.std.proofs.Common.{◌≡◌, ◌≢◌, ◌∙◌, refl, sym, ap, subst, ℕ, List, Some}
 use Rattle.pdu_header.specs.Rules.{octet}
 use Rattle.esis_pdus.specs.declared.pdu.EsisRefusal.{EsisRefusal}
+use Rattle.clnp_plan.specs.declared.note.Note.TheVariants.{BadEsis}
 use Rattle.clnp_machine.specs.Content.{Content, IsCarried, frame_of}
 use Rattle.clnp_machine.specs.Given.{Appends}
 use Rattle.clnp_machine.specs.Local.{tells}
@@ -25,7 +26,8 @@ returns-in_ok-push-in-Err-Broken-clause-outputs c = λ s group content h carried
     (frame_unheard c.no_frame_is_of_both_protocols.ensures.packet s c.args.place group c.bytes.result.now _
     c.in-Err-Broken.ensures.judged c.in-Err-Broken.ensures.none (λ at. c.requires.other (ap (λ (f : List ℕ). octet f 1) (sym c.bytes.ensures) ∙ at))
     content carried (frame ∙ sym c.bytes.ensures))
-    (appends_note s.moment c.args.out.now.items c.push.new.self.items _ _ c.in_ok-push-in-Err-Broken.ensures.items
+    (appends_note s.moment c.args.out.now.items c.push.new.self.items (BadEsis c.in-Err-Broken.rule c.in-Err-Broken.place)
+    (unheard_note (Some c.in-Err-Broken.field-0)) c.in_ok-push-in-Err-Broken.ensures.items
     (ap (λ (r : EsisRefusal). unheard_note (Some r)) (sym c.in-Err-Broken.field-0-is)))
 
 pub returns-in_ok-push-in-Err-NotEsis-clause-stands : goal.returns-in_ok-push-in-Err-NotEsis-clause-stands
