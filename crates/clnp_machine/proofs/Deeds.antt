@@ -10,18 +10,22 @@ use Rattle.clnp_options.specs.declared.judge.OptionRefusal.{OptionRefusal}
 use Rattle.reassembly.specs.Arrival.{Arrival, same_key}
 use Rattle.reassembly.specs.Buffer as buffer
 use Rattle.reassembly.specs.Buffer.{Answer, Buffer, held, size_of}
+use Rattle.esis_tables.specs.declared.fact.Place.{Place}
 use Rattle.clnp_plan.specs.declared.ask.Ask.{Ask}
 use Rattle.clnp_plan.specs.declared.config.Role.{Role}
 use Rattle.clnp_plan.specs.declared.config.Role.TheVariants.{Host, Router}
 use Rattle.clnp_plan.specs.declared.note.Note.{Note}
 use Rattle.clnp_plan.specs.declared.note.Note.TheVariants as note
+use Rattle.clnp_machine.specs.Identifiers.{Identifiers}
 use Rattle.clnp_machine.specs.Unit as unit
 use Rattle.clnp_machine.specs.Unit.{DeclaredAt, Packet}
-use Rattle.clnp_machine.specs.Content.{Content, Labelled, Unlabelled}
-use Rattle.clnp_machine.specs.System.{SystemState, Input, AsksToSend, FrameComes, MomentComes, IsRestarted, table_limits}
-use Rattle.clnp_machine.specs.Local.{Action, Sends, Tells, Deed, tells, and_then, made_in, is_own, is_all, offered, takes_in, offer, receive, refusal, unit_of, make, unless_refused, with_use, discard_first, gives_up, give_up_due, expire, at_moment, tick}
-use Rattle.clnp_machine.specs.Step.{passes_by, packet_comes, discard_refused, octets_come, content_comes, restart, deed, step}
-use Rattle.clnp_machine.specs.Steps.{AsksNothing, IsDeed, StaysItself, moment_after, IsFresh, IsWithinBudget}
+use Rattle.clnp_machine.specs.Content.{Content, Labelled, Esis, Unlabelled}
+use Rattle.clnp_machine.specs.System.{SystemState, Input, AsksToSend, FrameComes, MomentComes, IsRestarted, Effect, then_does, table_limits}
+use Rattle.clnp_machine.specs.Local.{Action, Sends, Tells, Deed, tells, and_then, made_in, is_own, is_all, offered, takes_in, offer, receive, refusal, unit_of, make, unless_refused, with_use, discard_first, gives_up, give_up_due, expire, at_moment, tick, restarted}
+use Rattle.clnp_machine.specs.Esis.{esis_comes, forgets, says_hello}
+use Rattle.clnp_machine.specs.Step.{passes_by, packet_comes, discard_refused, octets_come, effect_of, responds, content_comes, moment_comes, step}
+use Rattle.clnp_machine.specs.Steps.{AsksNothing, IsDeed, StaysItself, HearsNothing, LeavesTheRest, OnlyHellos, moment_after, IsFresh, IsWithinBudget}
+use Rattle.clnp_machine.proofs.Hellos.{only_comes, only_forgets, only_responds, only_says_hello, only_then}
 use Rattle.clnp_machine.proofs.Kept.{held_after}
 use Rattle.clnp_machine.proofs.Making.{allowed, total_is}
 
@@ -46,8 +50,13 @@ goes-on s t u h k = record {
   budget = λ within. k.budget (h.budget within);
 }
 
+-- it hears nothing
+hears-nothing : (s : SystemState) → HearsNothing s s
+hears-nothing s = record { facts = refl; hello = refl; next_hello = refl }
+
 pub record Does (s : SystemState) (deed : Deed) : Type 0 where
   pub goes : Goes s deed.after
+  pub heard : HearsNothing s deed.after
   pub makes_none : made_in deed.actions ≡ []
 
 made_in-append : (xs ys : List Action) → made_in (xs ++ ys) ≡ made_in xs ++ made_in ys
@@ -60,13 +69,18 @@ does_both s first next h k =
     let second = k first.after in
     record {
       goes = goes-on s first.after (next first.after).after h.goes second.goes;
+      heard = record {
+        facts = second.heard.facts ∙ h.heard.facts;
+        hello = second.heard.hello ∙ h.heard.hello;
+        next_hello = second.heard.next_hello ∙ h.heard.next_hello;
+      };
       makes_none = made_in-append first.actions (next first.after).actions
           ∙ ap (λ (us : List unit.Unit). us ++ made_in (next first.after).actions) h.makes_none ∙ second.makes_none;
     }
 
 -- only something is noted
 does_tell : (s : SystemState) (told : Note) → Does s (record { after = s; actions = Tells told ∷ [] })
-does_tell s told = record { goes = goes-nowhere s; makes_none = refl }
+does_tell s told = record { goes = goes-nowhere s; heard = hears-nothing s; makes_none = refl }
 
 -- Units that are asked for.
 
@@ -77,6 +91,10 @@ reuse_kept s (Some identifier) = refl
 stays : (s : SystemState) (u : unit.Unit) (refused : Option Note) → Goes s (unless_refused refused s u).after
 stays s u None = record { itself = record { place = refl; configuration = refl; hold = refl; reuse = reuse_kept s u.identifier }; moment = refl; budget = λ h. h }
 stays s u (Some told) = goes-nowhere s
+
+stays_deaf : (s : SystemState) (u : unit.Unit) (refused : Option Note) → HearsNothing s (unless_refused refused s u).after
+stays_deaf s u None = record { facts = refl; hello = refl; next_hello = refl }
+stays_deaf s u (Some told) = hears-nothing s
 
 asked_is_fresh : (s : SystemState) (kind : Kind) (from to octets : List ℕ) (ask : Ask) (refused : Option Note)
     → refusal s (unit_of s kind from to octets ask) ≡ refused
@@ -102,20 +120,21 @@ with_buffers s buffers within = record { itself = record { place = refl; configu
 
 does_take_in : (s : SystemState) (frame : Content) (arrival : Arrival Packet) (kept : List (Buffer Packet)) (answer : Answer)
     → (IsWithinBudget s → held kept ≤ s.configuration.settings.budget) → Does s (takes_in s frame arrival kept answer)
-does_take_in s frame arrival kept buffer.Held within = record { goes = with_buffers s kept within; makes_none = refl }
+does_take_in s frame arrival kept buffer.Held within = record { goes = with_buffers s kept within; heard = record { facts = refl; hello = refl; next_hello = refl }; makes_none = refl }
 does_take_in s frame arrival kept buffer.Whole within = record {
   goes = with_buffers s (buffer.without arrival.key kept)
       (λ h.
       let less = sum_filter size_of (λ (b : Buffer Packet). not (same_key b.key arrival.key)) kept in
       let most = within h in
       omega arith);
+  heard = record { facts = refl; hello = refl; next_hello = refl };
   makes_none = refl;
 }
-does_take_in s frame arrival kept (buffer.Interference there other) within = record { goes = goes-nowhere s; makes_none = refl }
+does_take_in s frame arrival kept (buffer.Interference there other) within = record { goes = goes-nowhere s; heard = hears-nothing s; makes_none = refl }
 does_take_in s frame arrival kept buffer.Repeat within = does_tell s _
-does_take_in s frame arrival kept (buffer.NoSlot live) within = record { goes = goes-nowhere s; makes_none = refl }
-does_take_in s frame arrival kept (buffer.Crowded held size) within = record { goes = goes-nowhere s; makes_none = refl }
-does_take_in s frame arrival kept (buffer.Many segments) within = record { goes = goes-nowhere s; makes_none = refl }
+does_take_in s frame arrival kept (buffer.NoSlot live) within = record { goes = goes-nowhere s; heard = hears-nothing s; makes_none = refl }
+does_take_in s frame arrival kept (buffer.Crowded held size) within = record { goes = goes-nowhere s; heard = hears-nothing s; makes_none = refl }
+does_take_in s frame arrival kept (buffer.Many segments) within = record { goes = goes-nowhere s; heard = hears-nothing s; makes_none = refl }
 
 does_offer : (s : SystemState) (frame : Content) (arrival : Arrival Packet) → Does s (offer s frame arrival)
 does_offer s frame arrival =
@@ -147,11 +166,7 @@ does_discard_refused s octets (Some broken) = does_tell s _
 does_with_octets : (s : SystemState) (octets : List ℕ) → Does s (octets_come s octets)
 does_with_octets s octets =
     does_one_of s (octet octets 1 == 0x81) (discard_refused s octets (rule_broken octets)) _ (does_discard_refused s octets (rule_broken octets))
-    (does_one_of s (octet octets 1 == 0x82) _ _ (does_tell s _) (does_tell s _))
-
-does_with_content : (s : SystemState) (content : Content) → Does s (content_comes s content)
-does_with_content s (Labelled p following) = does_with_packet s p following
-does_with_content s (Unlabelled octets) = does_with_octets s octets
+    (does_tell s _)
 
 -- Moments that come.
 
@@ -165,7 +180,7 @@ pub given_up_after : (s : SystemState) (ended : Buffer Packet) → (gives_up s e
 given_up_after s ended = discard_first_after (record s { buffers = buffer.without ended.key s.buffers }) (buffer.first_carried ended)
 
 does_discard_first : (s : SystemState) (first : Option Packet) → Does s (discard_first s first)
-does_discard_first s None = record { goes = goes-nowhere s; makes_none = refl }
+does_discard_first s None = record { goes = goes-nowhere s; heard = hears-nothing s; makes_none = refl }
 does_discard_first s (Some p) = does_tell s _
 
 does_give_up : (s : SystemState) (ended : Buffer Packet) → Does s (gives_up s ended)
@@ -177,47 +192,98 @@ does_give_up s ended =
           (λ h.
           let less = sum_filter size_of (λ (b : Buffer Packet). not (same_key b.key ended.key)) s.buffers in
           omega arith);
+      heard = record { facts = refl; hello = refl; next_hello = refl };
       makes_none = refl;
     })
     (λ t. does_discard_first t (buffer.first_carried ended))
 
 does_give_up_due : (s : SystemState) (found : Option (Buffer Packet)) (next : SystemState → Deed) → ((t : SystemState) → Does t (next t))
     → Does s (give_up_due found s next)
-does_give_up_due s None next h = record { goes = goes-nowhere s; makes_none = refl }
+does_give_up_due s None next h = record { goes = goes-nowhere s; heard = hears-nothing s; makes_none = refl }
 does_give_up_due s (Some ended) next h = does_both s (gives_up s ended) next (does_give_up s ended) h
 
 does_expire : (most : ℕ) (s : SystemState) → Does s (expire most s)
-does_expire zero s = record { goes = goes-nowhere s; makes_none = refl }
+does_expire zero s = record { goes = goes-nowhere s; heard = hears-nothing s; makes_none = refl }
 does_expire (suc most) s = does_give_up_due s (buffer.due s.moment s.buffers) (expire most) (does_expire most)
 
--- the state in which a deed is done: a moment that comes has come
+-- What that says of a step.
+
+-- what an effect leaves that was not asked for
+pub record Leads (s : SystemState) (effect : Effect) : Type 0 where
+  pub goes : Goes s effect.after
+  pub makes_none : effect.units ≡ []
+
+-- the effect of a deed
+by_deed : (s : SystemState) (deed : Deed) → Does s deed → Leads s (effect_of deed)
+by_deed s deed h = record { goes = h.goes; makes_none = h.makes_none }
+
+within_budget : (s t : SystemState) → LeavesTheRest s t → IsWithinBudget s → IsWithinBudget t
+within_budget s t rest within = rw (rest.buffers, rest.configuration) within
+
+-- what is said and heard between systems
+by_hellos : (s : SystemState) (effect : Effect) → OnlyHellos s effect → Leads s effect
+by_hellos s effect h = record {
+  goes = record {
+    itself = record {
+      place = h.rest.place;
+      configuration = h.rest.configuration;
+      hold = h.rest.hold;
+      reuse = ap (λ (ids : Identifiers). ids.reuse) h.rest.identifiers;
+    };
+    moment = h.rest.moment;
+    budget = within_budget s effect.after h.rest;
+  };
+  makes_none = h.units;
+}
+
+leads-on : (s : SystemState) (effect : Effect) (next : SystemState → Effect) → Leads s effect → Leads effect.after (next effect.after)
+    → Leads s (then_does effect next)
+leads-on s effect next h k = record {
+  goes = goes-on s effect.after (next effect.after).after h.goes k.goes;
+  makes_none = ap (λ (us : List unit.Unit). us ++ (next effect.after).units) h.makes_none ∙ k.makes_none;
+}
+
+leads_content : (s : SystemState) (place : Place) (to_group : Bool) (content : Content) → Leads s (content_comes s place to_group content)
+leads_content s place to_group (Labelled p following) =
+    leads-on s (effect_of (packet_comes s p following)) (λ t. responds t place to_group p)
+    (by_deed s (packet_comes s p following) (does_with_packet s p following))
+    (by_hellos (packet_comes s p following).after (responds (packet_comes s p following).after place to_group p)
+    (only_responds (packet_comes s p following).after place to_group p))
+leads_content s place to_group (Esis value following) = by_hellos s (esis_comes s place value) (only_comes s place value)
+leads_content s place to_group (Unlabelled octets) = by_deed s (octets_come s octets) (does_with_octets s octets)
+
+leads_moment : (s : SystemState) (now : ℕ) → Leads (at_moment now s) (moment_comes s now)
+leads_moment s now =
+    let ticked = (tick s now).after in
+    leads-on (at_moment now s) (effect_of (tick s now)) (λ t. then_does (forgets s.moment t) says_hello)
+    (by_deed (at_moment now s) (tick s now) (does_expire (length s.buffers) (at_moment now s)))
+    (by_hellos ticked (then_does (forgets s.moment ticked) says_hello)
+    (only_then ticked (forgets s.moment ticked) says_hello (only_forgets s.moment ticked) (only_says_hello ticked)))
+
+goes_restarted : (s : SystemState) → Goes s (restarted s)
+goes_restarted s =
+    record { itself = record { place = refl; configuration = refl; hold = refl; reuse = refl }; moment = refl; budget = λ h. omega arith }
+
+-- the state in which a step is taken: a moment that comes has come
 abbrev pub begun : SystemState → Input → SystemState
 begun s input = at_moment (moment_after s input) s
 
-does_restart : (s : SystemState) → Does s (restart s)
-does_restart s = record {
-  goes = record { itself = record { place = refl; configuration = refl; hold = refl; reuse = refl }; moment = refl; budget = λ h. omega arith };
-  makes_none = refl;
-}
-
 pub goes : (s : SystemState) (input : Input) → Goes (begun s input) (step s input).after
 goes s (AsksToSend from to octets ask) = stays s (unit_of s Dt from to octets ask) (refusal s (unit_of s Dt from to octets ask))
-goes s (FrameComes port sender to_group content) = (does_with_content s content).goes
-goes s (MomentComes now) = (does_expire (length s.buffers) (at_moment now s)).goes
-goes s IsRestarted = (does_restart s).goes
+goes s (FrameComes port sender to_group content) = (leads_content s (record { port = port; snpa = sender }) to_group content).goes
+goes s (MomentComes now) = (leads_moment s now).goes
+goes s IsRestarted = goes_restarted s
 
 -- a unit that isn't asked for isn't made
 pub makes_none : (s : SystemState) (input : Input) → AsksNothing input → (step s input).units ≡ []
 makes_none s (AsksToSend from to octets ask) asks = absurd asks
-makes_none s (FrameComes port sender to_group content) asks = (does_with_content s content).makes_none
-makes_none s (MomentComes now) asks = (does_expire (length s.buffers) (at_moment now s)).makes_none
+makes_none s (FrameComes port sender to_group content) asks = (leads_content s (record { port = port; snpa = sender }) to_group content).makes_none
+makes_none s (MomentComes now) asks = (leads_moment s now).makes_none
 makes_none s IsRestarted asks = refl
 
 none_fresh : (s : SystemState) (now : ℕ) (units : List unit.Unit) → units ≡ [] → AllByRecursion (IsFresh s now) units
 none_fresh s now [] none = tt
 none_fresh s now (u ∷ units) none = absurd (cc)
-
--- What that says of a step.
 
 pub step_itself : (s : SystemState) (input : Input) → StaysItself s (step s input).after
 step_itself s input =
@@ -240,7 +306,7 @@ step_budget s input within = (goes s input).budget within
 -- What that says of a deed.
 
 is_deed : (s : SystemState) (deed : Deed) → Does s deed → IsDeed s deed
-is_deed s deed h = record { itself = h.goes.itself; moment = h.goes.moment; fresh = none_fresh s s.moment (made_in deed.actions) h.makes_none }
+is_deed s deed h = record { itself = h.goes.itself; moment = h.goes.moment; heard = h.heard; fresh = none_fresh s s.moment (made_in deed.actions) h.makes_none }
 
 pub make_is : (s : SystemState) (kind : Kind) (from to octets : List ℕ) (ask : Ask) → IsDeed s (make s kind from to octets ask)
 make_is s kind from to octets ask =
@@ -248,14 +314,18 @@ make_is s kind from to octets ask =
     record {
       itself = went.itself;
       moment = went.moment;
+      heard = stays_deaf s (unit_of s kind from to octets ask) (refusal s (unit_of s kind from to octets ask));
       fresh = asked_is_fresh s kind from to octets ask (refusal s (unit_of s kind from to octets ask)) refl;
     }
 
 pub receive_is : (s : SystemState) (p : Packet) (following : List ℕ) → IsDeed s (receive s p following)
 receive_is s p following = is_deed s (receive s p following) (does_receive s p following)
 
-pub comes_is : (s : SystemState) (content : Content) → IsDeed s (content_comes s content)
-comes_is s content = is_deed s (content_comes s content) (does_with_content s content)
+pub packet_is : (s : SystemState) (p : Packet) (following : List ℕ) → IsDeed s (packet_comes s p following)
+packet_is s p following = is_deed s (packet_comes s p following) (does_with_packet s p following)
+
+pub octets_are : (s : SystemState) (octets : List ℕ) → IsDeed s (octets_come s octets)
+octets_are s octets = is_deed s (octets_come s octets) (does_with_octets s octets)
 
 pub tick_is : (s : SystemState) (now : ℕ) → IsDeed (at_moment now s) (tick s now)
 tick_is s now = is_deed (at_moment now s) (tick s now) (does_expire (length s.buffers) (at_moment now s))

@@ -1,7 +1,7 @@
 -- A system keeps only segments that it kept before, or that come in a frame.
 use Rattle.clnp_base.proofs.Filters.{AllByRecursion-filter}
 use Rattle.clnp_base.proofs.Lists.{AllByRecursion-append, AllByRecursion-implies, AllByRecursion-push}
-use Rattle.std.proofs.Common.{refl, ℕ, zero, suc, inl, inr, Bool, true, false, not, List, [], ◌∷◌, Option, None, Some, Contains, length, get_or}
+use Rattle.std.proofs.Common.{refl, sym, subst, ℕ, zero, suc, inl, inr, Bool, true, false, not, List, [], ◌∷◌, Option, None, Some, Contains, length, get_or}
 use Rattle.std.specs.Prelude.{◌==◌, if◌then◌else◌}
 use Rattle.std.specs.List.{AllByRecursion}
 use Rattle.std.proofs.lemmas.List.Elements.{All-contains_itself, recursion_from_All, Contains-append_left, Contains-append_right}
@@ -11,16 +11,19 @@ use Rattle.pdu_header.specs.declared.kind.Kind.TheVariants.{Dt}
 use Rattle.reassembly.specs.Arrival.{Arrival, same_key}
 use Rattle.reassembly.specs.Buffer as buffer
 use Rattle.reassembly.specs.Buffer.{Answer, Buffer}
+use Rattle.esis_tables.specs.declared.fact.Place.{Place}
 use Rattle.clnp_plan.specs.declared.config.Role.{Role}
 use Rattle.clnp_plan.specs.declared.config.Role.TheVariants.{Host, Router}
 use Rattle.clnp_plan.specs.declared.note.Note.{Note}
 use Rattle.clnp_machine.specs.Unit as unit
 use Rattle.clnp_machine.specs.Unit.{Packet}
-use Rattle.clnp_machine.specs.Content.{Content, Labelled, Unlabelled}
-use Rattle.clnp_machine.specs.System.{SystemState, Input, AsksToSend, FrameComes, MomentComes, IsRestarted, table_limits}
-use Rattle.clnp_machine.specs.Local.{Deed, is_own, is_all, offered, takes_in, offer, receive, refusal, unit_of, unless_refused, discard_first, gives_up, give_up_due, expire, at_moment}
-use Rattle.clnp_machine.specs.Step.{passes_by, packet_comes, discard_refused, content_comes, deed, step}
-use Rattle.clnp_machine.specs.Steps.{segments_in, CarriesSegment, ComesWith, WasKeptOrComes}
+use Rattle.clnp_machine.specs.Content.{Content, Labelled, Esis, Unlabelled}
+use Rattle.clnp_machine.specs.System.{SystemState, Input, AsksToSend, FrameComes, MomentComes, IsRestarted, Effect, then_does, table_limits}
+use Rattle.clnp_machine.specs.Esis.{esis_comes, forgets, says_hello}
+use Rattle.clnp_machine.specs.Local.{Deed, is_own, is_all, offered, takes_in, offer, receive, refusal, unit_of, unless_refused, discard_first, gives_up, give_up_due, expire, at_moment, tick}
+use Rattle.clnp_machine.specs.Step.{passes_by, packet_comes, discard_refused, octets_come, responds, content_comes, step}
+use Rattle.clnp_machine.specs.Steps.{segments_in, CarriesSegment, ComesWith, OnlyHellos, WasKeptOrComes}
+use Rattle.clnp_machine.proofs.Hellos.{only_comes, only_forgets, only_responds, only_says_hello, only_then}
 use Rattle.clnp_machine.proofs.Kept.{all_after}
 
 module _ (P : Arrival Packet → Type 0) where
@@ -71,12 +74,22 @@ module _ (P : Arrival Packet → Type 0) where
   keeps_discard_refused s octets None h = h
   keeps_discard_refused s octets (Some broken) h = h
 
-  keeps_with_content : (s : SystemState) (content : Content) → KeepsOnly s.buffers → ((arrival : Arrival Packet) → CarriesSegment content arrival → P arrival)
-      → KeepsOnly (content_comes s content).after.buffers
-  keeps_with_content s (Labelled p following) h comes = keeps_with_packet s p following h (comes (offered p following) refl)
-  keeps_with_content s (Unlabelled octets) h comes =
-      keeps_one_of (octet octets 1 == 0x81) (discard_refused s octets (rule_broken octets)) _ (keeps_discard_refused s octets (rule_broken octets) h)
-      (keeps_one_of (octet octets 1 == 0x82) _ _ h h)
+  keeps_with_octets : (s : SystemState) (octets : List ℕ) → KeepsOnly s.buffers → KeepsOnly (octets_come s octets).after.buffers
+  keeps_with_octets s octets h =
+      keeps_one_of (octet octets 1 == 0x81) (discard_refused s octets (rule_broken octets)) _ (keeps_discard_refused s octets (rule_broken octets) h) h
+
+  -- what is said and heard between systems leaves the buffers
+  keeps_by_hellos : (s : SystemState) (effect : Effect) → OnlyHellos s effect → KeepsOnly s.buffers → KeepsOnly effect.after.buffers
+  keeps_by_hellos s effect only h = subst KeepsOnly (sym only.rest.buffers) h
+
+  keeps_with_content : (s : SystemState) (place : Place) (to_group : Bool) (content : Content) → KeepsOnly s.buffers
+      → ((arrival : Arrival Packet) → CarriesSegment content arrival → P arrival) → KeepsOnly (content_comes s place to_group content).after.buffers
+  keeps_with_content s place to_group (Labelled p following) h comes =
+      let come = (packet_comes s p following).after in
+      keeps_by_hellos come (responds come place to_group p) (only_responds come place to_group p)
+      (keeps_with_packet s p following h (comes (offered p following) refl))
+  keeps_with_content s place to_group (Esis value following) h comes = keeps_by_hellos s (esis_comes s place value) (only_comes s place value) h
+  keeps_with_content s place to_group (Unlabelled octets) h comes = keeps_with_octets s octets h
 
   keeps_discard_first : (s : SystemState) (first : Option Packet) → KeepsOnly s.buffers → KeepsOnly (discard_first s first).after.buffers
   keeps_discard_first s None h = h
@@ -101,10 +114,14 @@ module _ (P : Arrival Packet → Type 0) where
   keeps_unless_refused s u (Some told) h = h
 
   keeps_step : (s : SystemState) (input : Input) → KeepsOnly s.buffers → ((arrival : Arrival Packet) → ComesWith input arrival → P arrival)
-      → KeepsOnly (deed s input).after.buffers
+      → KeepsOnly (step s input).after.buffers
   keeps_step s (AsksToSend from to octets ask) h comes = keeps_unless_refused s (unit_of s Dt from to octets ask) (refusal s (unit_of s Dt from to octets ask)) h
-  keeps_step s (FrameComes port sender to_group content) h comes = keeps_with_content s content h comes
-  keeps_step s (MomentComes now) h comes = keeps_expire (length s.buffers) (at_moment now s) h
+  keeps_step s (FrameComes port sender to_group content) h comes = keeps_with_content s (record { port = port; snpa = sender }) to_group content h comes
+  keeps_step s (MomentComes now) h comes =
+      let ticked = (tick s now).after in
+      keeps_by_hellos ticked (then_does (forgets s.moment ticked) says_hello)
+      (only_then ticked (forgets s.moment ticked) says_hello (only_forgets s.moment ticked) (only_says_hello ticked))
+      (keeps_expire (length s.buffers) (at_moment now s) h)
   keeps_step s IsRestarted h comes = tt
 
 -- each segment of some buffers is among all of them
@@ -124,7 +141,7 @@ all_segments P (b ∷ buffers) h = AllByRecursion-append P b.kept (segments_in b
 
 pub gains_only : (s : SystemState) (input : Input) → AllByRecursion (WasKeptOrComes s input) (segments_in (step s input).after.buffers)
 gains_only s input =
-    all_segments (WasKeptOrComes s input) (deed s input).after.buffers
+    all_segments (WasKeptOrComes s input) (step s input).after.buffers
     (keeps_step (WasKeptOrComes s input) s input
     (AllByRecursion-implies (λ (b : Buffer Packet). AllByRecursion (Contains (segments_in s.buffers)) b.kept) (λ (b : Buffer Packet). AllByRecursion (WasKeptOrComes s input) b.kept)
     (λ b h. AllByRecursion-implies (Contains (segments_in s.buffers)) (WasKeptOrComes s input) (λ arrival there. inl there) b.kept h) s.buffers

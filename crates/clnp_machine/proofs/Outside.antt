@@ -1,6 +1,6 @@
 -- What octets from outside carry: they are the frame of their content.
 use Rattle.std.proofs.Common.{◌≡◌, ◌∙◌, refl, sym, ap, subst, ℕ, ◌+◌, ◌-◌, ◌≤◌, inl, inr, Bool, true, false, Option, None, Some, List, ◌++◌, length, take, drop, arith}
-use Rattle.std.specs.Prelude.{◌==◌, ◌&&◌, is_none, nat_lt}
+use Rattle.std.specs.Prelude.{◌==◌, ◌&&◌, if◌then◌else◌, is_none, nat_lt}
 use Rattle.std.proofs.lemmas.Bool.{and_parts, cases_Bool, eqb-true}
 use Rattle.std.proofs.lemmas.Bool.Decides.{nat_tests}
 use Rattle.std.proofs.lemmas.List.{take_all}
@@ -12,8 +12,15 @@ use Rattle.pdu_header.specs.Grammar.{BeginsWith, IsPdu}
 use Rattle.pdu_header.specs.Rules.{octet, refusal}
 use Rattle.pdu_header.specs.Reading.{rest_of}
 use Rattle.pdu_header.proofs.Frames.{front, nothing_spelled, other_protocol}
+use Rattle.esis_pdus.specs.declared.pdu.EsisRefusal.{EsisRefusal}
+use Rattle.esis_pdus.specs.Grammar as esis
+use Rattle.esis_pdus.specs.Reading as esis_reading
+use Rattle.esis_pdus.specs.Rules as esis_rules
+use Rattle.esis_pdus.specs.Rules.{why_refused}
+use Rattle.esis_pdus.specs.Value.{EsisValue}
+use Rattle.esis_pdus.proofs.Frames as esis_frames
 use Rattle.clnp_machine.specs.Unit.{IsCarriable, value_of}
-use Rattle.clnp_machine.specs.Content.{Content, Labelled, IsCarried, content_of, frame_of, is_accepted, packet_from_outside, value_in}
+use Rattle.clnp_machine.specs.Content.{Content, Labelled, Esis, Unlabelled, IsCarried, content_of, esis_value_in, frame_of, is_accepted, packet_from_outside, value_in}
 use Rattle.clnp_machine.proofs.Pieces.{with_parts}
 
 follows : (end all : ℕ) (more : Bool) → end ≤ all → (more ≡ false → end ≡ all) → (end ≡ all → more ≡ false) → nat_lt end all ≡ more
@@ -80,13 +87,45 @@ not_accepted octets fails v rest begins =
     refused None e h = absurd (let none = subst (λ (f : Option OptionRefusal). (true && is_none f) ≡ false) e h in cc)
     refused (Some broken) e h = nothing_spelled octets broken e v rest begins
 
+-- octets that begin with an ES-IS PDU
+
+carries_esis : (octets : List ℕ) → esis.BeginsWith octets (esis_value_in octets) (esis_reading.rest_of octets)
+    → Carries octets (Esis (esis_value_in octets) (esis_reading.rest_of octets))
+carries_esis octets begins = record {
+  frame = ap (λ (front : List ℕ). front ++ esis_reading.rest_of octets) (sym begins.spells.octets_are) ∙ sym begins.split;
+  carried = begins.spells.pdu;
+}
+
+not_refused : (octets : List ℕ) → why_refused octets ≡ None → (octet octets 1 ≡ 0x82) × (esis_rules.refusal octets ≡ None)
+not_refused octets none =
+    elim (cases_Bool (octet octets 1 == 0x82)) [
+      | inl begun ↦ (eqb-true (octet octets 1) 0x82 begun, rw begun at none)
+      | inr other ↦ absurd (let some = rw other at none in cc)
+    ]
+
+refused_spells_none : (octets : List ℕ) (why : EsisRefusal) → why_refused octets ≡ Some why → (v : EsisValue) (rest : List ℕ) → esis.BeginsWith octets v rest → ⊥
+refused_spells_none octets why some v rest begins =
+    elim (cases_Bool (octet octets 1 == 0x82)) [
+      | inl begun ↦ esis_frames.nothing_spelled octets why (rw begun at some) v rest begins
+      | inr other ↦ esis_frames.other_protocol octets other v rest begins
+    ]
+
+-- where no CLNP PDU is accepted
+
+carries_other : (octets : List ℕ) → IsBytes octets → is_accepted octets ≡ false → (found : Option EsisRefusal) → why_refused octets ≡ found
+    → Carries octets (if is_none found then Esis (esis_value_in octets) (esis_reading.rest_of octets) else Unlabelled octets)
+carries_other octets bytes fails None e =
+    let told = not_refused octets e in carries_esis octets (esis_frames.front octets bytes told.0 told.1)
+carries_other octets bytes fails (Some why) e =
+    record { frame = refl; carried = record { clnp = not_accepted octets fails; esis = refused_spells_none octets why e } }
+
 pub has_content : (number moment : ℕ) (octets : List ℕ) → IsBytes octets → Carries octets (content_of number moment octets)
 has_content number moment octets bytes =
     elim (cases_Bool (is_accepted octets)) [
       | inl passes ↦ (
           let told = accepted_is octets passes in
           rw passes (carries_packet number moment octets (front octets bytes told.0 told.1)))
-      | inr fails ↦ rw fails (record { frame = refl; carried = not_accepted octets fails })
+      | inr fails ↦ rw fails (carries_other octets bytes fails (why_refused octets) refl)
     ]
 
 pub content_frame : (number moment : ℕ) (octets : List ℕ) → IsBytes octets → frame_of (content_of number moment octets) ≡ octets

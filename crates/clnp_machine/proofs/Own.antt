@@ -1,7 +1,7 @@
 -- A system hands up only what is for its own addresses.
 use Rattle.clnp_base.proofs.Lists.{AllByRecursion-append, AllByRecursion-implies}
 use Rattle.std.proofs.Common.{◌≡◌, ℕ, zero, suc, List, [], ◌∷◌, length, map, Bool, true, false, refl}
-use Rattle.std.specs.Prelude.{◌==◌, if◌then◌else◌, not, nat_lt, Option, None, Some, option_map}
+use Rattle.std.specs.Prelude.{◌==◌, if◌then◌else◌, not, nat_lt, slice_get, Option, None, Some, option_map}
 use Rattle.std.specs.List.{AllByRecursion, flat_map}
 use Rattle.pdu_header.specs.declared.kind.Kind.TheVariants.{Dt}
 use Rattle.pdu_header.specs.Rules.{octet, refusal as rule_broken}
@@ -9,19 +9,26 @@ use Rattle.clnp_options.specs.declared.judge.OptionRefusal.{OptionRefusal}
 use Rattle.reassembly.specs.Arrival.{Arrival}
 use Rattle.reassembly.specs.Buffer as buffer
 use Rattle.reassembly.specs.Buffer.{Answer, Buffer}
+use Rattle.esis_pdus.specs.declared.pdu.EsisRefusal.{EsisRefusal}
+use Rattle.esis_pdus.specs.declared.pdu.EsisRefusal.TheVariants.{NotEsis, Broken}
+use Rattle.esis_pdus.specs.Rules.{why_refused}
+use Rattle.esis_tables.specs.declared.fact.Place.{Place}
+use Rattle.clnp_plan.specs.declared.config.PortConfig.{PortConfig}
 use Rattle.clnp_plan.specs.declared.config.Role.{Role}
 use Rattle.clnp_plan.specs.declared.config.Role.TheVariants.{Host, Router}
 use Rattle.clnp_plan.specs.declared.note.Note.{Note}
-use Rattle.clnp_plan.specs.declared.note.Note.TheVariants.{Refused, Got, Interference, Alien}
+use Rattle.clnp_plan.specs.declared.note.Note.TheVariants.{Refused, Got, Interference, Alien, Gone, Hear, Ignored}
 use Rattle.clnp_plan.specs.declared.note.Why.TheVariants as why
 use Rattle.clnp_machine.specs.Identifiers.{NotDrawn, IsQuiet, IsBusy, not_drawn}
 use Rattle.clnp_machine.specs.Unit as unit
 use Rattle.clnp_machine.specs.Unit.{Packet, value_of, whole_packet, cut}
-use Rattle.clnp_machine.specs.Content.{Content, Labelled, Unlabelled}
-use Rattle.clnp_machine.specs.System.{SystemState, Input, AsksToSend, FrameComes, MomentComes, IsRestarted, Output, Transmits, Notes, table_limits}
-use Rattle.clnp_machine.specs.Local.{Action, Sends, Tells, Deed, hand_up, is_own, is_all, most_octets, header_size, not_drawn_note, identifier_refusal, offered, takes_in, offer, receive, refusal, unit_of, unless_refused, discard_first, gives_up, give_up_due, expire, at_moment}
-use Rattle.clnp_machine.specs.Step.{Hop, next_hop, mtu_at, transmissions, first_sent, outputs_of, passes_by, packet_comes, discard_refused, content_comes, deed, step}
-use Rattle.clnp_machine.specs.Steps.{IsForOwn, NotesOnly}
+use Rattle.clnp_machine.specs.Content.{Content, Labelled, Esis, Unlabelled}
+use Rattle.clnp_machine.specs.System.{SystemState, Input, AsksToSend, FrameComes, MomentComes, IsRestarted, Output, Transmits, SendsEsis, Notes, Effect, then_does, table_limits}
+use Rattle.clnp_machine.specs.Local.{Action, Sends, Tells, Deed, tells, hand_up, is_own, is_all, most_octets, header_size, not_drawn_note, identifier_refusal, offered, takes_in, offer, receive, refusal, unit_of, make, unless_refused, discard_first, gives_up, give_up_due, expire, at_moment, tick}
+use Rattle.clnp_machine.specs.Esis.{esis_comes, forgets, says_hello}
+use Rattle.clnp_machine.specs.Step.{Hop, next_hop, transmissions, sent_on, first_sent, outputs_of, effect_of, passes_by, packet_comes, discard_refused, unheard_note, octets_come, responds, content_comes, step}
+use Rattle.clnp_machine.specs.Steps.{IsForOwn, IsOfHellos, NotesOnly, OnlyHellos}
+use Rattle.clnp_machine.proofs.Hellos.{only_comes, only_forgets, only_responds, only_says_hello, only_then}
 
 -- a note that neither hands up nor refuses, and tells of no interference and of no frame of no protocol
 abbrev pub NoteIsQuiet : Note → Type 0
@@ -46,12 +53,17 @@ transmissions_are_quiet : (hop : Hop) (pieces : Option (List Packet)) → AllByR
 transmissions_are_quiet hop None = (tt, tt)
 transmissions_are_quiet hop (Some pieces) = pieces_are_quiet hop pieces
 
+sent_is_quiet : (hop : Hop) (port : Option PortConfig) (u : unit.Unit) → AllByRecursion (NotesOnly NoteIsQuiet) (sent_on hop port u)
+sent_is_quiet hop None u = (tt, tt)
+sent_is_quiet hop (Some port) u = transmissions_are_quiet hop (cut (whole_packet u) port.mtu)
+
 pub first_sent_is_quiet : (s : SystemState) (u : unit.Unit) (hop : Option Hop) → AllByRecursion (NotesOnly NoteIsQuiet) (first_sent s u hop)
 first_sent_is_quiet s u None = (tt, tt)
-first_sent_is_quiet s u (Some hop) = transmissions_are_quiet hop (cut (whole_packet u) (mtu_at s hop.port))
+first_sent_is_quiet s u (Some hop) = sent_is_quiet hop (slice_get s.configuration.ports hop.port) u
 
 output_notes : (P Q : Note → Type 0) → ((note : Note) → P note → Q note) → (output : Output) → NotesOnly P output → NotesOnly Q output
 output_notes P Q f (Transmits port target packet) h = tt
+output_notes P Q f (SendsEsis port target value) h = tt
 output_notes P Q f (Notes note) h = f note h
 
 -- what is noted where a system does this
@@ -64,6 +76,21 @@ outputs_note Q quiet s (Sends u ∷ actions) h =
     (AllByRecursion-implies (NotesOnly NoteIsQuiet) (NotesOnly Q) (output_notes NoteIsQuiet Q quiet) (first_sent s u (next_hop s u.destination))
     (first_sent_is_quiet s u (next_hop s u.destination)))
     (outputs_note Q quiet s actions h.1)
+
+-- what is said and heard between systems
+
+hello_is_quiet : (output : Output) → IsOfHellos output → NotesOnly NoteIsQuiet output
+hello_is_quiet (SendsEsis port target value) h = tt
+hello_is_quiet (Notes (Hear table key heard)) h = tt
+hello_is_quiet (Notes (Gone table key)) h = tt
+hello_is_quiet (Notes (Ignored rd)) h = tt
+hello_is_quiet (Transmits port target packet) h = absurd h
+hello_is_quiet (Notes _) h = absurd h
+
+pub hellos_note : (Q : Note → Type 0) → ((note : Note) → NoteIsQuiet note → Q note) → (outputs : List Output) → AllByRecursion IsOfHellos outputs
+    → AllByRecursion (NotesOnly Q) outputs
+hellos_note Q quiet outputs h =
+    AllByRecursion-implies IsOfHellos (NotesOnly Q) (λ output is. output_notes NoteIsQuiet Q quiet output (hello_is_quiet output is)) outputs h
 
 pub quiet_is_own : (s : SystemState) (note : Note) → NoteIsQuiet note → IsForOwn s note
 quiet_is_own s (Got from to octets) h = absurd h
@@ -144,11 +171,15 @@ refused_is_own : (s : SystemState) (octets : List ℕ) (broken : Option OptionRe
 refused_is_own s octets None = (tt, tt)
 refused_is_own s octets (Some broken) = (tt, tt)
 
-content_is_own : (s : SystemState) (content : Content) → TellOnly (IsForOwn s) (content_comes s content)
-content_is_own s (Labelled p following) = packet_is_own s p following
-content_is_own s (Unlabelled octets) =
+unheard_is_own : (s : SystemState) (broken : Option EsisRefusal) → IsForOwn s (unheard_note broken)
+unheard_is_own s None = tt
+unheard_is_own s (Some NotEsis) = tt
+unheard_is_own s (Some (Broken rule place)) = tt
+
+octets_are_own : (s : SystemState) (octets : List ℕ) → TellOnly (IsForOwn s) (octets_come s octets)
+octets_are_own s octets =
     one_is_own s (octet octets 1 == 0x81) (discard_refused s octets (rule_broken octets)) _ (λ begun. refused_is_own s octets (rule_broken octets))
-    (one_is_own s (octet octets 1 == 0x82) _ _ (λ begun. (tt, tt)) (tt, tt))
+    (unheard_is_own s (why_refused octets), tt)
 
 -- where buffers end, nothing is handed up
 
@@ -174,14 +205,38 @@ quiet_action_is_own : (s : SystemState) (action : Action) → TellsOnly NoteIsQu
 quiet_action_is_own s (Tells told) h = quiet_is_own s told h
 quiet_action_is_own s (Sends u) h = tt
 
-deed_is_own : (s : SystemState) (input : Input) → TellOnly (IsForOwn s) (deed s input)
-deed_is_own s (AsksToSend from to octets ask) =
-    asked_is_own s (unit_of s Dt from to octets ask) (refusal s (unit_of s Dt from to octets ask)) (refusal_refuses s (unit_of s Dt from to octets ask))
-deed_is_own s (FrameComes port sender to_group content) = content_is_own s content
-deed_is_own s (MomentComes now) =
+moment_is_own : (s : SystemState) (now : ℕ) → TellOnly (IsForOwn s) (tick s now)
+moment_is_own s now =
     AllByRecursion-implies (TellsOnly NoteIsQuiet) (TellsOnly (IsForOwn s)) (quiet_action_is_own s) (expire (length s.buffers) (at_moment now s)).actions
     (expiry_is_quiet (length s.buffers) (at_moment now s))
-deed_is_own s IsRestarted = (tt, tt)
+
+-- A step gives out what a deed of it tells, and what is said and heard.
+
+by_deed : (s : SystemState) (deed : Deed) → TellOnly (IsForOwn s) deed → AllByRecursion (NotesOnly (IsForOwn s)) (effect_of deed).outputs
+by_deed s deed h = outputs_note (IsForOwn s) (quiet_is_own s) deed.after deed.actions h
+
+by_hellos : (s t : SystemState) (effect : Effect) → OnlyHellos t effect → AllByRecursion (NotesOnly (IsForOwn s)) effect.outputs
+by_hellos s t effect h = hellos_note (IsForOwn s) (quiet_is_own s) effect.outputs h.outputs
+
+content_is_own : (s : SystemState) (place : Place) (to_group : Bool) (content : Content)
+    → AllByRecursion (NotesOnly (IsForOwn s)) (content_comes s place to_group content).outputs
+content_is_own s place to_group (Labelled p following) =
+    let come = effect_of (packet_comes s p following) in
+    AllByRecursion-append (NotesOnly (IsForOwn s)) come.outputs (responds come.after place to_group p).outputs
+    (by_deed s (packet_comes s p following) (packet_is_own s p following))
+    (by_hellos s come.after (responds come.after place to_group p) (only_responds come.after place to_group p))
+content_is_own s place to_group (Esis value following) = by_hellos s s (esis_comes s place value) (only_comes s place value)
+content_is_own s place to_group (Unlabelled octets) = by_deed s (octets_come s octets) (octets_are_own s octets)
 
 pub step_is_own : (s : SystemState) (input : Input) → AllByRecursion (NotesOnly (IsForOwn s)) (step s input).outputs
-step_is_own s input = outputs_note (IsForOwn s) (quiet_is_own s) (deed s input).after (deed s input).actions (deed_is_own s input)
+step_is_own s (AsksToSend from to octets ask) =
+    by_deed s (make s Dt from to octets ask)
+    (asked_is_own s (unit_of s Dt from to octets ask) (refusal s (unit_of s Dt from to octets ask)) (refusal_refuses s (unit_of s Dt from to octets ask)))
+step_is_own s (FrameComes port sender to_group content) = content_is_own s (record { port = port; snpa = sender }) to_group content
+step_is_own s (MomentComes now) =
+    let ticked = (tick s now).after in
+    AllByRecursion-append (NotesOnly (IsForOwn s)) (effect_of (tick s now)).outputs (then_does (forgets s.moment ticked) says_hello).outputs
+    (by_deed s (tick s now) (moment_is_own s now))
+    (by_hellos s ticked (then_does (forgets s.moment ticked) says_hello)
+    (only_then ticked (forgets s.moment ticked) says_hello (only_forgets s.moment ticked) (only_says_hello ticked)))
+step_is_own s IsRestarted = (tt, tt)

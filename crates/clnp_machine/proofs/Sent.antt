@@ -2,15 +2,22 @@
 use Rattle.clnp_base.proofs.Lists.{AllByRecursion-append, AllByRecursion-implies}
 use Rattle.std.proofs.Common.{◌≡◌, ℕ, zero, suc, ◌+◌, ◌-◌, ◌*◌, ◌/◌, ◌<◌, ◌≤◌, Bool, true, false, List, [], ◌∷◌, ◌++◌, length, map, Option, None, Some, nat_le, option_map, if◌then◌else◌, Contains, refl, subst, arith}
 use Rattle.std.specs.List.{AllByRecursion, flat_map, range_with_len}
-use Rattle.std.proofs.lemmas.List.Elements.{Contains-append_right}
+use Rattle.std.proofs.lemmas.List.Elements.{Contains-append_left, Contains-append_right}
+use Rattle.std.specs.Prelude.{slice_get}
+use Rattle.esis_tables.specs.declared.fact.Place.{Place}
+use Rattle.pdu_header.specs.declared.kind.Kind.TheVariants.{Dt}
+use Rattle.clnp_plan.specs.declared.config.PortConfig.{PortConfig}
 use Rattle.segmenter.specs.Range.{Range}
 use Rattle.segmenter.specs.Cut.{data_room, nth_range, ranges}
 use Rattle.clnp_machine.specs.Unit as unit
 use Rattle.clnp_machine.specs.Unit.{Packet, value_of, wire, whole_packet, piece_of, pieces, cut}
-use Rattle.clnp_machine.specs.System.{SystemState, Input, Output, Transmits, Notes}
-use Rattle.clnp_machine.specs.Local.{Action, Sends, Tells, header_size, made_in}
-use Rattle.clnp_machine.specs.Step.{Hop, next_hop, mtu_at, transmissions, first_sent, outputs_of, deed, step}
-use Rattle.clnp_machine.specs.Steps.{IsRangeOf, SendsRangesOf}
+use Rattle.clnp_machine.specs.Content.{Content, Labelled, Esis, Unlabelled}
+use Rattle.clnp_machine.specs.System.{SystemState, Input, AsksToSend, FrameComes, MomentComes, IsRestarted, Output, Transmits, SendsEsis, Notes, Effect, then_does}
+use Rattle.clnp_machine.specs.Esis.{esis_comes, forgets, says_hello}
+use Rattle.clnp_machine.specs.Local.{Action, Sends, Tells, Deed, header_size, made_in, make, tick}
+use Rattle.clnp_machine.specs.Step.{Hop, next_hop, transmissions, sent_on, first_sent, outputs_of, effect_of, packet_comes, octets_come, responds, content_comes, step}
+use Rattle.clnp_machine.specs.Steps.{IsOfHellos, IsRangeOf, OnlyHellos, SendsRangesOf}
+use Rattle.clnp_machine.proofs.Hellos.{only_comes, only_forgets, only_responds, only_says_hello, only_then}
 
 -- a range of so many places
 abbrev Within : ℕ → Range → Type 0
@@ -76,10 +83,13 @@ module _ (units : List unit.Unit) (u : unit.Unit) (made : Contains units u) wher
   transmitted hop None h = (tt, tt)
   transmitted hop (Some packets) h = each_transmitted hop packets (h packets refl)
 
+  sent_is_ranges : (hop : Hop) (port : Option PortConfig) → AllByRecursion (SendsRangesOf units) (sent_on hop port u)
+  sent_is_ranges hop None = (tt, tt)
+  sent_is_ranges hop (Some port) = transmitted hop (cut (whole_packet u) port.mtu) (λ packets gives. cut_is_ranges port.mtu packets gives)
+
   first_sent_is_ranges : (s : SystemState) (hop : Option Hop) → AllByRecursion (SendsRangesOf units) (first_sent s u hop)
   first_sent_is_ranges s None = (tt, tt)
-  first_sent_is_ranges s (Some hop) =
-      transmitted hop (cut (whole_packet u) (mtu_at s hop.port)) (λ packets gives. cut_is_ranges (mtu_at s hop.port) packets gives)
+  first_sent_is_ranges s (Some hop) = sent_is_ranges hop (slice_get s.configuration.ports hop.port)
 
 pub range_later : (units more : List unit.Unit) (p : Packet) → IsRangeOf more p → IsRangeOf (units ++ more) p
 range_later units more p h = record {
@@ -92,6 +102,7 @@ range_later units more p h = record {
 
 sends_later : (units more : List unit.Unit) (output : Output) → SendsRangesOf more output → SendsRangesOf (units ++ more) output
 sends_later units more (Transmits port target packet) h = range_later units more packet h
+sends_later units more (SendsEsis port target value) h = tt
 sends_later units more (Notes note) h = tt
 
 -- all that is sent is ranges of the units that are made
@@ -104,5 +115,55 @@ sends_ranges s (Sends u ∷ actions) =
     (AllByRecursion-implies (SendsRangesOf (made_in actions)) (SendsRangesOf (u ∷ made_in actions)) (sends_later (u ∷ []) (made_in actions))
     (flat_map (outputs_of s) actions) (sends_ranges s actions))
 
+-- what is said and heard between systems sends no packet
+
+hello_sends : (units : List unit.Unit) (output : Output) → IsOfHellos output → SendsRangesOf units output
+hello_sends units (Transmits port target packet) h = absurd h
+hello_sends units (SendsEsis port target value) h = tt
+hello_sends units (Notes note) h = tt
+
+range_sooner : (units more : List unit.Unit) (p : Packet) → IsRangeOf units p → IsRangeOf (units ++ more) p
+range_sooner units more p h = record {
+  unit = Contains-append_left units more p.unit h.unit;
+  options = h.options;
+  lifetime = h.lifetime;
+  within = h.within;
+  whole = h.whole;
+}
+
+sends_sooner : (units more : List unit.Unit) (output : Output) → SendsRangesOf units output → SendsRangesOf (units ++ more) output
+sends_sooner units more (Transmits port target packet) h = range_sooner units more packet h
+sends_sooner units more (SendsEsis port target value) h = tt
+sends_sooner units more (Notes note) h = tt
+
+-- a deed, and then what is said and heard
+sends_then : (deed : Deed) (next : SystemState → Effect) → OnlyHellos deed.after (next deed.after)
+    → AllByRecursion (SendsRangesOf (then_does (effect_of deed) next).units) (then_does (effect_of deed) next).outputs
+sends_then deed next h =
+    let units = made_in deed.actions in
+    let more = (next deed.after).units in
+    AllByRecursion-append (SendsRangesOf (units ++ more)) (effect_of deed).outputs (next deed.after).outputs
+    (AllByRecursion-implies (SendsRangesOf units) (SendsRangesOf (units ++ more)) (sends_sooner units more) (effect_of deed).outputs
+    (sends_ranges deed.after deed.actions))
+    (AllByRecursion-implies IsOfHellos (SendsRangesOf (units ++ more)) (hello_sends (units ++ more)) (next deed.after).outputs h.outputs)
+
+content_sends : (s : SystemState) (place : Place) (to_group : Bool) (content : Content)
+    → AllByRecursion (SendsRangesOf (content_comes s place to_group content).units) (content_comes s place to_group content).outputs
+content_sends s place to_group (Labelled p following) =
+    let come = (packet_comes s p following).after in
+    sends_then (packet_comes s p following) (λ t. responds t place to_group p) (only_responds come place to_group p)
+content_sends s place to_group (Esis value following) =
+    let effect = esis_comes s place value in
+    AllByRecursion-implies IsOfHellos (SendsRangesOf effect.units) (hello_sends effect.units) effect.outputs (only_comes s place value).outputs
+content_sends s place to_group (Unlabelled octets) = sends_ranges (octets_come s octets).after (octets_come s octets).actions
+
 pub step_sends_ranges : (s : SystemState) (input : Input) → AllByRecursion (SendsRangesOf (step s input).units) (step s input).outputs
-step_sends_ranges s input = sends_ranges (deed s input).after (deed s input).actions
+step_sends_ranges s (AsksToSend from to octets ask) =
+    let deed = make s Dt from to octets ask in
+    sends_ranges deed.after deed.actions
+step_sends_ranges s (FrameComes port sender to_group content) = content_sends s (record { port = port; snpa = sender }) to_group content
+step_sends_ranges s (MomentComes now) =
+    let ticked = (tick s now).after in
+    sends_then (tick s now) (λ t. then_does (forgets s.moment t) says_hello)
+    (only_then ticked (forgets s.moment ticked) says_hello (only_forgets s.moment ticked) (only_says_hello ticked))
+step_sends_ranges s IsRestarted = (tt, tt)

@@ -6,7 +6,7 @@ use Rattle.nsap.specs.declared.target.Target.{Target}
 use Rattle.nsap.specs.declared.target.Target.TheVariants.{System, EndSystems}
 use Rattle.esis_pdus.specs.declared.pdu.EsisRefusal.{EsisRefusal}
 use Rattle.esis_pdus.specs.declared.pdu.EsisRefusal.TheVariants.{NotEsis, Broken}
-use Rattle.esis_pdus.specs.Rules as esis
+use Rattle.esis_pdus.specs.Rules.{why_refused}
 use Rattle.esis_tables.specs.declared.fact.Place.{Place}
 use Rattle.esis_tables.specs.declared.fact.TableKind.TheVariants.{Es}
 use Rattle.esis_tables.specs.NextHop as heard
@@ -98,19 +98,18 @@ abbrev pub discard_refused : SystemState → List ℕ → Option OptionRefusal �
 discard_refused s octets None = discard s (Unlabelled octets) (reason_code NotSpecified) 0
 discard_refused s octets (Some broken) = discard s (Unlabelled octets) broken.reason broken.place
 
--- the rule of ES-IS PDUs that octets break, and the place
-abbrev pub bad_esis : Option EsisRefusal → Note
-bad_esis None = BadEsis 0 0
-bad_esis (Some NotEsis) = BadEsis 0 0
-bad_esis (Some (Broken rule place)) = BadEsis rule place
+-- what is noted of octets that don't begin as a CLNP PDU: the rule of ES-IS PDUs that they break, with the place (ISO 9542,
+-- section 6.12), or that they are alien
+abbrev pub unheard_note : Option EsisRefusal → Note
+unheard_note None = Alien
+unheard_note (Some NotEsis) = Alien
+unheard_note (Some (Broken rule place)) = BadEsis rule place
 
--- Octets come that spell no PDU: those of CLNP are discarded, of ES-IS ones the broken rule is noted (ISO 9542, section 6.12), and
--- what begins as neither is alien.
+-- Octets come that spell no PDU.
 abbrev pub octets_come : SystemState → List ℕ → Deed
 octets_come s octets =
     if octet octets 1 == 0x81 then discard_refused s octets (rule_broken octets)
-    else if octet octets 1 == 0x82 then tells s (bad_esis (esis.refusal octets))
-    else tells s Alien
+    else tells s (unheard_note (why_refused octets))
 
 -- whether a host was asked for by a group, as one that has the packet's destination (ISO 9542, section 6.6)
 abbrev pub is_asked_for : Role → SystemState → (to_group : Bool) → Packet → Bool

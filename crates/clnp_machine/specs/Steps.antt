@@ -1,17 +1,23 @@
 -- What is so of every step of a system.
-use Rattle.std.specs.Prelude.{◌≡◌, ℕ, ◌+◌, ◌≤◌, ◌⊎◌, true, List, ◌++◌, length, Option, None, Some}
+use Rattle.std.specs.Prelude.{◌≡◌, ℕ, ◌+◌, ◌≤◌, ◌⊎◌, Bool, true, false, List, [], ◌∷◌, ◌++◌, length, Option, None, Some}
 use Rattle.std.specs.List.{AllByRecursion, Contains, flat_map}
 use Rattle.pdu_header.specs.Grammar.{BeginsWith}
 use Rattle.pdu_header.specs.Value.{PduValue}
+use Rattle.esis_pdus.specs.Grammar as esis
 use Rattle.esis_pdus.specs.Grammar.{IsPdu}
+use Rattle.esis_pdus.specs.Spelling.{spelling}
+use Rattle.esis_pdus.specs.Value.{EsisValue}
+use Rattle.esis_tables.specs.declared.fact.Place.{Place}
+use Rattle.nsap.specs.declared.target.Target.TheVariants.{System}
 use Rattle.reassembly.specs.Arrival.{Arrival}
 use Rattle.reassembly.specs.Buffer.{Buffer, held}
 use Rattle.clnp_plan.specs.declared.note.Note.{Note}
-use Rattle.clnp_plan.specs.declared.note.Note.TheVariants.{Got}
+use Rattle.clnp_plan.specs.declared.note.Note.TheVariants.{Gone, Got, Hear, Ignored}
 use Rattle.clnp_machine.specs.Unit as unit
 use Rattle.clnp_machine.specs.Unit.{DeclaredAt, Packet, IsCarriable, value_of, wire}
 use Rattle.clnp_machine.specs.Content.{Content, Labelled, Esis, Unlabelled}
-use Rattle.clnp_machine.specs.System.{SystemState, next_number, Input, AsksToSend, FrameComes, MomentComes, IsRestarted, Output, Transmits, SendsEsis, Notes}
+use Rattle.clnp_machine.specs.System.{SystemState, next_number, Input, AsksToSend, FrameComes, MomentComes, IsRestarted, Output, Transmits, SendsEsis, Notes, Effect}
+use Rattle.clnp_machine.specs.Esis.{own_hello}
 use Rattle.clnp_machine.specs.Local.{Deed, made_in, is_own, header_size, offered}
 
 -- it is still the same system, at its place, of the same configuration
@@ -42,10 +48,41 @@ pub record IsFresh (s : SystemState) (now : ℕ) (u : unit.Unit) : Type 0 where
   pub first_position : u.first_position ≡ 0
   pub total : u.total ≡ header_size u + length u.octets
 
+-- what it heard, and when it says hello, is as before
+pub record HearsNothing (before after : SystemState) : Type 0 where
+  pub facts : after.facts ≡ before.facts
+  pub hello : after.hello ≡ before.hello
+  pub next_hello : after.next_hello ≡ before.next_hello
+
+-- all else is as before
+pub record LeavesTheRest (before after : SystemState) : Type 0 where
+  pub place : after.place ≡ before.place
+  pub configuration : after.configuration ≡ before.configuration
+  pub hold : after.hold ≡ before.hold
+  pub moment : after.moment ≡ before.moment
+  pub count : after.count ≡ before.count
+  pub identifiers : after.identifiers ≡ before.identifiers
+  pub buffers : after.buffers ≡ before.buffers
+
+-- an ES-IS PDU, or a note of what is heard or gone
+abbrev pub IsOfHellos : Output → Type 0
+IsOfHellos (SendsEsis port target value) = Unit {0}
+IsOfHellos (Notes (Hear table key heard)) = Unit {0}
+IsOfHellos (Notes (Gone table key)) = Unit {0}
+IsOfHellos (Notes (Ignored rd)) = Unit {0}
+IsOfHellos _ = ⊥
+
+-- what is said and heard between systems: nothing else changes, and nothing else is given out
+pub record OnlyHellos (s : SystemState) (effect : Effect) : Type 0 where
+  pub rest : LeavesTheRest s effect.after
+  pub outputs : AllByRecursion IsOfHellos effect.outputs
+  pub units : effect.units ≡ []
+
 -- what a deed of a system leaves and makes: the same system, at the same moment, and units that are fresh
 pub record IsDeed (s : SystemState) (deed : Deed) : Type 0 where
   pub itself : StaysItself s deed.after
   pub moment : deed.after.moment ≡ s.moment
+  pub heard : HearsNothing s deed.after
   pub fresh : AllByRecursion (IsFresh s s.moment) (made_in deed.actions)
 
 -- What holds of a packet of one of some units: it is a range of the unit, and all of it where the unit may not be
@@ -62,6 +99,31 @@ abbrev pub SendsRangesOf : List unit.Unit → Output → Type 0
 SendsRangesOf units (Transmits port target packet) = IsRangeOf units packet
 SendsRangesOf units (SendsEsis port target value) = Unit {0}
 SendsRangesOf units (Notes note) = Unit {0}
+
+-- whether an output is a frame that is sent
+abbrev pub sends_frame : Output → Bool
+sends_frame (Transmits port target packet) = true
+sends_frame (SendsEsis port target value) = true
+sends_frame (Notes note) = false
+
+-- whether it is an ES-IS PDU
+abbrev pub sends_esis : Output → Bool
+sends_esis (Transmits port target packet) = false
+sends_esis (SendsEsis port target value) = true
+sends_esis (Notes note) = false
+
+-- what is sent is at most the system's own hello, to one place
+abbrev pub IsAtMostItsHello : SystemState → Place → List Output → Type 0
+IsAtMostItsHello s place sent = (sent ≡ []) ⊎ (sent ≡ SendsEsis place.port (System place.snpa) (own_hello s) ∷ [])
+
+-- a system's own hello, whatever its period is then
+abbrev pub IsItsHello : SystemState → EsisValue → Type 0
+IsItsHello s value = (seconds : ℕ) × (value ≡ own_hello (record s { hello = seconds }))
+
+-- each ES-IS value that is sent is the system's own hello
+abbrev pub SendsItsHellos : SystemState → Output → Type 0
+SendsItsHellos s (SendsEsis port target value) = IsItsHello s value
+SendsItsHellos s _ = Unit {0}
 
 -- each ES-IS value that is sent is one that a PDU can carry
 abbrev pub SendsEsisPdus : Output → Type 0
@@ -105,6 +167,12 @@ WasKeptOrComes s input arrival = Contains (segments_in s.buffers) arrival ⊎ Co
 abbrev pub AreCarriable : Option (List Packet) → Type 0
 AreCarriable None = Unit {0}
 AreCarriable (Some packets) = AllByRecursion IsCarriable packets
+
+-- the ES-IS PDU at the front of a frame that carries an ES-IS value is that value, and what follows it is what follows the value
+abbrev pub CarriesOneEsisValue : Type 0
+CarriesOneEsisValue =
+    (v : EsisValue) (following : List ℕ) (w : EsisValue) (rest : List ℕ) → IsPdu v → esis.BeginsWith (spelling v ++ following) w rest
+    → (w ≡ v) × (rest ≡ following)
 
 -- the PDU at the front of a frame that carries a packet is the packet's, and what follows it is what follows the packet
 abbrev pub CarriesOnePacket : Type 0

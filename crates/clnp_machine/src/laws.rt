@@ -1,17 +1,25 @@
 //! Laws of one step of a system: each holds for every state and whatever comes, and its function
 //! does nothing.
-ghost use Rattle.std.specs.Prelude.{◌≡◌, ◌≤◌, ℕ, List, [], map, option_map};
-ghost use Rattle.std.specs.List.{AllByRecursion};
+ghost use Rattle.std.specs.Prelude.{All, Bool, false, ◌≡◌, ◌≤◌, ℕ, List, [], ◌++◌, map, option_map};
+ghost use Rattle.std.specs.List.{AllByRecursion, filter, list_any};
 ghost use Rattle.hex.specs.Hex.{IsBytes};
 ghost use Rattle.pdu_header.specs.declared.kind.Kind.{Kind};
 ghost use Rattle.segmenter.specs.Cut as segmenter;
+ghost use Rattle.nsap.specs.Address.{IsAddress};
+ghost use Rattle.pdu_header.specs.Rules.{octet};
+ghost use Rattle.esis_pdus.specs.Grammar.{IsPdu};
+ghost use Rattle.esis_pdus.specs.Spelling.{spelling};
+ghost use Rattle.esis_pdus.specs.Value.{EsisValue};
+ghost use Rattle.clnp_plan.specs.Configuration.{IsSystem};
+ghost use Rattle.esis_tables.specs.declared.fact.Place.{Place};
 ghost use Rattle.clnp_plan.specs.declared.ask.Ask.{Ask};
-ghost use Rattle.clnp_machine.specs.Unit.{Packet, IsCarriable, cut, value_of};
-ghost use Rattle.clnp_machine.specs.Content.{Content, IsCarried, content_of, frame_of};
+ghost use Rattle.clnp_machine.specs.Unit.{Packet, IsCarriable, cut, value_of, wire};
+ghost use Rattle.clnp_machine.specs.Content.{Esis, IsCarried, Labelled, Unlabelled, content_of, frame_of};
+ghost use Rattle.clnp_machine.specs.Esis.{esis_comes, forgets, own_hello, says_hello, tells_new, tells_of_itself};
 ghost use Rattle.clnp_machine.specs.Local.{at_moment, make, receive, tick};
-ghost use Rattle.clnp_machine.specs.System.{SystemState, Input};
-ghost use Rattle.clnp_machine.specs.Step.{content_comes, step};
-ghost use Rattle.clnp_machine.specs.Steps.{AreCarriable, AsksNothing, CarriesOnePacket, IsDeed, IsForOwn, IsFresh, IsWithinBudget, NotesOnly, SendsRangesOf, StaysItself, WasKeptOrComes, moment_after, segments_in};
+ghost use Rattle.clnp_machine.specs.System.{SystemState, Input, FrameComes};
+ghost use Rattle.clnp_machine.specs.Step.{octets_come, packet_comes, responds, step};
+ghost use Rattle.clnp_machine.specs.Steps.{AreCarriable, AsksNothing, CarriesOneEsisValue, CarriesOnePacket, IsAtMostItsHello, IsDeed, IsForOwn, IsFresh, IsWithinBudget, NotesOnly, OnlyHellos, SendsEsisPdus, SendsItsHellos, SendsRangesOf, StaysItself, WasKeptOrComes, moment_after, segments_in, sends_esis, sends_frame};
 
 /// A step leaves a system at its place with its configuration, at the moment that came last.
 pub fn a_system_stays_itself()
@@ -24,8 +32,19 @@ pub fn a_system_stays_itself()
 pub fn deeds_are_of_their_moment()
     ensures make { (s : SystemState) (kind : Kind) (from to octets : List ℕ) (ask : Ask) → IsDeed s (make s kind from to octets ask) }
     ensures receive { (s : SystemState) (p : Packet) (following : List ℕ) → IsDeed s (receive s p following) }
-    ensures comes { (s : SystemState) (content : Content) → IsDeed s (content_comes s content) }
+    ensures packet { (s : SystemState) (p : Packet) (following : List ℕ) → IsDeed s (packet_comes s p following) }
+    ensures octets { (s : SystemState) (octets : List ℕ) → IsDeed s (octets_come s octets) }
     ensures tick { (s : SystemState) (now : ℕ) → IsDeed (at_moment now s) (tick s now) }
+{}
+
+/// What a system says and hears of others leaves all else of it as it is; it makes no unit and sends
+/// no packet.
+pub fn hellos_leave_the_rest()
+    ensures comes { (s : SystemState) (place : Place) (value : EsisValue) → OnlyHellos s (esis_comes s place value) }
+    ensures tells { (s : SystemState) (port : ℕ) (snpa : List ℕ) → OnlyHellos s (tells_of_itself s port snpa) }
+    ensures responds { (s : SystemState) (place : Place) (to_group : Bool) (p : Packet) → OnlyHellos s (responds s place to_group p) }
+    ensures forgets { (s : SystemState) (before : ℕ) → OnlyHellos s (forgets before s) }
+    ensures says_hello { (s : SystemState) → OnlyHellos s (says_hello s) }
 {}
 
 /// The units that are made in a step are made now by the system, of a source that is its own, and
@@ -39,6 +58,40 @@ pub fn new_units_are_fresh()
 /// on hops and lifetime.
 pub fn ranges_of_units_are_sent()
     ensures { (s : SystemState) (input : Input) → AllByRecursion (SendsRangesOf (step s input).units) (step s input).outputs }
+{}
+
+/// A system sends no ES-IS PDU but its own hello. Where it is configured as a system with addresses,
+/// each is one that a PDU can carry: all addresses of a host fit one header.
+pub fn hellos_are_pdus()
+    ensures own { (s : SystemState) (input : Input) → AllByRecursion (SendsItsHellos s) (step s input).outputs }
+    ensures hello { (s : SystemState) → IsSystem s.configuration → All IsAddress s.configuration.addresses → IsPdu (own_hello s) }
+    ensures pdus { (s : SystemState) (input : Input) → IsSystem s.configuration → All IsAddress s.configuration.addresses
+        → AllByRecursion SendsEsisPdus (step s input).outputs }
+{}
+
+/// An ES-IS PDU that comes makes a system send at most its own hello, to where the PDU came from, and
+/// no packet. So does a packet, beside the packets that are sent then. Octets that spell no PDU are
+/// answered by nothing.
+pub fn a_hello_causes_at_most_one()
+    ensures hello { (s : SystemState) (port : ℕ) (sender : List ℕ) (to_group : Bool) (value : EsisValue) (following : List ℕ)
+        → IsAtMostItsHello s (record { port = port; snpa = sender })
+        (filter sends_frame (step s (FrameComes port sender to_group (Esis value following))).outputs) }
+    ensures packet { (s : SystemState) (port : ℕ) (sender : List ℕ) (to_group : Bool) (p : Packet) (following : List ℕ)
+        → IsAtMostItsHello s (record { port = port; snpa = sender })
+        (filter sends_esis (step s (FrameComes port sender to_group (Labelled p following))).outputs) }
+    ensures octets { (s : SystemState) (port : ℕ) (sender : List ℕ) (to_group : Bool) (octets : List ℕ)
+        → filter sends_frame (step s (FrameComes port sender to_group (Unlabelled octets))).outputs ≡ [] }
+{}
+
+/// An exchange of answers ends: an ES-IS PDU that comes again at the same moment is answered by
+/// nothing, and so is one in which nothing new is heard.
+pub fn an_exchange_of_answers_ends()
+    ensures again { (s : SystemState) (port : ℕ) (sender : List ℕ) (to_group : Bool) (value : EsisValue) (following : List ℕ)
+        → let comes = FrameComes port sender to_group (Esis value following) in
+        filter sends_frame (step (step s comes).after comes).outputs ≡ [] }
+    ensures known { (s : SystemState) (port : ℕ) (sender : List ℕ) (to_group : Bool) (value : EsisValue) (following : List ℕ)
+        → let comes = FrameComes port sender to_group (Esis value following) in
+        list_any tells_new (step s comes).outputs ≡ false → filter sends_frame (step s comes).outputs ≡ [] }
 {}
 
 /// What a step hands up is for one of the system's own addresses.
@@ -76,4 +129,22 @@ pub fn a_frame_carries_one_packet()
     ensures { CarriesOnePacket }
 {
     pdu_header::laws::one_value();
+}
+
+/// The ES-IS PDU at the front of a frame that carries an ES-IS value is that value, and what follows
+/// it is what follows the value.
+pub fn a_frame_carries_one_esis_value()
+    ensures { CarriesOneEsisValue }
+{
+    esis_pdus::laws::one_value();
+}
+
+/// No frame is of both protocols: one that carries a packet begins with 0x81, one that carries an ES-IS
+/// value with 0x82.
+pub fn no_frame_is_of_both_protocols()
+    ensures packet { (p : Packet) (following : List ℕ) → IsCarriable p → octet (wire p ++ following) 1 ≡ 0x81 }
+    ensures esis { (value : EsisValue) (following : List ℕ) → IsPdu value → octet (spelling value ++ following) 1 ≡ 0x82 }
+{
+    pdu_header::laws::spelled_where_no_rule_is_broken();
+    esis_pdus::laws::spelled_where_no_rule_is_broken();
 }

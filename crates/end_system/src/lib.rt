@@ -1,4 +1,4 @@
-//! Hosts: end systems with one port (ISO/IEC 8473; ISO 9542 comes later).
+//! Hosts: end systems with one port (ISO/IEC 8473; ISO 9542).
 #![tactic(auto)]
 
 mod host;

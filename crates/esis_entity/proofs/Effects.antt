@@ -9,7 +9,7 @@ use Rattle.clnp_machine.specs.Esis.{answers_new, follows, is_silent, tells_new, 
 use Rattle.clnp_machine.specs.Given.{Appends}
 use Rattle.clnp_machine.specs.System as machine
 use Rattle.clnp_machine.specs.System.{Effect, SystemState, idles, then_does}
-use Rattle.clnp_machine.proofs.Given.{appends_then}
+use Rattle.clnp_machine.proofs.Given.{appends_both}
 use Rattle.esis_entity.specs.Does.{Does, Hears}
 use Rattle.esis_entity.specs.Stands.{Stands}
 use Rattle.esis_entity.specs.State.{EsisState}
@@ -17,7 +17,7 @@ use Rattle.esis_entity.specs.State.{EsisState}
 pub does_then : (moment : ℕ) (middle entity : EsisState) (before mid after : List Output) (effect : Effect) (next : SystemState → Effect)
     → Does moment middle before mid effect → Does moment entity mid after (next effect.after) → Does moment entity before after (then_does effect next)
 does_then moment middle entity before mid after effect next h k =
-    record { stands = k.stands; appends = appends_then moment before mid after effect.outputs (next effect.after).outputs h.appends k.appends }
+    record { stands = k.stands; appends = appends_both moment before mid after effect.outputs (next effect.after).outputs h.appends k.appends }
 
 -- ---- to tell of itself changes nothing
 
@@ -43,7 +43,7 @@ does_answer moment entity before mid after new heard place h told =
     let same : (answer (list_any tells_new heard.outputs)).after ≡ heard.after = answered_after (list_any tells_new heard.outputs) heard.after place in
     record {
       stands = subst (λ (s : SystemState). Stands entity s) (sym same) h.does.stands;
-      appends = appends_then moment before mid after heard.outputs (answer (list_any tells_new heard.outputs)).outputs h.does.appends
+      appends = appends_both moment before mid after heard.outputs (answer (list_any tells_new heard.outputs)).outputs h.does.appends
           (subst (λ (b : Bool). Appends moment mid after (answer b).outputs) h.new_is told);
     }
 

@@ -1,5 +1,5 @@
 -- Keys that are forgotten one after another.
-use Rattle.std.proofs.Common.{◌≡◌, ◌∙◌, refl, sym, ap, subst, ℕ, ◌≤◌, List, [], ◌∷◌, ◌++◌, map, Option, Some, None, append_assoc}
+use Rattle.std.proofs.Common.{◌≡◌, ◌∙◌, refl, sym, ap, subst, ℕ, suc, ◌+◌, List, [], ◌∷◌, ◌++◌, map, length, Option, Some, None, append_assoc, length-append, arith}
 use Rattle.std.proofs.lemmas.List.{append-nil, map-append}
 use Rattle.esis_tables.specs.declared.fact.Gone.{Gone}
 use Rattle.esis_tables.specs.declared.tables.Tables.{Tables}
@@ -9,9 +9,24 @@ use Rattle.esis_tables.specs.Stands as heard
 use Rattle.esis_tables.specs.Stands.{FlushesFirst}
 use Rattle.clnp_plan.specs.declared.output.Output.{Output}
 use Rattle.clnp_machine.specs.Esis.{gone_note}
-use Rattle.clnp_machine.specs.Given.{Appends}
+use Rattle.clnp_machine.specs.Given.{Appends, GiveAll}
 use Rattle.clnp_machine.specs.System as machine
-use Rattle.clnp_machine.proofs.Given.{appends_none, appends_then}
+use Rattle.clnp_machine.proofs.Given.{appends_none, appends_both}
+
+-- ---- how many are noted
+
+given_length : (moment : ℕ) (outputs : List Output) (others : List machine.Output) → GiveAll moment outputs others → length outputs ≡ length others
+given_length moment [] [] h = refl
+given_length moment (output ∷ outputs) (other ∷ others) h = ap suc (given_length moment outputs others h.1)
+given_length moment [] (other ∷ others) h = absurd h
+given_length moment (output ∷ outputs) [] h = absurd h
+
+pub appended_length : (moment : ℕ) (before after : List Output) (others : List machine.Output) → Appends moment before after others
+    → length after ≡ length before + length others
+appended_length moment before after others h =
+    omega (arith, given_length moment h.outputs others h.give_all, length-append before h.outputs, ap length h.appended)
+
+-- ---- keys
 
 -- what was forgotten so far, and is left to be forgotten, is all that is gone
 pub record ForgotSoFar (moment now : ℕ) (tables : Tables) (before after : List Output) (facts : List Fact) (all : List Gone) : Type 0 where
@@ -24,7 +39,7 @@ pub record ForgotSoFar (moment now : ℕ) (tables : Tables) (before after : List
 pub none_forgotten : (moment now : ℕ) (tables : Tables) (list : List Output) (facts : List Fact) (all : List Gone) → heard.Stands tables facts now all
     → ForgotSoFar moment now tables list list facts all
 none_forgotten moment now tables list facts all stands =
-    record { done = []; left = all; stands = stands; are = refl; appends = appends_none moment list }
+    record { done = []; left = all; stands = stands; are = refl; appends = appends_none moment list list refl }
 
 pub one_forgotten : (moment now : ℕ) (tables later : Tables) (before mid after : List Output) (key : Gone) (answer : Option Gone) (facts : List Fact) (all : List Gone)
     → ForgotSoFar moment now tables before mid facts all → answer ≡ Some key
@@ -39,7 +54,7 @@ one_forgotten moment now tables later before mid after key answer facts all h is
       stands = first.2;
       are = h.are ∙ ap (λ (list : List Gone). h.done ++ list) first.1 ∙ sym (append_assoc h.done (key ∷ []) first.0);
       appends = subst (λ (list : List machine.Output). Appends moment before after list) (sym (map-append gone_note h.done (key ∷ [])))
-          (appends_then moment before mid after (map gone_note h.done) (gone_note key ∷ []) h.appends noted);
+          (appends_both moment before mid after (map gone_note h.done) (gone_note key ∷ []) h.appends noted);
     }
 
 -- nothing is left

@@ -157,7 +157,8 @@ impl EsisEntity {
     /// Where an end system sends what is for an address: the better hop of a redirect, the end system of this address, or the
     /// intermediate system that was heard last (section 6.5).
     pub fn next_hop(&self, now: u64, to: &Address) -> Option<Place>
-        ensures { (s : SystemState) → Stands self.now s → s.moment ≡ now → result ≡ heard.next_hop now to.now s.facts }
+        ensures { (s : SystemState) (before : ℕ) → StandsSince before self.now s → before ≤ now
+            → result ≡ heard.next_hop now to.now s.facts }
     {
         if let Some(place) = self.tables.redirect(now, to) {
             return Some(place);
@@ -170,7 +171,8 @@ impl EsisEntity {
 
     /// Where the end system of an address is reached, if it is known.
     pub fn neighbour(&self, now: u64, to: &Address) -> Option<Place>
-        ensures { (s : SystemState) → Stands self.now s → s.moment ≡ now → result ≡ heard.current_place now Es to.now s.facts }
+        ensures { (s : SystemState) (before : ℕ) → StandsSince before self.now s → before ≤ now
+            → result ≡ heard.current_place now Es to.now s.facts }
     {
         self.tables.system(now, to)
     }

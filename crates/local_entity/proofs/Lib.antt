@@ -13,3 +13,4 @@ pub mod Offering
 pub mod Receiving
 pub mod Expiry
 pub mod Ticking
+pub mod Sent

@@ -1,7 +1,10 @@
 -- What is given out for a unit: its pieces, as the model cuts them.
-use Rattle.std.proofs.Common.{◌≡◌, ◌∙◌, refl, sym, ap, subst, ℕ, ◌+◌, ◌-◌, ◌≤◌, Option, None, Some, Ok, Err, false, List, [], ◌∷◌, ◌++◌, map, length, take, drop, arith}
+use Rattle.std.proofs.Common.{◌≡◌, ◌∙◌, refl, sym, ap, subst, ℕ, ◌+◌, ◌-◌, ◌≤◌, ◌<◌, inl, inr, true, Option, None, Some, Ok, Err, false, List, [], ◌∷◌, ◌++◌, map, length, take, drop, arith}
 use Rattle.std.specs.Prelude.{MatchOption, Result}
+use Rattle.std.specs.Prelude.{nat_lt, slice_get, slice_index_or}
+use Rattle.std.proofs.lemmas.Bool.Decides.{nat_tests}
 use Rattle.std.proofs.lemmas.List.{take_all}
+use Rattle.std.proofs.lemmas.Option.{slice_get_cases, slice_get_read}
 use Rattle.clnp_views.specs.Extent.{Extent, part, seen}
 use Rattle.pdu_header.specs.Value.{PduValue}
 use Rattle.pdu_header.specs.Spelling.{header, segment_length, spelling}
@@ -12,18 +15,19 @@ use Rattle.segmenter.specs.declared.cuts.NotPermitted.{NotPermitted}
 use Rattle.segmenter.specs.Cut as segmenter
 use Rattle.segmenter.specs.Cut.{Piece, given}
 use Rattle.clnp_base.proofs.Lists.{part_of_part}
+use Rattle.clnp_plan.specs.Configuration.{SystemConfiguration}
 use Rattle.clnp_plan.specs.declared.config.PortConfig.{PortConfig}
 use Rattle.clnp_plan.specs.declared.note.Note.TheVariants.{Discard}
 use Rattle.clnp_plan.specs.declared.output.Output.{Output}
 use Rattle.clnp_plan.specs.declared.output.Output.TheVariants.{Note as Noted}
 use Rattle.clnp_machine.specs.Unit.{IsCarriable, Packet, Unit as DataUnit, cut, value_of, whole_packet}
-use Rattle.clnp_machine.specs.System.{Transmits}
+use Rattle.clnp_machine.specs.System.{SystemState, Transmits}
 use Rattle.clnp_options.specs.Reasons.{reason_code}
 use Rattle.clnp_options.specs.declared.reasons.Reason.TheVariants.{SegmentationNotPermitted}
-use Rattle.clnp_machine.specs.Step.{sent_on, transmissions}
+use Rattle.clnp_machine.specs.Step.{first_sent, no_way, sent_on, transmissions}
 use Rattle.clnp_machine.specs.Given.{Appends, GiveAll, IsSentFor}
 use Rattle.local_entity.specs.declared.sending.Hop.{Hop}
-use Rattle.local_entity.specs.Sending.{machine_hop, transmission}
+use Rattle.local_entity.specs.Sending.{hop_option, machine_hop, transmission}
 use Rattle.clnp_machine.proofs.Pieces.{AreBoth, AreThese, IsThis, cut_both}
 
 seen_of_part : (body : Extent) (from len : ℕ) → from + len ≤ body.len → seen (part from len body) ≡ take len (drop from (seen body))
@@ -134,3 +138,37 @@ unit_is_dropped u hop port head body len result refused before after made e say 
       give_all = none_is_sent p (segmenter.cut (value_of p) port.mtu) (cut p port.mtu) u.made hop (segment_length (value_of p)) result refused
           (cut_both p port.mtu h least) (say (value_of p) made.spells (unit_length u body made.shown len e)) err;
     }
+
+-- ---- the port by which it goes out
+
+pub port_at : (ports : List PortConfig) (i j : ℕ) (port : PortConfig) → j ≡ i → true ≡ nat_lt j (length ports) → port ≡ slice_index_or ports j port
+    → slice_get ports i ≡ Some port
+port_at ports i j port same within at =
+    subst (λ (k : ℕ). slice_get ports k ≡ Some port) same
+    (slice_get_read ports (length ports) j port refl (let some : j < length ports = grind (arith, nat_tests) in some) at)
+
+pub port_missing : (ports : List PortConfig) (i j : ℕ) → j ≡ i → false ≡ nat_lt j (length ports) → slice_get ports i ≡ None
+port_missing ports i j same beyond =
+    subst (λ (k : ℕ). slice_get ports k ≡ None) same
+    (elim ((slice_get_cases ports j).1) [
+      | inl found ↦ absurd (let within : j < length ports = found.1 in grind (arith, nat_tests))
+      | inr none ↦ none.1
+    ])
+
+-- by a port that is there
+pub sent_by : (s : SystemState) (u : DataUnit) (hop : Hop) (way : Option Hop) (configuration : SystemConfiguration) (port : PortConfig)
+    → configuration ≡ s.configuration → way ≡ Some hop → slice_get configuration.ports hop.port ≡ Some port
+    → sent_on (machine_hop hop) (Some port) u ≡ first_sent s u (hop_option way)
+sent_by s u hop way configuration port same is at =
+    ap (λ (o : Option PortConfig). sent_on (machine_hop hop) o u) (sym at)
+    ∙ ap (λ (c : SystemConfiguration). sent_on (machine_hop hop) (slice_get c.ports hop.port) u) same
+    ∙ ap (λ (o : Option Hop). first_sent s u (hop_option o)) (sym is)
+
+-- by one that isn't
+pub sent_by_none : (s : SystemState) (u : DataUnit) (hop : Hop) (way : Option Hop) (configuration : SystemConfiguration)
+    → configuration ≡ s.configuration → way ≡ Some hop → slice_get configuration.ports hop.port ≡ None
+    → no_way ≡ first_sent s u (hop_option way)
+sent_by_none s u hop way configuration same is at =
+    ap (λ (o : Option PortConfig). sent_on (machine_hop hop) o u) (sym at)
+    ∙ ap (λ (c : SystemConfiguration). sent_on (machine_hop hop) (slice_get c.ports hop.port) u) same
+    ∙ ap (λ (o : Option Hop). first_sent s u (hop_option o)) (sym is)

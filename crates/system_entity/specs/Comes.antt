@@ -9,14 +9,14 @@ use Rattle.clnp_machine.specs.Step.{content_comes}
 use Rattle.clnp_machine.specs.System.{SystemState}
 use Rattle.clnp_machine.specs.Unit.{Packet, IsCarriable}
 use Rattle.system_entity.specs.State.{SystemEntityState}
-use Rattle.system_entity.specs.Stands.{Stands}
+use Rattle.system_entity.specs.Stands.{PartsStand}
 use Rattle.system_entity.specs.declared.entity.Arrival.{Arrival}
 use Rattle.system_entity.specs.declared.entity.Arrival.TheVariants.{Done, Passes}
 
 -- all was done that the system does, and given out
 pub record IsDone (s : SystemState) (place : Place) (group : Bool) (content : Content) (entity : SystemEntityState)
     (before after : List Output) : Type 0 where
-  pub stands : Stands entity (content_comes s place group content).after
+  pub parts : PartsStand entity (content_comes s place group content).after
   pub outputs : Appends s.moment before after (content_comes s place group content).outputs
 
 -- it carries a packet with a lifetime, for an address that isn't the system's

@@ -1,3 +1,4 @@
 pub mod State
 pub mod Stands
 pub mod Comes
+pub mod Deeds

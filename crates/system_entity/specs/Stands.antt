@@ -4,15 +4,20 @@ use Rattle.reassembly.specs.State.{IsReady}
 use Rattle.clnp_plan.specs.declared.ask.SendRefusal.{SendRefusal}
 use Rattle.clnp_plan.specs.declared.ask.SendRefusal.TheVariants.{NoMemory}
 use Rattle.clnp_machine.specs.System.{SystemState}
-use Rattle.esis_entity.specs.Stands as esis
-use Rattle.local_entity.specs.Local as local
+use Rattle.esis_entity.specs.Stands as esis_entity
+use Rattle.local_entity.specs.Local as local_entity
 use Rattle.system_entity.specs.State.{SystemEntityState}
 
--- its parts stand for the state of a system, whatever its place
-pub record PartsStand (entity : SystemEntityState) (s : SystemState) : Type 0 where
-  pub local : local.Stands entity.local s
-  pub esis : esis.Stands entity.esis s
+-- Its parts stand for the state of a system, whatever its place, where what had ended by an earlier moment is forgotten.
+pub record PartsStandSince (before : ℕ) (entity : SystemEntityState) (s : SystemState) : Type 0 where
+  pub local : local_entity.Stands entity.local s
+  pub esis : esis_entity.StandsSince before entity.esis s
   pub moment : entity.moment ≡ s.moment
+  pub since : before ≤ s.moment
+
+-- and what has ended by its own moment
+abbrev pub PartsStand : SystemEntityState → SystemState → Type 0
+PartsStand entity s = PartsStandSince s.moment entity s
 
 -- an entity stands for the state of a system
 pub record Stands (entity : SystemEntityState) (s : SystemState) : Type 0 where

@@ -15,7 +15,7 @@ ghost use Rattle.clnp_machine.specs.System.{SystemState, first_state, next_numbe
 ghost use Rattle.local_entity.specs.Local.{IsWhy};
 ghost use Rattle.local_entity.specs.Sending.{hop_option, machine_hop};
 ghost use Rattle.system_entity.specs.Comes.{ComesOf, LeavesAsItWas};
-ghost use Rattle.system_entity.specs.Stands.{IsLeftBy, Stands};
+ghost use Rattle.system_entity.specs.Stands.{IsLeftBy, PartsStandSince, Stands};
 
 use clnp_base::NoMemory;
 use clnp_plan::{Ask, Limits, Note, Output, Role, SendRefusal, SystemConfig};
@@ -139,6 +139,7 @@ impl SystemEntity {
         ensures comes { IfOk result (λ arrival. (s : SystemState) (content : Content) → Stands self.old s → IsCarried content
             → frame_of content ≡ frame.now → ComesOf arrival s place group content self.new out.old.items out.new.items) }
         ensures left { IfOk result (λ arrival. LeavesAsItWas arrival self.old self.new out.old.items out.new.items) }
+        ensures not_spent { OnOk result (self.new.spent ≡ false) }
         ensures none { OnErr result (out.new.items ≡ out.old.items) }
         ensures spent { OnErr result (self.new.spent ≡ true) }
         ensures refused { self.old.spent ≡ true → IsErr result }
@@ -169,7 +170,6 @@ impl SystemEntity {
         out: &mut Vec<Output>,
     ) -> Result<(), NoMemory>
         requires few { length frame.now ≤ 70000 }
-        requires content { (content : Content) × IsCarried content × (frame_of content ≡ frame.now) }
         ensures stands { OnOk result ((s : SystemState) (content : Content) → Stands self.old s → IsCarried content
             → frame_of content ≡ frame.now → Stands self.new (machine.discard s content reason place).after) }
         ensures outputs { OnOk result ((s : SystemState) (content : Content) → Stands self.old s → IsCarried content
@@ -278,7 +278,7 @@ impl SystemEntity {
 
     /// Where it sends a PDU for an address, if it knows a way (ISO 9542, section 6.5).
     pub fn next_hop(&self, to: &Address) -> Option<Hop>
-        ensures { (s : SystemState) → Stands self.now s → hop_option result ≡ next_hop s to.now }
+        ensures { (s : SystemState) (before : ℕ) → PartsStandSince before self.now s → hop_option result ≡ next_hop s to.now }
     {
         match self.local.config().role() {
             Role::Host => Some(host_hop(self.esis.next_hop(self.moment, to))),

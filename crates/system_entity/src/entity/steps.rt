@@ -1,5 +1,5 @@
 //! The steps of a system while it takes them: all that is given out is appended, or nothing.
-ghost use Rattle.std.specs.Prelude.{◌≡◌, ◌≢◌, ◌≤◌, ◌<◌, ◌^◌, ℕ, List, IfErr, IfOk, OnOk, OnErr, MatchResult, None, length};
+ghost use Rattle.std.specs.Prelude.{◌≡◌, ◌≢◌, ◌==◌, ◌≤◌, ◌<◌, ◌^◌, ◌++◌, ℕ, Bool, true, false, List, IfErr, IfOk, OnOk, OnErr, MatchResult, None, length};
 ghost use Rattle.std.specs.List.{AllByRecursion, flat_map};
 ghost use Rattle.clnp_options.specs.Grammar.{FitsKind};
 ghost use Rattle.clnp_options.specs.Parameter.{parameters};
@@ -7,14 +7,17 @@ ghost use Rattle.pdu_header.specs.Grammar.{BeginsWith, is_report};
 ghost use Rattle.pdu_header.specs.Rules.{octet};
 ghost use Rattle.pdu_header.specs.Value.{PduValue};
 ghost use Rattle.reassembly.specs.State.{IsReady};
-ghost use Rattle.clnp_machine.specs.Content.{Content, IsCarried, frame_of};
+ghost use Rattle.clnp_machine.specs.Content.{Content, IsCarried, Labelled, frame_of};
 ghost use Rattle.clnp_machine.specs.Given.{Appends};
 ghost use Rattle.clnp_machine.specs.Local as machine;
+ghost use Rattle.clnp_machine.specs.Local.{is_own};
 ghost use Rattle.clnp_machine.specs.Step.{content_comes, effect_of, moment_comes, outputs_of};
 ghost use Rattle.clnp_machine.specs.System.{SystemState, next_number};
+ghost use Rattle.clnp_machine.specs.Unit.{IsCarriable, Packet, wire};
 ghost use Rattle.local_entity.specs.Local.{DoAll, Does, IsWhy};
 ghost use Rattle.system_entity.specs.Comes.{ComesOf, LeavesAsItWas};
-ghost use Rattle.system_entity.specs.Stands.{PartsStand};
+ghost use Rattle.system_entity.specs.Deeds.{IsFresh, LeavesParts};
+ghost use Rattle.system_entity.specs.Stands.{PartsStand, PartsStandSince};
 
 use super::{Arrival, SystemEntity};
 use clnp_base::NoMemory;
@@ -37,6 +40,7 @@ impl SystemEntity {
         now: u64,
         out: &mut Vec<Output>,
     ) -> Result<(), NoMemory>
+        requires at_work { self.old.spent ≡ true }
         requires later { self.old.moment ≤ now }
         requires moment { now < 2 ^ 62 }
         ensures stands { OnOk result ((s : SystemState) → PartsStand self.old s → PartsStand self.new (moment_comes s now).after) }
@@ -49,13 +53,13 @@ impl SystemEntity {
         ensures config { self.new.local.configuration ≡ self.old.local.configuration }
     {
         laws::deeds_are_of_their_moment();
+        laws::hellos_leave_the_rest();
         let mut outputs = Vec::new(alloc);
         let mut actions = Vec::new(alloc);
         self.local.tick(alloc, now, &mut actions)?;
         self.moment = now;
         self.give_out(actions, &mut outputs)?;
-        self.esis
-            .tick(alloc, self.local.config(), now, &mut outputs)?;
+        self.esis.tick(self.local.config(), now, &mut outputs)?;
         out.append(&mut outputs)?;
         Ok(())
     }
@@ -69,6 +73,7 @@ impl SystemEntity {
         frame: &Frame,
         out: &mut Vec<Output>,
     ) -> Result<Arrival, NoMemory>
+        requires at_work { self.old.spent ≡ true }
         requires few { length frame.now ≤ 70000 }
         requires ready { IsReady self.old.moment self.old.local.table }
         ensures comes { IfOk result (λ arrival. (s : SystemState) (content : Content) → PartsStand self.old s → IsCarried content
@@ -81,7 +86,7 @@ impl SystemEntity {
         ensures config { self.new.local.configuration ≡ self.old.local.configuration }
     {
         laws::a_frame_carries_one_packet();
-        laws::a_frame_carries_one_esis_value();
+        laws::no_frame_is_of_both_protocols();
         match decode(frame.bytes()) {
             Ok(pdu) => self.pdu_comes(alloc, pdu.life, pdu.to, place, group, frame, out),
             Err(Refusal::Broken(broken)) => {
@@ -107,6 +112,19 @@ impl SystemEntity {
         frame: &Frame,
         out: &mut Vec<Output>,
     ) -> Result<Arrival, NoMemory>
+        requires at_work { self.old.spent ≡ true }
+        requires few { length frame.now ≤ 70000 }
+        requires ready { IsReady self.old.moment self.old.local.table }
+        requires pdu { (v : PduValue) × (rest : List ℕ) × BeginsWith frame.now v rest × (v.lifetime ≡ life) }
+        ensures comes { IfOk result (λ arrival. (s : SystemState) (p : Packet) (following : List ℕ) → PartsStand self.old s → IsCarriable p
+            → frame.now ≡ wire p ++ following → p.lifetime ≡ life → p.unit.destination ≡ to
+            → ComesOf arrival s place group (Labelled p following) self.new out.old.items out.new.items) }
+        ensures left { IfOk result (λ arrival. LeavesAsItWas arrival self.old self.new out.old.items out.new.items) }
+        ensures ready { OnOk result (IsReady self.new.moment self.new.local.table) }
+        ensures none { OnErr result (out.new.items ≡ out.old.items) }
+        ensures moment { self.new.moment ≡ self.old.moment }
+        ensures spent { self.new.spent ≡ self.old.spent }
+        ensures config { self.new.local.configuration ≡ self.old.local.configuration }
     {
         if life == 0 {
             let reason = Reason::LifetimeExpiredInTransit.code();
@@ -130,16 +148,31 @@ impl SystemEntity {
         frame: &Frame,
         out: &mut Vec<Output>,
     ) -> Result<(), NoMemory>
+        requires at_work { self.old.spent ≡ true }
+        requires few { length frame.now ≤ 70000 }
+        requires ready { IsReady self.old.moment self.old.local.table }
+        requires alive { (v : PduValue) × (rest : List ℕ) × BeginsWith frame.now v rest × (1 ≤ v.lifetime) }
+        ensures stands { OnOk result ((s : SystemState) (p : Packet) (following : List ℕ) → PartsStand self.old s → IsCarriable p
+            → frame.now ≡ wire p ++ following → (p.lifetime == 0) ≡ false → is_own s p.unit.destination ≡ true
+            → PartsStand self.new (content_comes s place group (Labelled p following)).after) }
+        ensures outputs { OnOk result ((s : SystemState) (p : Packet) (following : List ℕ) → PartsStand self.old s → IsCarriable p
+            → frame.now ≡ wire p ++ following → (p.lifetime == 0) ≡ false → is_own s p.unit.destination ≡ true
+            → Appends s.moment out.old.items out.new.items (content_comes s place group (Labelled p following)).outputs) }
+        ensures ready { OnOk result (IsReady self.new.moment self.new.local.table) }
+        ensures none { OnErr result (out.new.items ≡ out.old.items) }
+        ensures moment { self.new.moment ≡ self.old.moment }
+        ensures spent { self.new.spent ≡ self.old.spent }
+        ensures config { self.new.local.configuration ≡ self.old.local.configuration }
     {
         laws::deeds_are_of_their_moment();
+        laws::hellos_leave_the_rest();
         let mut outputs = Vec::new(alloc);
         let mut actions = Vec::new(alloc);
         self.local
             .receive(alloc, self.moment, frame, &mut actions)?;
         self.give_out(actions, &mut outputs)?;
         if group && self.local.config().role() == Role::Host {
-            self.esis
-                .tell(alloc, self.local.config(), place, &mut outputs)?;
+            self.esis.tell(self.local.config(), place, &mut outputs)?;
         }
         out.append(&mut outputs)?;
         Ok(())
@@ -154,18 +187,29 @@ impl SystemEntity {
         frame: &Frame,
         out: &mut Vec<Output>,
     ) -> Result<(), NoMemory>
+        requires at_work { self.old.spent ≡ true }
+        requires ready { IsReady self.old.moment self.old.local.table }
+        requires other { octet frame.now 1 ≢ 0x81 }
+        ensures stands { OnOk result ((s : SystemState) (group : Bool) (content : Content) → PartsStand self.old s → IsCarried content
+            → frame_of content ≡ frame.now → PartsStand self.new (content_comes s place group content).after) }
+        ensures outputs { OnOk result ((s : SystemState) (group : Bool) (content : Content) → PartsStand self.old s → IsCarried content
+            → frame_of content ≡ frame.now
+            → Appends s.moment out.old.items out.new.items (content_comes s place group content).outputs) }
+        ensures ready { OnOk result (IsReady self.new.moment self.new.local.table) }
+        ensures none { OnErr result (out.new.items ≡ out.old.items) }
+        ensures moment { self.new.moment ≡ self.old.moment }
+        ensures spent { self.new.spent ≡ self.old.spent }
+        ensures config { self.new.local.configuration ≡ self.old.local.configuration }
     {
+        laws::a_frame_carries_one_esis_value();
+        laws::no_frame_is_of_both_protocols();
+        laws::hellos_leave_the_rest();
         match esis_pdus::decode(frame.bytes()) {
             Ok(pdu) => {
                 let mut outputs = Vec::new(alloc);
-                self.esis.hear(
-                    alloc,
-                    self.local.config(),
-                    self.moment,
-                    place,
-                    &pdu,
-                    &mut outputs,
-                )?;
+                let config = self.local.config();
+                self.esis
+                    .hear(config, self.moment, place, pdu, &mut outputs)?;
                 out.append(&mut outputs)?;
                 Ok(())
             }
@@ -189,6 +233,19 @@ impl SystemEntity {
         place: u8,
         out: &mut Vec<Output>,
     ) -> Result<(), NoMemory>
+        requires at_work { self.old.spent ≡ true }
+        requires few { length frame.now ≤ 70000 }
+        requires ready { IsReady self.old.moment self.old.local.table }
+        ensures stands { OnOk result ((s : SystemState) (content : Content) → PartsStand self.old s → IsCarried content
+            → frame_of content ≡ frame.now → PartsStand self.new (machine.discard s content reason place).after) }
+        ensures outputs { OnOk result ((s : SystemState) (content : Content) → PartsStand self.old s → IsCarried content
+            → frame_of content ≡ frame.now
+            → Appends s.moment out.old.items out.new.items (effect_of (machine.discard s content reason place)).outputs) }
+        ensures ready { OnOk result (IsReady self.new.moment self.new.local.table) }
+        ensures none { OnErr result (out.new.items ≡ out.old.items) }
+        ensures moment { self.new.moment ≡ self.old.moment }
+        ensures spent { self.new.spent ≡ self.old.spent }
+        ensures config { self.new.local.configuration ≡ self.old.local.configuration }
     {
         laws::deeds_are_of_their_moment();
         let mut outputs = Vec::new(alloc);
@@ -211,6 +268,22 @@ impl SystemEntity {
         ask: &Ask,
         out: &mut Vec<Output>,
     ) -> Result<u64, SendRefusal>
+        requires at_work { self.old.spent ≡ true }
+        requires options { FitsKind (is_report kind) (parameters ask.now.options) }
+        requires ready { IsReady self.old.moment self.old.local.table }
+        ensures answer { (s : SystemState) → PartsStand self.old s → MatchResult result
+            (λ unit. (machine.refusal s (machine.unit_of s kind from to body.now ask.now) ≡ None) × (unit ≡ next_number s))
+            (λ e. IsWhy e (machine.refusal s (machine.unit_of s kind from to body.now ask.now))) }
+        ensures stands { OnOk result ((s : SystemState) → PartsStand self.old s
+            → PartsStand self.new (machine.make s kind from to body.now ask.now).after) }
+        ensures outputs { OnOk result ((s : SystemState) → PartsStand self.old s
+            → Appends s.moment out.old.items out.new.items (effect_of (machine.make s kind from to body.now ask.now)).outputs) }
+        ensures left { IfErr result (λ e. LeavesParts e self.old self.new) }
+        ensures ready { OnOk result (IsReady self.new.moment self.new.local.table) }
+        ensures none { OnErr result (out.new.items ≡ out.old.items) }
+        ensures moment { self.new.moment ≡ self.old.moment }
+        ensures spent { self.new.spent ≡ self.old.spent }
+        ensures config { self.new.local.configuration ≡ self.old.local.configuration }
     {
         let Ok(frame) = Frame::copy(alloc, body) else {
             return Err(SendRefusal::NoMemory);
@@ -233,6 +306,10 @@ impl SystemEntity {
 
     /// Gives out what was done at the system's addresses.
     fn give_out(&self, actions: Vec<Action>, out: &mut Vec<Output>) -> Result<(), NoMemory>
+        requires { (others : List machine.Action) × DoAll actions.items others }
+        ensures { OnOk result ((s : SystemState) (before : ℕ) (others : List machine.Action) → PartsStandSince before self.now s
+            → DoAll actions.items others → AllByRecursion (IsFresh s.moment) others
+            → Appends s.moment out.old.items out.new.items (flat_map (outputs_of s) others)) }
     {
         for action in actions {
             self.give(action, out)?;
@@ -242,6 +319,10 @@ impl SystemEntity {
 
     /// Gives out one thing that was done.
     fn give(&self, action: Action, out: &mut Vec<Output>) -> Result<(), NoMemory>
+        requires { (other : machine.Action) × Does action other }
+        ensures { OnOk result ((s : SystemState) (before : ℕ) (other : machine.Action) → PartsStandSince before self.now s
+            → Does action other → IsFresh s.moment other
+            → Appends s.moment out.old.items out.new.items (outputs_of s other)) }
     {
         match action {
             Action::Note(note) => {

@@ -5,7 +5,7 @@ use Rattle.esis_entity.specs.State.{EsisState}
 use Rattle.esis_entity.proofs.entity.EsisEntity.neighbour.Goals as goal
 
 pub returns : goal.returns
-returns c = λ s h at.
-    c.system.ensures s.facts s.moment []
-    (subst (λ (tables : Tables). heard.Stands tables s.facts s.moment []) (sym (ap (λ (entity : EsisState). entity.tables) c.self.view_is)) h.tables)
-    (omega arith)
+returns c = λ s before h passed.
+    c.system.ensures s.facts before []
+    (subst (λ (tables : Tables). heard.Stands tables s.facts before []) (sym (ap (λ (entity : EsisState). entity.tables) c.self.view_is)) h.tables)
+    passed

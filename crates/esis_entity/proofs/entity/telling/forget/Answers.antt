@@ -2,8 +2,7 @@ use Rattle.std.proofs.Common.{◌≡◌, ◌∙◌, refl, ℕ, ◌+◌, ◌-◌,
 use Rattle.esis_tables.specs.declared.fact.Gone.{Gone}
 use Rattle.esis_tables.specs.Gone.{gone}
 use Rattle.clnp_machine.specs.Esis.{gone_note}
-use Rattle.clnp_machine.proofs.Given.{appended_length}
-use Rattle.esis_entity.proofs.Forgetting.{all_forgotten, none_forgotten, one_forgotten}
+use Rattle.esis_entity.proofs.Forgetting.{appended_length, all_forgotten, none_forgotten, one_forgotten}
 use Rattle.esis_entity.proofs.entity.telling.forget.Goals as goal
 
 -- what a list has left of its most elements

@@ -1,0 +1,300 @@
+-- What a system sends in answer to what comes in a frame.
+use Rattle.std.proofs.Common.{◌≡◌, ◌∙◌, refl, sym, ap, subst, ℕ, ◌+◌, ◌*◌, inl, inr, Bool, true, false, List, [], ◌∷◌, ◌++◌, append-nil, map, Option, None, Some}
+use Rattle.std.specs.Prelude.{◌==◌, ◌||◌, min, if◌then◌else◌, slice_get}
+use Rattle.std.specs.List.{AllByRecursion, filter, flat_map, list_any}
+use Rattle.std.proofs.lemmas.List.Elements.{filter-append}
+use Rattle.std.proofs.lemmas.List.Folds.{list_any-append}
+use Rattle.clnp_base.proofs.Lists.{AllByRecursion-append}
+use Rattle.clnp_options.specs.declared.judge.OptionRefusal.{OptionRefusal}
+use Rattle.esis_pdus.specs.declared.pdu.EsisBody.{EsisBody}
+use Rattle.esis_pdus.specs.declared.pdu.EsisBody.TheVariants.{Esh, Ish, Rd}
+use Rattle.esis_pdus.specs.Value.{EsisValue, suggested}
+use Rattle.esis_tables.specs.declared.fact.Place.{Place}
+use Rattle.esis_tables.specs.declared.fact.TableKind.TheVariants.{Es, Is}
+use Rattle.esis_tables.specs.Fact.{answer}
+use Rattle.nsap.specs.declared.target.Target.TheVariants.{System}
+use Rattle.pdu_header.specs.Rules.{octet, refusal as rule_broken}
+use Rattle.clnp_plan.specs.Configuration.{SystemConfiguration}
+use Rattle.clnp_plan.specs.declared.config.PortConfig.{PortConfig}
+use Rattle.clnp_plan.specs.declared.config.Role.{Role}
+use Rattle.clnp_plan.specs.declared.config.Role.TheVariants.{Host, Router}
+use Rattle.clnp_machine.specs.Unit as unit
+use Rattle.clnp_machine.specs.Unit.{Packet, whole_packet, cut}
+use Rattle.clnp_machine.specs.System.{SystemState, Output, Transmits, SendsEsis, Effect, idles, gives, then_does}
+use Rattle.clnp_machine.specs.Esis.{answers_new, end_system_heard, esis_comes, esis_heard, esis_limits, follows, heard_now, hears, hears_each, intermediate_system_heard, is_silent, own_hello, tells_new, tells_of_itself}
+use Rattle.clnp_machine.specs.Local.{Action, Sends, Tells, Deed}
+use Rattle.clnp_machine.specs.Step.{Hop, discard_refused, first_sent, is_asked_for, next_hop, octets_come, outputs_of, packet_comes, responds, sent_on, transmissions}
+use Rattle.clnp_machine.specs.Steps.{IsAtMostItsHello, sends_esis, sends_frame}
+use Rattle.clnp_machine.proofs.Deeds.{packet_is}
+use Rattle.clnp_machine.proofs.Hellos.{only_comes, only_hears_each, same_hello}
+use Rattle.clnp_machine.proofs.Known.{IsKnown, all_known, becomes_known, none_new, not_new, told_old}
+
+-- where no output passes a test, none is left by it
+
+abbrev pub NonePasses : (Output → Bool) → List Output → Type 0
+NonePasses p outputs = AllByRecursion (λ output. p output ≡ false) outputs
+
+none_left : (p : Output → Bool) (outputs : List Output) → NonePasses p outputs → filter p outputs ≡ []
+none_left p [] none = refl
+none_left p (output ∷ outputs) none = rw none.0 (none_left p outputs none.1)
+
+none_before : (p : Output → Bool) (outputs more : List Output) → NonePasses p outputs → filter p (outputs ++ more) ≡ filter p more
+none_before p outputs more none =
+    filter-append p outputs more ∙ ap (λ (front : List Output). front ++ filter p more) (none_left p outputs none)
+
+-- hearing is only noted
+
+pub hears_notes : (s : SystemState) (addresses : List (List ℕ)) (place : Place) (holding : ℕ) → NonePasses sends_frame (hears_each s addresses place holding).outputs
+hears_notes s [] place holding = tt
+hears_notes s (address ∷ others) place holding = (refl, hears_notes (hears s Es address place holding).after others place holding)
+
+hears_hello : (s : SystemState) (addresses : List (List ℕ)) (place : Place) (holding : ℕ) → (hears_each s addresses place holding).after.hello ≡ s.hello
+hears_hello s [] place holding = refl
+hears_hello s (address ∷ others) place holding = hears_hello (hears s Es address place holding).after others place holding
+
+-- and a system tells of itself by its own hello, or doesn't
+
+abbrev pub At : (Output → Bool) → SystemState → Place → Effect → Type 0
+At p s place effect = IsAtMostItsHello s place (filter p effect.outputs)
+
+told_frame : (s : SystemState) (place : Place) → At sends_frame s place (tells_of_itself s place.port place.snpa)
+told_frame s place = go (is_silent s)
+  where
+    go : (silent : Bool) → At sends_frame s place (if silent then idles s else gives s (SendsEsis place.port (System place.snpa) (own_hello s) ∷ []))
+    go true = inl refl
+    go false = inr refl
+
+told_esis : (s : SystemState) (place : Place) → At sends_esis s place (tells_of_itself s place.port place.snpa)
+told_esis s place = go (is_silent s)
+  where
+    go : (silent : Bool) → At sends_esis s place (if silent then idles s else gives s (SendsEsis place.port (System place.snpa) (own_hello s) ∷ []))
+    go true = inl refl
+    go false = inr refl
+
+at_one_of : (p : Output → Bool) (s : SystemState) (place : Place) (test : Bool) (first second : Effect) → At p s place first → At p s place second
+    → At p s place (if test then first else second)
+at_one_of p s place true first second h k = h
+at_one_of p s place false first second h k = k
+
+-- the same hello, where it is as often said by the same configuration
+at_same : (s t : SystemState) (place : Place) (sent : List Output) → t.configuration ≡ s.configuration → t.hello ≡ s.hello
+    → IsAtMostItsHello t place sent → IsAtMostItsHello s place sent
+at_same s t place sent same often (inl none) = inl none
+at_same s t place sent same often (inr one) =
+    inr (one ∙ ap (λ (v : EsisValue). SendsEsis place.port (System place.snpa) v ∷ []) (same_hello s t same often))
+
+answers_at : (s : SystemState) (place : Place) (heard : Effect) → NonePasses sends_frame heard.outputs → heard.after.configuration ≡ s.configuration
+    → heard.after.hello ≡ s.hello → At sends_frame s place (answers_new heard place)
+answers_at s place heard notes same often =
+    let t = heard.after in
+    let told = (if list_any tells_new heard.outputs then tells_of_itself t place.port place.snpa else idles t) in
+    subst (IsAtMostItsHello s place) (sym (none_before sends_frame heard.outputs told.outputs notes))
+    (at_same s t place (filter sends_frame told.outputs) same often
+    (at_one_of sends_frame t place (list_any tells_new heard.outputs) _ _ (told_frame t place) (inl refl)))
+
+end_system_at : (role : Role) (s : SystemState) (place : Place) (holding : ℕ) (addresses : List (List ℕ))
+    → At sends_frame s place (end_system_heard role s place holding addresses)
+end_system_at Host s place holding addresses = inl (none_left sends_frame _ (hears_notes s addresses place holding))
+end_system_at Router s place holding addresses =
+    answers_at s place (hears_each s addresses place holding) (hears_notes s addresses place holding)
+    (only_hears_each s addresses place holding).rest.configuration (hears_hello s addresses place holding)
+
+at_front : (s : SystemState) (place : Place) (effect : Effect) (next : SystemState → Effect) → (next effect.after).outputs ≡ [] → At sends_frame s place effect
+    → At sends_frame s place (then_does effect next)
+at_front s place effect next none h =
+    let same : filter sends_frame (effect.outputs ++ (next effect.after).outputs) ≡ filter sends_frame effect.outputs =
+    ap (λ (more : List Output). filter sends_frame (effect.outputs ++ more)) none ∙ ap (filter sends_frame) (append-nil effect.outputs) in
+    subst (IsAtMostItsHello s place) (sym same) h
+
+intermediate_system_at : (role : Role) (s : SystemState) (place : Place) (holding : ℕ) (title : List ℕ) (timer : Option ℕ)
+    → At sends_frame s place (intermediate_system_heard role s place holding title timer)
+intermediate_system_at Host s place holding title timer =
+    at_front s place (answers_new (hears s Is title place holding) place) (λ t. idles (follows t timer)) refl
+    (answers_at s place (hears s Is title place holding) (refl, tt) refl refl)
+intermediate_system_at Router s place holding title timer = inl refl
+
+heard_at : (role : Role) (s : SystemState) (place : Place) (holding : ℕ) (body : EsisBody) (timer : Option ℕ)
+    → At sends_frame s place (esis_heard role s place holding body timer)
+heard_at role s place holding (Esh addresses) timer = end_system_at role s place holding addresses
+heard_at role s place holding (Ish title) timer = intermediate_system_at role s place holding title timer
+heard_at role s place holding (Rd to via title) timer = inl refl
+
+pub hello_causes : (s : SystemState) (place : Place) (v : EsisValue) → At sends_frame s place (esis_comes s place v)
+hello_causes s place v = heard_at s.configuration.role s place v.holding v.body (suggested v.body v.options)
+
+-- What a system does at its addresses sends no ES-IS PDU.
+
+pieces_silent : (hop : Hop) (pieces : List Packet) → NonePasses sends_esis (map (λ piece. Transmits hop.port hop.target piece) pieces)
+pieces_silent hop [] = tt
+pieces_silent hop (piece ∷ pieces) = (refl, pieces_silent hop pieces)
+
+transmissions_silent : (hop : Hop) (pieces : Option (List Packet)) → NonePasses sends_esis (transmissions hop pieces)
+transmissions_silent hop None = (refl, tt)
+transmissions_silent hop (Some pieces) = pieces_silent hop pieces
+
+sent_silent : (hop : Hop) (port : Option PortConfig) (u : unit.Unit) → NonePasses sends_esis (sent_on hop port u)
+sent_silent hop None u = (refl, tt)
+sent_silent hop (Some port) u = transmissions_silent hop (cut (whole_packet u) port.mtu)
+
+first_silent : (s : SystemState) (u : unit.Unit) (hop : Option Hop) → NonePasses sends_esis (first_sent s u hop)
+first_silent s u None = (refl, tt)
+first_silent s u (Some hop) = sent_silent hop (slice_get s.configuration.ports hop.port) u
+
+pub deeds_silent : (s : SystemState) (actions : List Action) → NonePasses sends_esis (flat_map (outputs_of s) actions)
+deeds_silent s [] = tt
+deeds_silent s (Tells told ∷ actions) = (refl, deeds_silent s actions)
+deeds_silent s (Sends u ∷ actions) =
+    AllByRecursion-append (λ output. sends_esis output ≡ false) (first_sent s u (next_hop s u.destination)) (flat_map (outputs_of s) actions)
+    (first_silent s u (next_hop s u.destination)) (deeds_silent s actions)
+
+pub packet_causes : (s : SystemState) (place : Place) (to_group : Bool) (p : Packet) (following : List ℕ)
+    → IsAtMostItsHello s place (filter sends_esis (flat_map (outputs_of (packet_comes s p following).after) (packet_comes s p following).actions
+    ++ (responds (packet_comes s p following).after place to_group p).outputs))
+packet_causes s place to_group p following =
+    let deed = packet_comes s p following in
+    let t = deed.after in
+    let is = packet_is s p following in
+    subst (IsAtMostItsHello s place)
+    (sym (none_before sends_esis (flat_map (outputs_of t) deed.actions) (responds t place to_group p).outputs (deeds_silent t deed.actions)))
+    (at_same s t place (filter sends_esis (responds t place to_group p).outputs) is.itself.configuration is.heard.hello
+    (at_one_of sends_esis t place (is_asked_for t.configuration.role t to_group p) _ _ (told_esis t place) (inl refl)))
+
+-- Octets that are no PDU are answered by nothing.
+
+refused_unanswered : (s : SystemState) (octets : List ℕ) (broken : Option OptionRefusal)
+    → filter sends_frame (flat_map (outputs_of (discard_refused s octets broken).after) (discard_refused s octets broken).actions) ≡ []
+refused_unanswered s octets None = refl
+refused_unanswered s octets (Some broken) = refl
+
+abbrev pub Unanswered : Deed → Type 0
+Unanswered deed = filter sends_frame (flat_map (outputs_of deed.after) deed.actions) ≡ []
+
+unanswered_one_of : (test : Bool) (first second : Deed) → Unanswered first → Unanswered second → Unanswered (if test then first else second)
+unanswered_one_of true first second h k = h
+unanswered_one_of false first second h k = k
+
+pub octets_unanswered : (s : SystemState) (octets : List ℕ) → Unanswered (octets_come s octets)
+octets_unanswered s octets =
+    unanswered_one_of (octet octets 1 == 0x81) (discard_refused s octets (rule_broken octets)) _ (refused_unanswered s octets (rule_broken octets))
+    refl
+
+-- What isn't new is answered by nothing.
+
+answered_no_more : (heard : Effect) (place : Place) → NonePasses sends_frame heard.outputs → list_any tells_new heard.outputs ≡ false
+    → filter sends_frame (answers_new heard place).outputs ≡ []
+answered_no_more heard place notes old =
+    let t = heard.after in
+    ap (λ (test : Bool). filter sends_frame (heard.outputs ++ (if test then tells_of_itself t place.port place.snpa else idles t).outputs)) old
+    ∙ none_before sends_frame heard.outputs [] notes
+
+-- of what is given out in two parts, the first tells nothing new where both don't
+first_old : (outputs more : List Output) → list_any tells_new (outputs ++ more) ≡ false → list_any tells_new outputs ≡ false
+first_old outputs more old = go (list_any tells_new outputs) (list_any tells_new more) (sym (list_any-append tells_new outputs more) ∙ old)
+  where
+    go : (a b : Bool) → (a || b) ≡ false → a ≡ false
+    go true b h = absurd (cc)
+    go false b h = refl
+
+abbrev told_where : Effect → Place → Bool → Effect
+told_where heard place test = if test then tells_of_itself heard.after place.port place.snpa else idles heard.after
+
+old_end_system : (role : Role) (s : SystemState) (place : Place) (holding : ℕ) (addresses : List (List ℕ))
+    → list_any tells_new (end_system_heard role s place holding addresses).outputs ≡ false
+    → filter sends_frame (end_system_heard role s place holding addresses).outputs ≡ []
+old_end_system Host s place holding addresses old = none_left sends_frame _ (hears_notes s addresses place holding)
+old_end_system Router s place holding addresses old =
+    answered_no_more (hears_each s addresses place holding) place (hears_notes s addresses place holding)
+    (first_old (hears_each s addresses place holding).outputs
+    (told_where (hears_each s addresses place holding) place (list_any tells_new (hears_each s addresses place holding).outputs)).outputs old)
+
+old_intermediate_system : (role : Role) (s : SystemState) (place : Place) (holding : ℕ) (title : List ℕ) (timer : Option ℕ)
+    → list_any tells_new (intermediate_system_heard role s place holding title timer).outputs ≡ false
+    → filter sends_frame (intermediate_system_heard role s place holding title timer).outputs ≡ []
+old_intermediate_system Host s place holding title timer old =
+    let heard = hears s Is title place holding in
+    let answered = answers_new heard place in
+    ap (filter sends_frame) (append-nil answered.outputs)
+    ∙ answered_no_more heard place (refl, tt) (first_old heard.outputs (told_where heard place (list_any tells_new heard.outputs)).outputs (first_old answered.outputs [] old))
+old_intermediate_system Router s place holding title timer old = refl
+
+old_heard : (role : Role) (s : SystemState) (place : Place) (holding : ℕ) (body : EsisBody) (timer : Option ℕ)
+    → list_any tells_new (esis_heard role s place holding body timer).outputs ≡ false
+    → filter sends_frame (esis_heard role s place holding body timer).outputs ≡ []
+old_heard role s place holding (Esh addresses) timer old = old_end_system role s place holding addresses old
+old_heard role s place holding (Ish title) timer old = old_intermediate_system role s place holding title timer old
+old_heard role s place holding (Rd to via title) timer old = refl
+
+pub old_unanswered : (s : SystemState) (place : Place) (v : EsisValue) → list_any tells_new (esis_comes s place v).outputs ≡ false
+    → filter sends_frame (esis_comes s place v).outputs ≡ []
+old_unanswered s place v old = old_heard s.configuration.role s place v.holding v.body (suggested v.body v.options) old
+
+-- What comes again at the same moment is answered by nothing.
+
+told_after : (s : SystemState) (port : ℕ) (snpa : List ℕ) → (tells_of_itself s port snpa).after ≡ s
+told_after s port snpa = go (is_silent s)
+  where
+    go : (silent : Bool) → (if silent then idles s else gives s (SendsEsis port (System snpa) (own_hello s) ∷ [])).after ≡ s
+    go true = refl
+    go false = refl
+
+answered_after : (heard : Effect) (place : Place) → (answers_new heard place).after ≡ heard.after
+answered_after heard place = go (list_any tells_new heard.outputs)
+  where
+    go : (test : Bool) → (if test then tells_of_itself heard.after place.port place.snpa else idles heard.after).after ≡ heard.after
+    go true = told_after heard.after place.port place.snpa
+    go false = refl
+
+again_end_system : (role : Role) (s : SystemState) (place : Place) (holding : ℕ) (addresses : List (List ℕ))
+    → filter sends_frame (end_system_heard role (end_system_heard role s place holding addresses).after place holding addresses).outputs ≡ []
+again_end_system Host s place holding addresses = none_left sends_frame _ (hears_notes (hears_each s addresses place holding).after addresses place holding)
+again_end_system Router s place holding addresses =
+    let heard = hears_each s addresses place holding in
+    let P : SystemState → Type 0 = λ t. filter sends_frame (answers_new (hears_each t addresses place holding) place).outputs ≡ [] in
+    subst P (sym (answered_after heard place))
+    (answered_no_more (hears_each heard.after addresses place holding) place (hears_notes heard.after addresses place holding)
+    (none_new place holding heard.after addresses (all_known place holding s addresses)))
+
+-- an intermediate system of which nothing new can be heard
+abbrev RouterKnown : Place → ℕ → List ℕ → SystemState → Type 0
+RouterKnown place holding title s = IsKnown (esis_limits s) s.moment Is place holding title s.facts
+
+known_followed : (place : Place) (holding : ℕ) (title : List ℕ) (s : SystemState) (timer : Option ℕ) → RouterKnown place holding title s
+    → RouterKnown place holding title (follows s timer)
+known_followed place holding title s None known = known
+known_followed place holding title s (Some seconds) known = go (seconds == 0 || is_silent s)
+  where
+    go : (test : Bool) → RouterKnown place holding title (if test then s else record s { hello = seconds; next_hello = min s.next_hello (s.moment + 2 * seconds) })
+    go true = known
+    go false = known
+
+again_known : (s : SystemState) (place : Place) (holding : ℕ) (title : List ℕ) (timer : Option ℕ) → RouterKnown place holding title s
+    → filter sends_frame (intermediate_system_heard Host s place holding title timer).outputs ≡ []
+again_known s place holding title timer known =
+    let heard = hears s Is title place holding in
+    ap (filter sends_frame) (append-nil (answers_new heard place).outputs)
+    ∙ answered_no_more heard place (refl, tt)
+    (ap (λ (first : Bool). first || false)
+    (told_old Is title (answer (esis_limits s) (heard_now s Is title place holding) s.facts) (not_new (esis_limits s) s.moment Is place holding title s.facts known)))
+
+again_intermediate_system : (role : Role) (s : SystemState) (place : Place) (holding : ℕ) (title : List ℕ) (timer : Option ℕ)
+    → filter sends_frame (intermediate_system_heard role (intermediate_system_heard role s place holding title timer).after place holding title timer).outputs ≡ []
+again_intermediate_system Host s place holding title timer =
+    let heard = hears s Is title place holding in
+    let t = (answers_new heard place).after in
+    let known = subst (RouterKnown place holding title) (sym (answered_after heard place)) (becomes_known (esis_limits s) s.moment Is place holding title s.facts) in
+    again_known (follows t timer) place holding title timer (known_followed place holding title t timer known)
+again_intermediate_system Router s place holding title timer = refl
+
+again_heard : (role : Role) (s : SystemState) (place : Place) (holding : ℕ) (body : EsisBody) (timer : Option ℕ)
+    → filter sends_frame (esis_heard role (esis_heard role s place holding body timer).after place holding body timer).outputs ≡ []
+again_heard role s place holding (Esh addresses) timer = again_end_system role s place holding addresses
+again_heard role s place holding (Ish title) timer = again_intermediate_system role s place holding title timer
+again_heard role s place holding (Rd to via title) timer = refl
+
+pub again_unanswered : (s : SystemState) (place : Place) (v : EsisValue) → filter sends_frame (esis_comes (esis_comes s place v).after place v).outputs ≡ []
+again_unanswered s place v =
+    let t = (esis_comes s place v).after in
+    let timer = suggested v.body v.options in
+    let role_is : t.configuration.role ≡ s.configuration.role = ap (λ (c : SystemConfiguration). c.role) (only_comes s place v).rest.configuration in
+    let P : Role → Type 0 = λ role. filter sends_frame (esis_heard role t place v.holding v.body timer).outputs ≡ [] in
+    subst P (sym role_is) (again_heard s.configuration.role s place v.holding v.body timer)

@@ -1,0 +1,20 @@
+-- What a system of the code stands for, be it a host or a router.
+use Rattle.clnp_machine.specs.System.{SystemState}
+use Rattle.clnp_plan.specs.Configuration.{SystemConfiguration}
+use Rattle.system_entity.specs.State.{SystemEntityState}
+use Rattle.system_entity.specs.Stands as entity
+use Rattle.clnp_systems.specs.declared.system.System.{System}
+use Rattle.clnp_systems.specs.declared.system.System.TheVariants.{Host, Router}
+
+-- what it does whatever its role
+abbrev pub entity_of : System → SystemEntityState
+entity_of (Host host) = host.entity
+entity_of (Router router) = router.entity
+
+-- what the scenario says of it
+abbrev pub configuration_of : System → SystemConfiguration
+configuration_of system = (entity_of system).local.configuration
+
+-- a system stands for a state, whatever its place
+abbrev pub Stands : System → SystemState → Type 0
+Stands system s = entity.Stands (entity_of system) s

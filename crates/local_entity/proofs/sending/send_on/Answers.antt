@@ -1,0 +1,36 @@
+-- The unit is cut, as its PDU is.
+use Rattle.std.proofs.Common.{◌≡◌, ◌∙◌, [], ◌∷◌, ◌++◌, length, sym, subst, ap}
+use Rattle.std.proofs.lemmas.Result.{on_ok_weaker}
+use Rattle.clnp_views.specs.Extent.{Extent, seen}
+use Rattle.clnp_machine.specs.Unit.{value_of, whole_packet}
+use Rattle.local_entity.proofs.Sent.{unit_is_dropped, unit_is_sent, unit_length}
+use Rattle.local_entity.proofs.sending.send_on.Goals as goal
+
+pub new-requires-clause-data : goal.new-requires-clause-data
+new-requires-clause-data c =
+    let u = c.requires.made.0 in
+    let does = c.requires.made.1 in (
+      value_of (whole_packet u),
+      does.2,
+      unit_length u c.args.made.now.body does.3 (length c.bytes-octets.result.now) (ap length c.bytes-octets.ensures.octets),
+    )
+
+pub returns-in-Ok : goal.returns-in-Ok
+returns-in-Ok c =
+    let body : Extent = c.args.made.now.body in
+    let all : length (seen body) ≡ body.len = sym (ap length c.bytes-octets.ensures.octets) ∙ c.bytes-octets.ensures.len in
+    on_ok_weaker c.give_pieces.result
+    (λ written u does first. unit_is_sent u c.args.hop c.args.port.now c.args.made.now.head body (length c.bytes-octets.result.now) c.new.result
+    c.in-Ok.cuts c.args.out.now.items c.give_pieces.new.out.items (record { spells = does.2; shown = does.3; whole = all })
+    (ap length c.bytes-octets.ensures.octets) c.new.ensures.cut c.in-Ok.is c.requires.least first written)
+    c.give_pieces.ensures
+
+pub returns-in-Err : goal.returns-in-Err
+returns-in-Err c =
+    let body : Extent = c.args.made.now.body in
+    let all : length (seen body) ≡ body.len = sym (ap length c.bytes-octets.ensures.octets) ∙ c.bytes-octets.ensures.len in
+    on_ok_weaker c.note.result
+    (λ written u does first. unit_is_dropped u c.args.hop c.args.port.now c.args.made.now.head body (length c.bytes-octets.result.now) c.new.result
+    c.in-Err.field-0 c.args.out.now.items c.note.new.out.items (record { spells = does.2; shown = does.3; whole = all })
+    (ap length c.bytes-octets.ensures.octets) c.new.ensures.cut c.in-Err.is c.requires.least first written)
+    c.note.ensures

@@ -1,0 +1,8 @@
+-- What a router of the code stands for.
+use Rattle.clnp_machine.specs.System.{SystemState}
+use Rattle.system_entity.specs.Stands as entity
+use Rattle.router.specs.State.{RouterState}
+
+-- a router stands for the state of a system, whatever its place
+abbrev pub Stands : RouterState → SystemState → Type 0
+Stands router s = entity.Stands router.entity s

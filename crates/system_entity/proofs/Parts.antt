@@ -1,0 +1,100 @@
+-- The parts of an entity stand for states that differ in nothing that they keep.
+use Rattle.std.proofs.Common.{◌≡◌, ◌∙◌, refl, sym, ap, subst, ℕ, ◌≤◌, List, [], ◌∷◌, arith}
+use Rattle.std.specs.List.{AllByRecursion}
+use Rattle.reassembly.specs.Buffer.{Buffer}
+use Rattle.reassembly.specs.Mapped.{map_buffers}
+use Rattle.clnp_plan.specs.Configuration.{SystemConfiguration}
+use Rattle.clnp_machine.specs.Identifiers.{Identifiers}
+use Rattle.clnp_machine.specs.Local.{Deed, Sends, Tells, made_in}
+use Rattle.clnp_machine.specs.Local as machine
+use Rattle.clnp_machine.specs.Steps as steps
+use Rattle.clnp_machine.specs.Steps.{IsDeed, LeavesTheRest, OnlyHellos}
+use Rattle.clnp_machine.specs.System.{SystemState, Effect, table_limits}
+use Rattle.clnp_machine.specs.Unit.{Packet, wire}
+use Rattle.clnp_machine.specs.Esis.{esis_limits}
+use Rattle.esis_entity.specs.State.{EsisState}
+use Rattle.esis_entity.specs.Stands as esis_entity
+use Rattle.esis_tables.specs.Stands as heard
+use Rattle.esis_tables.specs.Fact.{Fact}
+use Rattle.local_entity.specs.State.{EntityState}
+use Rattle.local_entity.specs.Local as local_entity
+use Rattle.local_entity.specs.Pool as pool
+use Rattle.system_entity.specs.State.{SystemEntityState}
+use Rattle.system_entity.specs.Stands.{PartsStand, PartsStandSince}
+use Rattle.system_entity.specs.Deeds.{IsFresh}
+
+-- what a system does at its own addresses keeps
+pub record KeepsLocal (s t : SystemState) : Type 0 where
+  pub configuration : t.configuration ≡ s.configuration
+  pub hold : t.hold ≡ s.hold
+  pub count : t.count ≡ s.count
+  pub identifiers : t.identifiers ≡ s.identifiers
+  pub buffers : t.buffers ≡ s.buffers
+
+pub local_same : (here : EntityState) (s t : SystemState) → KeepsLocal s t → local_entity.Stands here s → local_entity.Stands here t
+local_same here s t k h =
+    let limits : table_limits s ≡ table_limits t =
+    ap (λ (c : SystemConfiguration). table_limits (record s { configuration = c })) (sym k.configuration)
+    ∙ ap (λ (n : ℕ). table_limits (record s { configuration = t.configuration; hold = n })) (sym k.hold) in
+    record {
+      configuration = h.configuration ∙ sym k.configuration;
+      limits = h.limits ∙ limits;
+      count = h.count ∙ sym k.count;
+      identifiers = subst (λ (ids : Identifiers). pool.Stands here.identifiers ids) (sym k.identifiers) h.identifiers;
+      buffers = h.buffers;
+      table = h.table;
+      shown = h.shown ∙ ap (λ (buffers : List (Buffer Packet)). map_buffers wire buffers) (sym k.buffers);
+      packets = subst (λ (buffers : List (Buffer Packet)). AllByRecursion (λ (buffer : Buffer Packet). AllByRecursion local_entity.IsAsOffered buffer.kept) buffers)
+          (sym k.buffers) h.packets;
+    }
+
+pub keeps_rest : (s t : SystemState) → LeavesTheRest s t → KeepsLocal s t
+keeps_rest s t h =
+    record { configuration = h.configuration; hold = h.hold; count = h.count; identifiers = h.identifiers; buffers = h.buffers }
+
+-- an entity's state has no moment of its own
+pub keeps_moment : (s : SystemState) (now : ℕ) → KeepsLocal s (machine.at_moment now s)
+keeps_moment s now = record { configuration = refl; hold = refl; count = refl; identifiers = refl; buffers = refl }
+
+-- what it heard and says keeps
+pub esis_same : (before : ℕ) (here : EsisState) (s t : SystemState) → t.configuration ≡ s.configuration → t.facts ≡ s.facts → t.hello ≡ s.hello
+    → t.next_hello ≡ s.next_hello → esis_entity.StandsSince before here s → esis_entity.StandsSince before here t
+esis_same before here s t configuration facts hello next h =
+    record {
+      tables = subst (λ (heard_of : List Fact). heard.Stands here.tables heard_of before []) (sym facts) h.tables;
+      limits = h.limits ∙ ap (λ (c : SystemConfiguration). esis_limits (record s { configuration = c })) (sym configuration);
+      period = h.period ∙ sym hello;
+      next_hello = h.next_hello ∙ sym next;
+    }
+
+-- after a deed at the system's own addresses
+pub parts_after_deed : (before : ℕ) (here : SystemEntityState) (local : EntityState) (s : SystemState) (deed : Deed) → IsDeed s deed
+    → local_entity.Stands local deed.after → PartsStandSince before here s → PartsStandSince before (record here { local = local }) deed.after
+parts_after_deed before here local s deed is done h =
+    record {
+      local = done;
+      esis = esis_same before here.esis s deed.after is.itself.configuration is.heard.facts is.heard.hello is.heard.next_hello h.esis;
+      moment = h.moment ∙ sym is.moment;
+      since = subst (λ (now : ℕ). before ≤ now) (sym is.moment) h.since;
+    }
+
+-- after something was said or heard
+pub parts_after_hello : (before : ℕ) (here : SystemEntityState) (esis : EsisState) (s : SystemState) (effect : Effect) → OnlyHellos s effect
+    → esis_entity.Stands esis effect.after → PartsStandSince before here s → PartsStand (record here { esis = esis }) effect.after
+parts_after_hello before here esis s effect only done h =
+    record {
+      local = local_same here.local s effect.after (keeps_rest s effect.after only.rest) h.local;
+      esis = done;
+      moment = h.moment ∙ sym only.rest.moment;
+      since = omega arith;
+    }
+
+fresh_of : (s : SystemState) (actions : List machine.Action) → AllByRecursion (steps.IsFresh s s.moment) (made_in actions)
+    → AllByRecursion (IsFresh s.moment) actions
+fresh_of s [] all = tt
+fresh_of s (Tells note ∷ actions) all = (tt, fresh_of s actions all)
+fresh_of s (Sends u ∷ actions) all = ((all.0.made, all.0.first_position), fresh_of s actions all.1)
+
+-- what a deed sends was made at its moment
+pub deed_is_fresh : (s : SystemState) (deed : Deed) → IsDeed s deed → AllByRecursion (IsFresh s.moment) deed.actions
+deed_is_fresh s deed h = fresh_of s deed.actions h.fresh
