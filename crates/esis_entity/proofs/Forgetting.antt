@@ -4,7 +4,6 @@ use Rattle.std.proofs.lemmas.List.{append-nil, map-append}
 use Rattle.esis_tables.specs.declared.fact.Gone.{Gone}
 use Rattle.esis_tables.specs.declared.tables.Tables.{Tables}
 use Rattle.esis_tables.specs.Fact.{Fact}
-use Rattle.esis_tables.specs.Gone.{gone}
 use Rattle.esis_tables.specs.Stands as heard
 use Rattle.esis_tables.specs.Stands.{FlushesFirst}
 use Rattle.clnp_plan.specs.declared.output.Output.{Output}

@@ -1,5 +1,5 @@
 -- How long an end system hello gets.
-use Rattle.std.proofs.Common.{◌≡◌, refl, ap, ℕ, zero, suc, ◌+◌, ◌*◌, ◌<◌, ◌≤◌, List, [], ◌∷◌, ◌++◌, length, get_or, arith, length-append}
+use Rattle.std.proofs.Common.{◌≡◌, refl, ap, ℕ, zero, suc, ◌*◌, ◌<◌, ◌≤◌, List, [], ◌∷◌, ◌++◌, length, get_or, arith, length-append}
 use Rattle.clnp_options.specs.Grammar.{joined}
 use Rattle.clnp_options.specs.Parameter.{spelled}
 use Rattle.esis_pdus.specs.Making.{esh_length}

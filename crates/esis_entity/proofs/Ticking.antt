@@ -1,5 +1,5 @@
 -- What is forgotten, and then said.
-use Rattle.std.proofs.Common.{◌≡◌, ◌∙◌, sym, ap, subst, ℕ, List, [], map, Result, Ok, Err}
+use Rattle.std.proofs.Common.{◌≡◌, ◌∙◌, sym, subst, ℕ, List, [], map, Result, Ok, Err}
 use Rattle.std.specs.Prelude.{OnOk}
 use Rattle.esis_tables.specs.Gone.{gone}
 use Rattle.esis_tables.specs.Stands as heard

@@ -1,4 +1,4 @@
-use Rattle.std.proofs.Common.{◌≡◌, ◌∙◌, ap, sym, subst}
+use Rattle.std.proofs.Common.{◌∙◌, ap, sym, subst}
 use Rattle.esis_pdus.specs.declared.pdu.EsisBody.{EsisBody}
 use Rattle.esis_tables.specs.declared.fact.TableKind.TheVariants.{Is}
 use Rattle.clnp_plan.specs.declared.config.Role.TheVariants.{Host}

@@ -1,4 +1,4 @@
-use Rattle.std.proofs.Common.{◌≡◌, ◌∙◌, sym, subst}
+use Rattle.std.proofs.Common.{◌∙◌, sym, subst}
 use Rattle.esis_pdus.specs.declared.pdu.EsisBody.{EsisBody}
 use Rattle.clnp_plan.specs.declared.config.Role.TheVariants.{Router}
 use Rattle.clnp_machine.specs.Esis.{esis_heard, hears_each}

@@ -1,4 +1,4 @@
-use Rattle.std.proofs.Common.{◌≡◌, ap, sym, subst, List, [], arith}
+use Rattle.std.proofs.Common.{ap, sym, subst, []}
 use Rattle.esis_tables.specs.declared.tables.Tables.{Tables}
 use Rattle.esis_tables.specs.Stands as heard
 use Rattle.esis_entity.specs.State.{EsisState}

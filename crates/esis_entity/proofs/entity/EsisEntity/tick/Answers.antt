@@ -1,9 +1,6 @@
-use Rattle.std.proofs.Common.{◌≡◌, ◌∙◌, ap, sym, subst, ℕ, ◌≤◌, []}
-use Rattle.esis_tables.specs.declared.tables.Tables.{Tables}
+use Rattle.std.proofs.Common.{◌∙◌, ap, sym, subst, []}
 use Rattle.esis_tables.specs.Stands as heard
 use Rattle.esis_tables.specs.Stands.{limits_of}
-use Rattle.clnp_machine.specs.System.{SystemState}
-use Rattle.esis_entity.specs.Stands.{StandsSince}
 use Rattle.esis_entity.specs.State.{EsisState}
 use Rattle.esis_entity.proofs.Ticking.{does_tick, on_ok}
 use Rattle.esis_entity.proofs.entity.EsisEntity.tick.Goals as goal

@@ -1,4 +1,4 @@
-use Rattle.std.proofs.Common.{◌≡◌, ◌∙◌, ap, sym, length, arith}
+use Rattle.std.proofs.Common.{◌∙◌, ap, sym, length, arith}
 use Rattle.clnp_plan.specs.Configuration.{SystemConfiguration}
 use Rattle.clnp_plan.specs.declared.config.Role.{Role}
 use Rattle.clnp_machine.specs.Esis.{hearers, own_hello}
