@@ -1,11 +1,15 @@
 -- One effect after another.
-use Rattle.std.proofs.Common.{◌≡◌, refl, sym, subst, ℕ, Bool, true, false, List, Option}
+use Rattle.std.proofs.Common.{◌∙◌, ap, ◌≡◌, refl, sym, subst, ℕ, Bool, true, false, List, Option}
 use Rattle.std.specs.Prelude.{if◌then◌else◌}
 use Rattle.std.specs.List.{list_any}
 use Rattle.std.proofs.lemmas.List.{append-nil}
+use Rattle.esis_pdus.specs.declared.pdu.EsisBody.{EsisBody}
+use Rattle.esis_pdus.specs.declared.pdu.EsisBody.TheVariants.{Ish}
 use Rattle.esis_tables.specs.declared.fact.Place.{Place}
+use Rattle.esis_tables.specs.declared.fact.TableKind.TheVariants.{Is}
+use Rattle.clnp_plan.specs.declared.config.Role.TheVariants.{Host}
 use Rattle.clnp_plan.specs.declared.output.Output.{Output}
-use Rattle.clnp_machine.specs.Esis.{answers_new, follows, is_silent, tells_new, tells_of_itself}
+use Rattle.clnp_machine.specs.Esis.{answers_new, esis_heard, follows, hears, is_silent, tells_new, tells_of_itself}
 use Rattle.clnp_machine.specs.Given.{Appends}
 use Rattle.clnp_machine.specs.System as machine
 use Rattle.clnp_machine.specs.System.{Effect, SystemState, idles, then_does}
@@ -58,3 +62,14 @@ does_follow moment entity later before after effect timer h followed =
       stands = followed;
       appends = subst (λ (list : List machine.Output). Appends moment before after list) (sym (append-nil effect.outputs)) h.appends;
     }
+
+-- a host follows the wish of an intermediate system once it has answered
+pub host_follows : (moment : ℕ) (entity later : EsisState) (before after : List Output) (s : SystemState) (title : List ℕ) (place : Place) (hold : ℕ) (body : EsisBody) (timer : Option ℕ)
+    → body ≡ Ish title → s.moment ≡ moment → Does moment entity before after (answers_new (hears s Is title place hold) place)
+    → ((t : SystemState) → Stands entity t → t.moment ≡ moment → Stands later (follows t timer))
+    → Does moment later before after (esis_heard Host s place hold body timer)
+host_follows moment entity later before after s title place hold body timer is at h followed =
+    let heard : Effect = answers_new (hears s Is title place hold) place in
+    subst (λ (b : EsisBody). Does moment later before after (esis_heard Host s place hold b timer)) (sym is)
+    (does_follow moment entity later before after heard timer h
+    (followed heard.after h.stands (ap (λ (t : SystemState). t.moment) (answers_itself (hears s Is title place hold) place) ∙ at)))

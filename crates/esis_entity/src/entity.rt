@@ -77,8 +77,7 @@ impl EsisEntity {
     ///
     /// # Errors
     ///
-    /// `NoMemory`; of the entity and of what was appended nothing is promised then, but that what was there before stands
-    /// in front.
+    /// `NoMemory`; of the entity and of what was appended nothing is promised then.
     pub fn hear(
         &mut self,
         config: &SystemConfig,
@@ -104,7 +103,7 @@ impl EsisEntity {
     ///
     /// # Errors
     ///
-    /// `NoMemory`.
+    /// `NoMemory`; of what was appended nothing is promised then.
     pub fn tell(
         &self,
         config: &SystemConfig,

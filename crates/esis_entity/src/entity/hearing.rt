@@ -1,9 +1,10 @@
 //! What a system hears of others (ISO 9542, sections 6.3, 6.4 and 6.7).
 ghost use Rattle.std.specs.Prelude.{◌≡◌, ◌<◌, ◌^◌, ℕ, if◌then◌else◌, IfOk, OnOk};
-ghost use Rattle.clnp_machine.specs.Esis.{esis_heard, follows, hears, hears_each, tells_of_itself};
+ghost use Rattle.clnp_machine.specs.Esis.{answers_new, esis_heard, follows, hears, hears_each, tells_of_itself};
 ghost use Rattle.clnp_machine.specs.Given.{Appends};
 ghost use Rattle.clnp_machine.specs.System.{SystemState, idles};
 ghost use Rattle.clnp_plan.specs.declared.config.Role.TheVariants.{Host, Router};
+ghost use Rattle.esis_tables.specs.declared.fact.TableKind.TheVariants.{Is};
 ghost use Rattle.esis_entity.specs.Does.{Does, Hears};
 ghost use Rattle.esis_entity.specs.Stands.{Stands};
 
@@ -41,8 +42,7 @@ impl EsisEntity {
                 Ok(())
             }
             EsisBody::Ish { title } => {
-                let new = self.hear_key(now, TableKind::Is, title, &place, hold, out)?;
-                self.answer(config, &place, new, out)?;
+                self.hear_router(config, now, &place, hold, title, out)?;
                 self.follow(now, suggested);
                 Ok(())
             }
@@ -71,12 +71,47 @@ impl EsisEntity {
         } = pdu;
         match body {
             EsisBody::Esh { addresses } => {
-                let new = self.hear_each(now, &place, hold, addresses, out)?;
-                self.answer(config, &place, new, out)
+                self.hear_end_system(config, now, &place, hold, addresses, out)
             }
             EsisBody::Ish { .. } => give_note(Note::Ignored { rd: false }, out),
             EsisBody::Rd { .. } => give_note(Note::Ignored { rd: true }, out),
         }
+    }
+
+    /// Hears of an intermediate system, and answers it where it is new.
+    fn hear_router(
+        &mut self,
+        config: &SystemConfig,
+        now: u64,
+        place: &Place,
+        hold: u16,
+        title: Address,
+        out: &mut Vec<Output>,
+    ) -> Result<(), NoMemory>
+        requires { now < 2 ^ 62 }
+        ensures { OnOk result ((s : SystemState) → Stands self.old s → s.configuration ≡ config.now → s.moment ≡ now
+            → Does now self.new out.old.items out.new.items (answers_new (hears s Is title place.now hold) place.now)) }
+    {
+        let new = self.hear_key(now, TableKind::Is, title, place, hold, out)?;
+        self.answer(config, place, new, out)
+    }
+
+    /// Hears of an end system, and answers it once where an address is new.
+    fn hear_end_system(
+        &mut self,
+        config: &SystemConfig,
+        now: u64,
+        place: &Place,
+        hold: u16,
+        addresses: AddressList<'_>,
+        out: &mut Vec<Output>,
+    ) -> Result<(), NoMemory>
+        requires { now < 2 ^ 62 }
+        ensures { OnOk result ((s : SystemState) → Stands self.old s → s.configuration ≡ config.now → s.moment ≡ now
+            → Does now self.new out.old.items out.new.items (answers_new (hears_each s addresses.entry place.now hold) place.now)) }
+    {
+        let new = self.hear_each(now, place, hold, addresses, out)?;
+        self.answer(config, place, new, out)
     }
 
     /// Hears each address of an end system, in order. Whether one of them is new.
