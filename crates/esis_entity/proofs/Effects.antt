@@ -1,5 +1,5 @@
 -- One effect after another.
-use Rattle.std.proofs.Common.{◌∙◌, ap, ◌≡◌, refl, sym, subst, ℕ, Bool, true, false, List, Option}
+use Rattle.std.proofs.Common.{◌≡◌, refl, sym, subst, ℕ, Bool, true, false, List, Option}
 use Rattle.std.specs.Prelude.{if◌then◌else◌}
 use Rattle.std.specs.List.{list_any}
 use Rattle.std.proofs.lemmas.List.{append-nil}
@@ -54,22 +54,16 @@ does_answer moment entity before mid after new heard place h told =
 pub answers_itself : (heard : Effect) (place : Place) → (answers_new heard place).after ≡ heard.after
 answers_itself heard place = answered_after (list_any tells_new heard.outputs) heard.after place
 
--- nothing is given out for a wish that is followed
-pub does_follow : (moment : ℕ) (entity later : EsisState) (before after : List Output) (effect : Effect) (timer : Option ℕ) → Does moment entity before after effect
-    → Stands later (follows effect.after timer) → Does moment later before after (then_does effect (λ t. idles (follows t timer)))
-does_follow moment entity later before after effect timer h followed =
-    record {
-      stands = followed;
-      appends = subst (λ (list : List machine.Output). Appends moment before after list) (sym (append-nil effect.outputs)) h.appends;
-    }
-
 -- a host follows the wish of an intermediate system once it has answered
-pub host_follows : (moment : ℕ) (entity later : EsisState) (before after : List Output) (s : SystemState) (title : List ℕ) (place : Place) (hold : ℕ) (body : EsisBody) (timer : Option ℕ)
-    → body ≡ Ish title → s.moment ≡ moment → Does moment entity before after (answers_new (hears s Is title place hold) place)
-    → ((t : SystemState) → Stands entity t → t.moment ≡ moment → Stands later (follows t timer))
-    → Does moment later before after (esis_heard Host s place hold body timer)
-host_follows moment entity later before after s title place hold body timer is at h followed =
-    let heard : Effect = answers_new (hears s Is title place hold) place in
-    subst (λ (b : EsisBody). Does moment later before after (esis_heard Host s place hold b timer)) (sym is)
-    (does_follow moment entity later before after heard timer h
-    (followed heard.after h.stands (ap (λ (t : SystemState). t.moment) (answers_itself (hears s Is title place hold) place) ∙ at)))
+pub host_follows : (moment : ℕ) (later : EsisState) (before after : List Output) (s : SystemState) (title : List ℕ) (place : Place) (hold : ℕ) (body : EsisBody)
+    (timer : Option ℕ) → body ≡ Ish title → Appends moment before after (answers_new (hears s Is title place hold) place).outputs
+    → Stands later (follows (hears s Is title place hold).after timer) → Does moment later before after (esis_heard Host s place hold body timer)
+host_follows moment later before after s title place hold body timer is given followed =
+    let answered : Effect = answers_new (hears s Is title place hold) place in
+    let same : answered.after ≡ (hears s Is title place hold).after = answers_itself (hears s Is title place hold) place in
+    let does : Does moment later before after (then_does answered (λ t. idles (follows t timer))) =
+    record {
+      stands = subst (λ (t : SystemState). Stands later (follows t timer)) (sym same) followed;
+      appends = subst (λ (list : List machine.Output). Appends moment before after list) (sym (append-nil answered.outputs)) given;
+    } in
+    subst (λ (b : EsisBody). Does moment later before after (esis_heard Host s place hold b timer)) (sym is) does

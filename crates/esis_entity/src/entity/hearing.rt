@@ -89,8 +89,10 @@ impl EsisEntity {
         out: &mut Vec<Output>,
     ) -> Result<(), NoMemory>
         requires { now < 2 ^ 62 }
-        ensures { OnOk result ((s : SystemState) → Stands self.old s → s.configuration ≡ config.now → s.moment ≡ now
-            → Does now self.new out.old.items out.new.items (answers_new (hears s Is title place.now hold) place.now)) }
+        ensures stands { OnOk result ((s : SystemState) → Stands self.old s → s.moment ≡ now
+            → Stands self.new (hears s Is title place.now hold).after) }
+        ensures outputs { OnOk result ((s : SystemState) → Stands self.old s → s.configuration ≡ config.now → s.moment ≡ now
+            → Appends now out.old.items out.new.items (answers_new (hears s Is title place.now hold) place.now).outputs) }
     {
         let new = self.hear_key(now, TableKind::Is, title, place, hold, out)?;
         self.answer(config, place, new, out)

@@ -44,9 +44,9 @@ fn end_system_hello(config: &SystemConfig, period: u16) -> Head
     ensures { (s : SystemState) → s.configuration ≡ config.now → s.hello ≡ period → Spells (esh_of s) result }
 {
     config.is_system();
-    fits(config.addresses());
-    let sealed = config.settings().sealed;
-    match esh(holding_time(period), config.addresses(), sealed) {
+    let addresses = config.addresses();
+    fits(addresses);
+    match esh(holding_time(period), addresses, config.settings().sealed) {
         Ok(pdu) => pdu,
         Err(HelloRefusal::TooLong { .. }) => unreachable!(),
     }
