@@ -24,7 +24,7 @@ use Rattle.clnp_machine.specs.Unit as unit
 use Rattle.clnp_machine.specs.Unit.{Packet, value_of, whole_packet, cut}
 use Rattle.clnp_machine.specs.Content.{Content, Labelled, Esis, Unlabelled}
 use Rattle.clnp_machine.specs.System.{SystemState, Input, AsksToSend, FrameComes, MomentComes, IsRestarted, Output, Transmits, SendsEsis, Notes, Effect, then_does, table_limits}
-use Rattle.clnp_machine.specs.Local.{Action, Sends, Tells, Deed, tells, hand_up, is_own, is_all, most_octets, header_size, not_drawn_note, identifier_refusal, offered, takes_in, offer, receive, refusal, unit_of, make, unless_refused, discard_first, gives_up, give_up_due, expire, at_moment, tick}
+use Rattle.clnp_machine.specs.Local.{Action, Sends, Tells, Deed, hand_up, is_own, is_all, most_octets, header_size, not_drawn_note, identifier_refusal, offered, takes_in, offer, receive, refusal, unit_of, make, unless_refused, discard_first, gives_up, give_up_due, expire, at_moment, tick}
 use Rattle.clnp_machine.specs.Esis.{esis_comes, forgets, says_hello}
 use Rattle.clnp_machine.specs.Step.{Hop, next_hop, transmissions, sent_on, first_sent, outputs_of, effect_of, passes_by, packet_comes, discard_refused, unheard_note, octets_come, responds, content_comes, step}
 use Rattle.clnp_machine.specs.Steps.{IsForOwn, IsOfHellos, NotesOnly, OnlyHellos}

@@ -78,7 +78,8 @@ pub record OnlyHellos (s : SystemState) (effect : Effect) : Type 0 where
   pub outputs : AllByRecursion IsOfHellos effect.outputs
   pub units : effect.units ≡ []
 
--- what a deed of a system leaves and makes: the same system, at the same moment, and units that are fresh
+-- what a deed of a system leaves and makes: the same system, at the same moment, with what it heard, and units that are
+-- fresh
 pub record IsDeed (s : SystemState) (deed : Deed) : Type 0 where
   pub itself : StaysItself s deed.after
   pub moment : deed.after.moment ≡ s.moment
@@ -168,11 +169,12 @@ abbrev pub AreCarriable : Option (List Packet) → Type 0
 AreCarriable None = Unit {0}
 AreCarriable (Some packets) = AllByRecursion IsCarriable packets
 
--- the ES-IS PDU at the front of a frame that carries an ES-IS value is that value, and what follows it is what follows the value
+-- the ES-IS PDU at the front of a frame that carries a value is the value's, and what follows it is what follows the
+-- value
 abbrev pub CarriesOneEsisValue : Type 0
 CarriesOneEsisValue =
-    (v : EsisValue) (following : List ℕ) (w : EsisValue) (rest : List ℕ) → IsPdu v → esis.BeginsWith (spelling v ++ following) w rest
-    → (w ≡ v) × (rest ≡ following)
+    (v : EsisValue) (following : List ℕ) (w : EsisValue) (rest : List ℕ) → IsPdu v
+    → esis.BeginsWith (spelling v ++ following) w rest → (w ≡ v) × (rest ≡ following)
 
 -- the PDU at the front of a frame that carries a packet is the packet's, and what follows it is what follows the packet
 abbrev pub CarriesOnePacket : Type 0

@@ -27,8 +27,8 @@ pub fn a_system_stays_itself()
     ensures moment { (s : SystemState) (input : Input) → (step s input).after.moment ≡ moment_after s input }
 {}
 
-/// Whatever a system does at its addresses, it stays the system that it is, at its moment, and the
-/// units that it makes are its own and new.
+/// Whatever a system does at its addresses, it stays the system that it is, at its moment and with what
+/// it heard, and the units that it makes are its own and new.
 pub fn deeds_are_of_their_moment()
     ensures make { (s : SystemState) (kind : Kind) (from to octets : List ℕ) (ask : Ask) → IsDeed s (make s kind from to octets ask) }
     ensures receive { (s : SystemState) (p : Packet) (following : List ℕ) → IsDeed s (receive s p following) }

@@ -1,10 +1,17 @@
--- Worked examples of two hosts on one subnetwork, computed with the definitions: with a checksum and without one, copies
--- that come again, and a host that is restarted.
-use Rattle.std.proofs.Common.{◌≡◌, ℕ, List, refl, Result, Ok, Err, codes}
+-- Worked examples of systems on one subnetwork, computed with the definitions: with a checksum and without one, copies that come
+-- again, a host that is restarted, and hellos that are said, heard and answered.
+use Rattle.std.proofs.Common.{◌≡◌, ℕ, true, List, [], ◌∷◌, refl, Result, Ok, Err, codes}
 use Rattle.hex.specs.Hex.{encode_with, decode_pairs}
 use Rattle.fletcher.specs.Checksum.{sealed, checksum_x, checksum_y}
 use Rattle.clnp_options.specs.Parameter.{spelled, parameters_after}
+use Rattle.clnp_options.specs.Grammar.{joined}
+use Rattle.esis_pdus.specs.Timer.{seconds_of}
+use Rattle.clnp_plan.specs.declared.config.PortConfig.{PortConfig}
+use Rattle.clnp_plan.specs.declared.config.Role.TheVariants.{Host, Router}
+use Rattle.clnp_plan.specs.declared.config.Settings.{Settings}
 use Rattle.scenario.specs.Scenario.{Plan}
+use Rattle.scenario.specs.declared.event.Event.{Event}
+use Rattle.scenario.specs.declared.event.Event.TheVariants.{Settle, Tick}
 use Rattle.scenario.specs.Grammar.{BadLine, plan_of, plan_at, events_from, counted_event}
 use Rattle.scenario.specs.Declarations.{limits_line, subnet_line, room_word, setting_word, system_line, address_line, port_line, declaration_line}
 use Rattle.scenario.specs.Events.{wish_word, send_line, deliver_line, tick_line, restart_line, count_line, event_line}
@@ -43,3 +50,44 @@ journal-two_deliveries = refl
 journal-restart : written (plan_of restart) ≡ codes "0 a sent dt 1 0000 47002702 47002701 2\n0 a tx 1 0 es 81190140bc001b39100447002701044700270200000000001b6869\n1 a restart\n1 a refused quiet 7\n5 b late 1\nend 5 1\n"
 unfolding parameters_after encode_with decode_pairs sealed checksum_x checksum_y spelled octets_of digits plan_at events_from counted_event limits_line subnet_line room_word setting_word system_line address_line port_line declaration_line wish_word send_line deliver_line tick_line restart_line count_line event_line
 journal-restart = refl
+
+-- Two hosts and a router that say hello.
+
+abbrev defaults : Settings
+defaults = record {
+  hello = 60;
+  suggest = 0;
+  rhold = 120;
+  slots = 16;
+  segments = 1024;
+  budget = 262144;
+  neighbours = 64;
+  routers = 8;
+  redirects = 64;
+  life = 64;
+  sealed = true;
+}
+
+abbrev on_lan : List ℕ → PortConfig
+on_lan snpa = record { subnet = 0; snpa = snpa; transit = 1; mtu = 1500 }
+
+abbrev on_one_subnetwork : (router : Settings) → List Event → Plan
+on_one_subnetwork router events = record {
+  limits = record { age = 256; hold = 60; reuse = 320 };
+  subnets = record { name = codes "lan"; mtu = 1500 } ∷ [];
+  systems =
+      record { name = codes "a"; role = Host; addresses = (0x47 ∷ 0 ∷ 0x27 ∷ 2 ∷ []) ∷ []; ports = on_lan (1 ∷ []) ∷ []; settings = defaults }
+      ∷ record { name = codes "b"; role = Host; addresses = (0x47 ∷ 0 ∷ 0x27 ∷ 1 ∷ []) ∷ []; ports = on_lan (2 ∷ []) ∷ []; settings = defaults }
+      ∷ record { name = codes "r"; role = Router; addresses = (0x47 ∷ 0 ∷ 0x27 ∷ 0xff ∷ []) ∷ []; ports = on_lan (10 ∷ []) ∷ []; settings = router }
+      ∷ [];
+  events = events;
+}
+
+journal-hellos : journal (on_one_subnetwork defaults (Tick 1 ∷ Settle 10 ∷ [])) ≡ codes "1 a tx 1 0 is 820f0100020078324b010447002702\n1 b tx 2 0 is 820f01000200782c52010447002701\n1 r tx 3 0 es 820e0100040078b1cd04470027ff\n1 r hear es 47002702 new\n1 r tx 4 0 01 820e0100040078b1cd04470027ff\n1 r hear es 47002701 new\n1 r tx 5 0 02 820e0100040078b1cd04470027ff\n1 a hear is 470027ff new\n1 a tx 6 0 0a 820f0100020078324b010447002702\n1 b hear is 470027ff new\n1 b tx 7 0 0a 820f01000200782c52010447002701\n1 a hear is 470027ff again\n1 b hear is 470027ff again\n1 r hear es 47002702 again\n1 r hear es 47002701 again\nend 1 7\n"
+unfolding encode_with sealed checksum_x checksum_y spelled joined digits seconds_of
+journal-hellos = refl
+
+-- a router that asks end systems to say hello every 30 seconds
+journal-suggested : journal (on_one_subnetwork (record defaults { suggest = 30 }) (Tick 1 ∷ [])) ≡ codes "1 a tx 1 0 is 820f0100020078324b010447002702\n1 b tx 2 0 is 820f01000200782c52010447002701\n1 r tx 3 0 es 821201000400785b3904470027ffc602001e\nend 1 3\n"
+unfolding encode_with sealed checksum_x checksum_y spelled joined digits seconds_of
+journal-suggested = refl

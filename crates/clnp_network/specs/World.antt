@@ -15,7 +15,7 @@ use Rattle.scenario.specs.declared.event.Event.{Event}
 use Rattle.scenario.specs.declared.event.Event.TheVariants.{Send, Deliver, Settle, Lose, Tick, Restart}
 use Rattle.scenario.specs.declared.event.Move.{Move}
 use Rattle.scenario.specs.declared.event.Move.TheVariants.{One, SettleOne, LoseOne, TickOne}
-use Rattle.clnp_machine.specs.Unit.{Maker, DeclaredAt, Unit, Packet, wire}
+use Rattle.clnp_machine.specs.Unit.{Maker, DeclaredAt, Unit}
 use Rattle.clnp_machine.specs.Content.{Content, Labelled, Esis, frame_of}
 use Rattle.clnp_machine.specs.System.{SystemState, first_state, Input, AsksToSend, FrameComes, MomentComes, IsRestarted, Output, Transmits, SendsEsis, Notes, Effect}
 use Rattle.clnp_machine.specs.Step.{step}

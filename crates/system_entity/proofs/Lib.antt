@@ -1,3 +1,5 @@
 pub mod Parts
 pub mod Outputs
 pub mod Arrivals
+pub mod Hops
+pub mod Discards

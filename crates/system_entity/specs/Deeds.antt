@@ -1,9 +1,12 @@
 -- What the steps of a system do, between its calls and what it gives out.
-use Rattle.std.specs.Prelude.{◌≡◌, ℕ}
+use Rattle.std.specs.Prelude.{◌≡◌, ℕ, true}
+use Rattle.reassembly.specs.State.{IsReady}
 use Rattle.clnp_plan.specs.declared.ask.SendRefusal.{SendRefusal}
 use Rattle.clnp_plan.specs.declared.ask.SendRefusal.TheVariants.{NoMemory}
 use Rattle.clnp_machine.specs.Local.{Action, Sends, Tells}
+use Rattle.clnp_machine.specs.System.{SystemState}
 use Rattle.system_entity.specs.State.{SystemEntityState}
+use Rattle.system_entity.specs.Stands.{PartsStand}
 
 -- what is sent was made at this moment, with its first octet in the initial PDU's first place
 abbrev pub IsFresh : ℕ → Action → Type 0
@@ -14,3 +17,10 @@ IsFresh moment (Sends u) = (u.made ≡ moment) × (u.first_position ≡ 0)
 abbrev pub LeavesParts : SendRefusal → SystemEntityState → SystemEntityState → Type 0
 LeavesParts NoMemory before after = Unit {0}
 LeavesParts _ before after = after ≡ before
+
+-- A step is being taken: should memory be refused in it, the entity is spent.
+pub record IsAtWork (entity : SystemEntityState) : Type 0 where
+  pub spent : entity.spent ≡ true
+  pub state : SystemState
+  pub parts : PartsStand entity state
+  pub ready : IsReady entity.moment entity.local.table

@@ -30,6 +30,8 @@ use std::marker::Model;
 
 mod steps;
 
+use steps::has_content;
+
 /// What came of a frame.
 #[derive(Clone, Copy, Debug, PartialEq, Eq)]
 pub enum Arrival {
@@ -149,6 +151,7 @@ impl SystemEntity {
         if self.spent {
             return Err(NoMemory);
         }
+        has_content(frame);
         self.spent = true;
         let arrival = self.arrive(alloc, place, group, frame, out)?;
         self.spent = false;
@@ -184,6 +187,7 @@ impl SystemEntity {
         if self.spent {
             return Err(NoMemory);
         }
+        has_content(frame);
         self.spent = true;
         self.drop_frame(alloc, frame, reason, place, out)?;
         self.spent = false;

@@ -16,7 +16,7 @@ ghost use Rattle.clnp_machine.specs.System.{SystemState, next_number};
 ghost use Rattle.clnp_machine.specs.Unit.{IsCarriable, Packet, wire};
 ghost use Rattle.local_entity.specs.Local.{DoAll, Does, IsWhy};
 ghost use Rattle.system_entity.specs.Comes.{ComesOf, LeavesAsItWas};
-ghost use Rattle.system_entity.specs.Deeds.{IsFresh, LeavesParts};
+ghost use Rattle.system_entity.specs.Deeds.{IsAtWork, IsFresh, LeavesParts};
 ghost use Rattle.system_entity.specs.Stands.{PartsStand, PartsStandSince};
 
 use super::{Arrival, SystemEntity};
@@ -40,7 +40,7 @@ impl SystemEntity {
         now: u64,
         out: &mut Vec<Output>,
     ) -> Result<(), NoMemory>
-        requires at_work { self.old.spent ≡ true }
+        requires at_work { IsAtWork self.old }
         requires later { self.old.moment ≤ now }
         requires moment { now < 2 ^ 62 }
         ensures stands { OnOk result ((s : SystemState) → PartsStand self.old s → PartsStand self.new (moment_comes s now).after) }
@@ -73,9 +73,8 @@ impl SystemEntity {
         frame: &Frame,
         out: &mut Vec<Output>,
     ) -> Result<Arrival, NoMemory>
-        requires at_work { self.old.spent ≡ true }
+        requires at_work { IsAtWork self.old }
         requires few { length frame.now ≤ 70000 }
-        requires ready { IsReady self.old.moment self.old.local.table }
         ensures comes { IfOk result (λ arrival. (s : SystemState) (content : Content) → PartsStand self.old s → IsCarried content
             → frame_of content ≡ frame.now → ComesOf arrival s place group content self.new out.old.items out.new.items) }
         ensures left { IfOk result (λ arrival. LeavesAsItWas arrival self.old self.new out.old.items out.new.items) }
@@ -112,9 +111,8 @@ impl SystemEntity {
         frame: &Frame,
         out: &mut Vec<Output>,
     ) -> Result<Arrival, NoMemory>
-        requires at_work { self.old.spent ≡ true }
+        requires at_work { IsAtWork self.old }
         requires few { length frame.now ≤ 70000 }
-        requires ready { IsReady self.old.moment self.old.local.table }
         requires pdu { (v : PduValue) × (rest : List ℕ) × BeginsWith frame.now v rest × (v.lifetime ≡ life) }
         ensures comes { IfOk result (λ arrival. (s : SystemState) (p : Packet) (following : List ℕ) → PartsStand self.old s → IsCarriable p
             → frame.now ≡ wire p ++ following → p.lifetime ≡ life → p.unit.destination ≡ to
@@ -148,9 +146,8 @@ impl SystemEntity {
         frame: &Frame,
         out: &mut Vec<Output>,
     ) -> Result<(), NoMemory>
-        requires at_work { self.old.spent ≡ true }
+        requires at_work { IsAtWork self.old }
         requires few { length frame.now ≤ 70000 }
-        requires ready { IsReady self.old.moment self.old.local.table }
         requires alive { (v : PduValue) × (rest : List ℕ) × BeginsWith frame.now v rest × (1 ≤ v.lifetime) }
         ensures stands { OnOk result ((s : SystemState) (p : Packet) (following : List ℕ) → PartsStand self.old s → IsCarriable p
             → frame.now ≡ wire p ++ following → (p.lifetime == 0) ≡ false → is_own s p.unit.destination ≡ true
@@ -187,8 +184,7 @@ impl SystemEntity {
         frame: &Frame,
         out: &mut Vec<Output>,
     ) -> Result<(), NoMemory>
-        requires at_work { self.old.spent ≡ true }
-        requires ready { IsReady self.old.moment self.old.local.table }
+        requires at_work { IsAtWork self.old }
         requires other { octet frame.now 1 ≢ 0x81 }
         ensures stands { OnOk result ((s : SystemState) (group : Bool) (content : Content) → PartsStand self.old s → IsCarried content
             → frame_of content ≡ frame.now → PartsStand self.new (content_comes s place group content).after) }
@@ -233,9 +229,8 @@ impl SystemEntity {
         place: u8,
         out: &mut Vec<Output>,
     ) -> Result<(), NoMemory>
-        requires at_work { self.old.spent ≡ true }
+        requires at_work { IsAtWork self.old }
         requires few { length frame.now ≤ 70000 }
-        requires ready { IsReady self.old.moment self.old.local.table }
         ensures stands { OnOk result ((s : SystemState) (content : Content) → PartsStand self.old s → IsCarried content
             → frame_of content ≡ frame.now → PartsStand self.new (machine.discard s content reason place).after) }
         ensures outputs { OnOk result ((s : SystemState) (content : Content) → PartsStand self.old s → IsCarried content
@@ -248,6 +243,7 @@ impl SystemEntity {
         ensures config { self.new.local.configuration ≡ self.old.local.configuration }
     {
         laws::deeds_are_of_their_moment();
+        has_content(frame);
         let mut outputs = Vec::new(alloc);
         let mut actions = Vec::new(alloc);
         self.local
@@ -268,9 +264,8 @@ impl SystemEntity {
         ask: &Ask,
         out: &mut Vec<Output>,
     ) -> Result<u64, SendRefusal>
-        requires at_work { self.old.spent ≡ true }
+        requires at_work { IsAtWork self.old }
         requires options { FitsKind (is_report kind) (parameters ask.now.options) }
-        requires ready { IsReady self.old.moment self.old.local.table }
         ensures answer { (s : SystemState) → PartsStand self.old s → MatchResult result
             (λ unit. (machine.refusal s (machine.unit_of s kind from to body.now ask.now) ≡ None) × (unit ≡ next_number s))
             (λ e. IsWhy e (machine.refusal s (machine.unit_of s kind from to body.now ask.now))) }
@@ -334,4 +329,12 @@ impl SystemEntity {
             }
         }
     }
+}
+
+/// Each frame has a content. The function does nothing: its clause tells this to callers.
+pub(super) fn has_content(frame: &Frame)
+    ensures { (content : Content) × IsCarried content × (frame_of content ≡ frame.now) }
+{
+    laws::octets_have_a_content();
+    let _octets = frame.bytes();
 }

@@ -1,0 +1,33 @@
+-- One action after another.
+use Rattle.std.proofs.Common.{◌∙◌, ◌≡◌, sym, List, subst}
+use Rattle.std.proofs.lemmas.List.{map-id}
+use Rattle.std.proofs.lemmas.Iterator.Adapters.{YieldsList-from_vec}
+use Rattle.std.proofs.lemmas.Iterator.Consumers.{YieldsList-end, YieldsList-turn}
+use Rattle.local_entity.specs.declared.action.Action.{Action}
+use Rattle.system_entity.proofs.Outputs.{GivesOut, does_at, gives_more, gives_none}
+use Rattle.system_entity.proofs.entity.SystemEntity.give_out.Goals as goal
+
+pub loop-action-init : goal.loop-action-init
+loop-action-init c = gives_none c.args.self.now c.args.out.now.items
+
+pub give-requires : goal.give-requires
+give-requires c =
+    let b = c.into_iter-action-iterator.ensures.into_iter_gives in
+    let turn = YieldsList-turn (YieldsList-from_vec {s = c.into_iter-action-iterator.result} c.args.actions.items b.0 (b.1 ∙ c.args.actions.ok.0))
+    c.loop-action.yielded c.loop-action.action-iterator c.loop-action.yielded_by c.next.result c.next.new.self c.in-Some.action c.in-Some.is
+    c.next.ensures.steps in
+    does_at c.args.actions.items c.requires.0 _ c.in-Some.action turn.0 turn.1 c.requires.1
+
+pub loop-action-preserved : goal.loop-action-preserved
+loop-action-preserved c =
+    gives_more c.args.self.now c.args.out.now.items c.loop-action.out.items c.give.new.out.items
+    c.loop-action.yielded c.in-Some.action c.loop-action.invariant c.in_ok-give.ensures
+
+pub returns : goal.returns
+returns c =
+    let b = c.into_iter-action-iterator.ensures.into_iter_gives in
+    let ended = YieldsList-end (YieldsList-from_vec {s = c.into_iter-action-iterator.result} c.args.actions.items b.0 (b.1 ∙ c.args.actions.ok.0))
+    c.loop-action.yielded c.loop-action.action-iterator c.loop-action.yielded_by c.next.result c.next.new.self c.in-None.is
+    c.next.ensures.steps in
+    let all : c.loop-action.yielded ≡ c.args.actions.items = sym (map-id c.loop-action.yielded) ∙ ended.0 in
+    subst (λ (actions : List Action). GivesOut c.args.self.now c.args.out.now.items c.loop-action.out.items actions) all c.loop-action.invariant

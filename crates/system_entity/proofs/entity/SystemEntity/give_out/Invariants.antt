@@ -1,0 +1,5 @@
+use Rattle.system_entity.proofs.Outputs.{GivesOut}
+use Rattle.system_entity.proofs.entity.SystemEntity.give_out.Given as goal
+
+abbrev pub invariant-loop-action : goal.invariant-loop-action
+invariant-loop-action l = GivesOut l.self l.initial.out.items l.out.items l.yielded

@@ -1,0 +1,26 @@
+-- The parts stand for the first state.
+use Rattle.std.proofs.Common.{refl, arith}
+use Rattle.clnp_machine.specs.System.{first_state}
+use Rattle.system_entity.proofs.entity.SystemEntity.new.Goals as goal
+
+pub returns-clause-stands : goal.returns-clause-stands
+returns-clause-stands c = λ place. record {
+  not_spent = refl;
+  parts = record {
+    local = c.in_ok-local.ensures.stands place c.args.now;
+    esis = c.in_ok-esis.ensures place c.args.limits.now c.args.quiet;
+    moment = refl;
+    since = omega arith;
+  };
+}
+
+pub invariant_of-result : goal.invariant_of-result
+invariant_of-result c = record {
+  moment = c.requires.moment;
+  hold = rw c.in_ok-local.ensures.hold c.requires.hold;
+  ready = λ free. record {
+    state = first_state 0 c.args.config.now c.args.limits.now c.args.now c.args.quiet;
+    stands = returns-clause-stands c 0;
+    ready = c.in_ok-local.ensures.ready c.args.now;
+  };
+}

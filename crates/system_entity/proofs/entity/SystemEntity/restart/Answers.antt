@@ -1,0 +1,39 @@
+-- Both parts stand for the state after a restart.
+use Rattle.std.proofs.Common.{◌≡◌, ◌∙◌, sym, ap, subst, arith}
+use Rattle.clnp_machine.specs.Local.{restarted}
+use Rattle.clnp_machine.specs.System.{SystemState}
+use Rattle.system_entity.specs.State.{SystemEntityState}
+use Rattle.system_entity.specs.Stands.{PartsStand, PartsStandSince, Stands}
+use Rattle.system_entity.proofs.entity.SystemEntity.restart.Goals as goal
+
+abbrev inside : goal.After-restart-2 → SystemEntityState
+inside c = record { local = c.self.inside.local; esis = c.self.inside.esis; moment = c.self.inside.moment; spent = c.self.inside.spent }
+
+abbrev after : goal.After-restart-2 → SystemEntityState
+after c = record { local = c.restart.new.self; esis = c.restart-2.new.self; moment = c.self.inside.moment; spent = c.self.inside.spent }
+
+again : (c : goal.After-restart-2) (s : SystemState) → Stands (inside c) s → Stands (after c) (restarted s)
+again c s h =
+    let configuration : s.configuration ≡ c.config.result.now =
+    sym h.parts.local.configuration ∙ sym c.restart.ensures.config ∙ sym c.config.ensures in
+    record {
+      not_spent = h.not_spent;
+      parts = record {
+        local = c.restart.ensures.stands s h.parts.local (sym h.parts.moment);
+        esis = c.restart-2.ensures s s.moment h.parts.esis configuration (sym h.parts.moment);
+        moment = h.parts.moment;
+        since = omega arith;
+      };
+    }
+
+pub returns-clause-stands : goal.returns-clause-stands
+returns-clause-stands c = λ s h. again c s (subst (λ (e : SystemEntityState). Stands e s) (sym c.self.view_is) h)
+
+pub invariant_of-self : goal.invariant_of-self
+invariant_of-self c = record {
+  moment = c.self.invariant.moment;
+  hold = rw c.restart.ensures.limits c.self.invariant.hold;
+  ready = λ free.
+      let r = c.self.invariant.ready free in
+      record { state = restarted r.state; stands = again c r.state r.stands; ready = c.restart.ensures.ready c.self.inside.moment };
+}
