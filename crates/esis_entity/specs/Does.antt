@@ -14,6 +14,7 @@ pub record Does (moment : ℕ) (entity : EsisState) (before after : List Output)
   pub appends : Appends moment before after effect.outputs
 
 -- and it is said whether something new was heard
-pub record Hears (moment : ℕ) (entity : EsisState) (before after : List Output) (new : Bool) (effect : Effect) : Type 0 where
+pub record Hears (moment : ℕ) (entity : EsisState) (before after : List Output) (new : Bool) (effect : Effect)
+    : Type 0 where
   pub does : Does moment entity before after effect
   pub new_is : new ≡ list_any tells_new effect.outputs

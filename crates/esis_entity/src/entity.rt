@@ -72,8 +72,8 @@ impl EsisEntity {
         })
     }
 
-    /// Hears an ES-IS PDU that came from a place, and appends what the system gives out: notes, and an answer to something
-    /// new (sections 6.3 and 6.7).
+    /// Hears an ES-IS PDU that came from a place, and appends what the system gives out: notes, and an answer to
+    /// something new (sections 6.3 and 6.7).
     ///
     /// # Errors
     ///
@@ -88,9 +88,10 @@ impl EsisEntity {
     ) -> Result<(), NoMemory>
         requires moment { now < 2 ^ 62 }
         requires timer { pdu.suggested ≡ suggested pdu.body (parameters pdu.options.now) }
-        ensures stands { OnOk result ((s : SystemState) → Stands self.old s → s.configuration ≡ config.now → s.moment ≡ now
-            → Stands self.new (esis_comes s place (pdu_value pdu.entry)).after) }
-        ensures outputs { OnOk result ((s : SystemState) → Stands self.old s → s.configuration ≡ config.now → s.moment ≡ now
+        ensures stands { OnOk result ((s : SystemState) → Stands self.old s → s.configuration ≡ config.now
+            → s.moment ≡ now → Stands self.new (esis_comes s place (pdu_value pdu.entry)).after) }
+        ensures outputs { OnOk result ((s : SystemState) → Stands self.old s → s.configuration ≡ config.now
+            → s.moment ≡ now
             → Appends now out.old.items out.new.items (esis_comes s place (pdu_value pdu.entry)).outputs) }
     {
         match config.role() {
@@ -120,8 +121,8 @@ impl EsisEntity {
         send(place.port, to, hello(config, self.period), out)
     }
 
-    /// A moment has come: what has ended since the last one is forgotten, and the hello that is due is said (sections 6.1,
-    /// 6.2, 6.4 and 6.11).
+    /// A moment has come: what has ended since the last one is forgotten, and the hello that is due is said (sections
+    /// 6.1, 6.2, 6.4 and 6.11).
     ///
     /// # Errors
     ///
@@ -133,10 +134,11 @@ impl EsisEntity {
         out: &mut Vec<Output>,
     ) -> Result<(), NoMemory>
         requires moment { now < 2 ^ 62 }
-        ensures stands { OnOk result ((s : SystemState) (before : ℕ) → StandsSince before self.old s → s.configuration ≡ config.now
-            → s.moment ≡ now → before ≤ now → Stands self.new (then_does (forgets before s) says_hello).after) }
-        ensures outputs { OnOk result ((s : SystemState) (before : ℕ) → StandsSince before self.old s → s.configuration ≡ config.now
-            → s.moment ≡ now → before ≤ now
+        ensures stands { OnOk result ((s : SystemState) (before : ℕ) → StandsSince before self.old s
+            → s.configuration ≡ config.now → s.moment ≡ now → before ≤ now
+            → Stands self.new (then_does (forgets before s) says_hello).after) }
+        ensures outputs { OnOk result ((s : SystemState) (before : ℕ) → StandsSince before self.old s
+            → s.configuration ≡ config.now → s.moment ≡ now → before ≤ now
             → Appends now out.old.items out.new.items (then_does (forgets before s) says_hello).outputs) }
     {
         forget(&mut self.tables, now, out)?;
@@ -145,16 +147,16 @@ impl EsisEntity {
 
     /// Forgets what was heard; the first hello is due again.
     pub fn restart(&mut self, config: &SystemConfig, now: u64)
-        ensures { (s : SystemState) (before : ℕ) → StandsSince before self.old s → s.configuration ≡ config.now → s.moment ≡ now
-            → Stands self.new (restarted s) }
+        ensures { (s : SystemState) (before : ℕ) → StandsSince before self.old s → s.configuration ≡ config.now
+            → s.moment ≡ now → Stands self.new (restarted s) }
     {
         self.tables.clear();
         self.period = config.settings().hello;
         self.next_hello = now;
     }
 
-    /// Where an end system sends what is for an address: the better hop of a redirect, the end system of this address, or the
-    /// intermediate system that was heard last (section 6.5).
+    /// Where an end system sends what is for an address: the better hop of a redirect, the end system of this address,
+    /// or the intermediate system that was heard last (section 6.5).
     pub fn next_hop(&self, now: u64, to: &Address) -> Option<Place>
         ensures { (s : SystemState) (before : ℕ) → StandsSince before self.now s → before ≤ now
             → result ≡ heard.next_hop now to.now s.facts }

@@ -28,7 +28,8 @@ impl EsisEntity {
     ) -> Result<(), NoMemory>
         requires { now < 2 ^ 62 }
         ensures { OnOk result ((s : SystemState) → Stands self.old s → s.configuration ≡ config.now → s.moment ≡ now
-            → Does now self.new out.old.items out.new.items (esis_heard Host s place pdu.entry.hold pdu.entry.body pdu.entry.suggested)) }
+            → Does now self.new out.old.items out.new.items
+            (esis_heard Host s place pdu.entry.hold pdu.entry.body pdu.entry.suggested)) }
     {
         let EsisPdu {
             hold,
@@ -61,14 +62,10 @@ impl EsisEntity {
     ) -> Result<(), NoMemory>
         requires { now < 2 ^ 62 }
         ensures { OnOk result ((s : SystemState) → Stands self.old s → s.configuration ≡ config.now → s.moment ≡ now
-            → Does now self.new out.old.items out.new.items (esis_heard Router s place pdu.entry.hold pdu.entry.body pdu.entry.suggested)) }
+            → Does now self.new out.old.items out.new.items
+            (esis_heard Router s place pdu.entry.hold pdu.entry.body pdu.entry.suggested)) }
     {
-        let EsisPdu {
-            hold,
-            body,
-            suggested,
-            ..
-        } = pdu;
+        let EsisPdu { hold, body, .. } = pdu;
         match body {
             EsisBody::Esh { addresses } => {
                 self.hear_end_system(config, now, &place, hold, addresses, out)
@@ -91,8 +88,9 @@ impl EsisEntity {
         requires { now < 2 ^ 62 }
         ensures stands { OnOk result ((s : SystemState) → Stands self.old s → s.moment ≡ now
             → Stands self.new (hears s Is title place.now hold).after) }
-        ensures outputs { OnOk result ((s : SystemState) → Stands self.old s → s.configuration ≡ config.now → s.moment ≡ now
-            → Appends now out.old.items out.new.items (answers_new (hears s Is title place.now hold) place.now).outputs) }
+        ensures outputs { OnOk result ((s : SystemState) → Stands self.old s → s.configuration ≡ config.now
+            → s.moment ≡ now → Appends now out.old.items out.new.items
+            (answers_new (hears s Is title place.now hold) place.now).outputs) }
     {
         let new = self.hear_key(now, TableKind::Is, title, place, hold, out)?;
         self.answer(config, place, new, out)
@@ -110,7 +108,8 @@ impl EsisEntity {
     ) -> Result<(), NoMemory>
         requires { now < 2 ^ 62 }
         ensures { OnOk result ((s : SystemState) → Stands self.old s → s.configuration ≡ config.now → s.moment ≡ now
-            → Does now self.new out.old.items out.new.items (answers_new (hears_each s addresses.entry place.now hold) place.now)) }
+            → Does now self.new out.old.items out.new.items
+            (answers_new (hears_each s addresses.entry place.now hold) place.now)) }
     {
         let new = self.hear_each(now, place, hold, addresses, out)?;
         self.answer(config, place, new, out)
@@ -164,7 +163,8 @@ impl EsisEntity {
         out: &mut Vec<Output>,
     ) -> Result<(), NoMemory>
         ensures { OnOk result ((s : SystemState) (moment : ℕ) → Stands self.now s → s.configuration ≡ config.now
-            → Appends moment out.old.items out.new.items (if new then tells_of_itself s place.now.port place.now.snpa else idles s).outputs) }
+            → Appends moment out.old.items out.new.items
+            (if new then tells_of_itself s place.now.port place.now.snpa else idles s).outputs) }
     {
         if new {
             return self.tell(config, *place, out);

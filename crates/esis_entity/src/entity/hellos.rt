@@ -52,7 +52,7 @@ fn end_system_hello(config: &SystemConfig, period: u16) -> Head
     }
 }
 
-/// The hello of eight addresses fits always. The function does nothing: its clause tells this to its caller.
+/// The hello of at most eight addresses always fits. The function does nothing: its clause tells this to its caller.
 fn fits(addresses: &[Address])
     requires { length addresses.now ≤ 8 }
     ensures { esh_length addresses.now ≤ 254 }
@@ -83,7 +83,8 @@ fn title(config: &SystemConfig) -> &Address
     &config.addresses()[0]
 }
 
-/// The holding time of a hello that is said once in `period` seconds: twice as long, so that one may be lost (section 6.1.2).
+/// The holding time of a hello that is said once in `period` seconds: twice as long, so that one may be lost (section
+/// 6.1.2).
 fn holding_time(period: u16) -> u16
     ensures { result ≡ holding_time_of period }
 {

@@ -19,11 +19,11 @@ use esis_tables::{Gone, Tables, laws};
 
 /// Forgets what has ended, and notes each key.
 pub fn forget(tables: &mut Tables, now: u64, out: &mut Vec<Output>) -> Result<(), NoMemory>
-    ensures stands { OnOk result ((facts : List Fact) (before : ℕ) → heard.Stands tables.old facts before [] → before ≤ now
-        → heard.Stands tables.new facts now []) }
+    ensures stands { OnOk result ((facts : List Fact) (before : ℕ) → heard.Stands tables.old facts before []
+        → before ≤ now → heard.Stands tables.new facts now []) }
     ensures limits { limits_of tables.new ≡ limits_of tables.old }
-    ensures outputs { OnOk result ((facts : List Fact) (before moment : ℕ) → heard.Stands tables.old facts before [] → before ≤ now
-        → Appends moment out.old.items out.new.items (map gone_note (gone before now facts))) }
+    ensures outputs { OnOk result ((facts : List Fact) (before moment : ℕ) → heard.Stands tables.old facts before []
+        → before ≤ now → Appends moment out.old.items out.new.items (map gone_note (gone before now facts))) }
 {
     laws::time_goes_on();
     while let Some(ended) = tables.flush(now) {
