@@ -6,7 +6,7 @@ ghost use Rattle.clnp_base.specs.Streams.{Rose};
 ghost use Rattle.scenario.specs.Grammar.{plan_of};
 ghost use Rattle.clnp_network.specs.World.{first_world};
 ghost use Rattle.clnp_network.specs.Run.{run, world_after};
-ghost use Rattle.clnp_network.specs.Safe.{CarriesRanges, HoldsUnitsApart, IdentifiersRest, IsHonest, IsWithinBudgets, IsWithinLifetimes, NoInterference, NoneIsAlien};
+ghost use Rattle.clnp_network.specs.Safe.{CarriesRanges, FramesAreUnbroken, HoldsUnitsApart, IdentifiersRest, IsHonest, IsWithinBudgets, IsWithinLifetimes, NoInterference, NoneIsAlien, TellsNoRule};
 ghost use Rattle.clnp_commands.specs.Words.{command_of, called, called_by, AppendsOutput, AppendsOutputFront, AppendsOutputParts, Excuses};
 ghost use Rattle.clnp_commands.specs.Sim.{most_input, ReadsWhole};
 ghost use Rattle.clnp_commands.specs.Play.{ComesTo};
@@ -115,6 +115,15 @@ pub fn clnp_main<S: Source, K: Sink>(
     ensures rest { (text : List ℕ) → IfOk (plan_of text) (λ plan. (moves : List Move)
         → IdentifiersRest plan.limits.reuse (world_after plan (first_world plan) moves)) }
 
+    // After whatever moves of a scenario the frame of each copy begins with 0x81, and no rule of PDUs
+    // refuses it.
+    ensures unbroken { (text : List ℕ) → IfOk (plan_of text) (λ plan. (moves : List Move)
+        → FramesAreUnbroken (world_after plan (first_world plan) moves)) }
+
+    // No line of a run says that a frame was discarded for a rule of PDUs.
+    ensures unrefused { (text : List ℕ) → IfOk (plan_of text) (λ plan.
+        AllByRecursion (λ entry. AllByRecursion TellsNoRule entry.lines) (run plan)) }
+
     // No line of a run notes a frame of no protocol.
     ensures known { (text : List ℕ) → IfOk (plan_of text) (λ plan. AllByRecursion (λ entry. NoneIsAlien entry.lines) (run plan)) }
 
@@ -149,6 +158,10 @@ fn every_run_is_safe()
         → HoldsUnitsApart (world_after plan (first_world plan) moves)) }
     ensures rest { (text : List ℕ) → IfOk (plan_of text) (λ plan. (moves : List Move)
         → IdentifiersRest plan.limits.reuse (world_after plan (first_world plan) moves)) }
+    ensures unbroken { (text : List ℕ) → IfOk (plan_of text) (λ plan. (moves : List Move)
+        → FramesAreUnbroken (world_after plan (first_world plan) moves)) }
+    ensures unrefused { (text : List ℕ) → IfOk (plan_of text) (λ plan.
+        AllByRecursion (λ entry. AllByRecursion TellsNoRule entry.lines) (run plan)) }
     ensures known { (text : List ℕ) → IfOk (plan_of text) (λ plan. AllByRecursion (λ entry. NoneIsAlien entry.lines) (run plan)) }
     ensures lifetimes { (text : List ℕ) → IfOk (plan_of text) (λ plan. (moves : List Move)
         → IsWithinLifetimes (world_after plan (first_world plan) moves)) }
@@ -160,6 +173,8 @@ fn every_run_is_safe()
     laws::ranges_of_units_are_carried();
     laws::units_are_held_apart();
     laws::identifiers_rest();
+    laws::no_frame_breaks_a_rule();
+    laws::no_frame_is_refused();
     laws::no_frame_is_alien();
     laws::hops_are_within_lifetimes();
 }

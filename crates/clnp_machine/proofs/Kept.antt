@@ -1,28 +1,21 @@
 -- What holds of each buffer once a segment was offered.
 use Rattle.clnp_base.proofs.Filters.{AllByRecursion-filter}
-use Rattle.std.proofs.Common.{◌≡◌, subst, ℕ, ◌+◌, ◌≤◌, inl, inr, Bool, true, false, cond, not, List, [], ◌∷◌, ◌++◌, length, Option, None, Some, arith}
+use Rattle.clnp_base.proofs.Lists.{AllByRecursion-implies}
+use Rattle.std.proofs.Common.{◌≡◌, ℕ, ◌+◌, ◌≤◌, inl, inr, Bool, true, false, cond, not, List, [], ◌∷◌, ◌++◌, length, Option, None, Some, Contains, refl, arith}
 use Rattle.std.specs.Prelude.{◌&&◌, is_none, nat_le, nat_lt}
-use Rattle.std.specs.List.{AllByRecursion, find}
+use Rattle.std.specs.List.{AllByRecursion}
 use Rattle.std.proofs.lemmas.Bool.{cases_Bool}
-use Rattle.std.proofs.lemmas.Option.{none-some, same_Some}
+use Rattle.std.proofs.lemmas.List.Elements.{All-contains_itself, recursion_from_All}
 use Rattle.reassembly.specs.declared.table.TableLimits.{TableLimits}
 use Rattle.reassembly.specs.Arrival.{Arrival, are_covered, same_key}
-use Rattle.reassembly.specs.Buffer.{Answer, Buffer, Crowded, Held, Interference, Many, NoSlot, Repeat, Whole, after, answer, answer_of, buffer_of, clashes, held, is_whole_in, kept, kept_in, opened_by, refusal, with_kept, without}
+use Rattle.reassembly.specs.Buffer.{Answer, Buffer, Crowded, Held, Many, NoSlot, Repeat, Whole, after, answer, answer_of, buffer_of, clashes, held, is_whole_in, kept, kept_in, opened_by, refusal, with_kept, without}
+use Rattle.clnp_machine.specs.Unit.{Packet}
+use Rattle.clnp_machine.specs.Told.{TellsNoInterference, WasThereOrTakes}
 use Rattle.reassembly.proofs.Shared.{held-with_kept, kept_or_not, may_be_kept}
 use Rattle.reassembly.proofs.Shared.{same_key-refl}
 
-pub find_passes : {X : Type 0} (p : X → Bool) (xs : List X) (x : X) → find p xs ≡ Some x → p x ≡ true
-find_passes p [] x e = absurd (none-some x e)
-find_passes p (y ∷ ys) x e =
-    elim (cases_Bool (p y)) [
-      | inl t ↦ subst (λ z. p z ≡ true) (same_Some y x (rw t at e)) t
-      | inr f ↦ find_passes p ys x (rw f at e)
-    ]
-
--- an answer that tells of no interference
-abbrev pub TellsNoInterference : Answer → Type 0
-TellsNoInterference (Interference there other) = ⊥
-TellsNoInterference _ = Unit {0}
+all_contained : {X : Type 0} (xs : List X) → AllByRecursion (Contains xs) xs
+all_contained xs = recursion_from_All (Contains xs) xs (λ i d within. All-contains_itself xs i d within)
 
 abbrev NoneInterferes : Option Answer → Type 0
 NoneInterferes None = Unit {0}
@@ -89,3 +82,27 @@ module _ {C : Type 0} (limits : TableLimits) (moment : ℕ) (arrival : Arrival C
         | inl same ↦ rw (same, same) (AllByRecursion-filter (λ b. not (same_key b.key arrival.key)) P P (λ b t h. h) others all.1)
         | inr other ↦ rw (other, other) (all.0, others_with_kept P others all.1)
       ]
+
+-- which buffers there are then
+
+pub taking : (limits : TableLimits) (moment : ℕ) (arrival : Arrival Packet) (buffers : List (Buffer Packet))
+    → AllByRecursion (WasThereOrTakes limits moment arrival buffers) (after limits moment arrival buffers)
+taking limits moment arrival buffers =
+    kept_or_not (AllByRecursion (WasThereOrTakes limits moment arrival buffers)) (refusal limits arrival buffers) buffers
+    (with_kept limits moment arrival buffers)
+    (AllByRecursion-implies (Contains buffers) (WasThereOrTakes limits moment arrival buffers) (λ b there. inl there) buffers (all_contained buffers))
+    (λ kept. with_kept_takes buffers buffers (all_contained buffers))
+  where
+    with_kept_takes : (all some : List (Buffer Packet)) → AllByRecursion (Contains all) some
+        → AllByRecursion (WasThereOrTakes limits moment arrival all) (with_kept limits moment arrival some)
+    with_kept_takes all [] there = (inr (inl refl), tt)
+    with_kept_takes all (buffer ∷ others) there =
+        let rest = AllByRecursion-implies (Contains all) (WasThereOrTakes limits moment arrival all) (λ b h. inl h) others there.1 in
+        elim (cases_Bool (same_key buffer.key arrival.key)) [
+          | inl same ↦ rw same (inr (inr (record { before = buffer; there = there.0; same = same; more = refl })), rest)
+          | inr other ↦ rw other (inl there.0, with_kept_takes all others there.1)
+        ]
+
+pub others_stay : (limits : TableLimits) (moment : ℕ) (arrival : Arrival Packet) (buffers : List (Buffer Packet))
+    → AllByRecursion (Contains buffers) (without arrival.key (with_kept limits moment arrival buffers))
+others_stay limits moment arrival buffers = others_with_kept limits moment arrival (Contains buffers) buffers (all_contained buffers)

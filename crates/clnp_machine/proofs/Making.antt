@@ -8,19 +8,20 @@ use Rattle.clnp_plan.specs.declared.ask.Ask.{Ask}
 use Rattle.clnp_plan.specs.declared.note.Note.{Note}
 use Rattle.clnp_machine.specs.Unit as unit
 use Rattle.clnp_machine.specs.System.{SystemState}
+use Rattle.clnp_machine.specs.Told.{IsAllowed}
 use Rattle.clnp_machine.specs.Local.{is_own, most_octets, identifier_for, unit_of, header_size, identifier_refusal, refusal}
-
--- what a unit is that isn't refused
-pub record IsAllowed (s : SystemState) (u : unit.Unit) : Type 0 where
-  pub own : is_own s u.source ≡ true
-  pub octets : length u.octets ≤ most_octets
-  pub header : header_size u ≤ 254
-  pub identifier : identifier_refusal s u.identifier ≡ None
 
 allowed_of : (own : Bool) (len size : ℕ) (first second third : Note) (last : Option Note)
     → (if not own then Some first else if nat_lt most_octets len then Some second else if nat_lt 254 size then Some third else last) ≡ None
     → (own ≡ true) × (len ≤ most_octets) × (size ≤ 254) × (last ≡ None)
 allowed_of own len size first second third last none = grind (arith, nat_tests)
+
+allowing_of : (own : Bool) (len size : ℕ) (first second third : Note) (last : Option Note) → own ≡ true → len ≤ most_octets → size ≤ 254 → last ≡ None
+    → (if not own then Some first else if nat_lt most_octets len then Some second else if nat_lt 254 size then Some third else last) ≡ None
+allowing_of own len size first second third last is few short none = grind (arith, nat_tests)
+
+pub allowing : (s : SystemState) (u : unit.Unit) → IsAllowed s u → refusal s u ≡ None
+allowing s u h = allowing_of (is_own s u.source) (length u.octets) (header_size u) _ _ _ (identifier_refusal s u.identifier) h.own h.octets h.header h.identifier
 
 pub allowed : (s : SystemState) (u : unit.Unit) → refusal s u ≡ None → IsAllowed s u
 allowed s u none =

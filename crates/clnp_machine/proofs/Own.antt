@@ -1,6 +1,7 @@
 -- A system hands up only what is for its own addresses.
 use Rattle.clnp_base.proofs.Lists.{AllByRecursion-append, AllByRecursion-implies}
-use Rattle.std.proofs.Common.{◌≡◌, ℕ, zero, suc, List, [], ◌∷◌, length, map, Bool, true, false, refl}
+use Rattle.std.proofs.lemmas.List.Elements.{All-contains_itself, recursion_from_All}
+use Rattle.std.proofs.Common.{◌≡◌, ℕ, zero, suc, inl, inr, List, [], ◌∷◌, length, map, Bool, true, false, Contains, refl}
 use Rattle.std.specs.Prelude.{◌==◌, if◌then◌else◌, not, nat_lt, slice_get, Option, None, Some, option_map}
 use Rattle.std.specs.List.{AllByRecursion, flat_map}
 use Rattle.pdu_header.specs.declared.kind.Kind.TheVariants.{Dt}
@@ -17,7 +18,7 @@ use Rattle.clnp_plan.specs.declared.config.PortConfig.{PortConfig}
 use Rattle.clnp_plan.specs.declared.config.Role.{Role}
 use Rattle.clnp_plan.specs.declared.config.Role.TheVariants.{Host, Router}
 use Rattle.clnp_plan.specs.declared.note.Note.{Note}
-use Rattle.clnp_plan.specs.declared.note.Note.TheVariants.{Refused, Got, Interference, Alien, Gone, Hear, Ignored}
+use Rattle.clnp_plan.specs.declared.note.Note.TheVariants.{Refused, Got, Gone, Hear, Ignored}
 use Rattle.clnp_plan.specs.declared.note.Why.TheVariants as why
 use Rattle.clnp_machine.specs.Identifiers.{NotDrawn, IsQuiet, IsBusy, not_drawn}
 use Rattle.clnp_machine.specs.Unit as unit
@@ -28,20 +29,8 @@ use Rattle.clnp_machine.specs.Local.{Action, Sends, Tells, Deed, hand_up, is_own
 use Rattle.clnp_machine.specs.Esis.{esis_comes, forgets, says_hello}
 use Rattle.clnp_machine.specs.Step.{Hop, next_hop, transmissions, sent_on, first_sent, outputs_of, effect_of, passes_by, packet_comes, discard_refused, unheard_note, octets_come, responds, content_comes, step}
 use Rattle.clnp_machine.specs.Steps.{IsForOwn, IsOfHellos, NotesOnly, OnlyHellos}
+use Rattle.clnp_machine.specs.Told.{IsRefusal, IsToldBy, NoteIsQuiet, TellsOnly}
 use Rattle.clnp_machine.proofs.Hellos.{only_comes, only_forgets, only_responds, only_says_hello, only_then}
-
--- a note that neither hands up nor refuses, and tells of no interference and of no frame of no protocol
-abbrev pub NoteIsQuiet : Note → Type 0
-NoteIsQuiet (Got from to octets) = ⊥
-NoteIsQuiet (Refused why value) = ⊥
-NoteIsQuiet (Interference id) = ⊥
-NoteIsQuiet Alien = ⊥
-NoteIsQuiet _ = Unit {0}
-
--- an action tells only what Q holds of
-abbrev pub TellsOnly : (Note → Type 0) → Action → Type 0
-TellsOnly Q (Tells told) = Q told
-TellsOnly Q (Sends u) = Unit {0}
 
 -- Sending tells of nothing but of units that are dropped.
 
@@ -77,6 +66,19 @@ outputs_note Q quiet s (Sends u ∷ actions) h =
     (first_sent_is_quiet s u (next_hop s u.destination)))
     (outputs_note Q quiet s actions h.1)
 
+all_contained : {X : Type 0} (xs : List X) → AllByRecursion (Contains xs) xs
+all_contained xs = recursion_from_All (Contains xs) xs (λ i d within. All-contains_itself xs i d within)
+
+-- what actions tell, they tell
+told_is_told : (action : Action) (actions : List Action) → Contains actions action → TellsOnly (IsToldBy actions) action
+told_is_told (Tells told) actions there = inl there
+told_is_told (Sends u) actions there = tt
+
+pub notes_are_told : (s : SystemState) (actions : List Action) → AllByRecursion (NotesOnly (IsToldBy actions)) (flat_map (outputs_of s) actions)
+notes_are_told s actions =
+    outputs_note (IsToldBy actions) (λ note quiet. inr quiet) s actions
+    (AllByRecursion-implies (Contains actions) (TellsOnly (IsToldBy actions)) (λ action there. told_is_told action actions there) actions (all_contained actions))
+
 -- what is said and heard between systems
 
 hello_is_quiet : (output : Output) → IsOfHellos output → NotesOnly NoteIsQuiet output
@@ -97,11 +99,6 @@ quiet_is_own s (Got from to octets) h = absurd h
 quiet_is_own s _ h = tt
 
 -- Why a unit isn't made.
-
-abbrev pub IsRefusal : Option Note → Type 0
-IsRefusal None = Unit {0}
-IsRefusal (Some (Refused why value)) = Unit {0}
-IsRefusal (Some _) = ⊥
 
 first_of_two : (refused : Note) (next : Option Note) (holds : Bool) → IsRefusal (Some refused) → IsRefusal next
     → IsRefusal (if holds then Some refused else next)
@@ -200,6 +197,9 @@ given_up_is_quiet (Some ended) s next h = (
 pub expiry_is_quiet : (most : ℕ) (s : SystemState) → TellOnly NoteIsQuiet (expire most s)
 expiry_is_quiet zero s = tt
 expiry_is_quiet (suc most) s = given_up_is_quiet (buffer.due s.moment s.buffers) s (expire most) (expiry_is_quiet most)
+
+pub tick_is_quiet : (s : SystemState) (now : ℕ) → AllByRecursion (TellsOnly NoteIsQuiet) (tick s now).actions
+tick_is_quiet s now = expiry_is_quiet (length s.buffers) (at_moment now s)
 
 quiet_action_is_own : (s : SystemState) (action : Action) → TellsOnly NoteIsQuiet action → TellsOnly (IsForOwn s) action
 quiet_action_is_own s (Tells told) h = quiet_is_own s told h

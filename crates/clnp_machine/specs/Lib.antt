@@ -6,4 +6,5 @@ pub mod Local
 pub mod Esis
 pub mod Step
 pub mod Steps
+pub mod Told
 pub mod Given

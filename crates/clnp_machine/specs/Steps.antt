@@ -1,9 +1,13 @@
 -- What is so of every step of a system.
 use Rattle.std.specs.Prelude.{◌≡◌, ℕ, ◌+◌, ◌≤◌, ◌⊎◌, Bool, true, false, List, [], ◌∷◌, ◌++◌, length, Option, None, Some}
 use Rattle.std.specs.List.{AllByRecursion, Contains, flat_map}
+use Rattle.clnp_options.specs.Grammar.{FitsKind}
+use Rattle.clnp_options.specs.Parameter.{parameters}
 use Rattle.pdu_header.specs.Grammar.{BeginsWith}
+use Rattle.pdu_header.specs.Rules.{octet, refusal}
 use Rattle.pdu_header.specs.Value.{PduValue}
 use Rattle.esis_pdus.specs.Grammar as esis
+use Rattle.esis_pdus.specs.Rules as esis_rules
 use Rattle.esis_pdus.specs.Grammar.{IsPdu}
 use Rattle.esis_pdus.specs.Spelling.{spelling}
 use Rattle.esis_pdus.specs.Value.{EsisValue}
@@ -11,6 +15,7 @@ use Rattle.esis_tables.specs.declared.fact.Place.{Place}
 use Rattle.nsap.specs.declared.target.Target.TheVariants.{System}
 use Rattle.reassembly.specs.Arrival.{Arrival}
 use Rattle.reassembly.specs.Buffer.{Buffer, held}
+use Rattle.clnp_plan.specs.Asking.{IsFormedAsk}
 use Rattle.clnp_plan.specs.declared.note.Note.{Note}
 use Rattle.clnp_plan.specs.declared.note.Note.TheVariants.{Gone, Got, Hear, Ignored}
 use Rattle.clnp_machine.specs.Unit as unit
@@ -38,6 +43,11 @@ moment_after s IsRestarted = s.moment
 abbrev pub AsksNothing : Input → Type 0
 AsksNothing (AsksToSend from to octets ask) = ⊥
 AsksNothing _ = Unit {0}
+
+-- What is asked of a system, if anything is: a unit that is formed as it should be, with options that a data unit may have.
+abbrev pub IsFairlyAsked : Input → Type 0
+IsFairlyAsked (AsksToSend from to octets ask) = IsFormedAsk from to ask × FitsKind false (parameters ask.options)
+IsFairlyAsked _ = Unit {0}
 
 -- a unit that a system makes at a moment: its next one, of a source that is its own, and all that its initial PDU carries
 pub record IsFresh (s : SystemState) (now : ℕ) (u : unit.Unit) : Type 0 where
@@ -100,6 +110,12 @@ abbrev pub SendsRangesOf : List unit.Unit → Output → Type 0
 SendsRangesOf units (Transmits port target packet) = IsRangeOf units packet
 SendsRangesOf units (SendsEsis port target value) = Unit {0}
 SendsRangesOf units (Notes note) = Unit {0}
+
+-- a PDU can carry each packet that is sent
+abbrev pub SendsCarriable : Output → Type 0
+SendsCarriable (Transmits port target packet) = IsCarriable packet
+SendsCarriable (SendsEsis port target value) = Unit {0}
+SendsCarriable (Notes note) = Unit {0}
 
 -- whether an output is a frame that is sent
 abbrev pub sends_frame : Output → Bool
@@ -181,3 +197,13 @@ abbrev pub CarriesOnePacket : Type 0
 CarriesOnePacket =
     (p : Packet) (following : List ℕ) (v : PduValue) (rest : List ℕ) → IsCarriable p → BeginsWith (wire p ++ following) v rest
     → (v ≡ value_of p) × (rest ≡ following)
+
+-- a frame begins as a PDU does (ISO 8473, section 7.2.2), and breaks no rule of PDUs
+pub record BreaksNoRule (frame : List ℕ) : Type 0 where
+  pub protocol : octet frame 1 ≡ 0x81
+  pub rules : refusal frame ≡ None
+
+-- a frame begins as an ES-IS PDU does (ISO 9542, section 7.2.2), and breaks no rule of ES-IS PDUs
+pub record BreaksNoEsisRule (frame : List ℕ) : Type 0 where
+  pub protocol : octet frame 1 ≡ 0x82
+  pub rules : esis_rules.refusal frame ≡ None

@@ -1,7 +1,7 @@
 //! Laws of one step of a system: each holds for every state and whatever comes, and its function
 //! does nothing.
-ghost use Rattle.std.specs.Prelude.{All, Bool, false, ◌≡◌, ◌≤◌, ℕ, List, [], ◌++◌, map, option_map};
-ghost use Rattle.std.specs.List.{AllByRecursion, filter, list_any};
+ghost use Rattle.std.specs.Prelude.{All, Bool, false, ◌≡◌, ◌↔◌, ◌≤◌, ℕ, None, List, [], ◌++◌, map, option_map};
+ghost use Rattle.std.specs.List.{AllByRecursion, Contains, filter, flat_map, list_any};
 ghost use Rattle.hex.specs.Hex.{IsBytes};
 ghost use Rattle.pdu_header.specs.declared.kind.Kind.{Kind};
 ghost use Rattle.segmenter.specs.Cut as segmenter;
@@ -10,16 +10,21 @@ ghost use Rattle.pdu_header.specs.Rules.{octet};
 ghost use Rattle.esis_pdus.specs.Grammar.{IsPdu};
 ghost use Rattle.esis_pdus.specs.Spelling.{spelling};
 ghost use Rattle.esis_pdus.specs.Value.{EsisValue};
+ghost use Rattle.reassembly.specs.declared.table.TableLimits.{TableLimits};
+ghost use Rattle.reassembly.specs.Arrival.{Arrival};
+ghost use Rattle.reassembly.specs.Buffer as buffer;
+ghost use Rattle.reassembly.specs.Buffer.{Buffer, buffer_of, clashes, held, without};
 ghost use Rattle.clnp_plan.specs.Configuration.{IsSystem};
 ghost use Rattle.esis_tables.specs.declared.fact.Place.{Place};
 ghost use Rattle.clnp_plan.specs.declared.ask.Ask.{Ask};
-ghost use Rattle.clnp_machine.specs.Unit.{Packet, IsCarriable, cut, value_of, wire};
+ghost use Rattle.clnp_machine.specs.Unit.{Unit, Packet, IsCarriable, cut, value_of, wire};
 ghost use Rattle.clnp_machine.specs.Content.{Esis, IsCarried, Labelled, Unlabelled, content_of, frame_of};
 ghost use Rattle.clnp_machine.specs.Esis.{esis_comes, forgets, own_hello, says_hello, tells_new, tells_of_itself};
-ghost use Rattle.clnp_machine.specs.Local.{at_moment, make, receive, tick};
+ghost use Rattle.clnp_machine.specs.Local.{Action, at_moment, gives_up, make, receive, refusal, tick};
 ghost use Rattle.clnp_machine.specs.System.{SystemState, Input, FrameComes};
-ghost use Rattle.clnp_machine.specs.Step.{octets_come, packet_comes, responds, step};
-ghost use Rattle.clnp_machine.specs.Steps.{AreCarriable, AsksNothing, CarriesOneEsisValue, CarriesOnePacket, IsAtMostItsHello, IsDeed, IsForOwn, IsFresh, IsWithinBudget, NotesOnly, OnlyHellos, SendsEsisPdus, SendsItsHellos, SendsRangesOf, StaysItself, WasKeptOrComes, moment_after, segments_in, sends_esis, sends_frame};
+ghost use Rattle.clnp_machine.specs.Step.{octets_come, outputs_of, packet_comes, responds, step};
+ghost use Rattle.clnp_machine.specs.Steps.{AreCarriable, AsksNothing, BreaksNoEsisRule, BreaksNoRule, CarriesOneEsisValue, CarriesOnePacket, IsAtMostItsHello, IsDeed, IsFairlyAsked, IsForOwn, IsFresh, IsWithinBudget, NotesOnly, OnlyHellos, SendsCarriable, SendsEsisPdus, SendsItsHellos, SendsRangesOf, StaysItself, WasKeptOrComes, moment_after, segments_in, sends_esis, sends_frame};
+ghost use Rattle.clnp_machine.specs.Told.{IsAllowed, IsRefusal, IsToldBy, NoteIsQuiet, NotesNoRule, SpellsPdus, TellsNoInterference, TellsOnly, WasThereOrTakes};
 
 /// A step leaves a system at its place with its configuration, at the moment that came last.
 pub fn a_system_stays_itself()
@@ -58,6 +63,12 @@ pub fn new_units_are_fresh()
 /// on hops and lifetime.
 pub fn ranges_of_units_are_sent()
     ensures { (s : SystemState) (input : Input) → AllByRecursion (SendsRangesOf (step s input).units) (step s input).outputs }
+{}
+
+/// PDUs can carry each packet that is sent in a step of a system of sound configuration that is fairly asked.
+pub fn what_is_sent_is_carriable()
+    ensures { (s : SystemState) (input : Input) → IsSystem s.configuration → IsFairlyAsked input
+        → AllByRecursion SendsCarriable (step s input).outputs }
 {}
 
 /// A system sends no ES-IS PDU but its own hello. Where it is configured as a system with addresses,
@@ -99,6 +110,48 @@ pub fn only_owners_hand_up()
     ensures { (s : SystemState) (input : Input) → AllByRecursion (NotesOnly (IsForOwn s)) (step s input).outputs }
 {}
 
+/// A unit is made exactly where its source is the system's own, data and header are short enough, and
+/// an identifier can be drawn for it, if it needs one; where it isn't made, a refusal is noted.
+pub fn units_are_made_where_allowed()
+    ensures allowed { (s : SystemState) (u : Unit) → (refusal s u ≡ None) ↔ IsAllowed s u }
+    ensures refused { (s : SystemState) (u : Unit) → IsRefusal (refusal s u) }
+{}
+
+/// What is noted is told, or says that a unit is dropped; and where a moment comes, nothing is told of
+/// what is handed up or refused, of interference, or of a frame of no protocol.
+pub fn what_is_noted_was_told()
+    ensures told { (s : SystemState) (actions : List Action)
+        → AllByRecursion (NotesOnly (IsToldBy actions)) (flat_map (outputs_of s) actions) }
+    ensures tick { (s : SystemState) (now : ℕ) → AllByRecursion (TellsOnly NoteIsQuiet) (tick s now).actions }
+{}
+
+/// A discard for a rule of PDUs is noted only where octets come that spell no PDU.
+pub fn rules_are_noted_of_octets_alone()
+    ensures { (s : SystemState) (input : Input) → SpellsPdus input
+        → AllByRecursion (NotesOnly NotesNoRule) (step s input).outputs }
+{}
+
+/// A buffer whose time has ended is taken out, and all else stays.
+pub fn ended_buffers_are_taken_out()
+    ensures { (s : SystemState) (ended : Buffer Packet)
+        → (gives_up s ended).after ≡ record s { buffers = without ended.key s.buffers } }
+{}
+
+/// A segment that is offered leaves each buffer as it was, or opens one, or is kept in that of its key;
+/// the buffers of other keys stay, budgets are kept, and where no buffer clashes with the segment,
+/// nothing interferes.
+pub fn a_segment_is_kept_in_its_buffer()
+    ensures buffers { (limits : TableLimits) (moment : ℕ) (arrival : Arrival Packet) (buffers : List (Buffer Packet))
+        → AllByRecursion (WasThereOrTakes limits moment arrival buffers) (buffer.after limits moment arrival buffers) }
+    ensures others { (limits : TableLimits) (moment : ℕ) (arrival : Arrival Packet) (buffers : List (Buffer Packet))
+        → AllByRecursion (Contains buffers) (without arrival.key (buffer.with_kept limits moment arrival buffers)) }
+    ensures within { (limits : TableLimits) (moment : ℕ) (arrival : Arrival Packet) (buffers : List (Buffer Packet))
+        → held buffers ≤ limits.budget → held (buffer.after limits moment arrival buffers) ≤ limits.budget }
+    ensures apart { (limits : TableLimits) (moment : ℕ) (arrival : Arrival Packet) (buffers : List (Buffer Packet))
+        → clashes (buffer_of arrival.key buffers) arrival.shape ≡ false
+        → TellsNoInterference (buffer.answer limits moment arrival buffers) }
+{}
+
 /// A system that keeps its budget for reassembly keeps it after each step.
 pub fn budgets_are_kept()
     ensures { (s : SystemState) (input : Input) → IsWithinBudget s → IsWithinBudget (step s input).after }
@@ -130,6 +183,17 @@ pub fn a_frame_carries_one_packet()
 {
     pdu_header::laws::one_value();
 }
+
+/// A frame that carries a packet that a PDU can carry breaks no rule of PDUs, whatever follows in it.
+pub fn carriable_packets_break_no_rule()
+    ensures { (p : Packet) (following : List ℕ) → IsCarriable p → BreaksNoRule (wire p ++ following) }
+{}
+
+/// A frame that carries an ES-IS value that a PDU can carry breaks no rule of ES-IS PDUs, whatever
+/// follows in it.
+pub fn esis_pdus_break_no_rule()
+    ensures { (value : EsisValue) (following : List ℕ) → IsPdu value → BreaksNoEsisRule (spelling value ++ following) }
+{}
 
 /// The ES-IS PDU at the front of a frame that carries an ES-IS value is that value, and what follows
 /// it is what follows the value.

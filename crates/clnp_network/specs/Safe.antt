@@ -9,10 +9,11 @@ use Rattle.scenario.specs.declared.event.Event.TheVariants.{Send}
 use Rattle.scenario.specs.declared.event.Move.{Move}
 use Rattle.scenario.specs.declared.event.Move.TheVariants.{One, SettleOne, LoseOne, TickOne}
 use Rattle.esis_pdus.specs.Grammar.{IsPdu}
-use Rattle.clnp_machine.specs.Content.{Labelled, Esis, Unlabelled, Content}
+use Rattle.clnp_machine.specs.Content.{Labelled, Esis, Unlabelled, Content, frame_of}
 use Rattle.clnp_machine.specs.Unit as unit
 use Rattle.clnp_machine.specs.Unit.{Packet}
-use Rattle.clnp_machine.specs.Steps.{IsRangeOf}
+use Rattle.clnp_machine.specs.Steps.{BreaksNoEsisRule, BreaksNoRule, IsRangeOf}
+use Rattle.clnp_machine.specs.Told.{NotesNoRule}
 use Rattle.reassembly.specs.Arrival.{Arrival}
 use Rattle.clnp_network.specs.World.{World}
 use Rattle.clnp_network.specs.Run.{Entry}
@@ -87,6 +88,16 @@ RangeIn units birth (Unlabelled octets) = ⊥
 abbrev pub CarriesRanges : World → Type 0
 CarriesRanges w = AllByRecursion (λ copy. RangeIn w.units copy.birth copy.content) w.copies
 
+-- a frame carries a packet and breaks no rule of PDUs, or an ES-IS value and breaks none of ES-IS PDUs
+abbrev pub IsUnbroken : Content → Type 0
+IsUnbroken (Labelled packet following) = BreaksNoRule (frame_of (Labelled packet following))
+IsUnbroken (Esis value following) = BreaksNoEsisRule (frame_of (Esis value following))
+IsUnbroken (Unlabelled octets) = ⊥
+
+-- each frame on the network does
+abbrev pub FramesAreUnbroken : World → Type 0
+FramesAreUnbroken w = AllByRecursion (λ copy. IsUnbroken copy.content) w.copies
+
 -- all segments of a buffer are of one unit that was made
 abbrev pub HoldsOneUnit : List unit.Unit → Buffer Packet → Type 0
 HoldsOneUnit units buffer =
@@ -116,3 +127,8 @@ abbrev pub NoneIsAlien : List Line → Type 0
 NoneIsAlien [] = Unit {0}
 NoneIsAlien (Noted now name Alien ∷ lines) = ⊥
 NoneIsAlien (_ ∷ lines) = NoneIsAlien lines
+
+-- no line says that a frame was discarded for a rule of PDUs
+abbrev pub TellsNoRule : Line → Type 0
+TellsNoRule (Noted now name note) = NotesNoRule note
+TellsNoRule _ = Unit {0}

@@ -1,3 +1,4 @@
 pub mod Configuration
 pub mod Journal
 pub mod Words
+pub mod Asking

@@ -20,15 +20,16 @@ use Rattle.clnp_machine.specs.System.{SystemState, table_limits}
 use Rattle.clnp_machine.specs.Local.{Deed, data_in, is_all, is_own, octet_of, offer, offered, receive, takes_in}
 use Rattle.clnp_machine.specs.Step.{content_comes, packet_comes, passes_by}
 use Rattle.clnp_machine.specs.Steps.{IsRangeOf}
-use Rattle.clnp_machine.proofs.Own.{TellsOnly}
+use Rattle.clnp_machine.specs.Told.{TellsNoInterference, TellsOnly}
 use Rattle.clnp_plan.specs.declared.config.Role.{Role}
 use Rattle.clnp_plan.specs.declared.config.Role.TheVariants.{Host, Router}
 use Rattle.clnp_network.specs.Safe.{WasSent}
 use Rattle.clnp_network.specs.Run.{Entry}
 use Rattle.clnp_safety.specs.Invariant.{BufferIsSound, Carries, IsBornWithUnit, NoteIsHonest, SystemIsSound, UnitsAreSound}
+use Rattle.clnp_safety.specs.StepLaws.{StepLaws}
 use Rattle.clnp_safety.proofs.Lines.{sent_alike}
-use Rattle.clnp_machine.proofs.Kept.{TellsNoInterference, all_after, answer_without, find_passes, held_after, others_with_kept}
 use Rattle.clnp_safety.proofs.BufferOffers.{IsLive, clashes_with_none, stay_live, unit_sound}
+use Rattle.clnp_safety.proofs.Kept.{all_after, find_passes, others_with_kept}
 use Rattle.clnp_safety.proofs.Joining.{joined_is_unit, whole_is_unit}
 
 -- a packet that comes at a moment is of a unit that isn't older
@@ -41,7 +42,7 @@ pub comes_young : (age now birth : ℕ) (content : Content) → IsBornWithUnit b
 comes_young age now birth (Labelled packet following) born young = subst (λ moment. now ≤ moment + age) born young
 comes_young age now birth (Unlabelled octets) born young = tt
 
-module _ (plan : Plan) (past : List Entry) (units : List unit.Unit) (now place : ℕ) where
+module _ (laws : StepLaws) (plan : Plan) (past : List Entry) (units : List unit.Unit) (now place : ℕ) where
   -- what a deed leaves is sound, and what it tells is honest
   abbrev pub DeedIsSound : Deed → Type 0
   DeedIsSound deed = SystemIsSound plan units now place deed.after × AllByRecursion (TellsOnly (NoteIsHonest plan past)) deed.actions
@@ -76,12 +77,12 @@ module _ (plan : Plan) (past : List Entry) (units : List unit.Unit) (now place :
 
       kept_live : AllByRecursion (IsLive plan units now) kept
       kept_live =
-          all_after (table_limits s) s.moment (offered p []) (IsLive plan units now)
+          all_after laws (table_limits s) s.moment (offered p []) (IsLive plan units now)
           (stay_live plan fit past now units made p packet young identifier identified (table_limits s) sound.hold s.moment sound.moment alive)
           s.buffers (live_buffers s sound)
 
       kept_within : held kept ≤ s.configuration.settings.budget
-      kept_within = held_after (table_limits s) s.moment (offered p []) s.buffers sound.budget
+      kept_within = laws.segments.within (table_limits s) s.moment (offered p []) s.buffers sound.budget
 
       is_held : buffer.answer (table_limits s) s.moment (offered p []) s.buffers ≡ buffer.Held
           → DeedIsSound (takes_in s (Labelled p []) (offered p []) kept buffer.Held)
@@ -112,7 +113,7 @@ module _ (plan : Plan) (past : List Entry) (units : List unit.Unit) (now place :
             with_buffers s (without key kept) sound
                 (AllByRecursion-filter (λ b. not (same_key b.key key)) (IsLive plan units now) (IsLive plan units now) (λ b t h. h) kept kept_live)
                 (subst (λ l. AllByRecursion (λ (b : Buffer Packet). is_whole b ≡ false) (without key l)) (sym whole.after_is)
-                (others_with_kept (table_limits s) s.moment (offered p []) (λ (b : Buffer Packet). is_whole b ≡ false) s.buffers sound.not_whole))
+                (others_with_kept laws (table_limits s) s.moment (offered p []) (λ (b : Buffer Packet). is_whole b ≡ false) s.buffers sound.not_whole))
                 (let less = sum_filter size_of (λ (b : Buffer Packet). not (same_key b.key key)) kept in let within = kept_within in omega arith),
             (
               subst (λ found. NoteIsHonest plan past (note.Got key.from key.to (data_in found))) (sym whole.found)
@@ -126,7 +127,7 @@ module _ (plan : Plan) (past : List Entry) (units : List unit.Unit) (now place :
       taken buffer.Held told = is_held told
       taken buffer.Whole told = is_joined told
       taken (buffer.Interference there other) told =
-          absurd (subst TellsNoInterference told (answer_without (table_limits s) s.moment (offered p []) s.buffers
+          absurd (subst TellsNoInterference told (laws.segments.apart (table_limits s) s.moment (offered p []) s.buffers
           (clashes_with_none plan fit past now units made p packet young identifier identified s.buffers (live_buffers s sound))))
       taken buffer.Repeat told = (sound, (tt, tt))
       taken (buffer.NoSlot live) told = (sound, (tt, (tt, tt)))

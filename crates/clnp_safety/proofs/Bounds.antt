@@ -1,9 +1,8 @@
 -- Whatever the moves: packets meet the bound on hops and lifetime, and systems keep their budgets.
 use Rattle.clnp_base.proofs.Lists.{AllByRecursion-any, AllByRecursion-append, AllByRecursion-implies, AllByRecursion-slice_get}
-use Rattle.std.proofs.Common.{◌≡◌, ◌≤◌, ◌+◌, ℕ, zero, suc, List, [], ◌∷◌, ◌++◌, refl, ap, subst, ◌∙◌, sym, arith}
+use Rattle.std.proofs.Common.{◌≡◌, ◌≤◌, ◌+◌, ℕ, zero, suc, List, [], ◌∷◌, arith}
 use Rattle.std.specs.Prelude.{slice_get, slice_set, Option, None, Some}
 use Rattle.std.specs.List.{AllByRecursion}
-use Rattle.reassembly.specs.Buffer.{held}
 use Rattle.nsap.specs.declared.target.Target.{Target}
 use Rattle.clnp_plan.specs.Configuration.{SystemConfiguration}
 use Rattle.clnp_plan.specs.declared.config.Limits.{Limits}
@@ -15,17 +14,13 @@ use Rattle.clnp_machine.specs.Unit.{Packet}
 use Rattle.clnp_machine.specs.System.{SystemState, Input, Output, Transmits, Notes, Effect}
 use Rattle.clnp_machine.specs.Step.{step}
 use Rattle.clnp_machine.specs.Steps.{IsWithinBudget, SendsRangesOf}
-use Rattle.clnp_machine.proofs.Deeds.{step_budget}
-use Rattle.clnp_machine.proofs.Sent.{step_sends_ranges}
 use Rattle.clnp_network.specs.World.{World, Copy, copy_from, put_out, takes_effect, with_effect, states_from, first_world}
 use Rattle.clnp_network.specs.Run.{world_after}
 use Rattle.clnp_network.specs.Safe.{IsWithinBudgets, IsWithinLifetimes, MeetsLifetime}
-use Rattle.clnp_safety.proofs.Lines.{AnyLine}
-use Rattle.clnp_safety.proofs.Steps.{Keeps, NotGivenIsFine, keeps-put_all_out}
-use Rattle.clnp_safety.proofs.EveryMove.{EachStepKeeps, keeps-moves}
-
-any_line : NotGivenIsFine AnyLine
-any_line = record { void = λ now name copy. tt; late = λ now name copy. tt }
+use Rattle.clnp_safety.specs.StepLaws.{StepLaws}
+use Rattle.clnp_safety.proofs.Lines.{AnyLine, any_line_is_fine}
+use Rattle.clnp_safety.proofs.Steps.{Keeps, keeps-put_all_out}
+use Rattle.clnp_safety.proofs.EveryMove.{AnyInput, any_events, keeps-moves}
 
 -- Hops and lifetimes.
 
@@ -46,19 +41,21 @@ put_out_meets units system (Transmits port target packet) sends v k = record {
   lines = (tt, tt);
 }
 
-step_meets : (w : World) (place : ℕ) (s : SystemState) (input : Input) → slice_get w.systems place ≡ Some s → IsWithinLifetimes w
+step_meets : StepLaws → (w : World) (place : ℕ) (s : SystemState) (input : Input) → slice_get w.systems place ≡ Some s → AnyInput input → IsWithinLifetimes w
     → Keeps IsWithinLifetimes AnyLine (takes_effect w place (step s input))
-step_meets w place s input there k =
+step_meets laws w place s input there any k =
     let effect : Effect = step s input in
     keeps-put_all_out IsWithinLifetimes AnyLine effect.after.configuration effect.outputs
     (AllByRecursion-implies (SendsRangesOf effect.units)
     (λ output. (v : World) → IsWithinLifetimes v → Keeps IsWithinLifetimes AnyLine (put_out effect.after.configuration v output))
-    (put_out_meets effect.units effect.after.configuration) effect.outputs (step_sends_ranges s input))
+    (put_out_meets effect.units effect.after.configuration) effect.outputs (laws.steps.ranges s input))
     (with_effect w place effect) k
 
-pub lifetimes_hold : (plan : Plan) (moves : List Move) → IsWithinLifetimes (world_after plan (first_world plan) moves)
-lifetimes_hold plan moves =
-    keeps-moves IsWithinLifetimes AnyLine (record { steps = step_meets; cursor = λ w next k. k; clock = λ w now k. k; fine = any_line }) plan moves (first_world plan) tt
+pub lifetimes_hold : StepLaws → (plan : Plan) (moves : List Move) → IsWithinLifetimes (world_after plan (first_world plan) moves)
+lifetimes_hold laws plan moves =
+    keeps-moves AnyInput IsWithinLifetimes AnyLine
+    (record { steps = step_meets laws; frames = λ w at copy e k s. tt; moments = λ now. tt; restarts = tt; cursor = λ w next k. k; clock = λ w now k. k; fine = any_line_is_fine })
+    plan (any_events plan.events) moves (first_world plan) tt
 
 -- Budgets.
 
@@ -72,21 +69,23 @@ put_out_within : (system : SystemConfiguration) (output : Output) (v : World) �
 put_out_within system (Notes note) v k = record { world = k; lines = (tt, tt) }
 put_out_within system (Transmits port target packet) v k = record { world = k; lines = (tt, tt) }
 
-step_within : (w : World) (place : ℕ) (s : SystemState) (input : Input) → slice_get w.systems place ≡ Some s → IsWithinBudgets w
+step_within : StepLaws → (w : World) (place : ℕ) (s : SystemState) (input : Input) → slice_get w.systems place ≡ Some s → AnyInput input → IsWithinBudgets w
     → Keeps IsWithinBudgets AnyLine (takes_effect w place (step s input))
-step_within w place s input there k =
+step_within laws w place s input there any k =
     let effect : Effect = step s input in
     keeps-put_all_out IsWithinBudgets AnyLine effect.after.configuration effect.outputs
     (AllByRecursion-any (λ output. (v : World) → IsWithinBudgets v → Keeps IsWithinBudgets AnyLine (put_out effect.after.configuration v output))
     (put_out_within effect.after.configuration) effect.outputs)
     (with_effect w place effect)
-    (set_within w.systems place effect.after k (step_budget s input (AllByRecursion-slice_get IsWithinBudget w.systems place s there k)))
+    (set_within w.systems place effect.after k (laws.steps.budget s input (AllByRecursion-slice_get IsWithinBudget w.systems place s there k)))
 
 opened_within : (limits : Limits) (place : ℕ) (systems : List SystemConfiguration) → AllByRecursion IsWithinBudget (states_from limits place systems)
 opened_within limits place [] = tt
 opened_within limits place (system ∷ systems) = (omega arith, opened_within limits (place + 1) systems)
 
-pub budgets_hold : (plan : Plan) (moves : List Move) → IsWithinBudgets (world_after plan (first_world plan) moves)
-budgets_hold plan moves =
-    keeps-moves IsWithinBudgets AnyLine (record { steps = step_within; cursor = λ w next k. k; clock = λ w now k. k; fine = any_line }) plan moves (first_world plan)
+pub budgets_hold : StepLaws → (plan : Plan) (moves : List Move) → IsWithinBudgets (world_after plan (first_world plan) moves)
+budgets_hold laws plan moves =
+    keeps-moves AnyInput IsWithinBudgets AnyLine
+    (record { steps = step_within laws; frames = λ w at copy e k s. tt; moments = λ now. tt; restarts = tt; cursor = λ w next k. k; clock = λ w now k. k; fine = any_line_is_fine })
+    plan (any_events plan.events) moves (first_world plan)
     (opened_within plan.limits 0 plan.systems)

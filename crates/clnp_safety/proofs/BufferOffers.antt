@@ -20,7 +20,7 @@ use Rattle.clnp_safety.specs.Invariant.{BufferIsSound, IsOfUnit, Owns, UnitIsSou
 use Rattle.clnp_machine.specs.Steps.{IsRangeOf}
 use Rattle.clnp_safety.proofs.BufferUnits.{header_of_unit}
 use Rattle.clnp_safety.proofs.Units.{different_makers, same_unit}
-use Rattle.clnp_machine.proofs.Kept.{KeptIn, find_passes}
+use Rattle.clnp_safety.proofs.Kept.{KeptIn, find_passes}
 
 pub unit_sound : (plan : Plan) (past : List Entry) (now : ℕ) (units : List unit.Unit) (u : unit.Unit) → UnitsAreSound plan past now units
     → Contains units u → UnitIsSound plan past now u

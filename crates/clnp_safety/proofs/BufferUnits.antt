@@ -1,12 +1,9 @@
 -- The headers of a unit's packets.
-use Rattle.std.proofs.Common.{◌≡◌, ◌∙◌, sym, ap, subst, refl, ℕ, ◌+◌, ◌<◌, ◌≤◌, ◌⊎◌, inl, inr, List, ◌++◌, length, get_or, Option, None, Some, arith}
-use Rattle.std.specs.List.{Contains}
+use Rattle.std.proofs.Common.{◌≡◌, ◌∙◌, ap, refl, ℕ, ◌+◌, List, ◌++◌, length, Option, None, Some, arith}
 use Rattle.std.specs.Option.{option_map}
-use Rattle.std.proofs.lemmas.Bool.{cases_order}
-use Rattle.std.proofs.lemmas.List.{get_or_default, length-append}
+use Rattle.std.proofs.lemmas.List.{length-append}
 use Rattle.clnp_options.specs.Parameter.{Parameter, spelled}
 use Rattle.pdu_header.specs.Spelling.{counted, header_length, segmentation_octets}
-use Rattle.clnp_machine.specs.Unit as unit
 use Rattle.clnp_machine.specs.Unit.{Packet, segmentation_of, value_of, whole_packet}
 use Rattle.clnp_machine.specs.Local.{header_size}
 

@@ -1,10 +1,8 @@
 -- A step of a system that is asked nothing keeps a world sound.
 use Rattle.clnp_base.proofs.Lists.{AllByRecursion-contains}
-use Rattle.std.proofs.Common.{◌≡◌, ◌≢◌, ◌∙◌, sym, ap, subst, refl, ℕ, List, [], ◌∷◌, ◌++◌, length}
-use Rattle.std.specs.Prelude.{slice_get, Some}
+use Rattle.std.proofs.Common.{◌≡◌, ◌≢◌, ◌∙◌, sym, ap, subst, ℕ, List, [], ◌∷◌, ◌++◌, length}
 use Rattle.std.specs.List.{AllByRecursion}
 use Rattle.std.proofs.lemmas.List.{append-nil}
-use Rattle.std.proofs.lemmas.List.Elements.{Contains-append_right}
 use Rattle.scenario.specs.Scenario.{Plan}
 use Rattle.clnp_plan.specs.Journal.{Line}
 use Rattle.clnp_plan.specs.declared.note.Note.{Note}
@@ -12,24 +10,25 @@ use Rattle.clnp_machine.specs.Unit as unit
 use Rattle.clnp_machine.specs.Unit.{Packet}
 use Rattle.clnp_machine.specs.System.{SystemState, Input, Output, Transmits, Notes, Effect}
 use Rattle.clnp_machine.specs.Step.{deed, step}
-use Rattle.clnp_machine.specs.Steps.{AsksNothing, IsFresh, IsRangeOf, NotesOnly, SendsRangesOf, moment_after}
-use Rattle.clnp_machine.proofs.Deeds.{makes_none, step_fresh}
-use Rattle.clnp_machine.proofs.Sent.{step_sends_ranges, range_later}
-use Rattle.clnp_machine.proofs.Own.{TellsOnly, outputs_note}
+use Rattle.clnp_machine.specs.Steps.{AsksNothing, IsFresh, NotesOnly, SendsRangesOf, moment_after}
+use Rattle.clnp_machine.specs.Told.{TellsOnly}
 use Rattle.clnp_network.specs.Run.{Entry}
 use Rattle.clnp_network.specs.World.{World, takes_effect}
 use Rattle.clnp_safety.specs.Invariant.{NoteIsHonest, UnitsAreSound}
 use Rattle.clnp_safety.specs.Outputs.{OutputIsSound}
+use Rattle.clnp_safety.specs.StepLaws.{StepLaws}
 use Rattle.clnp_safety.proofs.Lines.{LineIs, quiet_is_honest}
 use Rattle.clnp_safety.proofs.Outputs.{Stands, takes_effect_stands}
 use Rattle.clnp_safety.proofs.Steps.{Keeps}
+use Rattle.clnp_safety.proofs.Told.{outputs_note}
+use Rattle.clnp_safety.proofs.Units.{packet_of_more}
 
 -- What a step gives out is sound, where its notes are: what it sends is of units that are made now.
 
 module _ (Q : Note → Type 0) (units made : List unit.Unit) (s : SystemState) (now : ℕ) (fresh : AllByRecursion (IsFresh s now) made) where
   output_is_sound : (output : Output) → SendsRangesOf made output → NotesOnly Q output → OutputIsSound Q (units ++ made) now output
   output_is_sound (Transmits port target packet) sends notes =
-      (range_later units made packet sends, (AllByRecursion-contains (IsFresh s now) made packet.unit sends.unit fresh).made)
+      (packet_of_more units made packet sends, (AllByRecursion-contains (IsFresh s now) made packet.unit sends.unit fresh).made)
   output_is_sound (Notes note) sends notes = notes
 
   pub outputs_are_sound : (outputs : List Output) → AllByRecursion (SendsRangesOf made) outputs → AllByRecursion (NotesOnly Q) outputs
@@ -37,10 +36,10 @@ module _ (Q : Note → Type 0) (units made : List unit.Unit) (s : SystemState) (
   outputs_are_sound [] sends notes = tt
   outputs_are_sound (output ∷ outputs) sends notes = (output_is_sound output sends.0 notes.0, outputs_are_sound outputs sends.1 notes.1)
 
-pub step_gives_soundly : (Q : Note → Type 0) (units : List unit.Unit) (s : SystemState) (input : Input) → AllByRecursion (NotesOnly Q) (step s input).outputs
+pub step_gives_soundly : StepLaws → (Q : Note → Type 0) (units : List unit.Unit) (s : SystemState) (input : Input) → AllByRecursion (NotesOnly Q) (step s input).outputs
     → AllByRecursion (OutputIsSound Q (units ++ (step s input).units) (moment_after s input)) (step s input).outputs
-step_gives_soundly Q units s input notes =
-    outputs_are_sound Q units (step s input).units s (moment_after s input) (step_fresh s input) (step s input).outputs (step_sends_ranges s input) notes
+step_gives_soundly laws Q units s input notes =
+    outputs_are_sound Q units (step s input).units s (moment_after s input) (laws.steps.fresh s input) (step s input).outputs (laws.steps.ranges s input) notes
 
 module _ (plan : Plan) (past : List Entry) (now : ℕ) where
   -- the units of a world are sound, P holds of the system at each place, at this clock, and the copies are sound
@@ -82,13 +81,13 @@ module _ (plan : Plan) (past : List Entry) (now : ℕ) where
         }
 
     -- a system takes a step that makes nothing
-    pub step_keeps : (w : World) (place : ℕ) (s : SystemState) (input : Input) → AsksNothing input → moment_after s input ≡ now
+    pub step_keeps : StepLaws → (w : World) (place : ℕ) (s : SystemState) (input : Input) → AsksNothing input → moment_after s input ≡ now
         → ((other : ℕ) (t : SystemState) → other ≢ place → P w.units other t → Q w.units other t) → Q w.units place (step s input).after
         → AllByRecursion (TellsOnly (NoteIsHonest plan past)) (deed s input).actions → IsSoundWith P w
         → Keeps (StaysSound w) Told (takes_effect w place (step s input))
-    step_keeps w place s input nothing at others here honest k =
-        effect_keeps w place (step s input) (makes_none s input nothing) others here
+    step_keeps laws w place s input nothing at others here honest k =
+        effect_keeps w place (step s input) (laws.steps.asked s input nothing) others here
         (subst (λ n. AllByRecursion (OutputIsSound (NoteIsHonest plan past) (w.units ++ (step s input).units) n) (step s input).outputs) at
-        (step_gives_soundly (NoteIsHonest plan past) w.units s input
-        (outputs_note (NoteIsHonest plan past) (quiet_is_honest plan past) (deed s input).after (deed s input).actions honest)))
+        (step_gives_soundly laws (NoteIsHonest plan past) w.units s input
+        (outputs_note laws (NoteIsHonest plan past) (quiet_is_honest plan past) (deed s input).after (deed s input).actions honest)))
         k

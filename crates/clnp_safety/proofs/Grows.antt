@@ -1,7 +1,7 @@
 -- The copies of a world stay as a front of those after each move, and the cursor stays within them.
 use Rattle.clnp_base.proofs.Lists.{AllByRecursion-any}
 use Rattle.std.proofs.Common.{◌≡◌, ◌≤◌, ℕ, List, [], ◌∷◌, ◌++◌, ◌+◌, length, refl, sym, ap, ◌∙◌, arith, length-append, append_assoc}
-use Rattle.std.specs.Prelude.{slice_get, slice_set, Option, None, Some}
+use Rattle.std.specs.Prelude.{slice_get, Option, None, Some}
 use Rattle.std.specs.List.{range_with_len}
 use Rattle.std.proofs.lemmas.Option.{slice_get_within}
 use Rattle.std.proofs.lemmas.List.{append-nil}
@@ -12,13 +12,13 @@ use Rattle.scenario.specs.declared.event.Event.{Event}
 use Rattle.scenario.specs.declared.event.Event.TheVariants.{Send, Deliver, Settle, Lose, Tick, Restart}
 use Rattle.scenario.specs.declared.event.Move.{Move}
 use Rattle.scenario.specs.declared.event.Move.TheVariants.{One, SettleOne, LoseOne, TickOne}
-use Rattle.clnp_machine.specs.System.{SystemState, Input, AsksToSend, MomentComes, IsRestarted, Output, Transmits, Notes, Effect}
+use Rattle.clnp_machine.specs.System.{Input, AsksToSend, MomentComes, IsRestarted, Output, Transmits, Notes, Effect}
 use Rattle.clnp_machine.specs.Step.{step}
 use Rattle.clnp_network.specs.World.{World, Copy, copy_from, put_out, with_effect, takes_effect, comes, frame_to, addressees_from, settle_copy, deliver, lose_copy, tick_each, tick_one, event_happens, after, first_world}
 use Rattle.clnp_network.specs.Run.{world_after}
 use Rattle.clnp_safety.specs.Growth.{IsFront, IsWithinCopies}
-use Rattle.clnp_safety.proofs.Lines.{AnyLine}
-use Rattle.clnp_safety.proofs.Steps.{Keeps, NotGivenIsFine, keeps-nothing, keeps-followed_by, keeps-put_all_out, keeps-comes_to, keeps-give_each, keeps-deliver}
+use Rattle.clnp_safety.proofs.Lines.{AnyLine, any_line_is_fine}
+use Rattle.clnp_safety.proofs.Steps.{Keeps, keeps-nothing, keeps-followed_by, keeps-put_all_out, keeps-comes_to, keeps-give_each, keeps-deliver}
 
 -- a world with more copies behind these, and this cursor
 record Grown (copies : List Copy) (cursor : ℕ) (w : World) : Type 0 where
@@ -27,9 +27,6 @@ record Grown (copies : List Copy) (cursor : ℕ) (w : World) : Type 0 where
 
 front-more : {A : Type 0} (xs ys zs : List A) → IsFront xs ys → IsFront xs (ys ++ zs)
 front-more xs ys zs h = (h.0 ++ zs, ap (λ l. l ++ zs) h.1 ∙ append_assoc xs h.0 zs)
-
-any_line_is_fine : NotGivenIsFine AnyLine
-any_line_is_fine = record { void = λ now name copy. tt; late = λ now name copy. tt }
 
 module _ (copies : List Copy) (cursor : ℕ) where
   put_out_grows : (system : SystemConfiguration) (output : Output) (v : World) → Grown copies cursor v

@@ -1,5 +1,7 @@
 pub mod Units
 pub mod Uses
+pub mod Kept
+pub mod Told
 pub mod SendUnits
 pub mod SendAsked
 pub mod BufferUnits
@@ -12,6 +14,7 @@ pub mod Lines
 pub mod Steps
 pub mod EveryMove
 pub mod Bounds
+pub mod Frames
 pub mod Outputs
 pub mod Past
 pub mod Effects

@@ -8,8 +8,9 @@ use Rattle.scenario.specs.Scenario.{Plan}
 use Rattle.clnp_network.specs.Run.{Entry}
 use Rattle.clnp_network.specs.Safe.{HandsUp, NoRefusal, NoInterference, NoneIsAlien, WasSent}
 use Rattle.std.specs.List.{AllByRecursion}
-use Rattle.clnp_machine.proofs.Own.{NoteIsQuiet}
+use Rattle.clnp_machine.specs.Told.{NoteIsQuiet}
 use Rattle.clnp_safety.specs.Invariant.{NoteIsHonest}
+use Rattle.clnp_safety.proofs.Steps.{NotGivenIsFine}
 
 -- a line notes only what Q holds of
 abbrev pub LineIs : (Note → Type 0) → Line → Type 0
@@ -19,6 +20,9 @@ LineIs Q _ = Unit {0}
 -- any line will do
 abbrev pub AnyLine : Line → Type 0
 AnyLine line = Unit {0}
+
+pub any_line_is_fine : NotGivenIsFine AnyLine
+any_line_is_fine = record { void = λ now name copy. tt; late = λ now name copy. tt }
 
 -- what lines hand up was sent
 abbrev pub LinesAreHonest : Plan → List Entry → List Line → Type 0

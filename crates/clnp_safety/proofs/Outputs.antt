@@ -1,7 +1,7 @@
 -- What the outputs of a system leave of a world, and what their lines are.
 use Rattle.clnp_base.proofs.Lists.{AllByRecursion-append, AllByRecursion-implies, set_each}
 use Rattle.std.proofs.Common.{◌≡◌, ◌≢◌, ℕ, List, ◌++◌, length, refl, ap, ◌∙◌, length-set}
-use Rattle.std.specs.Prelude.{slice_get, slice_set, Option, None, Some}
+use Rattle.std.specs.Prelude.{slice_get, Option, None, Some}
 use Rattle.nsap.specs.declared.target.Target.{Target}
 use Rattle.clnp_plan.specs.Configuration.{SystemConfiguration}
 use Rattle.clnp_plan.specs.declared.config.PortConfig.{PortConfig}

@@ -1,30 +1,25 @@
 -- Only a system that has the destination among its addresses hands up a unit.
 use Rattle.clnp_base.proofs.Lists.{AllByRecursion-implies, set_each}
-use Rattle.std.proofs.Common.{◌≡◌, ℕ, List, [], ◌∷◌, ◌+◌, length, true, refl, sym, ap, ◌∙◌, subst}
-use Rattle.std.specs.Prelude.{slice_get, slice_set, Option, None, Some}
-use Rattle.std.specs.List.{AllByRecursion, list_any, range_with_len}
+use Rattle.std.proofs.Common.{◌≡◌, ℕ, List, true, refl, sym, ap, ◌∙◌, subst}
+use Rattle.std.specs.Prelude.{slice_get, Some}
+use Rattle.std.specs.List.{AllByRecursion, list_any}
 use Rattle.std.specs.Str.{bytes_eq}
 use Rattle.clnp_plan.specs.Configuration.{SystemConfiguration}
-use Rattle.clnp_plan.specs.declared.config.Limits.{Limits}
 use Rattle.clnp_plan.specs.Journal.{Line, Noted}
 use Rattle.clnp_plan.specs.declared.note.Note.{Note}
 use Rattle.clnp_plan.specs.declared.note.Note.TheVariants.{Got}
-use Rattle.scenario.specs.Scenario.{Plan, octets_of}
-use Rattle.scenario.specs.declared.event.Event.{Event}
-use Rattle.scenario.specs.declared.event.Event.TheVariants.{Send, Deliver, Restart}
+use Rattle.scenario.specs.Scenario.{Plan}
 use Rattle.scenario.specs.declared.event.Move.{Move}
-use Rattle.scenario.specs.declared.event.Move.TheVariants.{One, SettleOne, LoseOne, TickOne}
-use Rattle.clnp_machine.specs.System.{SystemState, Input, AsksToSend, MomentComes, IsRestarted, Output, Transmits, Notes, Effect}
+use Rattle.clnp_machine.specs.System.{SystemState, Input, Output, Transmits, Notes, Effect}
 use Rattle.clnp_machine.specs.Step.{step}
 use Rattle.clnp_machine.specs.Steps.{IsForOwn, NotesOnly}
-use Rattle.clnp_machine.proofs.Deeds.{step_itself}
-use Rattle.clnp_machine.proofs.Own.{step_is_own}
-use Rattle.clnp_network.specs.World.{World, Copy, put_out, with_effect, takes_effect, comes, frame_to, addressees_from, settle_copy, lose_copy, tick_each, event_happens, after}
+use Rattle.clnp_network.specs.World.{World, put_out, with_effect, takes_effect, after}
 use Rattle.clnp_safety.specs.Owners.{IsByOwner}
-use Rattle.clnp_safety.proofs.EveryMove.{EachStepKeeps, keeps-move}
-use Rattle.clnp_safety.proofs.Steps.{Keeps, NotGivenIsFine, keeps-nothing, keeps-followed_by, keeps-put_all_out, keeps-comes_to, keeps-give_each, keeps-deliver}
+use Rattle.clnp_safety.specs.StepLaws.{StepLaws}
+use Rattle.clnp_safety.proofs.EveryMove.{AnyInput, EachStepKeeps, any_events, keeps-move}
+use Rattle.clnp_safety.proofs.Steps.{Keeps, NotGivenIsFine, keeps-put_all_out}
 
-module _ (systems : List SystemState) where
+module _ (laws : StepLaws) (systems : List SystemState) where
   -- the system was configured so at a place before
   record WasConfigured (place : ℕ) (s : SystemState) : Type 0 where
     before : SystemState
@@ -60,23 +55,24 @@ module _ (systems : List SystemState) where
   put_out_by_owner place s configuration (Transmits port target packet) was e own v k = record { world = k; lines = (tt, tt) }
 
   takes_effect_by_owner : (w : World) (place : ℕ) (s : SystemState) (input : Input) → slice_get w.systems place ≡ Some s
-      → AreConfigured w → Keeps AreConfigured ByOwner (takes_effect w place (step s input))
-  takes_effect_by_owner w place s input there k =
+      → AnyInput input → AreConfigured w → Keeps AreConfigured ByOwner (takes_effect w place (step s input))
+  takes_effect_by_owner w place s input there any k =
       let was = k place s there in
       let effect : Effect = step s input in
-      let same = (step_itself s input).configuration in
+      let same = (laws.steps.itself s input).configuration in
       keeps-put_all_out AreConfigured ByOwner effect.after.configuration effect.outputs
       (AllByRecursion-implies (NotesOnly (IsForOwn s)) (λ output. (v : World) → AreConfigured v → Keeps AreConfigured ByOwner (put_out effect.after.configuration v output))
-      (λ output own_output. put_out_by_owner place s effect.after.configuration output was same own_output) effect.outputs (step_is_own s input))
+      (λ output own_output. put_out_by_owner place s effect.after.configuration output was same own_output) effect.outputs (laws.steps.own s input))
       (with_effect w place effect)
       (set_each WasConfigured WasConfigured w.systems place effect.after k (λ other t apart h. h)
       (record { before = was.before; there = was.there; same = same ∙ was.same }))
 
-  each_by_owner : EachStepKeeps AreConfigured ByOwner
-  each_by_owner = record { steps = takes_effect_by_owner; cursor = λ w next k. k; clock = λ w now k. k; fine = fine }
+  each_by_owner : EachStepKeeps AnyInput AreConfigured ByOwner
+  each_by_owner = record { steps = takes_effect_by_owner; frames = λ w at copy e k s. tt; moments = λ now. tt; restarts = tt; cursor = λ w next k. k; clock = λ w now k. k; fine = fine }
 
-unchanged : (w : World) → AreConfigured w.systems w
-unchanged w place s there = record { before = s; there = there; same = refl }
+unchanged : (laws : StepLaws) (w : World) → AreConfigured laws w.systems w
+unchanged laws w place s there = record { before = s; there = there; same = refl }
 
-pub move_by_owner : (plan : Plan) (w : World) (move : Move) → AllByRecursion (IsByOwner w.systems) (after plan w move).lines
-move_by_owner plan w move = (keeps-move (AreConfigured w.systems) (IsByOwner w.systems) (each_by_owner w.systems) plan w move (unchanged w)).lines
+pub move_by_owner : StepLaws → (plan : Plan) (w : World) (move : Move) → AllByRecursion (IsByOwner w.systems) (after plan w move).lines
+move_by_owner laws plan w move =
+    (keeps-move AnyInput (AreConfigured laws w.systems) (IsByOwner w.systems) (each_by_owner laws w.systems) plan (any_events plan.events) w move (unchanged laws w)).lines

@@ -20,35 +20,36 @@ use Rattle.clnp_network.specs.World.{World, after, comes_to, takes_effect, event
 use Rattle.clnp_network.specs.Safe.{AsksFor, IsSend, NoRefusal}
 use Rattle.clnp_plan.specs.declared.note.Note.{Note}
 use Rattle.clnp_safety.specs.Refusal.{LeavesNothing}
+use Rattle.clnp_safety.specs.StepLaws.{StepLaws}
 use Rattle.clnp_safety.proofs.Lines.{quiet_lines_refuse_nothing}
-use Rattle.clnp_machine.proofs.Own.{IsRefusal, refusal_refuses}
+use Rattle.clnp_machine.specs.Told.{IsRefusal}
 use Rattle.clnp_safety.proofs.Asked.{sending, lines_are_quiet}
 
-refused_leaves : (w : World) (place : ℕ) (s : SystemState) (u : unit.Unit) (refused : Option Note) → IsRefusal refused → slice_get w.systems place ≡ Some s
+refused_leaves : StepLaws → (w : World) (place : ℕ) (s : SystemState) (u : unit.Unit) (refused : Option Note) → IsRefusal refused → slice_get w.systems place ≡ Some s
     → ¬ (NoRefusal (takes_effect w place (effect_of (unless_refused refused s u))).lines)
     → LeavesNothing w (takes_effect w place (effect_of (unless_refused refused s u)))
-refused_leaves w place s u None refuses e told = absurd (told (quiet_lines_refuse_nothing (sending w place s u).lines (lines_are_quiet w place s u)))
-refused_leaves w place s u (Some (Refused why value)) refuses e told = record {
+refused_leaves laws w place s u None refuses e told = absurd (told (quiet_lines_refuse_nothing (sending w place s u).lines (lines_are_quiet laws w place s u)))
+refused_leaves laws w place s u (Some (Refused why value)) refuses e told = record {
   world = ap (λ (systems : List SystemState). record w { systems = systems; units = w.units ++ [] }) (slice_set-same w.systems place s e)
       ∙ ap (λ (units : List unit.Unit). record w { units = units }) (append-nil w.units);
   lines = λ from to octets up. up;
 }
-refused_leaves w place s u (Some _) refuses e told = absurd refuses
+refused_leaves laws w place s u (Some _) refuses e told = absurd refuses
 
-send_leaves : (w : World) (place : ℕ) (from to octets : List ℕ) (ask : Ask) (found : Option SystemState) → slice_get w.systems place ≡ found
+send_leaves : StepLaws → (w : World) (place : ℕ) (from to octets : List ℕ) (ask : Ask) (found : Option SystemState) → slice_get w.systems place ≡ found
     → ¬ (NoRefusal (comes_to w place (AsksToSend from to octets ask) found).lines)
     → LeavesNothing w (comes_to w place (AsksToSend from to octets ask) found)
-send_leaves w place from to octets ask None e told = absurd (told tt)
-send_leaves w place from to octets ask (Some s) e told =
-    refused_leaves w place s (unit_of s Dt from to octets ask) (refusal s (unit_of s Dt from to octets ask)) (refusal_refuses s (unit_of s Dt from to octets ask)) e told
+send_leaves laws w place from to octets ask None e told = absurd (told tt)
+send_leaves laws w place from to octets ask (Some s) e told =
+    refused_leaves laws w place s (unit_of s Dt from to octets ask) (refusal s (unit_of s Dt from to octets ask)) (laws.deeds.refused s (unit_of s Dt from to octets ask)) e told
 
-event_leaves : (limits : Limits) (w : World) (asked : Option Event) (from to octets : List ℕ) → AsksFor asked from to octets
+event_leaves : StepLaws → (limits : Limits) (w : World) (asked : Option Event) (from to octets : List ℕ) → AsksFor asked from to octets
     → ¬ (NoRefusal (event_happens limits w asked).lines) → LeavesNothing w (event_happens limits w asked)
-event_leaves limits w (Some (Send system source destination body ask)) from to octets h told =
-    send_leaves w system source destination (octets_of body) ask (slice_get w.systems system) refl told
-event_leaves limits w _ from to octets h told = absurd h
+event_leaves laws limits w (Some (Send system source destination body ask)) from to octets h told =
+    send_leaves laws w system source destination (octets_of body) ask (slice_get w.systems system) refl told
+event_leaves laws limits w _ from to octets h told = absurd h
 
-pub refused_send_leaves : (plan : Plan) (w : World) (move : Move) (from to octets : List ℕ) → IsSend plan move from to octets
+pub refused_send_leaves : StepLaws → (plan : Plan) (w : World) (move : Move) (from to octets : List ℕ) → IsSend plan move from to octets
     → ¬ (NoRefusal (after plan w move).lines) → LeavesNothing w (after plan w move)
-refused_send_leaves plan w (One place) from to octets h told = event_leaves plan.limits w (slice_get plan.events place) from to octets h told
-refused_send_leaves plan w _ from to octets h told = absurd h
+refused_send_leaves laws plan w (One place) from to octets h told = event_leaves laws plan.limits w (slice_get plan.events place) from to octets h told
+refused_send_leaves laws plan w _ from to octets h told = absurd h

@@ -1,6 +1,6 @@
 -- A restarted system is sound: it is quiet as long as an identifier of its units may rest.
 use Rattle.std.proofs.Common.{ℕ, inr, List, [], arith}
-use Rattle.std.specs.List.{AllByRecursion, Contains}
+use Rattle.std.specs.List.{Contains}
 use Rattle.scenario.specs.Scenario.{Plan}
 use Rattle.clnp_machine.specs.Identifiers as ids
 use Rattle.clnp_machine.specs.Identifiers.{Use}

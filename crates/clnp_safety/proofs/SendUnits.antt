@@ -2,9 +2,9 @@
 use Rattle.clnp_base.proofs.Lists.{AllByRecursion-implies}
 use Rattle.std.proofs.Common.{◌≡◌, ℕ, ◌≢◌, inl, inr, List, [], ◌∷◌, ◌++◌, get_or, Option, None, Some, Contains, refl, sym, ap, subst, ◌∙◌, arith}
 use Rattle.std.specs.List.{AllByRecursion}
-use Rattle.std.proofs.lemmas.List.Elements.{All-from_recursion, All-contains, Contains-get_or, Contains-push_cases}
+use Rattle.std.proofs.lemmas.List.Elements.{Contains-get_or, Contains-push_cases}
 use Rattle.std.proofs.lemmas.List.Quantifiers.{all_pairs_push}
-use Rattle.scenario.specs.Scenario.{Plan, IsFit}
+use Rattle.scenario.specs.Scenario.{Plan}
 use Rattle.clnp_machine.specs.Identifiers.{next, not_drawn}
 use Rattle.clnp_machine.specs.Unit as unit
 use Rattle.clnp_machine.specs.Unit.{DeclaredAt}
@@ -12,7 +12,7 @@ use Rattle.clnp_machine.specs.System.{SystemState}
 use Rattle.clnp_machine.specs.Local.{with_use, makes}
 use Rattle.clnp_network.specs.Run.{Entry}
 use Rattle.clnp_network.specs.Safe.{Rests}
-use Rattle.clnp_safety.specs.Invariant.{Owns, UnitIsSound, UnitsAreSound, EachRests, AreUsesUntil, IsInUses, BufferIsSound, SystemIsSound}
+use Rattle.clnp_safety.specs.Invariant.{Owns, UnitsAreSound, EachRests, AreUsesUntil, IsInUses, BufferIsSound, SystemIsSound}
 use Rattle.clnp_safety.proofs.Units.{buffer_later}
 use Rattle.clnp_safety.proofs.Uses.{made_long_ago, uses_after, used_before, used_now}
 

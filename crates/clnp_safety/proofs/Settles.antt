@@ -1,6 +1,6 @@
 -- Settling, delivering and losing copies, and a restart.
 use Rattle.clnp_base.proofs.Lists.{AllByRecursion-slice_get}
-use Rattle.std.proofs.Common.{◌≡◌, ◌≤◌, ℕ, List, ◌+◌, ◌-◌, length, false, refl, sym, subst, arith}
+use Rattle.std.proofs.Common.{◌≡◌, ◌≤◌, ℕ, List, ◌+◌, ◌-◌, false, refl, sym, subst, arith}
 use Rattle.std.specs.Prelude.{slice_get, Option, None, Some}
 use Rattle.scenario.specs.Scenario.{Plan, IsFit}
 use Rattle.clnp_plan.specs.Journal.{Line}
@@ -10,6 +10,7 @@ use Rattle.clnp_machine.specs.Step.{step}
 use Rattle.clnp_network.specs.World.{World, Copy, Numbered, is_late, frame_to, takes_effect, comes, addressees_from, settle_copy, settle_one, deliver, lose_copy, lose_one}
 use Rattle.clnp_network.specs.Run.{Entry}
 use Rattle.clnp_safety.specs.Invariant.{CopyIsSound, NoteIsHonest, SystemIsSound}
+use Rattle.clnp_safety.specs.StepLaws.{StepLaws}
 use Rattle.clnp_safety.proofs.Lines.{LineIs}
 use Rattle.clnp_safety.proofs.Steps.{Keeps, NotGivenIsFine, keeps-map, keeps-nothing, keeps-comes_to, keeps-give_each, keeps-deliver}
 use Rattle.clnp_safety.proofs.Effects.{StaysSound, step_keeps}
@@ -17,7 +18,7 @@ use Rattle.clnp_safety.proofs.Arriving.{comes_young, arrival_is_sound}
 use Rattle.clnp_safety.proofs.Restarting.{restart_is_sound}
 use Rattle.clnp_safety.proofs.Moves.{IsSoundAt}
 
-module _ (plan : Plan) (fit : IsFit plan) (past : List Entry) (now : ℕ) where
+module _ (laws : StepLaws) (plan : Plan) (fit : IsFit plan) (past : List Entry) (now : ℕ) where
   -- what the worlds of a settling keep
   abbrev Sound : World → Type 0
   Sound = IsSoundAt plan past now
@@ -41,9 +42,9 @@ module _ (plan : Plan) (fit : IsFit plan) (past : List Entry) (now : ℕ) where
       → Keeps (StaysSound plan past now Each Each v) Told (takes_effect v place (step s (frame_to s given.copy)))
   taken_is_sound given v place h k s there soon =
       let sound : SystemIsSound plan v.units now place s = k.stands.each place s there in
-      let done = arrival_is_sound plan past v.units now place fit s given.copy.content k.made sound h.carries
+      let done = arrival_is_sound laws plan past v.units now place fit s given.copy.content k.made sound h.carries
       (comes_young plan.limits.age now given.copy.birth given.copy.content h.birth (is_soon given.copy v k.stands.clock soon)) in
-      step_keeps plan past now Each Each v place s (frame_to s given.copy) tt sound.moment (λ other t apart held. held) done.0 done.1 k
+      step_keeps plan past now Each Each laws v place s (frame_to s given.copy) tt sound.moment (λ other t apart held. held) done.0 done.1 k
 
   -- the copy that is settled stays sound too
   abbrev SoundWith : Copy → World → Type 0
@@ -102,5 +103,5 @@ module _ (plan : Plan) (fit : IsFit plan) (past : List Entry) (now : ℕ) where
       (λ s there.
       let sound : SystemIsSound plan w.units now place s = k.stands.each place s there in
       keeps-map (StaysSound plan past now Each Each w) Sound Told (takes_effect w place (step s IsRestarted)) (λ v stays. stays.0)
-      (step_keeps plan past now Each Each w place s IsRestarted tt sound.moment (λ other t apart held. held)
+      (step_keeps plan past now Each Each laws w place s IsRestarted tt sound.moment (λ other t apart held. held)
       (restart_is_sound plan past w.units now place s k.made sound) (tt, tt) k))

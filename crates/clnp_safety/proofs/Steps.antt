@@ -5,7 +5,7 @@ use Rattle.std.specs.Prelude.{if◌then◌else◌, Option, None, Some, slice_get
 use Rattle.clnp_plan.specs.Configuration.{SystemConfiguration}
 use Rattle.clnp_plan.specs.Journal.{Line, Void, Late}
 use Rattle.clnp_plan.specs.declared.config.Limits.{Limits}
-use Rattle.clnp_machine.specs.System.{SystemState, Input, Output, Effect}
+use Rattle.clnp_machine.specs.System.{SystemState, Input, Output}
 use Rattle.clnp_machine.specs.Step.{step}
 use Rattle.clnp_network.specs.World.{World, Copy, Numbered, Step, nothing, writes, followed_by, put_out, put_all_out, takes_effect, comes_to, frame_to, is_late, give_to, give, give_each, is_void, is_addressee, deliver_to, deliver_at, deliver}
 use Rattle.std.specs.List.{AllByRecursion}

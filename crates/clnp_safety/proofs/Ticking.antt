@@ -1,10 +1,10 @@
 -- When a moment comes, the buffers that are due are taken out, and what is left is sound.
 use Rattle.clnp_base.proofs.Filters.{AllByRecursion-filter, filter-fewer}
-use Rattle.clnp_base.proofs.Lists.{AllByRecursion-append, AllByRecursion-implies, AllByRecursion-no_element}
+use Rattle.clnp_base.proofs.Lists.{AllByRecursion-implies, AllByRecursion-no_element}
 use Rattle.clnp_base.proofs.Sums.{sum_filter}
-use Rattle.std.proofs.Common.{◌≡◌, sym, ap, subst, refl, ℕ, zero, suc, ◌+◌, ◌<◌, ◌≤◌, true, false, not, List, [], ◌∷◌, ◌++◌, length, Option, None, Some, arith}
+use Rattle.std.proofs.Common.{◌≡◌, sym, ap, subst, refl, ℕ, zero, suc, ◌+◌, ◌<◌, ◌≤◌, true, false, not, List, ◌∷◌, ◌++◌, length, Option, None, Some, arith}
 use Rattle.std.specs.Prelude.{slice_get}
-use Rattle.std.specs.List.{AllByRecursion, Contains, flat_map}
+use Rattle.std.specs.List.{AllByRecursion, Contains}
 use Rattle.std.proofs.lemmas.List.Elements.{recursion_from_All}
 use Rattle.scenario.specs.Scenario.{Plan}
 use Rattle.reassembly.specs.declared.segment.Key.{Key}
@@ -16,9 +16,9 @@ use Rattle.clnp_machine.specs.Identifiers.{Use}
 use Rattle.clnp_machine.specs.Unit as unit
 use Rattle.clnp_machine.specs.Unit.{DeclaredAt, Packet}
 use Rattle.clnp_machine.specs.System.{SystemState}
-use Rattle.clnp_machine.proofs.Deeds.{given_up_after}
-use Rattle.clnp_machine.specs.Local.{at_moment, expire, give_up_due, gives_up, tick}
+use Rattle.clnp_machine.specs.Local.{at_moment, expire, give_up_due, tick}
 use Rattle.clnp_safety.specs.Invariant.{AreUsesUntil, BufferIsSound, IsInUses, SystemIsSound}
+use Rattle.clnp_safety.specs.StepLaws.{StepLaws}
 
 -- there are fewer without the due one
 without_fewer : (key : Key) (buffers before behind : List (Buffer Packet)) (ended : Buffer Packet) → buffers ≡ before ++ ended ∷ behind → ended.key ≡ key
@@ -27,7 +27,7 @@ without_fewer key buffers before behind ended stands is =
     subst (λ l. length (without key l) < length l) (sym stands)
     (filter-fewer (λ (b : Buffer Packet). not (same_key b.key key)) before ended behind (ap not (subst (λ k. same_key ended.key k ≡ true) is (same_key-refl ended.key))))
 
-module _ (plan : Plan) (units : List unit.Unit) (now place : ℕ) where
+module _ (laws : StepLaws) (plan : Plan) (units : List unit.Unit) (now place : ℕ) where
   -- what is so of the system while buffers are taken out: that which makes it sound, but that some may be due
   record IsExpiring (s : SystemState) : Type 0 where
     stands_at : s.place ≡ place
@@ -81,7 +81,7 @@ module _ (plan : Plan) (units : List unit.Unit) (now place : ℕ) where
       let there = due_is s.moment s.buffers ended e in
       let fewer = without_fewer ended.key s.buffers there.before there.behind ended there.stands_there refl in
       let left : SystemState = record s { buffers = without ended.key s.buffers } in
-      subst (λ (t : SystemState). SystemIsSound plan units now place (expire most t).after) (sym (given_up_after s ended))
+      subst (λ (t : SystemState). SystemIsSound plan units now place (expire most t).after) (sym (laws.deeds.ended s ended))
       (rest left (omega arith) (taken_out s ended.key is))
 
   expire_is_sound : (most : ℕ) (s : SystemState) → length s.buffers ≤ most → IsExpiring s → SystemIsSound plan units now place (expire most s).after
@@ -94,9 +94,9 @@ uses_later before now uses later are = record {
   in_order = are.in_order;
 }
 
-at_moment_is : (plan : Plan) (units : List unit.Unit) (before now place : ℕ) (s : SystemState) → before ≤ now → SystemIsSound plan units before place s
-    → IsExpiring plan units now place (at_moment now s)
-at_moment_is plan units before now place s later sound = record {
+at_moment_is : (laws : StepLaws) (plan : Plan) (units : List unit.Unit) (before now place : ℕ) (s : SystemState) → before ≤ now → SystemIsSound plan units before place s
+    → IsExpiring laws plan units now place (at_moment now s)
+at_moment_is laws plan units before now place s later sound = record {
   stands_at = sound.stands_at;
   declared = sound.declared;
   hold = sound.hold;
@@ -109,7 +109,7 @@ at_moment_is plan units before now place s later sound = record {
   budget = sound.budget;
 }
 
-pub tick_is_sound : (plan : Plan) (units : List unit.Unit) (before now place : ℕ) (s : SystemState) → SystemIsSound plan units before place s → before ≤ now
+pub tick_is_sound : StepLaws → (plan : Plan) (units : List unit.Unit) (before now place : ℕ) (s : SystemState) → SystemIsSound plan units before place s → before ≤ now
     → SystemIsSound plan units now place (tick s now).after
-tick_is_sound plan units before now place s sound later =
-    expire_is_sound plan units now place (length s.buffers) (at_moment now s) (omega arith) (at_moment_is plan units before now place s later sound)
+tick_is_sound laws plan units before now place s sound later =
+    expire_is_sound laws plan units now place (length s.buffers) (at_moment now s) (omega arith) (at_moment_is laws plan units before now place s later sound)

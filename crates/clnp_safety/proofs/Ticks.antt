@@ -8,12 +8,13 @@ use Rattle.scenario.specs.Scenario.{Plan}
 use Rattle.clnp_plan.specs.Journal.{Line}
 use Rattle.clnp_machine.specs.Unit as unit
 use Rattle.clnp_machine.specs.System.{SystemState, MomentComes}
-use Rattle.clnp_machine.specs.Local.{Action, Sends, Tells, at_moment, tick}
+use Rattle.clnp_machine.specs.Local.{Action, Sends, Tells, tick}
 use Rattle.clnp_machine.specs.Step.{step}
-use Rattle.clnp_machine.proofs.Own.{NoteIsQuiet, TellsOnly, expiry_is_quiet}
+use Rattle.clnp_machine.specs.Told.{NoteIsQuiet, TellsOnly}
 use Rattle.clnp_network.specs.Run.{Entry}
 use Rattle.clnp_network.specs.World.{World, comes, takes_effect, tick_each, tick_one}
 use Rattle.clnp_safety.specs.Invariant.{NoteIsHonest, SystemIsSound}
+use Rattle.clnp_safety.specs.StepLaws.{StepLaws}
 use Rattle.clnp_safety.proofs.Past.{units_stay}
 use Rattle.clnp_safety.proofs.Lines.{LineIs, quiet_is_honest}
 use Rattle.clnp_safety.proofs.Steps.{Keeps, keeps-map, keeps-nothing, keeps-followed_by, keeps-comes_to}
@@ -25,12 +26,12 @@ quiet_action : (plan : Plan) (past : List Entry) (action : Action) → TellsOnly
 quiet_action plan past (Tells told) h = quiet_is_honest plan past told h
 quiet_action plan past (Sends u) h = tt
 
-tick_is_honest : (plan : Plan) (past : List Entry) (s : SystemState) (now : ℕ) → AllByRecursion (TellsOnly (NoteIsHonest plan past)) (tick s now).actions
-tick_is_honest plan past s now =
+tick_is_honest : StepLaws → (plan : Plan) (past : List Entry) (s : SystemState) (now : ℕ) → AllByRecursion (TellsOnly (NoteIsHonest plan past)) (tick s now).actions
+tick_is_honest laws plan past s now =
     AllByRecursion-implies (TellsOnly NoteIsQuiet) (TellsOnly (NoteIsHonest plan past)) (quiet_action plan past) (tick s now).actions
-    (expiry_is_quiet (length s.buffers) (at_moment now s))
+    (laws.deeds.tick s now)
 
-module _ (plan : Plan) (past : List Entry) (before now : ℕ) (later : before ≤ now) where
+module _ (laws : StepLaws) (plan : Plan) (past : List Entry) (before now : ℕ) (later : before ≤ now) where
   -- the moment has come to the systems before a place, and to none from there on
   record HasCome (next : ℕ) (units : List unit.Unit) (place : ℕ) (s : SystemState) : Type 0 where
     come : place < next → SystemIsSound plan units now place s
@@ -51,12 +52,12 @@ module _ (plan : Plan) (past : List Entry) (before now : ℕ) (later : before �
       (λ s there.
       let sound : SystemIsSound plan w.units now place (tick s w.clock).after =
       subst (λ n. SystemIsSound plan w.units now place (tick s n).after) (sym k.stands.clock)
-      (tick_is_sound plan w.units before now place s ((k.stands.each place s there).yet (omega arith)) later) in
+      (tick_is_sound laws plan w.units before now place s ((k.stands.each place s there).yet (omega arith)) later) in
       keeps-map (StaysSound plan past now (HasCome place) (HasCome (place + 1)) w) (HasComeTo (place + 1)) Told (takes_effect w place (step s (MomentComes w.clock)))
       (λ v stays. stays.0)
-      (step_keeps plan past now (HasCome place) (HasCome (place + 1)) w place s (MomentComes w.clock) tt k.stands.clock
+      (step_keeps plan past now (HasCome place) (HasCome (place + 1)) laws w place s (MomentComes w.clock) tt k.stands.clock
       (λ other t apart h. record { come = λ l. h.come (omega arith); yet = λ l. h.yet (omega arith) })
-      (record { come = λ l. sound; yet = λ l. absurd (omega arith) }) (tick_is_honest plan past s w.clock) k))
+      (record { come = λ l. sound; yet = λ l. absurd (omega arith) }) (tick_is_honest laws plan past s w.clock) k))
 
   each_ticks : (count place : ℕ) → length plan.systems ≡ place + count → (w : World) → HasComeTo place w
       → Keeps (IsSoundAt plan past now) Told (tick_each w (range_with_len place count))
@@ -79,10 +80,10 @@ module _ (plan : Plan) (past : List Entry) (before now : ℕ) (later : before �
       keeps-followed_by (IsSoundAt plan past now) Told (HasComeTo (place + 1)) (comes w place (MomentComes w.clock)) (λ v. tick_each v (range_with_len (place + 1) count))
       (system_ticks w place k (omega arith)) (each_ticks count (place + 1) (omega arith))
 
-pub tick_one_is_sound : (plan : Plan) (past : List Entry) (w : World) → IsSoundAt plan past w.clock w
+pub tick_one_is_sound : StepLaws → (plan : Plan) (past : List Entry) (w : World) → IsSoundAt plan past w.clock w
     → Keeps (IsSoundAt plan past (w.clock + 1)) (LineIs (NoteIsHonest plan past)) (tick_one w)
-tick_one_is_sound plan past w k =
-    each_ticks plan past w.clock (w.clock + 1) (omega arith) (length w.systems) 0 (let number = k.stands.number in omega arith)
+tick_one_is_sound laws plan past w k =
+    each_ticks laws plan past w.clock (w.clock + 1) (omega arith) (length w.systems) 0 (let number = k.stands.number in omega arith)
     (record w { clock = w.clock + 1 })
     (record {
       made = units_stay plan past w.clock (w.clock + 1) w.units (omega arith) k.made;

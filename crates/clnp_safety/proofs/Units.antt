@@ -1,9 +1,7 @@
 -- Units that were made: who made them, how long an identifier rests, and what stays sound while more are made.
 use Rattle.clnp_base.proofs.Lists.{pair_across, pair_cases, pairs_behind}
 use Rattle.clnp_base.proofs.Lists.{AllByRecursion-implies}
-use Rattle.std.proofs.Common.{◌≡◌, ℕ, zero, suc, ◌+◌, ◌<◌, ◌≤◌, ◌≢◌, ◌⊎◌, inl, inr, List, [], ◌∷◌, ◌++◌, length, get_or, Some, slice_get, AllPairs, Contains, flat_map, refl, sym, ap, subst, ◌∙◌, arith, length-append}
-use Rattle.std.proofs.lemmas.Bool.{cases_order}
-use Rattle.std.proofs.lemmas.List.{get_or_default, get_or_append_left, get_or-append-add}
+use Rattle.std.proofs.Common.{◌≡◌, ℕ, zero, suc, ◌+◌, ◌≤◌, ◌≢◌, ◌⊎◌, inl, inr, List, [], ◌∷◌, ◌++◌, Some, slice_get, Contains, flat_map, refl, sym, ap, subst}
 use Rattle.std.proofs.lemmas.List.Elements.{Contains-append_left, Contains-append_right}
 use Rattle.reassembly.specs.Arrival.{Arrival}
 use Rattle.reassembly.specs.Buffer.{Buffer}
@@ -75,6 +73,15 @@ module _ (units more : List unit.Unit) where
   pub packet_later : (p : Packet) → IsRangeOf units p → IsRangeOf (units ++ more) p
   packet_later p h = record {
     unit = Contains-append_left units more p.unit h.unit;
+    options = h.options;
+    lifetime = h.lifetime;
+    within = h.within;
+    whole = h.whole;
+  }
+
+  pub packet_of_more : (p : Packet) → IsRangeOf more p → IsRangeOf (units ++ more) p
+  packet_of_more p h = record {
+    unit = Contains-append_right units more p.unit h.unit;
     options = h.options;
     lifetime = h.lifetime;
     within = h.within;

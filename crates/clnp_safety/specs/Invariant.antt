@@ -1,5 +1,5 @@
 -- What holds of each network of a run, beside the entries before it and the units that were made in them.
-use Rattle.std.specs.Prelude.{◌≡◌, ℕ, ◌+◌, ◌≤◌, ◌<◌, ◌⊎◌, false, List, [], length, slice_get, None, Some, AllPairs}
+use Rattle.std.specs.Prelude.{◌≡◌, ℕ, ◌+◌, ◌≤◌, ◌<◌, ◌⊎◌, false, List, [], length, slice_get, Some, AllPairs}
 use Rattle.std.specs.List.{AllByRecursion, Contains}
 use Rattle.scenario.specs.Scenario.{Plan}
 use Rattle.clnp_plan.specs.Configuration.{SystemConfiguration}

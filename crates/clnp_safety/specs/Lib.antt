@@ -3,3 +3,4 @@ pub mod Growth
 pub mod Refusal
 pub mod Owners
 pub mod Outputs
+pub mod StepLaws

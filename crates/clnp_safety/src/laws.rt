@@ -5,10 +5,13 @@ ghost use Rattle.scenario.specs.Scenario.{Plan, IsFit};
 ghost use Rattle.scenario.specs.declared.event.Move.{Move};
 ghost use Rattle.clnp_network.specs.World.{World, after, first_world};
 ghost use Rattle.clnp_network.specs.Run.{Entry, entries_of, full_weight, run, text_of, until_full, world_after};
-ghost use Rattle.clnp_network.specs.Safe.{CarriesRanges, EachWasSent, HoldsUnitsApart, IdentifiersRest, IsHonest, IsSend, NoRefusal, IsWithinBudgets, IsWithinLifetimes, NoInterference, NoneIsAlien};
+ghost use Rattle.clnp_network.specs.Safe.{CarriesRanges, EachWasSent, FramesAreUnbroken, HoldsUnitsApart, IdentifiersRest, IsHonest, IsSend, NoRefusal, IsWithinBudgets, IsWithinLifetimes, NoInterference, NoneIsAlien, TellsNoRule};
 ghost use Rattle.clnp_safety.specs.Growth.{IsFront, IsFullAt, IsWithinCopies};
 ghost use Rattle.clnp_safety.specs.Owners.{IsByOwner};
 ghost use Rattle.clnp_safety.specs.Refusal.{LeavesNothing};
+ghost use Rattle.clnp_safety.specs.StepLaws.{StepLaws};
+
+use clnp_machine::laws as machine;
 
 /// A run hands up only what it sent before: from the same source to the same destination, with the
 /// same octets, and not refused. So does each series of moves, in whatever order they come: copies that
@@ -16,49 +19,81 @@ ghost use Rattle.clnp_safety.specs.Refusal.{LeavesNothing};
 pub fn handed_up_was_sent()
     ensures run { (plan : Plan) → IsFit plan → IsHonest plan (run plan) }
     ensures moves { (plan : Plan) → IsFit plan → (moves : List Move) → EachWasSent plan [] (entries_of plan (first_world plan) moves) }
-{}
+{
+    laws_of_steps();
+}
 
 /// No segment of a unit ever meets one of another unit in a reassembly buffer, since a data unit
 /// identifier rests until none of its unit can be on its way (ISO 8473, section 6.8).
 pub fn no_unit_meets_another()
     ensures { (plan : Plan) → IsFit plan → (moves : List Move)
         → AllByRecursion (λ (entry : Entry). NoInterference entry.lines) (entries_of plan (first_world plan) moves) }
-{}
+{
+    laws_of_steps();
+}
 
 /// Each frame of a run carries a range of a unit that was made, however often it was cut, and
 /// nothing behind its PDU.
 pub fn ranges_of_units_are_carried()
     ensures { (plan : Plan) → IsFit plan → (moves : List Move) → CarriesRanges (world_after plan (first_world plan) moves) }
-{}
+{
+    laws_of_steps();
+}
+
+/// Each frame of a run breaks no rule of PDUs: it begins with 0x81, and none of the rules refuses it.
+pub fn no_frame_breaks_a_rule()
+    ensures { (plan : Plan) → IsFit plan → (moves : List Move)
+        → FramesAreUnbroken (world_after plan (first_world plan) moves) }
+{
+    laws_of_steps();
+}
+
+/// No line of a run says that a frame was discarded for a rule of PDUs.
+pub fn no_frame_is_refused()
+    ensures { (plan : Plan) → IsFit plan → (moves : List Move)
+        → AllByRecursion (λ (entry : Entry). AllByRecursion TellsNoRule entry.lines) (entries_of plan (first_world plan) moves) }
+{
+    laws_of_steps();
+}
 
 /// No frame of a run belongs to no protocol, and no line says so.
 pub fn no_frame_is_alien()
     ensures { (plan : Plan) → IsFit plan → (moves : List Move)
         → AllByRecursion (λ (entry : Entry). NoneIsAlien entry.lines) (entries_of plan (first_world plan) moves) }
-{}
+{
+    laws_of_steps();
+}
 
 /// Each reassembly buffer of a run holds segments of one unit that was made.
 pub fn units_are_held_apart()
     ensures { (plan : Plan) → IsFit plan → (moves : List Move) → HoldsUnitsApart (world_after plan (first_world plan) moves) }
-{}
+{
+    laws_of_steps();
+}
 
 /// Two units that one system made with one identifier were made at least so long apart as an
 /// identifier rests.
 pub fn identifiers_rest()
     ensures { (plan : Plan) → IsFit plan → (moves : List Move) → IdentifiersRest plan.limits.reuse (world_after plan (first_world plan) moves) }
-{}
+{
+    laws_of_steps();
+}
 
 /// No system ever holds more octets for reassembly than its budget, whatever the moves of whatever
 /// plan.
 pub fn budgets_are_kept()
     ensures { (plan : Plan) (moves : List Move) → IsWithinBudgets (world_after plan (first_world plan) moves) }
-{}
+{
+    laws_of_steps();
+}
 
 /// No PDU is forwarded more often than its lifetime allowed: hops and lifetime of each packet are
 /// together at most the lifetime of its unit, whatever the moves of whatever plan.
 pub fn hops_are_within_lifetimes()
     ensures { (plan : Plan) (moves : List Move) → IsWithinLifetimes (world_after plan (first_world plan) moves) }
-{}
+{
+    laws_of_steps();
+}
 
 /// The copies of a world stay, in their order, and no more of them are settled than there are.
 pub fn copies_only_grow()
@@ -70,13 +105,17 @@ pub fn copies_only_grow()
 pub fn refused_leaves_nothing()
     ensures { (plan : Plan) (w : World) (move : Move) (from to octets : List ℕ) → IsSend plan move from to octets
         → ¬ (NoRefusal (after plan w move).lines) → LeavesNothing w (after plan w move) }
-{}
+{
+    laws_of_steps();
+}
 
 /// A unit is handed up only by a system that has its destination among its addresses, whatever the
 /// move: a line that says so has the name of one.
 pub fn only_owners_hand_up()
     ensures { (plan : Plan) (w : World) (move : Move) → AllByRecursion (IsByOwner w.systems) (after plan w move).lines }
-{}
+{
+    laws_of_steps();
+}
 
 /// The moves that are made are the first of the scenario's: all of them, or those up to the first at
 /// which the network is full.
@@ -91,3 +130,22 @@ pub fn moves_are_made_until_full()
 pub fn text_only_grows()
     ensures { (plan : Plan) (w : World) (moves later : List Move) → IsFront moves later → IsFront (text_of plan w moves) (text_of plan w later) }
 {}
+
+/// What the machine's laws say of each step of a system.
+fn laws_of_steps()
+    ensures { StepLaws }
+{
+    machine::a_system_stays_itself();
+    machine::deeds_are_of_their_moment();
+    machine::new_units_are_fresh();
+    machine::ranges_of_units_are_sent();
+    machine::what_is_sent_is_carriable();
+    machine::rules_are_noted_of_octets_alone();
+    machine::only_owners_hand_up();
+    machine::budgets_are_kept();
+    machine::units_are_made_where_allowed();
+    machine::what_is_noted_was_told();
+    machine::ended_buffers_are_taken_out();
+    machine::a_segment_is_kept_in_its_buffer();
+    machine::carriable_packets_break_no_rule();
+}

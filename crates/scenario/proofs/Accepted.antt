@@ -9,7 +9,7 @@ use Rattle.clnp_base.specs.Text.{lines_of, words_of}
 use Rattle.clnp_plan.specs.Configuration.{SystemConfiguration, IsSystem}
 use Rattle.clnp_plan.specs.declared.config.Limits.{Limits}
 use Rattle.clnp_plan.specs.declared.config.Role.TheVariants.{Host}
-use Rattle.scenario.specs.Scenario.{Plan, Subnetwork, IsFit, AsksFairly, IsPlaced, ticks_of}
+use Rattle.scenario.specs.Scenario.{Plan, Subnetwork, IsFit, AsksFairly, AsksInForm, IsPlaced, ticks_of}
 use Rattle.scenario.specs.Words.{is_skipped}
 use Rattle.scenario.specs.Declarations.{Declarations, DeclaredSystem, nothing_declared, limits_of, snpas_on, host_of}
 use Rattle.scenario.specs.Events.{event_line, counted, are_few, nothing_counted}
@@ -18,7 +18,8 @@ use Rattle.scenario.specs.declared.counts.Counts.{Counts}
 use Rattle.scenario.specs.declared.event.Event.{Event}
 use Rattle.scenario.proofs.Behind.{behind_result, behind_wanted, behind_such, behind_line_such, either_way}
 use Rattle.scenario.proofs.Apart.{addresses_of, distinct_of, host_addresses}
-use Rattle.scenario.proofs.Asks.{SpellsWhatItAccepts, event_fair}
+use Rattle.scenario.proofs.Asks.{event_fair}
+use Rattle.scenario.proofs.Forms.{Laws, event_formed}
 use Rattle.scenario.proofs.Placed.{AreAmong, event_placed}
 use Rattle.scenario.proofs.Kept.{host_snpas, hosts_on}
 use Rattle.scenario.proofs.Lists.{host_names}
@@ -34,41 +35,45 @@ few_ticks counts h =
 record IsCounted (names : List (List ℕ)) (counts : Counts) (event : Event) : Type 0 where
   pub few : are_few (counted counts event) ≡ true
   pub fair : AsksFairly event
+  pub formed : AsksInForm event
   pub placed : AreAmong names event
 
 both : {A E : Type 0} (r : Result A E) (P Q : A → Type 0) → IfOk r P → IfOk r Q → IfOk r (λ x. P x × Q x)
 both (Ok x) P Q p q = (p, q)
 both (Err e) P Q p q = tt
 
-event_fit : SpellsWhatItAccepts → (names : List (List ℕ)) (systems : List SystemConfiguration) (counts : Counts) (words : List (List ℕ))
+event_fit : Laws → (names : List (List ℕ)) (systems : List SystemConfiguration) → AllByRecursion IsSystem systems → (counts : Counts) (words : List (List ℕ))
     → IfOk (counted_event names systems counts words) (IsCounted names counts)
 unfolding counted_event
-event_fit law names systems counts words =
-    behind_such (event_line names systems words) _ (λ event. AsksFairly event × AreAmong names event) (IsCounted names counts)
-    (both (event_line names systems words) AsksFairly (AreAmong names) (event_fair law names systems words) (event_placed names systems words)) (λ event is.
-    behind_wanted (are_few (counted counts event)) _ _ (IsCounted names counts) (λ few. record { few = few; fair = is.0; placed = is.1 }))
+event_fit laws names systems are counts words =
+    behind_such (event_line names systems words) _ (λ event. AsksFairly event × (AsksInForm event × AreAmong names event)) (IsCounted names counts)
+    (both (event_line names systems words) AsksFairly (λ event. AsksInForm event × AreAmong names event) (event_fair laws.options names systems words)
+    (both (event_line names systems words) AsksInForm (AreAmong names) (event_formed laws names systems words are) (event_placed names systems words))) (λ event is.
+    behind_wanted (are_few (counted counts event)) _ _ (IsCounted names counts) (λ few. record { few = few; fair = is.0; formed = is.1.0; placed = is.1.1 }))
 
 -- events behind so many ticks
 record AreCounted (names : List (List ℕ)) (before : ℕ) (events : List Event) : Type 0 where
   pub ticks : before + sum (map ticks_of events) ≤ 1000000
   pub fair : AllByRecursion AsksFairly events
+  pub formed : AllByRecursion AsksInForm events
   pub placed : AllByRecursion (AreAmong names) events
 
-events_fit : SpellsWhatItAccepts → (names : List (List ℕ)) (systems : List SystemConfiguration) (n : ℕ) (counts : Counts) (lines : List (List ℕ))
+events_fit : Laws → (names : List (List ℕ)) (systems : List SystemConfiguration) → AllByRecursion IsSystem systems → (n : ℕ) (counts : Counts) (lines : List (List ℕ))
     → counts.ticks ≤ 1000000 → IfOk (events_from names systems n counts lines) (AreCounted names counts.ticks)
 unfolding events_from
-events_fit law names systems n counts [] h = tt
-events_fit law names systems n counts (line ∷ lines) h =
-    either_way (is_skipped line) _ _ (AreCounted names counts.ticks) (events_fit law names systems (n + 1) counts lines h)
+events_fit laws names systems are n counts [] h = tt
+events_fit laws names systems are n counts (line ∷ lines) h =
+    either_way (is_skipped line) _ _ (AreCounted names counts.ticks) (events_fit laws names systems are (n + 1) counts lines h)
     (either_way (is_line_of (codes "end") (words_of line)) _ _ (AreCounted names counts.ticks)
-    (behind_result (nothing_after (n + 1) lines) _ (AreCounted names counts.ticks) (λ _ _. record { ticks = omega (arith, h); fair = tt; placed = tt }))
+    (behind_result (nothing_after (n + 1) lines) _ (AreCounted names counts.ticks) (λ _ _. record { ticks = omega (arith, h); fair = tt; formed = tt; placed = tt }))
     (behind_line_such n (counted_event names systems counts (words_of line)) _ (IsCounted names counts) (AreCounted names counts.ticks)
-    (event_fit law names systems counts (words_of line)) (λ event first.
+    (event_fit laws names systems are counts (words_of line)) (λ event first.
     behind_such (events_from names systems (n + 1) (counted counts event) lines) _ (AreCounted names (counts.ticks + ticks_of event)) (AreCounted names counts.ticks)
-    (events_fit law names systems (n + 1) (counted counts event) lines (few_ticks (counted counts event) first.few)) (λ others rest.
+    (events_fit laws names systems are (n + 1) (counted counts event) lines (few_ticks (counted counts event) first.few)) (λ others rest.
     record {
       ticks = rw (sum_by-cons (λ x. x) (ticks_of event) (map ticks_of others)) (omega (arith, rest.ticks));
       fair = (first.fair, rest.fair);
+      formed = (first.formed, rest.formed);
       placed = (first.placed, rest.placed);
     }))))
 
@@ -76,16 +81,16 @@ all_hosts : (systems : List DeclaredSystem) → AllByRecursion (λ (system : Sys
 all_hosts [] = tt
 all_hosts (system ∷ systems) = (refl, all_hosts systems)
 
-plan_fit : SpellsWhatItAccepts → (lines : List (List ℕ)) → IfOk (plan_at lines) IsFit
+plan_fit : Laws → (lines : List (List ℕ)) → IfOk (plan_at lines) IsFit
 unfolding plan_at
-plan_fit law lines =
+plan_fit laws lines =
     behind_result (header_from 1 lines) _ IsFit (λ header _.
     behind_such (declarations_from header.number nothing_declared header.lines) _ AreDeclared IsFit
     (declarations_fit header.number nothing_declared header.lines nothing_fit) (λ declared fits.
     let systems : List SystemConfiguration = map host_of declared.value.systems in
     let names : List (List ℕ) = map (λ (system : DeclaredSystem). system.name) declared.value.systems in
     behind_such (events_from names systems declared.number nothing_counted declared.lines) _ (AreCounted names 0) IsFit
-    (events_fit law names systems declared.number nothing_counted declared.lines (omega arith)) (λ events counted.
+    (events_fit laws names systems (hosts_fit declared fits) declared.number nothing_counted declared.lines (omega arith)) (λ events counted.
     record {
       limits = fits.fit.limits;
       systems = hosts_fit declared fits;
@@ -93,6 +98,7 @@ plan_fit law lines =
       addresses = rw (host_addresses declared.value.systems) (distinct_of (addresses_of declared.value.systems) fits.fit.addresses);
       ticks = omega (arith, counted.ticks);
       asks = counted.fair;
+      formed = counted.formed;
       subnet_names = distinct_of (map (λ (subnet : Subnetwork). subnet.name) declared.value.subnets) fits.fit.subnet_names;
       system_names = rw (host_names declared.value.systems) (distinct_of names fits.fit.system_names);
       few_subnets = fits.fit.few_subnets;
@@ -104,8 +110,8 @@ plan_fit law lines =
           (length-map declared.value.systems (λ (system : DeclaredSystem). system.name) ∙ sym (length-map declared.value.systems host_of)) counted.placed;
     })))
 
-pub accepted : SpellsWhatItAccepts → (text : List ℕ) (plan : Plan) → plan_of text ≡ Ok plan → IsFit plan
-accepted law text plan e = IfOk-at_ok IsFit e (plan_fit law (lines_of text))
+pub accepted : Laws → (text : List ℕ) (plan : Plan) → plan_of text ≡ Ok plan → IsFit plan
+accepted laws text plan e = IfOk-at_ok IsFit e (plan_fit laws (lines_of text))
 
 -- the systems that were declared up to `events` are what each host must be
 pub declared_hosts : (n : ℕ) (lines : List (List ℕ)) (d : Declarations) (number : ℕ) (others : List (List ℕ))

@@ -7,4 +7,5 @@ pub mod Kept
 pub mod Placed
 pub mod Fit
 pub mod Asks
+pub mod Forms
 pub mod Accepted

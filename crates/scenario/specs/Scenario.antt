@@ -3,6 +3,7 @@ use Rattle.std.specs.Prelude.{◌≡◌, ℕ, false, ◌+◌, ◌/◌, ◌%◌, 
 use Rattle.std.specs.List.{AllByRecursion, flat_map, range_with_len}
 use Rattle.clnp_options.specs.Grammar.{FitsKind}
 use Rattle.clnp_options.specs.Parameter.{parameters}
+use Rattle.clnp_plan.specs.Asking.{IsFormedAsk}
 use Rattle.clnp_plan.specs.Configuration.{SystemConfiguration, AreDistinct, AreLimits, IsSystem, IsWithin}
 use Rattle.clnp_plan.specs.declared.config.Limits.{Limits}
 use Rattle.clnp_plan.specs.declared.config.PortConfig.{PortConfig}
@@ -55,6 +56,11 @@ abbrev pub AsksFairly : Event → Type 0
 AsksFairly (Send system from to body ask) = FitsKind false (parameters ask.options)
 AsksFairly _ = Unit {0}
 
+-- an event that asks for a data unit asks for one that is formed as it should be
+abbrev pub AsksInForm : Event → Type 0
+AsksInForm (Send system from to body ask) = IsFormedAsk from to ask
+AsksInForm _ = Unit {0}
+
 -- each system that an event names is one of so many
 abbrev pub IsPlaced : ℕ → Event → Type 0
 IsPlaced systems (Send system from to body ask) = system < systems
@@ -89,4 +95,5 @@ pub record IsFit (plan : Plan) : Type 0 where
   pub addresses : AreDistinct (flat_map (λ system. system.addresses) plan.systems)
   pub ticks : sum (map ticks_of plan.events) ≤ 1000000
   pub asks : AllByRecursion AsksFairly plan.events
+  pub formed : AllByRecursion AsksInForm plan.events
   pub places : AllByRecursion (IsPlaced (length plan.systems)) plan.events

@@ -7,9 +7,11 @@ ghost use Rattle.scenario.specs.Scenario.{IsFit, Plan};
 /// What the grammar accepts is fit to be run: its limits, settings and numbers are in their ranges,
 /// each host has an address and a port, no name, address or SNPA on a subnetwork stands twice, each
 /// port is on a declared subnetwork and has its MTU, events name declared systems, few ticks pass,
-/// and no unit is asked to have an option that an error report alone may have.
+/// each unit is asked for between addresses, with a lifetime that an octet holds and options in their
+/// form, and none with an option that an error report alone may have.
 pub fn accepted_is_fit()
     ensures { (text : List ℕ) (plan : Plan) → plan_of text ≡ Ok plan → IsFit plan }
 {
     clnp_options::laws::spelled_where_no_rule_is_broken();
+    nsap::laws::read_is_address();
 }

@@ -3,3 +3,5 @@ pub mod Outputs
 pub mod Arrivals
 pub mod Hops
 pub mod Discards
+pub mod Receipt
+pub mod Packets

@@ -98,3 +98,18 @@ fresh_of s (Sends u ∷ actions) all = ((all.0.made, all.0.first_position), fres
 -- what a deed sends was made at its moment
 pub deed_is_fresh : (s : SystemState) (deed : Deed) → IsDeed s deed → AllByRecursion (IsFresh s.moment) deed.actions
 deed_is_fresh s deed h = fresh_of s deed.actions h.fresh
+
+-- what has ended by an earlier moment has ended now where this is the same moment
+pub parts_now : (before : ℕ) (here : SystemEntityState) (t : SystemState) → t.moment ≡ before → PartsStandSince before here t → PartsStand here t
+parts_now before here t same h = subst (λ (m : ℕ). PartsStandSince m here t) (sym same) h
+
+-- at a later moment nothing is forgotten yet
+pub parts_later : (here : SystemEntityState) (s : SystemState) (now : ℕ) → here.moment ≤ now → PartsStand here s
+    → PartsStandSince s.moment (record here { moment = now }) (machine.at_moment now s)
+parts_later here s now later h =
+    record {
+      local = local_same here.local s (machine.at_moment now s) (keeps_moment s now) h.local;
+      esis = esis_same s.moment here.esis s (machine.at_moment now s) refl refl refl refl h.esis;
+      moment = refl;
+      since = subst (λ (m : ℕ). m ≤ now) h.moment later;
+    }

@@ -11,7 +11,7 @@ ghost use Rattle.clnp_machine.specs.Content.{Content, IsCarried, Labelled, frame
 ghost use Rattle.clnp_machine.specs.Given.{Appends};
 ghost use Rattle.clnp_machine.specs.Local as machine;
 ghost use Rattle.clnp_machine.specs.Local.{is_own};
-ghost use Rattle.clnp_machine.specs.Step.{content_comes, effect_of, moment_comes, outputs_of};
+ghost use Rattle.clnp_machine.specs.Step.{content_comes, effect_of, moment_comes, outputs_of, responds};
 ghost use Rattle.clnp_machine.specs.System.{SystemState, next_number};
 ghost use Rattle.clnp_machine.specs.Unit.{IsCarriable, Packet, wire};
 ghost use Rattle.local_entity.specs.Local.{DoAll, Does, IsWhy};
@@ -168,11 +168,23 @@ impl SystemEntity {
         self.local
             .receive(alloc, self.moment, frame, &mut actions)?;
         self.give_out(actions, &mut outputs)?;
-        if group && self.local.config().role() == Role::Host {
-            self.esis.tell(self.local.config(), place, &mut outputs)?;
-        }
+        self.respond(place, group, &mut outputs)?;
         out.append(&mut outputs)?;
         Ok(())
+    }
+
+    /// A host that was asked for through a group tells the sender of itself (ISO 9542, section 6.6).
+    fn respond(&self, place: Place, group: bool, out: &mut Vec<Output>) -> Result<(), NoMemory>
+        ensures { OnOk result ((s : SystemState) (p : Packet) → PartsStand self.now s → (p.lifetime == 0) ≡ false
+            → is_own s p.unit.destination ≡ true → Appends s.moment out.old.items out.new.items (responds s place group p).outputs) }
+    {
+        if !group {
+            return Ok(());
+        }
+        match self.local.config().role() {
+            Role::Host => self.esis.tell(self.local.config(), place, out),
+            Role::Router => Ok(()),
+        }
     }
 
     /// A frame comes that doesn't begin as a CLNP PDU: an ES-IS PDU is heard, and what breaks one of its rules or is of neither
@@ -335,6 +347,13 @@ impl SystemEntity {
 pub(super) fn has_content(frame: &Frame)
     ensures { (content : Content) × IsCarried content × (frame_of content ≡ frame.now) }
 {
+    octets_have_content(frame.bytes());
+}
+
+/// All octets have a content.
+fn octets_have_content(octets: &[u8])
+    ensures { (content : Content) × IsCarried content × (frame_of content ≡ octets.now) }
+{
     laws::octets_have_a_content();
-    let _octets = frame.bytes();
+    let _len = octets.len();
 }

@@ -3,7 +3,7 @@ use Rattle.std.specs.List.{AllByRecursion}
 use Rattle.scenario.specs.declared.event.Move.{Move}
 use Rattle.clnp_network.specs.World.{first_world}
 use Rattle.clnp_network.specs.Run.{moves_made, run, world_after}
-use Rattle.clnp_network.specs.Safe.{CarriesRanges, HoldsUnitsApart, IdentifiersRest, IsHonest, IsWithinBudgets, IsWithinLifetimes, NoInterference, NoneIsAlien}
+use Rattle.clnp_network.specs.Safe.{CarriesRanges, FramesAreUnbroken, HoldsUnitsApart, IdentifiersRest, IsHonest, IsWithinBudgets, IsWithinLifetimes, NoInterference, NoneIsAlien, TellsNoRule}
 use Rattle.clnp_commands.proofs.Fit.{of_fit}
 use Rattle.clnp_commands.proofs.top.every_run_is_safe.Goals as goal
 
@@ -34,6 +34,16 @@ pub returns-clause-rest : goal.returns-clause-rest
 returns-clause-rest c =
     of_fit (λ plan. (moves : List Move) → IdentifiersRest plan.limits.reuse (world_after plan (first_world plan) moves)) c.accepted_is_fit.ensures
     c.identifiers_rest.ensures
+
+pub returns-clause-unbroken : goal.returns-clause-unbroken
+returns-clause-unbroken c =
+    of_fit (λ plan. (moves : List Move) → FramesAreUnbroken (world_after plan (first_world plan) moves)) c.accepted_is_fit.ensures
+    c.no_frame_breaks_a_rule.ensures
+
+pub returns-clause-unrefused : goal.returns-clause-unrefused
+returns-clause-unrefused c =
+    of_fit (λ plan. AllByRecursion (λ entry. AllByRecursion TellsNoRule entry.lines) (run plan)) c.accepted_is_fit.ensures
+    (λ plan fit. c.no_frame_is_refused.ensures plan fit (moves_made plan))
 
 pub returns-clause-known : goal.returns-clause-known
 returns-clause-known c =

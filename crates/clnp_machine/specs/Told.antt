@@ -1,0 +1,79 @@
+-- What a system tells of in what it does, and when it makes a unit.
+use Rattle.std.specs.Prelude.{◌≡◌, ◌≢◌, ℕ, ◌≤◌, ◌⊎◌, true, List, [], ◌∷◌, ◌++◌, length, Option, None, Some}
+use Rattle.std.specs.List.{AllByRecursion, Contains}
+use Rattle.pdu_header.specs.Table.{table}
+use Rattle.reassembly.specs.declared.table.TableLimits.{TableLimits}
+use Rattle.reassembly.specs.Arrival.{Arrival, same_key}
+use Rattle.reassembly.specs.Buffer.{Answer, Buffer, Interference, opened_by}
+use Rattle.clnp_plan.specs.declared.note.Note.{Note}
+use Rattle.clnp_plan.specs.declared.note.Note.TheVariants as note
+use Rattle.clnp_machine.specs.Unit.{Packet, Unit as DataUnit}
+use Rattle.clnp_machine.specs.Content.{Unlabelled}
+use Rattle.clnp_machine.specs.System.{SystemState, Input, FrameComes}
+use Rattle.clnp_machine.specs.Local.{Action, Sends, Tells, header_size, identifier_refusal, is_own, most_octets}
+
+-- a note that neither hands up nor refuses, and tells of no interference and of no frame of no protocol
+abbrev pub NoteIsQuiet : Note → Type 0
+NoteIsQuiet (note.Got from to octets) = ⊥
+NoteIsQuiet (note.Refused why value) = ⊥
+NoteIsQuiet (note.Interference id) = ⊥
+NoteIsQuiet note.Alien = ⊥
+NoteIsQuiet _ = Unit {0}
+
+-- an action tells only what Q holds of
+abbrev pub TellsOnly : (Note → Type 0) → Action → Type 0
+TellsOnly Q (Tells told) = Q told
+TellsOnly Q (Sends u) = Unit {0}
+
+-- a note is told by one of some actions, or is quiet
+abbrev pub IsToldBy : List Action → Note → Type 0
+IsToldBy actions told = Contains actions (Tells told) ⊎ NoteIsQuiet told
+
+-- what is noted in place of a unit, if anything is, refuses it
+abbrev pub IsRefusal : Option Note → Type 0
+IsRefusal None = Unit {0}
+IsRefusal (Some (note.Refused why value)) = Unit {0}
+IsRefusal (Some _) = ⊥
+
+-- what a unit is that isn't refused
+pub record IsAllowed (s : SystemState) (u : DataUnit) : Type 0 where
+  pub own : is_own s u.source ≡ true
+  pub octets : length u.octets ≤ most_octets
+  pub header : header_size u ≤ 254
+  pub identifier : identifier_refusal s u.identifier ≡ None
+
+-- Discards for a rule of PDUs.
+
+-- no rule gives the reason, whatever the frame
+abbrev pub IsOfNoRule : ℕ → Type 0
+IsOfNoRule reason = (frame : List ℕ) → AllByRecursion (λ rule. rule.reason ≢ reason) (table frame)
+
+-- where a note tells of a discard, it isn't for a rule; nor does it tell of an ES-IS PDU that breaks one
+abbrev pub NotesNoRule : Note → Type 0
+NotesNoRule (note.Discard reason place) = IsOfNoRule reason
+NotesNoRule (note.BadEsis rule place) = ⊥
+NotesNoRule _ = Unit {0}
+
+-- no octets come that spell no PDU
+abbrev pub SpellsPdus : Input → Type 0
+SpellsPdus (FrameComes port sender to_group (Unlabelled octets)) = ⊥
+SpellsPdus _ = Unit {0}
+
+-- Segments that are offered to buffers.
+
+-- an answer that tells of no interference
+abbrev pub TellsNoInterference : Answer → Type 0
+TellsNoInterference (Interference there other) = ⊥
+TellsNoInterference _ = Unit {0}
+
+-- a buffer is one of some with a segment more
+pub record HasOneMore (arrival : Arrival Packet) (buffers : List (Buffer Packet)) (later : Buffer Packet) : Type 0 where
+  pub before : Buffer Packet
+  pub there : Contains buffers before
+  pub same : same_key before.key arrival.key ≡ true
+  pub more : later ≡ record before { kept = before.kept ++ arrival ∷ [] }
+
+-- a buffer was among some before a segment was offered, or is opened for it, or has it besides
+abbrev pub WasThereOrTakes : TableLimits → ℕ → Arrival Packet → List (Buffer Packet) → Buffer Packet → Type 0
+WasThereOrTakes limits moment arrival buffers later =
+    Contains buffers later ⊎ (later ≡ opened_by limits moment arrival) ⊎ HasOneMore arrival buffers later

@@ -1,0 +1,30 @@
+use Rattle.clnp_safety.proofs.laws.laws_of_steps.Goals as goal
+
+pub returns : goal.returns
+returns c = record {
+  steps = record {
+    itself = c.a_system_stays_itself.ensures.itself;
+    fresh = c.new_units_are_fresh.ensures.fresh;
+    asked = c.new_units_are_fresh.ensures.asked;
+    ranges = c.ranges_of_units_are_sent.ensures;
+    carriable = c.what_is_sent_is_carriable.ensures;
+    no_rule = c.rules_are_noted_of_octets_alone.ensures;
+    own = c.only_owners_hand_up.ensures;
+    budget = c.budgets_are_kept.ensures;
+  };
+  deeds = record {
+    make = c.deeds_are_of_their_moment.ensures.make;
+    allowed = c.units_are_made_where_allowed.ensures.allowed;
+    refused = c.units_are_made_where_allowed.ensures.refused;
+    told = c.what_is_noted_was_told.ensures.told;
+    tick = c.what_is_noted_was_told.ensures.tick;
+    ended = c.ended_buffers_are_taken_out.ensures;
+  };
+  segments = record {
+    buffers = c.a_segment_is_kept_in_its_buffer.ensures.buffers;
+    others = c.a_segment_is_kept_in_its_buffer.ensures.others;
+    within = c.a_segment_is_kept_in_its_buffer.ensures.within;
+    apart = c.a_segment_is_kept_in_its_buffer.ensures.apart;
+  };
+  frames = c.carriable_packets_break_no_rule.ensures;
+}

@@ -1,0 +1,5 @@
+use Rattle.clnp_safety.proofs.Frames.{none_is_refused}
+use Rattle.clnp_safety.proofs.laws.no_frame_is_refused.Goals as goal
+
+pub returns : goal.returns
+returns c = none_is_refused c.laws_of_steps.ensures

@@ -1,0 +1,101 @@
+-- What comes of a packet for the system, and of one whose lifetime is over.
+use Rattle.std.proofs.Common.{◌≡◌, ◌∙◌, refl, sym, ap, subst, ℕ, Bool, true, false, List, [], ◌++◌, if◌then◌else◌}
+use Rattle.std.specs.Prelude.{◌==◌, ◌&&◌, not}
+use Rattle.std.proofs.lemmas.List.{append-nil}
+use Rattle.esis_tables.specs.declared.fact.Place.{Place}
+use Rattle.clnp_plan.specs.declared.config.Role.{Role}
+use Rattle.clnp_plan.specs.declared.config.Role.TheVariants.{Host, Router}
+use Rattle.clnp_machine.specs.Content.{Labelled}
+use Rattle.clnp_machine.specs.Esis.{tells_of_itself, is_silent, own_hello}
+use Rattle.clnp_machine.specs.Local.{Deed, discard, is_own, receive}
+use Rattle.clnp_machine.specs.Step.{content_comes, effect_of, is_asked_for, packet_comes, passes_by, responds}
+use Rattle.clnp_machine.specs.System.{SystemState, Effect, Output, idles, gives}
+use Rattle.clnp_machine.specs.Unit.{Packet}
+use Rattle.clnp_options.specs.Reasons.{reason_code}
+use Rattle.clnp_options.specs.declared.reasons.Reason.TheVariants.{LifetimeExpiredInTransit}
+
+-- ---- answers to a group
+
+one_stays : (b : Bool) (t : SystemState) (first second : Effect) → first.after ≡ t → second.after ≡ t → (if b then first else second).after ≡ t
+one_stays true t first second h k = h
+one_stays false t first second h k = k
+
+pub responds_stays : (t : SystemState) (place : Place) (group : Bool) (p : Packet) → (responds t place group p).after ≡ t
+responds_stays t place group p =
+    one_stays (is_asked_for t.configuration.role t group p) t (tells_of_itself t place.port place.snpa) (idles t)
+    (one_stays (is_silent t) t (idles t) _ refl refl) refl
+
+asked_is : (t : SystemState) (place : Place) (group : Bool) (p : Packet) (role : Role) (asked : Bool) → t.configuration.role ≡ role
+    → is_asked_for role t group p ≡ asked
+    → responds t place group p ≡ (if asked then tells_of_itself t place.port place.snpa else idles t)
+asked_is t place group p role asked is same =
+    ap (λ (r : Role). if is_asked_for r t group p then tells_of_itself t place.port place.snpa else idles t) is
+    ∙ ap (λ (b : Bool). if b then tells_of_itself t place.port place.snpa else idles t) same
+
+pub host_responds : (t : SystemState) (place : Place) (p : Packet) → t.configuration.role ≡ Host → (p.lifetime == 0) ≡ false
+    → is_own t p.unit.destination ≡ true → responds t place true p ≡ tells_of_itself t place.port place.snpa
+host_responds t place p role alive own =
+    asked_is t place true p Host true role
+    (ap (λ (b : Bool). true && (not b && is_own t p.unit.destination)) alive ∙ ap (λ (b : Bool). true && (not false && b)) own)
+
+pub router_is_quiet : (t : SystemState) (place : Place) (group : Bool) (p : Packet) → t.configuration.role ≡ Router → responds t place group p ≡ idles t
+router_is_quiet t place group p role = asked_is t place group p Router false role refl
+
+none_alone : (t : SystemState) (p : Packet) (role : Role) → is_asked_for role t false p ≡ false
+none_alone t p Host = refl
+none_alone t p Router = refl
+
+pub alone_is_quiet : (t : SystemState) (place : Place) (p : Packet) → responds t place false p ≡ idles t
+alone_is_quiet t place p = asked_is t place false p t.configuration.role false refl (none_alone t p t.configuration.role)
+
+none_over : (t : SystemState) (group : Bool) (p : Packet) (role : Role) → (p.lifetime == 0) ≡ true → is_asked_for role t group p ≡ false
+none_over t true p Host over = ap (λ (b : Bool). true && (not b && is_own t p.unit.destination)) over
+none_over t false p Host over = refl
+none_over t group p Router over = refl
+
+pub over_is_quiet : (t : SystemState) (place : Place) (group : Bool) (p : Packet) → (p.lifetime == 0) ≡ true → responds t place group p ≡ idles t
+over_is_quiet t place group p over = asked_is t place group p t.configuration.role false refl (none_over t group p t.configuration.role over)
+
+-- ---- packets
+
+abbrev other : SystemState → Packet → List ℕ → Deed
+other s p following = passes_by s.configuration.role s p following
+
+abbrev over_deed : SystemState → Packet → List ℕ → Deed
+over_deed s p following = discard s (Labelled p following) (reason_code LifetimeExpiredInTransit) 0
+
+own_deed : (s : SystemState) (p : Packet) (following : List ℕ) → (p.lifetime == 0) ≡ false → is_own s p.unit.destination ≡ true
+    → packet_comes s p following ≡ receive s p following
+own_deed s p following alive own =
+    ap (λ (b : Bool). if b then over_deed s p following else (if is_own s p.unit.destination then receive s p following else other s p following)) alive
+    ∙ ap (λ (b : Bool). if b then receive s p following else other s p following) own
+
+expired_deed : (s : SystemState) (p : Packet) (following : List ℕ) → (p.lifetime == 0) ≡ true → packet_comes s p following ≡ over_deed s p following
+expired_deed s p following over =
+    ap (λ (b : Bool). if b then over_deed s p following else (if is_own s p.unit.destination then receive s p following else other s p following)) over
+
+-- what comes of a packet for the system
+pub received_after : (s : SystemState) (p : Packet) (following : List ℕ) (place : Place) (group : Bool) → (p.lifetime == 0) ≡ false
+    → is_own s p.unit.destination ≡ true → (content_comes s place group (Labelled p following)).after ≡ (receive s p following).after
+received_after s p following place group alive own =
+    responds_stays (packet_comes s p following).after place group p ∙ ap (λ (d : Deed). d.after) (own_deed s p following alive own)
+
+pub received_outputs : (s : SystemState) (p : Packet) (following : List ℕ) (place : Place) (group : Bool) → (p.lifetime == 0) ≡ false
+    → is_own s p.unit.destination ≡ true
+    → (content_comes s place group (Labelled p following)).outputs
+    ≡ (effect_of (receive s p following)).outputs ++ (responds (receive s p following).after place group p).outputs
+received_outputs s p following place group alive own =
+    ap (λ (d : Deed). (effect_of d).outputs ++ (responds d.after place group p).outputs) (own_deed s p following alive own)
+
+-- what comes of one whose lifetime is over
+pub expired_after : (s : SystemState) (p : Packet) (following : List ℕ) (place : Place) (group : Bool) → (p.lifetime == 0) ≡ true
+    → (content_comes s place group (Labelled p following)).after ≡ (over_deed s p following).after
+expired_after s p following place group over =
+    responds_stays (packet_comes s p following).after place group p ∙ ap (λ (d : Deed). d.after) (expired_deed s p following over)
+
+pub expired_outputs : (s : SystemState) (p : Packet) (following : List ℕ) (place : Place) (group : Bool) → (p.lifetime == 0) ≡ true
+    → (content_comes s place group (Labelled p following)).outputs ≡ (effect_of (over_deed s p following)).outputs
+expired_outputs s p following place group over =
+    ap (λ (d : Deed). (effect_of d).outputs ++ (responds d.after place group p).outputs) (expired_deed s p following over)
+    ∙ ap (λ (e : Effect). (effect_of (over_deed s p following)).outputs ++ e.outputs) (over_is_quiet (over_deed s p following).after place group p over)
+    ∙ append-nil (effect_of (over_deed s p following)).outputs

@@ -1,0 +1,33 @@
+-- The frame is a packet's, or refused.
+use Rattle.std.proofs.Common.{◌≡◌, ◌∙◌, refl, sym, ap, subst, ℕ, List, Some}
+use Rattle.std.proofs.lemmas.Result.{IfOk-weaker}
+use Rattle.pdu_header.specs.Value.{PduValue}
+use Rattle.pdu_header.specs.Grammar.{BeginsWith}
+use Rattle.pdu_header.specs.View.{pdu_value}
+use Rattle.clnp_machine.specs.Given.{Appends}
+use Rattle.clnp_machine.specs.System.{Effect}
+use Rattle.system_entity.specs.Comes.{ComesOf}
+use Rattle.system_entity.specs.Stands.{PartsStand}
+use Rattle.system_entity.proofs.Arrivals.{frame_broken, packet_found}
+use Rattle.system_entity.proofs.entity.SystemEntity.arrive.Goals as goal
+
+pub returns-in-Ok-clause-comes : goal.returns-in-Ok-clause-comes
+returns-in-Ok-clause-comes c =
+    IfOk-weaker c.pdu_comes.result _ _
+    (λ arrival comes s content h carried frame.
+    packet_found c.a_frame_carries_one_packet.ensures c.no_frame_is_of_both_protocols.ensures.esis
+    (λ content. ComesOf arrival s c.args.place c.args.group content c.pdu_comes.new.self c.args.out.now.items c.pdu_comes.new.out.items)
+    c.bytes.result.now (pdu_value c.in-Ok.pdu) c.in-Ok.pdu.rest.now c.in-Ok.ensures.found c.in-Ok.ensures.accepted.0 content carried (frame ∙ sym c.bytes.ensures)
+    (λ p following carriable same life to. comes s p following h carriable (sym c.bytes.ensures ∙ same) life to))
+    c.pdu_comes.ensures.comes
+
+pub returns-in_ok-drop_frame-in-Err-Broken-clause-comes : goal.returns-in_ok-drop_frame-in-Err-Broken-clause-comes
+returns-in_ok-drop_frame-in-Err-Broken-clause-comes c = λ s content h carried frame.
+    let same = frame_broken c.no_frame_is_of_both_protocols.ensures.esis s c.args.place c.args.group c.bytes.result.now c.in-Err-Broken.broken
+    (c.in-Err-Broken.ensures.judged ∙ ap Some c.in-Err-Broken.field-0-is) c.in-Err-Broken.ensures.none content carried (frame ∙ sym c.bytes.ensures) in
+    record {
+      parts = subst (λ (e : Effect). PartsStand c.drop_frame.new.self e.after) same
+          (c.in_ok-drop_frame-in-Err-Broken.ensures.stands s content h carried frame);
+      outputs = subst (λ (e : Effect). Appends s.moment c.args.out.now.items c.drop_frame.new.out.items e.outputs) same
+          (c.in_ok-drop_frame-in-Err-Broken.ensures.outputs s content h carried frame);
+    }

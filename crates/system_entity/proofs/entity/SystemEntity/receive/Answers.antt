@@ -1,0 +1,65 @@
+-- What the entity does is given out, and then the answer to a group.
+use Rattle.std.proofs.Common.{◌≡◌, ◌∙◌, ℕ, Bool, true, sym, ap, subst, List, ◌++◌}
+use Rattle.std.specs.List.{AllByRecursion}
+use Rattle.clnp_plan.specs.Configuration.{SystemConfiguration}
+use Rattle.clnp_machine.specs.Given.{Appends}
+use Rattle.clnp_machine.specs.Local.{has_address, is_own, receive}
+use Rattle.clnp_machine.specs.Step.{effect_of, responds}
+use Rattle.clnp_machine.specs.System.{SystemState, Output}
+use Rattle.clnp_machine.proofs.Given.{appends_both}
+use Rattle.system_entity.specs.Deeds.{IsFresh}
+use Rattle.system_entity.specs.State.{SystemEntityState}
+use Rattle.system_entity.specs.Stands.{PartsStand, PartsStandSince}
+use Rattle.system_entity.proofs.Outputs.{all_done, appends_fresh}
+use Rattle.system_entity.proofs.Packets.{frame_is, packet_carriable, packet_of}
+use Rattle.system_entity.proofs.Parts.{deed_is_fresh, parts_after_deed, parts_now}
+use Rattle.system_entity.proofs.Receipt.{received_after, received_outputs}
+use Rattle.system_entity.proofs.entity.SystemEntity.receive.Goals as goal
+
+pub give_out-requires : goal.give_out-requires
+give_out-requires c =
+    let s = c.requires.at_work.state in
+    let parts = subst (λ (e : SystemEntityState). PartsStand e s) (sym c.self.view_is) c.requires.at_work.parts in
+    let v = c.requires.alive.0 in
+    let rest = c.requires.alive.1 in
+    let begins = c.requires.alive.2 in
+    let deed = receive s (packet_of v) rest in (
+      deed.actions,
+      all_done c.new-actions.result.items c.receive.new.out.items deed.actions c.new-actions.ensures.items
+          (c.in_ok-receive.ensures.actions s (packet_of v) rest parts.local (sym parts.moment) (packet_carriable v begins.spells.pdu)
+          (frame_is c.args.frame.now v rest begins)),
+    )
+
+pub returns-clause-stands : goal.returns-clause-stands
+returns-clause-stands c = λ s p following h carriable frame alive own.
+    let parts = subst (λ (e : SystemEntityState). PartsStand e s) (sym c.self.view_is) h in
+    let deed = receive s p following in
+    let is = c.deeds_are_of_their_moment.ensures.receive s p following in
+    let here : SystemEntityState = record { local = c.receive.new.self; esis = c.self.inside.esis; moment = c.self.inside.moment; spent = c.self.inside.spent } in
+    subst (λ (t : SystemState). PartsStand here t) (sym (received_after s p following c.args.place c.args.group alive own))
+    (parts_now s.moment here deed.after is.moment (parts_after_deed s.moment _ c.receive.new.self s deed is
+    (c.in_ok-receive.ensures.stands s p following parts.local (sym parts.moment) carriable frame) parts))
+
+pub returns-clause-outputs : goal.returns-clause-outputs
+returns-clause-outputs c = λ s p following h carriable frame alive own.
+    let parts = subst (λ (e : SystemEntityState). PartsStand e s) (sym c.self.view_is) h in
+    let deed = receive s p following in
+    let t = deed.after in
+    let is = c.deeds_are_of_their_moment.ensures.receive s p following in
+    let here : SystemEntityState = record { local = c.receive.new.self; esis = c.self.inside.esis; moment = c.self.inside.moment; spent = c.self.inside.spent } in
+    let stands : PartsStand here t = parts_now s.moment here t is.moment (parts_after_deed s.moment _ c.receive.new.self s deed is
+    (c.in_ok-receive.ensures.stands s p following parts.local (sym parts.moment) carriable frame) parts) in
+    let done = all_done c.new-actions.result.items c.receive.new.out.items deed.actions c.new-actions.ensures.items
+    (c.in_ok-receive.ensures.actions s p following parts.local (sym parts.moment) carriable frame) in
+    let first = c.in_ok-give_out.ensures t t.moment deed.actions stands done
+    (subst (λ (m : ℕ). AllByRecursion (IsFresh m) deed.actions) (sym is.moment) (deed_is_fresh s deed is)) in
+    let own_there : is_own t p.unit.destination ≡ true =
+    ap (λ (x : SystemConfiguration). has_address x p.unit.destination) is.itself.configuration ∙ own in
+    let second = c.in_ok-respond.ensures t p stands alive own_there in
+    let all = appends_fresh t.moment c.new-outputs.result.items c.respond.new.out.items c.args.out.now.items c.append.new.self.items
+    ((effect_of deed).outputs ++ (responds t c.args.place c.args.group p).outputs) c.new-outputs.ensures.items c.in_ok-append.ensures.items
+    (appends_both t.moment c.new-outputs.result.items c.give_out.new.out.items c.respond.new.out.items (effect_of deed).outputs
+    (responds t c.args.place c.args.group p).outputs first second) in
+    subst (λ (outputs : List Output). Appends s.moment c.args.out.now.items c.append.new.self.items outputs)
+    (sym (received_outputs s p following c.args.place c.args.group alive own))
+    (subst (λ (m : ℕ). Appends m c.args.out.now.items c.append.new.self.items ((effect_of deed).outputs ++ (responds t c.args.place c.args.group p).outputs)) is.moment all)

@@ -1,0 +1,11 @@
+use Rattle.std.proofs.Common.{ℕ, arith}
+use Rattle.clnp_machine.specs.Content.{content_of}
+use Rattle.system_entity.proofs.entity.steps.octets_have_content.Goals as goal
+
+pub returns : goal.returns
+returns c =
+    let bytes = λ i. omega (arith, c.type_inv.octets i) in (
+      content_of 0 0 c.args.octets.now,
+      c.octets_have_a_content.ensures.carried 0 0 c.args.octets.now bytes,
+      c.octets_have_a_content.ensures.frame 0 0 c.args.octets.now bytes,
+    )
