@@ -1,25 +1,32 @@
 //! The configuration entity of a system.
 ghost use Rattle.std.specs.Prelude.{◌≡◌, ◌≤◌, ◌<◌, ◌^◌, ℕ, IfOk, OnOk};
 ghost use Rattle.clnp_options.specs.Parameter.{parameters};
-ghost use Rattle.esis_pdus.specs.Grammar.{IsPdu};
 ghost use Rattle.esis_pdus.specs.Value.{suggested};
 ghost use Rattle.esis_pdus.specs.View.{pdu_value};
 ghost use Rattle.esis_tables.specs.declared.fact.TableKind.TheVariants.{Es};
 ghost use Rattle.esis_tables.specs.NextHop as heard;
 ghost use Rattle.clnp_machine.specs.Esis.{esis_comes, forgets, says_hello, tells_of_itself};
 ghost use Rattle.clnp_machine.specs.Given.{Appends};
+ghost use Rattle.clnp_plan.specs.declared.config.Limits.{Limits};
 ghost use Rattle.clnp_machine.specs.Local.{restarted};
 ghost use Rattle.clnp_machine.specs.System.{SystemState, first_state, then_does};
 ghost use Rattle.esis_entity.specs.Stands.{Stands, StandsSince};
 
 use clnp_base::NoMemory;
-use clnp_plan::{Limits, Note, Output, Role, Sending, SystemConfig};
-use clnp_views::Head;
-use esis_pdus::{EsisBody, EsisPdu, esh, ish};
-use esis_tables::{EsisLimits, Heard, Place, TableKind, Tables};
+use clnp_plan::{Output, Role, SystemConfig};
+use esis_pdus::EsisPdu;
+use esis_tables::{EsisLimits, Place, Tables};
+use hellos::hello;
 use nsap::{Address, Target};
+use output::send;
 use std::alloc::Global;
 use std::marker::Model;
+use telling::forget;
+
+mod hearing;
+mod hellos;
+mod output;
+mod telling;
 
 /// What a system heard of its neighbours, and when it tells them of itself. Moments are in ticks of 500 ms.
 ///
@@ -50,79 +57,124 @@ impl EsisEntity {
     pub fn new(alloc: Global, config: &SystemConfig, now: u64) -> Result<EsisEntity, NoMemory>
         ensures { IfOk result (λ entity. (place : ℕ) (limits : Limits) (quiet : ℕ)
             → Stands entity (first_state place config.now limits now quiet)) }
+    {
+        let settings = config.settings();
+        let limits = EsisLimits {
+            neighbours: settings.neighbours,
+            routers: settings.routers,
+            redirects: settings.redirects,
+        };
+        let tables = Tables::new(alloc, limits)?;
+        Ok(EsisEntity {
+            tables,
+            period: settings.hello,
+            next_hello: now,
+        })
+    }
 
-    /// Hears an ES-IS PDU that came from a place, and appends what the system gives out: notes, and an answer to something
-    /// new (sections 6.3 and 6.7).
+    /// Hears an ES-IS PDU that came from a place, and appends what the system gives out: notes, and an answer to
+    /// something new (sections 6.3 and 6.7).
     ///
     /// # Errors
     ///
-    /// `NoMemory`; of the entity and of what was appended nothing is promised then, but that what was there before stands
-    /// in front.
+    /// `NoMemory`; of the entity and of what was appended nothing is promised then.
     pub fn hear(
         &mut self,
-        alloc: Global,
         config: &SystemConfig,
         now: u64,
         place: Place,
-        pdu: &EsisPdu<'_>,
+        pdu: EsisPdu<'_>,
         out: &mut Vec<Output>,
     ) -> Result<(), NoMemory>
         requires moment { now < 2 ^ 62 }
-        requires pdu { IsPdu (pdu_value pdu.now) }
-        requires timer { pdu.now.suggested ≡ suggested pdu.now.body (parameters pdu.now.options.now) }
-        ensures stands { OnOk result ((s : SystemState) → Stands self.old s → s.configuration ≡ config.now → s.moment ≡ now
-            → Stands self.new (esis_comes s place (pdu_value pdu.now)).after) }
-        ensures outputs { OnOk result ((s : SystemState) → Stands self.old s → s.configuration ≡ config.now → s.moment ≡ now
-            → Appends now out.old.items out.new.items (esis_comes s place (pdu_value pdu.now)).outputs) }
+        requires timer { pdu.suggested ≡ suggested pdu.body (parameters pdu.options.now) }
+        ensures stands { OnOk result ((s : SystemState) → Stands self.old s → s.configuration ≡ config.now
+            → s.moment ≡ now → Stands self.new (esis_comes s place (pdu_value pdu.entry)).after) }
+        ensures outputs { OnOk result ((s : SystemState) → Stands self.old s → s.configuration ≡ config.now
+            → s.moment ≡ now
+            → Appends now out.old.items out.new.items (esis_comes s place (pdu_value pdu.entry)).outputs) }
+    {
+        match config.role() {
+            Role::Host => self.hear_as_host(config, now, place, pdu, out),
+            Role::Router => self.hear_as_router(config, now, place, pdu, out),
+        }
+    }
 
     /// Tells a system at a place of one's own, unless no hellos are said at all (section 6.6).
     ///
     /// # Errors
     ///
-    /// `NoMemory`.
+    /// `NoMemory`; of what was appended nothing is promised then.
     pub fn tell(
         &self,
-        alloc: Global,
         config: &SystemConfig,
         place: Place,
         out: &mut Vec<Output>,
     ) -> Result<(), NoMemory>
         ensures { OnOk result ((s : SystemState) (moment : ℕ) → Stands self.now s → s.configuration ≡ config.now
             → Appends moment out.old.items out.new.items (tells_of_itself s place.port place.snpa).outputs) }
+    {
+        if self.period == 0 {
+            return Ok(());
+        }
+        let to = Target::System(place.snpa);
+        send(place.port, to, hello(config, self.period), out)
+    }
 
-    /// A moment has come: what has ended since the last one is forgotten, and the hello that is due is said (sections 6.1,
-    /// 6.2, 6.4 and 6.11).
+    /// A moment has come: what has ended since the last one is forgotten, and the hello that is due is said (sections
+    /// 6.1, 6.2, 6.4 and 6.11).
     ///
     /// # Errors
     ///
     /// `NoMemory`; of the entity and of what was appended nothing is promised then.
     pub fn tick(
         &mut self,
-        alloc: Global,
         config: &SystemConfig,
         now: u64,
         out: &mut Vec<Output>,
     ) -> Result<(), NoMemory>
         requires moment { now < 2 ^ 62 }
-        ensures stands { OnOk result ((s : SystemState) (before : ℕ) → StandsSince before self.old s → s.configuration ≡ config.now
-            → s.moment ≡ now → before ≤ now → Stands self.new (then_does (forgets before s) says_hello).after) }
-        ensures outputs { OnOk result ((s : SystemState) (before : ℕ) → StandsSince before self.old s → s.configuration ≡ config.now
-            → s.moment ≡ now → before ≤ now
+        ensures stands { OnOk result ((s : SystemState) (before : ℕ) → StandsSince before self.old s
+            → s.configuration ≡ config.now → s.moment ≡ now → before ≤ now
+            → Stands self.new (then_does (forgets before s) says_hello).after) }
+        ensures outputs { OnOk result ((s : SystemState) (before : ℕ) → StandsSince before self.old s
+            → s.configuration ≡ config.now → s.moment ≡ now → before ≤ now
             → Appends now out.old.items out.new.items (then_does (forgets before s) says_hello).outputs) }
+    {
+        forget(&mut self.tables, now, out)?;
+        self.say_hello(config, now, out)
+    }
 
     /// Forgets what was heard; the first hello is due again.
     pub fn restart(&mut self, config: &SystemConfig, now: u64)
-        ensures { (s : SystemState) (before : ℕ) → StandsSince before self.old s → s.configuration ≡ config.now → s.moment ≡ now
-            → Stands self.new (restarted s) }
+        ensures { (s : SystemState) (before : ℕ) → StandsSince before self.old s → s.configuration ≡ config.now
+            → s.moment ≡ now → Stands self.new (restarted s) }
+    {
+        self.tables.clear();
+        self.period = config.settings().hello;
+        self.next_hello = now;
+    }
 
-    /// Where an end system sends what is for an address: the better hop of a redirect, the end system of this address, or the
-    /// intermediate system that was heard last (section 6.5).
+    /// Where an end system sends what is for an address: the better hop of a redirect, the end system of this address,
+    /// or the intermediate system that was heard last (section 6.5).
     pub fn next_hop(&self, now: u64, to: &Address) -> Option<Place>
         ensures { (s : SystemState) (before : ℕ) → StandsSince before self.now s → before ≤ now
             → result ≡ heard.next_hop now to.now s.facts }
+    {
+        if let Some(place) = self.tables.redirect(now, to) {
+            return Some(place);
+        }
+        if let Some(place) = self.tables.system(now, to) {
+            return Some(place);
+        }
+        self.tables.last_router(now)
+    }
 
     /// Where the end system of an address is reached, if it is known.
     pub fn neighbour(&self, now: u64, to: &Address) -> Option<Place>
         ensures { (s : SystemState) (before : ℕ) → StandsSince before self.now s → before ≤ now
             → result ≡ heard.current_place now Es to.now s.facts }
+    {
+        self.tables.system(now, to)
+    }
 }

@@ -1,0 +1,75 @@
+-- Keys that are forgotten one after another.
+use Rattle.std.proofs.Common.{◌≡◌, ◌∙◌, refl, sym, ap, subst, ℕ, suc, ◌+◌, List, [], ◌∷◌, ◌++◌, map, length, Option, Some, None, append_assoc, length-append, arith}
+use Rattle.std.proofs.lemmas.List.{append-nil, map-append}
+use Rattle.esis_tables.specs.declared.fact.Gone.{Gone}
+use Rattle.esis_tables.specs.declared.tables.Tables.{Tables}
+use Rattle.esis_tables.specs.Fact.{Fact}
+use Rattle.esis_tables.specs.Stands as heard
+use Rattle.esis_tables.specs.Stands.{FlushesFirst}
+use Rattle.clnp_plan.specs.declared.output.Output.{Output}
+use Rattle.clnp_machine.specs.Esis.{gone_note}
+use Rattle.clnp_machine.specs.Given.{Appends, GiveAll}
+use Rattle.clnp_machine.specs.System as machine
+use Rattle.clnp_machine.proofs.Given.{appends_none, appends_both}
+
+-- ---- how many are noted
+
+given_length : (moment : ℕ) (outputs : List Output) (others : List machine.Output) → GiveAll moment outputs others → length outputs ≡ length others
+given_length moment [] [] h = refl
+given_length moment (output ∷ outputs) (other ∷ others) h = ap suc (given_length moment outputs others h.1)
+given_length moment [] (other ∷ others) h = absurd h
+given_length moment (output ∷ outputs) [] h = absurd h
+
+pub appended_length : (moment : ℕ) (before after : List Output) (others : List machine.Output) → Appends moment before after others
+    → length after ≡ length before + length others
+appended_length moment before after others h =
+    omega (arith, given_length moment h.outputs others h.give_all, length-append before h.outputs, ap length h.appended)
+
+-- ---- keys
+
+-- what was forgotten so far, and is left to be forgotten, is all that is gone
+pub record ForgotSoFar (moment now : ℕ) (tables : Tables) (before after : List Output) (facts : List Fact) (all : List Gone) : Type 0 where
+  pub done : List Gone
+  pub left : List Gone
+  pub stands : heard.Stands tables facts now left
+  pub are : all ≡ done ++ left
+  pub appends : Appends moment before after (map gone_note done)
+
+pub none_forgotten : (moment now : ℕ) (tables : Tables) (list : List Output) (facts : List Fact) (all : List Gone) → heard.Stands tables facts now all
+    → ForgotSoFar moment now tables list list facts all
+none_forgotten moment now tables list facts all stands =
+    record { done = []; left = all; stands = stands; are = refl; appends = appends_none moment list list refl }
+
+pub one_forgotten : (moment now : ℕ) (tables later : Tables) (before mid after : List Output) (key : Gone) (answer : Option Gone) (facts : List Fact) (all : List Gone)
+    → ForgotSoFar moment now tables before mid facts all → answer ≡ Some key
+    → ((list : List Fact) (left : List Gone) → heard.Stands tables list now left → FlushesFirst answer later list now left)
+    → Appends moment mid after (gone_note key ∷ []) → ForgotSoFar moment now later before after facts all
+one_forgotten moment now tables later before mid after key answer facts all h is flushes noted =
+    let first : FlushesFirst (Some key) later facts now h.left =
+    subst (λ (a : Option Gone). FlushesFirst a later facts now h.left) is (flushes facts h.left h.stands) in
+    record {
+      done = h.done ++ key ∷ [];
+      left = first.0;
+      stands = first.2;
+      are = h.are ∙ ap (λ (list : List Gone). h.done ++ list) first.1 ∙ sym (append_assoc h.done (key ∷ []) first.0);
+      appends = subst (λ (list : List machine.Output). Appends moment before after list) (sym (map-append gone_note h.done (key ∷ [])))
+          (appends_both moment before mid after (map gone_note h.done) (gone_note key ∷ []) h.appends noted);
+    }
+
+-- nothing is left
+pub record ForgotAll (moment now : ℕ) (tables : Tables) (before after : List Output) (facts : List Fact) (all : List Gone) : Type 0 where
+  pub stands : heard.Stands tables facts now []
+  pub appends : Appends moment before after (map gone_note all)
+
+pub all_forgotten : (moment now : ℕ) (tables later : Tables) (before after : List Output) (answer : Option Gone) (facts : List Fact) (all : List Gone)
+    → ForgotSoFar moment now tables before after facts all → answer ≡ None
+    → ((list : List Fact) (left : List Gone) → heard.Stands tables list now left → FlushesFirst answer later list now left)
+    → ForgotAll moment now later before after facts all
+all_forgotten moment now tables later before after answer facts all h is flushes =
+    let last : FlushesFirst None later facts now h.left =
+    subst (λ (a : Option Gone). FlushesFirst a later facts now h.left) is (flushes facts h.left h.stands) in
+    let done : all ≡ h.done = h.are ∙ ap (λ (list : List Gone). h.done ++ list) last.0 ∙ append-nil h.done in
+    record {
+      stands = last.1;
+      appends = subst (λ (list : List machine.Output). Appends moment before after list) (ap (map gone_note) (sym done)) h.appends;
+    }

@@ -1,0 +1,7 @@
+mod Effects
+mod Hearing
+mod Forgetting
+mod Lengths
+mod LookingUp
+mod Saying
+mod Ticking

@@ -1,0 +1,25 @@
+-- Which next hop is found.
+use Rattle.std.proofs.Common.{◌≡◌, ◌∙◌, ap, ℕ, List, Option, Some, None}
+use Rattle.std.specs.Option.{option_or}
+use Rattle.esis_tables.specs.declared.fact.Place.{Place}
+use Rattle.esis_tables.specs.declared.fact.TableKind.TheVariants.{Es, Rd}
+use Rattle.esis_tables.specs.Fact.{Fact}
+use Rattle.esis_tables.specs.NextHop.{current_place, last_router, next_hop}
+
+pub by_redirect : (now : ℕ) (to : List ℕ) (facts : List Fact) (place : Place) → Some place ≡ current_place now Rd to facts → Some place ≡ next_hop now to facts
+by_redirect now to facts place redirect = ap (λ (o : Option Place). option_or o (option_or (current_place now Es to facts) (last_router now facts))) redirect
+
+pub by_others : (now : ℕ) (to : List ℕ) (facts : List Fact) (found : Option Place) → None ≡ current_place now Rd to facts
+    → found ≡ option_or (current_place now Es to facts) (last_router now facts) → found ≡ next_hop now to facts
+by_others now to facts found none others =
+    others ∙ ap (λ (o : Option Place). option_or o (option_or (current_place now Es to facts) (last_router now facts))) none
+
+pub by_system : (now : ℕ) (to : List ℕ) (facts : List Fact) (place : Place) → None ≡ current_place now Rd to facts → Some place ≡ current_place now Es to facts
+    → Some place ≡ next_hop now to facts
+by_system now to facts place none system =
+    by_others now to facts (Some place) none (ap (λ (o : Option Place). option_or o (last_router now facts)) system)
+
+pub by_router : (now : ℕ) (to : List ℕ) (facts : List Fact) (found : Option Place) → None ≡ current_place now Rd to facts → None ≡ current_place now Es to facts
+    → found ≡ last_router now facts → found ≡ next_hop now to facts
+by_router now to facts found none unknown router =
+    by_others now to facts found none (router ∙ ap (λ (o : Option Place). option_or o (last_router now facts)) unknown)

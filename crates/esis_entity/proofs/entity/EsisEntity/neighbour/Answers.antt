@@ -1,0 +1,11 @@
+use Rattle.std.proofs.Common.{ap, sym, subst, []}
+use Rattle.esis_tables.specs.declared.tables.Tables.{Tables}
+use Rattle.esis_tables.specs.Stands as heard
+use Rattle.esis_entity.specs.State.{EsisState}
+use Rattle.esis_entity.proofs.entity.EsisEntity.neighbour.Goals as goal
+
+pub returns : goal.returns
+returns c = λ s before h passed.
+    c.system.ensures s.facts before []
+    (subst (λ (tables : Tables). heard.Stands tables s.facts before []) (sym (ap (λ (entity : EsisState). entity.tables) c.self.view_is)) h.tables)
+    passed

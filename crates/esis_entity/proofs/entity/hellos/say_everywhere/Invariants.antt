@@ -1,0 +1,12 @@
+use Rattle.std.proofs.Common.{◌≡◌, ℕ, map}
+use Rattle.std.specs.List.{range_with_len}
+use Rattle.clnp_machine.specs.Esis.{hearers, own_hello}
+use Rattle.clnp_machine.specs.Given.{Appends}
+use Rattle.clnp_machine.specs.System.{SendsEsis, SystemState}
+use Rattle.esis_entity.proofs.entity.hellos.say_everywhere.Given as goal
+
+abbrev pub invariant-loop-port : goal.invariant-loop-port
+invariant-loop-port l =
+    (s : SystemState) (moment : ℕ) → s.configuration ≡ l.config → s.hello ≡ l.period
+    → Appends moment l.initial.out.items l.out.items
+    (map (λ port. SendsEsis port (hearers s.configuration.role) (own_hello s)) (range_with_len 0 l.port))

@@ -1,0 +1,18 @@
+use Rattle.std.proofs.Common.{◌≡◌, ◌≤◌, ◌^◌, ◌-◌, ℕ, List, [], length}
+use Rattle.esis_tables.specs.Fact.{Fact}
+use Rattle.esis_tables.specs.Stands as heard
+use Rattle.esis_tables.specs.Gone.{gone}
+use Rattle.esis_tables.specs.Stands.{limits_of}
+use Rattle.esis_entity.proofs.Forgetting.{ForgotSoFar}
+use Rattle.esis_entity.proofs.entity.telling.forget.Given as goal
+
+abbrev pub invariant-loop-ended : goal.invariant-loop-ended
+invariant-loop-ended l = record {
+  limits : limits_of l.tables ≡ limits_of l.initial.tables;
+  forgot : (facts : List Fact) (before moment : ℕ) → heard.Stands l.initial.tables facts before [] → before ≤ l.now
+      → ForgotSoFar moment l.now l.tables l.initial.out.items l.out.items facts (gone before l.now facts);
+}
+
+-- each turn appends a note, and no list has more elements
+abbrev pub decreases-loop-ended : goal.decreases-loop-ended
+decreases-loop-ended l = 2 ^ 63 - length l.out.items

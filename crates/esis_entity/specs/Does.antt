@@ -1,0 +1,20 @@
+-- What the entity's parts do.
+use Rattle.std.specs.Prelude.{◌≡◌, ℕ, Bool, List}
+use Rattle.std.specs.List.{list_any}
+use Rattle.clnp_plan.specs.declared.output.Output.{Output}
+use Rattle.clnp_machine.specs.Esis.{tells_new}
+use Rattle.clnp_machine.specs.Given.{Appends}
+use Rattle.clnp_machine.specs.System.{Effect}
+use Rattle.esis_entity.specs.Stands.{Stands}
+use Rattle.esis_entity.specs.State.{EsisState}
+
+-- the entity stands for the state that an effect leaves, and what the effect gives out was appended
+pub record Does (moment : ℕ) (entity : EsisState) (before after : List Output) (effect : Effect) : Type 0 where
+  pub stands : Stands entity effect.after
+  pub appends : Appends moment before after effect.outputs
+
+-- and it is said whether something new was heard
+pub record Hears (moment : ℕ) (entity : EsisState) (before after : List Output) (new : Bool) (effect : Effect)
+    : Type 0 where
+  pub does : Does moment entity before after effect
+  pub new_is : new ≡ list_any tells_new effect.outputs

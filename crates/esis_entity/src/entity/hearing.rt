@@ -1,0 +1,189 @@
+//! What a system hears of others (ISO 9542, sections 6.3, 6.4 and 6.7).
+ghost use Rattle.std.specs.Prelude.{◌≡◌, ◌<◌, ◌^◌, ℕ, if◌then◌else◌, IfOk, OnOk};
+ghost use Rattle.clnp_machine.specs.Esis.{answers_new, esis_heard, follows, hears, hears_each, tells_of_itself};
+ghost use Rattle.clnp_machine.specs.Given.{Appends};
+ghost use Rattle.clnp_machine.specs.System.{SystemState, idles};
+ghost use Rattle.clnp_plan.specs.declared.config.Role.TheVariants.{Host, Router};
+ghost use Rattle.esis_tables.specs.declared.fact.TableKind.TheVariants.{Is};
+ghost use Rattle.esis_entity.specs.Does.{Does, Hears};
+ghost use Rattle.esis_entity.specs.Stands.{Stands};
+
+use super::EsisEntity;
+use super::output::give_note;
+use clnp_base::NoMemory;
+use clnp_plan::{Note, Output, SystemConfig};
+use esis_pdus::{AddressList, EsisBody, EsisPdu};
+use esis_tables::{Heard, Place, TableKind};
+use nsap::Address;
+
+impl EsisEntity {
+    /// Hears a PDU as an end system, which answers an intermediate system that is new, and then follows its wish.
+    pub(super) fn hear_as_host(
+        &mut self,
+        config: &SystemConfig,
+        now: u64,
+        place: Place,
+        pdu: EsisPdu<'_>,
+        out: &mut Vec<Output>,
+    ) -> Result<(), NoMemory>
+        requires { now < 2 ^ 62 }
+        ensures { OnOk result ((s : SystemState) → Stands self.old s → s.configuration ≡ config.now → s.moment ≡ now
+            → Does now self.new out.old.items out.new.items
+            (esis_heard Host s place pdu.entry.hold pdu.entry.body pdu.entry.suggested)) }
+    {
+        let EsisPdu {
+            hold,
+            body,
+            suggested,
+            ..
+        } = pdu;
+        match body {
+            EsisBody::Esh { addresses } => {
+                self.hear_each(now, &place, hold, addresses, out)?;
+                Ok(())
+            }
+            EsisBody::Ish { title } => {
+                self.hear_router(config, now, &place, hold, title, out)?;
+                self.follow(now, suggested);
+                Ok(())
+            }
+            EsisBody::Rd { .. } => give_note(Note::Ignored { rd: true }, out),
+        }
+    }
+
+    /// Hears a PDU as an intermediate system, which answers an end system with an address that is new.
+    pub(super) fn hear_as_router(
+        &mut self,
+        config: &SystemConfig,
+        now: u64,
+        place: Place,
+        pdu: EsisPdu<'_>,
+        out: &mut Vec<Output>,
+    ) -> Result<(), NoMemory>
+        requires { now < 2 ^ 62 }
+        ensures { OnOk result ((s : SystemState) → Stands self.old s → s.configuration ≡ config.now → s.moment ≡ now
+            → Does now self.new out.old.items out.new.items
+            (esis_heard Router s place pdu.entry.hold pdu.entry.body pdu.entry.suggested)) }
+    {
+        let EsisPdu { hold, body, .. } = pdu;
+        match body {
+            EsisBody::Esh { addresses } => {
+                self.hear_end_system(config, now, &place, hold, addresses, out)
+            }
+            EsisBody::Ish { .. } => give_note(Note::Ignored { rd: false }, out),
+            EsisBody::Rd { .. } => give_note(Note::Ignored { rd: true }, out),
+        }
+    }
+
+    /// Hears of an intermediate system, and answers it where it is new.
+    fn hear_router(
+        &mut self,
+        config: &SystemConfig,
+        now: u64,
+        place: &Place,
+        hold: u16,
+        title: Address,
+        out: &mut Vec<Output>,
+    ) -> Result<(), NoMemory>
+        requires { now < 2 ^ 62 }
+        ensures stands { OnOk result ((s : SystemState) → Stands self.old s → s.moment ≡ now
+            → Stands self.new (hears s Is title place.now hold).after) }
+        ensures outputs { OnOk result ((s : SystemState) → Stands self.old s → s.configuration ≡ config.now
+            → s.moment ≡ now → Appends now out.old.items out.new.items
+            (answers_new (hears s Is title place.now hold) place.now).outputs) }
+    {
+        let new = self.hear_key(now, TableKind::Is, title, place, hold, out)?;
+        self.answer(config, place, new, out)
+    }
+
+    /// Hears of an end system, and answers it once where an address is new.
+    fn hear_end_system(
+        &mut self,
+        config: &SystemConfig,
+        now: u64,
+        place: &Place,
+        hold: u16,
+        addresses: AddressList<'_>,
+        out: &mut Vec<Output>,
+    ) -> Result<(), NoMemory>
+        requires { now < 2 ^ 62 }
+        ensures { OnOk result ((s : SystemState) → Stands self.old s → s.configuration ≡ config.now → s.moment ≡ now
+            → Does now self.new out.old.items out.new.items
+            (answers_new (hears_each s addresses.entry place.now hold) place.now)) }
+    {
+        let new = self.hear_each(now, place, hold, addresses, out)?;
+        self.answer(config, place, new, out)
+    }
+
+    /// Hears each address of an end system, in order. Whether one of them is new.
+    fn hear_each(
+        &mut self,
+        now: u64,
+        place: &Place,
+        hold: u16,
+        addresses: AddressList<'_>,
+        out: &mut Vec<Output>,
+    ) -> Result<bool, NoMemory>
+        requires { now < 2 ^ 62 }
+        ensures { IfOk result (λ new. (s : SystemState) → Stands self.old s → s.moment ≡ now
+            → Hears now self.new out.old.items out.new.items new (hears_each s addresses.entry place.now hold)) }
+    {
+        let mut new = false;
+        for address in addresses {
+            new |= self.hear_key(now, TableKind::Es, address, place, hold, out)?;
+        }
+        Ok(new)
+    }
+
+    /// Hears of one key, and notes it. Whether it is new.
+    fn hear_key(
+        &mut self,
+        now: u64,
+        table: TableKind,
+        key: Address,
+        place: &Place,
+        hold: u16,
+        out: &mut Vec<Output>,
+    ) -> Result<bool, NoMemory>
+        requires { now < 2 ^ 62 }
+        ensures { IfOk result (λ new. (s : SystemState) → Stands self.old s → s.moment ≡ now
+            → Hears now self.new out.old.items out.new.items new (hears s table key place.now hold)) }
+    {
+        let heard = self.tables.hear(now, table, key, *place, hold);
+        give_note(Note::Hear { table, key, heard }, out)?;
+        Ok(matches!(heard, Heard::New))
+    }
+
+    /// Tells a system of itself where something new was heard.
+    fn answer(
+        &self,
+        config: &SystemConfig,
+        place: &Place,
+        new: bool,
+        out: &mut Vec<Output>,
+    ) -> Result<(), NoMemory>
+        ensures { OnOk result ((s : SystemState) (moment : ℕ) → Stands self.now s → s.configuration ≡ config.now
+            → Appends moment out.old.items out.new.items
+            (if new then tells_of_itself s place.now.port place.now.snpa else idles s).outputs) }
+    {
+        if new {
+            return self.tell(config, *place, out);
+        }
+        Ok(())
+    }
+
+    /// Follows the wish of an intermediate system, in seconds, where it is above 0 and hellos are said at all.
+    fn follow(&mut self, now: u64, timer: Option<u16>)
+        requires { now < 2 ^ 62 }
+        ensures { (s : SystemState) → Stands self.old s → s.moment ≡ now → Stands self.new (follows s timer) }
+    {
+        let Some(seconds) = timer else {
+            return;
+        };
+        if seconds == 0 || self.period == 0 {
+            return;
+        }
+        self.period = seconds;
+        self.next_hello = self.next_hello.min(now + 2 * u64::from(seconds));
+    }
+}

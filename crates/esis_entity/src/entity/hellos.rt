@@ -1,0 +1,117 @@
+//! What a system says of itself (ISO 9542, section 6.2).
+ghost use Rattle.std.specs.Prelude.{◌≡◌, ◌≤◌, OnOk, ℕ, length, slice_get};
+ghost use Rattle.clnp_machine.specs.Esis.{end_system_hello as esh_of, first_of, hearers as hearers_of, hello_everywhere, holding_time as holding_time_of, intermediate_system_hello as ish_of, own_hello, wish as wish_of};
+ghost use Rattle.clnp_machine.specs.Given.{Appends};
+ghost use Rattle.clnp_machine.specs.System.{SystemState};
+ghost use Rattle.esis_pdus.specs.Grammar.{Spells};
+ghost use Rattle.esis_pdus.specs.Making.{esh_length};
+
+use super::output::send;
+use clnp_base::NoMemory;
+use clnp_plan::{Output, Role, SystemConfig};
+use clnp_views::Head;
+use esis_pdus::{HelloRefusal, esh, ish};
+use nsap::{Address, Target};
+
+/// Says hello on each port, as a system that says it once in `period` seconds.
+pub fn say_everywhere(
+    config: &SystemConfig,
+    period: u16,
+    out: &mut Vec<Output>,
+) -> Result<(), NoMemory>
+    ensures { OnOk result ((s : SystemState) (moment : ℕ) → s.configuration ≡ config.now → s.hello ≡ period
+        → Appends moment out.old.items out.new.items (hello_everywhere s)) }
+{
+    let pdu = hello(config, period);
+    for port in 0..port_count(config) {
+        send(port, hearers(config.role()), pdu, out)?;
+    }
+    Ok(())
+}
+
+/// The hello of a system that says it once in `period` seconds.
+pub fn hello(config: &SystemConfig, period: u16) -> Head
+    ensures { (s : SystemState) → s.configuration ≡ config.now → s.hello ≡ period → Spells (own_hello s) result }
+{
+    match config.role() {
+        Role::Host => end_system_hello(config, period),
+        Role::Router => router_hello(config, period),
+    }
+}
+
+/// An end system tells all its addresses.
+fn end_system_hello(config: &SystemConfig, period: u16) -> Head
+    ensures { (s : SystemState) → s.configuration ≡ config.now → s.hello ≡ period → Spells (esh_of s) result }
+{
+    config.is_system();
+    let addresses = config.addresses();
+    fits(addresses);
+    match esh(holding_time(period), addresses, config.settings().sealed) {
+        Ok(pdu) => pdu,
+        Err(HelloRefusal::TooLong { .. }) => unreachable!(),
+    }
+}
+
+/// The hello of at most eight addresses always fits. The function does nothing: its clause tells this to its caller.
+fn fits(addresses: &[Address])
+    requires { length addresses.now ≤ 8 }
+    ensures { esh_length addresses.now ≤ 254 }
+{
+    for address in addresses {
+        let _octets = address.as_bytes();
+    }
+}
+
+/// An intermediate system tells its title, and how often it wishes end systems to say hello.
+fn router_hello(config: &SystemConfig, period: u16) -> Head
+    ensures { (s : SystemState) → s.configuration ≡ config.now → s.hello ≡ period → Spells (ish_of s) result }
+{
+    let settings = config.settings();
+    ish(
+        holding_time(period),
+        title(config),
+        wish(settings.suggest),
+        settings.sealed,
+    )
+}
+
+/// The title of a system is its first address.
+fn title(config: &SystemConfig) -> &Address
+    ensures { result.now ≡ first_of (slice_get config.now.addresses 0) }
+{
+    config.is_system();
+    &config.addresses()[0]
+}
+
+/// The holding time of a hello that is said once in `period` seconds: twice as long, so that one may be lost (section
+/// 6.1.2).
+fn holding_time(period: u16) -> u16
+    ensures { result ≡ holding_time_of period }
+{
+    period.saturating_mul(2)
+}
+
+/// How often end systems are asked to say hello, unless there is no wish.
+fn wish(seconds: u16) -> Option<u16>
+    ensures { result ≡ wish_of seconds }
+{
+    if seconds == 0 { None } else { Some(seconds) }
+}
+
+/// Whom the hello of a system is for.
+fn hearers(role: Role) -> Target
+    ensures { result ≡ hearers_of role }
+{
+    match role {
+        Role::Host => Target::Routers,
+        Role::Router => Target::EndSystems,
+    }
+}
+
+/// How many ports a system has.
+fn port_count(config: &SystemConfig) -> u8
+    ensures { result ≡ length config.now.ports }
+{
+    config.is_system();
+    config.ports().len() as u8
+}

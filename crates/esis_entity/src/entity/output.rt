@@ -1,0 +1,35 @@
+//! What is given out.
+ghost use Rattle.std.specs.Prelude.{◌∷◌, [], OnOk, ℕ};
+ghost use Rattle.clnp_machine.specs.Given.{Appends};
+ghost use Rattle.clnp_machine.specs.System.{Notes, SendsEsis};
+ghost use Rattle.esis_pdus.specs.Grammar.{Spells};
+ghost use Rattle.esis_pdus.specs.Value.{EsisValue};
+
+use clnp_base::NoMemory;
+use clnp_plan::{Note, Output, Sending};
+use clnp_views::Head;
+use nsap::Target;
+
+/// Gives out a note.
+pub fn give_note(note: Note, out: &mut Vec<Output>) -> Result<(), NoMemory>
+    ensures { OnOk result ((moment : ℕ) → Appends moment out.old.items out.new.items (Notes note ∷ [])) }
+{
+    out.push(Output::Note(note))?;
+    Ok(())
+}
+
+/// Gives out the frame of a PDU.
+pub fn send(port: u8, to: Target, pdu: Head, out: &mut Vec<Output>) -> Result<(), NoMemory>
+    ensures { OnOk result ((moment : ℕ) (value : EsisValue) → Spells value pdu
+        → Appends moment out.old.items out.new.items (SendsEsis port to value ∷ [])) }
+{
+    let sending = Sending {
+        port,
+        to,
+        head: pdu,
+        body: None,
+        forwarded: false,
+    };
+    out.push(Output::Transmit(sending))?;
+    Ok(())
+}
