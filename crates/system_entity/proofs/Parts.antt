@@ -1,5 +1,5 @@
 -- The parts of an entity stand for states that differ in nothing that they keep.
-use Rattle.std.proofs.Common.{◌≡◌, ◌∙◌, refl, sym, ap, subst, ℕ, ◌≤◌, List, [], ◌∷◌, arith}
+use Rattle.std.proofs.Common.{◌≡◌, ◌∙◌, refl, sym, ap, subst, ℕ, ◌≤◌, Bool, List, [], ◌∷◌, arith}
 use Rattle.std.specs.List.{AllByRecursion}
 use Rattle.reassembly.specs.Buffer.{Buffer}
 use Rattle.reassembly.specs.Mapped.{map_buffers}
@@ -113,3 +113,7 @@ parts_later here s now later h =
       moment = refl;
       since = subst (λ (m : ℕ). m ≤ now) h.moment later;
     }
+
+-- whether it is spent says nothing of its parts
+pub while_spent : (here : SystemEntityState) (spent : Bool) (s : SystemState) → PartsStand here s → PartsStand (record here { spent = spent }) s
+while_spent here spent s h = record { local = h.local; esis = h.esis; moment = h.moment; since = h.since }

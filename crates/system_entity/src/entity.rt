@@ -257,9 +257,17 @@ impl SystemEntity {
             return Err(SendRefusal::NoMemory);
         }
         self.spent = true;
-        let answer = self.make_unit(alloc, kind, from, to, body, ask, out);
-        self.spent = answer == Err(SendRefusal::NoMemory);
-        answer
+        match self.make_unit(alloc, kind, from, to, body, ask, out) {
+            Ok(unit) => {
+                self.spent = false;
+                Ok(unit)
+            }
+            Err(SendRefusal::NoMemory) => Err(SendRefusal::NoMemory),
+            Err(refusal) => {
+                self.spent = false;
+                Err(refusal)
+            }
+        }
     }
 
     /// Forgets all that it keeps and heard, and is quiet as long as an identifier rests; the count of its units goes on.

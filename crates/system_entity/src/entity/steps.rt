@@ -1,5 +1,5 @@
 //! The steps of a system while it takes them: all that is given out is appended, or nothing.
-ghost use Rattle.std.specs.Prelude.{◌≡◌, ◌≢◌, ◌==◌, ◌≤◌, ◌<◌, ◌^◌, ◌++◌, ℕ, Bool, true, false, List, IfErr, IfOk, OnOk, OnErr, MatchResult, None, length};
+ghost use Rattle.std.specs.Prelude.{◌≡◌, ◌≢◌, ◌==◌, ◌≤◌, ◌<◌, ◌^◌, ◌++◌, ℕ, Bool, true, false, List, IfErr, IfOk, OnOk, OnErr, MatchResult, None, Some, length};
 ghost use Rattle.std.specs.List.{AllByRecursion, flat_map};
 ghost use Rattle.clnp_options.specs.Grammar.{FitsKind};
 ghost use Rattle.clnp_options.specs.Parameter.{parameters};
@@ -11,7 +11,7 @@ ghost use Rattle.clnp_machine.specs.Content.{Content, IsCarried, Labelled, frame
 ghost use Rattle.clnp_machine.specs.Given.{Appends};
 ghost use Rattle.clnp_machine.specs.Local as machine;
 ghost use Rattle.clnp_machine.specs.Local.{is_own};
-ghost use Rattle.clnp_machine.specs.Step.{content_comes, effect_of, moment_comes, outputs_of, responds};
+ghost use Rattle.clnp_machine.specs.Step.{content_comes, effect_of, moment_comes, outputs_of, responds, unheard_note};
 ghost use Rattle.clnp_machine.specs.System.{SystemState, next_number};
 ghost use Rattle.clnp_machine.specs.Unit.{IsCarriable, Packet, wire};
 ghost use Rattle.local_entity.specs.Local.{DoAll, Does, IsWhy};
@@ -221,12 +221,8 @@ impl SystemEntity {
                 out.append(&mut outputs)?;
                 Ok(())
             }
-            Err(EsisRefusal::Broken { rule, place }) => {
-                out.push(Output::Note(Note::BadEsis { rule, place }))?;
-                Ok(())
-            }
-            Err(EsisRefusal::NotEsis) => {
-                out.push(Output::Note(Note::Alien))?;
+            Err(refusal) => {
+                out.push(Output::Note(unheard(refusal)))?;
                 Ok(())
             }
         }
@@ -340,6 +336,16 @@ impl SystemEntity {
                 send_unit(&made, self.next_hop(&made.to), self.local.config(), out)
             }
         }
+    }
+}
+
+/// What is noted of a frame that no protocol accepts: the rule of ES-IS PDUs that it breaks, or that it is alien.
+fn unheard(refusal: EsisRefusal) -> Note
+    ensures { result ≡ unheard_note (Some refusal) }
+{
+    match refusal {
+        EsisRefusal::Broken { rule, place } => Note::BadEsis { rule, place },
+        EsisRefusal::NotEsis => Note::Alien,
     }
 }
 

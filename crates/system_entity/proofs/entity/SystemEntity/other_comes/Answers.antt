@@ -1,47 +1,24 @@
 -- An ES-IS PDU is heard, and what isn't one is noted.
 use Rattle.std.proofs.Common.{◌≡◌, ◌≢◌, ◌∙◌, refl, sym, ap, subst, ℕ, List, Some}
 use Rattle.pdu_header.specs.Rules.{octet}
-use Rattle.esis_pdus.specs.declared.pdu.EsisRefusal.{EsisRefusal}
-use Rattle.clnp_plan.specs.declared.note.Note.TheVariants.{BadEsis}
-use Rattle.clnp_machine.specs.Content.{Content, IsCarried, frame_of}
 use Rattle.clnp_machine.specs.Given.{Appends}
-use Rattle.clnp_machine.specs.Local.{tells}
-use Rattle.clnp_machine.specs.Step.{content_comes, effect_of, unheard_note}
-use Rattle.clnp_machine.specs.System.{Effect, SystemState}
+use Rattle.clnp_machine.specs.System.{Effect}
 use Rattle.clnp_machine.proofs.Given.{appends_note}
 use Rattle.system_entity.specs.Stands.{PartsStand}
 use Rattle.system_entity.proofs.Arrivals.{frame_unheard}
 use Rattle.system_entity.proofs.entity.SystemEntity.other_comes.Goals as goal
 
-pub returns-in_ok-push-in-Err-Broken-clause-stands : goal.returns-in_ok-push-in-Err-Broken-clause-stands
-returns-in_ok-push-in-Err-Broken-clause-stands c = λ s group content h carried frame.
+pub returns-in_ok-push-in-Err-clause-stands : goal.returns-in_ok-push-in-Err-clause-stands
+returns-in_ok-push-in-Err-clause-stands c = λ s group content h carried frame.
     subst (λ (e : Effect). PartsStand c.args.self.now e.after)
-    (frame_unheard c.no_frame_is_of_both_protocols.ensures.packet s c.args.place group c.bytes.result.now _
-    c.in-Err-Broken.ensures.judged c.in-Err-Broken.ensures.none (λ at. c.requires.other (ap (λ (f : List ℕ). octet f 1) (sym c.bytes.ensures) ∙ at))
+    (frame_unheard c.no_frame_is_of_both_protocols.ensures.packet s c.args.place group c.bytes.result.now c.in-Err.refusal
+    c.in-Err.ensures.judged c.in-Err.ensures.none (λ at. c.requires.other (ap (λ (f : List ℕ). octet f 1) (sym c.bytes.ensures) ∙ at))
     content carried (frame ∙ sym c.bytes.ensures)) h
 
-pub returns-in_ok-push-in-Err-Broken-clause-outputs : goal.returns-in_ok-push-in-Err-Broken-clause-outputs
-returns-in_ok-push-in-Err-Broken-clause-outputs c = λ s group content h carried frame.
+pub returns-in_ok-push-in-Err-clause-outputs : goal.returns-in_ok-push-in-Err-clause-outputs
+returns-in_ok-push-in-Err-clause-outputs c = λ s group content h carried frame.
     subst (λ (e : Effect). Appends s.moment c.args.out.now.items c.push.new.self.items e.outputs)
-    (frame_unheard c.no_frame_is_of_both_protocols.ensures.packet s c.args.place group c.bytes.result.now _
-    c.in-Err-Broken.ensures.judged c.in-Err-Broken.ensures.none (λ at. c.requires.other (ap (λ (f : List ℕ). octet f 1) (sym c.bytes.ensures) ∙ at))
+    (frame_unheard c.no_frame_is_of_both_protocols.ensures.packet s c.args.place group c.bytes.result.now c.in-Err.refusal
+    c.in-Err.ensures.judged c.in-Err.ensures.none (λ at. c.requires.other (ap (λ (f : List ℕ). octet f 1) (sym c.bytes.ensures) ∙ at))
     content carried (frame ∙ sym c.bytes.ensures))
-    (appends_note s.moment c.args.out.now.items c.push.new.self.items (BadEsis c.in-Err-Broken.rule c.in-Err-Broken.place)
-    (unheard_note (Some c.in-Err-Broken.field-0)) c.in_ok-push-in-Err-Broken.ensures.items
-    (ap (λ (r : EsisRefusal). unheard_note (Some r)) (sym c.in-Err-Broken.field-0-is)))
-
-pub returns-in_ok-push-in-Err-NotEsis-clause-stands : goal.returns-in_ok-push-in-Err-NotEsis-clause-stands
-returns-in_ok-push-in-Err-NotEsis-clause-stands c = λ s group content h carried frame.
-    subst (λ (e : Effect). PartsStand c.args.self.now e.after)
-    (frame_unheard c.no_frame_is_of_both_protocols.ensures.packet s c.args.place group c.bytes.result.now _
-    c.in-Err-NotEsis.ensures.judged c.in-Err-NotEsis.ensures.none (λ at. c.requires.other (ap (λ (f : List ℕ). octet f 1) (sym c.bytes.ensures) ∙ at))
-    content carried (frame ∙ sym c.bytes.ensures)) h
-
-pub returns-in_ok-push-in-Err-NotEsis-clause-outputs : goal.returns-in_ok-push-in-Err-NotEsis-clause-outputs
-returns-in_ok-push-in-Err-NotEsis-clause-outputs c = λ s group content h carried frame.
-    subst (λ (e : Effect). Appends s.moment c.args.out.now.items c.push-in-Err-NotEsis.new.self.items e.outputs)
-    (frame_unheard c.no_frame_is_of_both_protocols.ensures.packet s c.args.place group c.bytes.result.now _
-    c.in-Err-NotEsis.ensures.judged c.in-Err-NotEsis.ensures.none (λ at. c.requires.other (ap (λ (f : List ℕ). octet f 1) (sym c.bytes.ensures) ∙ at))
-    content carried (frame ∙ sym c.bytes.ensures))
-    (appends_note s.moment c.args.out.now.items c.push-in-Err-NotEsis.new.self.items _ _ c.in_ok-push-in-Err-NotEsis.ensures.items
-    (ap (λ (r : EsisRefusal). unheard_note (Some r)) (sym c.in-Err-NotEsis.field-0-is)))
+    (appends_note s.moment c.args.out.now.items c.push.new.self.items _ _ c.in_ok-push-in-Err.ensures.items c.unheard.ensures)

@@ -12,7 +12,7 @@ use Rattle.system_entity.proofs.entity.SystemEntity.respond.Goals as goal
 
 pub returns-then-not-group : goal.returns-then-not-group
 returns-then-not-group c = λ s p h alive own.
-    subst (λ (e : Effect). Appends s.moment c.args.out.now.items c.args.out.now.items e.outputs) (sym (alone_is_quiet s c.args.place c.args.group p search))
+    subst (λ (e : Effect). Appends s.moment c.args.out.now.items c.args.out.now.items e.outputs) (sym (alone_is_quiet s c.args.place c.args.group p (search)))
     (appends_none s.moment c.args.out.now.items c.args.out.now.items refl)
 
 pub returns-in-Host : goal.returns-in-Host
@@ -21,7 +21,7 @@ returns-in-Host c =
     (λ told s p h alive own.
     let parts = subst (λ (e : SystemEntityState). PartsStand e s) (sym c.self.view_is) h in
     let role = sym (ap (λ (x : SystemConfiguration). x.role) (c.config.ensures ∙ parts.local.configuration)) ∙ sym c.role.ensures ∙ c.in-Host.is in
-    subst (λ (e : Effect). Appends s.moment c.args.out.now.items c.tell.new.out.items e.outputs) (sym (host_responds s c.args.place c.args.group p role search alive own))
+    subst (λ (e : Effect). Appends s.moment c.args.out.now.items c.tell.new.out.items e.outputs) (sym (host_responds s c.args.place c.args.group p role (search) alive own))
     (told s s.moment parts.esis (sym parts.local.configuration ∙ sym c.config-in-Host.ensures)))
     c.tell.ensures
 

@@ -1,0 +1,40 @@
+-- The step is whole: the entity stands for the state after it.
+use Rattle.std.proofs.Common.{◌≡◌, refl, sym, subst, false}
+use Rattle.reassembly.specs.State.{IsReady}
+use Rattle.clnp_machine.specs.Local.{discard}
+use Rattle.system_entity.specs.State.{SystemEntityState}
+use Rattle.system_entity.specs.Stands.{PartsStand, Stands}
+use Rattle.system_entity.proofs.Parts.{while_spent}
+use Rattle.system_entity.proofs.entity.SystemEntity.discard.Goals as goal
+
+pub returns-clause-stands : goal.returns-clause-stands
+returns-clause-stands c = λ s content h carried frame.
+    let here = subst (λ (e : SystemEntityState). Stands e s) (sym c.self.view_is) h in
+    record {
+      not_spent = refl;
+      parts = while_spent _ false _ (subst (λ (e : SystemEntityState). PartsStand e (discard s content c.args.reason c.args.place).after) (sym c.self-2.view_is)
+          (c.in_ok-drop_frame.ensures.stands s content (while_spent _ _ s here.parts) carried frame));
+    }
+
+pub returns-clause-outputs : goal.returns-clause-outputs
+returns-clause-outputs c = λ s content h carried frame.
+    let here = subst (λ (e : SystemEntityState). Stands e s) (sym c.self.view_is) h in
+    c.in_ok-drop_frame.ensures.outputs s content (while_spent _ _ s here.parts) carried frame
+
+pub invariant_of-self-2 : goal.invariant_of-self-2
+invariant_of-self-2 c =
+    let old = c.self.invariant.ready c.if-self.false in
+    let content = c.has_content.ensures in
+    record {
+      moment = c.self-2.invariant.moment;
+      hold = c.self-2.invariant.hold;
+      ready = λ free. record {
+        state = (discard old.state content.0 c.args.reason c.args.place).after;
+        stands = record {
+          not_spent = refl;
+          parts = while_spent _ false _ (subst (λ (e : SystemEntityState). PartsStand e (discard old.state content.0 c.args.reason c.args.place).after) (sym c.self-2.view_is)
+              (c.in_ok-drop_frame.ensures.stands old.state content.0 (while_spent _ _ old.state old.stands.parts) content.1 content.2));
+        };
+        ready = subst (λ (e : SystemEntityState). IsReady e.moment e.local.table) (sym c.self-2.view_is) c.in_ok-drop_frame.ensures.ready;
+      };
+    }

@@ -1,0 +1,57 @@
+-- The step is whole, or nothing was done yet.
+use Rattle.std.proofs.Common.{◌≡◌, ◌∙◌, refl, sym, ap, subst, Bool, false, List}
+use Rattle.reassembly.specs.State.{IsReady}
+use Rattle.esis_tables.specs.declared.fact.Place.{Place}
+use Rattle.clnp_plan.specs.declared.output.Output.{Output}
+use Rattle.clnp_machine.specs.Content.{Content}
+use Rattle.clnp_machine.specs.System.{SystemState}
+use Rattle.system_entity.specs.Comes.{ComesOf, LeavesAsItWas}
+use Rattle.system_entity.specs.State.{SystemEntityState}
+use Rattle.system_entity.specs.Stands.{IsReadyFor, PartsStand, Stands}
+use Rattle.system_entity.specs.declared.entity.Arrival.{Arrival}
+use Rattle.system_entity.specs.declared.entity.Arrival.TheVariants.{Done, Passes}
+use Rattle.system_entity.proofs.Parts.{while_spent}
+use Rattle.system_entity.proofs.entity.SystemEntity.frame.Goals as goal
+
+-- that the entity isn't spent any more changes nothing of what came
+comes_again : (arrival : Arrival) (s : SystemState) (place : Place) (group : Bool) (content : Content) (here : SystemEntityState) (spent : Bool)
+    (before after : List Output) → ComesOf arrival s place group content here before after
+    → ComesOf arrival s place group content (record here { spent = spent }) before after
+comes_again Done s place group content here spent before after h =
+    record { parts = while_spent here spent _ h.parts; outputs = h.outputs }
+comes_again (Passes to) s place group content here spent before after h = h
+
+-- there is a state for which it stands
+some_state : (arrival : Arrival) (s : SystemState) (place : Place) (group : Bool) (content : Content) (old here : SystemEntityState)
+    (before after : List Output) → ComesOf arrival s place group content here before after → LeavesAsItWas arrival old here before after
+    → PartsStand old s → (t : SystemState) × PartsStand here t
+some_state Done s place group content old here before after h left stands = (_, h.parts)
+some_state (Passes to) s place group content old here before after h left stands =
+    (s, subst (λ (e : SystemEntityState). PartsStand e s) (sym left.0) stands)
+
+pub returns-clause-comes : goal.returns-clause-comes
+returns-clause-comes c = λ s content h carried frame.
+    let here = subst (λ (e : SystemEntityState). Stands e s) (sym c.self.view_is) h in
+    comes_again c.in_ok-arrival.arrival s c.args.place c.args.group content _ false c.args.out.now.items c.arrive.new.out.items
+    (subst (λ (e : SystemEntityState). ComesOf c.in_ok-arrival.arrival s c.args.place c.args.group content e c.args.out.now.items c.arrive.new.out.items)
+    (sym c.self-2.view_is) (c.in_ok-arrival.ensures.comes s content (while_spent _ _ s here.parts) carried frame))
+
+pub invariant_of-self-2 : goal.invariant_of-self-2
+invariant_of-self-2 c =
+    let old = c.self.invariant.ready c.if-self.false in
+    let content = c.has_content.ensures in
+    let parts = while_spent _ _ old.state old.stands.parts in
+    let some = some_state c.in_ok-arrival.arrival old.state c.args.place c.args.group content.0 _ c.arrive.new.self c.args.out.now.items c.arrive.new.out.items
+    (c.in_ok-arrival.ensures.comes old.state content.0 parts content.1 content.2) c.in_ok-arrival.ensures.left parts in
+    record {
+      moment = c.self-2.invariant.moment;
+      hold = c.self-2.invariant.hold;
+      ready = λ free. record {
+        state = some.0;
+        stands = record {
+          not_spent = refl;
+          parts = while_spent _ false _ (subst (λ (e : SystemEntityState). PartsStand e some.0) (sym c.self-2.view_is) some.1);
+        };
+        ready = subst (λ (e : SystemEntityState). IsReady e.moment e.local.table) (sym c.self-2.view_is) c.in_ok-arrival.ensures.ready;
+      };
+    }
