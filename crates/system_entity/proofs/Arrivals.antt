@@ -18,8 +18,8 @@ use Rattle.esis_pdus.specs.Value.{EsisValue}
 use Rattle.esis_tables.specs.declared.fact.Place.{Place}
 use Rattle.clnp_machine.specs.Unit.{IsCarriable, Packet, value_of, wire}
 use Rattle.clnp_machine.specs.Content.{Content, IsCarried, Labelled, Esis, Unlabelled, frame_of}
-use Rattle.clnp_machine.specs.System.{SystemState, Effect}
-use Rattle.clnp_machine.specs.Local.{Deed, discard, tells}
+use Rattle.clnp_machine.specs.System.{SystemState}
+use Rattle.clnp_machine.specs.Local.{discard, tells}
 use Rattle.clnp_machine.specs.Steps.{CarriesOnePacket, CarriesOneEsisValue}
 use Rattle.clnp_machine.specs.Step.{content_comes, discard_refused, effect_of, octets_come, unheard_note}
 

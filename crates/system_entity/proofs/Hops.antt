@@ -1,11 +1,11 @@
 -- Where a system sends, by its role.
-use Rattle.std.proofs.Common.{◌≡◌, ◌∙◌, refl, sym, ap, subst, ℕ, ◌≤◌, List, Option, None, Some, option_map}
+use Rattle.std.proofs.Common.{◌≡◌, ◌∙◌, sym, ap, ℕ, List, Option, Some, option_map}
 use Rattle.esis_tables.specs.declared.fact.Place.{Place}
 use Rattle.esis_tables.specs.declared.fact.TableKind.TheVariants.{Es}
 use Rattle.esis_tables.specs.NextHop as heard
 use Rattle.clnp_plan.specs.declared.config.Role.{Role}
 use Rattle.clnp_plan.specs.declared.config.Role.TheVariants.{Host, Router}
-use Rattle.clnp_machine.specs.Step.{Hop, hop_of, hop_to, host_hop, next_hop}
+use Rattle.clnp_machine.specs.Step.{hop_of, hop_to, host_hop, next_hop}
 use Rattle.clnp_machine.specs.System.{SystemState}
 
 -- a host's hop follows from what it heard

@@ -6,15 +6,12 @@ use Rattle.std.proofs.lemmas.List.{append-nil}
 use Rattle.clnp_plan.specs.declared.output.Output.{Output}
 use Rattle.clnp_machine.specs.System as machine
 use Rattle.clnp_machine.specs.System.{SystemState}
-use Rattle.clnp_machine.specs.Unit.{Unit as DataUnit}
 use Rattle.clnp_machine.specs.Local as local
 use Rattle.clnp_machine.specs.Local.{Sends, Tells}
 use Rattle.clnp_machine.specs.Step.{outputs_of}
 use Rattle.clnp_machine.specs.Given.{Appends}
 use Rattle.clnp_machine.proofs.Given.{appends_both, appends_none}
 use Rattle.local_entity.specs.declared.action.Action.{Action}
-use Rattle.local_entity.specs.declared.action.Action.TheVariants.{Send}
-use Rattle.local_entity.specs.declared.action.Made.{Made}
 use Rattle.local_entity.specs.Local.{Does, DoAll}
 use Rattle.local_entity.specs.Local as entity
 use Rattle.system_entity.specs.Deeds.{IsFresh}

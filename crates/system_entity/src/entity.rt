@@ -38,9 +38,7 @@ pub enum Arrival {
     /// All was done that is to be done.
     Done,
     /// It carries a PDU with a lifetime left for an address that isn't the system's, and nothing was done yet.
-    Passes {
-        to: Address,
-    },
+    Passes { to: Address },
 }
 
 /// What a system does whatever its role. Its moment is that of its last `tick`, or of its start.

@@ -165,8 +165,7 @@ impl SystemEntity {
         laws::hellos_leave_the_rest();
         let mut outputs = Vec::new(alloc);
         let mut actions = Vec::new(alloc);
-        self.local
-            .receive(alloc, self.moment, frame, &mut actions)?;
+        self.local.receive(alloc, self.moment, frame, &mut actions)?;
         self.give_out(actions, &mut outputs)?;
         self.respond(place, group, &mut outputs)?;
         out.append(&mut outputs)?;
@@ -294,9 +293,7 @@ impl SystemEntity {
         let body = frame.into_view();
         laws::deeds_are_of_their_moment();
         let mut actions = Vec::new(alloc);
-        let unit = self
-            .local
-            .make(alloc, self.moment, kind, from, to, &body, ask, &mut actions)?;
+        let unit = self.local.make(alloc, self.moment, kind, from, to, &body, ask, &mut actions)?;
         let mut outputs = Vec::new(alloc);
         let Ok(()) = self.give_out(actions, &mut outputs) else {
             return Err(SendRefusal::NoMemory);

@@ -1,8 +1,6 @@
 -- The frame is a packet's, or refused.
-use Rattle.std.proofs.Common.{◌≡◌, ◌∙◌, refl, sym, ap, subst, ℕ, List, Some}
+use Rattle.std.proofs.Common.{◌∙◌, sym, ap, subst, Some}
 use Rattle.std.proofs.lemmas.Result.{IfOk-weaker}
-use Rattle.pdu_header.specs.Value.{PduValue}
-use Rattle.pdu_header.specs.Grammar.{BeginsWith}
 use Rattle.pdu_header.specs.View.{pdu_value}
 use Rattle.clnp_machine.specs.Given.{Appends}
 use Rattle.clnp_machine.specs.System.{Effect}

@@ -1,9 +1,9 @@
 -- Buffers end, what was heard is forgotten, and a hello may be due.
-use Rattle.std.proofs.Common.{◌≡◌, ◌∙◌, ℕ, ◌≤◌, sym, ap, subst, List, ◌++◌}
+use Rattle.std.proofs.Common.{◌≡◌, ◌∙◌, ℕ, ◌≤◌, sym, subst, ◌++◌}
 use Rattle.std.specs.List.{AllByRecursion}
 use Rattle.clnp_machine.specs.Given.{Appends}
 use Rattle.clnp_machine.specs.Esis.{forgets, says_hello}
-use Rattle.clnp_machine.specs.Local.{Deed, at_moment, tick}
+use Rattle.clnp_machine.specs.Local.{at_moment, tick}
 use Rattle.clnp_machine.specs.Step.{effect_of}
 use Rattle.clnp_machine.specs.System.{SystemState, then_does}
 use Rattle.clnp_machine.proofs.Given.{appends_both}

@@ -1,5 +1,5 @@
 -- The step is whole: the entity stands for the state after it.
-use Rattle.std.proofs.Common.{◌≡◌, refl, sym, subst, false}
+use Rattle.std.proofs.Common.{refl, sym, subst, false}
 use Rattle.reassembly.specs.State.{IsReady}
 use Rattle.clnp_machine.specs.Local.{discard}
 use Rattle.system_entity.specs.State.{SystemEntityState}

@@ -1,9 +1,8 @@
 -- The entity notes it, and what it does is given out.
-use Rattle.std.proofs.Common.{◌≡◌, sym, subst, List}
+use Rattle.std.proofs.Common.{sym, subst}
 use Rattle.clnp_machine.specs.Local.{discard}
-use Rattle.clnp_machine.specs.System.{SystemState}
 use Rattle.system_entity.specs.State.{SystemEntityState}
-use Rattle.system_entity.specs.Stands.{PartsStand, PartsStandSince}
+use Rattle.system_entity.specs.Stands.{PartsStand}
 use Rattle.system_entity.proofs.Discards.{discard_is}
 use Rattle.system_entity.proofs.Outputs.{all_done, appends_fresh}
 use Rattle.system_entity.proofs.Parts.{deed_is_fresh, parts_after_deed}

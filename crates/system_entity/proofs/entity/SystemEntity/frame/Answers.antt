@@ -1,5 +1,5 @@
 -- The step is whole, or nothing was done yet.
-use Rattle.std.proofs.Common.{◌≡◌, ◌∙◌, refl, sym, ap, subst, Bool, false, List}
+use Rattle.std.proofs.Common.{refl, sym, subst, Bool, false, List}
 use Rattle.reassembly.specs.State.{IsReady}
 use Rattle.esis_tables.specs.declared.fact.Place.{Place}
 use Rattle.clnp_plan.specs.declared.output.Output.{Output}
@@ -7,7 +7,7 @@ use Rattle.clnp_machine.specs.Content.{Content}
 use Rattle.clnp_machine.specs.System.{SystemState}
 use Rattle.system_entity.specs.Comes.{ComesOf, LeavesAsItWas}
 use Rattle.system_entity.specs.State.{SystemEntityState}
-use Rattle.system_entity.specs.Stands.{IsReadyFor, PartsStand, Stands}
+use Rattle.system_entity.specs.Stands.{PartsStand, Stands}
 use Rattle.system_entity.specs.declared.entity.Arrival.{Arrival}
 use Rattle.system_entity.specs.declared.entity.Arrival.TheVariants.{Done, Passes}
 use Rattle.system_entity.proofs.Parts.{while_spent}

@@ -1,16 +1,15 @@
 -- The unit that was made is given out.
-use Rattle.std.proofs.Common.{◌≡◌, ◌∙◌, ℕ, List, length, refl, sym, ap, subst, arith}
+use Rattle.std.proofs.Common.{◌≡◌, ◌∙◌, ℕ, List, length, sym, ap, subst, arith}
 use Rattle.std.specs.List.{AllByRecursion}
 use Rattle.std.proofs.lemmas.List.{take_all}
 use Rattle.clnp_views.specs.Extent.{Extent, seen}
 use Rattle.clnp_machine.specs.Local.{make}
 use Rattle.clnp_machine.specs.Given.{Appends}
 use Rattle.clnp_machine.specs.Step.{effect_of}
-use Rattle.clnp_machine.specs.System.{SystemState}
 use Rattle.local_entity.specs.Local as local_entity
 use Rattle.system_entity.specs.Deeds.{IsFresh}
 use Rattle.system_entity.specs.State.{SystemEntityState}
-use Rattle.system_entity.specs.Stands.{PartsStand, PartsStandSince}
+use Rattle.system_entity.specs.Stands.{PartsStand}
 use Rattle.system_entity.proofs.Outputs.{all_done, appends_fresh}
 use Rattle.system_entity.proofs.Parts.{deed_is_fresh, parts_after_deed, parts_now}
 use Rattle.system_entity.proofs.entity.SystemEntity.make_unit.Goals as goal

@@ -1,5 +1,5 @@
 -- What was heard tells it, by the role.
-use Rattle.std.proofs.Common.{◌≡◌, ◌∙◌, refl, sym, ap, subst, ℕ, ◌≤◌, Option, None, Some, option_map}
+use Rattle.std.proofs.Common.{◌∙◌, sym, ap, subst, ℕ, ◌≤◌, Option, Some, option_map}
 use Rattle.clnp_plan.specs.Configuration.{SystemConfiguration}
 use Rattle.esis_tables.specs.declared.fact.Place.{Place}
 use Rattle.clnp_machine.specs.Step.{hop_to, host_hop}

@@ -1,5 +1,5 @@
 -- An ES-IS PDU is heard, and what isn't one is noted.
-use Rattle.std.proofs.Common.{◌≡◌, ◌≢◌, ◌∙◌, refl, sym, ap, subst, ℕ, List, Some}
+use Rattle.std.proofs.Common.{◌∙◌, sym, ap, subst, ℕ, List}
 use Rattle.pdu_header.specs.Rules.{octet}
 use Rattle.clnp_machine.specs.Given.{Appends}
 use Rattle.clnp_machine.specs.System.{Effect}

@@ -1,5 +1,5 @@
 -- What the entity does is given out, and then the answer to a group.
-use Rattle.std.proofs.Common.{◌≡◌, ◌∙◌, ℕ, Bool, true, sym, ap, subst, List, ◌++◌}
+use Rattle.std.proofs.Common.{◌≡◌, ◌∙◌, ℕ, true, sym, ap, subst, List, ◌++◌}
 use Rattle.std.specs.List.{AllByRecursion}
 use Rattle.clnp_plan.specs.Configuration.{SystemConfiguration}
 use Rattle.clnp_machine.specs.Given.{Appends}
@@ -9,7 +9,7 @@ use Rattle.clnp_machine.specs.System.{SystemState, Output}
 use Rattle.clnp_machine.proofs.Given.{appends_both}
 use Rattle.system_entity.specs.Deeds.{IsFresh}
 use Rattle.system_entity.specs.State.{SystemEntityState}
-use Rattle.system_entity.specs.Stands.{PartsStand, PartsStandSince}
+use Rattle.system_entity.specs.Stands.{PartsStand}
 use Rattle.system_entity.proofs.Outputs.{all_done, appends_fresh}
 use Rattle.system_entity.proofs.Packets.{frame_is, packet_carriable, packet_of}
 use Rattle.system_entity.proofs.Parts.{deed_is_fresh, parts_after_deed, parts_now}

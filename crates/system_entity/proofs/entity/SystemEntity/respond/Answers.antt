@@ -1,9 +1,9 @@
 -- Only a host that was asked for through a group answers.
-use Rattle.std.proofs.Common.{◌≡◌, ◌∙◌, refl, sym, ap, subst, List, []}
+use Rattle.std.proofs.Common.{◌∙◌, refl, sym, ap, subst}
 use Rattle.std.proofs.lemmas.Result.{on_ok_weaker}
 use Rattle.clnp_plan.specs.Configuration.{SystemConfiguration}
 use Rattle.clnp_machine.specs.Given.{Appends}
-use Rattle.clnp_machine.specs.System.{Effect, Output}
+use Rattle.clnp_machine.specs.System.{Effect}
 use Rattle.clnp_machine.proofs.Given.{appends_none}
 use Rattle.system_entity.specs.State.{SystemEntityState}
 use Rattle.system_entity.specs.Stands.{PartsStand}

@@ -1,9 +1,9 @@
 -- Both parts stand for the state after a restart.
-use Rattle.std.proofs.Common.{◌≡◌, ◌∙◌, sym, ap, subst, arith}
+use Rattle.std.proofs.Common.{◌≡◌, ◌∙◌, sym, subst, arith}
 use Rattle.clnp_machine.specs.Local.{restarted}
 use Rattle.clnp_machine.specs.System.{SystemState}
 use Rattle.system_entity.specs.State.{SystemEntityState}
-use Rattle.system_entity.specs.Stands.{PartsStand, PartsStandSince, Stands}
+use Rattle.system_entity.specs.Stands.{Stands}
 use Rattle.system_entity.proofs.entity.SystemEntity.restart.Goals as goal
 
 abbrev inside : goal.After-restart-2 → SystemEntityState

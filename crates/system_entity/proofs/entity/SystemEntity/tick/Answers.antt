@@ -1,9 +1,9 @@
 -- The step is whole: the entity stands for the state after it.
-use Rattle.std.proofs.Common.{◌≡◌, refl, sym, subst, ℕ, false}
+use Rattle.std.proofs.Common.{refl, sym, subst, ℕ, false}
 use Rattle.reassembly.specs.State.{IsReady}
 use Rattle.clnp_machine.specs.Step.{moment_comes}
 use Rattle.system_entity.specs.State.{SystemEntityState}
-use Rattle.system_entity.specs.Stands.{PartsStand, Stands}
+use Rattle.system_entity.specs.Stands.{PartsStand}
 use Rattle.system_entity.proofs.Parts.{while_spent}
 use Rattle.system_entity.proofs.entity.SystemEntity.tick.Goals as goal
 
