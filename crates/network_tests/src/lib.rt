@@ -9,6 +9,6 @@ mod clnp_program_calls;
 #[cfg(test)]
 mod clnp_world_calls;
 #[cfg(test)]
-mod end_system_calls;
-#[cfg(test)]
 mod local_entity_calls;
+#[cfg(test)]
+mod system_calls;
