@@ -1,5 +1,5 @@
 //! A system of a network.
-ghost use Rattle.std.specs.Prelude.{◌≡◌, ◌≤◌, ◌<◌, ◌^◌, ℕ, IfNone, IfOk, IfSome, OnOk, OnErr, IsErr, true, length};
+ghost use Rattle.std.specs.Prelude.{◌≡◌, ◌≤◌, ◌<◌, ◌+◌, ◌^◌, ℕ, IfNone, IfOk, IfSome, OnOk, OnErr, IsErr, true, length};
 ghost use Rattle.clnp_plan.specs.declared.config.Role.TheVariants as role;
 ghost use Rattle.clnp_machine.specs.Content.{Content, IsCarried, frame_of};
 ghost use Rattle.clnp_machine.specs.Given.{Appends};
@@ -45,12 +45,8 @@ impl System {
         ensures moment { IfOk result (λ system. (entity_of system).moment ≡ now) }
     {
         match config.role() {
-            Role::Host => Ok(System::Host(EndSystem::new(
-                alloc, config, limits, now, quiet,
-            )?)),
-            Role::Router => Ok(System::Router(Router::new(
-                alloc, config, limits, now, quiet,
-            )?)),
+            Role::Host => Ok(System::Host(EndSystem::new(alloc, config, limits, now, quiet)?)),
+            Role::Router => Ok(System::Router(Router::new(alloc, config, limits, now, quiet)?)),
         }
     }
 
@@ -91,7 +87,6 @@ impl System {
         frame: &Frame,
         out: &mut Vec<Output>,
     ) -> Result<(), NoMemory>
-        requires port { port < length (configuration_of self.old).ports }
         requires few { length frame.now ≤ 70000 }
         ensures stands { OnOk result ((s : SystemState) (content : Content) → Stands self.old s → IsCarried content
             → frame_of content ≡ frame.now → Stands self.new (step s (FrameComes port from group content)).after) }
@@ -134,22 +129,36 @@ impl System {
     /// The host, where it is one.
     pub fn as_host(&self) -> Option<&EndSystem>
         ensures host { IfSome result (λ host. self.now ≡ variant.Host host.now) }
+        ensures role { IfSome result (λ host. (configuration_of self.now).role ≡ role.Host) }
         ensures none { IfNone result ((configuration_of self.now).role ≡ role.Router) }
     {
         match self {
-            System::Host(host) => Some(host),
-            System::Router(_) => None,
+            System::Host(host) => {
+                host.config();
+                Some(host)
+            }
+            System::Router(router) => {
+                router.config();
+                None
+            }
         }
     }
 
     /// The router, where it is one.
     pub fn as_router(&self) -> Option<&Router>
         ensures router { IfSome result (λ router. self.now ≡ variant.Router router.now) }
+        ensures role { IfSome result (λ router. (configuration_of self.now).role ≡ role.Router) }
         ensures none { IfNone result ((configuration_of self.now).role ≡ role.Host) }
     {
         match self {
-            System::Host(_) => None,
-            System::Router(router) => Some(router),
+            System::Host(host) => {
+                host.config();
+                None
+            }
+            System::Router(router) => {
+                router.config();
+                Some(router)
+            }
         }
     }
 }

@@ -1,5 +1,5 @@
 //! The steps of a host.
-ghost use Rattle.std.specs.Prelude.{◌≡◌, ◌≤◌, ◌<◌, ◌^◌, ℕ, IfErr, IfOk, OnOk, OnErr, IsErr, MatchResult, None, Some, Err, true, length};
+ghost use Rattle.std.specs.Prelude.{◌≡◌, ◌≤◌, ◌<◌, ◌+◌, ◌^◌, ℕ, IfErr, IfOk, OnOk, OnErr, IsErr, MatchResult, None, Some, Err, true, false, length};
 ghost use Rattle.clnp_options.specs.Grammar.{FitsKind};
 ghost use Rattle.clnp_options.specs.Parameter.{parameters};
 ghost use Rattle.pdu_header.specs.declared.kind.Kind.TheVariants.{Dt};
@@ -105,7 +105,6 @@ impl EndSystem {
         frame: &Frame,
         out: &mut Vec<Output>,
     ) -> Result<(), NoMemory>
-        requires port { port ≡ 0 }
         requires few { length frame.now ≤ 70000 }
         ensures stands { OnOk result ((s : SystemState) (content : Content) → Stands self.old s → IsCarried content
             → frame_of content ≡ frame.now → Stands self.new (step s (FrameComes port from group content)).after) }

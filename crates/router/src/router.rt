@@ -1,5 +1,5 @@
 //! The steps of a router.
-ghost use Rattle.std.specs.Prelude.{◌≡◌, ◌≤◌, ◌<◌, ◌^◌, ℕ, IfErr, IfOk, OnOk, OnErr, IsErr, MatchResult, None, Some, Err, true, length};
+ghost use Rattle.std.specs.Prelude.{◌≡◌, ◌≤◌, ◌<◌, ◌+◌, ◌^◌, ℕ, IfErr, IfOk, OnOk, OnErr, IsErr, MatchResult, None, Some, Err, true, length};
 ghost use Rattle.reassembly.specs.Buffer.{held};
 ghost use Rattle.clnp_plan.specs.declared.config.Role.TheVariants.{Router as IsRouter};
 ghost use Rattle.clnp_machine.specs.Content.{Content, IsCarried, frame_of};
@@ -101,7 +101,6 @@ impl Router {
         frame: &Frame,
         out: &mut Vec<Output>,
     ) -> Result<(), NoMemory>
-        requires port { port < length self.old.entity.local.configuration.ports }
         requires few { length frame.now ≤ 70000 }
         ensures stands { OnOk result ((s : SystemState) (content : Content) → Stands self.old s → IsCarried content
             → frame_of content ≡ frame.now → Stands self.new (step s (FrameComes port from group content)).after) }
