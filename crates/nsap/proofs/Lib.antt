@@ -1,2 +1,3 @@
 pub mod HexTextFacts
+pub mod PrefixFacts
 pub mod TextFacts
