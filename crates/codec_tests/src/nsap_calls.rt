@@ -1,4 +1,4 @@
-use nsap::{Address, NsapFault, Snpa, Target};
+use nsap::{Address, NsapFault, Prefix, Snpa, Target};
 use std::cmp::Ordering;
 use std::test::Fail;
 
@@ -92,5 +92,27 @@ fn compares_octets(rt: HostRuntime) -> Result<(), Fail> {
     let target = Target::System(snpa);
     assert!(rt; target == target && target != Target::EndSystems);
     assert!(rt; Target::Routers != Target::EndSystems);
+    Ok(())
+}
+
+#[test]
+fn reads_prefixes(rt: HostRuntime) -> Result<(), Fail> {
+    let address = Address::from_text(b"4A002701")?;
+    let prefix = Prefix::from_text(b"4.a0")?;
+    assert_eq!(rt; prefix, Prefix::of_address(&address).first(3));
+    assert!(rt; prefix.covers(&address) && !prefix.covers(&Address::from_bytes(&[0x4a])?));
+    assert_eq!(rt;
+        (prefix.len(), prefix.digit(0), prefix.digit(1)),
+        (3, 4, 10)
+    );
+    assert!(rt; Prefix::from_text(b"*")? < prefix);
+    assert_eq!(rt;
+        Prefix::from_text(&[b'0'; 41]),
+        Err(NsapFault::TooManyDigits)
+    );
+    assert_eq!(rt;
+        Prefix::from_text(b"47*"),
+        Err(NsapFault::BadDigit { place: 2 })
+    );
     Ok(())
 }
