@@ -1,4 +1,4 @@
-use nsap::{Address, NsapFault, Snpa, Target};
+use nsap::{Address, NsapFault, Prefix, Snpa, Target};
 use std::cmp::Ordering;
 use std::test::Fail;
 
@@ -92,5 +92,25 @@ fn compares_octets(rt: HostRuntime) -> Result<(), Fail> {
     let target = Target::System(snpa);
     assert!(rt; target == target && target != Target::EndSystems);
     assert!(rt; Target::Routers != Target::EndSystems);
+    Ok(())
+}
+
+#[test]
+fn reads_prefixes(rt: HostRuntime) -> Result<(), Fail> {
+    let address = Address::from_text(b"4A002701")?;
+    let prefix = Prefix::from_text(b"4.a0")?;
+    let digits = Prefix::of_address(&address);
+    assert!(rt; prefix.len() == 3 && digits.len() == 8);
+    assert!(rt; prefix == digits.first(3) && prefix.digit(1) == 10);
+    assert!(rt; prefix.covers(&address) && !digits.covers(&Address::from_bytes(&[0x4a])?));
+    assert!(rt; Prefix::from_text(b"*")? < prefix);
+    assert_eq!(rt;
+        Prefix::from_text(&[b'0'; 41]),
+        Err(NsapFault::TooManyDigits)
+    );
+    assert_eq!(rt;
+        Prefix::from_text(b"47*"),
+        Err(NsapFault::BadDigit { place: 2 })
+    );
     Ok(())
 }

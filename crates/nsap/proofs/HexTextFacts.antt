@@ -29,7 +29,7 @@ digit_may_stand c d digit =
     rw (no, yes) refl
 
 -- the hexadecimal text has no bad character
-no_bad_digit : (i : ℕ) (octets : List ℕ) → IsBytes octets
+pub no_bad_digit : (i : ℕ) (octets : List ℕ) → IsBytes octets
     → position_from (λ c. not (may_stand c)) i (encode_with lower_digits octets) ≡ None
 unfolding encode_with
 no_bad_digit i [] bytes = refl
@@ -40,7 +40,7 @@ no_bad_digit i (b ∷ rest) bytes =
     rw (high, low) (no_bad_digit (i + 1 + 1) rest (λ k. bytes (suc k)))
 
 -- the hexadecimal text has no dots
-no_dots : (octets : List ℕ) → IsBytes octets → without_dots (encode_with lower_digits octets) ≡ encode_with lower_digits octets
+pub no_dots : (octets : List ℕ) → IsBytes octets → without_dots (encode_with lower_digits octets) ≡ encode_with lower_digits octets
 unfolding encode_with
 no_dots [] bytes = refl
 no_dots (b ∷ rest) bytes =

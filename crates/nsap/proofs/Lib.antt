@@ -1,2 +1,4 @@
 pub mod HexTextFacts
+pub mod PrefixFacts
+pub mod PrefixTexts
 pub mod TextFacts

@@ -1,15 +1,18 @@
-//! Addresses of the connectionless network protocol: NSAP addresses (ISO/IEC 8473) and the addresses
-//! of points of attachment to a subnetwork (ISO 9542).
+//! Addresses of the connectionless network protocol: NSAP addresses (ISO/IEC 8473), their prefixes, and the
+//! addresses of points of attachment to a subnetwork (ISO 9542).
 #![tactic(auto)]
 
 mod address;
 mod fault;
 pub mod laws;
 mod octets;
+mod prefix;
 mod snpa;
 mod target;
+mod text;
 
 pub use crate::address::Address;
 pub use crate::fault::NsapFault;
+pub use crate::prefix::Prefix;
 pub use crate::snpa::Snpa;
 pub use crate::target::Target;

@@ -1,12 +1,13 @@
 //! One to twenty octets, which lie in the value itself.
-ghost use Rattle.std.specs.Prelude.{◌≡◌, ◌++◌, ◌<◌, ◌≤◌, length, take, IfOk, IfNone, IfSome, OnOk, OnErr, Some, nat_eq, refl};
+ghost use Rattle.std.specs.Prelude.{◌≡◌, ◌++◌, IfOk, OnOk, OnErr, Some, nat_eq, refl};
 ghost use Rattle.std.specs.Cmp.{partial_equiv_from_equiv};
 ghost use Rattle.std.specs.Cmp.Lexicographic.{nat_list_cmp_total, nat_list_eq_equiv, pointwise, slice_cmp, texts_po, texts_ties};
 ghost use Rattle.std.specs.Ordering.{nat_cmp};
 ghost use Rattle.nsap.specs.Address.{IsAddress, address_of};
-ghost use Rattle.nsap.specs.Text.{bad_digit, hex_text, may_stand, octets_of, without_dots};
+ghost use Rattle.nsap.specs.Text.{hex_text, octets_of};
 
 use crate::fault::NsapFault;
+use crate::text::{collect_digits, first_bad_digit};
 use clnp_base::{InlineOctets, NoMemory, push_hex};
 use std::cmp::Ordering;
 use std::marker::Model;
@@ -121,37 +122,4 @@ impl Ord for Octets {
     fn cmp(&self, other: &Octets) -> Ordering {
         self.as_bytes().cmp(other.as_bytes())
     }
-}
-
-/// Whether a character may stand in the text of an address.
-fn is_text(c: u8) -> bool
-    ensures { result ≡ may_stand c }
-{
-    c == b'.' || c.is_ascii_hexdigit()
-}
-
-/// The place of the first character that may not stand in the text of an address.
-fn first_bad_digit(text: &[u8]) -> Option<usize>
-    ensures { result ≡ bad_digit text.now }
-{
-    text.iter().position(|c| !is_text(*c))
-}
-
-/// Puts the characters of the text that aren't dots at the front of `digits`, and gives their number;
-/// none where they are more than 40.
-fn collect_digits(text: &[u8], digits: &mut [u8; 40]) -> Option<usize>
-    ensures few { IfSome result (λ n. (n ≤ 40) × (take n digits.new ≡ without_dots text.now)) }
-    ensures many { IfNone result (40 < length (without_dots text.now)) }
-{
-    let mut count = 0;
-    for c in text {
-        if *c != b'.' {
-            if count == digits.len() {
-                return None;
-            }
-            digits[count] = *c;
-            count += 1;
-        }
-    }
-    Some(count)
 }

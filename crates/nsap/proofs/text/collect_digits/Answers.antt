@@ -1,7 +1,7 @@
 use Rattle.std.proofs.Common.{arith, ap, ◌∙◌, length, length-set, length-take-le}
 use Rattle.nsap.proofs.TextFacts.{digits_more, digits_past, digits_same}
-use Rattle.nsap.proofs.octets.collect_digits.Goals as goal
-use Rattle.nsap.proofs.octets.collect_digits.Goals.{then-c-ne46+else-count-eq40, else-c-ne46}
+use Rattle.nsap.proofs.text.collect_digits.Goals as goal
+use Rattle.nsap.proofs.text.collect_digits.Goals.{then-c-ne46+else-count-eq40, else-c-ne46}
 
 pub returns-then-count-eq40-clause-many : goal.returns-then-count-eq40-clause-many
 returns-then-count-eq40-clause-many c =

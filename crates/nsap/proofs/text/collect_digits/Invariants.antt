@@ -1,6 +1,6 @@
 use Rattle.std.proofs.Common.{◌≡◌, ◌≤◌, length, take}
 use Rattle.nsap.specs.Text.{without_dots}
-use Rattle.nsap.proofs.octets.collect_digits.Given as goal
+use Rattle.nsap.proofs.text.collect_digits.Given as goal
 
 abbrev pub invariant-loop-c : goal.invariant-loop-c
 invariant-loop-c l = record {

@@ -1,0 +1,21 @@
+use Rattle.std.proofs.Common.{◌≡◌, refl, subst, take}
+use Rattle.std.proofs.lemmas.Option.{slice_get_read}
+use Rattle.forwarding.specs.Distinct.{IsTwice}
+use Rattle.forwarding.proofs.Prefixes.{IsTwice-at, place_is_there}
+use Rattle.forwarding.proofs.routes.Routes.from_list.Goals as goal
+
+pub unreachable-requires : goal.unreachable-requires
+unreachable-requires c =
+    let before = take c.loop-second.second c.args.list.now in
+    place_is_there before c.index-list-second.result.prefix c.place_of.result c.in_ok-put.field-0 c.if-branch.true
+    (c.in_ok-put.ensures.there before c.loop-second.invariant) c.place_of.ensures c.in_default.is
+
+pub returns-then-branch-clause-twice : goal.returns-then-branch-clause-twice
+returns-then-branch-clause-twice c = λ first second e.
+    let at_first : c.in-Some.first ≡ first = cc e in
+    let at_second : c.loop-second.second ≡ second = cc e in
+    let twice =
+    IsTwice-at c.args.list.now c.index-list-second.result c.loop-second.second c.place_of.result
+    (slice_get_read c.args.list.now _ c.loop-second.second c.index-list-second.result refl c.loop-second-test.true c.index-list-second.is)
+    c.loop-second.invariant.distinct c.place_of.ensures c.in-Some.first c.in-Some.is in
+    subst (λ n. IsTwice c.args.list.now first n) at_second (subst (λ n. IsTwice c.args.list.now n c.loop-second.second) at_first twice)

@@ -1,0 +1,34 @@
+//! Laws of the definitions that the contracts cite. The functions do nothing.
+ghost use Rattle.std.specs.Prelude.{◌≡◌, ◌↔◌, ◌++◌, ℕ, List, ◌∷◌, [], Some, None, false, true, Contains};
+ghost use Rattle.std.specs.List.{list_any};
+ghost use Rattle.forwarding.specs.declared.route.Route.{Route};
+ghost use Rattle.forwarding.specs.Distinct.{AreDistinct, IsTwice};
+ghost use Rattle.forwarding.specs.Longest.{IsLongest, is_covering, longest};
+
+/// The longest route for an address is one of the routes, covers the address, and no route that covers it has more digits.
+pub fn what_is_longest_covers()
+    ensures { (address : List ℕ) (routes : List Route) (route : Route) → longest address routes ≡ Some route
+        → IsLongest address routes route }
+{}
+
+/// Where no two routes have one prefix, at most one covers an address with no longer one that does; and it is the longest.
+pub fn one_alone_is_longest()
+    ensures one { (address : List ℕ) (routes : List Route) (a b : Route) → AreDistinct routes
+        → IsLongest address routes a → IsLongest address routes b → a ≡ b }
+    ensures that { (address : List ℕ) (routes : List Route) (route : Route) → AreDistinct routes
+        → IsLongest address routes route → longest address routes ≡ Some route }
+{}
+
+/// An address has no longest route exactly where no route covers it.
+pub fn none_is_longest_where_none_covers()
+    ensures { (address : List ℕ) (routes : List Route)
+        → (longest address routes ≡ None) ↔ (list_any (is_covering address) routes ≡ false) }
+{}
+
+/// Of a list, at most one place is the second of a prefix with no earlier one; and there is none where no two routes have one
+/// prefix.
+pub fn one_place_is_twice()
+    ensures one { (routes : List Route) (first second : ℕ) (first_again second_again : ℕ) → IsTwice routes first second
+        → IsTwice routes first_again second_again → (first ≡ first_again) × (second ≡ second_again) }
+    ensures none { (routes : List Route) (first second : ℕ) → IsTwice routes first second → AreDistinct routes → ⊥ }
+{}

@@ -1,0 +1,96 @@
+//! The routes of a system.
+ghost use Rattle.std.specs.Prelude.{◌≡◌, ◌<◌, ℕ, List, [], ◌∷◌, ◌++◌, IfOk, None, Some, Err, slice_get, take, true, false};
+ghost use Rattle.std.specs.List.{list_any, position_from};
+ghost use Rattle.std.specs.Option.{option_copied};
+ghost use Rattle.forwarding.specs.declared.route.Route.{Route};
+ghost use Rattle.forwarding.specs.declared.route.RouteRefusal.TheVariants.{Twice};
+ghost use Rattle.forwarding.specs.Distinct.{IsTwice, has_prefix};
+ghost use Rattle.forwarding.specs.Longest.{longest};
+ghost use Rattle.forwarding.specs.Stands.{Stands};
+
+use crate::route::{Route, RouteRefusal};
+use clnp_base::NoMemory;
+use nsap::{Address, Prefix};
+use std::alloc::Global;
+use std::array::from_fn;
+use std::collections::BTreeMap;
+
+/// How many lengths a prefix may have: 0 to 40 digits.
+const LENGTHS: usize = 41;
+
+/// Configured routes, no two of one prefix.
+///
+/// A contract sees for which list of routes they stand. Their order in that list means nothing.
+#[derive(Debug, Drop)]
+pub struct Routes {
+    /// The routes of each length of prefix, by prefix.
+    by_length: [BTreeMap<Prefix, Route>; LENGTHS],
+}
+
+impl Routes {
+    /// The routes of a list.
+    ///
+    /// # Errors
+    ///
+    /// `Twice` exactly where two entries have one prefix: `second` is the least index of an entry whose prefix
+    /// an entry before it has, and `first` is the index of that one. Else `NoMemory`.
+    pub fn from_list(alloc: Global, list: &[Route]) -> Result<Routes, RouteRefusal>
+        ensures stands { IfOk result (λ routes. Stands routes list.now) }
+        ensures twice { (first second : ℕ) → result ≡ Err (Twice first second) → IsTwice list.now first second }
+    {
+        let mut routes = Routes::new(alloc);
+        for second in 0..list.len() {
+            let route = list[second];
+            if routes.put(route)? {
+                let Some(first) = place_of(&route.prefix, &list[..second]) else {
+                    unreachable!()
+                };
+                return Err(RouteRefusal::Twice { first, second });
+            }
+        }
+        Ok(routes)
+    }
+
+    /// No routes.
+    fn new(alloc: Global) -> Routes
+        ensures { Stands result [] }
+    {
+        Routes {
+            by_length: from_fn(|_| BTreeMap::new(alloc)),
+        }
+    }
+
+    /// Puts a route in, and tells whether there was one of its prefix, in whose place it then is.
+    fn put(&mut self, route: Route) -> Result<bool, NoMemory>
+        ensures there { (list : List Route) → Stands self.old list
+            → IfOk result (λ there. there ≡ list_any (has_prefix route.prefix) list) }
+        ensures added { (list : List Route) → Stands self.old list
+            → IfOk result (λ there. there ≡ false → Stands self.new (list ++ route ∷ [])) }
+    {
+        let old = self.by_length[route.prefix.len()].insert(route.prefix, route)?;
+        Ok(old.is_some())
+    }
+
+    /// The route with the most digits among those whose prefix covers the address. It takes no memory.
+    ///
+    /// None exactly where no prefix covers the address.
+    pub fn longest(&self, address: &Address) -> Option<&Route>
+        ensures { (list : List Route) → Stands self.now list → option_copied result ≡ longest address.now list }
+    {
+        let digits = Prefix::of_address(address);
+        for len in (0..digits.len() + 1).rev() {
+            let route = self.by_length[len].get(&digits.first(len));
+            if route.is_some() {
+                return route;
+            }
+        }
+        None
+    }
+}
+
+/// The index of the first route of a prefix.
+fn place_of(prefix: &Prefix, list: &[Route]) -> Option<usize>
+    ensures { result ≡ position_from (has_prefix prefix.now) 0 list.now }
+{
+    list.iter().position(|route| route.prefix == *prefix)
+}
