@@ -1,0 +1,16 @@
+//! Laws of the definitions. Each law is the clause of a function that does nothing.
+ghost use Rattle.std.specs.Prelude.{◌≡◌, ◌↔◌, ◌≤◌, ℕ, Bool, false, Option, None, length};
+ghost use Rattle.pdu_header.specs.Spelling.{segment_length};
+ghost use Rattle.pdu_header.specs.Value.{PduValue};
+ghost use Rattle.echo.specs.Match.{Echoes};
+ghost use Rattle.echo.specs.Reply.{needs_identifier, reply_of};
+
+/// A reply answers its request.
+pub fn a_reply_answers_its_request()
+    ensures { (request : PduValue) (identifier : Option ℕ) (life : ℕ) (is_sealed : Bool) → Echoes request.body (reply_of request identifier life is_sealed).body }
+{}
+
+/// A reply needs no identifier exactly where without one it has at most 512 octets.
+pub fn a_reply_without_identifier_is_short()
+    ensures { (request : PduValue) (life : ℕ) (is_sealed : Bool) → (needs_identifier request.destination request.source (length request.body) ≡ false) ↔ (segment_length (reply_of request None life is_sealed) ≤ 512) }
+{}
