@@ -1,8 +1,8 @@
 -- The echo reply that answers an echo request (RFC 1575), and which echo PDUs may be segmented.
 use Rattle.std.specs.Prelude.{ℕ, ◌+◌, nat_lt, Bool, false, List, [], ◌++◌, length, Option, option_map}
 use Rattle.pdu_header.specs.declared.kind.Kind.TheVariants.{Erp}
-use Rattle.pdu_header.specs.Layout.{fixed_size}
-use Rattle.pdu_header.specs.Spelling.{counted, segment_length}
+use Rattle.pdu_header.specs.Layout.{fixed_size, part_size}
+use Rattle.pdu_header.specs.Spelling.{counted}
 use Rattle.pdu_header.specs.Value.{SegmentationPart, PduValue}
 
 -- the octets of a PDU that every subnetwork takes in one piece
@@ -18,11 +18,20 @@ plain_length from to = fixed_size + length (counted to ++ counted from)
 abbrev pub needs_identifier : (from to : List ℕ) → (body_len : ℕ) → Bool
 needs_identifier from to body_len = nat_lt most_unsegmented (plain_length from to + body_len)
 
+-- the segmentation part of a reply, where it has an identifier: the whole of its unit (ISO 8473, section 7.4)
+abbrev pub part_of : (request : PduValue) → (identifier : Option ℕ) → Option SegmentationPart
+part_of request identifier =
+    option_map (λ i. record {
+      identifier = i;
+      offset = 0;
+      total = plain_length request.destination request.source + part_size + length request.body;
+    }) identifier
+
 -- The reply goes back to the request's source with the request's data. No report of it is wanted, it has no options, and
--- it may be segmented exactly where it has an identifier; then it is the whole of its unit.
+-- it may be segmented exactly where it has an identifier.
 abbrev pub reply_of : (request : PduValue) → (identifier : Option ℕ) → (life : ℕ) → (is_sealed : Bool) → PduValue
 reply_of request identifier life is_sealed =
-    let made : ℕ → PduValue = λ total. record {
+    record {
       kind = Erp;
       lifetime = life;
       report = false;
@@ -30,7 +39,7 @@ reply_of request identifier life is_sealed =
       more = false;
       destination = request.source;
       source = request.destination;
-      segmentation = option_map (λ i. record { identifier = i; offset = 0; total = total }) identifier;
+      segmentation = part_of request identifier;
       options = [];
       body = request.body;
-    } in made (segment_length (made 0))
+    }

@@ -1,5 +1,5 @@
 //! Laws of the definitions. Each law is the clause of a function that does nothing.
-ghost use Rattle.std.specs.Prelude.{◌≡◌, ◌↔◌, ◌≤◌, ℕ, Bool, false, Option, None, length};
+ghost use Rattle.std.specs.Prelude.{◌≡◌, ◌↔◌, ◌≤◌, ℕ, Bool, false, IfSome, Option, None, Some, length};
 ghost use Rattle.pdu_header.specs.Spelling.{segment_length};
 ghost use Rattle.pdu_header.specs.Value.{PduValue};
 ghost use Rattle.echo.specs.Match.{Echoes};
@@ -8,6 +8,11 @@ ghost use Rattle.echo.specs.Reply.{needs_identifier, reply_of};
 /// A reply answers its request.
 pub fn a_reply_answers_its_request()
     ensures { (request : PduValue) (identifier : Option ℕ) (life : ℕ) (is_sealed : Bool) → Echoes request.body (reply_of request identifier life is_sealed).body }
+{}
+
+/// A reply that may be segmented is the whole of its unit: its total length is that of its header and its data.
+pub fn a_reply_is_the_whole_of_its_unit()
+    ensures { (request : PduValue) (identifier : ℕ) (life : ℕ) (is_sealed : Bool) → IfSome (reply_of request (Some identifier) life is_sealed).segmentation (λ part. part.total ≡ segment_length (reply_of request (Some identifier) life is_sealed)) }
 {}
 
 /// A reply needs no identifier exactly where without one it has at most 512 octets.

@@ -1,8 +1,8 @@
 //! Echo PDUs made.
-ghost use Rattle.std.specs.Prelude.{◌≡◌, ◌≤◌, None, is_some, length};
+ghost use Rattle.std.specs.Prelude.{◌≡◌, ◌≤◌, None, is_some, length, option_map};
 ghost use Rattle.pdu_header.specs.Parts.{AreFit, parts_length, parts_value, too_long};
-ghost use Rattle.pdu_header.specs.View.{pdu_value};
-ghost use Rattle.echo.specs.Reply.{needs_identifier, plain_length, reply_of};
+ghost use Rattle.pdu_header.specs.View.{part_value, pdu_value};
+ghost use Rattle.echo.specs.Reply.{needs_identifier, part_of, plain_length, reply_of};
 
 use clnp_options::OptionList;
 use nsap::Address;
@@ -26,6 +26,7 @@ pub fn needs_id(from: &Address, to: &Address, body_len: usize) -> bool
 /// What the header of the reply to an echo request is made from, where the reply's data are the request's. It has a
 /// lifetime in ticks of 500 ms, a segmentation part exactly where there is an identifier for it, and a checksum where it
 /// is `sealed`.
+#[tactic(auto, using(crate::proofs::Lengths::short))]
 pub fn reply(request: &Pdu<'_>, id: Option<u16>, life: u8, sealed: bool) -> Parts
     requires few { length request.now.body.now ≤ 64512 }
     requires id { is_some id ≡ needs_identifier request.now.to request.now.from (length request.now.body.now) }
@@ -33,13 +34,7 @@ pub fn reply(request: &Pdu<'_>, id: Option<u16>, life: u8, sealed: bool) -> Part
     ensures fit { AreFit result (length request.now.body.now) }
     ensures short { too_long (parts_length result) (length request.now.body.now) ≡ None }
 {
-    let plain_len = plain_len(&request.to, &request.from);
-    let total = plain_len + SEGMENTATION_PART + request.body.len();
-    let seg = id.map(|id| SegPart {
-        id,
-        offset: 0,
-        total: total as u16,
-    });
+    clnp_options::laws::spelled_options_read_back();
     Parts {
         kind: Kind::Erp,
         life,
@@ -47,10 +42,26 @@ pub fn reply(request: &Pdu<'_>, id: Option<u16>, life: u8, sealed: bool) -> Part
         more: false,
         to: request.from,
         from: request.to,
-        seg,
+        seg: segmentation(request, id),
         options: OptionList::new(),
         sealed,
     }
+}
+
+/// The segmentation part of the reply, where there is an identifier for it: the reply is the whole of its unit (section
+/// 7.4).
+fn segmentation(request: &Pdu<'_>, id: Option<u16>) -> Option<SegPart>
+    requires { length request.now.body.now ≤ 64512 }
+    ensures part { option_map part_value result ≡ part_of (pdu_value request.now) id }
+    ensures few { plain_length request.now.to request.now.from ≤ 51 }
+{
+    let head_len = plain_len(&request.to, &request.from) + SEGMENTATION_PART;
+    let id = id?;
+    Some(SegPart {
+        id,
+        offset: 0,
+        total: (head_len + request.body.len()) as u16,
+    })
 }
 
 /// The octets of a header without segmentation part and options.

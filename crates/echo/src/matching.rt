@@ -20,5 +20,8 @@ fn is_request(octets: &[u8], body: &[u8]) -> bool
     let Ok(pdu) = decode(octets) else {
         return false;
     };
-    pdu.kind == Kind::Erq && pdu.body == body && pdu.rest.is_empty()
+    let Kind::Erq = pdu.kind else {
+        return false;
+    };
+    pdu.body == body && pdu.rest.is_empty()
 }
