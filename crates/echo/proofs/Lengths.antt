@@ -1,11 +1,11 @@
 -- How long echo replies are.
-use Rattle.std.proofs.Common.{◌≡◌, ℕ, ◌+◌, ◌≤◌, nat_lt, Bool, true, false, not, if◌then◌else◌, List, [], ◌∷◌, ◌++◌, length, length-append, Option, Some, None, refl, sym, ap, subst, ◌∙◌, arith, ◌↔◌}
+use Rattle.std.proofs.Common.{◌≡◌, ℕ, ◌+◌, ◌≤◌, nat_lt, false, List, [], ◌++◌, length, length-append, Option, Some, None, ap, arith, ◌↔◌}
 use Rattle.std.proofs.lemmas.Bool.Decides.{nat_tests}
 use Rattle.clnp_options.specs.Parameter.{Parameter, spelled}
 use Rattle.pdu_header.specs.Parts.{too_long}
-use Rattle.pdu_header.specs.Spelling.{counted, segmentation_octets, segment_length}
-use Rattle.pdu_header.specs.Value.{SegmentationPart, PduValue}
-use Rattle.echo.specs.Reply.{needs_identifier, plain_length, reply_of}
+use Rattle.pdu_header.specs.Spelling.{counted, segmentation_octets}
+use Rattle.pdu_header.specs.Value.{SegmentationPart}
+use Rattle.echo.specs.Reply.{plain_length}
 
 abbrev pub head_len : (destination source : List ℕ) → Option SegmentationPart → List Parameter → ℕ
 head_len destination source part options = 9 + length (counted destination ++ (counted source ++ (segmentation_octets part ++ spelled options)))
@@ -21,9 +21,14 @@ part_size (Some part) = omega arith
 pub head_is : (destination source : List ℕ) (part : Option SegmentationPart) (options : List Parameter) → options ≡ []
     → head_len destination source part options ≡ plain_length source destination + length (segmentation_octets part)
 head_is destination source part options none =
-    omega (arith, no_options options none, length-append destination (counted source ++ (segmentation_octets part ++ spelled options)),
-        length-append source (segmentation_octets part ++ spelled options), length-append (segmentation_octets part) (spelled options),
-        length-append destination (counted source))
+    omega (
+      arith,
+      no_options options none,
+      length-append destination (counted source ++ (segmentation_octets part ++ spelled options)),
+      length-append source (segmentation_octets part ++ spelled options),
+      length-append (segmentation_octets part) (spelled options),
+      length-append destination (counted source),
+    )
 
 lengths_fit : (head body : ℕ) → head ≤ 57 → body ≤ 64512 → too_long head body ≡ None
 lengths_fit head body head_few body_few = grind (arith, nat_tests)

@@ -66,7 +66,7 @@ third false false false false e = cc
 says : (request_data octets : List ℕ) → IsBytes octets → are_request request_data octets ≡ true → AreRequest request_data octets
 says request_data octets bytes t =
     let (at_protocol, at_rules, at_type, at_body, at_rest) = five (octet octets 1 == 0x81) (is_none (refusal octets)) (type_of (header_of octets) == 30)
-        (bytes_eq (body_of octets) request_data) (bytes_eq (rest_of octets) []) t in
+    (bytes_eq (body_of octets) request_data) (bytes_eq (rest_of octets) []) t in
     is_request octets request_data (value_of (header_of octets) (body_of octets)) (rest_of octets)
     (front octets bytes (eqb-true _ _ at_protocol) (none_there _ at_rules))
     (ap (λ n. unwrap_or (kind_of n) Dt) (eqb-true (type_of (header_of octets)) 30 at_type))
@@ -99,9 +99,10 @@ second_true true b e = refl
 second_true false b e = e
 
 pub test_of_reply : (request_data reply_data : List ℕ) → IsBytes reply_data → (IsTrue (echoes request_data reply_data) ↔ Echoes request_data reply_data)
-test_of_reply request_data reply_data bytes =
-    (λ t. ⊎_elim (λ same. inl ((bytes_eq-Decides reply_data request_data).0 same)) (λ r. inr (says request_data reply_data bytes r)) (either _ _ t),
-    λ p. ⊎_elim (λ same. first_true _ _ ((bytes_eq-Decides reply_data request_data).1 same)) (λ r. second_true _ _ (said request_data reply_data r)) p)
+test_of_reply request_data reply_data bytes = (
+  λ t. ⊎_elim (λ same. inl ((bytes_eq-Decides reply_data request_data).0 same)) (λ r. inr (says request_data reply_data bytes r)) (either _ _ t),
+  λ p. ⊎_elim (λ same. first_true _ _ ((bytes_eq-Decides reply_data request_data).1 same)) (λ r. second_true _ _ (said request_data reply_data r)) p,
+)
 
 -- two tests of one fact are one test
 pub one_test : (a b : Bool) (P : Type 0) → (IsTrue a ↔ P) → (IsTrue b ↔ P) → a ≡ b

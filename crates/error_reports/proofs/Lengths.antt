@@ -1,5 +1,5 @@
 -- How long the reason for discard is among options.
-use Rattle.std.proofs.Common.{◌≡◌, ℕ, List, [], ◌∷◌, length, sym, subst, ap, ◌∙◌, arith}
+use Rattle.std.proofs.Common.{◌≡◌, ℕ, List, [], ◌∷◌, length, ap, ◌∙◌, arith}
 use Rattle.clnp_options.specs.Parameter.{Parameter, spelled}
 use Rattle.error_reports.specs.Report.{reason_option}
 

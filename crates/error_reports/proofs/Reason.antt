@@ -1,17 +1,22 @@
 -- The reason for discard among options.
-use Rattle.std.proofs.Common.{◌≡◌, ◌≢◌, ℕ, ◌<◌, ◌==◌, Bool, true, false, List, [], ◌∷◌, ◌++◌, length, get_or, All, AllPairs, Any, Contains, Option, Some, None, IsSome, refl, sym, ◌∙◌, ap, subst, arith, rules, inl, inr, ◌⊎◌, ⊎_elim}
+use Rattle.std.proofs.Common.{◌≡◌, ◌≢◌, ℕ, ◌==◌, true, false, List, [], ◌∷◌, ◌++◌, length, get_or, All, AllPairs, Any, Contains, Option, Some, None, IsSome, unwrap_or, refl, sym, ◌∙◌, ap, subst, arith, rules, inl, inr, ◌⊎◌, ⊎_elim}
 use Rattle.std.specs.List.{list_any}
 use Rattle.std.proofs.lemmas.Bool.{cases_lt, eq-eqb}
 use Rattle.std.proofs.lemmas.List.{get_or_default}
 use Rattle.std.proofs.lemmas.Bool.Decides.{eqb_tells}
 use Rattle.std.proofs.lemmas.List.Folds.{list_any-from_Any}
 use Rattle.std.proofs.lemmas.List.Elements.{Contains-get_or, Contains-append_right, All-contains}
-use Rattle.std.proofs.lemmas.Grind.{common_steps, elements}
+use Rattle.std.proofs.lemmas.Grind.{elements}
 use Rattle.clnp_options.specs.Parameter.{Parameter, padding, parameters, parameters_after, reason}
 use Rattle.clnp_options.specs.Edits.{value_of}
 use Rattle.clnp_options.specs.Grammar.{HasForm, FitsKind}
 use Rattle.clnp_options.specs.Rules.{AreWellFormed, list_refusal, place_of, place_of_repeat}
+use Rattle.fletcher.specs.Checksum.{octet}
+use Rattle.pdu_header.specs.declared.kind.Kind.{Kind}
+use Rattle.pdu_header.specs.declared.kind.Kind.TheVariants.{Er}
+use Rattle.pdu_header.specs.Grammar.{is_report}
 use Rattle.error_reports.specs.Report.{reason_option}
+use Rattle.error_reports.specs.Told.{cause_in, place_in}
 
 -- the first option is of the code, or it isn't
 pub first : (option : Parameter) (others : List Parameter) (code : ℕ)
@@ -66,9 +71,9 @@ one options a b distinct (i, i_in, a_is) (j, j_in, b_is) same not_padding =
     ⊎_elim
     (λ before. absurd (not_padding (sym a_code ∙ distinct i j a before j_in (a_code ∙ (same ∙ sym b_code)))))
     (λ not_before. ⊎_elim
-        (λ behind. absurd (not_padding (same ∙ (sym b_code ∙ distinct j i a behind i_in (b_code ∙ (sym same ∙ sym a_code))))))
-        (λ not_behind. let here : i ≡ j = omega arith in sym a_is ∙ (ap (λ k. get_or options k a) here ∙ b_there))
-        (cases_lt j i))
+    (λ behind. absurd (not_padding (same ∙ (sym b_code ∙ distinct j i a behind i_in (b_code ∙ (sym same ∙ sym a_code))))))
+    (λ not_behind. let here : i ≡ j = omega arith in sym a_is ∙ (ap (λ k. get_or options k a) here ∙ b_there))
+    (cases_lt j i))
     (cases_lt i j)
 
 -- the value that is found is that of each option of the code
@@ -89,7 +94,7 @@ pub ends : (options rest others : List Parameter) (option : Parameter) → rest 
     → value_of reason options ≡ Some (get_or option.value 0 0 ∷ get_or option.value 1 0 ∷ [])
 ends options rest others option is coded form so_far =
     let here : value_of reason (option ∷ others) ≡ Some option.value =
-        ⊎_elim (λ same. same.1) (λ other. absurd (true_is_not_false (sym (eq-eqb option.code reason coded) ∙ other.0))) (first option others reason) in
+    ⊎_elim (λ same. same.1) (λ other. absurd (true_is_not_false (sym (eq-eqb option.code reason coded) ∙ other.0))) (first option others reason) in
     sym so_far ∙ (ap (value_of reason) is ∙ (here ∙ ap Some (two option.value (form.reason_form coded))))
 
 -- an option of another code is passed over
@@ -121,3 +126,16 @@ alone_fits options code place is =
 -- an error report has a reason
 pub has_reason : (options : List Parameter) → FitsKind true options → IsSome (value_of reason options)
 has_reason options fits = found options reason (fits.0 (search rules))
+
+-- the reason that an error report has
+pub its_reason : (kind : Kind) (options : List Parameter) → kind ≡ Er → All HasForm options → FitsKind (is_report kind) options
+    → Contains options (reason_option (cause_in options) (place_in options))
+its_reason kind options is_er formed fits =
+    let P : Kind → Type 0 = λ k. FitsKind (is_report k) options in
+    let (w, e) = some_value (value_of reason options) (has_reason options (subst P is_er fits)) in
+    let here = stands options reason w e in
+    let form = All-contains HasForm options (record { code = reason; value = w }) formed here in
+    let octets : w ≡ cause_in options ∷ place_in options ∷ [] =
+    two w (form.reason_form refl) ∙ ap (λ o. octet (unwrap_or o []) 1 ∷ octet (unwrap_or o []) 2 ∷ []) (sym e) in
+    let Q : List ℕ → Type 0 = λ xs. Contains options (record { code = reason; value = xs }) in
+    subst Q octets here

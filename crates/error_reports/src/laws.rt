@@ -26,5 +26,6 @@ pub fn a_made_report_is_read_again()
 
 /// An error report tells one reason, one place and one header.
 pub fn a_report_tells_one_discard()
-    ensures { (v : PduValue) (cause place : ℕ) (discarded : List ℕ) → IsPdu v → Tells v cause place discarded → (cause ≡ cause_in v.options) × (place ≡ place_in v.options) × (discarded ≡ v.body) }
+    ensures some { (v : PduValue) → IsPdu v → v.kind ≡ Er → Tells v (cause_in v.options) (place_in v.options) v.body }
+    ensures only { (v : PduValue) (cause place : ℕ) (discarded : List ℕ) → IsPdu v → Tells v cause place discarded → (cause ≡ cause_in v.options) × (place ≡ place_in v.options) × (discarded ≡ v.body) }
 {}

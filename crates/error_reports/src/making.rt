@@ -1,11 +1,11 @@
 //! Error reports made.
-ghost use Rattle.std.specs.Prelude.{◌≡◌, ◌≤◌, ◌++◌, ◌∷◌, [], ℕ, IfSome, List, is_some, length, take, true};
+ghost use Rattle.std.specs.Prelude.{◌≡◌, ◌≤◌, ◌++◌, ◌∷◌, [], ℕ, IfSome, List, None, is_some, length, take, true};
 ghost use Rattle.clnp_options.specs.Grammar.{FitsKind};
 ghost use Rattle.clnp_options.specs.Parameter.{parameters, spelled};
 ghost use Rattle.pdu_header.specs.Grammar.{Spells};
 ghost use Rattle.pdu_header.specs.Headers.{SpellsHeader};
 ghost use Rattle.pdu_header.specs.Parts.{AreFit, parts_length, parts_value};
-ghost use Rattle.pdu_header.specs.Rules.{header_of, is_reportable};
+ghost use Rattle.pdu_header.specs.Rules.{header_of, is_reportable, refusal};
 ghost use Rattle.error_reports.specs.Report.{reason_option, report_between, report_of, source_of};
 
 use clnp_options::{OptionList, OptionRef};
@@ -42,6 +42,7 @@ pub fn report(
     ensures data { IfSome result (λ made. take made.body_len frame.now ≡ header_of frame.now) }
     ensures len { IfSome result (λ made. made.body_len ≡ length (header_of frame.now)) }
     ensures spells { IfSome result (λ made. Spells (report_of frame.now own.now reason place life sealed) (made.head ++ take made.body_len frame.now)) }
+    ensures accepted { IfSome result (λ made. refusal (made.head ++ take made.body_len frame.now) ≡ None) }
 {
     // Addresses have at most 20 octets, so the header isn't too long.
     prove!(own.as_bytes().len() <= 20);
@@ -83,7 +84,8 @@ fn reason_alone(code: u8, place: u8) -> OptionList
 fn header(parts: &Parts, body_len: u8) -> Header
     requires fit { AreFit parts.now body_len }
     requires short { parts_length parts.now ≤ 254 }
-    ensures { (body : List ℕ) → length body ≡ body_len → SpellsHeader (parts_value parts.now body) result }
+    ensures spells { (body : List ℕ) → length body ≡ body_len → SpellsHeader (parts_value parts.now body) result }
+    ensures accepted { (body : List ℕ) → length body ≡ body_len → refusal (result ++ body) ≡ None }
 {
     let Ok(header) = Header::make(parts, usize::from(body_len)) else {
         unreachable!()

@@ -40,7 +40,6 @@ pub fn read<'a>(pdu: &Pdu<'a>) -> Result<Told<'a>, NotReport>
     ensures told { IfOk result (λ told. Tells (pdu_value pdu.now) told.reason told.place told.header.now) }
     ensures reason { IfOk result (λ told. told.reason ≡ cause_in (parameters pdu.now.options.now)) }
     ensures place { IfOk result (λ told. told.place ≡ place_in (parameters pdu.now.options.now)) }
-    ensures header { IfOk result (λ told. told.header.now ≡ pdu.now.body.now) }
 {
     let Kind::Er = pdu.kind else {
         return Err(NotReport);

@@ -1,5 +1,5 @@
-use Rattle.std.proofs.Common.{[], Some, length, ◌+◌, refl, sym, ap, arith}
-use Rattle.echo.specs.Reply.{plain_length, part_of}
+use Rattle.std.proofs.Common.{[], Some, length, ◌+◌, refl, sym, ap}
+use Rattle.echo.specs.Reply.{part_of}
 use Rattle.echo.proofs.Lengths.{head_is}
 use Rattle.echo.proofs.laws.a_reply_is_the_whole_of_its_unit.Goals as goal
 

@@ -1,4 +1,4 @@
-use Rattle.std.proofs.Common.{[], None, length, ◌+◌, refl, sym, ap, arith}
+use Rattle.std.proofs.Common.{[], None, length, ◌+◌, refl, arith}
 use Rattle.echo.specs.Reply.{plain_length}
 use Rattle.echo.proofs.Lengths.{decided, head_is, head_len}
 use Rattle.echo.proofs.laws.a_reply_without_identifier_is_short.Goals as goal

@@ -15,9 +15,10 @@ returns-in_default-kind-clause-answers c =
 pub returns-then-eq-clause-answers : goal.returns-then-eq-clause-answers
 returns-then-eq-clause-answers c =
     let same = slice_eq-Decides Decides-eqb _ _ _ c.eq.ensures in
-    let none = nothing c.in-Ok.pdu.rest.now c.is_empty.result c.is_empty.ensures in
-    (λ t. is_request c.args.octets.now c.args.body.now _ _ c.in-Ok.ensures.found c.in-Erq.is (same.0 c.if-eq.true) (none.0 t),
-    λ r. none.1 (its_value c.one_value.ensures c.args.octets.now c.args.body.now _ _ c.in-Ok.ensures.found r).2)
+    let none = nothing c.in-Ok.pdu.rest.now c.is_empty.result c.is_empty.ensures in (
+      λ t. is_request c.args.octets.now c.args.body.now _ _ c.in-Ok.ensures.found c.in-Erq.is (same.0 c.if-eq.true) (none.0 t),
+      λ r. none.1 (its_value c.one_value.ensures c.args.octets.now c.args.body.now _ _ c.in-Ok.ensures.found r).2,
+    )
 
 pub returns-else-eq-clause-answers : goal.returns-else-eq-clause-answers
 returns-else-eq-clause-answers c =

@@ -1,4 +1,4 @@
-use Rattle.std.proofs.Common.{rules, refl}
+use Rattle.std.proofs.Common.{refl}
 use Rattle.clnp_options.specs.Edits.{value_of}
 use Rattle.error_reports.proofs.laws.a_made_report_is_read_again.Goals as goal
 

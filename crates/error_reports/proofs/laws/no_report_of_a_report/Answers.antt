@@ -1,4 +1,3 @@
-use Rattle.std.proofs.Common.{rules, refl, sym, ap, ◌∙◌}
 use Rattle.error_reports.proofs.laws.no_report_of_a_report.Goals as goal
 
 pub returns-clause-made : goal.returns-clause-made
