@@ -27,8 +27,8 @@ part_of request identifier =
       total = plain_length request.destination request.source + part_size + length request.body;
     }) identifier
 
--- The reply goes back to the request's source with the request's data. No report of it is wanted, it has no options, and
--- it may be segmented exactly where it has an identifier.
+-- The reply goes back to the request's source with the request's data. No report of it is wanted, it has no options,
+-- and it may be segmented exactly where it has an identifier.
 abbrev pub reply_of : (request : PduValue) → (identifier : Option ℕ) → (life : ℕ) → (is_sealed : Bool) → PduValue
 reply_of request identifier life is_sealed =
     record {

@@ -24,8 +24,8 @@ pub fn needs_id(from: &Address, to: &Address, body_len: usize) -> bool
 }
 
 /// What the header of the reply to an echo request is made from, where the reply's data are the request's. It has a
-/// lifetime in ticks of 500 ms, a segmentation part exactly where there is an identifier for it, and a checksum where it
-/// is `sealed`.
+/// lifetime in ticks of 500 ms, a segmentation part exactly where there is an identifier for it, and a checksum where
+/// it is `sealed`.
 #[tactic(auto, using(crate::proofs::Lengths::short))]
 pub fn reply(request: &Pdu<'_>, id: Option<u16>, life: u8, sealed: bool) -> Parts
     requires few { length request.now.body.now ≤ 64512 }

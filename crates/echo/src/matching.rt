@@ -4,8 +4,8 @@ ghost use Rattle.echo.specs.Match.{AreRequest, Echoes, are_request, echoes};
 
 use pdu_header::{Kind, decode};
 
-/// Whether the data of an echo reply answer a request with these data: they are the same, or an echo request PDU with the
-/// same data and nothing behind it (RFC 1575).
+/// Whether the data of an echo reply answer a request with these data: they are the same, or an echo request PDU with
+/// the same data and nothing behind it (RFC 1575).
 pub fn matches(request_body: &[u8], reply_body: &[u8]) -> bool
     ensures answers { IsTrue result ↔ Echoes request_body.now reply_body.now }
     ensures test { result ≡ echoes request_body.now reply_body.now }

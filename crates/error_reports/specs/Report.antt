@@ -12,7 +12,8 @@ reason_option cause place = record { code = reason; value = cause ∷ place ∷ 
 
 -- A report from one address to another, with a discarded header for its data. No report of itself is wanted, it may not
 -- be segmented, and the reason for discard is its one option.
-abbrev pub report_between : (own source : List ℕ) → (cause place life : ℕ) → (is_sealed : Bool) → (discarded : List ℕ) → PduValue
+abbrev pub report_between : (own source : List ℕ) → (cause place life : ℕ) → (is_sealed : Bool)
+    → (discarded : List ℕ) → PduValue
 report_between own source cause place life is_sealed discarded =
     record {
       kind = Er;

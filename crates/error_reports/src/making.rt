@@ -6,7 +6,7 @@ ghost use Rattle.pdu_header.specs.Grammar.{Spells};
 ghost use Rattle.pdu_header.specs.Headers.{SpellsHeader};
 ghost use Rattle.pdu_header.specs.Parts.{AreFit, parts_length, parts_value};
 ghost use Rattle.pdu_header.specs.Rules.{header_of, is_reportable, refusal};
-ghost use Rattle.error_reports.specs.Report.{reason_option, report_between, report_of, source_of};
+ghost use Rattle.error_reports.specs.Report.{reason_option, report_of, source_of};
 
 use clnp_options::{OptionList, OptionRef};
 use nsap::Address;
@@ -23,9 +23,9 @@ pub struct MadeReport {
     pub body_len: u8,
 }
 
-/// The error report of a frame's discard, for a reason and with the place in the frame's header of the octet at fault, 0
-/// for no place (ISO 8473, sections 6.10 and 7.9). It comes from the address `own`, with a lifetime in ticks of 500 ms,
-/// and with a checksum where it is `sealed`.
+/// The error report of a frame's discard, for a reason and with the place in the frame's header of the octet at fault,
+/// 0 for no place (ISO 8473, sections 6.10 and 7.9). It comes from the address `own`, with a lifetime in ticks of
+/// 500 ms, and with a checksum where it is `sealed`.
 ///
 /// None exactly where the frame's discard isn't reported: see [`reportable`](pdu_header::reportable).
 pub fn report(
@@ -38,10 +38,13 @@ pub fn report(
 ) -> Option<MadeReport>
     ensures some { is_some result ≡ is_reportable frame.now }
     ensures to { IfSome result (λ made. made.to ≡ source_of frame.now) }
-    ensures head { IfSome result (λ made. SpellsHeader (report_of frame.now own.now reason place life sealed) made.head) }
+    ensures head { IfSome result
+        (λ made. SpellsHeader (report_of frame.now own.now reason place life sealed) made.head) }
     ensures data { IfSome result (λ made. take made.body_len frame.now ≡ header_of frame.now) }
     ensures len { IfSome result (λ made. made.body_len ≡ length (header_of frame.now)) }
-    ensures spells { IfSome result (λ made. Spells (report_of frame.now own.now reason place life sealed) (made.head ++ take made.body_len frame.now)) }
+    ensures spells { IfSome result
+        (λ made. Spells (report_of frame.now own.now reason place life sealed)
+        (made.head ++ take made.body_len frame.now)) }
     ensures accepted { IfSome result (λ made. refusal (made.head ++ take made.body_len frame.now) ≡ None) }
 {
     // Addresses have at most 20 octets, so the header isn't too long.
