@@ -11,6 +11,10 @@ mod clnp_options_calls;
 #[cfg(test)]
 mod clnp_views_calls;
 #[cfg(test)]
+mod echo_calls;
+#[cfg(test)]
+mod error_reports_calls;
+#[cfg(test)]
 mod esis_pdus_calls;
 #[cfg(test)]
 mod fletcher_calls;

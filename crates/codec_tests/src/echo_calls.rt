@@ -1,0 +1,41 @@
+//! An echo reply that is known from elsewhere, and data that answer its request.
+
+use echo::{matches, needs_id, reply};
+use pdu_header::{Header, decode};
+use std::test::Fail;
+
+/// An echo request of lifetime 64 from 47002702 to 47002701 with the data 6869.
+const REQUEST: &[u8] =
+    b"\x81\x13\x01\x40\x3e\x00\x15\xb7\x37\x04\x47\x00\x27\x01\x04\x47\x00\x27\x02\x68\x69";
+
+/// The header of the reply of lifetime 64 to the request in a frame, where it needs no identifier.
+fn reply_header(frame: &[u8]) -> Option<Header> {
+    let Ok(pdu) = decode(frame) else {
+        return None;
+    };
+    let body_len = pdu.body.len();
+    if body_len > 64_512 || needs_id(&pdu.to, &pdu.from, body_len) {
+        return None;
+    }
+    Header::make(&reply(&pdu, None, 64, true), body_len).ok()
+}
+
+#[test]
+fn replies_to_a_request(rt: HostRuntime) {
+    let Some(header) = reply_header(REQUEST) else {
+        panic!(rt; "no reply")
+    };
+    assert!(rt;
+        header.as_bytes()
+            == b"\x81\x13\x01\x40\x1f\x00\x15\x2f\xde\x04\x47\x00\x27\x02\x04\x47\x00\x27\x01".as_slice()
+    );
+}
+
+#[test]
+fn matches_replies(rt: HostRuntime) -> Result<(), Fail> {
+    let mut behind = REQUEST.to_vec(rt.alloc())?;
+    behind.push(0)?;
+    assert!(rt; matches(b"hi", b"hi") && matches(b"hi", REQUEST));
+    assert!(rt; !matches(b"hi", b"ho") && !matches(b"hi", behind.as_slice()));
+    Ok(())
+}

@@ -1,0 +1,11 @@
+use Rattle.std.proofs.Common.{refl}
+use Rattle.clnp_options.specs.Edits.{value_of}
+use Rattle.error_reports.proofs.laws.a_made_report_is_read_again.Goals as goal
+
+pub returns-clause-cause : goal.returns-clause-cause
+unfolding value_of
+returns-clause-cause c frame own cause place life is_sealed = refl
+
+pub returns-clause-place : goal.returns-clause-place
+unfolding value_of
+returns-clause-place c frame own cause place life is_sealed = refl

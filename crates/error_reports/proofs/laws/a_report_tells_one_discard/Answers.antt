@@ -1,0 +1,13 @@
+use Rattle.std.proofs.Common.{rules, refl, sym, ap, ◌∷◌, [], unwrap_or}
+use Rattle.clnp_options.specs.Parameter.{reason}
+use Rattle.fletcher.specs.Checksum.{octet}
+use Rattle.error_reports.proofs.Reason.{its_reason, only}
+use Rattle.error_reports.proofs.laws.a_report_tells_one_discard.Goals as goal
+
+pub returns-clause-some : goal.returns-clause-some
+returns-clause-some c v pdu is_er = record { kind = is_er; reason = its_reason v.kind v.options is_er pdu.options.formed pdu.reason; data_are = refl }
+
+pub returns-clause-only : goal.returns-clause-only
+returns-clause-only c v cause place discarded pdu told =
+    let e = only v.options reason (cause ∷ place ∷ []) pdu.options.distinct (search rules) told.reason in
+    (ap (λ o. octet (unwrap_or o []) 1) (sym e), ap (λ o. octet (unwrap_or o []) 2) (sym e), sym told.data_are)

@@ -1,0 +1,17 @@
+use Rattle.std.proofs.Common.{◌∷◌, [], ◌++◌, rules, subst, sym}
+use Rattle.clnp_options.specs.Parameter.{parameters}
+use Rattle.clnp_options.specs.Rules.{AreWellFormed}
+use Rattle.error_reports.specs.Report.{reason_option}
+use Rattle.error_reports.proofs.Reason.{alone, alone_fits}
+use Rattle.error_reports.proofs.Lengths.{four}
+use Rattle.error_reports.proofs.making.reason_alone.Goals as goal
+
+pub push-requires : goal.push-requires
+push-requires c =
+    subst (λ xs. AreWellFormed (parameters xs ++ reason_option c.args.code c.args.place ∷ [])) (sym c.new-options.ensures) (alone c.args.code c.args.place)
+
+pub returns-clause-fits : goal.returns-clause-fits
+returns-clause-fits c = alone_fits (parameters c.push.new.self) c.args.code c.args.place (search rules)
+
+pub returns-clause-size : goal.returns-clause-size
+returns-clause-size c = four (parameters c.push.new.self) c.args.code c.args.place (search rules)
