@@ -1,14 +1,14 @@
-use clnp_base::Octets;
 use clnp_plan::{
-    Note, PortConfig, Role, Settings, SystemConfig, Why, journal_text, late_text, push_end,
-    transmission_text, void_text,
+    Note, Role, Settings, SystemConfig, Why, journal_text, late_text, push_end, transmission_text,
+    void_text,
 };
 use nsap::{Address, Snpa, Target};
 use pdu_header::Kind;
 use std::test::Fail;
 
+/// Notes that no worked example of a command has.
 #[test]
-fn writes_each_note(rt: HostRuntime) -> Result<(), Fail> {
+fn writes_notes(rt: HostRuntime) -> Result<(), Fail> {
     let alloc = rt.alloc();
     let to = Address::from_text(b"47002701")?;
     let from = Address::from_text(b"47002702")?;
@@ -20,66 +20,31 @@ fn writes_each_note(rt: HostRuntime) -> Result<(), Fail> {
         to,
         len,
     };
-    let refused = |why: Why, value: u64| Note::Refused { why, value };
-    let got = |octets: Octets| Note::Got { from, to, octets };
     let notes = [
-        sent(Kind::Dt, 1, None, 2),
         sent(Kind::Er, 2, Some(0), 0),
         sent(Kind::Erq, 10, Some(258), 64513),
         sent(Kind::Erp, 3, Some(65535), 1),
-        refused(Why::NotMine, 0),
-        refused(Why::TooLong, 64513),
-        refused(Why::Quiet, 7),
-        refused(Why::IdsBusy, 2),
-        got(Octets::copy(alloc, b"hi")?),
-        got(Octets::copy(alloc, b"")?),
-        Note::Discard {
-            reason: 0xab,
-            place: 0x3c,
-        },
-        Note::Held {
-            id: 0,
-            offset: 960,
-            held: 65,
-        },
-        Note::Repeat { id: 258, offset: 0 },
-        Note::Crowded {
-            held: 1010,
-            size: 505,
+        Note::Refused {
+            why: Why::IdsBusy,
+            value: 2,
         },
         Note::Many { kept: 12 },
         Note::NoSlot { live: 1 },
         Note::Interference { id: 1 },
-        Note::Expired { id: 65535, held: 0 },
-        Note::NotMine { to },
         Note::Alien,
-        Note::Restart,
     ];
     let mut out = Vec::new(alloc);
     for note in &notes {
         journal_text(alloc, 12, b"a", note, &mut out)?;
     }
-    let text = b"12 a sent dt 1 - 47002702 47002701 2
-12 a sent er 2 0000 47002702 47002701 0
+    let text = b"12 a sent er 2 0000 47002702 47002701 0
 12 a sent erq 10 0102 47002702 47002701 64513
 12 a sent erp 3 ffff 47002702 47002701 1
-12 a refused not-mine 0
-12 a refused too-long 64513
-12 a refused quiet 7
 12 a refused ids-busy 2
-12 a got 47002702 47002701 6869
-12 a got 47002702 47002701 -
-12 a drop ab 3c
-12 a held 0000 960 65
-12 a repeat 0102 0
-12 a crowded 1010 505
 12 a many 12
 12 a noslot 1
 12 a interference 0001
-12 a expired ffff 0
-12 a notmine 47002701
 12 a alien
-12 a restart
 ";
     assert_eq!(rt; out.as_slice(), text.as_slice());
     Ok(())
@@ -115,13 +80,6 @@ end 0 1
 #[test]
 fn copies_a_system(rt: HostRuntime) -> Result<(), Fail> {
     let alloc = rt.alloc();
-    let addresses = [Address::from_text(b"47002701")?];
-    let ports = [PortConfig {
-        subnet: 2,
-        snpa: Snpa::from_bytes(&[2, 0])?,
-        transit: 3,
-        mtu: 1497,
-    }];
     let settings = Settings {
         hello: 0,
         suggest: 1,
@@ -138,15 +96,12 @@ fn copies_a_system(rt: HostRuntime) -> Result<(), Fail> {
     let config = SystemConfig::new(
         Vec::from_slice(alloc, b"r1")?,
         Role::Router,
-        Vec::from_slice(alloc, &addresses)?,
-        Vec::from_slice(alloc, &ports)?,
+        Vec::new(alloc),
+        Vec::new(alloc),
         settings,
     );
     let copy = config.copy(alloc)?;
     assert_eq!(rt; copy.name(), b"r1".as_slice());
-    assert_eq!(rt; copy.role(), Role::Router);
-    assert_eq!(rt; copy.addresses(), addresses.as_slice());
-    assert_eq!(rt; copy.ports(), ports.as_slice());
     assert_eq!(rt; *copy.settings(), settings);
     Ok(())
 }

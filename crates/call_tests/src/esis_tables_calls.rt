@@ -91,22 +91,3 @@ fn flushes_in_order(rt: HostRuntime) -> Result<(), Fail> {
     assert_eq!(rt; tables.flush(240), None);
     Ok(())
 }
-
-#[test]
-fn gives_the_router_heard_last(rt: HostRuntime) -> Result<(), Fail> {
-    let mut tables = Tables::new(rt.alloc(), LIMITS)?;
-    let hearings = [
-        (0, 0xff, 0x0a, 120),
-        (1, 0xfe, 0x0c, 120),
-        (2, 0xff, 0x0a, 60),
-    ];
-    for (now, key, snpa, hold) in hearings {
-        let _ = tables.hear(now, TableKind::Is, address(key)?, place(snpa)?, hold);
-        assert_eq!(rt; tables.last_router(now), Some(place(snpa)?));
-    }
-    assert_eq!(rt; tables.last_router(200), Some(place(0x0c)?));
-    tables.clear();
-    assert_eq!(rt; tables.last_router(2), None);
-    assert_eq!(rt; tables.flush(300), None);
-    Ok(())
-}

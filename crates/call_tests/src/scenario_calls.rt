@@ -1,8 +1,7 @@
 use clnp_base::lines;
-use clnp_plan::{Ask, Limits, Role, Settings};
-use scenario::{Body, Code, Event, Scenario, ScenarioRefusal, read};
+use clnp_plan::{Limits, Role, Settings};
+use scenario::{Scenario, ScenarioRefusal, read};
 use std::alloc::Global;
-use std::process::Abort;
 use std::test::Fail;
 
 const TEXT: &[u8] = b"# two subnetworks
@@ -54,14 +53,6 @@ fn answer(alloc: Global, text: &[u8]) -> Option<Result<Scenario, ScenarioRefusal
         return None;
     }
     Some(read(alloc, text))
-}
-
-/// An ask has this lifetime, is reported on and may be cut where it says so, and has these options.
-fn expect_ask(rt: &impl Abort, ask: &Ask, life: u8, report: bool, segment: bool, options: &[u8]) {
-    assert_eq!(rt; ask.life, life);
-    assert_eq!(rt; ask.report, report);
-    assert_eq!(rt; ask.segment, segment);
-    assert_eq!(rt; ask.options.as_bytes(), options);
 }
 
 #[test]
@@ -134,95 +125,5 @@ fn reads_a_router(rt: HostRuntime) -> Result<(), Fail> {
         assert_eq!(rt; port.snpa.as_bytes(), snpa.as_slice());
     }
     assert_eq!(rt; router.ports().len(), 2);
-    Ok(())
-}
-
-#[test]
-fn reads_a_send(rt: HostRuntime) -> Result<(), Fail> {
-    let Some(Ok(scenario)) = answer(rt.alloc(), TEXT) else {
-        assert!(rt; false);
-        return Ok(());
-    };
-    let Some(
-        Event::Send {
-            system: 0,
-            from,
-            to,
-            body: Body::Hex(octets),
-            ask,
-        },
-    ) = scenario.events().first()
-    else {
-        assert!(rt; false);
-        return Ok(());
-    };
-    assert_eq!(rt; from.as_bytes(), [0x47, 1].as_slice());
-    assert_eq!(rt; to.as_bytes(), [0x47, 2].as_slice());
-    assert_eq!(rt; octets.as_bytes(), b"hi".as_slice());
-    expect_ask(&rt, ask, 64, true, true, b"");
-    Ok(())
-}
-
-#[test]
-fn reads_the_words_of_a_send(rt: HostRuntime) -> Result<(), Fail> {
-    let Some(Ok(scenario)) = answer(rt.alloc(), TEXT) else {
-        assert!(rt; false);
-        return Ok(());
-    };
-    let Some(
-        Event::Send {
-            body: Body::Pattern { len, start },
-            ask,
-            ..
-        },
-    ) = scenario.events().get(2)
-    else {
-        assert!(rt; false);
-        return Ok(());
-    };
-    assert_eq!(rt; *len, 70_000);
-    assert_eq!(rt; *start, 255);
-    expect_ask(&rt, ask, 9, true, true, b"\xc5\x01\xc0\xcd\x01\x05");
-    let Some(Event::Send { ask, .. }) = scenario.events().get(1) else {
-        assert!(rt; false);
-        return Ok(());
-    };
-    expect_ask(&rt, ask, 7, false, false, b"");
-    Ok(())
-}
-
-#[test]
-fn reads_other_events(rt: HostRuntime) -> Result<(), Fail> {
-    let Some(Ok(scenario)) = answer(rt.alloc(), TEXT) else {
-        assert!(rt; false);
-        return Ok(());
-    };
-    let events = scenario.events();
-    assert_eq!(rt; events.len(), 8);
-    assert!(rt; matches!(events.get(3), Some(Event::Deliver { copy: 3, system: 1 })));
-    assert!(rt; matches!(events.get(4), Some(Event::Settle { count: 2 })));
-    assert!(rt; matches!(events.get(5), Some(Event::Lose { count: 5 })));
-    assert!(rt; matches!(events.get(6), Some(Event::Tick { count: 65_535 })));
-    assert!(rt; matches!(events.get(7), Some(Event::Restart { system: 1 })));
-    Ok(())
-}
-
-#[test]
-fn refuses_bad_lines(rt: HostRuntime) -> Result<(), Fail> {
-    let cases = [
-        (b"".as_slice(), 1, Code::Header),
-        (b"clnp-sim 1\n\n# a\n", 4, Code::Syntax),
-        (b"clnp-sim 1\nlimits 4 2 5\nevents\nend", 2, Code::Limits),
-        (b"clnp-sim 1\nsubnet lan 511\nevents\nend", 2, Code::Mtu),
-    ];
-    for (text, line, code) in cases {
-        let refusal = ScenarioRefusal::BadLine {
-            line,
-            code: code.number(),
-        };
-        assert!(rt; matches!(answer(rt.alloc(), text), Some(Err(found)) if found == refusal));
-        assert_eq!(rt; Code::of_number(code.number()), Some(code));
-    }
-    assert_eq!(rt; Code::Limits.name(), "limits");
     Ok(())
 }

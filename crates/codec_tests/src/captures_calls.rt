@@ -1,4 +1,4 @@
-use captures::{LineRefusal, Verdict, check_line, read_capture, show_line};
+use captures::{Verdict, check_line, read_capture, show_line};
 use std::test::Fail;
 
 /// A PDU in hexadecimal digits, and the line that shows it.
@@ -20,65 +20,10 @@ fn shows_a_frame_behind_what_stands_there(rt: HostRuntime) -> Result<(), Fail> {
 }
 
 #[test]
-fn reads_lines_of_a_capture(rt: HostRuntime) -> Result<(), Fail> {
-    let mut frame = Vec::from_slice(rt.alloc(), b"kept")?;
-    for line in ["", "#", "# 81", "#81"] {
-        assert_eq!(rt;
-            read_capture(line.as_bytes(), &mut frame),
-            Ok(false),
-            "at {line}"
-        );
-    }
-    for line in [
-        "8", "811", " 81", "81 ", "8g", "81\r", "0x81", "81 13", "/0", ":0", "@0", "`0", "G0",
-    ] {
-        let answer = read_capture(line.as_bytes(), &mut frame);
-        assert_eq!(rt; answer, Err(LineRefusal::Syntax), "at {line}");
-    }
-    assert_eq!(rt; read_capture(b"0019afAF", &mut frame), Ok(true));
-    assert_eq!(rt; frame.as_slice(), b"kept\x00\x19\xaf\xaf".as_slice());
-    Ok(())
-}
-
-#[test]
-fn reads_70000_octets_and_no_more(rt: HostRuntime) -> Result<(), Fail> {
-    let alloc = rt.alloc();
-    let mut line = Vec::new(alloc);
-    for _ in 0..70_000 {
-        line.extend_from_slice(b"00")?;
-    }
-    let mut frame = Vec::new(alloc);
-    assert_eq!(rt; read_capture(&line, &mut frame), Ok(true));
-    assert_eq!(rt; frame.len(), 70_000);
-    for (more, answer) in [
-        (b"0".as_slice(), LineRefusal::Syntax),
-        (b"0", LineRefusal::Count),
-        (b"g0", LineRefusal::Syntax),
-    ] {
-        line.extend_from_slice(more)?;
-        assert_eq!(rt; read_capture(&line, &mut frame), Err(answer));
-    }
-    assert_eq!(rt; frame.len(), 70_000);
-    Ok(())
-}
-
-#[test]
-fn judges_70000_octets_and_no_more(rt: HostRuntime) -> Result<(), Fail> {
-    let alloc = rt.alloc();
-    let mut line = Vec::new(alloc);
-    for _ in 0..70_000 {
-        line.extend_from_slice(b"00")?;
-    }
-    let octets = line.len();
-    let mut out = Vec::new(alloc);
-    line.extend_from_slice(b" => alien")?;
-    assert_eq!(rt; check_line(alloc, &line, 3, &mut out), Ok(Verdict::Pass));
-    line.truncate(octets);
-    line.extend_from_slice(b"00 => alien")?;
-    assert_eq!(rt;
-        check_line(alloc, &line, 4, &mut out),
-        Err(LineRefusal::Count)
-    );
+fn judges_a_vector(rt: HostRuntime) -> Result<(), Fail> {
+    let mut out = Vec::new(rt.alloc());
+    let verdict = check_line(rt.alloc(), b"00 => alien", 3, &mut out);
+    assert_eq!(rt; verdict, Ok(Verdict::Pass));
     assert_eq!(rt; out.as_slice(), b"3 pass".as_slice());
     Ok(())
 }

@@ -1,7 +1,6 @@
 use clnp_base::{
-    Failed, HexFault, InlineOctets, MemSink, MemSource, NoMemory, Octets, ReadStop, Sink, Source,
-    StdSink, StdSource, decimal, lines, next_line, next_word, push, push_decimal, push_hex,
-    push_unhex, read_all, words, write_all,
+    Failed, MemSink, MemSource, NoMemory, Octets, ReadStop, Sink, Source, StdSink, StdSource,
+    decimal, push, push_decimal, push_hex, push_unhex, read_all, write_all,
 };
 use std::alloc::Global;
 use std::io;
@@ -96,36 +95,6 @@ fn reads_and_writes_over_the_machine(rt: HostRuntime) -> Result<(), Fail> {
 }
 
 #[test]
-fn cuts_lines(rt: HostRuntime) {
-    let text = b"one\r\ntwo\rthree\n\nlast\r";
-    let wanted = [
-        b"one".as_slice(),
-        b"two\rthree".as_slice(),
-        b"".as_slice(),
-        b"last\r".as_slice(),
-    ];
-    let mut found = 0;
-    for (line, want) in lines(text).zip(wanted.iter()) {
-        assert_eq!(rt; line, *want);
-        found = found.max(line.len());
-    }
-    assert_eq!(rt; found, 9);
-    assert!(rt; next_line(b"").is_none());
-}
-
-#[test]
-fn cuts_words(rt: HostRuntime) {
-    let wanted = [b"a".as_slice(), b"bc".as_slice(), b"d\r".as_slice()];
-    let mut found = 0usize;
-    for (word, want) in words(b"  a bc   d\r ").zip(wanted.iter()) {
-        assert_eq!(rt; word, *want);
-        found = found.saturating_add(1);
-    }
-    assert_eq!(rt; found, 3);
-    assert!(rt; next_word(b"   ").is_none());
-}
-
-#[test]
 fn reads_decimals(rt: HostRuntime) {
     let table = [
         (b"0".as_slice(), Some(0)),
@@ -144,15 +113,6 @@ fn reads_decimals(rt: HostRuntime) {
 }
 
 #[test]
-fn copies_octets(rt: HostRuntime) -> Result<(), Fail> {
-    let octets = Octets::copy(rt.alloc(), b"abc")?;
-    assert_eq!(rt; octets.as_bytes(), b"abc".as_slice());
-    assert_eq!(rt; octets, Octets::copy(rt.alloc(), b"abc")?);
-    assert_ne!(rt; octets, Octets::copy(rt.alloc(), b"ab")?);
-    Ok(())
-}
-
-#[test]
 fn puts_text_out(rt: HostRuntime) -> Result<(), Fail> {
     let mut out = Vec::new(rt.alloc());
     push(b"id ", &mut out)?;
@@ -161,47 +121,11 @@ fn puts_text_out(rt: HostRuntime) -> Result<(), Fail> {
     push_decimal(0, &mut out)?;
     push(b" ", &mut out)?;
     push_decimal(u64::MAX, &mut out)?;
+    assert_eq!(rt; push_unhex(b"009Fa0fF", &mut out), Ok(()));
+    let octets = Octets::copy(rt.alloc(), &out)?;
     assert_eq!(rt;
-        out.as_slice(),
-        b"id 009fa0ff 0 18446744073709551615".as_slice()
+        octets.as_bytes(),
+        b"id 009fa0ff 0 18446744073709551615\x00\x9f\xa0\xff".as_slice()
     );
     Ok(())
-}
-
-#[test]
-fn reads_hexadecimal_digits(rt: HostRuntime) -> Result<(), Fail> {
-    let mut out = Vec::from_slice(rt.alloc(), b"-")?;
-    assert_eq!(rt; push_unhex(b"009Fa0fF", &mut out), Ok(()));
-    assert_eq!(rt; push_unhex(b"", &mut out), Ok(()));
-    assert_eq!(rt; out.as_slice(), b"-\x00\x9f\xa0\xff".as_slice());
-    for digits in [
-        "0", "0g0", "00/0", "0:00", "0@00", "0G00", "0`00", "000g", "\u{80}0",
-    ] {
-        let odd = digits.len() % 2 == 1;
-        let fault = if odd {
-            HexFault::OddLength
-        } else {
-            HexFault::BadDigit
-        };
-        assert_eq!(rt;
-            push_unhex(digits.as_bytes(), &mut out),
-            Err(fault),
-            "at {digits}"
-        );
-    }
-    assert_eq!(rt; out.as_slice(), b"-\x00\x9f\xa0\xff".as_slice());
-    Ok(())
-}
-
-#[test]
-fn holds_octets_in_place(rt: HostRuntime) {
-    let mut octets = InlineOctets::<4>::new();
-    octets.push(b"abc");
-    octets.set(1, b'-');
-    let copy = octets;
-    octets.push(b"d");
-    assert!(rt; octets.as_bytes() == b"a-cd".as_slice() && octets.len() == 4);
-    assert!(rt; copy == InlineOctets::of(b"a-c") && copy != octets);
-    octets.change(1, |part: &mut [u8]| part.reverse());
-    assert!(rt; octets.as_bytes() == b"adc-".as_slice());
 }

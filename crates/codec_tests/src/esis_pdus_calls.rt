@@ -1,5 +1,5 @@
 //! ES-IS PDUs. All have the holding time 120.
-use esis_pdus::{AddressList, EsisBody, EsisRefusal, HelloRefusal, decode, encode, esh, ish, rd};
+use esis_pdus::{HelloRefusal, decode, encode, esh, ish, rd};
 use nsap::{Address, Snpa};
 use std::alloc::Global;
 use std::test::Fail;
@@ -63,77 +63,6 @@ fn hold_again(alloc: Global, frame: &[u8]) -> Option<u16> {
 fn reads_and_writes_the_worked_pdus(rt: HostRuntime) {
     for frame in [HOST, ROUTER, SUGGESTS, REDIRECT] {
         assert!(rt; hold_again(rt.alloc(), frame) == Some(120), "at {frame:?}");
-    }
-}
-
-/// The addresses of a frame's end system hello.
-fn addresses(frame: &[u8]) -> Option<AddressList<'_>> {
-    let Ok(pdu) = decode(frame) else {
-        return None;
-    };
-    match pdu.body {
-        EsisBody::Esh { addresses } => Some(addresses),
-        EsisBody::Ish { .. } | EsisBody::Rd { .. } => None,
-    }
-}
-
-#[test]
-fn reads_addresses_in_order(rt: HostRuntime) -> Result<(), Fail> {
-    let one = Address::from_text(b"47002702")?;
-    let two = Address::from_text(b"49")?;
-    let hello = esh(0, &[one, two], true).ok().ok_or("too long")?;
-    let mut list = addresses(hello.as_bytes()).ok_or("no end system hello")?;
-    assert!(rt; list.next() == Some(one));
-    assert!(rt; list.next() == Some(two));
-    assert!(rt; list.next() == None);
-    Ok(())
-}
-
-#[test]
-fn reads_fields(rt: HostRuntime) -> Result<(), Fail> {
-    let mut frame = SUGGESTS.to_vec(rt.alloc())?;
-    frame.push(0xff)?;
-    let mut read = false;
-    if let Ok(pdu) = decode(frame.as_slice()) {
-        assert!(rt; pdu.sum == 0x5b39 && pdu.suggested == Some(30));
-        assert!(rt; pdu.options == b"\xc6\x02\x00\x1e".as_slice());
-        assert!(rt; pdu.rest == b"\xff".as_slice());
-        read = true;
-    }
-    assert!(rt; read);
-    Ok(())
-}
-
-#[test]
-fn refuses_frames(rt: HostRuntime) {
-    let broken = |rule: u8, place: u8| EsisRefusal::Broken { rule, place };
-    let rows: [(&[u8], EsisRefusal); 8] = [
-        (b"", EsisRefusal::NotEsis),
-        (b"\x81", EsisRefusal::NotEsis),
-        (b"\x82", broken(1, 0)),
-        (
-            b"\x82\x0e\x01\x00\x24\x00\x78\xb1\xcd\x04\x47\x00\x27\xff",
-            broken(6, 5),
-        ),
-        (
-            b"\x82\x0e\x01\x00\x04\x00\x78\xb1\x00\x04\x47\x00\x27\xff",
-            broken(7, 8),
-        ),
-        (
-            b"\x82\x0e\x01\x00\x04\x00\x78\x00\x00\x05\x47\x00\x27\xff",
-            broken(9, 10),
-        ),
-        (
-            b"\x82\x0f\x01\x00\x04\x00\x78\x00\x00\x04\x47\x00\x27\xff\xc6",
-            broken(11, 15),
-        ),
-        (
-            b"\x82\x16\x01\x00\x04\x00\x78\x00\x00\x04\x47\x00\x27\xff\xc6\x02\x00\x1e\xc6\x02\x00\x1e",
-            broken(12, 19),
-        ),
-    ];
-    for (frame, want) in rows {
-        assert!(rt; decode(frame).err() == Some(want), "at {frame:?}");
     }
 }
 

@@ -1,5 +1,5 @@
-//! Tests of the public calls of the crates of octets, options and PDUs, up to frames as text: worked
-//! examples, and a happy path of each call that takes memory. A module for each crate.
+//! Tests of the public calls of the crates of octets, options and PDUs, up to frames as text: worked examples that no
+//! command reaches, and a happy path of each call that takes memory. A module for each crate.
 #![tactic(auto)]
 
 #[cfg(test)]

@@ -1,5 +1,4 @@
-use nsap::{Address, NsapFault, Prefix, Snpa, Target};
-use std::cmp::Ordering;
+use nsap::{Address, NsapFault, Prefix, Snpa};
 use std::test::Fail;
 
 const TWENTY: &[u8] = b"0102030405060708090a0b0c0d0e0f1011121314";
@@ -54,21 +53,6 @@ fn refuses_texts(rt: HostRuntime) {
 }
 
 #[test]
-fn counts_octets(rt: HostRuntime) -> Result<(), Fail> {
-    let octets = [0xff; 21];
-    assert_eq!(rt; Address::from_bytes(&[]), Err(NsapFault::Length));
-    assert_eq!(rt; Snpa::from_bytes(&[]), Err(NsapFault::Length));
-    assert_eq!(rt; Address::from_bytes(&octets), Err(NsapFault::Length));
-    assert_eq!(rt; Snpa::from_bytes(&octets), Err(NsapFault::Length));
-    assert_eq!(rt;
-        Address::from_bytes(&octets[..20])?.as_bytes(),
-        &octets[..20]
-    );
-    assert_eq!(rt; Snpa::from_bytes(&octets[..1])?.as_bytes(), &octets[..1]);
-    Ok(())
-}
-
-#[test]
 fn writes_texts(rt: HostRuntime) -> Result<(), Fail> {
     let alloc = rt.alloc();
     let mut out = Vec::new(alloc);
@@ -76,22 +60,6 @@ fn writes_texts(rt: HostRuntime) -> Result<(), Fail> {
     out.push(b' ')?;
     Snpa::from_bytes(&[0x02, 0xab])?.push_text(&mut out)?;
     assert_eq!(rt; out.as_slice(), b"4700ff 02ab".as_slice());
-    Ok(())
-}
-
-#[test]
-fn compares_octets(rt: HostRuntime) -> Result<(), Fail> {
-    let short = Address::from_bytes(&[0x47])?;
-    let long = Address::from_bytes(&[0x47, 0x00])?;
-    let other = Address::from_bytes(&[0x46, 0xff])?;
-    assert_eq!(rt; short.cmp(&long), Ordering::Less);
-    assert_eq!(rt; short.cmp(&other), Ordering::Greater);
-    assert!(rt; short < long && other < short && long == long && short != long);
-    let snpa = Snpa::from_bytes(&[1])?;
-    assert!(rt; snpa < Snpa::from_bytes(&[1, 0])? && snpa <= snpa);
-    let target = Target::System(snpa);
-    assert!(rt; target == target && target != Target::EndSystems);
-    assert!(rt; Target::Routers != Target::EndSystems);
     Ok(())
 }
 
