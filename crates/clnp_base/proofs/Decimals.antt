@@ -18,19 +18,9 @@ pub value_after-ge : (n : ℕ) (cs : List ℕ) → n ≤ value_after n cs
 value_after-ge n [] = omega arith
 value_after-ge n (c ∷ cs) = omega (arith, value_after-ge (10 * n + (c - 48)) cs)
 
-picked : (b : Bool) (n m : ℕ) → (if b then Some n else None) ≡ Some m → (b ≡ true) × (n ≡ m)
-picked true n m e = (refl, cc)
-picked false n m e = cc
-
 not_picked : (b : Bool) (n : ℕ) → (if b then Some n else None) ≡ None → b ≡ false
 not_picked true n e = cc
 not_picked false n e = refl
-
-pub decimal_after-some : (n c m : ℕ) (cs : List ℕ) → with_digit n c ≡ Some m → decimal_after n (c ∷ cs) ≡ decimal_after m cs
-decimal_after-some n c m cs e =
-    let p = picked (is_digit c && nat_lt (10 * n + (c - 48)) (2 ^ 64)) (10 * n + (c - 48)) m e in
-    let d : is_digit c ≡ true = (and_parts (is_digit c) (nat_lt (10 * n + (c - 48)) (2 ^ 64)) p.0).0 in
-    rw (d, p.1) refl
 
 too_high : (n k : ℕ) → nat_lt n (2 ^ 64) ≡ false → n ≤ k → nat_lt k (2 ^ 64) ≡ false
 too_high n k e le = grind (arith, nat_tests)

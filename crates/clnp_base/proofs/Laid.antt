@@ -46,9 +46,6 @@ inline-laid most len cells piece h room =
           ∙ ap (λ k. replicate k 0) (omega arith);
     }
 
-pub inline-none : (most : ℕ) → most ≤ 255 → IsInline most 0 (replicate most 0)
-inline-none most few = record { within = omega arith; few = few; room = length-replicate {A = ℕ} most 0; zeros = ap (λ (k : ℕ). replicate k 0) (omega arith) }
-
 -- ---- a part that begins at an index was written by as many octets
 
 length-put : (at : ℕ) (cells piece : List ℕ) → at + length piece ≤ length cells → length (put_mid at (length piece) cells piece) ≡ length cells

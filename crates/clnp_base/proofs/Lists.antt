@@ -24,10 +24,6 @@ module _ {X : Type 0} (P : X → Type 0) where
   AllByRecursion-front [] ys h = tt
   AllByRecursion-front (x ∷ xs) ys h = (h.0, AllByRecursion-front xs ys h.1)
 
-  pub AllByRecursion-behind : (xs ys : List X) → AllByRecursion P (xs ++ ys) → AllByRecursion P ys
-  AllByRecursion-behind [] ys h = h
-  AllByRecursion-behind (x ∷ xs) ys h = AllByRecursion-behind xs ys h.1
-
   -- what holds of everything, and what holds of none
   pub AllByRecursion-any : ((x : X) → P x) → (xs : List X) → AllByRecursion P xs
   AllByRecursion-any f [] = tt

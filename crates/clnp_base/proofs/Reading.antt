@@ -5,10 +5,6 @@ use Rattle.std.proofs.lemmas.Grind.{common_steps}
 use Rattle.clnp_base.specs.Text.{lines_of, words_of, onto_first, begins_with}
 use Rattle.clnp_base.specs.Cuts.{index_of, without_return}
 
-pub index_of-le : (w : ℕ) (xs : List ℕ) → index_of w xs ≤ length xs
-index_of-le w [] = omega arith
-index_of-le w (c ∷ cs) = grind (arith, common_steps, index_of-le w cs)
-
 index_of-here : (w c : ℕ) (cs : List ℕ) → (c == w) ≡ true → index_of w (c ∷ cs) ≡ 0
 index_of-here w c cs t = rw t refl
 

@@ -55,10 +55,6 @@ all_behind : (P : Parameter → Type 0) (os ps : List Parameter) → All P (os +
 all_behind P os ps h k d within =
     subst P (get_or-append-add os ps k d) (h (length os + k) d (omega (arith, length-append os ps)))
 
--- the option itself, as code and value
-abbrev pub option_at : {part : List ℕ} {code start end : ℕ} → StandsAt part code start end → Parameter
-option_at {code} s = record { code = code; value = s.value }
-
 pub none_after : (part : List ℕ) (code start end : ℕ) (s : StandsAt part code start end) → IsWellFormed part → code ≢ padding → value_of code (parameters s.after) ≡ None
 none_after part code start end s w n =
     let option : Parameter = record { code = code; value = s.value } in
@@ -93,10 +89,6 @@ value_at part code start end s =
     ap (λ t. take (end - start) (drop start t)) (front_of part code start end s)
     ∙ ap (take (end - start)) (drop_at (spelled s.before ++ (code ∷ length s.value ∷ [])) (s.value ++ s.after) start (front_length part code start end s))
     ∙ take_at s.value s.after (end - start) (sym e)
-
-pub length-value : (part : List ℕ) (code start end : ℕ) (s : StandsAt part code start end) → length s.value + 2 ≤ length part
-length-value part code start end s =
-    omega (arith, ap length (front_of part code start end s), length-append (spelled s.before ++ (code ∷ length s.value ∷ [])) (s.value ++ s.after), length-append (spelled s.before) (code ∷ length s.value ∷ []), length-append s.value s.after)
 
 pub after_spelled : (part : List ℕ) (code start end : ℕ) (s : StandsAt part code start end) → IsWellFormed part → s.after ≡ spelled (parameters s.after)
 after_spelled part code start end s w =

@@ -56,23 +56,3 @@ SoFar-more part rest others value code found s e o n =
       options = s.options ∙ ap (λ t. s.before ++ t) o ∙ sym (append_assoc s.before (option ∷ []) (parameters others));
       none_before = value_of-append code s.before (option ∷ []) s.none_before ∙ value_of-other code option [] n ∙ value_of-nil code;
     }
-
-pub StandsAt-found : (part rest others value : List ℕ) (code start end : ℕ) → SoFar part code rest → rest ≡ code ∷ length value ∷ (value ++ others) → parameters rest ≡ record { code = code; value = value } ∷ parameters others → end ≡ length part - length others → start ≡ end - length value → StandsAt part code start end
-StandsAt-found part rest others value code start end s e o is_end is_start =
-    let l1 = ap length s.octets in
-    let l2 = ap length e in
-    let l3 : length (value ++ others) ≡ length value + length others = length-append value others in
-    record {
-      before = s.before;
-      value = value;
-      after = others;
-      octets = s.octets ∙ ap (λ t. spelled s.before ++ t) e;
-      options = s.options ∙ ap (λ t. s.before ++ t) o;
-      none_before = s.none_before;
-      starts = omega (arith, length-append (spelled s.before) rest);
-      ends = omega (arith, length-append (spelled s.before) rest);
-    }
-
-pub SoFar-none : (part rest : List ℕ) (code : ℕ) → SoFar part code rest → parameters rest ≡ [] → value_of code (parameters part) ≡ None
-SoFar-none part rest code s e =
-    ap (value_of code) (s.options ∙ ap (λ t. s.before ++ t) e) ∙ value_of-append code s.before [] s.none_before ∙ value_of-nil code

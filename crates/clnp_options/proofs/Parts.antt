@@ -95,11 +95,6 @@ split_after (suc k) (x ∷ xs) = split_after k xs
 pub split_of : (part : List ℕ) → Splits part
 split_of part = split_after 0 part
 
-pub two_front : (xs : List ℕ) → 2 ≤ length xs → xs ≡ get_or xs 0 0 ∷ get_or xs 1 0 ∷ drop 2 xs
-two_front [] h = absurd (omega arith)
-two_front (x ∷ []) h = absurd (omega arith)
-two_front (x ∷ y ∷ xs) h = refl
-
 pub parameters-below_two : (xs : List ℕ) → length xs < 2 → parameters xs ≡ []
 parameters-below_two [] h = parameters-nil
 parameters-below_two (x ∷ []) h = parameters-one x

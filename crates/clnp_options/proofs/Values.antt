@@ -200,9 +200,6 @@ recorded-put title value n h =
 abbrev pub written : List ℕ → List ℕ → List ℕ
 written title value = take (pointer_of value - 1) value ++ (length title ∷ title) ++ drop (pointer_of value + length title) value
 
-pub with_title-is : (title value : List ℕ) → with_title title value ≡ set (written title value) 1 (pointer_of value + length title + 1)
-with_title-is title value = refl
-
 -- what the writes of the length octet and of the title leave
 pub written-by : (title value copied : List ℕ) (n : ℕ) → 1 ≤ pointer_of value → pointer_of value + length title ≤ length value → n ≡ length title → copied ≡ title → take (pointer_of value) (set value (pointer_of value - 1) (length title)) ++ (copied ++ drop n (drop (pointer_of value) (set value (pointer_of value - 1) (length title)))) ≡ written title value
 written-by title value copied n low fits is_n is_copied =

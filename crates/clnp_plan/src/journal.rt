@@ -373,7 +373,11 @@ fn table_word(table: TableKind) -> Word<'static>
 fn ignored_word(rd: bool) -> Word<'static>
     ensures { word_text result ≡ ignored_word rd }
 {
-    if rd { Word::Text(b"rd") } else { Word::Text(b"ish") }
+    if rd {
+        Word::Text(b"rd")
+    } else {
+        Word::Text(b"ish")
+    }
 }
 
 /// The word of why a unit wasn't made.

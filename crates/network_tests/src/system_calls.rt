@@ -24,8 +24,8 @@ end
 
 /// The hello of a, and that of r.
 const ESH: &[u8] = b"\x82\x0f\x01\x00\x02\x00\x78\x32\x4b\x01\x04\x47\x00\x27\x02";
-const ISH: &[u8] =
-    b"\x82\x12\x01\x00\x04\x00\x78\x5b\x39\x04\x47\x00\x27\xff\xc6\x02\x00\x1e";
+
+const ISH: &[u8] = b"\x82\x12\x01\x00\x04\x00\x78\x5b\x39\x04\x47\x00\x27\xff\xc6\x02\x00\x1e";
 
 /// A redirect for 47002701.
 const RD: &[u8] = b"\x82\x11\x01\x00\x06\x00\x78\xad\xc8\x04\x47\x00\x27\x01\x01\x02\x00";
@@ -33,6 +33,7 @@ const RD: &[u8] = b"\x82\x11\x01\x00\x06\x00\x78\xad\xc8\x04\x47\x00\x27\x01\x01
 /// A PDU for 47002701, and one for a.
 const FOR_ANOTHER: &[u8] =
     b"\x81\x13\x01\x0a\x3c\x00\x15\xce\x58\x04\x47\x00\x27\x01\x04\x47\x00\x27\x02hi";
+
 const FOR_A: &[u8] =
     b"\x81\x13\x01\x40\x1f\x00\x15\x2f\xde\x04\x47\x00\x27\x02\x04\x47\x00\x27\x01hi";
 
@@ -100,8 +101,22 @@ fn systems_hear_each_other(rt: HostRuntime) -> Result<(), Fail> {
     let mut host = System::new(alloc, host, scenario.limits(), 0, 0)?;
     let mut router = System::new(alloc, router, scenario.limits(), 0, 0)?;
     let mut text = Vec::new(alloc);
-    give(&rt, alloc, &mut router, b"\x01", &[ESH, ISH, FOR_ANOTHER], &mut text)?;
-    give(&rt, alloc, &mut host, b"\x0a", &[ISH, RD, b"\x82\x0e", b"\x80", FOR_A], &mut text)?;
+    give(
+        &rt,
+        alloc,
+        &mut router,
+        b"\x01",
+        &[ESH, ISH, FOR_ANOTHER],
+        &mut text,
+    )?;
+    give(
+        &rt,
+        alloc,
+        &mut host,
+        b"\x0a",
+        &[ISH, RD, b"\x82\x0e", b"\x80", FOR_A],
+        &mut text,
+    )?;
     let mut expected = Vec::new(alloc);
     expected.extend_from_slice(b"1 r hear es 47002702 new\n")?;
     expected.extend_from_slice(ISH)?;
@@ -116,9 +131,19 @@ fn systems_hear_each_other(rt: HostRuntime) -> Result<(), Fail> {
         port: 0,
         target: Target::System(at_a),
     };
-    assert!(rt; router.as_router().is_some_and(|router| router.next_hop(&a) == Some(hop)));
-    assert!(rt; host.as_host().is_some_and(|host| host.next_hop(&to) == Target::System(at_r)));
+    assert!(rt;
+        router
+            .as_router()
+            .is_some_and(|router| router.next_hop(&a) == Some(hop))
+    );
+    assert!(rt;
+        host.as_host()
+            .is_some_and(|host| host.next_hop(&to) == Target::System(at_r))
+    );
     host.restart();
-    assert!(rt; host.as_host().is_some_and(|host| host.next_hop(&to) == Target::EndSystems));
+    assert!(rt;
+        host.as_host()
+            .is_some_and(|host| host.next_hop(&to) == Target::EndSystems)
+    );
     Ok(())
 }

@@ -74,9 +74,6 @@ options_are v octets start h s = ap parameters (options_behind v octets start h 
 pub options_lead : (v : PduValue) (octets : List ℕ) (start : ℕ) → SpellsHeader v octets → StartsAt v start → IsSome (target_of v.options) → IsSome (target_of (parameters (drop start octets)))
 options_lead v octets start h s lead = rw (options_are v octets start h s) lead
 
-pub nine_kept : (old new : List ℕ) → IsHeader old → length new ≡ length old → 9 ≤ length new
-nine_kept old new h e = omega (arith, nine_at_least old h, e)
-
 -- ---- the edit
 
 -- the value of which the options are others, of the same length

@@ -5,12 +5,6 @@ use Rattle.fletcher.specs.Checksum.{IsSealed, sealed, with_checksum, without_che
 use Rattle.fletcher.proofs.ChecksumLaws.{sealed_shares, sealed_of_bare, with_checksum_same}
 use Rattle.pdu_header.specs.Rules.{octet, pair_at}
 
-pub nine_octets : (head : List ℕ) → 9 ≤ length head
-    → head
-    ≡ get_or head 0 0 ∷ get_or head 1 0 ∷ get_or head 2 0 ∷ get_or head 3 0 ∷ get_or head 4 0 ∷ get_or head 5 0 ∷ get_or head 6 0 ∷ get_or head 7 0 ∷ get_or head 8 0 ∷ drop 9 head
-nine_octets (a ∷ b ∷ c ∷ d ∷ e ∷ f ∷ g ∷ h ∷ i ∷ rest) long = refl
-nine_octets _ long = absurd (omega arith)
-
 pub nine_bare : (head : List ℕ) → 9 ≤ length head
     → without_checksum head
     ≡ get_or head 0 0 ∷ get_or head 1 0 ∷ get_or head 2 0 ∷ get_or head 3 0 ∷ get_or head 4 0 ∷ get_or head 5 0 ∷ get_or head 6 0 ∷ 0 ∷ 0 ∷ drop 9 head

@@ -35,10 +35,6 @@ taken_all plain changed start within same =
     ∙ ap (λ t. take start plain ++ (drop start changed ++ t)) ends
     ∙ ap (λ t. take start plain ++ t) (append-nil (drop start changed))
 
-pub length-taken : (plain changed : List ℕ) (start index : ℕ) → start ≤ index → index ≤ length plain → length changed ≡ length plain → length (taken plain changed start index) ≡ length plain
-length-taken plain changed start index low high same =
-    length-paste plain start (drop start changed) (index - start) (omega arith) (omega (arith, length-drop start changed))
-
 pub taken_more : (plain changed : List ℕ) (start index : ℕ) → start ≤ index → index < length plain → length changed ≡ length plain
     → set (taken plain changed start index) index (get_or changed index 0) ≡ taken plain changed start (index + 1)
 taken_more plain changed start index low high same =
