@@ -1,4 +1,4 @@
-use captures::{Verdict, check_line, read_capture, show_line};
+use captures::{LineRefusal, Verdict, check_line, read_capture, show_line};
 use std::test::Fail;
 
 /// A PDU in hexadecimal digits, and the line that shows it.
@@ -20,10 +20,44 @@ fn shows_a_frame_behind_what_stands_there(rt: HostRuntime) -> Result<(), Fail> {
 }
 
 #[test]
-fn judges_a_vector(rt: HostRuntime) -> Result<(), Fail> {
-    let mut out = Vec::new(rt.alloc());
-    let verdict = check_line(rt.alloc(), b"00 => alien", 3, &mut out);
-    assert_eq!(rt; verdict, Ok(Verdict::Pass));
+fn reads_70000_octets_and_no_more(rt: HostRuntime) -> Result<(), Fail> {
+    let alloc = rt.alloc();
+    let mut line = Vec::new(alloc);
+    for _ in 0..70_000 {
+        line.extend_from_slice(b"00")?;
+    }
+    let mut frame = Vec::new(alloc);
+    assert_eq!(rt; read_capture(&line, &mut frame), Ok(true));
+    assert_eq!(rt; frame.len(), 70_000);
+    for (more, answer) in [
+        (b"0".as_slice(), LineRefusal::Syntax),
+        (b"0", LineRefusal::Count),
+        (b"g0", LineRefusal::Syntax),
+    ] {
+        line.extend_from_slice(more)?;
+        assert_eq!(rt; read_capture(&line, &mut frame), Err(answer));
+    }
+    assert_eq!(rt; frame.len(), 70_000);
+    Ok(())
+}
+
+#[test]
+fn judges_70000_octets_and_no_more(rt: HostRuntime) -> Result<(), Fail> {
+    let alloc = rt.alloc();
+    let mut line = Vec::new(alloc);
+    for _ in 0..70_000 {
+        line.extend_from_slice(b"00")?;
+    }
+    let octets = line.len();
+    let mut out = Vec::new(alloc);
+    line.extend_from_slice(b" => alien")?;
+    assert_eq!(rt; check_line(alloc, &line, 3, &mut out), Ok(Verdict::Pass));
+    line.truncate(octets);
+    line.extend_from_slice(b"00 => alien")?;
+    assert_eq!(rt;
+        check_line(alloc, &line, 4, &mut out),
+        Err(LineRefusal::Count)
+    );
     assert_eq!(rt; out.as_slice(), b"3 pass".as_slice());
     Ok(())
 }

@@ -143,3 +143,37 @@ fn stops_where_the_network_is_full(rt: HostRuntime) -> Result<(), Fail> {
     assert_eq!(rt; sink.octets, 536_695_314);
     Ok(())
 }
+
+#[test]
+fn refuses_a_long_text(rt: HostRuntime) -> Result<(), Fail> {
+    let alloc = rt.alloc();
+    let words = word(alloc, "sim")?;
+    let text = vec![in alloc; b'a'; 16_777_217]?;
+    let mut source = MemSource::new(text, usize::MAX, Vec::new(alloc));
+    let mut sink = MemSink::new(alloc, 10, 10, Vec::new(alloc))?;
+    let status = clnp_main(alloc, words.as_slice(), &mut source, &mut sink);
+    assert_eq!(rt; status, Status::TooLong);
+    assert!(rt; sink.as_bytes().is_empty());
+    Ok(())
+}
+
+#[test]
+fn writes_many_blocks(rt: HostRuntime) -> Result<(), Fail> {
+    let alloc = rt.alloc();
+    let mut text = Vec::new(alloc);
+    for _ in 0..16_000 {
+        text.extend_from_slice(b"00\n")?;
+    }
+    let words = word(alloc, "show")?;
+    let mut source = MemSource::new(text, 4096, Vec::new(alloc));
+    let mut sink = MemSink::new(alloc, 70_000, 4096, Vec::new(alloc))?;
+    let status = clnp_main(alloc, words.as_slice(), &mut source, &mut sink);
+    assert_eq!(rt; status, Status::WriteFault);
+    assert_eq!(rt; sink.as_bytes().len(), 70_000);
+    assert!(rt;
+        sink.as_bytes()
+            .chunks(6)
+            .all(|line| b"alien\n".starts_with(line))
+    );
+    Ok(())
+}

@@ -83,3 +83,35 @@ end 1 1
     assert!(rt; world.host(2).is_none());
     Ok(())
 }
+
+/// Each unit is one copy, which weighs 64,601.
+#[test]
+fn is_full_at_its_weight(rt: HostRuntime) -> Result<(), Fail> {
+    let alloc = rt.alloc();
+    let mut text = Vec::from_slice(alloc, FRONT)?;
+    for _ in 0..4157 {
+        text.extend_from_slice(b"send a 47002702 47002701 pat:64512:0\n")?;
+    }
+    text.extend_from_slice(b"end\n")?;
+    let scenario = scenario(&rt, alloc, &text);
+    let mut world = World::new(alloc, &scenario)?;
+    let mut journal = Vec::new(alloc);
+    for event in 0..4156 {
+        journal.clear();
+        let mv = Move::One(event);
+        assert_eq!(rt;
+            step(&rt, alloc, &mut world, &scenario, &mv, &mut journal),
+            Ok(())
+        );
+    }
+    let full = WorldRefusal::WorldFull {
+        octets: 268_481_756,
+    };
+    let mv = Move::One(4156);
+    assert_eq!(rt;
+        step(&rt, alloc, &mut world, &scenario, &mv, &mut journal),
+        Err(full)
+    );
+    assert_eq!(rt; world.weight(), 268_481_756);
+    Ok(())
+}
