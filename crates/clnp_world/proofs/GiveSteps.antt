@@ -7,7 +7,7 @@ use Rattle.std.proofs.lemmas.Option.{slice_get_past}
 use Rattle.clnp_plan.specs.Journal.{Void, Late, line_text}
 use Rattle.clnp_plan.specs.declared.config.Limits.{Limits}
 use Rattle.clnp_machine.specs.Content.{IsCarried}
-use Rattle.clnp_machine.specs.System.{SystemState}
+use Rattle.clnp_machine.specs.System.{FrameComes, SystemState}
 use Rattle.clnp_machine.specs.Step.{step}
 use Rattle.clnp_network.specs.World as network
 use Rattle.clnp_network.specs.Run.{lines_text}
@@ -34,10 +34,20 @@ pub carried_at : (copies : List network.Copy) (at : ℕ) (copy : network.Copy) �
     → slice_get copies at ≡ Some copy → IsCarried copy.content
 carried_at copies at copy h e = AllByRecursion-slice_get (λ (c : network.Copy). IsCarried c.content) copies at copy e h
 
-system_there : (code : Network) (model : network.World) (place : ℕ) → Shows code model → place < length code.hosts.items
+-- the code's copy comes to a system as the model's does
+pub came : (copy : network.Copy) (system : SystemState) (seen : FrameCopy) (port : ℕ) (group : Bool)
+    → port ≡ network.first_port copy system.configuration.role system.configuration.ports → seen ≡ frame_copy copy
+    → group ≡ network.is_group seen.target → FrameComes port seen.sender group copy.content ≡ network.frame_to system copy
+came copy system seen port group port_is same group_is =
+    let first = network.first_port copy system.configuration.role system.configuration.ports in
+    ap (λ (n : ℕ). FrameComes n seen.sender group copy.content) port_is
+    ∙ ap (λ (b : Bool). FrameComes first seen.sender b copy.content) (group_is ∙ ap (λ (f : FrameCopy). network.is_group f.target) same)
+    ∙ ap (λ (f : FrameCopy). FrameComes first f.sender (network.is_group copy.target) copy.content) same
+
+system_there : (code : Network) (model : network.World) (place : ℕ) → Shows code model → place < length code.systems.items
     → (system : SystemState) × (slice_get model.systems place ≡ Some system)
 system_there code model place h within =
-    let same = each_length code.hosts.items model.systems h.systems in
+    let same = each_length code.systems.items model.systems h.systems in
     slice_get_some model.systems place (omega arith)
 
 copy_there : (code : Network) (model : network.World) (at : ℕ) → Shows code model → at < length code.copies.items
@@ -46,7 +56,7 @@ copy_there code model at h within =
     let same = counted code model h in
     slice_get_some model.copies at (omega arith)
 
-follows_nothing : (code : Network) (lines : List ℕ) (model : network.World) → Holds code model → Follows code lines lines (network.nothing model)
+pub follows_nothing : (code : Network) (lines : List ℕ) (model : network.World) → Holds code model → Follows code lines lines (network.nothing model)
 follows_nothing code lines model h =
     let part = puts_nothing code model lines h.shows in record { holds = h; lines = part.lines }
 
@@ -68,7 +78,7 @@ TellsLate code limits at answer =
     (model : network.World) (copy : network.Copy) → Shows code model → slice_get model.copies at ≡ Some copy
     → answer ≡ network.is_late limits model copy
 
-pub gives_late : (code : Network) (before after : List ℕ) (limits : Limits) (number at place : ℕ) → place < length code.hosts.items
+pub gives_late : (code : Network) (before after : List ℕ) (limits : Limits) (number at place : ℕ) → place < length code.systems.items
     → TellsLate code limits at true
     → ((model : network.World) (system : SystemState) → Shows code model → slice_get model.systems place ≡ Some system
     → after ≡ before ++ line_text (Late model.clock system.configuration.name number))
@@ -82,7 +92,7 @@ gives_late code before after limits number at place within tells writes model co
     (network.takes_effect model place (step system.0 (network.frame_to system.0 copy))))) (tells model copy h.shows there)
     record { holds = h; lines = part.lines })
 
-pub gives_now : (old code : Network) (before after : List ℕ) (limits : Limits) (number at place : ℕ) → place < length old.hosts.items
+pub gives_now : (old code : Network) (before after : List ℕ) (limits : Limits) (number at place : ℕ) → place < length old.systems.items
     → TellsLate old limits at false
     → ((model : network.World) (copy : network.Copy) (system : SystemState) → Holds old model → slice_get model.copies at ≡ Some copy
     → slice_get model.systems place ≡ Some system
@@ -104,7 +114,7 @@ Gives start code before after limits at place =
     (model : network.World) (copy : network.Copy) → Holds start model → slice_get model.copies at ≡ Some copy
     → Follows code before after (network.give_each limits (numbered (at + 1) copy) model (network.addressees_from 0 copy (take place model.systems)))
 
--- whether the copy is for the host at the place
+-- whether the copy is for the system at the place
 abbrev pub TellsAddressee : Network → ℕ → ℕ → Bool → Type 0
 TellsAddressee code at place answer =
     (model : network.World) (copy : network.Copy) (system : SystemState) → Shows code model → slice_get model.copies at ≡ Some copy
@@ -150,7 +160,7 @@ tells_then start mid before between limits at place answer model copy system so_
     ∙ ap (λ c. network.is_addressee copy c) now.2
 
 pub gives_more : (start mid code : Network) (before between after : List ℕ) (limits : Limits) (at place : ℕ)
-    → Gives start mid before between limits at place → place < length start.hosts.items → TellsAddressee mid at place true
+    → Gives start mid before between limits at place → place < length start.systems.items → TellsAddressee mid at place true
     → ((model : network.World) (copy : network.Copy) → Holds mid model → slice_get model.copies at ≡ Some copy
     → Follows code between after (network.give limits (numbered (at + 1) copy) model place))
     → Gives start code before after limits at (place + 1)
@@ -169,7 +179,7 @@ gives_more start mid code before between after limits at place so_far within tel
     (next w.world copy front.holds (copy-give_each limits given model ps at copy there)))
 
 pub gives_skip : (start code : Network) (before after : List ℕ) (limits : Limits) (at place : ℕ)
-    → Gives start code before after limits at place → place < length start.hosts.items → TellsAddressee code at place false
+    → Gives start code before after limits at place → place < length start.systems.items → TellsAddressee code at place false
     → Gives start code before after limits at (place + 1)
 gives_skip start code before after limits at place so_far within tells model copy h there =
     let system = system_there start model place h.shows within in
@@ -182,7 +192,7 @@ gives_skip start code before after limits at place so_far within tells model cop
 
 -- the same where the code's names differ, as after an `if`
 pub gives_more_as : (start mid given code : Network) (before between lines after : List ℕ) (limits : Limits) (at place : ℕ)
-    → Gives start mid before between limits at place → place < length start.hosts.items → TellsAddressee mid at place true
+    → Gives start mid before between limits at place → place < length start.systems.items → TellsAddressee mid at place true
     → code ≡ given → after ≡ lines
     → ((model : network.World) (copy : network.Copy) → Holds mid model → slice_get model.copies at ≡ Some copy
     → Follows given between lines (network.give limits (numbered (at + 1) copy) model place))
@@ -193,7 +203,7 @@ gives_more_as start mid given code before between lines after limits at place so
     (gives_more start mid given before between lines limits at place so_far within tells next))
 
 pub gives_skip_as : (start mid code : Network) (before between after : List ℕ) (limits : Limits) (at place : ℕ)
-    → Gives start mid before between limits at place → place < length start.hosts.items → TellsAddressee mid at place false
+    → Gives start mid before between limits at place → place < length start.systems.items → TellsAddressee mid at place false
     → code ≡ mid → after ≡ between
     → Gives start code before after limits at (place + 1)
 gives_skip_as start mid code before between after limits at place so_far within tells same_code same_lines =
@@ -202,11 +212,11 @@ gives_skip_as start mid code before between after limits at place so_far within 
     (gives_skip start mid before between limits at place so_far within tells))
 
 pub gives_all : (start code : Network) (before after : List ℕ) (limits : Limits) (at place : ℕ)
-    → Gives start code before after limits at place → length start.hosts.items ≤ place
+    → Gives start code before after limits at place → length start.systems.items ≤ place
     → (model : network.World) (copy : network.Copy) → Holds start model → slice_get model.copies at ≡ Some copy
     → Follows code before after (network.give_each limits (numbered (at + 1) copy) model (network.addressees_from 0 copy model.systems))
 gives_all start code before after limits at place so_far all model copy h there =
-    let same = each_length start.hosts.items model.systems h.shows.systems in
+    let same = each_length start.systems.items model.systems h.shows.systems in
     subst (λ (ss : List SystemState). Follows code before after (network.give_each limits (numbered (at + 1) copy) model (network.addressees_from 0 copy ss)))
     (take_all place model.systems (omega arith)) (so_far model copy h there)
 
@@ -250,7 +260,7 @@ delivered limits model number at place system found at_is here there =
     ∙ ap (λ (n : ℕ). network.deliver_to limits model number place (slice_get model.copies n) system) (sym at_is)
     ∙ ap (λ (c : Option network.Copy). network.deliver_to limits model number place c system) there
 
--- the line of a copy that isn't there for the host at the place is written
+-- the line of a copy that isn't there for the system at the place is written
 abbrev pub WritesVoid : Network → List ℕ → List ℕ → ℕ → ℕ → Type 0
 WritesVoid code before after number place =
     (model : network.World) (system : SystemState) → Shows code model → slice_get model.systems place ≡ Some system
@@ -263,17 +273,17 @@ void_follows code before after number place model system writes h here =
     let part = puts_line code before after model (Void model.clock system.configuration.name number) h.shows (writes model system h.shows here) in
     record { holds = h; lines = part.lines }
 
--- there is no host at the place
-pub delivers_nowhere : (code : Network) (lines : List ℕ) (limits : Limits) (number place : ℕ) → length code.hosts.items ≤ place
+-- there is no system at the place
+pub delivers_nowhere : (code : Network) (lines : List ℕ) (limits : Limits) (number place : ℕ) → length code.systems.items ≤ place
     → (model : network.World) → Holds code model → Follows code lines lines (network.deliver limits model number place)
 delivers_nowhere code lines limits number place past model h =
-    let same = each_length code.hosts.items model.systems h.shows.systems in
+    let same = each_length code.systems.items model.systems h.shows.systems in
     let none : slice_get model.systems place ≡ None = slice_get_past model.systems place (omega arith) in
     subst (λ (s : Option SystemState). Follows code lines lines (network.deliver_at limits model number place s)) (sym none)
     (follows_nothing code lines model h)
 
 -- there is no such copy
-pub delivers_none : (code : Network) (before after : List ℕ) (limits : Limits) (number at place : ℕ) → at ≡ number - 1 → place < length code.hosts.items
+pub delivers_none : (code : Network) (before after : List ℕ) (limits : Limits) (number at place : ℕ) → at ≡ number - 1 → place < length code.systems.items
     → length code.copies.items ≤ at → WritesVoid code before after number place
     → (model : network.World) → Holds code model → Follows code before after (network.deliver limits model number place)
 delivers_none code before after limits number at place at_is within past writes model h =
@@ -283,8 +293,8 @@ delivers_none code before after limits number at place at_is within past writes 
     subst (λ (s : network.Step). Follows code before after s) (sym (delivered limits model number at place system.0 None at_is system.1 none))
     (void_follows code before after number place model system.0 writes h system.1)
 
--- the copy isn't for the host
-pub delivers_other : (code : Network) (before after : List ℕ) (limits : Limits) (number at place : ℕ) → at ≡ number - 1 → place < length code.hosts.items
+-- the copy isn't for the system
+pub delivers_other : (code : Network) (before after : List ℕ) (limits : Limits) (number at place : ℕ) → at ≡ number - 1 → place < length code.systems.items
     → at < length code.copies.items → TellsAddressee code at place false → WritesVoid code before after number place
     → (model : network.World) → Holds code model → Follows code before after (network.deliver limits model number place)
 delivers_other code before after limits number at place at_is within within' tells writes model h =
@@ -295,8 +305,8 @@ delivers_other code before after limits number at place at_is within within' tel
     (subst (λ (b : Bool). Follows code before after (cond b (network.give limits (numbered number copy.0) model place) (network.is_void model system.0 number))) no
     (void_follows code before after number place model system.0 writes h system.1))
 
--- the copy is for the host
-pub delivers : (old code : Network) (before after : List ℕ) (limits : Limits) (number at place : ℕ) → at ≡ number - 1 → place < length old.hosts.items
+-- the copy is for the system
+pub delivers : (old code : Network) (before after : List ℕ) (limits : Limits) (number at place : ℕ) → at ≡ number - 1 → place < length old.systems.items
     → at < length old.copies.items → TellsAddressee old at place true
     → ((model : network.World) (copy : network.Copy) → Holds old model → slice_get model.copies at ≡ Some copy
     → Follows code before after (network.give limits (numbered number copy) model place))

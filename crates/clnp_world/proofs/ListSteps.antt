@@ -1,7 +1,9 @@
 -- Lists that are read, written and made longer at one place.
-use Rattle.std.proofs.Common.{◌≡◌, ℕ, zero, suc, ◌+◌, ◌<◌, List, [], ◌∷◌, ◌++◌, length, take, get_or, map, Some, refl, sym, ap, ◌∙◌, arith, add-one}
-use Rattle.std.specs.Prelude.{slice_get, slice_set}
-use Rattle.std.specs.List.{AllByRecursion, range_with_len}
+use Rattle.std.proofs.Common.{◌≡◌, ℕ, zero, suc, ◌+◌, ◌<◌, List, [], ◌∷◌, ◌++◌, length, take, get_or, map, cond, Bool, true, false, Option, None, Some, refl, sym, ap, ◌∙◌, arith, add-one}
+use Rattle.std.specs.Prelude.{nat_lt, not, slice_get, slice_set}
+use Rattle.std.proofs.lemmas.Bool.{ltb-false}
+use Rattle.std.proofs.lemmas.List.Sums.{prefix_len-le-length}
+use Rattle.std.specs.List.{AllByRecursion, position, position_or_len, range_with_len}
 
 pub slice_get_front : {X : Type 0} (xs ys : List X) (i : ℕ) (x : X) → slice_get xs i ≡ Some x → slice_get (xs ++ ys) i ≡ Some x
 slice_get_front [] ys i x e = cc
@@ -53,3 +55,19 @@ pub all_take_set : {X : Type 0} (P : X → Type 0) (xs : List X) (i : ℕ) (x : 
 all_take_set P [] i x h k = rw add-one tt
 all_take_set P (y ∷ ys) zero x h k = (k, tt)
 all_take_set P (y ∷ ys) (suc i) x h k = rw add-one (h.0, rw add-one at (all_take_set P ys i x h.1 k))
+
+-- The first element that passes a test.
+
+pub first_past : {X : Type 0} (p : X → Bool) (xs : List X) → (let none : Option ℕ = None in none) ≡ position p xs → length xs ≡ position_or_len p xs
+first_past p xs e = by_test (nat_lt (position_or_len p xs) (length xs)) refl
+  where
+    by_test : (b : Bool) → nat_lt (position_or_len p xs) (length xs) ≡ b → length xs ≡ position_or_len p xs
+    by_test true is =
+        let some : position p xs ≡ Some (position_or_len p xs) = ap (λ (b : Bool). cond b (Some (position_or_len p xs)) None) is in absurd (cc)
+    by_test false is = omega (arith, prefix_len-le-length (λ x. not (p x)) xs, ltb-false (position_or_len p xs) (length xs) is)
+
+-- what stands in a place is written there
+pub set_same : {X : Type 0} (xs : List X) (i : ℕ) (x : X) → slice_get xs i ≡ Some x → slice_set xs i x ≡ xs
+set_same [] i x e = refl
+set_same (y ∷ ys) zero x e = let same : y ≡ x = cc in ap (λ z. z ∷ ys) (sym same)
+set_same (y ∷ ys) (suc i) x e = ap (λ zs. y ∷ zs) (set_same ys i x e)

@@ -1,12 +1,18 @@
 -- One more output, addressee, tick or system at the end of a list, and what the parts of a move leave as it was.
 use Rattle.std.proofs.Common.{◌≡◌, ℕ, suc, ◌+◌, List, [], ◌∷◌, ◌++◌, length, take, map, cond, Bool, true, false, Option, None, Some, refl, sym, ap, ◌∙◌, subst, arith, append-nil, append_assoc, add-zero, zero-add}
-use Rattle.std.specs.Prelude.{slice_get, slice_set}
-use Rattle.std.specs.List.{AllByRecursion, range_with_len}
+use Rattle.std.specs.Prelude.{slice_get}
+use Rattle.std.specs.List.{AllByRecursion, position_or_len, range_with_len}
+use Rattle.std.proofs.lemmas.List.Recursion.{is_position_or_len}
 use Rattle.std.proofs.lemmas.List.Concat.{flat_map-append}
 use Rattle.clnp_plan.specs.Configuration.{SystemConfiguration}
 use Rattle.clnp_plan.specs.Journal.{Line, Late, line_text}
 use Rattle.clnp_plan.specs.declared.config.Limits.{Limits}
-use Rattle.clnp_machine.specs.System.{SystemState, MomentComes, Output, Transmits, Notes, Effect, first_state}
+use Rattle.clnp_plan.specs.declared.config.PortConfig.{PortConfig}
+use Rattle.clnp_plan.specs.declared.config.Role.{Role}
+use Rattle.nsap.specs.declared.target.Target.{Target}
+use Rattle.clnp_machine.specs.Content.{Content, Esis, Labelled}
+use Rattle.clnp_machine.specs.Unit.{DeclaredAt, Maker}
+use Rattle.clnp_machine.specs.System.{SystemState, MomentComes, Output, Transmits, SendsEsis, Notes, Effect, first_state}
 use Rattle.clnp_machine.specs.Step.{step}
 use Rattle.clnp_machine.proofs.Deeds.{step_itself}
 use Rattle.clnp_network.specs.World as network
@@ -31,50 +37,58 @@ followed_by-followed_by step f g =
     (step.lines ++ ((f step.world).lines ++ (g (f step.world).world).lines))
     (append_assoc step.lines (f step.world).lines (g (f step.world).world).lines)
 
-pub put_all_out-push : (c : SystemConfiguration) (w : network.World) (outs : List Output) (out : Output)
-    → network.put_all_out c w (outs ++ out ∷ []) ≡ network.followed_by (network.put_all_out c w outs) (λ v. network.put_out c v out)
-put_all_out-push c w [] out = followed_by-nothing (network.put_out c w out)
-put_all_out-push c w (first ∷ outs) out =
-    ap (λ (s : network.Step). (let r : network.Step = record { world = s.world; lines = (network.put_out c w first).lines ++ s.lines } in r))
-    (put_all_out-push c (network.put_out c w first).world outs out)
-    ∙ sym (followed_by-followed_by (network.put_out c w first) (λ v. network.put_all_out c v outs) (λ v. network.put_out c v out))
+pub put_all_out-push : (system : SystemState) (w : network.World) (outs : List Output) (out : Output)
+    → network.put_all_out system w (outs ++ out ∷ []) ≡ network.followed_by (network.put_all_out system w outs) (λ v. network.put_out system v out)
+put_all_out-push system w [] out = followed_by-nothing (network.put_out system w out)
+put_all_out-push system w (first ∷ outs) out =
+    ap (λ (s : network.Step). (let r : network.Step = record { world = s.world; lines = (network.put_out system w first).lines ++ s.lines } in r))
+    (put_all_out-push system (network.put_out system w first).world outs out)
+    ∙ sym (followed_by-followed_by (network.put_out system w first) (λ v. network.put_all_out system v outs) (λ v. network.put_out system v out))
 
 -- What is put out leaves the systems and the clock as they were, and each copy where it is.
 
-systems-put_out : (c : SystemConfiguration) (w : network.World) (out : Output) → (network.put_out c w out).world.systems ≡ w.systems
-systems-put_out c w (Notes note) = refl
-systems-put_out c w (Transmits port target packet) = refl
+systems-put_out : (system : SystemState) (w : network.World) (out : Output) → (network.put_out system w out).world.systems ≡ w.systems
+systems-put_out system w (Notes note) = refl
+systems-put_out system w (Transmits port target packet) = refl
+systems-put_out system w (SendsEsis port target value) = refl
 
-clock-put_out : (c : SystemConfiguration) (w : network.World) (out : Output) → (network.put_out c w out).world.clock ≡ w.clock
-clock-put_out c w (Notes note) = refl
-clock-put_out c w (Transmits port target packet) = refl
+clock-put_out : (system : SystemState) (w : network.World) (out : Output) → (network.put_out system w out).world.clock ≡ w.clock
+clock-put_out system w (Notes note) = refl
+clock-put_out system w (Transmits port target packet) = refl
+clock-put_out system w (SendsEsis port target value) = refl
 
-pub systems-put_all_out : (c : SystemConfiguration) (w : network.World) (outs : List Output)
-    → (network.put_all_out c w outs).world.systems ≡ w.systems
-systems-put_all_out c w [] = refl
-systems-put_all_out c w (first ∷ outs) = systems-put_all_out c (network.put_out c w first).world outs ∙ systems-put_out c w first
+pub systems-put_all_out : (system : SystemState) (w : network.World) (outs : List Output)
+    → (network.put_all_out system w outs).world.systems ≡ w.systems
+systems-put_all_out system w [] = refl
+systems-put_all_out system w (first ∷ outs) = systems-put_all_out system (network.put_out system w first).world outs ∙ systems-put_out system w first
 
-pub clock-put_all_out : (c : SystemConfiguration) (w : network.World) (outs : List Output)
-    → (network.put_all_out c w outs).world.clock ≡ w.clock
-clock-put_all_out c w [] = refl
-clock-put_all_out c w (first ∷ outs) = clock-put_all_out c (network.put_out c w first).world outs ∙ clock-put_out c w first
+pub clock-put_all_out : (system : SystemState) (w : network.World) (outs : List Output)
+    → (network.put_all_out system w outs).world.clock ≡ w.clock
+clock-put_all_out system w [] = refl
+clock-put_all_out system w (first ∷ outs) = clock-put_all_out system (network.put_out system w first).world outs ∙ clock-put_out system w first
 
-copy-put_out : (c : SystemConfiguration) (w : network.World) (out : Output) (i : ℕ) (copy : network.Copy)
-    → slice_get w.copies i ≡ Some copy → slice_get (network.put_out c w out).world.copies i ≡ Some copy
-copy-put_out c w (Notes note) i copy e = e
-copy-put_out c w (Transmits port target packet) i copy e =
-    slice_get_front w.copies (network.copy_from (slice_get c.ports port) target packet) i copy e
+-- the copy that a frame of a system makes on a port's subnetwork, where it has that port
+abbrev pub made_by : SystemState → (port : ℕ) → Target → Maker → (birth : ℕ) → Content → List network.Copy
+made_by system port target maker birth content = network.copy_from (slice_get system.configuration.ports port) target maker birth content
 
-copy-put_all_out : (c : SystemConfiguration) (w : network.World) (outs : List Output) (i : ℕ) (copy : network.Copy)
-    → slice_get w.copies i ≡ Some copy → slice_get (network.put_all_out c w outs).world.copies i ≡ Some copy
-copy-put_all_out c w [] i copy e = e
-copy-put_all_out c w (first ∷ outs) i copy e =
-    copy-put_all_out c (network.put_out c w first).world outs i copy (copy-put_out c w first i copy e)
+copy-put_out : (system : SystemState) (w : network.World) (out : Output) (i : ℕ) (copy : network.Copy)
+    → slice_get w.copies i ≡ Some copy → slice_get (network.put_out system w out).world.copies i ≡ Some copy
+copy-put_out system w (Notes note) i copy e = e
+copy-put_out system w (Transmits port target packet) i copy e =
+    slice_get_front w.copies (made_by system port target packet.unit.maker packet.unit.made (Labelled packet [])) i copy e
+copy-put_out system w (SendsEsis port target value) i copy e =
+    slice_get_front w.copies (made_by system port target (DeclaredAt system.place) w.clock (Esis value [])) i copy e
+
+copy-put_all_out : (system : SystemState) (w : network.World) (outs : List Output) (i : ℕ) (copy : network.Copy)
+    → slice_get w.copies i ≡ Some copy → slice_get (network.put_all_out system w outs).world.copies i ≡ Some copy
+copy-put_all_out system w [] i copy e = e
+copy-put_all_out system w (first ∷ outs) i copy e =
+    copy-put_all_out system (network.put_out system w first).world outs i copy (copy-put_out system w first i copy e)
 
 copy-takes_effect : (w : network.World) (place : ℕ) (effect : Effect) (i : ℕ) (copy : network.Copy)
     → slice_get w.copies i ≡ Some copy → slice_get (network.takes_effect w place effect).world.copies i ≡ Some copy
 copy-takes_effect w place effect i copy e =
-    copy-put_all_out effect.after.configuration (network.with_effect w place effect) effect.outputs i copy e
+    copy-put_all_out effect.after (network.with_effect w place effect) effect.outputs i copy e
 
 -- a step at the clock's moment leaves each system at it
 pub current-takes_effect : (w : network.World) (place : ℕ) (effect : Effect) → IsCurrent w → effect.after.moment ≡ w.clock
@@ -83,10 +97,10 @@ current-takes_effect w place effect h now =
     let v = network.with_effect w place effect in
     let set : AllByRecursion (λ (s : SystemState). s.moment ≡ w.clock) v.systems
     = all_set (λ (s : SystemState). s.moment ≡ w.clock) w.systems place effect.after h now in
-    subst (λ (t : ℕ). AllByRecursion (λ (s : SystemState). s.moment ≡ t) (network.put_all_out effect.after.configuration v effect.outputs).world.systems)
-    (sym (clock-put_all_out effect.after.configuration v effect.outputs))
+    subst (λ (t : ℕ). AllByRecursion (λ (s : SystemState). s.moment ≡ t) (network.put_all_out effect.after v effect.outputs).world.systems)
+    (sym (clock-put_all_out effect.after v effect.outputs))
     (subst (λ (ss : List SystemState). AllByRecursion (λ (s : SystemState). s.moment ≡ w.clock) ss)
-    (sym (systems-put_all_out effect.after.configuration v effect.outputs)) set)
+    (sym (systems-put_all_out effect.after v effect.outputs)) set)
 
 -- What the scenario says of the systems isn't changed where a copy is given.
 
@@ -98,7 +112,7 @@ configurations-takes_effect : (w : network.World) (place : ℕ) (system : System
     → map configuration_of (network.takes_effect w place effect).world.systems ≡ map configuration_of w.systems
 configurations-takes_effect w place system effect e same =
     ap (λ (ss : List SystemState). map configuration_of ss)
-    (systems-put_all_out effect.after.configuration (network.with_effect w place effect) effect.outputs)
+    (systems-put_all_out effect.after (network.with_effect w place effect) effect.outputs)
     ∙ map_set configuration_of w.systems place system effect.after e same
 
 abbrev given_to : Limits → network.Numbered → network.World → ℕ → SystemState → Bool → network.Step
@@ -223,3 +237,10 @@ pub states_at_start : (limits : Limits) (k : ℕ) (systems : List SystemConfigur
     → AllByRecursion (λ (s : SystemState). s.moment ≡ 0) (network.states_from limits k systems)
 states_at_start limits k [] = tt
 states_at_start limits k (system ∷ systems) = (refl, states_at_start limits (k + 1) systems)
+
+-- the first port by which a copy comes in, as the code looks for it
+pub first_port_is : (copy : network.Copy) (role : Role) (ports : List PortConfig)
+    → network.first_port copy role ports ≡ position_or_len (network.enters copy role) ports
+first_port_is copy role ports =
+    is_position_or_len (network.first_port copy role) (network.enters copy role) refl
+    (λ port others. ap (λ (n : ℕ). cond (network.enters copy role port) 0 n) (omega arith)) ports

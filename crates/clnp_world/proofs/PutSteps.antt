@@ -8,19 +8,23 @@ use Rattle.std.proofs.lemmas.Option.{slice_get_past}
 use Rattle.nsap.specs.declared.target.Target.{Target}
 use Rattle.pdu_header.specs.Spelling.{header}
 use Rattle.pdu_header.proofs.Written.{length-header}
+use Rattle.esis_pdus.specs.Grammar.{IsPdu}
+use Rattle.esis_pdus.specs.Spelling.{spelling}
+use Rattle.esis_pdus.specs.Value.{EsisValue}
+use Rattle.esis_pdus.proofs.Frames.{laid_out}
 use Rattle.clnp_plan.specs.declared.config.PortConfig.{PortConfig}
 use Rattle.clnp_plan.specs.declared.note.Note.{Note}
 use Rattle.clnp_plan.specs.declared.output.Output as output
 use Rattle.clnp_plan.specs.declared.output.Output.TheVariants.{Transmit, Note as Told}
 use Rattle.clnp_plan.specs.declared.output.Sending.{Sending}
 use Rattle.clnp_plan.specs.Journal.{Noted, Transmitted, Line, line_text}
-use Rattle.clnp_machine.specs.Unit.{Packet, value_of, wire, IsCarriable}
-use Rattle.clnp_machine.specs.Content.{IsCarried}
-use Rattle.clnp_machine.specs.System.{SystemState, Output, Transmits, Notes}
+use Rattle.clnp_machine.specs.Unit.{DeclaredAt, Maker, Packet, value_of, wire, IsCarriable}
+use Rattle.clnp_machine.specs.Content.{Content, Esis, IsCarried, Labelled, frame_of}
+use Rattle.clnp_machine.specs.System.{SystemState, Output, Transmits, SendsEsis, Notes}
 use Rattle.clnp_network.specs.World as network
 use Rattle.clnp_network.specs.Run.{lines_text}
-use Rattle.end_system.specs.State.{HostState}
-use Rattle.end_system.specs.Stands.{GiveAll, Gives, body_of}
+use Rattle.clnp_systems.specs.declared.system.System.{System}
+use Rattle.clnp_machine.specs.Given.{GiveAll, Gives, frame_in}
 use Rattle.clnp_world.specs.Seen.{frame_copy, frame_copies, frames_weight}
 use Rattle.clnp_world.specs.Stands.{StandEach}
 use Rattle.clnp_world.specs.Parts.{Shows, Puts, PutsCopies}
@@ -71,13 +75,11 @@ frames_weight_is copies = ap sum (weights_are copies)
 
 -- The copy of a frame.
 
--- the frame's copy is the packet's
-copy_seen : (port : Option PortConfig) (target : Target) (packet : Packet)
-    → frame_copies port target packet.unit.made (wire packet) ≡ map frame_copy (network.copy_from port target packet)
-copy_seen None target packet = refl
-copy_seen (Some port) target packet =
-    ap (λ (f : List ℕ). (let one : FrameCopy = record { subnet = port.subnet; sender = port.snpa; target = target; birth = packet.unit.made; frame = f } in one) ∷ [])
-    (sym (append-nil (wire packet)))
+-- the code's copy is the model's
+copy_seen : (port : Option PortConfig) (target : Target) (maker : Maker) (birth : ℕ) (content : Content)
+    → frame_copies port target birth (frame_of content) ≡ map frame_copy (network.copy_from port target maker birth content)
+copy_seen None target maker birth content = refl
+copy_seen (Some port) target maker birth content = refl
 
 -- a PDU has fewer than 65,536 octets
 wire_short : (packet : Packet) → IsCarriable packet → length (wire packet) ≤ 70000
@@ -87,83 +89,97 @@ wire_short packet h =
     let fits = h.pdu.segment_fits in
     omega (arith, split, head, fits)
 
+-- an ES-IS PDU has at most 254
+esis_short : (value : EsisValue) → IsPdu value → length (spelling value) ≤ 70000
+esis_short value h = omega (arith, ap length (laid_out value).layout, h.header_fits)
+
 abbrev Carried : network.Copy → Type 0
 Carried copy = IsCarried copy.content
 
 abbrev Short : FrameCopy → Type 0
 Short copy = length copy.frame ≤ 70000
 
-copy_carried : (port : Option PortConfig) (target : Target) (packet : Packet) → IsCarriable packet
-    → AllByRecursion Carried (network.copy_from port target packet)
-copy_carried None target packet good = tt
-copy_carried (Some port) target packet good = (good, tt)
+copy_carried : (port : Option PortConfig) (target : Target) (maker : Maker) (birth : ℕ) (content : Content) → IsCarried content
+    → AllByRecursion Carried (network.copy_from port target maker birth content)
+copy_carried None target maker birth content good = tt
+copy_carried (Some port) target maker birth content good = (good, tt)
 
 copy_short : (port : Option PortConfig) (target : Target) (birth : ℕ) (frame : List ℕ) → length frame ≤ 70000
     → AllByRecursion Short (frame_copies port target birth frame)
 copy_short None target birth frame short = tt
 copy_short (Some port) target birth frame short = (short, tt)
 
--- a frame that stands for a packet
-pub puts_frame : (old code : Network) (before after : List ℕ) (port : ℕ) (target : Target) (packet : Packet) (system : SystemState)
-    → (model : network.World) → Shows old model → IsCarriable packet
-    → after ≡ before ++ line_text (Transmitted model.clock system.configuration.name (length model.copies + 1) port target (wire packet))
-    → PutsCopies old code (frame_copies (slice_get system.configuration.ports port) target packet.unit.made (wire packet))
+-- a frame that stands for what it carries
+puts_frame : (old code : Network) (before after : List ℕ) (port : ℕ) (target : Target) (maker : Maker) (birth : ℕ) (content : Content) (system : SystemState)
+    → (model : network.World) → Shows old model → IsCarried content → length (frame_of content) ≤ 70000
+    → after ≡ before ++ line_text (Transmitted model.clock system.configuration.name (length model.copies + 1) port target (frame_of content))
+    → PutsCopies old code (frame_copies (slice_get system.configuration.ports port) target birth (frame_of content))
     → code ≡ record old { copies = code.copies; weight = code.weight }
-    → Puts code before after (network.put_out system.configuration model (Transmits port target packet))
-puts_frame old code before after port target packet system model h good line put others =
+    → Puts code before after (network.sends_frame system model port target maker birth content)
+puts_frame old code before after port target maker birth content system model h good few line put others =
     let at = slice_get system.configuration.ports port in
-    let made = network.copy_from at target packet in
-    let seen : frame_copies at target packet.unit.made (wire packet) ≡ map frame_copy made = copy_seen at target packet in
+    let made = network.copy_from at target maker birth content in
+    let seen : frame_copies at target birth (frame_of content) ≡ map frame_copy made = copy_seen at target maker birth content in
     record {
       shows = record {
         clock = ap (λ (w : Network). w.clock) others ∙ h.clock;
-        systems = subst (λ (hs : List HostState). StandEach hs model.systems) (ap (λ (w : Network). w.hosts.items) (sym others)) h.systems;
-        copies = put.copies ∙ ap (λ (cs : List FrameCopy). cs ++ frame_copies at target packet.unit.made (wire packet)) h.copies
+        systems = subst (λ (nodes : List System). StandEach nodes model.systems) (ap (λ (w : Network). w.systems.items) (sym others)) h.systems;
+        copies = put.copies ∙ ap (λ (cs : List FrameCopy). cs ++ frame_copies at target birth (frame_of content)) h.copies
             ∙ ap (λ (cs : List FrameCopy). map frame_copy model.copies ++ cs) seen
             ∙ sym (map-append frame_copy model.copies made);
         cursor = ap (λ (w : Network). w.cursor) others ∙ h.cursor;
-        carried = AllByRecursion-append Carried model.copies made h.carried (copy_carried at target packet good);
+        carried = AllByRecursion-append Carried model.copies made h.carried (copy_carried at target maker birth content good);
         short = subst (λ (cs : List FrameCopy). AllByRecursion Short cs) (sym put.copies)
-            (AllByRecursion-append Short old.copies.items (frame_copies at target packet.unit.made (wire packet)) h.short
-            (copy_short at target packet.unit.made (wire packet) (wire_short packet good)));
-        weight = put.weight ∙ ap (λ (n : ℕ). n + frames_weight (frame_copies at target packet.unit.made (wire packet))) h.weight
+            (AllByRecursion-append Short old.copies.items (frame_copies at target birth (frame_of content)) h.short
+            (copy_short at target birth (frame_of content) few));
+        weight = put.weight ∙ ap (λ (n : ℕ). n + frames_weight (frame_copies at target birth (frame_of content))) h.weight
             ∙ ap (λ (cs : List FrameCopy). network.weight model + frames_weight cs) seen
             ∙ ap (λ (n : ℕ). network.weight model + n) (frames_weight_is made)
             ∙ sym (weight_append model made);
       };
       lines = line ∙ ap (λ (l : List ℕ). before ++ l)
-          (sym (append-nil (line_text (Transmitted model.clock system.configuration.name (length model.copies + 1) port target (wire packet)))));
+          (sym (append-nil (line_text (Transmitted model.clock system.configuration.name (length model.copies + 1) port target (frame_of content)))));
     }
 
--- the frame that a sending is stands for the packet of an output of the model
+-- the frame that a sending is stands for an output of the model
 sends : (old code : Network) (before after : List ℕ) (place : ℕ) (sending : Sending) (frame : List ℕ) (other : Output)
-    → frame ≡ sending.head ++ body_of sending.body
+    → frame ≡ frame_in sending
     → (model : network.World) (system : SystemState) → Shows old model
     → after ≡ before ++ line_text (Transmitted model.clock system.configuration.name (length model.copies + 1) sending.port sending.to frame)
     → PutsCopies old code (frame_copies (slice_get system.configuration.ports sending.port) sending.to old.clock frame)
     → code ≡ record old { copies = code.copies; weight = code.weight }
-    → Gives old.clock (Transmit sending) other → Puts code before after (network.put_out system.configuration model other)
+    → Gives old.clock (Transmit sending) other → Puts code before after (network.put_out system model other)
 sends old code before after place sending frame (Notes note) frame_is model system h line put others gives = absurd gives
 sends old code before after place sending frame (Transmits port target packet) frame_is model system h line put others gives =
-    let octets : frame ≡ wire packet = frame_is ∙ gives.octets in
+    let octets : frame ≡ wire packet ++ [] = frame_is ∙ gives.octets ∙ sym (append-nil (wire packet)) in
     let port_is : sending.port ≡ port = gives.port_is in
     let target_is : sending.to ≡ target = gives.target_is in
     let made : old.clock ≡ packet.unit.made = sym gives.made in
+    let few : length (wire packet ++ []) ≤ 70000 = omega (arith, wire_short packet gives.carriable, ap length (append-nil (wire packet))) in
     let line' = rw (port_is, target_is, octets) at line in
-    let put' = subst (λ (moment : ℕ). PutsCopies old code (frame_copies (slice_get system.configuration.ports port) target moment (wire packet))) made
+    let put' = subst (λ (moment : ℕ). PutsCopies old code (frame_copies (slice_get system.configuration.ports port) target moment (wire packet ++ []))) made
     (rw (port_is, target_is, octets) at put) in
-    puts_frame old code before after port target packet system model h gives.carriable line' put' others
+    puts_frame old code before after port target packet.unit.maker packet.unit.made (Labelled packet []) system model h gives.carriable few line' put' others
+sends old code before after place sending frame (SendsEsis port target value) frame_is model system h line put others gives =
+    let octets : frame ≡ spelling value ++ [] = frame_is ∙ gives.octets ∙ sym (append-nil (spelling value)) in
+    let port_is : sending.port ≡ port = gives.port_is in
+    let target_is : sending.to ≡ target = gives.target_is in
+    let few : length (spelling value ++ []) ≤ 70000 = omega (arith, esis_short value gives.pdu, ap length (append-nil (spelling value))) in
+    let line' = rw (port_is, target_is, octets) at line in
+    let put' = subst (λ (moment : ℕ). PutsCopies old code (frame_copies (slice_get system.configuration.ports port) target moment (spelling value ++ []))) h.clock
+    (rw (port_is, target_is, octets) at put) in
+    puts_frame old code before after port target (DeclaredAt system.place) model.clock (Esis value []) system model h gives.pdu few line' put' others
 
 -- an output that is a frame stands for one of the model
 pub puts_transmission : (old code : Network) (before after : List ℕ) (place : ℕ) (sending : Sending) (frame : List ℕ) (out : output.Output)
-    → out ≡ Transmit sending → frame ≡ sending.head ++ body_of sending.body
+    → out ≡ Transmit sending → frame ≡ frame_in sending
     → ((model : network.World) (system : SystemState) → Shows old model → slice_get model.systems place ≡ Some system
     → after ≡ before ++ line_text (Transmitted model.clock system.configuration.name (length model.copies + 1) sending.port sending.to frame))
     → ((model : network.World) (system : SystemState) → Shows old model → slice_get model.systems place ≡ Some system
     → PutsCopies old code (frame_copies (slice_get system.configuration.ports sending.port) sending.to old.clock frame))
     → code ≡ record old { copies = code.copies; weight = code.weight }
     → (model : network.World) (system : SystemState) (other : Output) → Shows old model → slice_get model.systems place ≡ Some system
-    → Gives old.clock out other → Puts code before after (network.put_out system.configuration model other)
+    → Gives old.clock out other → Puts code before after (network.put_out system model other)
 puts_transmission old code before after place sending frame out is frame_is line copies others model system other h there gives =
     sends old code before after place sending frame other frame_is model system h (line model system h there) (copies model system h there) others
     (subst (λ (o : output.Output). Gives old.clock o other) is gives)
@@ -171,8 +187,9 @@ puts_transmission old code before after place sending frame out is frame_is line
 -- an output that is a note stands for one of the model
 tells : (code : Network) (before after : List ℕ) (note : Note) (other : Output) (model : network.World) (system : SystemState) → Shows code model
     → after ≡ before ++ line_text (Noted model.clock system.configuration.name note)
-    → Gives code.clock (Told note) other → Puts code before after (network.put_out system.configuration model other)
+    → Gives code.clock (Told note) other → Puts code before after (network.put_out system model other)
 tells code before after note (Transmits port target packet) model system h line gives = absurd gives
+tells code before after note (SendsEsis port target value) model system h line gives = absurd gives
 tells code before after note (Notes told) model system h line gives =
     puts_line code before after model (Noted model.clock system.configuration.name told) h (rw gives at line)
 
@@ -180,7 +197,7 @@ pub puts_note : (code : Network) (before after : List ℕ) (place : ℕ) (note :
     → ((model : network.World) (system : SystemState) → Shows code model → slice_get model.systems place ≡ Some system
     → after ≡ before ++ line_text (Noted model.clock system.configuration.name note))
     → (model : network.World) (system : SystemState) (other : Output) → Shows code model → slice_get model.systems place ≡ Some system
-    → Gives code.clock out other → Puts code before after (network.put_out system.configuration model other)
+    → Gives code.clock out other → Puts code before after (network.put_out system model other)
 puts_note code before after place note out is line model system other h there gives =
     tells code before after note other model system h (line model system h there)
     (subst (λ (o : output.Output). Gives code.clock o other) is gives)
@@ -206,28 +223,28 @@ no_outputs moment (other ∷ others) h = absurd h
 abbrev pub PutsOut : Network → Network → List ℕ → List ℕ → ℕ → List output.Output → Type 0
 PutsOut start code before after place outputs =
     (model : network.World) (system : SystemState) (others : List Output) → Shows start model → slice_get model.systems place ≡ Some system
-    → GiveAll start.clock outputs others → Puts code before after (network.put_all_out system.configuration model others)
+    → GiveAll start.clock outputs others → Puts code before after (network.put_all_out system model others)
 
 pub puts_none : (code : Network) (lines : List ℕ) (place : ℕ) → PutsOut code code lines lines place []
 puts_none code lines place model system others h there gives =
-    subst (λ (os : List Output). Puts code lines lines (network.put_all_out system.configuration model os)) (sym (no_outputs code.clock others gives))
+    subst (λ (os : List Output). Puts code lines lines (network.put_all_out system model os)) (sym (no_outputs code.clock others gives))
     (puts_nothing code model lines h)
 
 pub puts_more : (start mid code : Network) (before between after : List ℕ) (place : ℕ) (outputs : List output.Output) (out : output.Output)
     → PutsOut start mid before between place outputs → mid.clock ≡ start.clock
     → ((model : network.World) (system : SystemState) (other : Output) → Shows mid model → slice_get model.systems place ≡ Some system
-    → Gives mid.clock out other → Puts code between after (network.put_out system.configuration model other))
+    → Gives mid.clock out other → Puts code between after (network.put_out system model other))
     → PutsOut start code before after place (outputs ++ out ∷ [])
 puts_more start mid code before between after place outputs out so_far clock next model system others h there gives =
     let r = split_last start.clock outputs out others gives in
     let front = so_far model system r.0 h there r.3 in
-    let w = network.put_all_out system.configuration model r.0 in
+    let w = network.put_all_out system model r.0 in
     let there' : slice_get w.world.systems place ≡ Some system
-    = subst (λ (ss : List SystemState). slice_get ss place ≡ Some system) (sym (systems-put_all_out system.configuration model r.0)) there in
+    = subst (λ (ss : List SystemState). slice_get ss place ≡ Some system) (sym (systems-put_all_out system model r.0)) there in
     let last = next w.world system r.1 front.shows there' (subst (λ (t : ℕ). Gives t out r.1) (sym clock) r.4) in
     subst (λ (s : network.Step). Puts code before after s)
-    (sym (put_all_out-push system.configuration model r.0 r.1) ∙ ap (λ (os : List Output). network.put_all_out system.configuration model os) (sym r.2))
-    (puts_then code before between after w (λ v. network.put_out system.configuration v r.1) front.lines last)
+    (sym (put_all_out-push system model r.0 r.1) ∙ ap (λ (os : List Output). network.put_all_out system model os) (sym r.2))
+    (puts_then code before between after w (λ v. network.put_out system v r.1) front.lines last)
 
 -- The port of a copy is read, or there is none at its number.
 

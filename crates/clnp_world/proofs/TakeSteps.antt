@@ -1,6 +1,6 @@
--- What a network of the code stands for after one of its hosts took a step.
+-- What a network of the code stands for after one of its systems took a step.
 use Rattle.std.proofs.Common.{◌≡◌, ℕ, ◌<◌, ◌≤◌, List, [], ◌∷◌, ◌++◌, length, Option, Some, refl, sym, ◌∙◌, subst, arith}
-use Rattle.std.specs.Prelude.{slice_get, slice_set}
+use Rattle.std.specs.Prelude.{slice_get}
 use Rattle.std.specs.Vec.{with_item}
 use Rattle.std.proofs.lemmas.Option.{slice_get_past, slice_get_within as within_get}
 use Rattle.clnp_plan.specs.declared.ask.SendRefusal.{SendRefusal}
@@ -13,10 +13,13 @@ use Rattle.clnp_machine.specs.System as machine
 use Rattle.clnp_machine.specs.System.{SystemState, Input, Notes, Effect}
 use Rattle.clnp_machine.specs.Step.{step}
 use Rattle.clnp_network.specs.World as network
-use Rattle.end_system.specs.State.{HostState}
-use Rattle.end_system.specs.Stands as end_system
-use Rattle.end_system.specs.Stands.{Appends, GiveAll, IsLeftBy}
+use Rattle.clnp_systems.specs.declared.system.System.{System}
+use Rattle.clnp_systems.specs.Stands as clnp_systems
+use Rattle.clnp_machine.specs.Given.{Appends, GiveAll}
+use Rattle.system_entity.specs.State.{SystemEntityState}
+use Rattle.system_entity.specs.Stands.{IsLeftBy}
 use Rattle.local_entity.specs.Local.{IsWhy, refusal_note}
+use Rattle.clnp_systems.specs.Stands.{entity_of}
 use Rattle.clnp_world.specs.Parts.{Shows, Holds, Puts, Follows}
 use Rattle.clnp_world.specs.declared.network.Network.{Network}
 use Rattle.clnp_base.proofs.Lists.{AllByRecursion-slice_get, slice_get-set, slice_get_some}
@@ -24,15 +27,15 @@ use Rattle.clnp_world.proofs.EachSteps.{each_length, each_at, each_set}
 use Rattle.clnp_world.proofs.ModelSteps.{current-takes_effect}
 use Rattle.clnp_world.proofs.PutSteps.{PutsOut, puts_none, puts_more, puts_note, puts_nothing}
 
--- the network with a host in the place of another
-abbrev pub with_host : Network → ℕ → HostState → Network
-with_host code place host = record code { hosts = with_item code.hosts place host }
+-- the network with a system in the place of another
+abbrev pub with_node : Network → ℕ → System → Network
+with_node code place node = record code { systems = with_item code.systems place node }
 
-pub shows_with : (code : Network) (place : ℕ) (host : HostState) (model : network.World) (effect : Effect) → Shows code model
-    → end_system.Stands host effect.after → Shows (with_host code place host) (network.with_effect model place effect)
-shows_with code place host model effect h stands = record {
+pub shows_with : (code : Network) (place : ℕ) (node : System) (model : network.World) (effect : Effect) → Shows code model
+    → clnp_systems.Stands node effect.after → Shows (with_node code place node) (network.with_effect model place effect)
+shows_with code place node model effect h stands = record {
   clock = h.clock;
-  systems = each_set code.hosts.items model.systems place host effect.after h.systems stands;
+  systems = each_set code.systems.items model.systems place node effect.after h.systems stands;
   copies = h.copies;
   cursor = h.cursor;
   carried = h.carried;
@@ -40,57 +43,57 @@ shows_with code place host model effect h stands = record {
   weight = h.weight;
 }
 
--- the system at the place of a host
-pub record IsThere (code : Network) (model : network.World) (place : ℕ) (host : HostState) : Type 0 where
+-- the system at the place of a system
+pub record IsThere (code : Network) (model : network.World) (place : ℕ) (node : System) : Type 0 where
   pub system : SystemState
   pub at : slice_get model.systems place ≡ Some system
-  pub stands : end_system.Stands host system
+  pub stands : clnp_systems.Stands node system
 
-pub is_there : (code : Network) (model : network.World) (place : ℕ) (host : HostState) → Shows code model
-    → slice_get code.hosts.items place ≡ Some host → IsThere code model place host
-is_there code model place host h here =
-    let same = each_length code.hosts.items model.systems h.systems in
-    let within = within_get code.hosts.items place host here in
+pub is_there : (code : Network) (model : network.World) (place : ℕ) (node : System) → Shows code model
+    → slice_get code.systems.items place ≡ Some node → IsThere code model place node
+is_there code model place node h here =
+    let same = each_length code.systems.items model.systems h.systems in
+    let within = within_get code.systems.items place node here in
     let there = slice_get_some model.systems place (omega arith) in
-    record { system = there.0; at = there.1; stands = each_at code.hosts.items model.systems place host there.0 h.systems here there.1 }
+    record { system = there.0; at = there.1; stands = each_at code.systems.items model.systems place node there.0 h.systems here there.1 }
 
 -- a system takes a step, and what it gives out is put out
-pub takes : (old code : Network) (before after : List ℕ) (place : ℕ) (host : HostState) (outputs : List output.Output) (effect : Effect)
-    → place < length old.hosts.items → end_system.Stands host effect.after → Appends old.clock [] outputs effect.outputs
-    → PutsOut (with_host old place host) code before after place outputs
+pub takes : (old code : Network) (before after : List ℕ) (place : ℕ) (node : System) (outputs : List output.Output) (effect : Effect)
+    → place < length old.systems.items → clnp_systems.Stands node effect.after → Appends old.clock [] outputs effect.outputs
+    → PutsOut (with_node old place node) code before after place outputs
     → (model : network.World) → Shows old model → Puts code before after (network.takes_effect model place effect)
-takes old code before after place host outputs effect within stands gives puts model h =
-    let same = each_length old.hosts.items model.systems h.systems in
+takes old code before after place node outputs effect within stands gives puts model h =
+    let same = each_length old.systems.items model.systems h.systems in
     puts (network.with_effect model place effect) effect.after effect.outputs
-    (shows_with old place host model effect h stands)
+    (shows_with old place node model effect h stands)
     (slice_get-set model.systems place effect.after (omega arith))
     (subst (λ (os : List output.Output). GiveAll old.clock os effect.outputs) (sym gives.appended) gives.give_all)
 
 -- the system at a place does something, whatever its moment
-pub does_put : (old code : Network) (before after : List ℕ) (place : ℕ) (input : Input) (host new : HostState) (outputs : List output.Output)
-    → slice_get old.hosts.items place ≡ Some host
-    → ((s : SystemState) → end_system.Stands host s → end_system.Stands new (step s input).after)
-    → ((s : SystemState) → end_system.Stands host s → Appends old.clock [] outputs (step s input).outputs)
-    → PutsOut (with_host old place new) code before after place outputs
+pub does_put : (old code : Network) (before after : List ℕ) (place : ℕ) (input : Input) (node new : System) (outputs : List output.Output)
+    → slice_get old.systems.items place ≡ Some node
+    → ((s : SystemState) → clnp_systems.Stands node s → clnp_systems.Stands new (step s input).after)
+    → ((s : SystemState) → clnp_systems.Stands node s → Appends old.clock [] outputs (step s input).outputs)
+    → PutsOut (with_node old place new) code before after place outputs
     → (model : network.World) → Shows old model → Puts code before after (network.comes model place input)
-does_put old code before after place input host new outputs here stands gives puts model h =
-    let there = is_there old model place host h here in
+does_put old code before after place input node new outputs here stands gives puts model h =
+    let there = is_there old model place node h here in
     subst (λ (s : Option SystemState). Puts code before after (network.comes_to model place input s)) (sym there.at)
-    (takes old code before after place new outputs (step there.system input) (within_get old.hosts.items place host here)
+    (takes old code before after place new outputs (step there.system input) (within_get old.systems.items place node here)
     (stands there.system there.stands) (gives there.system there.stands) puts model h)
 
 -- the same at the clock's moment
-pub takes_now : (old code : Network) (before after : List ℕ) (place : ℕ) (host new : HostState) (outputs : List output.Output) (effect : Effect) (system : SystemState)
-    → slice_get old.hosts.items place ≡ Some host → end_system.Stands new effect.after → Appends host.moment [] outputs effect.outputs
+pub takes_now : (old code : Network) (before after : List ℕ) (place : ℕ) (node new : System) (outputs : List output.Output) (effect : Effect) (system : SystemState)
+    → slice_get old.systems.items place ≡ Some node → clnp_systems.Stands new effect.after → Appends (entity_of node).moment [] outputs effect.outputs
     → effect.after.moment ≡ system.moment
-    → PutsOut (with_host old place new) code before after place outputs
+    → PutsOut (with_node old place new) code before after place outputs
     → (model : network.World) → Holds old model → slice_get model.systems place ≡ Some system
     → Follows code before after (network.takes_effect model place effect)
-takes_now old code before after place host new outputs effect system here stands gives moment puts model h there =
-    let within = within_get old.hosts.items place host here in
-    let was = each_at old.hosts.items model.systems place host system h.shows.systems here there in
+takes_now old code before after place node new outputs effect system here stands gives moment puts model h there =
+    let within = within_get old.systems.items place node here in
+    let was = each_at old.systems.items model.systems place node system h.shows.systems here there in
     let now : system.moment ≡ model.clock = AllByRecursion-slice_get (λ (s : SystemState). s.moment ≡ model.clock) model.systems place system there h.current in
-    let clock : host.moment ≡ old.clock = was.moment ∙ now ∙ sym h.shows.clock in
+    let clock : (entity_of node).moment ≡ old.clock = was.parts.moment ∙ now ∙ sym h.shows.clock in
     let part = takes old code before after place new outputs effect within stands
     (subst (λ (t : ℕ). Appends t [] outputs effect.outputs) clock gives) puts model h.shows in
     record {
@@ -99,30 +102,30 @@ takes_now old code before after place host new outputs effect system here stands
     }
 
 -- the system at a place does something
-pub does_follow : (old code : Network) (before after : List ℕ) (place : ℕ) (input : Input) (host new : HostState) (outputs : List output.Output)
-    → slice_get old.hosts.items place ≡ Some host
-    → ((s : SystemState) → end_system.Stands host s → end_system.Stands new (step s input).after)
-    → ((s : SystemState) → end_system.Stands host s → Appends host.moment [] outputs (step s input).outputs)
+pub does_follow : (old code : Network) (before after : List ℕ) (place : ℕ) (input : Input) (node new : System) (outputs : List output.Output)
+    → slice_get old.systems.items place ≡ Some node
+    → ((s : SystemState) → clnp_systems.Stands node s → clnp_systems.Stands new (step s input).after)
+    → ((s : SystemState) → clnp_systems.Stands node s → Appends (entity_of node).moment [] outputs (step s input).outputs)
     → ((s : SystemState) → (step s input).after.moment ≡ s.moment)
-    → PutsOut (with_host old place new) code before after place outputs
+    → PutsOut (with_node old place new) code before after place outputs
     → (model : network.World) → Holds old model → Follows code before after (network.comes model place input)
-does_follow old code before after place input host new outputs here stands gives moment puts model h =
-    let there = is_there old model place host h.shows here in
+does_follow old code before after place input node new outputs here stands gives moment puts model h =
+    let there = is_there old model place node h.shows here in
     subst (λ (s : Option SystemState). Follows code before after (network.comes_to model place input s)) (sym there.at)
-    (takes_now old code before after place host new outputs (step there.system input) there.system here (stands there.system there.stands)
+    (takes_now old code before after place node new outputs (step there.system input) there.system here (stands there.system there.stands)
     (gives there.system there.stands) (moment there.system) puts model h there.at)
 
--- there is no host at the place
-pub does_nothing : (code : Network) (lines : List ℕ) (place : ℕ) (input : Input) → length code.hosts.items ≤ place
+-- there is no system at the place
+pub does_nothing : (code : Network) (lines : List ℕ) (place : ℕ) (input : Input) → length code.systems.items ≤ place
     → (model : network.World) → Holds code model → Follows code lines lines (network.comes model place input)
 does_nothing code lines place input past model h =
-    let same = each_length code.hosts.items model.systems h.shows.systems in
+    let same = each_length code.systems.items model.systems h.shows.systems in
     let none = slice_get_past model.systems place (omega arith) in
     let part = puts_nothing code model lines h.shows in
     subst (λ (s : Option SystemState). Follows code lines lines (network.comes_to model place input s)) (sym none)
     record { holds = h; lines = part.lines }
 
--- the line of a note of the host at a place is written
+-- the line of a note of the system at a place is written
 abbrev pub WritesNote : Network → List ℕ → List ℕ → ℕ → Note → Type 0
 WritesNote code before after place note =
     (model : network.World) (system : SystemState) → Shows code model → slice_get model.systems place ≡ Some system
@@ -138,7 +141,7 @@ note_alone code before after place note writes =
 pub gives_note : (moment : ℕ) (note : Note) → Appends moment [] (Told note ∷ []) (Notes note ∷ [])
 gives_note moment note = record { outputs = Told note ∷ []; appended = refl; give_all = (refl, tt) }
 
--- a refusal that is noted says why, and leaves the host as it was
+-- a refusal that is noted says why, and leaves the system as it was
 pub says_why : (e : SendRefusal) (note : Note) (answer : Option Note) → refusal_note e ≡ Some note → IsWhy e answer → answer ≡ Some note
 says_why refusal.NotMine note answer said why = why ∙ said
 says_why (refusal.TooLong octets) note answer said why = why ∙ said
@@ -146,7 +149,7 @@ says_why (refusal.IdsBusy used) note answer said why = why ∙ said
 says_why (refusal.Quiet until) note answer said why = why ∙ said
 says_why refusal.NoMemory note answer said why = absurd (cc)
 
-pub leaves_same : (e : SendRefusal) (note : Note) (before after : HostState) → refusal_note e ≡ Some note → IsLeftBy e before after → after ≡ before
+pub leaves_same : (e : SendRefusal) (note : Note) (before after : SystemEntityState) → refusal_note e ≡ Some note → IsLeftBy e before after → after ≡ before
 leaves_same refusal.NotMine note before after said left = left
 leaves_same (refusal.TooLong octets) note before after said left = left
 leaves_same (refusal.IdsBusy used) note before after said left = left

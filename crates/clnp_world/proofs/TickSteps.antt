@@ -1,13 +1,14 @@
--- What a network of the code stands for while a moment comes to one of its hosts after another.
+-- What a network of the code stands for while a moment comes to one of its systems after another.
 use Rattle.std.proofs.Common.{◌≡◌, ℕ, ◌+◌, ◌<◌, ◌≤◌, List, length, take, Option, Some, sym, ap, ◌∙◌, subst, arith}
-use Rattle.std.specs.Prelude.{slice_get, slice_set}
+use Rattle.std.specs.Prelude.{slice_get}
 use Rattle.std.specs.List.{AllByRecursion, range_with_len}
 use Rattle.std.proofs.lemmas.List.{take_all}
 use Rattle.clnp_machine.specs.System.{SystemState, MomentComes, Effect}
 use Rattle.clnp_machine.specs.Step.{step}
 use Rattle.clnp_machine.proofs.Deeds.{step_moment}
 use Rattle.clnp_network.specs.World as network
-use Rattle.end_system.specs.State.{HostState}
+use Rattle.clnp_systems.specs.declared.system.System.{System}
+use Rattle.clnp_systems.specs.Stands.{entity_of}
 use Rattle.clnp_world.specs.Stands.{IsCurrent}
 use Rattle.clnp_world.specs.Parts.{Shows, IsBehind, Holds, Puts, Follows}
 use Rattle.clnp_world.specs.declared.network.Network.{Network}
@@ -63,7 +64,7 @@ ticked_at w place system there h =
     let v = network.with_effect w place effect in
     subst (λ (s : Option SystemState). AreTicked (network.comes_to w place (MomentComes w.clock) s).world (place + 1)) (sym there)
     (ticked_same v (network.takes_effect w place effect).world (place + 1) (ticked_set w place effect h (step_moment system (MomentComes w.clock)))
-    (systems-put_all_out effect.after.configuration v effect.outputs) (clock-put_all_out effect.after.configuration v effect.outputs))
+    (systems-put_all_out effect.after v effect.outputs) (clock-put_all_out effect.after v effect.outputs))
 
 -- the code's network after the ticks of the systems below a place
 pub record Ticked (code : Network) (before after : List ℕ) (part : network.Step) (place : ℕ) : Type 0 where
@@ -79,13 +80,13 @@ ticks_none code lines model h behind =
     record { puts = puts_nothing code model lines h; are = record { behind = behind; current = tt } }
 
 pub ticks_more : (start mid code : Network) (before between after : List ℕ) (place : ℕ) → TicksTo start mid before between place
-    → place < length mid.hosts.items
+    → place < length mid.systems.items
     → ((model : network.World) → Shows mid model → Puts code between after (tick_at model place))
     → TicksTo start code before after (place + 1)
 ticks_more start mid code before between after place so_far within next model h behind =
     let w = network.tick_each model (range_with_len 0 place) in
     let front = so_far model h behind in
-    let same = each_length mid.hosts.items w.world.systems front.puts.shows.systems in
+    let same = each_length mid.systems.items w.world.systems front.puts.shows.systems in
     let there = slice_get_some w.world.systems place (omega arith) in
     subst (λ (s : network.Step). Ticked code before after s (place + 1)) (sym (tick_each-more model place))
     record {
@@ -93,28 +94,28 @@ ticks_more start mid code before between after place so_far within next model h 
       are = ticked_at w.world place there.0 there.1 front.are;
     }
 
--- no host's moment is ahead of the clock
+-- no system's moment is ahead of the clock
 pub not_ahead : (start code : Network) (before after : List ℕ) (place : ℕ) → (model : network.World) × Shows start model × IsBehind model
     → TicksTo start code before after place
-    → (at : ℕ) (host : HostState) → slice_get code.hosts.items at ≡ Some host → host.moment ≤ code.clock
-not_ahead start code before after place running so_far at host here =
+    → (at : ℕ) (node : System) → slice_get code.systems.items at ≡ Some node → (entity_of node).moment ≤ code.clock
+not_ahead start code before after place running so_far at node here =
     let model = running.0 in
     let w = network.tick_each model (range_with_len 0 place) in
     let part = so_far model running.1 running.2 in
-    let there = is_there code w.world at host part.puts.shows here in
+    let there = is_there code w.world at node part.puts.shows here in
     let behind : there.system.moment ≤ w.world.clock
     = AllByRecursion-slice_get (λ (s : SystemState). s.moment ≤ w.world.clock) w.world.systems at there.system there.at part.are.behind in
-    omega (arith, there.stands.moment, part.puts.shows.clock)
+    omega (arith, there.stands.parts.moment, part.puts.shows.clock)
 
 pub ticks_all : (start code : Network) (before after : List ℕ) (place : ℕ) → TicksTo start code before after place
-    → place ≡ length start.hosts.items → length code.hosts.items ≡ length start.hosts.items
+    → place ≡ length start.systems.items → length code.systems.items ≡ length start.systems.items
     → (model : network.World) → Shows start model → IsBehind model
     → Follows code before after (network.tick_each model (range_with_len 0 (length model.systems)))
 ticks_all start code before after place so_far all length_is model h behind =
     let w = network.tick_each model (range_with_len 0 place) in
     let part = so_far model h behind in
-    let old = each_length start.hosts.items model.systems h.systems in
-    let new = each_length code.hosts.items w.world.systems part.puts.shows.systems in
+    let old = each_length start.systems.items model.systems h.systems in
+    let new = each_length code.systems.items w.world.systems part.puts.shows.systems in
     subst (λ (n : ℕ). Follows code before after (network.tick_each model (range_with_len 0 n))) (all ∙ old)
     record {
       holds = record {

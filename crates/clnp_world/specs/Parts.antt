@@ -14,7 +14,7 @@ use Rattle.clnp_world.specs.declared.network.Network.{Network}
 abbrev pub state_of : Network → NetworkState
 state_of code = record {
   clock = code.clock;
-  hosts = code.hosts.items;
+  systems = code.systems.items;
   copies = code.copies.items;
   cursor = code.cursor;
   weight = code.weight;

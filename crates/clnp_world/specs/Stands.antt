@@ -1,10 +1,11 @@
 -- What a simulated network of the code stands for.
-use Rattle.std.specs.Prelude.{◌≡◌, ◌≤◌, List, [], ◌∷◌, true, false, length, map, Result, Ok, Err}
+use Rattle.std.specs.Prelude.{◌≡◌, ◌≤◌, ℕ, List, [], ◌∷◌, true, false, length, map, slice_get, Some, Result, Ok, Err}
 use Rattle.std.specs.List.{AllByRecursion}
 use Rattle.clnp_machine.specs.Content.{IsCarried}
 use Rattle.clnp_machine.specs.System.{SystemState}
-use Rattle.end_system.specs.State.{HostState}
-use Rattle.end_system.specs.Stands as end_system
+use Rattle.clnp_plan.specs.declared.config.Role.{Role}
+use Rattle.clnp_systems.specs.declared.system.System.{System}
+use Rattle.clnp_systems.specs.Stands as clnp_systems
 use Rattle.clnp_network.specs.World as network
 use Rattle.clnp_world.specs.Seen.{frame_copy}
 use Rattle.clnp_world.specs.State.{NetworkState, WorldState}
@@ -12,17 +13,23 @@ use Rattle.clnp_world.specs.declared.copy.FrameCopy.{FrameCopy}
 use Rattle.clnp_world.specs.declared.world.WorldRefusal.{WorldRefusal}
 use Rattle.clnp_world.specs.declared.world.WorldRefusal.TheVariants.{WorldFull, NoMemory}
 
--- each host stands for the system at its place, at its moment
-abbrev pub StandEach : List HostState → List SystemState → Type 0
+-- each system stands for the system at its place, at its moment
+abbrev pub StandEach : List System → List SystemState → Type 0
 StandEach [] [] = Unit {0}
-StandEach (host ∷ hosts) (system ∷ systems) = end_system.Stands host system × StandEach hosts systems
+StandEach (node ∷ nodes) (system ∷ systems) = clnp_systems.Stands node system × StandEach nodes systems
 StandEach [] (system ∷ systems) = ⊥
-StandEach (host ∷ hosts) [] = ⊥
+StandEach (node ∷ nodes) [] = ⊥
+
+-- a system of a role was declared at a place
+pub record IsDeclared (model : network.World) (at : ℕ) (role : Role) : Type 0 where
+  pub system : SystemState
+  pub there : slice_get model.systems at ≡ Some system
+  pub role_is : system.configuration.role ≡ role
 
 -- a network is one of the model, whatever the moments of its systems
 pub record Shows (code : NetworkState) (model : network.World) : Type 0 where
   pub clock : code.clock ≡ model.clock
-  pub systems : StandEach code.hosts model.systems
+  pub systems : StandEach code.systems model.systems
   pub copies : code.copies ≡ map frame_copy model.copies
   pub cursor : code.cursor ≡ model.cursor
   pub carried : AllByRecursion (λ copy. IsCarried copy.content) model.copies

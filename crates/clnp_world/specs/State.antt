@@ -1,12 +1,12 @@
 -- What a contract sees of a simulated network.
 use Rattle.std.specs.Prelude.{ℕ, List, Bool}
-use Rattle.end_system.specs.State.{HostState}
+use Rattle.clnp_systems.specs.declared.system.System.{System}
 use Rattle.clnp_world.specs.declared.copy.FrameCopy.{FrameCopy}
 
 pub record NetworkState : Type 0 where
   pub clock : ℕ
   -- in the order of the declarations
-  pub hosts : List HostState
+  pub systems : List System
   -- in the order of their numbers, which count from 1
   pub copies : List FrameCopy
   -- how many of the copies were settled or lost

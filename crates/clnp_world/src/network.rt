@@ -1,4 +1,4 @@
-//! The network between its moves: hosts, and the copies of frames on the subnetworks.
+//! The network between its moves: systems, and the copies of frames on the subnetworks.
 ghost use Rattle.std.specs.Prelude.{IfOk};
 ghost use Rattle.clnp_network.specs.World as network;
 ghost use Rattle.clnp_world.specs.Parts.{Holds};
@@ -6,7 +6,7 @@ ghost use Rattle.clnp_world.specs.Stands.{StandEach};
 
 use crate::copy::FrameCopy;
 use clnp_base::NoMemory;
-use end_system::EndSystem;
+use clnp_systems::System;
 use scenario::Scenario;
 use std::alloc::Global;
 
@@ -15,13 +15,13 @@ mod moves;
 mod outputs;
 mod sending;
 
-/// The hosts, the copies that were ever put on a subnetwork, and the clock. After memory was refused in a move it is in no
+/// The systems, the copies that were ever put on a subnetwork, and the clock. After memory was refused in a move it is in no
 /// known state.
 #[derive(Debug, Drop)]
 pub(crate) struct Network {
     /// In ticks of 500 ms.
     pub(crate) clock: u64,
-    pub(crate) hosts: Vec<EndSystem>,
+    pub(crate) systems: Vec<System>,
     pub(crate) copies: Vec<FrameCopy>,
     /// How many of the copies were settled or lost.
     pub(crate) cursor: usize,
@@ -34,10 +34,10 @@ impl Network {
     pub(crate) fn new(alloc: Global, scenario: &Scenario) -> Result<Network, NoMemory>
         ensures { IfOk result (λ code. Holds code (network.first_world scenario.now)) }
     {
-        let hosts = hosts_of(alloc, scenario)?;
+        let systems = systems_of(alloc, scenario)?;
         Ok(Network {
             clock: 0,
-            hosts,
+            systems,
             copies: Vec::new(alloc),
             cursor: 0,
             weight: 0,
@@ -45,17 +45,17 @@ impl Network {
     }
 }
 
-/// The hosts that a scenario declares, at the start.
-fn hosts_of(alloc: Global, scenario: &Scenario) -> Result<Vec<EndSystem>, NoMemory>
-    ensures { IfOk result (λ hosts. StandEach hosts.items (network.states_from scenario.now.limits 0 scenario.now.systems)) }
+/// The systems that a scenario declares, at the start.
+fn systems_of(alloc: Global, scenario: &Scenario) -> Result<Vec<System>, NoMemory>
+    ensures { IfOk result (λ systems. StandEach systems.items (network.states_from scenario.now.limits 0 scenario.now.systems)) }
 {
     scenario.is_fit();
     let limits = scenario.limits();
-    let systems = scenario.systems();
-    let mut hosts = Vec::new(alloc);
-    for system in systems {
-        let host = EndSystem::new(alloc, system, limits, 0, 0)?;
-        hosts.push(host)?;
+    let declared = scenario.systems();
+    let mut systems = Vec::new(alloc);
+    for config in declared {
+        let system = System::new(alloc, config, limits, 0, 0)?;
+        systems.push(system)?;
     }
-    Ok(hosts)
+    Ok(systems)
 }

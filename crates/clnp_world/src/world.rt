@@ -1,16 +1,22 @@
 //! The network that a caller moves: each move whole or not at all.
-ghost use Rattle.std.specs.Prelude.{◌≡◌, ◌+◌, ◌<◌, ◌≤◌, ◌^◌, ℕ, ◌++◌, IfErr, IfNone, IfOk, IfSome, Err, OnOk, OnErr, Some, length, slice_get, true};
+ghost use Rattle.std.specs.Prelude.{◌≡◌, ◌+◌, ◌<◌, ◌≤◌, ◌^◌, ℕ, ◌++◌, IfErr, IfNone, IfOk, IfSome, Err, MatchOption, OnOk, OnErr, Some, length, slice_get, true};
 ghost use Rattle.clnp_machine.specs.System.{SystemState};
 ghost use Rattle.clnp_network.specs.Run.{lines_text, world_end};
 ghost use Rattle.clnp_network.specs.World as network;
-ghost use Rattle.clnp_world.specs.Stands.{IsLeftBy, Stands, TellsFull};
+ghost use Rattle.clnp_plan.specs.declared.config.Role.TheVariants as role;
+ghost use Rattle.clnp_systems.specs.Stands.{configuration_of};
+ghost use Rattle.clnp_systems.specs.declared.system.System.{System};
+ghost use Rattle.clnp_systems.specs.declared.system.System.TheVariants as variant;
+ghost use Rattle.clnp_world.specs.Stands.{IsDeclared, IsLeftBy, Stands, TellsFull};
 ghost use Rattle.clnp_world.specs.declared.world.WorldRefusal.TheVariants.{NoMemory as WantsMemory};
 ghost use Rattle.end_system.specs.Stands as end_system;
+ghost use Rattle.router.specs.Stands as router_stands;
 
 use crate::network::Network;
 use clnp_base::NoMemory;
 use clnp_plan::push_end;
 use end_system::EndSystem;
+use router::Router;
 use scenario::{Move, Scenario};
 use std::alloc::Global;
 use std::marker::Model;
@@ -126,14 +132,36 @@ impl World {
         self.network.weight
     }
 
-    /// The host that was declared at a place, from 0.
+    /// The host that was declared at a place, from 0; none where no system was, or a router.
     pub fn host(&self, at: usize) -> Option<&EndSystem>
-        ensures none { IfNone result (length self.now.network.hosts ≤ at) }
-        ensures host { IfSome result (λ host. slice_get self.now.network.hosts at ≡ Some host.now) }
+        ensures declared { (model : network.World) → Stands self.now model
+            → MatchOption result (IsDeclared model at role.Host → ⊥) (λ host. IsDeclared model at role.Host) }
+        ensures none { IfNone result ((system : System) → slice_get self.now.network.systems at ≡ Some system
+            → (configuration_of system).role ≡ role.Router) }
+        ensures host { IfSome result (λ host. slice_get self.now.network.systems at ≡ Some (variant.Host host.now)) }
         ensures stands { IfSome result (λ host. (model : network.World) → Stands self.now model
             → (system : SystemState) → slice_get model.systems at ≡ Some system → end_system.Stands host.now system) }
     {
-        self.network.hosts.get(at)
+        match self.network.systems.get(at) {
+            Some(system) => system.as_host(),
+            None => None,
+        }
+    }
+
+    /// The router that was declared at a place, from 0; none where no system was, or a host.
+    pub fn router(&self, at: usize) -> Option<&Router>
+        ensures declared { (model : network.World) → Stands self.now model
+            → MatchOption result (IsDeclared model at role.Router → ⊥) (λ router. IsDeclared model at role.Router) }
+        ensures none { IfNone result ((system : System) → slice_get self.now.network.systems at ≡ Some system
+            → (configuration_of system).role ≡ role.Host) }
+        ensures router { IfSome result (λ router. slice_get self.now.network.systems at ≡ Some (variant.Router router.now)) }
+        ensures stands { IfSome result (λ router. (model : network.World) → Stands self.now model
+            → (system : SystemState) → slice_get model.systems at ≡ Some system → router_stands.Stands router.now system) }
+    {
+        match self.network.systems.get(at) {
+            Some(system) => system.as_router(),
+            None => None,
+        }
     }
 
     /// Appends the journal's last line.

@@ -7,17 +7,13 @@ ghost use Rattle.clnp_plan.specs.Journal.{Late, Void, line_text};
 ghost use Rattle.clnp_world.specs.Parts.{Follows, Holds, IsRunning, Shows};
 
 use super::Network;
-use crate::copy::is_addressee;
+use crate::copy::{first_port, is_addressee, is_to_group};
 use clnp_base::NoMemory;
 use clnp_plan::{Limits, late_text, void_text};
-use nsap::Target;
 use std::alloc::Global;
 
-/// The number of a host's one port.
-const PORT: u8 = 0;
-
 impl Network {
-    /// Gives the copy with a number to the host at a place, where it is for it; else a line says that
+    /// Gives the copy with a number to the system at a place, where it is for it; else a line says that
     /// there is none for it.
     pub(super) fn deliver(
         &mut self,
@@ -31,7 +27,7 @@ impl Network {
         ensures { OnOk result ((model : network.World) → Holds self.old model
             → Follows self.new lines.old.items lines.new.items (network.deliver limits model number place)) }
     {
-        if place >= self.hosts.len() {
+        if place >= self.systems.len() {
             return Ok(());
         }
         let at = number.saturating_sub(1) as usize;
@@ -79,7 +75,7 @@ impl Network {
             (network.give_each limits (record { number = at + 1; copy = copy }) model (network.addressees_from 0 copy model.systems))) }
     {
         let number = at as u64 + 1;
-        for place in 0..self.hosts.len() {
+        for place in 0..self.systems.len() {
             if self.is_for(at, place) {
                 self.give(alloc, limits, number, at, place, lines)?;
             }
@@ -87,10 +83,10 @@ impl Network {
         Ok(())
     }
 
-    /// Whether a copy is for the host at a place.
+    /// Whether a copy is for the system at a place.
     fn is_for(&self, at: usize, place: usize) -> bool
         requires at_in { at < vec_len self.now.copies }
-        requires place_in { place < vec_len self.now.hosts }
+        requires place_in { place < vec_len self.now.systems }
         ensures { (model : network.World) (copy : network.Copy) (system : SystemState) → Shows self.now model
             → slice_get model.copies at ≡ Some copy → slice_get model.systems place ≡ Some system
             → result ≡ network.is_addressee copy system.configuration }
@@ -98,7 +94,18 @@ impl Network {
         is_addressee(&self.copies[at], self.config_at(place))
     }
 
-    /// Gives a copy to the host at a place, unless it is late; then a line says so.
+    /// The least of the ports of the system at a place by which a copy comes in.
+    fn port_for(&self, at: usize, place: usize) -> u8
+        requires at_in { at < vec_len self.now.copies }
+        requires place_in { place < vec_len self.now.systems }
+        ensures { (model : network.World) (copy : network.Copy) (system : SystemState) → Shows self.now model
+            → slice_get model.copies at ≡ Some copy → slice_get model.systems place ≡ Some system
+            → result ≡ network.first_port copy system.configuration.role system.configuration.ports }
+    {
+        first_port(&self.copies[at], self.config_at(place))
+    }
+
+    /// Gives a copy to the system at a place, unless it is late; then a line says so.
     fn give(
         &mut self,
         alloc: Global,
@@ -109,12 +116,12 @@ impl Network {
         lines: &mut Vec<u8>,
     ) -> Result<(), NoMemory>
         requires at_in { at < vec_len self.old.copies }
-        requires place_in { place < vec_len self.old.hosts }
+        requires place_in { place < vec_len self.old.systems }
         requires running { IsRunning self.old }
         ensures follows { OnOk result ((model : network.World) (copy : network.Copy) → Holds self.old model
             → slice_get model.copies at ≡ Some copy
             → Follows self.new lines.old.items lines.new.items (network.give limits (record { number = number; copy = copy }) model place)) }
-        ensures hosts { vec_len self.new.hosts ≡ vec_len self.old.hosts }
+        ensures systems { vec_len self.new.systems ≡ vec_len self.old.systems }
         ensures copies { vec_len self.old.copies ≤ vec_len self.new.copies }
     {
         if self.is_late(limits, at) {
@@ -133,7 +140,7 @@ impl Network {
         self.clock.saturating_sub(birth) > u64::from(limits.age)
     }
 
-    /// Hands a copy to the host at a place.
+    /// Hands a copy to the system at a place, by the least of its ports that it is for.
     fn hand(
         &mut self,
         alloc: Global,
@@ -142,22 +149,23 @@ impl Network {
         lines: &mut Vec<u8>,
     ) -> Result<(), NoMemory>
         requires at_in { at < vec_len self.old.copies }
-        requires place_in { place < vec_len self.old.hosts }
+        requires place_in { place < vec_len self.old.systems }
         requires running { IsRunning self.old }
         ensures follows { OnOk result ((model : network.World) (copy : network.Copy) (system : SystemState) → Holds self.old model
             → slice_get model.copies at ≡ Some copy → slice_get model.systems place ≡ Some system
             → Follows self.new lines.old.items lines.new.items (network.takes_effect model place (step system (network.frame_to system copy)))) }
-        ensures hosts { vec_len self.new.hosts ≡ vec_len self.old.hosts }
+        ensures systems { vec_len self.new.systems ≡ vec_len self.old.systems }
         ensures copies { vec_len self.old.copies ≤ vec_len self.new.copies }
     {
+        let port = self.port_for(at, place);
         let copy = &self.copies[at];
-        let group = !matches!(copy.target, Target::System(_));
+        let group = is_to_group(copy);
         let mut outputs = Vec::new(alloc);
-        self.hosts[place].frame(alloc, PORT, copy.sender, group, &copy.frame, &mut outputs)?;
+        self.systems[place].frame(alloc, port, copy.sender, group, &copy.frame, &mut outputs)?;
         self.put_all_out(alloc, place, outputs, lines)
     }
 
-    /// Appends the line of a copy that isn't there for the host at a place.
+    /// Appends the line of a copy that isn't there for the system at a place.
     fn write_void(
         &self,
         alloc: Global,
@@ -165,7 +173,7 @@ impl Network {
         place: usize,
         lines: &mut Vec<u8>,
     ) -> Result<(), NoMemory>
-        requires { place < vec_len self.now.hosts }
+        requires { place < vec_len self.now.systems }
         ensures { OnOk result ((model : network.World) (system : SystemState) → Shows self.now model
             → slice_get model.systems place ≡ Some system
             → lines.new.items ≡ lines.old.items ++ line_text (Void model.clock system.configuration.name number)) }
@@ -174,7 +182,7 @@ impl Network {
         void_text(alloc, self.clock, name, number, lines)
     }
 
-    /// Appends the line of a copy that is too old for the host at a place.
+    /// Appends the line of a copy that is too old for the system at a place.
     fn write_late(
         &self,
         alloc: Global,
@@ -182,7 +190,7 @@ impl Network {
         place: usize,
         lines: &mut Vec<u8>,
     ) -> Result<(), NoMemory>
-        requires { place < vec_len self.now.hosts }
+        requires { place < vec_len self.now.systems }
         ensures { OnOk result ((model : network.World) (system : SystemState) → Shows self.now model
             → slice_get model.systems place ≡ Some system
             → lines.new.items ≡ lines.old.items ++ line_text (Late model.clock system.configuration.name number)) }

@@ -4,7 +4,8 @@ ghost use Rattle.std.specs.List.{AllByRecursion, range_with_len};
 ghost use Rattle.clnp_machine.specs.System.{IsRestarted, MomentComes};
 ghost use Rattle.clnp_network.specs.World as network;
 ghost use Rattle.clnp_world.specs.Parts.{Follows, Holds, IsBehind, IsRunning, Puts, Shows};
-ghost use Rattle.end_system.specs.State.{HostState};
+ghost use Rattle.clnp_systems.specs.Stands.{entity_of};
+ghost use Rattle.clnp_systems.specs.declared.system.System.{System};
 ghost use Rattle.scenario.specs.Scenario.{AsksFairly};
 
 use super::Network;
@@ -122,15 +123,15 @@ impl Network {
         self.cursor += 1;
     }
 
-    /// Restarts the host at a place.
+    /// Restarts the system at a place.
     fn restart(&mut self, alloc: Global, place: usize, lines: &mut Vec<u8>) -> Result<(), NoMemory>
         ensures { OnOk result ((model : network.World) → Holds self.old model
             → Follows self.new lines.old.items lines.new.items (network.comes model place IsRestarted)) }
     {
-        if place >= self.hosts.len() {
+        if place >= self.systems.len() {
             return Ok(());
         }
-        self.hosts[place].restart();
+        self.systems[place].restart();
         self.write_note(alloc, place, &Note::Restart, lines)
     }
 
@@ -145,36 +146,36 @@ impl Network {
         self.tick_each(alloc, lines)
     }
 
-    /// The clock's moment comes to each host, in the order of the declarations.
+    /// The clock's moment comes to each system, in the order of the declarations.
     fn tick_each(&mut self, alloc: Global, lines: &mut Vec<u8>) -> Result<(), NoMemory>
         requires clock { self.old.clock < 2 ^ 62 }
         requires running { (model : network.World) × Shows self.old model × IsBehind model }
         ensures { OnOk result ((model : network.World) → Shows self.old model → IsBehind model
             → Follows self.new lines.old.items lines.new.items (network.tick_each model (range_with_len 0 (length model.systems)))) }
     {
-        for place in 0..self.hosts.len() {
-            self.tick_host(alloc, place, lines)?;
+        for place in 0..self.systems.len() {
+            self.tick_system(alloc, place, lines)?;
         }
         Ok(())
     }
 
-    /// The clock's moment comes to the host at a place.
-    fn tick_host(
+    /// The clock's moment comes to the system at a place.
+    fn tick_system(
         &mut self,
         alloc: Global,
         place: usize,
         lines: &mut Vec<u8>,
     ) -> Result<(), NoMemory>
         requires clock { self.old.clock < 2 ^ 62 }
-        requires place_in { place < vec_len self.old.hosts }
-        requires later { (host : HostState) → slice_get self.old.hosts.items place ≡ Some host → host.moment ≤ self.old.clock }
+        requires place_in { place < vec_len self.old.systems }
+        requires later { (system : System) → slice_get self.old.systems.items place ≡ Some system → (entity_of system).moment ≤ self.old.clock }
         ensures puts { OnOk result ((model : network.World) → Shows self.old model
             → Puts self.new lines.old.items lines.new.items (network.comes model place (MomentComes model.clock))) }
-        ensures hosts { vec_len self.new.hosts ≡ vec_len self.old.hosts }
+        ensures systems { vec_len self.new.systems ≡ vec_len self.old.systems }
         ensures clock { self.new.clock ≡ self.old.clock }
     {
         let mut outputs = Vec::new(alloc);
-        self.hosts[place].tick(alloc, self.clock, &mut outputs)?;
+        self.systems[place].tick(alloc, self.clock, &mut outputs)?;
         self.put_all_out(alloc, place, outputs, lines)
     }
 }

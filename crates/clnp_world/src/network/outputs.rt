@@ -1,12 +1,12 @@
 //! What systems give out: frames become copies on a subnetwork, and notes lines.
 ghost use Rattle.std.specs.Prelude.{◌≡◌, ◌+◌, ◌<◌, ◌≤◌, ◌++◌, List, IfOk, IfSome, OnOk, Some, length, slice_get, vec_len};
+ghost use Rattle.clnp_machine.specs.Given.{GiveAll, Gives, body_of, frame_in};
 ghost use Rattle.clnp_machine.specs.System as machine;
 ghost use Rattle.clnp_machine.specs.System.{SystemState};
 ghost use Rattle.clnp_network.specs.World as network;
 ghost use Rattle.clnp_plan.specs.Journal.{Noted, Transmitted, line_text};
 ghost use Rattle.clnp_world.specs.Parts.{Puts, PutsCopies, Shows};
 ghost use Rattle.clnp_world.specs.Seen.{frame_copies};
-ghost use Rattle.end_system.specs.Stands.{GiveAll, Gives, body_of};
 
 use super::Network;
 use crate::copy::FrameCopy;
@@ -20,7 +20,7 @@ use std::alloc::Global;
 const COPY_WEIGHT: u64 = 64;
 
 impl Network {
-    /// Puts the outputs of the host at a place on the network, in their order.
+    /// Puts the outputs of the system at a place on the network, in their order.
     pub(super) fn put_all_out(
         &mut self,
         alloc: Global,
@@ -28,11 +28,11 @@ impl Network {
         outputs: Vec<Output>,
         lines: &mut Vec<u8>,
     ) -> Result<(), NoMemory>
-        requires { place < vec_len self.old.hosts }
+        requires { place < vec_len self.old.systems }
         ensures puts { OnOk result ((model : network.World) (system : SystemState) (others : List machine.Output) → Shows self.old model
             → slice_get model.systems place ≡ Some system → GiveAll self.old.clock outputs.items others
-            → Puts self.new lines.old.items lines.new.items (network.put_all_out system.configuration model others)) }
-        ensures hosts { self.new.hosts ≡ self.old.hosts }
+            → Puts self.new lines.old.items lines.new.items (network.put_all_out system model others)) }
+        ensures systems { self.new.systems ≡ self.old.systems }
         ensures clock { self.new.clock ≡ self.old.clock }
         ensures copies { vec_len self.old.copies ≤ vec_len self.new.copies }
     {
@@ -42,7 +42,7 @@ impl Network {
         Ok(())
     }
 
-    /// Puts an output of the host at a place on the network: its note is written, or its frame put on
+    /// Puts an output of the system at a place on the network: its note is written, or its frame put on
     /// the port's subnetwork.
     fn put_out(
         &mut self,
@@ -51,11 +51,11 @@ impl Network {
         output: Output,
         lines: &mut Vec<u8>,
     ) -> Result<(), NoMemory>
-        requires { place < vec_len self.old.hosts }
+        requires { place < vec_len self.old.systems }
         ensures puts { OnOk result ((model : network.World) (system : SystemState) (other : machine.Output) → Shows self.old model
             → slice_get model.systems place ≡ Some system → Gives self.old.clock output other
-            → Puts self.new lines.old.items lines.new.items (network.put_out system.configuration model other)) }
-        ensures hosts { self.new.hosts ≡ self.old.hosts }
+            → Puts self.new lines.old.items lines.new.items (network.put_out system model other)) }
+        ensures systems { self.new.systems ≡ self.old.systems }
         ensures clock { self.new.clock ≡ self.old.clock }
         ensures copies { vec_len self.old.copies ≤ vec_len self.new.copies }
     {
@@ -69,7 +69,7 @@ impl Network {
         }
     }
 
-    /// Appends the line of a note of the host at a place.
+    /// Appends the line of a note of the system at a place.
     pub(super) fn write_note(
         &self,
         alloc: Global,
@@ -77,7 +77,7 @@ impl Network {
         note: &Note,
         lines: &mut Vec<u8>,
     ) -> Result<(), NoMemory>
-        requires { place < vec_len self.now.hosts }
+        requires { place < vec_len self.now.systems }
         ensures { OnOk result ((model : network.World) (system : SystemState) → Shows self.now model
             → slice_get model.systems place ≡ Some system
             → lines.new.items ≡ lines.old.items ++ line_text (Noted model.clock system.configuration.name note.now)) }
@@ -85,7 +85,7 @@ impl Network {
         journal_text(alloc, self.clock, self.config_at(place).name(), note, lines)
     }
 
-    /// Appends the line of a frame that the host at a place transmits as the next copy.
+    /// Appends the line of a frame that the system at a place transmits as the next copy.
     fn write_transmission(
         &self,
         alloc: Global,
@@ -95,7 +95,7 @@ impl Network {
         frame: &Frame,
         lines: &mut Vec<u8>,
     ) -> Result<(), NoMemory>
-        requires { place < vec_len self.now.hosts }
+        requires { place < vec_len self.now.systems }
         ensures { OnOk result ((model : network.World) (system : SystemState) → Shows self.now model
             → slice_get model.systems place ≡ Some system
             → lines.new.items ≡ lines.old.items ++ line_text (Transmitted model.clock system.configuration.name
@@ -115,8 +115,8 @@ impl Network {
         )
     }
 
-    /// Puts a frame of the host at a place on the subnetwork of its port, where it has that port. Its unit was made at this
-    /// moment, since no system carries on a frame that came.
+    /// Puts a frame of the system at a place on the subnetwork of its port, where it has that port. What it carries was made at
+    /// this moment, since no system carries on a frame that came.
     fn put_copy(
         &mut self,
         place: usize,
@@ -124,7 +124,7 @@ impl Network {
         target: Target,
         frame: Frame,
     ) -> Result<(), NoMemory>
-        requires { place < vec_len self.old.hosts }
+        requires { place < vec_len self.old.systems }
         ensures puts { OnOk result ((model : network.World) (system : SystemState) → Shows self.old model
             → slice_get model.systems place ≡ Some system
             → PutsCopies self.old self.new (frame_copies (slice_get system.configuration.ports port) target self.old.clock frame)) }
@@ -152,13 +152,13 @@ impl Network {
         Ok(())
     }
 
-    /// What the scenario says of the host at a place.
+    /// What the scenario says of the system at a place.
     pub(super) fn config_at(&self, place: usize) -> &SystemConfig
-        requires { place < vec_len self.now.hosts }
+        requires { place < vec_len self.now.systems }
         ensures { (model : network.World) (system : SystemState) → Shows self.now model → slice_get model.systems place ≡ Some system
             → result.now ≡ system.configuration }
     {
-        self.hosts[place].config()
+        self.systems[place].config()
     }
 }
 
@@ -173,7 +173,7 @@ fn weight_with(weight: u64, frame: &Frame) -> Option<u64>
 
 /// The frame that goes out: the header's octets, and the data that follow them.
 fn frame_of(alloc: Global, sending: &Sending) -> Result<Frame, NoMemory>
-    ensures { IfOk result (λ frame. frame ≡ sending.now.head ++ body_of sending.now.body) }
+    ensures { IfOk result (λ frame. frame ≡ frame_in sending.now) }
 {
     let head = sending.head.as_bytes();
     let body = body(sending);

@@ -12,12 +12,13 @@ ghost use Rattle.scenario.specs.declared.event.Body.TheVariants.{Pattern};
 use super::Network;
 use clnp_base::NoMemory;
 use clnp_plan::{Ask, Note, SendRefusal, Why};
+use clnp_systems::System;
 use nsap::Address;
 use scenario::Body;
 use std::alloc::Global;
 
 impl Network {
-    /// Asks the host at a place to send a unit.
+    /// Asks the system at a place to send a unit; nobody asks a router.
     pub(super) fn send(
         &mut self,
         alloc: Global,
@@ -31,7 +32,7 @@ impl Network {
         requires { FitsKind false (parameters ask.now.options) }
         ensures { OnOk result ((model : network.World) → Holds self.old model
             → Follows self.new lines.old.items lines.new.items
-            (network.comes model place (AsksToSend from to (octets_of body.now) ask.now))) }
+            (network.asks model place (AsksToSend from to (octets_of body.now) ask.now))) }
     {
         match body {
             Body::Hex(octets) => {
@@ -44,7 +45,7 @@ impl Network {
         }
     }
 
-    /// Asks the host at a place to send a unit of these octets.
+    /// Asks the system at a place to send a unit of these octets, where it is a host.
     fn send_octets(
         &mut self,
         alloc: Global,
@@ -58,17 +59,26 @@ impl Network {
         requires { FitsKind false (parameters ask.now.options) }
         ensures { OnOk result ((model : network.World) → Holds self.old model
             → Follows self.new lines.old.items lines.new.items
-            (network.comes model place (AsksToSend from to body.now ask.now))) }
+            (network.asks model place (AsksToSend from to body.now ask.now))) }
     {
-        if place >= self.hosts.len() {
+        if place >= self.systems.len() {
             return Ok(());
         }
         let mut outputs = Vec::new(alloc);
-        match self.hosts[place].send(alloc, from, to, body, ask, &mut outputs) {
-            Ok(_unit) => self.put_all_out(alloc, place, outputs, lines),
-            Err(refusal) => {
-                let note = refusal_note(refusal)?;
-                self.write_note(alloc, place, &note, lines)
+        match &mut self.systems[place] {
+            System::Router(router) => {
+                router.config();
+                Ok(())
+            }
+            System::Host(host) => {
+                host.config();
+                match host.send(alloc, from, to, body, ask, &mut outputs) {
+                    Ok(_unit) => self.put_all_out(alloc, place, outputs, lines),
+                    Err(refusal) => {
+                        let note = refusal_note(refusal)?;
+                        self.write_note(alloc, place, &note, lines)
+                    }
+                }
             }
         }
     }

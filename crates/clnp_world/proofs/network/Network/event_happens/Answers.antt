@@ -1,4 +1,4 @@
--- The host at the event's place sends.
+-- The system at the event's place sends.
 use Rattle.std.proofs.Common.{ℕ, Some, sym, subst}
 use Rattle.std.proofs.lemmas.Result.{on_ok_weaker}
 use Rattle.scenario.specs.Scenario.{octets_of}
@@ -14,6 +14,6 @@ returns-in-Send c =
     subst (λ (event : Event). Follows c.send.new.self c.args.lines.now.items c.send.new.lines.items
     (network.event_happens c.args.limits model (Some event))) (sym c.in-Send.is)
     (subst (λ (place : ℕ). Follows c.send.new.self c.args.lines.now.items c.send.new.lines.items
-    (network.comes model place (AsksToSend c.in-Send.from c.in-Send.to (octets_of c.in-Send.body) c.in-Send.ask))) c.from.ensures
+    (network.asks model place (AsksToSend c.in-Send.from c.in-Send.to (octets_of c.in-Send.body) c.in-Send.ask))) c.from.ensures
     (sends model h)))
     c.send.ensures

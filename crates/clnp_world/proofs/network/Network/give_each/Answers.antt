@@ -18,18 +18,18 @@ loop-place-preserved c =
       | then-is_for+in_ok-give w ↦ record {
         gives = gives_more_as old c.loop-place.self w.give.new.self c.if-is_for.self c.args.lines.now.items c.loop-place.lines.items
             w.give.new.lines.items c.if-is_for.lines.items c.args.limits c.args.at c.loop-place.place c.loop-place.invariant.gives
-            (omega (arith, old.hosts.ok.0)) (subst tells w.if-is_for.true c.is_for.ensures) w.self-is
+            (omega (arith, old.systems.ok.0)) (subst tells w.if-is_for.true c.is_for.ensures) w.self-is
             (ap (λ (v : Vec ℕ Global). v.items) w.lines-is) w.in_ok-give.ensures.follows;
-        hosts = subst (λ (v : Network). vec_len v.hosts ≡ vec_len old.hosts) (sym w.self-is)
-            (w.in_ok-give.ensures.hosts ∙ c.loop-place.invariant.hosts);
+        systems = subst (λ (v : Network). vec_len v.systems ≡ vec_len old.systems) (sym w.self-is)
+            (w.in_ok-give.ensures.systems ∙ c.loop-place.invariant.systems);
         copies = subst (λ (v : Network). vec_len old.copies ≤ vec_len v.copies) (sym w.self-is) (omega (arith, w.in_ok-give.ensures.copies));
       }
       | else-is_for w ↦ record {
         gives = gives_skip_as old c.loop-place.self c.if-is_for.self c.args.lines.now.items c.loop-place.lines.items c.if-is_for.lines.items
             c.args.limits c.args.at c.loop-place.place c.loop-place.invariant.gives
-            (omega (arith, old.hosts.ok.0)) (subst tells w.if-is_for.false c.is_for.ensures) w.self-is
+            (omega (arith, old.systems.ok.0)) (subst tells w.if-is_for.false c.is_for.ensures) w.self-is
             (ap (λ (v : Vec ℕ Global). v.items) w.lines-is);
-        hosts = subst (λ (v : Network). vec_len v.hosts ≡ vec_len old.hosts) (sym w.self-is) c.loop-place.invariant.hosts;
+        systems = subst (λ (v : Network). vec_len v.systems ≡ vec_len old.systems) (sym w.self-is) c.loop-place.invariant.systems;
         copies = subst (λ (v : Network). vec_len old.copies ≤ vec_len v.copies) (sym w.self-is) c.loop-place.invariant.copies;
       }
     ]
@@ -37,4 +37,4 @@ loop-place-preserved c =
 pub returns : goal.returns
 returns c =
     gives_all c.args.self.now c.loop-place.self c.args.lines.now.items c.loop-place.lines.items c.args.limits c.args.at c.loop-place.place
-    c.loop-place.invariant.gives (omega (arith, c.args.self.now.hosts.ok.0))
+    c.loop-place.invariant.gives (omega (arith, c.args.self.now.systems.ok.0))

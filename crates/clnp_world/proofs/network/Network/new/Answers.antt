@@ -1,4 +1,4 @@
--- The hosts are at their start, and there are no copies.
+-- The systems are at their start, and there are no copies.
 use Rattle.std.proofs.Common.{◌≤◌, List, length, refl, sym, subst}
 use Rattle.std.specs.List.{AllByRecursion}
 use Rattle.clnp_world.specs.declared.copy.FrameCopy.{FrameCopy}
@@ -9,7 +9,7 @@ pub returns : goal.returns
 returns c = record {
   shows = record {
     clock = refl;
-    systems = c.in_ok-hosts.ensures;
+    systems = c.in_ok-systems.ensures;
     copies = c.new.ensures.items;
     cursor = refl;
     carried = tt;

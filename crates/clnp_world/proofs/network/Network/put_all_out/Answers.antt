@@ -4,14 +4,14 @@ use Rattle.std.proofs.lemmas.List.{map-id}
 use Rattle.std.proofs.lemmas.Iterator.Adapters.{YieldsList-from_vec}
 use Rattle.std.proofs.lemmas.Iterator.Consumers.{YieldsList-end}
 use Rattle.clnp_plan.specs.declared.output.Output.{Output}
-use Rattle.end_system.specs.Stands.{GiveAll}
+use Rattle.clnp_machine.specs.Given.{GiveAll}
 use Rattle.clnp_world.proofs.PutSteps.{puts_none, puts_more}
 use Rattle.clnp_world.proofs.network.Network.put_all_out.Goals as goal
 
 pub loop-output-init : goal.loop-output-init
 loop-output-init c = record {
   puts = puts_none c.args.self.now c.args.lines.now.items c.args.place;
-  hosts = refl;
+  systems = refl;
   clock = refl;
   copies = omega arith;
 }
@@ -21,7 +21,7 @@ loop-output-preserved c = record {
   puts = puts_more c.args.self.now c.loop-output.self c.put_out.new.self c.args.lines.now.items c.loop-output.lines.items
       c.put_out.new.lines.items c.args.place c.loop-output.yielded c.in-Some.output c.loop-output.invariant.puts
       c.loop-output.invariant.clock c.in_ok-put_out.ensures.puts;
-  hosts = c.in_ok-put_out.ensures.hosts ∙ c.loop-output.invariant.hosts;
+  systems = c.in_ok-put_out.ensures.systems ∙ c.loop-output.invariant.systems;
   clock = c.in_ok-put_out.ensures.clock ∙ c.loop-output.invariant.clock;
   copies = omega (arith, c.in_ok-put_out.ensures.copies);
 }

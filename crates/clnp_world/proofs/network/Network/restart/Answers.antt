@@ -1,24 +1,25 @@
--- The host is restarted, and its note is written.
+-- The system is restarted, and its note is written.
 use Rattle.std.proofs.Common.{[], ◌∷◌, refl, arith}
 use Rattle.std.proofs.lemmas.Result.{on_ok_weaker}
 use Rattle.clnp_plan.specs.declared.note.Note.TheVariants.{Restart}
 use Rattle.clnp_plan.specs.declared.output.Output.TheVariants.{Note as Told}
 use Rattle.clnp_machine.specs.System.{IsRestarted}
+use Rattle.clnp_systems.specs.Stands.{entity_of}
 use Rattle.clnp_world.proofs.ListSteps.{slice_get_read}
-use Rattle.clnp_world.proofs.TakeSteps.{with_host, does_follow, does_nothing, note_alone, gives_note}
+use Rattle.clnp_world.proofs.TakeSteps.{with_node, does_follow, does_nothing, note_alone, gives_note}
 use Rattle.clnp_world.proofs.network.Network.restart.Goals as goal
 
 pub returns-then-place-len : goal.returns-then-place-len
-returns-then-place-len c = does_nothing c.args.self.now c.args.lines.now.items c.args.place IsRestarted (omega (arith, c.args.self.now.hosts.ok.0))
+returns-then-place-len c = does_nothing c.args.self.now c.args.lines.now.items c.args.place IsRestarted (omega (arith, c.args.self.now.systems.ok.0))
 
 pub returns : goal.returns
 returns c =
     let old = c.args.self.now in
-    let mid = with_host old c.args.place c.restart.new.self in
+    let mid = with_node old c.args.place c.restart.new.self in
     on_ok_weaker c.write_note.result (λ writes.
     does_follow old mid c.args.lines.now.items c.write_note.new.lines.items c.args.place IsRestarted c.index_mut.result.now c.restart.new.self
     (Told Restart ∷ [])
-    (slice_get_read old.hosts.items c.args.place c.index_mut.result.now (omega (arith, old.hosts.ok.0)) c.index_mut.ensures.value)
-    c.restart.ensures.stands (λ s _. gives_note c.index_mut.result.now.moment Restart) (λ s. refl)
+    (slice_get_read old.systems.items c.args.place c.index_mut.result.now (omega (arith, old.systems.ok.0)) c.index_mut.ensures.value)
+    c.restart.ensures.stands (λ s _. gives_note (entity_of c.index_mut.result.now).moment Restart) (λ s. refl)
     (note_alone mid c.args.lines.now.items c.write_note.new.lines.items c.args.place Restart writes))
     c.write_note.ensures

@@ -1,4 +1,4 @@
--- The clock goes on before its moment comes to the hosts.
+-- The clock goes on before its moment comes to the systems.
 use Rattle.std.proofs.Common.{◌+◌}
 use Rattle.std.proofs.lemmas.Result.{on_ok_weaker}
 use Rattle.clnp_world.proofs.TickSteps.{clock_goes_on, all_behind}

@@ -1,4 +1,4 @@
--- The clock's moment comes to the host, and what it gives out is put out.
+-- The clock's moment comes to the system, and what it gives out is put out.
 use Rattle.std.proofs.Common.{ℕ, arith, subst}
 use Rattle.std.proofs.lemmas.Result.{on_ok_weaker}
 use Rattle.clnp_machine.specs.System.{MomentComes}
@@ -7,18 +7,18 @@ use Rattle.clnp_network.specs.World as network
 use Rattle.clnp_world.specs.Parts.{Puts}
 use Rattle.clnp_world.proofs.ListSteps.{slice_get_read}
 use Rattle.clnp_world.proofs.TakeSteps.{does_put, from_none}
-use Rattle.clnp_world.proofs.network.Network.tick_host.Goals as goal
+use Rattle.clnp_world.proofs.network.Network.tick_system.Goals as goal
 
 pub returns-clause-puts : goal.returns-clause-puts
 returns-clause-puts c =
     let old = c.args.self.now in
-    let host = c.index_mut.result.now in
+    let node = c.index_mut.result.now in
     on_ok_weaker c.put_all_out.result (λ puts model h.
     subst (λ (now : ℕ). Puts c.put_all_out.new.self c.args.lines.now.items c.put_all_out.new.lines.items
     (network.comes model c.args.place (MomentComes now))) h.clock
     (does_put old c.put_all_out.new.self c.args.lines.now.items c.put_all_out.new.lines.items c.args.place (MomentComes old.clock)
-    host c.tick.new.self c.tick.new.out.items
-    (slice_get_read old.hosts.items c.args.place host (omega (arith, old.hosts.ok.0)) c.index_mut.ensures.value)
+    node c.tick.new.self c.tick.new.out.items
+    (slice_get_read old.systems.items c.args.place node (omega (arith, old.systems.ok.0)) c.index_mut.ensures.value)
     c.in_ok-tick.ensures.stands
     (λ s stands. from_none old.clock c.new-outputs.result.items c.tick.new.out.items (step s (MomentComes old.clock)).outputs c.new-outputs.ensures.items
     (c.in_ok-tick.ensures.outputs s stands))
