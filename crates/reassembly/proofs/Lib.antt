@@ -6,7 +6,9 @@ pub mod Due
 pub mod Ended
 pub mod Endings
 pub mod Expiring
+pub mod Filling
 pub mod Gap
+pub mod Groups
 pub mod Keeping
 pub mod Keys
 pub mod LawBuffers

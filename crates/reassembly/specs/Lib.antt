@@ -6,5 +6,6 @@ pub mod Kept
 pub mod Mapped
 pub mod NoWhole
 pub mod Offered
+pub mod Runs
 pub mod Sound
 pub mod State

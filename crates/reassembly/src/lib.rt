@@ -5,6 +5,7 @@
 mod coverage;
 pub mod laws;
 mod pieces;
+mod runs;
 mod segment;
 mod table;
 
