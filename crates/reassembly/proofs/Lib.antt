@@ -8,7 +8,9 @@ pub mod Endings
 pub mod Expiring
 pub mod Filling
 pub mod Gap
+pub mod Givers
 pub mod Groups
+pub mod Indexing
 pub mod Keeping
 pub mod Keys
 pub mod LawBuffers

@@ -1,6 +1,5 @@
 -- Runs of places of a unit's data: holes, and pieces that kept segments fill.
-use Rattle.std.specs.Prelude.{◌≡◌, ℕ, ◌+◌, ◌<◌, ◌&&◌, not, max, min, nat_le, nat_lt, Bool, if◌then◌else◌, List, [], ◌∷◌, length, map, sum, take, drop, Option, None, Some, is_none, slice_get}
-use Rattle.std.specs.List.{count_by, position_from}
+use Rattle.std.specs.Prelude.{◌≡◌, ℕ, ◌+◌, ◌<◌, ◌&&◌, not, max, min, nat_le, nat_lt, Bool, if◌then◌else◌, List, [], ◌∷◌, length, map, sum, take, drop, filter, Option, None, Some, is_none, slice_get}
 use Rattle.reassembly.specs.declared.runs.Run.{Run}
 
 -- the runs of each unit, and for how many units and runs there is room
@@ -37,7 +36,7 @@ AreJoined from to (run ∷ others) = (run.from ≡ from) × ((run.from < run.to)
 
 -- how many of the runs are pieces
 abbrev pub pieces : List Run → ℕ
-pieces runs = count_by (λ run. not (is_hole run)) runs
+pieces runs = length (filter (λ run. not (is_hole run)) runs)
 
 -- whether a run is a hole that has a place from `from` to the place before `to`
 abbrev pub is_gap : ℕ → ℕ → Run → Bool
