@@ -1,14 +1,18 @@
 -- The earliest segment that has a place, where segments come and go.
 use Rattle.std.proofs.Common.{◌≡◌, ℕ, zero, suc, ◌+◌, ◌-◌, ◌*◌, ◌<◌, ◌≤◌, ◌&&◌, nat_le, nat_lt, Bool, true, false, cond, List, [], ◌∷◌, ◌++◌, length, map, Option, None, Some, inl, inr, refl, sym, ap, subst, ◌∙◌, arith, add-zero}
-use Rattle.std.specs.Prelude.{is_none, is_some}
+use Rattle.std.specs.Prelude.{drop, not, is_none, is_some, slice_get}
 use Rattle.std.specs.List.{list_any, position_from}
-use Rattle.std.proofs.lemmas.Bool.{cases_Bool, and_parts, leb-true, ltb-true, le-leb, lt-ltb}
+use Rattle.std.proofs.lemmas.Bool.{both_ways, cases_Bool, and_parts, leb-true, ltb-true, le-leb, lt-ltb}
 use Rattle.clnp_base.proofs.Found.{position_none}
 use Rattle.reassembly.specs.declared.segment.Key.{Key}
 use Rattle.reassembly.specs.declared.segment.Segment.{Segment}
-use Rattle.reassembly.specs.Arrival.{arrival_of, is_covered, same_key}
+use Rattle.reassembly.specs.Arrival.{arrival_of, has, is_covered, same_key}
+use Rattle.reassembly.specs.Ending.{others_of, places_without}
 use Rattle.reassembly.specs.Index.{giver, lack}
+use Rattle.reassembly.specs.Runs.{named_in}
 use Rattle.reassembly.specs.State.{segments_of}
+use Rattle.reassembly.proofs.Ended.{segments_of-others}
+use Rattle.reassembly.proofs.Keys.{same_key-other}
 use Rattle.reassembly.proofs.Filling.{or_else}
 use Rattle.reassembly.proofs.Run.{arrivals_of, covered_is, gives}
 
@@ -83,3 +87,59 @@ lack_last key from to high segments segment same from_is to_is =
     rw (giver-same key (high - 1) from to segments segment same from_is to_is)
     (lack_less (giver key (high - 1) segments) (high - 1) from to (length segments) (nat_le high to)
     (λ t. le-leb high to (let l = ltb-true (high - 1) to (and_parts (nat_le from (high - 1)) (nat_lt (high - 1) to) t).1 in omega arith)))
+
+-- ---- all segments of a key are taken out
+
+drop_head : (n : ℕ) (xs : List ℕ) (y : ℕ) (ys : List ℕ) → drop n xs ≡ y ∷ ys → slice_get xs n ≡ Some y
+drop_head zero [] y ys e = absurd (cc)
+drop_head zero (x ∷ xs) y ys e = let f : x ≡ y = cc in ap (λ (k : ℕ). Some k) f
+drop_head (suc n) [] y ys e = absurd (cc)
+drop_head (suc n) (x ∷ xs) y ys e = drop_head n xs y ys e
+
+drop_more : (n : ℕ) (xs : List ℕ) (y : ℕ) (ys : List ℕ) → drop n xs ≡ y ∷ ys → drop (suc n) xs ≡ ys
+drop_more zero [] y ys e = absurd (cc)
+drop_more zero (x ∷ xs) y ys e = let f : xs ≡ ys = cc in f
+drop_more (suc n) [] y ys e = absurd (cc)
+drop_more (suc n) (x ∷ xs) y ys e = drop_more n xs y ys e
+
+drop_rest : (n : ℕ) (xs : List ℕ) (y : ℕ) (ys : List ℕ) → drop n xs ≡ y ∷ ys → drop (n + 1) xs ≡ ys
+drop_rest n xs y ys e =
+    let next : n + 1 ≡ suc n = omega arith in
+    ap (λ k. drop k xs) next ∙ drop_more n xs y ys e
+
+names_follow : (key : Key) (p : Segment → Bool) → ((s : Segment) → p s ≡ true → same_key s.key key ≡ false) → (names : List ℕ) (n next : ℕ) (segments : List Segment)
+    → drop n names ≡ places_without key next segments → named_in names (position_from p n segments) ≡ position_from p next (others_of key segments)
+names_follow key p apart names n next [] e = refl
+names_follow key p apart names n next (segment ∷ others) e =
+    elim (cases_Bool (same_key segment.key key)) [
+      | inl t ↦
+          let fails : p segment ≡ false = elim (cases_Bool (p segment)) [
+            | inl it ↦ absurd (both_ways (same_key segment.key key) (apart segment it) t)
+            | inr f ↦ f
+          ] in
+          let rest : drop (n + 1) names ≡ places_without key next others = drop_rest n names next _ (rw t at e) in
+          rw (fails, t) (names_follow key p apart names (n + 1) next others rest)
+      | inr f ↦
+          let rest : drop (n + 1) names ≡ places_without key (next + 1) others = drop_rest n names next _ (rw f at e) in
+          elim (cases_Bool (p segment)) [
+            | inl passes ↦ rw (passes, f, passes) (drop_head n names next _ e)
+            | inr fails ↦ rw (fails, f, fails) (names_follow key p apart names (n + 1) (next + 1) others rest)
+          ]
+    ]
+
+pub giver-others : (own key : Key) (place : ℕ) (segments : List Segment) → same_key own key ≡ false
+    → giver own place (others_of key segments) ≡ named_in (places_without key 0 segments) (giver own place segments)
+giver-others own key place segments other =
+    sym (names_follow key (gives own place)
+    (λ s e. same_key-other s.key own key (and_parts (same_key s.key own) (has place (arrival_of s)) e).0 other)
+    (places_without key 0 segments) 0 0 segments refl)
+
+abbrev lack_if : Bool → ℕ
+lack_if b = cond (not b) 1 0
+
+pub lack-others : (own key : Key) (place : ℕ) (segments : List Segment) → same_key own key ≡ false
+    → lack own place (others_of key segments) ≡ lack own place segments
+lack-others own key place segments other =
+    ap lack_if
+    (sym (covered-giver own place (others_of key segments)) ∙ ap (λ l. is_covered (map arrival_of l) place) (segments_of-others own key other segments)
+    ∙ covered-giver own place segments)

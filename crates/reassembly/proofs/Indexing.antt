@@ -1,8 +1,9 @@
 -- The runs of a table's openings, where an opening or a segment comes.
-use Rattle.std.proofs.Common.{◌≡◌, ◌≢◌, ◌⊎◌, ℕ, zero, suc, ◌+◌, ◌-◌, ◌*◌, ◌<◌, ◌≤◌, ◌&&◌, not, nat_le, nat_lt, Bool, true, false, cond, List, [], ◌∷◌, ◌++◌, length, map, sum, Option, None, Some, inl, inr, refl, sym, ap, subst, ◌∙◌, arith, length-append}
+use Rattle.std.proofs.Common.{◌≡◌, ◌≢◌, ◌⊎◌, ℕ, zero, suc, ◌+◌, ◌-◌, ◌*◌, ◌<◌, ◌≤◌, ◌==◌, ◌&&◌, not, nat_le, nat_lt, Bool, true, false, cond, List, [], ◌∷◌, ◌++◌, length, map, sum, Option, None, Some, inl, inr, refl, sym, ap, subst, ◌∙◌, arith, length-append}
 use Rattle.std.specs.Prelude.{is_none, is_some, slice_get, slice_set}
-use Rattle.std.specs.List.{AllByRecursion, list_any}
-use Rattle.std.proofs.lemmas.Bool.{cases_Bool, cases_eq, both_ways}
+use Rattle.std.specs.List.{AllByRecursion, list_any, remove}
+use Rattle.std.proofs.lemmas.List.Edits.{length-remove}
+use Rattle.std.proofs.lemmas.Bool.{cases_Bool, cases_eq, eq-eqb, ne_eqb}
 use Rattle.std.proofs.lemmas.List.{length-map, length-set, length_push}
 use Rattle.std.proofs.lemmas.Option.{same_Some, slice_get_within, none-some}
 use Rattle.clnp_base.proofs.Lists.{AllByRecursion-slice_get, slice_get-push, slice_get-push_other, slice_get-set, slice_get-set_other}
@@ -11,13 +12,18 @@ use Rattle.reassembly.specs.declared.segment.Key.{Key}
 use Rattle.reassembly.specs.declared.segment.Segment.{Segment}
 use Rattle.reassembly.specs.declared.table.Opening.{Opening}
 use Rattle.reassembly.specs.Arrival.{are_covered, arrival_of, data_len, is_covered, same_key}
-use Rattle.reassembly.specs.Index.{AreRunsOf, IsIndexOf, giver, lack}
+use Rattle.clnp_views.specs.Extent.{Extent}
+use Rattle.reassembly.specs.declared.table.TableLimits.{TableLimits}
+use Rattle.reassembly.specs.Ending.{others_of, places_without}
+use Rattle.reassembly.specs.Sound.{IsSound}
+use Rattle.reassembly.specs.Index.{AreRunsOf, IsIndexOf, MayBeIndexed, giver, lack}
 use Rattle.reassembly.specs.Offered.{openings_of}
-use Rattle.reassembly.specs.Runs.{AreJoined, filled, filler, has_place, is_gap, pieces, total_runs, unfilled}
+use Rattle.reassembly.specs.Runs.{AreJoined, filled, filler, has_place, is_gap, named_in, pieces, renamed, total_runs, unfilled}
 use Rattle.reassembly.specs.State.{segments_of}
 use Rattle.reassembly.proofs.Counted.{counted_once, ones, weights}
-use Rattle.reassembly.proofs.Filling.{or_else, have_from, joined_order, not_behind, filled-filler, filled-joined, filled_tells, length-filled}
-use Rattle.reassembly.proofs.Givers.{covered-giver, giver-none, giver-other, giver-same, lack_first, lack_last}
+use Rattle.reassembly.proofs.Filling.{or_else, have_from, joined_order, not_behind, filled-filler, filled-joined, filled_tells, length-filled, renamed-filler, renamed-joined}
+use Rattle.reassembly.proofs.Givers.{covered-giver, giver-none, giver-other, giver-others, giver-same, lack-others, lack_first, lack_last}
+use Rattle.reassembly.proofs.Ended.{segments_of-others}
 use Rattle.reassembly.proofs.Groups.{sum-of}
 use Rattle.reassembly.proofs.Keeping.{segments_of-other, segments_of-same}
 use Rattle.reassembly.proofs.Keys.{same_key-like, same_key-sym, same_key-true}
@@ -269,3 +275,76 @@ pub gap_tells_cover : (segments : List Segment) (opening : Opening) (runs : List
 gap_tells_cover segments opening runs from len to are counted within =
     filled_tells (is_covered (arrivals_of opening.key segments)) from len to (data_len opening.shape) runs are.joined counted within
     (λ place inside. covered-giver opening.key place segments ∙ ap is_some (sym (are.filled place inside)))
+
+-- ---- an opening and its segments are taken out
+
+module _ {X Y : Type 0} where
+  pub remove_at : (xs : List X) (ys : List Y) (slot i : ℕ) (x : X) (y : Y) → slice_get (remove xs slot) i ≡ Some x → slice_get (remove ys slot) i ≡ Some y
+      → (j : ℕ) × (slice_get xs j ≡ Some x) × (slice_get ys j ≡ Some y) × (j ≢ slot)
+  remove_at [] ys zero i x y at there = absurd (none-some x at)
+  remove_at [] ys (suc slot) i x y at there = absurd (none-some x at)
+  remove_at (a ∷ xs) [] zero i x y at there = absurd (none-some y there)
+  remove_at (a ∷ xs) [] (suc slot) i x y at there = absurd (none-some y there)
+  remove_at (a ∷ xs) (b ∷ ys) zero i x y at there = (suc i, at, there, (λ e. omega (arith, e)))
+  remove_at (a ∷ xs) (b ∷ ys) (suc slot) zero x y at there = (zero, at, there, (λ e. omega (arith, e)))
+  remove_at (a ∷ xs) (b ∷ ys) (suc slot) (suc i) x y at there =
+      let rest = remove_at xs ys slot i x y at there in
+      (suc rest.0, rest.1, rest.2, (λ e. rest.3 (omega (arith, e))))
+
+  pub map_at : (f : X → Y) (xs : List X) (i : ℕ) (y : Y) → slice_get (map f xs) i ≡ Some y → (x : X) × (slice_get xs i ≡ Some x) × (f x ≡ y)
+  map_at f [] i y e = absurd (none-some y e)
+  map_at f (x ∷ xs) zero y e = (x, refl, same_Some (f x) y e)
+  map_at f (x ∷ xs) (suc i) y e = map_at f xs i y e
+
+left_runs : (segments : List Segment) (key : Key) (opening : Opening) (runs : List Run) → same_key opening.key key ≡ false → 0 < data_len opening.shape
+    → AreRunsOf segments opening runs → AreRunsOf (others_of key segments) opening (map (renamed (places_without key 0 segments)) runs)
+left_runs segments key opening runs other some are =
+    let names = places_without key 0 segments in
+    let high = data_len opening.shape in
+    let after = map (renamed names) runs in
+    let joined = renamed-joined names 0 high runs are.joined in
+    let fills = λ (place : ℕ) (within : place < high).
+    renamed-filler names place runs ∙ ap (named_in names) (are.filled place within) ∙ sym (giver-others opening.key key place segments other) in
+    let number = ap length (segments_of-others opening.key key other segments) in
+    let few : length after + 1 ≤ 2 * length (segments_of opening.key (others_of key segments)) + (lack opening.key 0 (others_of key segments) + lack opening.key (high - 1) (others_of key segments)) =
+    omega (arith, number, length-map runs (renamed names), are.few, lack-others opening.key key 0 segments other, lack-others opening.key key (high - 1) segments other) in
+    record {
+      joined = joined;
+      filled = fills;
+      few = few;
+      few_pieces = λ more. pieces_few opening.key high (length (segments_of opening.key (others_of key segments))) (others_of key segments) after joined some fills few more;
+    }
+
+pub left_index : (segments : List Segment) (openings : List Opening) (groups : List (List Run)) (slot : ℕ) (closed : Opening)
+    → IsIndexOf segments openings groups → AllByRecursion (λ o. openings_of o.key openings ≡ 1) openings
+    → AllByRecursion (λ o. o.shape.head_len < o.shape.total) openings → slice_get openings slot ≡ Some closed
+    → IsIndexOf (others_of closed.key segments) (remove openings slot) (map (map (renamed (places_without closed.key 0 segments))) (remove groups slot))
+left_index segments openings groups slot closed index distinct shaped at =
+    let f = map (renamed (places_without closed.key 0 segments)) in
+    let within = slice_get_within openings slot closed at in
+    record {
+      number = omega (arith, length-map (remove groups slot) f, length-remove openings slot within, length-remove groups slot (omega (arith, within, index.number)), index.number);
+      each = λ i told runs told_at told_there.
+          let before = map_at f (remove groups slot) i runs told_there in
+          let both = remove_at openings groups slot i told before.0 told_at before.1 in
+          let some = AllByRecursion-slice_get (λ o. o.shape.head_len < o.shape.total) openings both.0 told both.1 shaped in
+          subst (λ (r : List Run). AreRunsOf (others_of closed.key segments) told r) before.2
+          (left_runs segments closed.key told before.0 (other_keys openings both.0 slot told closed distinct both.1 at both.3) (omega (arith, some))
+          (index.each both.0 told before.0 both.1 both.2));
+    }
+
+-- ---- what holds of a sound table
+
+pub indexable : (limits : TableLimits) (openings : List Opening) (segments : List Segment) (held : ℕ) → IsSound limits openings segments held → MayBeIndexed openings segments
+indexable limits openings segments held sound = record {
+  distinct = sound.distinct;
+  shaped = sound.shaped;
+  owned = sound.owned;
+  came = sound.came;
+  segments_fit = omega (arith, sound.few_segments, sound.segments_fit);
+}
+
+-- whether an empty part is covered
+pub empty_cover : (from len to : ℕ) → from + len ≡ to → (from == to) ≡ are_covered {C = Extent} [] from len
+empty_cover from zero to counted = eq-eqb from to (omega arith)
+empty_cover from (suc len) to counted = ne_eqb from to (λ e. omega arith)

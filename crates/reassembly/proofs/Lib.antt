@@ -1,13 +1,11 @@
 pub mod Closing
 pub mod Counted
-pub mod Counting
 pub mod Covered
 pub mod Due
 pub mod Ended
 pub mod Endings
 pub mod Expiring
 pub mod Filling
-pub mod Gap
 pub mod Givers
 pub mod Groups
 pub mod Indexing

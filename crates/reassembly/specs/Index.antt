@@ -1,12 +1,13 @@
 -- The runs of each open unit, as its kept segments make them.
-use Rattle.std.specs.Prelude.{◌≡◌, ℕ, ◌+◌, ◌*◌, ◌-◌, ◌≤◌, ◌<◌, ◌&&◌, if◌then◌else◌, List, length, Option, Some, is_none, slice_get}
-use Rattle.std.specs.List.{position_from}
+use Rattle.std.specs.Prelude.{◌≡◌, ℕ, ◌+◌, ◌*◌, ◌-◌, ◌^◌, ◌≤◌, ◌<◌, ◌&&◌, if◌then◌else◌, List, length, Option, Some, is_none, slice_get}
+use Rattle.std.specs.List.{AllByRecursion, position_from}
 use Rattle.reassembly.specs.declared.runs.Run.{Run}
 use Rattle.reassembly.specs.declared.segment.Key.{Key}
 use Rattle.reassembly.specs.declared.segment.Segment.{Segment}
 use Rattle.reassembly.specs.declared.table.Opening.{Opening}
 use Rattle.reassembly.specs.declared.table.TableLimits.{TableLimits}
 use Rattle.reassembly.specs.Arrival.{arrival_of, data_len, has, same_key}
+use Rattle.reassembly.specs.Offered.{MayCome, openings_of}
 use Rattle.reassembly.specs.Runs.{AreJoined, RunsState, filler, pieces}
 use Rattle.reassembly.specs.State.{segments_of}
 
@@ -32,6 +33,14 @@ pub record IsIndexOf (segments : List Segment) (openings : List Opening) (groups
   pub number : length groups ≡ length openings
   pub each : (slot : ℕ) (opening : Opening) (runs : List Run) → slice_get openings slot ≡ Some opening → slice_get groups slot ≡ Some runs
       → AreRunsOf segments opening runs
+
+-- no two openings have one key, each is of a unit with data, each segment has its opening and may come
+pub record MayBeIndexed (openings : List Opening) (segments : List Segment) : Type 0 where
+  pub distinct : AllByRecursion (λ opening. openings_of opening.key openings ≡ 1) openings
+  pub shaped : AllByRecursion (λ opening. opening.shape.head_len < opening.shape.total) openings
+  pub owned : AllByRecursion (λ segment. openings_of segment.key openings ≡ 1) segments
+  pub came : AllByRecursion MayCome segments
+  pub segments_fit : length segments < 2 ^ 16
 
 -- The table's runs are those of its openings, and there is room for as many as there may be.
 pub record IsIndexed (limits : TableLimits) (openings : List Opening) (segments : List Segment) (index : RunsState) (named : ℕ) : Type 0 where

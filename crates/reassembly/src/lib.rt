@@ -2,7 +2,6 @@
 //! (ISO/IEC 8473, sections 6.8 and 6.9).
 #![tactic(auto)]
 
-mod coverage;
 pub mod laws;
 mod pieces;
 mod runs;
