@@ -53,12 +53,14 @@ run_at place from to (run ∷ others) joined low high =
           let has = have_from place run (omega (arith, joined.0)) inside in
           (run, record { contained = (0, omega arith, refl); has = has; fills = rw has refl })
       | inr behind ↦
-          let rest = run_at place run.to to others joined.1.1 behind high in
-          (rest.0, record {
-            contained = (suc rest.1.contained.0, (let l = rest.1.contained.1 in omega arith), rest.1.contained.2);
-            has = rest.1.has;
-            fills = rw (not_behind place run behind) rest.1.fills;
-          })
+          let rest = run_at place run.to to others joined.1.1 behind high in (
+            rest.0,
+            record {
+              contained = (suc rest.1.contained.0, (let l = rest.1.contained.1 in omega arith), rest.1.contained.2);
+              has = rest.1.has;
+              fills = rw (not_behind place run behind) rest.1.fills;
+            },
+          )
     ]
 
 -- no other run has its places
@@ -133,7 +135,6 @@ cut-filler at place (run ∷ others) =
       | inr f ↦ rw f (ap (λ (o : Option ℕ). cond (has_place at run) run.by o) (cut-filler at place others))
     ]
 
-
 -- no hole has the place but at its beginning
 abbrev pub NoneAcross : ℕ → List Run → Type 0
 NoneAcross place runs = list_any (is_across place) runs ≡ false
@@ -179,9 +180,11 @@ cut-still_none place other (run ∷ others) none =
     let parts = any_parts place run others none in
     elim (cases_Bool (is_across other run)) [
       | inl t ↦ (let a = across other run t in
-          rw (t,
-          not_across place (record run { to = other }) (λ h. across_not place run parts.0 (record { hole = a.hole; low = h.low; high = omega (arith, h.high, a.high) })),
-          not_across place (record run { from = other }) (λ h. across_not place run parts.0 (record { hole = a.hole; low = omega (arith, h.low, a.low); high = h.high })))
+          rw (
+            t,
+            not_across place (record run { to = other }) (λ h. across_not place run parts.0 (record { hole = a.hole; low = h.low; high = omega (arith, h.high, a.high) })),
+            not_across place (record run { from = other }) (λ h. across_not place run parts.0 (record { hole = a.hole; low = omega (arith, h.low, a.low); high = h.high })),
+          )
           parts.1)
       | inr f ↦ rw (f, parts.0) (cut-still_none place other others parts.1)
     ]
@@ -209,9 +212,14 @@ pub mark-joined : (from to by low high : ℕ) (runs : List Run) → AreJoined lo
 mark-joined from to by low high [] joined = joined
 mark-joined from to by low high (run ∷ others) joined =
     let f = marked-from from to by run in
-    let t = marked-to from to by run in
-    (f ∙ joined.0, (omega (arith, joined.1.0), subst (λ (n : ℕ). AreJoined n high (map (marked from to by) others)) (sym t)
-    (mark-joined from to by run.to high others joined.1.1)))
+    let t = marked-to from to by run in (
+      f ∙ joined.0,
+      (
+        omega (arith, joined.1.0),
+        subst (λ (n : ℕ). AreJoined n high (map (marked from to by) others)) (sym t)
+            (mark-joined from to by run.to high others joined.1.1),
+      ),
+    )
 
 mark-has : (from to by place : ℕ) (run : Run) → has_place place (marked from to by run) ≡ has_place place run
 mark-has from to by place run = rw (marked-from from to by run, marked-to from to by run) refl
@@ -230,15 +238,15 @@ mark-run from to by place run not_from not_to low high =
           let none = none_of run.by hole in
           elim (cases_lt run.from from) [
             | inl before ↦ (let apart : place < from = elim (cases_lt place from) [
-                | inl l ↦ l
-                | inr l ↦ absurd (across_not from run not_from (record { hole = none; low = before; high = omega arith }))
-              ] in
+              | inl l ↦ l
+              | inr l ↦ absurd (across_not from run not_from (record { hole = none; low = before; high = omega arith }))
+            ] in
                 rw (hole, none, lt-leb from run.from before, lt-leb from place apart) refl)
             | inr behind ↦ elim (cases_lt to run.to) [
               | inl cuts ↦ (let apart : to ≤ place = elim (cases_lt place to) [
-                  | inl l ↦ absurd (across_not to run not_to (record { hole = none; low = omega arith; high = cuts }))
-                  | inr l ↦ l
-                ] in
+                | inl l ↦ absurd (across_not to run not_to (record { hole = none; low = omega arith; high = cuts }))
+                | inr l ↦ l
+              ] in
                   rw (hole, none, le-leb from run.from behind, lt-leb run.to to cuts, le-leb from place (omega arith), below_not place to apart) refl)
               | inr within ↦
                   rw (hole, none, le-leb from run.from behind, le-leb run.to to within, le-leb from place (omega arith), lt-ltb place to (omega arith)) refl

@@ -55,8 +55,11 @@ pub other_keys : (openings : List Opening) (i j : ℕ) (a b : Opening) → AllBy
     → slice_get openings i ≡ Some a → slice_get openings j ≡ Some b → i ≢ j → same_key a.key b.key ≡ false
 other_keys openings i j a b distinct at_i at_j other =
     elim (cases_Bool (same_key a.key b.key)) [
-      | inl t ↦ absurd (omega (arith, two_at openings i j a b at_i at_j other (same_key-true a.key b.key t),
-          AllByRecursion-slice_get (λ o. openings_of o.key openings ≡ 1) openings j b at_j distinct))
+      | inl t ↦ absurd (omega (
+        arith,
+        two_at openings i j a b at_i at_j other (same_key-true a.key b.key t),
+        AllByRecursion-slice_get (λ o. openings_of o.key openings ≡ 1) openings j b at_j distinct,
+      ))
       | inr f ↦ f
     ]
 
@@ -206,8 +209,13 @@ module _ (segments : List Segment) (segment : Segment) (opening : Opening) (runs
       let number = more_segments same in
       let few : length (filled from to (length segments) runs) + 1 ≤ 2 * (length (segments_of opening.key segments) + 1)
       + (lack opening.key 0 (segments ++ segment ∷ []) + lack opening.key (high - 1) (segments ++ segment ∷ [])) =
-      omega (arith, length-filled from to (length segments) high runs are.joined, are.few,
-      lack_first opening.key from to segments segment same from_is to_is, lack_last opening.key from to high segments segment same from_is to_is) in
+      omega (
+        arith,
+        length-filled from to (length segments) high runs are.joined,
+        are.few,
+        lack_first opening.key from to segments segment same from_is to_is,
+        lack_last opening.key from to high segments segment same from_is to_is,
+      ) in
       record {
         joined = joined;
         filled = fills;

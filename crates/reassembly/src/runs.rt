@@ -212,8 +212,7 @@ fn cut_hole(runs: &mut Vec<Run>, start: usize, count: usize, place: u16) -> usiz
 fn hole_across(runs: &[Run], place: u16) -> Option<usize>
     ensures { result ≡ position_from (is_across place) 0 runs.now }
 {
-    runs.iter()
-        .position(|run| run.by.is_none() && run.from < place && place < run.to)
+    runs.iter().position(|run| run.by.is_none() && run.from < place && place < run.to)
 }
 
 /// Makes each hole from a place to the place before another a piece of a segment.
@@ -230,7 +229,10 @@ fn marked(run: Run, from: u16, to: u16, by: u16) -> Run
     ensures { result ≡ marked from to by run }
 {
     if run.by.is_none() && from <= run.from && run.to <= to {
-        Run { by: Some(by), ..run }
+        Run {
+            by: Some(by),
+            ..run
+        }
     } else {
         run
     }
@@ -241,7 +243,10 @@ fn rename_all(runs: &mut [Run], names: &[u16])
     ensures { runs.new ≡ map (renamed names.now) runs.old }
 {
     for run in runs.iter_mut() {
-        *run = Run { by: name_of(run.by, names), ..*run };
+        *run = Run {
+            by: name_of(run.by, names),
+            ..*run
+        };
     }
 }
 

@@ -180,6 +180,7 @@ impl Table {
             let offered = segment.shape;
             return Some(Accept::Interference { kept, offered });
         }
+        let held = self.held;
         if self.is_there(slot, segment) {
             return Some(Accept::Repeat);
         }
@@ -187,7 +188,6 @@ impl Table {
             let live = self.live();
             return Some(Accept::NoSlot { live });
         }
-        let held = self.held;
         let size = segment.pdu.frame_len() as u32;
         if size > self.limits.budget - held {
             return Some(Accept::Crowded { held, size });

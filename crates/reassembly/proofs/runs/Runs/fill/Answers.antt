@@ -18,8 +18,14 @@ pub cut-requires-2-clause-room : goal.cut-requires-2-clause-room
 cut-requires-2-clause-room c =
     let there = slice_get_some c.args.self.now.groups c.args.slot c.requires.slot in
     let first = cut c.args.from there.0 in
-    omega (arith, ap total_runs (c.cut.ensures.groups there.0 there.1), total-set c.args.self.now.groups c.args.slot there.0 first there.1,
-    length-cut c.args.from there.0, c.requires.room, c.cut.ensures.room)
+    omega (
+      arith,
+      ap total_runs (c.cut.ensures.groups there.0 there.1),
+      total-set c.args.self.now.groups c.args.slot there.0 first there.1,
+      length-cut c.args.from there.0,
+      c.requires.room,
+      c.cut.ensures.room,
+    )
 
 pub mark-requires : goal.mark-requires
 mark-requires c =

@@ -20,8 +20,13 @@ pub group-requires : goal.group-requires
 group-requires c =
     let t = c.self.inside in
     let there = slot_there c.args.segment.now.key 0 c.in-Some.slot c.args.self.now.openings (c.requires.slot ∙ c.in-Some.is) in
-    omega (arith, there.counted, slice_get_within c.args.self.now.openings there.at there.opening there.stands_at, ap (λ (v : TableState). length v.openings) c.self.view_is,
-    c.self.invariant.3.index_is.number)
+    omega (
+      arith,
+      there.counted,
+      slice_get_within c.args.self.now.openings there.at there.opening there.stands_at,
+      ap (λ (v : TableState). length v.openings) c.self.view_is,
+      c.self.invariant.3.index_is.number,
+    )
 
 pub returns-in-Some : goal.returns-in-Some
 returns-in-Some c =

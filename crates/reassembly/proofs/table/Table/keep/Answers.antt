@@ -33,8 +33,13 @@ fill-requires-clause-room c =
     let segments : t.segments.items ≡ c.args.self.now.segments = ap (λ (t : TableState). t.segments) (c.self.view_is ∙ c.slot_for-slot.ensures.opened) in
     let named = subst (λ (t : TableState). Names t c.slot_for-slot.result c.args.segment.key) (sym c.self.view_is) c.slot_for-slot.ensures.named in
     let few : length t.segments.items < t.limits.segments = rw (segments, limits) c.requires.room.few_segments in
-    omega (arith, few, total_few t.segments.items t.openings.items t.runs.groups c.self.invariant.3.index_is c.self.invariant.0.owned,
-    c.self.invariant.0.few_openings, c.self.invariant.3.room)
+    omega (
+      arith,
+      few,
+      total_few t.segments.items t.openings.items t.runs.groups c.self.invariant.3.index_is c.self.invariant.0.owned,
+      c.self.invariant.0.few_openings,
+      c.self.invariant.3.room,
+    )
 
 pub group-requires : goal.group-requires
 group-requires c =
@@ -42,8 +47,11 @@ group-requires c =
     let limits : t.limits ≡ c.args.self.now.limits = ap (λ (t : TableState). t.limits) (c.self.view_is ∙ c.slot_for-slot.ensures.opened) in
     let segments : t.segments.items ≡ c.args.self.now.segments = ap (λ (t : TableState). t.segments) (c.self.view_is ∙ c.slot_for-slot.ensures.opened) in
     let named = subst (λ (t : TableState). Names t c.slot_for-slot.result c.args.segment.key) (sym c.self.view_is) c.slot_for-slot.ensures.named in
-    let group = slice_get_some t.runs.groups c.slot_for-slot.result (omega (arith, slice_get_within t.openings.items c.slot_for-slot.result named.opening named.stands_at,
-    c.self.invariant.3.index_is.number)) in
+    let group = slice_get_some t.runs.groups c.slot_for-slot.result (omega (
+      arith,
+      slice_get_within t.openings.items c.slot_for-slot.result named.opening named.stands_at,
+      c.self.invariant.3.index_is.number,
+    )) in
     let shaped = all_at (λ (o : Opening). o.shape.head_len < o.shape.total) t.openings.items c.slot_for-slot.result named.opening c.self.invariant.0.shaped named.stands_at in
     let number : c.len-index.result ≡ length t.segments.items = omega arith in
     let kept = kept_index t.segments.items t.openings.items t.runs.groups c.args.segment c.slot_for-slot.result named.opening group.0 c.args.segment.offset c.end.result
@@ -66,8 +74,11 @@ invariant_of-self c =
     let len = c.frame_len.ensures.len in
     let budget : t.held + length c.args.segment.pdu.frame ≤ t.limits.budget = rw (held, segments, limits) c.requires.room.within_budget in
     let few : length t.segments.items < t.limits.segments = rw (segments, limits) c.requires.room.few_segments in
-    let group = slice_get_some t.runs.groups c.slot_for-slot.result (omega (arith, slice_get_within t.openings.items c.slot_for-slot.result named.opening named.stands_at,
-    c.self.invariant.3.index_is.number)) in
+    let group = slice_get_some t.runs.groups c.slot_for-slot.result (omega (
+      arith,
+      slice_get_within t.openings.items c.slot_for-slot.result named.opening named.stands_at,
+      c.self.invariant.3.index_is.number,
+    )) in
     let shaped = all_at (λ (o : Opening). o.shape.head_len < o.shape.total) t.openings.items c.slot_for-slot.result named.opening c.self.invariant.0.shaped named.stands_at in
     let number : c.len-index.result ≡ length t.segments.items = omega arith in
     let kept = kept_index t.segments.items t.openings.items t.runs.groups c.args.segment c.slot_for-slot.result named.opening group.0 c.args.segment.offset c.end.result
@@ -97,8 +108,11 @@ returns-clause-answered c buffers stands =
     let limits : t.limits ≡ c.args.self.now.limits = ap (λ (t : TableState). t.limits) (c.self.view_is ∙ c.slot_for-slot.ensures.opened) in
     let segments : t.segments.items ≡ c.args.self.now.segments = ap (λ (t : TableState). t.segments) (c.self.view_is ∙ c.slot_for-slot.ensures.opened) in
     let named = subst (λ (t : TableState). Names t c.slot_for-slot.result c.args.segment.key) (sym c.self.view_is) c.slot_for-slot.ensures.named in
-    let group = slice_get_some t.runs.groups c.slot_for-slot.result (omega (arith, slice_get_within t.openings.items c.slot_for-slot.result named.opening named.stands_at,
-    c.self.invariant.3.index_is.number)) in
+    let group = slice_get_some t.runs.groups c.slot_for-slot.result (omega (
+      arith,
+      slice_get_within t.openings.items c.slot_for-slot.result named.opening named.stands_at,
+      c.self.invariant.3.index_is.number,
+    )) in
     let shaped = all_at (λ (o : Opening). o.shape.head_len < o.shape.total) t.openings.items c.slot_for-slot.result named.opening c.self.invariant.0.shaped named.stands_at in
     let number : c.len-index.result ≡ length t.segments.items = omega arith in
     let kept = kept_index t.segments.items t.openings.items t.runs.groups c.args.segment c.slot_for-slot.result named.opening group.0 c.args.segment.offset c.end.result

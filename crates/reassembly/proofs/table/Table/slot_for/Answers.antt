@@ -50,8 +50,13 @@ open-requires-clause-room c =
     let missing = slot_missing c.args.segment.now.key 0 c.args.self.now.openings
     (sym c.slot_of.ensures ∙ none_since c.slot_of.result c.in_default.not-Some) in
     let room = subst (λ (t : TableState). length t.openings < t.limits.slots) (sym c.self.view_is) (c.requires.room missing) in
-    omega (arith, room, total_few t.segments.items t.openings.items t.runs.groups c.self.invariant.3.index_is c.self.invariant.0.owned,
-    c.self.invariant.0.few_segments, c.self.invariant.3.room)
+    omega (
+      arith,
+      room,
+      total_few t.segments.items t.openings.items t.runs.groups c.self.invariant.3.index_is c.self.invariant.0.owned,
+      c.self.invariant.0.few_segments,
+      c.self.invariant.3.room,
+    )
 
 pub invariant_of-self : goal.invariant_of-self
 invariant_of-self c =

@@ -38,8 +38,14 @@ fill-requires-clause-room c =
     let i = c.loop-index.index in
     let owned = AllByRecursion-front (λ (s : Segment). openings_of s.key c.args.openings.now ≡ 1) (take i segments) (drop i segments)
     (subst (AllByRecursion (λ (s : Segment). openings_of s.key c.args.openings.now ≡ 1)) (sym (take-append-drop i segments)) c.requires.kept.owned) in
-    omega (arith, total_few (take i segments) c.args.openings.now c.loop-index.runs.groups c.loop-index.invariant.0 owned, length-take i segments,
-    c.loop-index-test.true, c.requires.room, c.loop-index.invariant.2)
+    omega (
+      arith,
+      total_few (take i segments) c.args.openings.now c.loop-index.runs.groups c.loop-index.invariant.0 owned,
+      length-take i segments,
+      c.loop-index-test.true,
+      c.requires.room,
+      c.loop-index.invariant.2,
+    )
 
 pub loop-index-preserved : goal.loop-index-preserved
 loop-index-preserved c =

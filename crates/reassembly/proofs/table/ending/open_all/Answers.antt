@@ -15,8 +15,14 @@ pub open-requires-clause-room : goal.open-requires-clause-room
 open-requires-clause-room c =
     let openings = c.args.openings.now in
     let i = c.loop-opening.opening-index in
-    omega (arith, total_few [] (take i openings) c.loop-opening.runs.groups c.loop-opening.invariant.0 tt, length-take i openings, c.loop-opening-test.true,
-    c.requires.room, c.loop-opening.invariant.2)
+    omega (
+      arith,
+      total_few [] (take i openings) c.loop-opening.runs.groups c.loop-opening.invariant.0 tt,
+      length-take i openings,
+      c.loop-opening-test.true,
+      c.requires.room,
+      c.loop-opening.invariant.2,
+    )
 
 pub loop-opening-preserved : goal.loop-opening-preserved
 loop-opening-preserved c =
