@@ -1,8 +1,7 @@
 -- Places that segments cover.
-use Rattle.std.proofs.Common.{arith, ◌≡◌, ℕ, ◌+◌, ◌-◌, ◌<◌, ◌≤◌, true, List, sym, ◌∙◌, refl}
-use Rattle.std.proofs.lemmas.Bool.{and_from, and_parts}
+use Rattle.std.proofs.Common.{arith, ◌≡◌, ℕ, ◌+◌, ◌-◌, ◌<◌, ◌≤◌, true, List}
 use Rattle.reassembly.specs.Arrival.{Arrival, are_covered, is_covered}
-use Rattle.clnp_base.proofs.Ranges.{all-range-add, all_by_each, each_of_all}
+use Rattle.clnp_base.proofs.Ranges.{all_by_each, each_of_all}
 
 module _ {C : Type 0} where
   -- places that are covered, one by one

@@ -1,14 +1,14 @@
 -- Runs joined one behind the other, and the segment that fills a place, where holes are cut and filled.
-use Rattle.std.proofs.Common.{◌≡◌, ◌≢◌, ℕ, zero, suc, ◌+◌, ◌-◌, ◌<◌, ◌≤◌, ◌&&◌, ◌||◌, ◌⊎◌, not, max, min, nat_le, nat_lt, Bool, true, false, cond, List, [], ◌∷◌, ◌++◌, length, map, get_or, Option, None, Some, inl, inr, refl, sym, ap, subst, ◌∙◌, arith}
-use Rattle.std.specs.Prelude.{is_none, is_some, slice_set}
-use Rattle.std.specs.List.{Contains, insert, list_all, list_any, position_from, range_with_len}
+use Rattle.std.proofs.Common.{◌≡◌, ℕ, zero, suc, ◌+◌, ◌<◌, ◌≤◌, ◌&&◌, ◌⊎◌, not, max, min, nat_le, nat_lt, Bool, true, false, cond, List, [], ◌∷◌, length, map, Option, None, Some, inl, inr, refl, sym, ap, subst, ◌∙◌, arith}
+use Rattle.std.specs.Prelude.{is_none, is_some}
+use Rattle.std.specs.List.{Contains, list_all, list_any, range_with_len}
 use Rattle.std.proofs.lemmas.Bool.{cases_Bool, cases_lt, and_parts, and_from, leb-true, ltb-true, le-leb, lt-ltb, lt-leb, both_ways, false_from_ne_true}
 use Rattle.std.proofs.lemmas.List.{length-map}
 use Rattle.clnp_base.proofs.Choices.{below_not}
 use Rattle.clnp_base.proofs.Found.{any_contains, contains_any}
 use Rattle.clnp_base.proofs.Ranges.{all_by_each, each_of_all}
 use Rattle.reassembly.specs.declared.runs.Run.{Run}
-use Rattle.reassembly.specs.Runs.{AreJoined, cut, filled, filler, has_place, is_across, is_gap, is_hole, marked, named_in, renamed, unfilled}
+use Rattle.reassembly.specs.Runs.{AreJoined, cut, filled, filler, has_place, is_across, is_gap, is_hole, marked, named_in, renamed}
 
 -- whether a run has a place, as facts
 pub does_have : (place : ℕ) (run : Run) → has_place place run ≡ true → (run.from ≤ place) × (place < run.to)

@@ -1,5 +1,5 @@
 -- The runs of a table's openings, where an opening or a segment comes.
-use Rattle.std.proofs.Common.{◌≡◌, ◌≢◌, ◌⊎◌, ℕ, zero, suc, ◌+◌, ◌-◌, ◌*◌, ◌<◌, ◌≤◌, ◌==◌, ◌&&◌, not, nat_le, nat_lt, Bool, true, false, cond, List, [], ◌∷◌, ◌++◌, length, map, sum, Option, None, Some, inl, inr, refl, sym, ap, subst, ◌∙◌, arith, length-append}
+use Rattle.std.proofs.Common.{◌≡◌, ◌≢◌, ◌⊎◌, ℕ, zero, suc, ◌+◌, ◌-◌, ◌*◌, ◌<◌, ◌≤◌, ◌==◌, ◌&&◌, not, nat_le, nat_lt, Bool, true, false, cond, List, [], ◌∷◌, ◌++◌, length, map, sum, Option, None, Some, inl, inr, refl, sym, ap, subst, ◌∙◌, arith}
 use Rattle.std.specs.Prelude.{is_none, is_some, slice_get, slice_set}
 use Rattle.std.specs.List.{AllByRecursion, list_any, remove}
 use Rattle.std.proofs.lemmas.List.Edits.{length-remove}
@@ -26,9 +26,9 @@ use Rattle.reassembly.proofs.Givers.{covered-giver, giver-none, giver-other, giv
 use Rattle.reassembly.proofs.Ended.{segments_of-others}
 use Rattle.reassembly.proofs.Groups.{sum-of}
 use Rattle.reassembly.proofs.Keeping.{segments_of-other, segments_of-same}
-use Rattle.reassembly.proofs.Keys.{same_key-like, same_key-sym, same_key-true}
+use Rattle.reassembly.proofs.Keys.{same_key-like, same_key-true}
 use Rattle.reassembly.proofs.Run.{arrivals_of}
-use Rattle.reassembly.proofs.Slots.{no_segments, openings_of-other, openings_of-same}
+use Rattle.reassembly.proofs.Slots.{openings_of-other, openings_of-same}
 use Rattle.reassembly.proofs.Whole.{some_at}
 
 -- ---- keys are of one opening each

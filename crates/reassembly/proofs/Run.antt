@@ -1,16 +1,12 @@
 -- Whether a segment of a key has a place, and the kept segments of a key.
-use Rattle.std.proofs.Common.{◌≡◌, ℕ, ◌+◌, ◌-◌, ◌<◌, ◌≤◌, ◌&&◌, nat_le, nat_lt, Bool, true, false, List, length, get_or, take, map, option_map, inl, inr, refl, sym, ap, ◌∙◌, arith}
+use Rattle.std.proofs.Common.{◌≡◌, ℕ, ◌+◌, ◌-◌, ◌<◌, ◌≤◌, ◌&&◌, nat_le, nat_lt, Bool, true, List, map, option_map}
 use Rattle.std.specs.List.{find, list_any}
-use Rattle.std.proofs.lemmas.Bool.{and_from, and_parts, leb-true, ltb-true, le-leb, lt-ltb, cases_lt}
-use Rattle.std.proofs.lemmas.Bool.Decides.{nat_tests}
-use Rattle.std.proofs.lemmas.List.Folds.{list_any_at}
+use Rattle.std.proofs.lemmas.Bool.{and_parts, leb-true, ltb-true}
 use Rattle.clnp_views.specs.Extent.{Extent}
 use Rattle.reassembly.specs.declared.segment.Key.{Key}
 use Rattle.reassembly.specs.declared.segment.Segment.{Segment}
-use Rattle.reassembly.specs.Arrival.{Arrival, are_covered, arrival_of, earliest, has, is_covered, same_key}
+use Rattle.reassembly.specs.Arrival.{Arrival, arrival_of, earliest, has, is_covered, same_key}
 use Rattle.reassembly.specs.State.{segments_of}
-use Rattle.reassembly.proofs.Covered.{covered_by_each, each_covered}
-use Rattle.clnp_base.proofs.Found.{IsFirst, none_more, none_read}
 use Rattle.clnp_base.proofs.Maps.{find-map-filter, list_any-map-filter}
 
 -- whether a segment is one of the key and has the octet at a place

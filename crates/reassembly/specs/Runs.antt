@@ -1,5 +1,5 @@
 -- Runs of places of a unit's data: holes, and pieces that kept segments fill.
-use Rattle.std.specs.Prelude.{◌≡◌, ℕ, ◌+◌, ◌<◌, ◌&&◌, not, max, min, nat_le, nat_lt, Bool, if◌then◌else◌, List, [], ◌∷◌, length, map, sum, take, drop, filter, Option, None, Some, is_none, slice_get}
+use Rattle.std.specs.Prelude.{◌≡◌, ℕ, ◌<◌, ◌&&◌, not, max, min, nat_le, nat_lt, Bool, if◌then◌else◌, List, [], ◌∷◌, length, map, sum, take, drop, filter, Option, None, Some, is_none, slice_get}
 use Rattle.reassembly.specs.declared.runs.Run.{Run}
 
 -- the runs of each unit, and for how many units and runs there is room

@@ -1,13 +1,11 @@
 -- The runs that are handed out, and where the hole among them is cut.
-use Rattle.std.proofs.Common.{◌≡◌, ◌<◌, ◌≤◌, ◌+◌, ◌-◌, ◌++◌, length, get_or, take, drop, Some, None, refl, ap, sym, ◌∙◌, arith, length-append}
-use Rattle.std.specs.Prelude.{slice_set}
-use Rattle.std.specs.List.{insert, position_from}
-use Rattle.std.proofs.lemmas.List.{get_or_default, length-take, length-drop, get_or-take, get_or-drop, length-set}
-use Rattle.std.proofs.lemmas.List.Edits.{length-insert}
+use Rattle.std.proofs.Common.{◌≡◌, ◌+◌, ◌-◌, ◌++◌, length, take, drop, Some, ap, sym, ◌∙◌, arith}
+use Rattle.std.specs.List.{position_from}
+use Rattle.std.proofs.lemmas.List.{length-take, length-drop}
 use Rattle.clnp_base.proofs.Found.{is_first}
-use Rattle.reassembly.specs.Runs.{cut, is_across}
+use Rattle.reassembly.specs.Runs.{is_across}
 use Rattle.reassembly.proofs.Opened.{none_since}
-use Rattle.reassembly.proofs.Groups.{cut_counted, cut_inside, cut_missing, insert_inside, parted, set_inside}
+use Rattle.reassembly.proofs.Groups.{cut_counted, cut_inside, cut_missing, parted}
 use Rattle.reassembly.proofs.runs.cut_hole.Goals as goal
 
 pub returns-in_default-clause-items : goal.returns-in_default-clause-items

@@ -1,8 +1,7 @@
 -- One run more has the other index.
-use Rattle.std.proofs.Common.{◌≡◌, ◌<◌, get_or, length, ap, refl, ◌∙◌, sym, arith}
+use Rattle.std.proofs.Common.{◌<◌, length, arith}
 use Rattle.std.proofs.lemmas.List.Edits.{map_over_more}
 use Rattle.std.proofs.lemmas.List.{get_or_default}
-use Rattle.reassembly.specs.declared.runs.Run.{Run}
 use Rattle.reassembly.specs.Runs.{renamed}
 use Rattle.reassembly.proofs.runs.rename_all.Goals as goal
 

@@ -1,7 +1,6 @@
 -- A part of the sum is no more than the sum.
-use Rattle.std.proofs.Common.{arith, get_or, length, sum, take, ◌<◌, ◌≤◌, ◌+◌}
+use Rattle.std.proofs.Common.{arith, length, ◌<◌}
 use Rattle.reassembly.proofs.Groups.{sum_before}
-use Rattle.reassembly.proofs.Indexing.{opened_index}
 use Rattle.reassembly.proofs.runs.start_of.Goals as goal
 
 pub overflow_add-start : goal.overflow_add-start

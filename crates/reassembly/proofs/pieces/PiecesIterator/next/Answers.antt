@@ -1,11 +1,9 @@
 -- A run of the unit is a piece of the earliest segment that has its places, and the rest follows.
-use Rattle.std.proofs.Common.{rules, ◌≡◌, ℕ, ◌+◌, ◌-◌, ◌<◌, ◌≤◌, ◌++◌, ◌∷◌, Some, None, get_or, length, length-append, map, refl, sym, ap, subst, ◌∙◌, arith}
-use Rattle.std.specs.Prelude.{List, is_some, slice_get}
+use Rattle.std.proofs.Common.{rules, ◌≡◌, ℕ, ◌-◌, ◌<◌, ◌≤◌, ◌++◌, ◌∷◌, Some, None, get_or, length, length-append, map, refl, sym, ap, subst, ◌∙◌, arith}
+use Rattle.std.specs.Prelude.{is_some}
 use Rattle.std.specs.List.{range_with_len}
 use Rattle.std.proofs.lemmas.Bool.{both_ways}
 use Rattle.std.proofs.lemmas.List.FromFn.{length-map-range_with_len}
-use Rattle.std.proofs.lemmas.Option.{slice_get-get_or}
-use Rattle.reassembly.specs.declared.runs.Run.{Run}
 use Rattle.reassembly.specs.Arrival.{arrival_of, is_covered, octet_in}
 use Rattle.reassembly.specs.Offered.{MayCome}
 use Rattle.reassembly.specs.Runs.{AreJoined, filler}

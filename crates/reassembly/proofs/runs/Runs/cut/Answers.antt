@@ -1,8 +1,8 @@
 -- The group of the unit, where a hole is cut, stands between the others.
-use Rattle.std.proofs.Common.{◌≡◌, ◌≢◌, ◌<◌, ◌≤◌, ◌+◌, ◌-◌, ◌++◌, ◌∷◌, [], length, get_or, sum, map, take, drop, Some, refl, ap, sym, subst, ◌∙◌, arith, length-append}
+use Rattle.std.proofs.Common.{length, sum, take, drop, ap, ◌∙◌, arith}
 use Rattle.std.specs.Prelude.{slice_set}
-use Rattle.std.proofs.lemmas.List.{get_or_default, length-map, with_items_is}
-use Rattle.reassembly.specs.Runs.{cut, filled, marked, renamed, unfilled, total_runs}
+use Rattle.std.proofs.lemmas.List.{get_or_default}
+use Rattle.reassembly.specs.Runs.{cut}
 use Rattle.reassembly.proofs.Groups.{inside, fits, number, group_is, replaced, replaced_sum}
 use Rattle.reassembly.proofs.runs.Runs.cut.Goals as goal
 

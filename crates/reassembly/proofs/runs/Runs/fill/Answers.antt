@@ -1,5 +1,5 @@
 -- The group of the unit is cut twice, and then marked.
-use Rattle.std.proofs.Common.{◌≡◌, ◌<◌, ◌≤◌, ◌+◌, length, map, Some, ap, sym, ◌∙◌, arith}
+use Rattle.std.proofs.Common.{length, map, ap, ◌∙◌, arith}
 use Rattle.std.specs.Prelude.{slice_get, slice_set}
 use Rattle.std.proofs.lemmas.List.{length-set}
 use Rattle.clnp_base.proofs.Lists.{slice_get-set, slice_get_some}

@@ -1,6 +1,6 @@
 -- The runs of a group are a part of the list.
-use Rattle.std.proofs.Common.{◌≡◌, ◌<◌, ◌≤◌, ◌+◌, ◌-◌, length, get_or, sum, take, drop, Some, ap, sym, ◌∙◌, arith}
-use Rattle.std.proofs.lemmas.List.{get_or_default, length-map, with_items_is}
+use Rattle.std.proofs.Common.{◌≡◌, ◌+◌, ◌-◌, length, sum, take, drop, Some, ap, sym, ◌∙◌, arith}
+use Rattle.std.proofs.lemmas.List.{get_or_default}
 use Rattle.reassembly.proofs.Groups.{group_there, inside, fits}
 use Rattle.reassembly.proofs.runs.Runs.group.Goals as goal
 

@@ -1,10 +1,10 @@
 -- The group of the unit, marked, stands between the others.
-use Rattle.std.proofs.Common.{◌≡◌, ◌≢◌, ◌<◌, ◌≤◌, ◌+◌, ◌-◌, ◌++◌, ◌∷◌, [], length, get_or, sum, map, take, drop, Some, refl, ap, sym, subst, ◌∙◌, arith, length-append}
+use Rattle.std.proofs.Common.{◌≡◌, ◌+◌, ◌-◌, ◌++◌, length, sum, map, take, drop, ap, sym, ◌∙◌, arith}
 use Rattle.std.proofs.lemmas.List.{get_or_default, length-map, set-get_or, with_items_is}
 use Rattle.std.specs.Prelude.{List, slice_set}
 use Rattle.clnp_base.proofs.Lists.{length_part}
 use Rattle.reassembly.specs.declared.runs.Run.{Run}
-use Rattle.reassembly.specs.Runs.{groups_of, cut, filled, marked, renamed, unfilled, total_runs}
+use Rattle.reassembly.specs.Runs.{groups_of, marked}
 use Rattle.reassembly.proofs.Groups.{inside, fits, group_is, replaced, replaced_sum}
 use Rattle.reassembly.proofs.runs.Runs.mark.Goals as goal
 

@@ -1,7 +1,6 @@
 -- The hole stands behind the others.
-use Rattle.std.proofs.Common.{◌≡◌, ◌≢◌, ◌<◌, ◌≤◌, ◌+◌, ◌-◌, ◌++◌, ◌∷◌, [], length, get_or, sum, map, take, drop, Some, refl, ap, sym, subst, ◌∙◌, arith, length-append}
-use Rattle.std.proofs.lemmas.List.{get_or_default, length-map, with_items_is}
-use Rattle.reassembly.specs.Runs.{cut, filled, marked, renamed, unfilled, total_runs}
+use Rattle.std.proofs.Common.{length, ap, arith}
+use Rattle.reassembly.specs.Runs.{unfilled}
 use Rattle.reassembly.proofs.Groups.{number, length-groups, pushed}
 use Rattle.reassembly.proofs.runs.Runs.open.Goals as goal
 

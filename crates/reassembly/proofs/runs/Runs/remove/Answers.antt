@@ -1,8 +1,7 @@
 -- The group of the unit is taken out between the others.
-use Rattle.std.proofs.Common.{◌≡◌, ◌≢◌, ◌<◌, ◌≤◌, ◌+◌, ◌-◌, ◌++◌, ◌∷◌, [], length, get_or, sum, map, take, drop, Some, refl, ap, sym, subst, ◌∙◌, arith, length-append}
-use Rattle.std.proofs.lemmas.List.{get_or_default, length-map, with_items_is}
-use Rattle.reassembly.specs.Runs.{cut, filled, marked, renamed, unfilled, total_runs}
-use Rattle.reassembly.proofs.Groups.{inside, fits, taken, taken_sum}
+use Rattle.std.proofs.Common.{length, sum, take, ap, ◌∙◌, arith}
+use Rattle.std.proofs.lemmas.List.{get_or_default}
+use Rattle.reassembly.proofs.Groups.{inside, fits, taken}
 use Rattle.reassembly.proofs.runs.Runs.remove.Goals as goal
 
 pub start_of-start-requires-clause-slot : goal.start_of-start-requires-clause-slot

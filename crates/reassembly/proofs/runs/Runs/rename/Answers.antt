@@ -1,7 +1,7 @@
 -- Each group is renamed.
-use Rattle.std.proofs.Common.{◌≡◌, ◌≢◌, ◌<◌, ◌≤◌, ◌+◌, ◌-◌, ◌++◌, ◌∷◌, [], length, get_or, sum, map, take, drop, Some, refl, ap, sym, subst, ◌∙◌, arith, length-append}
-use Rattle.std.proofs.lemmas.List.{get_or_default, length-map, with_items_is}
-use Rattle.reassembly.specs.Runs.{cut, filled, marked, renamed, unfilled, total_runs}
+use Rattle.std.proofs.Common.{length, map, ap, ◌∙◌, arith}
+use Rattle.std.proofs.lemmas.List.{length-map, with_items_is}
+use Rattle.reassembly.specs.Runs.{renamed}
 use Rattle.reassembly.proofs.Groups.{mapped}
 use Rattle.reassembly.proofs.runs.Runs.rename.Goals as goal
 

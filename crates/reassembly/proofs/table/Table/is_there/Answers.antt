@@ -1,16 +1,13 @@
 -- A place is covered exactly where a run fills it.
-use Rattle.std.proofs.Common.{◌≡◌, ◌<◌, ◌≤◌, ◌==◌, ℕ, Bool, List, not, length, map, Some, None, ap, sym, subst, ◌∙◌, arith}
+use Rattle.std.proofs.Common.{◌≡◌, ℕ, List, not, length, map, Some, ap, sym, subst, ◌∙◌, arith}
 use Rattle.std.specs.Prelude.{slice_get}
-use Rattle.std.specs.List.{AllByRecursion, list_any}
+use Rattle.std.specs.List.{AllByRecursion}
 use Rattle.std.proofs.lemmas.Option.{slice_get_within}
 use Rattle.reassembly.specs.declared.segment.Key.{Key}
 use Rattle.reassembly.specs.declared.segment.Segment.{Segment}
-use Rattle.reassembly.specs.declared.segment.Shape.{Shape}
-use Rattle.reassembly.specs.declared.table.Opening.{Opening}
 use Rattle.reassembly.specs.Arrival.{are_covered, arrival_of, data_len}
 use Rattle.reassembly.specs.Offered.{openings_of}
-use Rattle.reassembly.specs.Runs.{is_gap}
-use Rattle.reassembly.specs.State.{TableState, segments_of, slot_of}
+use Rattle.reassembly.specs.State.{TableState}
 use Rattle.reassembly.proofs.Indexing.{empty_cover, gap_tells_cover}
 use Rattle.reassembly.proofs.Run.{arrivals_of}
 use Rattle.reassembly.proofs.Slots.{no_segments, slot_missing, slot_there}

@@ -1,5 +1,4 @@
 use Rattle.std.proofs.Common.{◌≡◌, ◌+◌, ◌<◌, ◌≤◌, List, [], ◌∷◌, ◌++◌, Bool, not, cond, zero-add, length, map, sym, ap, subst, refl, ◌∙◌, arith}
-use Rattle.reassembly.specs.declared.segment.Segment.{Segment}
 use Rattle.reassembly.specs.declared.table.Opening.{Opening}
 use Rattle.reassembly.specs.Arrival.{arrival_of, are_covered, data_len}
 use Rattle.reassembly.specs.Buffer.{Held, Whole, with_kept}

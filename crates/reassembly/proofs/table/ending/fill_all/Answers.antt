@@ -7,12 +7,11 @@ use Rattle.clnp_base.proofs.Lists.{AllByRecursion-front, AllByRecursion-read, Al
 use Rattle.reassembly.specs.declared.runs.Run.{Run}
 use Rattle.reassembly.specs.declared.table.Opening.{Opening}
 use Rattle.reassembly.specs.declared.segment.Segment.{Segment}
-use Rattle.reassembly.specs.Arrival.{arrival_of, data_len}
+use Rattle.reassembly.specs.Arrival.{data_len}
 use Rattle.reassembly.specs.Index.{IsIndexOf}
 use Rattle.reassembly.specs.Offered.{openings_of}
 use Rattle.reassembly.specs.Runs.{filled}
 use Rattle.reassembly.proofs.Indexing.{kept_index, total_few}
-use Rattle.reassembly.proofs.Opened.{none_since}
 use Rattle.reassembly.proofs.Refusing.{slot_within}
 use Rattle.reassembly.proofs.Slots.{slot_missing, slot_there}
 use Rattle.reassembly.proofs.table.ending.fill_all.Goals as goal

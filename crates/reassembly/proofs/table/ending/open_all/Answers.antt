@@ -1,5 +1,5 @@
 -- One opening more.
-use Rattle.std.proofs.Common.{◌≡◌, ◌+◌, ◌<◌, ◌++◌, ◌∷◌, [], length, take, refl, ap, sym, subst, ◌∙◌, arith}
+use Rattle.std.proofs.Common.{◌≡◌, ◌+◌, ◌<◌, ◌++◌, ◌∷◌, [], take, refl, ap, sym, subst, ◌∙◌, arith}
 use Rattle.std.specs.Prelude.{List}
 use Rattle.std.proofs.lemmas.List.{length-take, take_more}
 use Rattle.clnp_base.proofs.Lists.{AllByRecursion-read}
