@@ -96,7 +96,7 @@ numbers_of [] = refl
 numbers_of (segment ∷ others) =
     let rest = numbers_of others in let add = sum-cons 1 (map (λ (segment : Segment). 1) others) in omega arith
 
-ones : (segments : List Segment) → sum (map (λ (segment : Segment). 1) segments) ≡ length segments
+pub ones : (segments : List Segment) → sum (map (λ (segment : Segment). 1) segments) ≡ length segments
 ones [] = refl
 ones (segment ∷ others) = let rest = ones others in let add = sum-cons 1 (map (λ (segment : Segment). 1) others) in omega arith
 

@@ -1,23 +1,9 @@
 -- Places that segments cover.
-use Rattle.std.proofs.Common.{arith, ◌≡◌, ℕ, ◌+◌, ◌-◌, ◌<◌, ◌≤◌, true, List, sym, ◌∙◌, refl}
-use Rattle.std.proofs.lemmas.Bool.{and_from, and_parts}
+use Rattle.std.proofs.Common.{arith, ◌≡◌, ℕ, ◌+◌, ◌-◌, ◌<◌, ◌≤◌, true, List}
 use Rattle.reassembly.specs.Arrival.{Arrival, are_covered, is_covered}
-use Rattle.clnp_base.proofs.Ranges.{all-range-add, all_by_each, each_of_all}
+use Rattle.clnp_base.proofs.Ranges.{all_by_each, each_of_all}
 
 module _ {C : Type 0} where
-  -- places that are covered, cut at a place
-  pub covered_split : (xs : List (Arrival C)) (from a b : ℕ) → are_covered xs from (a + b) ≡ true
-      → (are_covered xs from a ≡ true) × (are_covered xs (from + a) b ≡ true)
-  covered_split xs from a b all =
-      and_parts (are_covered xs from a) (are_covered xs (from + a) b)
-      (sym (all-range-add (is_covered xs) from a (from + a) b (a + b) refl refl) ∙ all)
-
-  pub covered_join : (xs : List (Arrival C)) (from a b : ℕ) → are_covered xs from a ≡ true → are_covered xs (from + a) b ≡ true
-      → are_covered xs from (a + b) ≡ true
-  covered_join xs from a b first second =
-      all-range-add (is_covered xs) from a (from + a) b (a + b) refl refl
-      ∙ and_from (are_covered xs from a) (are_covered xs (from + a) b) first second
-
   -- places that are covered, one by one
   pub covered_by_each : (xs : List (Arrival C)) (from len : ℕ)
       → ((place : ℕ) → from ≤ place → place < from + len → is_covered xs place ≡ true) → are_covered xs from len ≡ true

@@ -52,8 +52,8 @@ module _ (openings : List Opening) (slot : ℕ) (opening : Opening) (at : slice_
     distinct = subst (AllByRecursion (λ o. openings_of o.key (remove openings slot) ≡ 1)) (sym remove-slot)
         (AllByRecursion-filter (λ o. not (same_key o.key key)) (λ o. openings_of o.key openings ≡ 1) (λ o. openings_of o.key (remove openings slot) ≡ 1)
         (λ o t once. openings_of-others o.key (not-true (same_key o.key key) t) ∙ once) openings h.distinct);
-    shaped = subst (AllByRecursion (λ o. o.shape.head_len ≤ o.shape.total)) (sym remove-slot)
-        (AllByRecursion-filter (λ o. not (same_key o.key key)) (λ o. o.shape.head_len ≤ o.shape.total) (λ o. o.shape.head_len ≤ o.shape.total)
+    shaped = subst (AllByRecursion (λ o. o.shape.head_len < o.shape.total)) (sym remove-slot)
+        (AllByRecursion-filter (λ o. not (same_key o.key key)) (λ o. o.shape.head_len < o.shape.total) (λ o. o.shape.head_len < o.shape.total)
         (λ o t k. k) openings h.shaped);
     owned = AllByRecursion-filter (λ s. not (same_key s.key key)) (λ s. openings_of s.key openings ≡ 1) (λ s. openings_of s.key (remove openings slot) ≡ 1)
         (λ s t once. openings_of-others s.key (not-true (same_key s.key key) t) ∙ once) segments h.owned;

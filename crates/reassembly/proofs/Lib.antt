@@ -1,12 +1,14 @@
 pub mod Closing
 pub mod Counted
-pub mod Counting
 pub mod Covered
 pub mod Due
 pub mod Ended
 pub mod Endings
 pub mod Expiring
-pub mod Gap
+pub mod Filling
+pub mod Givers
+pub mod Groups
+pub mod Indexing
 pub mod Keeping
 pub mod Keys
 pub mod LawBuffers

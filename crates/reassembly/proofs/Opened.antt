@@ -67,12 +67,12 @@ all_still_one key_of openings opening (x ∷ xs) none all =
 -- a table with an opening more
 pub sound_opened : (limits : TableLimits) (openings : List Opening) (segments : List Segment) (held : ℕ) (opening : Opening)
     → IsSound limits openings segments held → openings_of opening.key openings ≡ 0 → length openings < limits.slots
-    → opening.shape.head_len ≤ opening.shape.total → IsSound limits (openings ++ opening ∷ []) segments held
+    → opening.shape.head_len < opening.shape.total → IsSound limits (openings ++ opening ∷ []) segments held
 sound_opened limits openings segments held opening sound none room shaped = record {
   distinct = all_push (λ other. openings_of other.key (openings ++ opening ∷ []) ≡ 1) openings opening
       (all_still_one (λ (other : Opening). other.key) openings opening openings none sound.distinct)
       (openings_of-itself openings opening none);
-  shaped = all_push (λ other. other.shape.head_len ≤ other.shape.total) openings opening sound.shaped shaped;
+  shaped = all_push (λ other. other.shape.head_len < other.shape.total) openings opening sound.shaped shaped;
   owned = all_still_one (λ (segment : Segment). segment.key) openings opening segments none sound.owned;
   came = sound.came;
   held_is = sound.held_is;

@@ -2,9 +2,11 @@ pub mod Arrival
 pub mod Buffer
 pub mod Claims
 pub mod Ending
+pub mod Index
 pub mod Kept
 pub mod Mapped
 pub mod NoWhole
 pub mod Offered
+pub mod Runs
 pub mod Sound
 pub mod State

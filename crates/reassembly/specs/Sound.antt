@@ -6,11 +6,11 @@ use Rattle.reassembly.specs.declared.table.TableLimits.{TableLimits}
 use Rattle.reassembly.specs.declared.table.Opening.{Opening}
 use Rattle.reassembly.specs.Offered.{MayCome, openings_of, total_size}
 
--- No two openings have one key, each is of a unit with room for its header, each segment has its opening and may come,
+-- No two openings have one key, each is of a unit with data, each segment has its opening and may come,
 -- and no number of the limits is passed, each of which fits its type.
 pub record IsSound (limits : TableLimits) (openings : List Opening) (segments : List Segment) (held : ℕ) : Type 0 where
   pub distinct : AllByRecursion (λ opening. openings_of opening.key openings ≡ 1) openings
-  pub shaped : AllByRecursion (λ opening. opening.shape.head_len ≤ opening.shape.total) openings
+  pub shaped : AllByRecursion (λ opening. opening.shape.head_len < opening.shape.total) openings
   pub owned : AllByRecursion (λ segment. openings_of segment.key openings ≡ 1) segments
   pub came : AllByRecursion MayCome segments
   pub held_is : held ≡ total_size segments

@@ -2,9 +2,9 @@
 //! (ISO/IEC 8473, sections 6.8 and 6.9).
 #![tactic(auto)]
 
-mod coverage;
 pub mod laws;
 mod pieces;
+mod runs;
 mod segment;
 mod table;
 

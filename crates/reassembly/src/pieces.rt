@@ -1,13 +1,15 @@
 //! The data of a whole unit, piece by piece.
-ghost use Rattle.std.specs.Prelude.{◌≡◌, ◌++◌, ◌<◌, [], length, map, true, MatchOption};
+ghost use Rattle.std.specs.Prelude.{◌≡◌, ◌++◌, ◌<◌, ℕ, [], length, map, true, MatchOption};
 ghost use Rattle.std.specs.Iterator.{item_count};
 ghost use Rattle.std.specs.List.{AllByRecursion, range_with_len};
 ghost use Rattle.reassembly.specs.Arrival.{are_covered, arrival_of, earliest, octet_in};
 ghost use Rattle.reassembly.specs.Buffer.{octet_by};
+ghost use Rattle.reassembly.specs.Index.{giver};
 ghost use Rattle.reassembly.specs.Offered.{MayCome};
+ghost use Rattle.reassembly.specs.Runs.{AreJoined, filler};
 ghost use Rattle.reassembly.specs.State.{segments_of};
 
-use crate::coverage::{first_with, run_end};
+use crate::runs::Run;
 use crate::segment::{Key, Segment};
 use std::marker::Model;
 
@@ -17,17 +19,20 @@ use std::marker::Model;
 #[derive(Drop)]
 pub struct Pieces<'a> {
     segments: &'a [Segment],
+    runs: &'a [Run],
     key: Key,
     place: usize,
     end: usize,
 }
 
 impl<'a> Model for Pieces<'a> {
-    ghost use Rattle.std.specs.Prelude.{◌≡◌, ◌-◌, ◌≤◌, ℕ, List, map, true};
+    ghost use Rattle.std.specs.Prelude.{◌≡◌, ◌-◌, ◌<◌, ◌≤◌, ℕ, List, map, true};
     ghost use Rattle.std.specs.List.{AllByRecursion, range_with_len};
     ghost use Rattle.reassembly.specs.Arrival.{are_covered, arrival_of, earliest, octet_in};
     ghost use Rattle.reassembly.specs.Buffer.{octet_by};
+    ghost use Rattle.reassembly.specs.Index.{giver};
     ghost use Rattle.reassembly.specs.Offered.{MayCome};
+    ghost use Rattle.reassembly.specs.Runs.{AreJoined, filler};
     ghost use Rattle.reassembly.specs.State.{segments_of};
 
     ghost Value = { List ℕ };
@@ -36,18 +41,23 @@ impl<'a> Model for Pieces<'a> {
         (range_with_len p.place (p.end - p.place)) };
 
     ghost invariant = { λ p. (p.place ≤ p.end) × AllByRecursion MayCome p.segments.now
-        × (are_covered (map arrival_of (segments_of p.key p.segments.now)) p.place (p.end - p.place) ≡ true) };
+        × (are_covered (map arrival_of (segments_of p.key p.segments.now)) p.place (p.end - p.place) ≡ true)
+        × AreJoined p.place p.end p.runs.now
+        × ((at : ℕ) → p.place ≤ at → at < p.end → filler at p.runs.now ≡ giver p.key at p.segments.now) };
 }
 
 impl<'a> Pieces<'a> {
-    /// The data of the unit whose segments are those of the key, which cover `end` places.
-    pub(crate) fn new(segments: &'a [Segment], key: Key, end: usize) -> Pieces<'a>
+    /// The data of the unit whose segments are those of the key, which cover `end` places, by its runs.
+    pub(crate) fn new(segments: &'a [Segment], runs: &'a [Run], key: Key, end: usize) -> Pieces<'a>
         requires came { AllByRecursion MayCome segments.now }
         requires covered { are_covered (map arrival_of (segments_of key segments.now)) 0 end ≡ true }
+        requires joined { AreJoined 0 end runs.now }
+        requires filled { (at : ℕ) → at < end → filler at runs.now ≡ giver key at segments.now }
         ensures { result ≡ map (λ place. octet_by octet_in place (earliest (map arrival_of (segments_of key segments.now)) place)) (range_with_len 0 end) }
     {
         Pieces {
             segments,
+            runs,
             key,
             place: 0,
             end,
@@ -65,15 +75,16 @@ impl<'a> Iterator for Pieces<'a> {
     ghost remaining = { item_count (λ left. left) };
 
     fn next(&mut self) -> Option<&'a [u8]> {
-        if self.place == self.end {
-            return None;
-        }
-        let Some(index) = first_with(self.segments, &self.key, self.place) else {
+        let Some((run, rest)) = self.runs.split_first() else {
             return None;
         };
-        let end = run_end(self.segments, &self.key, index, self.place).min(self.end);
-        let piece = self.segments[index].octets(self.place, end - self.place);
-        self.place = end;
+        let Some(by) = run.by else {
+            return None;
+        };
+        let len = usize::from(run.to - run.from);
+        let piece = self.segments[usize::from(by)].octets(usize::from(run.from), len);
+        self.runs = rest;
+        self.place = usize::from(run.to);
         Some(piece)
     }
 }

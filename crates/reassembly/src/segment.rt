@@ -1,7 +1,7 @@
 //! Segments of data units.
-ghost use Rattle.std.specs.Prelude.{◌≡◌, ◌+◌, ◌<◌, ◌≤◌, ◌^◌, map};
+ghost use Rattle.std.specs.Prelude.{◌≡◌, ◌+◌, ◌≤◌, map};
 ghost use Rattle.std.specs.List.{range_with_len};
-ghost use Rattle.reassembly.specs.Arrival.{arrival_of, data_len, has, octet_in, same_key};
+ghost use Rattle.reassembly.specs.Arrival.{arrival_of, data_len, octet_in, same_key};
 ghost use Rattle.reassembly.specs.Offered.{MayCome};
 
 use clnp_views::View;
@@ -38,11 +38,11 @@ pub struct Shape {
 
 impl Shape {
     /// How many octets of data the unit has.
-    pub(crate) fn data_len(self) -> usize
+    pub(crate) fn data_len(self) -> u16
         requires { self.head_len ≤ self.total }
         ensures { result ≡ data_len self }
     {
-        usize::from(self.total - u16::from(self.head_len))
+        self.total - u16::from(self.head_len)
     }
 }
 
@@ -61,33 +61,24 @@ pub struct Segment {
 
 impl Segment {
     /// How many octets of data it has.
-    pub(crate) fn data_len(&self) -> usize
+    pub(crate) fn data_len(&self) -> u16
         requires { MayCome self.now }
-        ensures len { result ≡ (arrival_of self.now).len }
-        ensures few { result < 2 ^ 16 }
+        ensures { result ≡ (arrival_of self.now).len }
     {
         // Read for its range: no segment has more than its unit.
         let _total = self.shape.total;
-        self.pdu.len() - usize::from(self.shape.head_len)
+        (self.pdu.len() - usize::from(self.shape.head_len)) as u16
     }
 
     /// The place behind its last octet in the unit's data.
-    pub(crate) fn end(&self) -> usize
+    pub(crate) fn end(&self) -> u16
         requires { MayCome self.now }
         ensures end { result ≡ self.now.offset + (arrival_of self.now).len }
         ensures within { result ≤ data_len self.now.shape }
     {
         // Read for its range: no place of the unit's data is past it.
         let _total = self.shape.total;
-        usize::from(self.offset) + self.data_len()
-    }
-
-    /// Whether it has the octet at a place of the unit's data.
-    pub(crate) fn has(&self, place: usize) -> bool
-        requires { MayCome self.now }
-        ensures { result ≡ has place (arrival_of self.now) }
-    {
-        usize::from(self.offset) <= place && place < self.end()
+        self.offset + self.data_len()
     }
 
     /// Its octets at `len` places of the unit's data from `place`.

@@ -2,7 +2,7 @@
 ghost use Rattle.std.specs.Prelude.{◌≡◌, ◌≢◌, ◌+◌, ◌<◌, ◌≤◌, ◌^◌, ◌&&◌, ℕ, List, [], length, map, min, nat_le, false, true, if◌then◌else◌, IfNone, IfOk, IfSome, MatchOption, None, Some, is_none, option_map, slice_get};
 ghost use Rattle.std.specs.List.{AllByRecursion};
 ghost use Rattle.clnp_views.specs.Extent.{Extent};
-ghost use Rattle.reassembly.specs.Arrival.{are_covered, arrival_of, data_len, octet_in, same_shape};
+ghost use Rattle.reassembly.specs.Arrival.{are_covered, arrival_of, octet_in, same_shape};
 ghost use Rattle.reassembly.specs.Buffer as buffer;
 ghost use Rattle.reassembly.specs.Buffer.{Buffer};
 ghost use Rattle.reassembly.specs.Kept.{with_opening};
@@ -10,8 +10,8 @@ ghost use Rattle.reassembly.specs.NoWhole.{HasNoWhole, IsCompleted};
 ghost use Rattle.reassembly.specs.Offered.{MayCome, openings_of};
 ghost use Rattle.reassembly.specs.State.{IsReady, IsWholeSlot, MayKeep, Names, Stands, said, segments_of, slot_of, was_kept};
 
-use crate::coverage::{first_gap, has_octets};
 use crate::pieces::Pieces;
+use crate::runs::{Runs, has_gap};
 use crate::segment::{Key, Segment, Shape};
 use clnp_base::NoMemory;
 use clnp_views::View;
@@ -73,8 +73,8 @@ pub struct Opening {
     deadline: u64,
 }
 
-/// Reassembly buffers: the open ones in the order of their opening, and the segments of all of them in the order in
-/// which they came.
+/// Reassembly buffers: the open ones in the order of their opening, the segments of all of them in the order in which
+/// they came, and for each open one the runs of its places.
 ///
 /// A contract sees what the table keeps; `Stands` says which buffers it stands for.
 #[derive(Debug, Drop)]
@@ -82,12 +82,16 @@ pub struct Table {
     limits: TableLimits,
     openings: Vec<Opening>,
     segments: Vec<Segment>,
+    runs: Runs,
+    /// Room for other indices of the segments.
+    names: Vec<u16>,
     held: u32,
 }
 
 impl Model for Table {
     ghost use Rattle.std.specs.Prelude.{◌≤◌, vec_capacity};
     ghost use Rattle.reassembly.specs.State.{TableState};
+    ghost use Rattle.reassembly.specs.Index.{IsIndexed};
     ghost use Rattle.reassembly.specs.Sound.{IsSound};
 
     ghost Value = { TableState };
@@ -96,7 +100,8 @@ impl Model for Table {
 
     // Room for all that the limits allow was reserved when the table was made.
     ghost invariant = { λ t. IsSound t.limits t.openings.items t.segments.items t.held
-        × (t.limits.slots ≤ vec_capacity t.openings) × (t.limits.segments ≤ vec_capacity t.segments) };
+        × (t.limits.slots ≤ vec_capacity t.openings) × (t.limits.segments ≤ vec_capacity t.segments)
+        × IsIndexed t.limits t.openings.items t.segments.items t.runs (vec_capacity t.names) };
 }
 
 impl Table {
@@ -116,10 +121,17 @@ impl Table {
         let Ok(segments) = Vec::with_capacity(alloc, usize::from(limits.segments)) else {
             return Err(NoMemory);
         };
+        let Ok(names) = Vec::with_capacity(alloc, usize::from(limits.segments)) else {
+            return Err(NoMemory);
+        };
+        let room = 2 * usize::from(limits.segments) + usize::from(limits.slots);
+        let runs = Runs::new(alloc, usize::from(limits.slots), room)?;
         Ok(Table {
             limits,
             openings,
             segments,
+            runs,
+            names,
             held: 0,
         })
     }
@@ -168,14 +180,14 @@ impl Table {
             let offered = segment.shape;
             return Some(Accept::Interference { kept, offered });
         }
-        if is_there(&self.segments, segment) {
+        let held = self.held;
+        if self.is_there(slot, segment) {
             return Some(Accept::Repeat);
         }
         if self.lacks_slot(slot) {
             let live = self.live();
             return Some(Accept::NoSlot { live });
         }
-        let held = self.held;
         let size = segment.pdu.frame_len() as u32;
         if size > self.limits.budget - held {
             return Some(Accept::Crowded { held, size });
@@ -195,6 +207,22 @@ impl Table {
     {
         let kept = self.openings[slot?].shape;
         if kept == shape { None } else { Some(kept) }
+    }
+
+    /// Whether each octet of a segment is there, which the buffer of its key has at this place.
+    fn is_there(&self, slot: Option<usize>, segment: &Segment) -> bool
+        requires offered { MayCome segment.now }
+        requires slot { slot_of segment.now.key self.now.openings ≡ slot }
+        requires shape { (place : ℕ) (opening : Opening) → slot ≡ Some place → slice_get self.now.openings place ≡ Some opening
+            → opening.shape ≡ segment.now.shape }
+        ensures { result ≡ are_covered (map arrival_of (segments_of segment.now.key self.now.segments)) segment.now.offset (arrival_of segment.now).len }
+    {
+        let from = segment.offset;
+        let to = segment.end();
+        match slot {
+            Some(slot) => !has_gap(self.runs.group(slot), from, to),
+            None => from == to,
+        }
     }
 
     /// Whether there is no buffer at this place, and none is free.
@@ -218,16 +246,17 @@ impl Table {
         ensures limits { self.new.limits ≡ self.old.limits }
     {
         let slot = self.slot_for(now, &segment);
-        let key = segment.key;
         let shape = segment.shape;
         self.held += segment.pdu.frame_len() as u32;
+        let index = self.segments.len() as u16;
+        self.runs.fill(slot, segment.offset, segment.end(), index);
         let Ok(()) = self.segments.push(segment) else {
             unreachable!()
         };
-        if is_whole(&self.segments, &key, shape) {
-            Accept::Whole(SlotNo(slot))
-        } else {
+        if has_gap(self.runs.group(slot), 0, shape.data_len()) {
             Accept::Held
+        } else {
+            Accept::Whole(SlotNo(slot))
         }
     }
 
@@ -236,8 +265,11 @@ impl Table {
         requires moment { now < 2 ^ 62 }
         requires offered { MayCome segment.now }
         requires room { openings_of segment.now.key self.old.openings ≡ 0 → length self.old.openings < self.old.limits.slots }
+        requires same_unit { (slot : ℕ) (opening : Opening) → slot_of segment.now.key self.old.openings ≡ Some slot
+            → slice_get self.old.openings slot ≡ Some opening → opening.shape ≡ segment.now.shape }
         ensures opened { self.new ≡ with_opening now segment.now self.old }
         ensures named { Names self.new result segment.now.key }
+        ensures shaped { (opening : Opening) → slice_get self.new.openings result ≡ Some opening → opening.shape ≡ segment.now.shape }
         ensures distinct { AllByRecursion (λ opening. openings_of opening.key self.old.openings ≡ 1) self.old.openings }
         ensures owned { AllByRecursion (λ other. openings_of other.key self.old.openings ≡ 1) self.old.segments }
     {
@@ -253,6 +285,7 @@ impl Table {
         let Ok(()) = self.openings.push(opening) else {
             unreachable!()
         };
+        self.runs.open(segment.shape.data_len());
         slot
     }
 
@@ -264,7 +297,8 @@ impl Table {
             → result ≡ buffer.data_of octet_in whole }
     {
         let opening = self.openings[slot.0];
-        Pieces::new(&self.segments, opening.key, opening.shape.data_len())
+        let end = usize::from(opening.shape.data_len());
+        Pieces::new(&self.segments, self.runs.group(slot.0), opening.key, end)
     }
 
     /// How many octets are held: of the whole frames in which kept segments came.
@@ -295,8 +329,15 @@ impl Table {
     fn slot_of(&self, key: &Key) -> Option<usize>
         ensures { result ≡ slot_of key.now self.now.openings }
     {
-        self.openings.iter().position(|opening| opening.key.is(key))
+        slot_of(&self.openings, key)
     }
+}
+
+/// The place of the opening of a key.
+fn slot_of(openings: &[Opening], key: &Key) -> Option<usize>
+    ensures { result ≡ slot_of key.now openings.now }
+{
+    openings.iter().position(|opening| opening.key.is(key))
 }
 
 /// The moment from which the time of a buffer has ended that a segment of this lifetime opens.
@@ -305,26 +346,4 @@ fn deadline_of(limits: TableLimits, now: u64, life: u8) -> u64
     ensures { result ≡ now + min limits.hold life }
 {
     now + u64::from(limits.hold.min(life))
-}
-
-/// Whether each octet of a segment is in those segments of its key.
-#[tactic(auto, using(crate::proofs::Gap::gap_tells))]
-fn is_there(segments: &[Segment], segment: &Segment) -> bool
-    requires came { AllByRecursion MayCome segments.now }
-    requires offered { MayCome segment.now }
-    ensures { result ≡ are_covered (map arrival_of (segments_of segment.now.key segments.now)) segment.now.offset (arrival_of segment.now).len }
-{
-    let end = segment.end();
-    first_gap(segments, &segment.key, usize::from(segment.offset), end) == end
-}
-
-/// Whether the segments of a key cover each place of a unit's data.
-#[tactic(auto, using(crate::proofs::Gap::gap_tells))]
-fn is_whole(segments: &[Segment], key: &Key, shape: Shape) -> bool
-    requires came { AllByRecursion MayCome segments.now }
-    requires shaped { shape.head_len ≤ shape.total }
-    ensures { result ≡ are_covered (map arrival_of (segments_of key.now segments.now)) 0 (data_len shape) }
-{
-    let end = shape.data_len();
-    has_octets(segments, key, end) && first_gap(segments, key, 0, end) == end
 }

@@ -1,16 +1,18 @@
 //! Buffers taken out of the table, whole or because their time has ended.
-ghost use Rattle.std.specs.Prelude.{◌≡◌, ◌≢◌, ◌≤◌, ◌<◌, ◌^◌, List, [], length, nat_le, nat_lt, take, None, Some, IfNone, IfSome, MatchOption, option_map, slice_get, vec_capacity};
-ghost use Rattle.std.specs.List.{All, position_from, remove};
+ghost use Rattle.std.specs.Prelude.{◌≡◌, ◌≢◌, ◌+◌, ◌*◌, ◌≤◌, ◌<◌, ◌^◌, List, [], if◌then◌else◌, length, nat_le, nat_lt, take, None, Some, IfNone, IfSome, MatchOption, option_map, slice_get, vec_capacity};
+ghost use Rattle.std.specs.List.{All, AllByRecursion, position_from, remove};
 ghost use Rattle.clnp_views.specs.Extent.{Extent};
 ghost use Rattle.reassembly.specs.declared.table.Opening.{Opening};
 ghost use Rattle.reassembly.specs.Offered.{total_size};
 ghost use Rattle.reassembly.specs.Buffer as buffer;
 ghost use Rattle.reassembly.specs.Buffer.{Buffer};
-ghost use Rattle.reassembly.specs.Ending.{first_pdu, is_start_of, others_of, without_last};
+ghost use Rattle.reassembly.specs.Ending.{first_pdu, is_start_of, others_of, places_without, without_last};
+ghost use Rattle.reassembly.specs.Index.{IsIndexOf, MayBeIndexed};
 ghost use Rattle.reassembly.specs.NoWhole.{HasNoWhole, IsCompleted};
 ghost use Rattle.reassembly.specs.State.{IsReady, IsWholeSlot, Names, Stands, segments_of};
 
-use super::{Expired, Opening, SlotNo, Table};
+use super::{Expired, Opening, SlotNo, Table, slot_of};
+use crate::runs::Runs;
 use crate::segment::{Key, Segment};
 use clnp_views::View;
 
@@ -38,6 +40,7 @@ impl Table {
         drop_last(&mut self.segments, &key);
         close_empty(&mut self.openings, slot.0, &self.segments, &key);
         self.held = total_size(&self.segments);
+        reindex(&mut self.runs, &self.openings, &self.segments);
     }
 
     /// Takes out the buffer whose time has ended at a moment: the one with the earliest deadline, the one that was
@@ -65,6 +68,7 @@ impl Table {
     {
         self.openings.clear();
         self.segments.clear();
+        self.runs.clear();
         self.held = 0;
     }
 
@@ -78,10 +82,84 @@ impl Table {
         ensures limits { self.new.limits ≡ self.old.limits }
     {
         let key = self.openings.remove(slot).key;
+        self.runs.remove(slot);
+        places_without(&mut self.names, &self.segments, &key);
+        self.runs.rename(&self.names);
         let first = take_first(&mut self.segments, &key);
         drop_all(&mut self.segments, &key);
         self.held = total_size(&self.segments);
         first
+    }
+}
+
+/// Writes down where each segment stands once those of a key are taken out.
+fn places_without(names: &mut Vec<u16>, segments: &[Segment], key: &Key)
+    requires few { length segments.now < 2 ^ 16 }
+    requires room { length segments.now ≤ vec_capacity names.old }
+    ensures names { names.new.items ≡ places_without key.now 0 segments.now }
+    ensures capacity { vec_capacity names.old ≤ vec_capacity names.new }
+{
+    names.clear();
+    let mut next = 0;
+    for segment in segments {
+        let Ok(()) = names.push(next) else {
+            unreachable!()
+        };
+        next = place_behind(next, segment.key.is(key));
+    }
+}
+
+/// The place behind that of a segment, which is its own where it is taken out.
+fn place_behind(place: u16, is_out: bool) -> u16
+    requires { place + 1 < 2 ^ 16 }
+    ensures { result ≡ (if is_out then place else place + 1) }
+{
+    if is_out { place } else { place + 1 }
+}
+
+/// Makes the runs of each opening anew, from its segments.
+fn reindex(runs: &mut Runs, openings: &[Opening], segments: &[Segment])
+    requires kept { MayBeIndexed openings.now segments.now }
+    requires slots { length openings.now ≤ runs.old.slots }
+    requires room { 2 * length segments.now + length openings.now ≤ runs.old.room }
+    ensures index { IsIndexOf segments.now openings.now runs.new.groups }
+    ensures slots { runs.old.slots ≤ runs.new.slots }
+    ensures room { runs.old.room ≤ runs.new.room }
+{
+    runs.clear();
+    open_all(runs, openings);
+    fill_all(runs, openings, segments);
+}
+
+/// Opens each unit, with all its places unfilled.
+fn open_all(runs: &mut Runs, openings: &[Opening])
+    requires empty { runs.old.groups ≡ [] }
+    requires shaped { AllByRecursion (λ opening. opening.shape.head_len < opening.shape.total) openings.now }
+    requires slots { length openings.now ≤ runs.old.slots }
+    requires room { length openings.now ≤ runs.old.room }
+    ensures index { IsIndexOf [] openings.now runs.new.groups }
+    ensures slots { runs.old.slots ≤ runs.new.slots }
+    ensures room { runs.old.room ≤ runs.new.room }
+{
+    for opening in openings {
+        runs.open(opening.shape.data_len());
+    }
+}
+
+/// Fills the places of each segment, in the order in which they came.
+fn fill_all(runs: &mut Runs, openings: &[Opening], segments: &[Segment])
+    requires kept { MayBeIndexed openings.now segments.now }
+    requires index { IsIndexOf [] openings.now runs.old.groups }
+    requires room { 2 * length segments.now + length openings.now ≤ runs.old.room }
+    ensures index { IsIndexOf segments.now openings.now runs.new.groups }
+    ensures slots { runs.old.slots ≤ runs.new.slots }
+    ensures room { runs.old.room ≤ runs.new.room }
+{
+    for (index, segment) in segments.iter().enumerate() {
+        let Some(slot) = slot_of(openings, &segment.key) else {
+            unreachable!()
+        };
+        runs.fill(slot, segment.offset, segment.end(), index as u16);
     }
 }
 

@@ -1,6 +1,9 @@
-use Rattle.std.proofs.Common.{◌≡◌, map, slice_get, sym, ap, subst, ◌∙◌}
+use Rattle.std.proofs.Common.{◌≡◌, ℕ, Some, map, slice_get, sym, ap, subst, ◌∙◌, arith}
 use Rattle.std.specs.List.{AllByRecursion, range_with_len}
-use Rattle.std.proofs.lemmas.Option.{get_or_from_slice_get}
+use Rattle.std.proofs.lemmas.Option.{get_or_from_slice_get, slice_get_within}
+use Rattle.reassembly.specs.declared.table.Opening.{Opening}
+use Rattle.reassembly.specs.Index.{giver}
+use Rattle.reassembly.specs.Runs.{AreJoined}
 use Rattle.reassembly.specs.Arrival.{are_covered, arrival_of, data_len, earliest, octet_in}
 use Rattle.reassembly.specs.Buffer.{octet_by}
 use Rattle.reassembly.specs.Offered.{openings_of}
@@ -18,8 +21,39 @@ new-requires-clause-covered c =
     (ap (λ (t : TableState). slice_get t.openings c.args.slot.0) c.self.view_is ∙ at) in
     let segments : c.deref.result.now ≡ c.args.self.now.segments = c.deref.ensures.value ∙ ap (λ (t : TableState). t.segments) c.self.view_is in
     let keeps = of_found (KeepsSegments c.args.self.now) c.requires.buffer.key c.requires.buffers c.requires.buffer c.requires.stands.segments c.requires.is_there in
-    (λ i. are_covered (map arrival_of (segments_of (opening i).key (segments i))) 0 (c.data_len.ensures i))
+    (λ i. are_covered (map arrival_of (segments_of (opening i).key (segments i))) 0 ((c.from-end.ensures ∙ c.data_len.ensures) i))
     ∙ ((λ i. are_covered (sym keeps.0 i) 0 (data_len (opening i).shape)) ∙ c.requires.whole)
+
+pub group-requires : goal.group-requires
+group-requires c =
+    let t = c.self.inside in
+    let distinct = subst (λ (t : TableState). AllByRecursion (λ opening. openings_of opening.key t.openings ≡ 1) t.openings) c.self.view_is c.self.invariant.0.distinct in
+    let at = ap (λ (v : TableState). slice_get v.openings c.args.slot.0) c.self.view_is
+    ∙ named_there c.args.self.now c.requires.buffers c.requires.buffer c.args.slot.0 c.requires.stands distinct c.requires.is_there c.requires.named in
+    omega (arith, slice_get_within t.openings.items c.args.slot.0 (opening_of c.requires.buffer) at, c.self.invariant.3.index_is.number)
+
+pub new-requires-clause-joined : goal.new-requires-clause-joined
+new-requires-clause-joined c =
+    let t = c.self.inside in
+    let distinct = subst (λ (t : TableState). AllByRecursion (λ opening. openings_of opening.key t.openings ≡ 1) t.openings) c.self.view_is c.self.invariant.0.distinct in
+    let at = ap (λ (v : TableState). slice_get v.openings c.args.slot.0) c.self.view_is
+    ∙ named_there c.args.self.now c.requires.buffers c.requires.buffer c.args.slot.0 c.requires.stands distinct c.requires.is_there c.requires.named in
+    let opening : c.index-opening.result.now ≡ opening_of c.requires.buffer = c.index-opening.ensures
+    ∙ get_or_from_slice_get t.openings.items c.args.slot.0 (opening_of c.requires.buffer) c.index-opening.result.now at in
+    let are = c.self.invariant.3.index_is.each c.args.slot.0 c.index-opening.result.now c.group.result.now (at ∙ ap (λ (o : Opening). Some o) (sym opening)) c.group.ensures in
+    subst (λ (n : ℕ). AreJoined 0 n c.group.result.now) (sym (c.from-end.ensures ∙ c.data_len.ensures)) are.joined
+
+pub new-requires-clause-filled : goal.new-requires-clause-filled
+new-requires-clause-filled c place within =
+    let t = c.self.inside in
+    let distinct = subst (λ (t : TableState). AllByRecursion (λ opening. openings_of opening.key t.openings ≡ 1) t.openings) c.self.view_is c.self.invariant.0.distinct in
+    let at = ap (λ (v : TableState). slice_get v.openings c.args.slot.0) c.self.view_is
+    ∙ named_there c.args.self.now c.requires.buffers c.requires.buffer c.args.slot.0 c.requires.stands distinct c.requires.is_there c.requires.named in
+    let opening : c.index-opening.result.now ≡ opening_of c.requires.buffer = c.index-opening.ensures
+    ∙ get_or_from_slice_get t.openings.items c.args.slot.0 (opening_of c.requires.buffer) c.index-opening.result.now at in
+    let are = c.self.invariant.3.index_is.each c.args.slot.0 c.index-opening.result.now c.group.result.now (at ∙ ap (λ (o : Opening). Some o) (sym opening)) c.group.ensures in
+    are.filled place (omega (arith, within, c.from-end.ensures, c.data_len.ensures))
+    ∙ ap (giver c.index-opening.result.now.key place) (sym c.deref.ensures.value)
 
 pub returns : goal.returns
 returns c buffers whole stands found named =
@@ -32,6 +66,6 @@ returns c buffers whole stands found named =
     let keeps = of_found (KeepsSegments c.args.self.now) whole.key buffers whole stands.segments found in
     let arrivals : map arrival_of (segments_of c.index-opening.result.now.key c.deref.result.now) ≡ whole.kept
     = (λ i. map arrival_of (segments_of (opening i).key (segments i))) ∙ sym keeps.0 in
-    let len : c.data_len.result ≡ data_len whole.shape = c.data_len.ensures ∙ (λ i. data_len (opening i).shape) in
+    let len : c.from-end.result ≡ data_len whole.shape = c.from-end.ensures ∙ c.data_len.ensures ∙ (λ i. data_len (opening i).shape) in
     c.new.ensures
     ∙ (λ i. map (λ place. octet_by octet_in place (earliest (arrivals i) place)) (range_with_len 0 (len i)))

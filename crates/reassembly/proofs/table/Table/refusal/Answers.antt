@@ -1,4 +1,4 @@
-use Rattle.std.proofs.Common.{◌≡◌, ◌+◌, ℕ, true, false, Some, length, sym, ap, subst, ◌∙◌, arith}
+use Rattle.std.proofs.Common.{◌≡◌, ◌+◌, ℕ, true, false, Some, length, refl, sym, ap, subst, ◌∙◌, arith}
 use Rattle.std.specs.List.{AllByRecursion}
 use Rattle.std.proofs.lemmas.Bool.{le-leb, le-ltb, lt-leb, lt-ltb}
 use Rattle.reassembly.specs.declared.segment.Shape.{Shape}
@@ -14,6 +14,15 @@ use Rattle.reassembly.proofs.table.Table.refusal.Goals as goal
 pub other_shape-requires : goal.other_shape-requires
 other_shape-requires c = slot_within c.args.segment.now.key c.args.self.now.openings c.slot_of-slot.result (sym c.slot_of-slot.ensures)
 
+pub is_there-requires-clause-slot : goal.is_there-requires-clause-slot
+is_there-requires-clause-slot c = sym c.slot_of-slot.ensures
+
+pub is_there-requires-clause-shape : goal.is_there-requires-clause-shape
+is_there-requires-clause-shape c place opening e at =
+    same_unit_there c.args.self.now.openings c.args.segment.now.key c.args.segment.now.shape c.slot_of-slot.result c.other_shape.result
+    (sym c.slot_of-slot.ensures) c.other_shape.ensures (none_since c.other_shape.result c.in_default.not-Some) place opening
+    (sym c.slot_of-slot.ensures ∙ e) at
+
 pub returns-in-Some-clause-refused : goal.returns-in-Some-clause-refused
 returns-in-Some-clause-refused c buffers stands =
     let clash = clashes_there c.args.self.now c.args.segment.now.key c.args.segment.now.shape buffers c.slot_of-slot.result c.other_shape.result
@@ -26,8 +35,7 @@ returns-then-is_there-clause-refused c buffers stands =
     let clash = clashes_there c.args.self.now c.args.segment.now.key c.args.segment.now.shape buffers c.slot_of-slot.result c.other_shape.result
     stands (sym c.slot_of-slot.ensures) c.other_shape.ensures in
     let owned = subst (λ (t : TableState). AllByRecursion (λ other. openings_of other.key t.openings ≡ 1) t.segments) c.self.view_is c.self.invariant.0.owned in
-    let covered = covered_there c.args.self.now c.args.segment.now buffers c.deref.result.now c.is_there.result stands owned
-    (c.deref.ensures.value ∙ ap (λ (t : TableState). t.segments) c.self.view_is) c.is_there.ensures in
+    let covered = covered_there c.args.self.now c.args.segment.now buffers c.args.self.now.segments c.is_there.result stands owned refl c.is_there.ensures in
     sym (by_repeat c.args.self.now.limits (arrival_of c.args.segment.now) buffers
     (clash.none (none_since c.other_shape.result c.in_default.not-Some)) (covered ∙ c.if-is_there.true))
 
@@ -36,8 +44,7 @@ returns-then-lacks_slot-clause-refused c buffers stands =
     let clash = clashes_there c.args.self.now c.args.segment.now.key c.args.segment.now.shape buffers c.slot_of-slot.result c.other_shape.result
     stands (sym c.slot_of-slot.ensures) c.other_shape.ensures in
     let owned = subst (λ (t : TableState). AllByRecursion (λ other. openings_of other.key t.openings ≡ 1) t.segments) c.self.view_is c.self.invariant.0.owned in
-    let covered = covered_there c.args.self.now c.args.segment.now buffers c.deref.result.now c.is_there.result stands owned
-    (c.deref.ensures.value ∙ ap (λ (t : TableState). t.segments) c.self.view_is) c.is_there.ensures in
+    let covered = covered_there c.args.self.now c.args.segment.now buffers c.args.self.now.segments c.is_there.result stands owned refl c.is_there.ensures in
     let full = full_there c.args.self.now c.args.segment.now.key buffers c.slot_of-slot.result c.lacks_slot.result stands (sym c.slot_of-slot.ensures) c.lacks_slot.ensures in
     ap (λ (n : ℕ). Some (NoSlot n)) (c.live-live.ensures.live buffers stands)
     ∙ sym (by_slots c.args.self.now.limits (arrival_of c.args.segment.now) buffers
@@ -48,8 +55,7 @@ returns-then-size-self-clause-refused c buffers stands =
     let clash = clashes_there c.args.self.now c.args.segment.now.key c.args.segment.now.shape buffers c.slot_of-slot.result c.other_shape.result
     stands (sym c.slot_of-slot.ensures) c.other_shape.ensures in
     let owned = subst (λ (t : TableState). AllByRecursion (λ other. openings_of other.key t.openings ≡ 1) t.segments) c.self.view_is c.self.invariant.0.owned in
-    let covered = covered_there c.args.self.now c.args.segment.now buffers c.deref.result.now c.is_there.result stands owned
-    (c.deref.ensures.value ∙ ap (λ (t : TableState). t.segments) c.self.view_is) c.is_there.ensures in
+    let covered = covered_there c.args.self.now c.args.segment.now buffers c.args.self.now.segments c.is_there.result stands owned refl c.is_there.ensures in
     let full = full_there c.args.self.now c.args.segment.now.key buffers c.slot_of-slot.result c.lacks_slot.result stands (sym c.slot_of-slot.ensures) c.lacks_slot.ensures in
     let holds : c.self.inside.held ≡ held buffers = c.self.invariant.0.held_is ∙ (ap (λ (t : TableState). total_size t.segments) c.self.view_is
     ∙ sym (held_there c.args.self.now buffers stands owned)) in
@@ -67,8 +73,7 @@ returns-then-len-from-clause-refused c buffers stands =
     let clash = clashes_there c.args.self.now c.args.segment.now.key c.args.segment.now.shape buffers c.slot_of-slot.result c.other_shape.result
     stands (sym c.slot_of-slot.ensures) c.other_shape.ensures in
     let owned = subst (λ (t : TableState). AllByRecursion (λ other. openings_of other.key t.openings ≡ 1) t.segments) c.self.view_is c.self.invariant.0.owned in
-    let covered = covered_there c.args.self.now c.args.segment.now buffers c.deref.result.now c.is_there.result stands owned
-    (c.deref.ensures.value ∙ ap (λ (t : TableState). t.segments) c.self.view_is) c.is_there.ensures in
+    let covered = covered_there c.args.self.now c.args.segment.now buffers c.args.self.now.segments c.is_there.result stands owned refl c.is_there.ensures in
     let full = full_there c.args.self.now c.args.segment.now.key buffers c.slot_of-slot.result c.lacks_slot.result stands (sym c.slot_of-slot.ensures) c.lacks_slot.ensures in
     let holds : c.self.inside.held ≡ held buffers = c.self.invariant.0.held_is ∙ (ap (λ (t : TableState). total_size t.segments) c.self.view_is
     ∙ sym (held_there c.args.self.now buffers stands owned)) in
@@ -91,8 +96,7 @@ returns-clause-refused c buffers stands =
     let clash = clashes_there c.args.self.now c.args.segment.now.key c.args.segment.now.shape buffers c.slot_of-slot.result c.other_shape.result
     stands (sym c.slot_of-slot.ensures) c.other_shape.ensures in
     let owned = subst (λ (t : TableState). AllByRecursion (λ other. openings_of other.key t.openings ≡ 1) t.segments) c.self.view_is c.self.invariant.0.owned in
-    let covered = covered_there c.args.self.now c.args.segment.now buffers c.deref.result.now c.is_there.result stands owned
-    (c.deref.ensures.value ∙ ap (λ (t : TableState). t.segments) c.self.view_is) c.is_there.ensures in
+    let covered = covered_there c.args.self.now c.args.segment.now buffers c.args.self.now.segments c.is_there.result stands owned refl c.is_there.ensures in
     let full = full_there c.args.self.now c.args.segment.now.key buffers c.slot_of-slot.result c.lacks_slot.result stands (sym c.slot_of-slot.ensures) c.lacks_slot.ensures in
     let holds : c.self.inside.held ≡ held buffers = c.self.invariant.0.held_is ∙ (ap (λ (t : TableState). total_size t.segments) c.self.view_is
     ∙ sym (held_there c.args.self.now buffers stands owned)) in

@@ -3,7 +3,14 @@ use Rattle.reassembly.specs.declared.table.Opening.{Opening}
 use Rattle.reassembly.specs.Kept.{openings_with, with_opening}
 use Rattle.reassembly.specs.Offered.{openings_of}
 use Rattle.reassembly.specs.State.{TableState}
-use Rattle.reassembly.proofs.Slots.{slot_there, slot_missing}
+use Rattle.std.specs.List.{AllByRecursion}
+use Rattle.std.proofs.lemmas.Option.{same_Some}
+use Rattle.reassembly.specs.declared.runs.Run.{Run}
+use Rattle.reassembly.specs.Arrival.{data_len}
+use Rattle.reassembly.specs.Index.{IsIndexOf}
+use Rattle.reassembly.specs.Runs.{unfilled}
+use Rattle.reassembly.proofs.Indexing.{opened_index, total_few}
+use Rattle.reassembly.proofs.Slots.{no_segments, slot_there, slot_missing}
 use Rattle.reassembly.proofs.Opened.{none_since, openings_with-none, openings_with-some, sound_opened, slice_get_push}
 use Rattle.reassembly.proofs.table.Table.slot_for.Goals as goal
 
@@ -30,17 +37,51 @@ unreachable-requires c =
     let room = subst (λ (t : TableState). length t.openings < t.limits.slots) (sym c.self.view_is) (c.requires.room missing) in
     omega (arith, c.in_default-push.ensures.full)
 
+pub open-requires-clause-slots : goal.open-requires-clause-slots
+open-requires-clause-slots c =
+    let missing = slot_missing c.args.segment.now.key 0 c.args.self.now.openings
+    (sym c.slot_of.ensures ∙ none_since c.slot_of.result c.in_default.not-Some) in
+    let room = subst (λ (t : TableState). length t.openings < t.limits.slots) (sym c.self.view_is) (c.requires.room missing) in
+    omega (arith, room, c.self.invariant.3.index_is.number, c.self.invariant.3.slots)
+
+pub open-requires-clause-room : goal.open-requires-clause-room
+open-requires-clause-room c =
+    let t = c.self.inside in
+    let missing = slot_missing c.args.segment.now.key 0 c.args.self.now.openings
+    (sym c.slot_of.ensures ∙ none_since c.slot_of.result c.in_default.not-Some) in
+    let room = subst (λ (t : TableState). length t.openings < t.limits.slots) (sym c.self.view_is) (c.requires.room missing) in
+    omega (
+      arith,
+      room,
+      total_few t.segments.items t.openings.items t.runs.groups c.self.invariant.3.index_is c.self.invariant.0.owned,
+      c.self.invariant.0.few_segments,
+      c.self.invariant.3.room,
+    )
+
 pub invariant_of-self : goal.invariant_of-self
 invariant_of-self c =
     let missing = slot_missing c.args.segment.now.key 0 c.args.self.now.openings
     (sym c.slot_of.ensures ∙ none_since c.slot_of.result c.in_default.not-Some) in
     let room = subst (λ (t : TableState). length t.openings < t.limits.slots) (sym c.self.view_is) (c.requires.room missing) in
     let none = subst (λ (t : TableState). openings_of c.args.segment.now.key t.openings ≡ 0) (sym c.self.view_is) missing in
-    let more = c.in-Ok.ensures.capacity in (
+    let more = c.in-Ok.ensures.capacity in
+    let t = c.self.inside in
+    let opening : Opening = record { key = c.args.segment.now.key; shape = c.args.segment.now.shape; deadline = c.deadline_of.result } in
+    let empty = no_segments c.args.segment.now.key t.openings.items t.segments.items none c.self.invariant.0.owned in
+    let some : 0 < data_len c.args.segment.now.shape = omega (arith, c.requires.offered.is_part) in
+    let groups = c.open.ensures.groups ∙ ap (λ n. t.runs.groups ++ unfilled n ∷ []) c.data_len.ensures in (
       rw c.in-Ok.ensures.items (sound_opened c.self.inside.limits c.self.inside.openings.items c.self.inside.segments.items c.self.inside.held _
-          c.self.invariant.0 none room c.requires.offered.holds_header),
+          c.self.invariant.0 none room (let p = c.requires.offered.is_part in omega arith)),
       omega arith,
       c.self.invariant.2,
+      record {
+        index_is = subst (λ (l : List (List Run)). IsIndexOf t.segments.items c.push.new.self.items l) (sym groups)
+            (subst (λ (l : List Opening). IsIndexOf t.segments.items l (t.runs.groups ++ unfilled (data_len c.args.segment.now.shape) ∷ [])) (sym c.in-Ok.ensures.items)
+            (opened_index t.segments.items t.openings.items t.runs.groups opening c.self.invariant.3.index_is empty some));
+        slots = omega (arith, c.self.invariant.3.slots, c.open.ensures.slots);
+        room = omega (arith, c.self.invariant.3.room, c.open.ensures.room);
+        names = c.self.invariant.3.names;
+      },
     )
 
 pub returns-clause-opened : goal.returns-clause-opened
@@ -67,3 +108,22 @@ returns-clause-named c =
       stands_at = rw (len, c.in-Ok.ensures.items) at;
       key_is = refl;
     }
+
+pub returns-clause-distinct : goal.returns-clause-distinct
+returns-clause-distinct c =
+    subst (λ (t : TableState). AllByRecursion (λ opening. openings_of opening.key t.openings ≡ 1) t.openings) c.self.view_is c.self.invariant.0.distinct
+
+pub returns-clause-owned : goal.returns-clause-owned
+returns-clause-owned c =
+    subst (λ (t : TableState). AllByRecursion (λ other. openings_of other.key t.openings ≡ 1) t.segments) c.self.view_is c.self.invariant.0.owned
+
+pub returns-in-Some-clause-shaped : goal.returns-in-Some-clause-shaped
+returns-in-Some-clause-shaped c opening at = c.requires.same_unit c.in-Some.slot opening (sym c.slot_of.ensures ∙ c.in-Some.is) at
+
+pub returns-clause-shaped : goal.returns-clause-shaped
+returns-clause-shaped c opening at =
+    let made : Opening = record { key = c.args.segment.now.key; shape = c.args.segment.now.shape; deadline = c.deadline_of.result } in
+    let there = slice_get_push c.self.inside.openings.items made in
+    let len : c.len-slot.result ≡ length c.self.inside.openings.items = omega arith in
+    let here : slice_get c.push.new.self.items c.len-slot.result ≡ Some made = rw (len, c.in-Ok.ensures.items) there in
+    ap (λ (o : Opening). o.shape) (same_Some opening made (sym at ∙ here))

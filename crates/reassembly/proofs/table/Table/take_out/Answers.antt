@@ -1,8 +1,27 @@
 -- The opening that is removed has the key of the segments that are dropped.
-use Rattle.std.proofs.Common.{◌∙◌, ◌<◌, sym, ap, subst, arith, length, refl}
+use Rattle.std.proofs.Common.{◌∙◌, ◌<◌, ℕ, sym, ap, subst, arith, length, map, refl}
+use Rattle.std.specs.Prelude.{List}
+use Rattle.std.specs.List.{remove}
+use Rattle.std.proofs.lemmas.Option.{slice_get_read}
+use Rattle.reassembly.specs.declared.runs.Run.{Run}
+use Rattle.reassembly.specs.declared.segment.Segment.{Segment}
+use Rattle.reassembly.specs.declared.table.Opening.{Opening}
+use Rattle.reassembly.specs.Ending.{others_of, places_without}
+use Rattle.reassembly.specs.Index.{IsIndexOf}
+use Rattle.reassembly.specs.Runs.{renamed}
+use Rattle.reassembly.proofs.Indexing.{left_index}
 use Rattle.reassembly.specs.Offered.{total_size}
 use Rattle.reassembly.proofs.Closing.{left_first, left_sound, left_stands}
 use Rattle.reassembly.proofs.table.Table.take_out.Goals as goal
+
+pub remove-requires : goal.remove-requires
+remove-requires c =
+    let within = subst (λ v. c.args.slot < length v.openings) (sym c.self.view_is) c.requires in
+    omega (arith, within, c.self.invariant.3.index_is.number)
+
+pub places_without-requires-clause-few : goal.places_without-requires-clause-few
+places_without-requires-clause-few c =
+    omega (arith, c.self.invariant.0.few_segments, c.self.invariant.0.segments_fit, ap length c.deref.ensures.value)
 
 pub total_size-self-inside-requires : goal.total_size-self-inside-requires
 total_size-self-inside-requires c =
@@ -11,18 +30,33 @@ total_size-self-inside-requires c =
     let others = c.drop_all.ensures.others ∙ c.take_first-first.ensures.others in
     let h = left_sound t.limits t.openings.items t.segments.items t.held c.args.slot c.remove-key.result c.args.self.now c.self.view_is c.self.invariant.0 within c.remove-key.ensures.value
     c.remove-key.new.self.items c.drop_all.new.segments.items c.remove-key.ensures.items others _ refl in
-    omega (arith, h.budget, ap total_size c.deref.ensures.value)
+    omega (arith, h.budget, ap total_size c.deref-3.ensures.value)
 
 pub invariant_of-self : goal.invariant_of-self
 invariant_of-self c =
     let t = c.self.inside in
     let within : c.args.slot < length t.openings.items = subst (λ v. c.args.slot < length v.openings) (sym c.self.view_is) c.requires in
-    let others = c.drop_all.ensures.others ∙ c.take_first-first.ensures.others in (
+    let others = c.drop_all.ensures.others ∙ c.take_first-first.ensures.others in
+    let key_opening = c.remove-key.result in
+    let key = key_opening.key in
+    let at = slice_get_read t.openings.items (length t.openings.items) c.args.slot key_opening refl within c.remove-key.ensures.value in
+    let index = left_index t.segments.items t.openings.items t.runs.groups c.args.slot key_opening c.self.invariant.3.index_is c.self.invariant.0.distinct c.self.invariant.0.shaped at in
+    let names = c.deref-2.ensures.value ∙ c.places_without.ensures.names ∙ ap (places_without key 0) c.deref.ensures.value in
+    let groups = c.rename.ensures.groups ∙ ap (λ (l : List ℕ). map (map (renamed l)) c.remove.new.self.groups) names
+    ∙ ap (λ (l : List (List Run)). map (map (renamed (places_without key 0 t.segments.items))) l) c.remove.ensures.groups in (
       left_sound t.limits t.openings.items t.segments.items t.held c.args.slot c.remove-key.result c.args.self.now c.self.view_is c.self.invariant.0 within c.remove-key.ensures.value
           c.remove-key.new.self.items c.drop_all.new.segments.items c.remove-key.ensures.items others c.total_size-self-inside.result
-          (c.total_size-self-inside.ensures ∙ ap total_size c.deref.ensures.value),
+          (c.total_size-self-inside.ensures ∙ ap total_size c.deref-3.ensures.value),
       omega (arith, c.self.invariant.1, c.remove-key.ensures.capacity),
       omega (arith, c.self.invariant.2, c.drop_all.ensures.capacity, c.take_first-first.ensures.capacity),
+      record {
+        index_is = subst (λ (l : List Segment). IsIndexOf l c.remove-key.new.self.items c.rename.new.self.groups) (sym others)
+            (subst (λ (l : List Opening). IsIndexOf (others_of key t.segments.items) l c.rename.new.self.groups) (sym c.remove-key.ensures.items)
+            (subst (λ (l : List (List Run)). IsIndexOf (others_of key t.segments.items) (remove t.openings.items c.args.slot) l) (sym groups) index));
+        slots = omega (arith, c.self.invariant.3.slots, c.remove.ensures.slots, c.rename.ensures.slots);
+        room = omega (arith, c.self.invariant.3.room, c.remove.ensures.room, c.rename.ensures.room);
+        names = omega (arith, c.self.invariant.3.names, c.places_without.ensures.capacity);
+      },
     )
 
 pub returns-clause-stands : goal.returns-clause-stands

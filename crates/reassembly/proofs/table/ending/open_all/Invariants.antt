@@ -1,0 +1,8 @@
+-- The openings so far have their runs.
+use Rattle.std.proofs.Common.{◌≤◌, [], take}
+use Rattle.reassembly.specs.Index.{IsIndexOf}
+use Rattle.reassembly.proofs.table.ending.open_all.Given as goal
+
+abbrev pub invariant-loop-opening : goal.invariant-loop-opening
+invariant-loop-opening l =
+    IsIndexOf [] (take l.opening-index l.openings) l.runs.groups × (l.fn.runs.slots ≤ l.runs.slots) × (l.fn.runs.room ≤ l.runs.room)

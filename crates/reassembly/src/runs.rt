@@ -1,0 +1,258 @@
+//! Runs of places of a unit's data: holes, and pieces that kept segments fill. The runs of all open units stand in one
+//! list, those of one unit together.
+ghost use Rattle.std.specs.Prelude.{◌≡◌, ◌+◌, ◌<◌, ◌≤◌, ◌^◌, List, [], ◌∷◌, ◌++◌, drop, length, map, not, sum, take, None, Some, IfOk, slice_get, slice_set, vec_capacity};
+ghost use Rattle.std.specs.List.{list_any, position_from, remove};
+ghost use Rattle.reassembly.specs.declared.runs.Run.{Run};
+ghost use Rattle.reassembly.specs.Runs.{cut, filled, is_across, is_gap, marked, named_in, renamed, total_runs, unfilled};
+
+use clnp_base::NoMemory;
+use std::alloc::Global;
+use std::marker::Model;
+
+/// Places of a unit's data that stand side by side: a hole, or a piece that one kept segment fills.
+#[derive(Clone, Copy, Debug)]
+pub struct Run {
+    pub from: u16,
+    /// The place behind the last one.
+    pub to: u16,
+    /// The index of the segment that fills it, where one does.
+    pub by: Option<u16>,
+}
+
+/// The runs of each open unit, in the order of their openings.
+///
+/// A contract sees a list of runs for each unit, and for how many units and runs there is room.
+#[derive(Debug, Drop)]
+pub struct Runs {
+    /// How many runs each unit has.
+    counts: Vec<usize>,
+    runs: Vec<Run>,
+}
+
+impl Model for Runs {
+    ghost use Rattle.std.specs.Prelude.{◌≡◌, ◌<◌, ◌^◌, length, sum, vec_capacity};
+    ghost use Rattle.reassembly.specs.Runs.{RunsState, groups_of};
+
+    ghost Value = { RunsState };
+
+    ghost view = { λ r. record { groups = groups_of r.counts.items r.runs.items; slots = vec_capacity r.counts; room = vec_capacity r.runs } };
+
+    ghost invariant = { λ r. sum r.counts.items ≡ length r.runs.items };
+}
+
+impl Runs {
+    /// No runs, and room for those of so many units.
+    ///
+    /// # Errors
+    ///
+    /// `NoMemory`.
+    pub fn new(alloc: Global, slots: usize, room: usize) -> Result<Runs, NoMemory>
+        ensures { IfOk result (λ runs. runs ≡ record { groups = []; slots = slots; room = room }) }
+    {
+        let Ok(counts) = Vec::with_capacity(alloc, slots) else {
+            return Err(NoMemory);
+        };
+        let Ok(runs) = Vec::with_capacity(alloc, room) else {
+            return Err(NoMemory);
+        };
+        Ok(Runs { counts, runs })
+    }
+
+    /// Opens a unit with so many places, none of which is filled.
+    pub fn open(&mut self, places: u16)
+        requires slots { length self.old.groups < self.old.slots }
+        requires room { total_runs self.old.groups < self.old.room }
+        ensures groups { self.new.groups ≡ self.old.groups ++ unfilled places ∷ [] }
+        ensures slots { self.old.slots ≤ self.new.slots }
+        ensures room { self.old.room ≤ self.new.room }
+    {
+        let hole = Run {
+            from: 0,
+            to: places,
+            by: None,
+        };
+        let Ok(()) = self.counts.push(1) else {
+            unreachable!()
+        };
+        let Ok(()) = self.runs.push(hole) else {
+            unreachable!()
+        };
+    }
+
+    /// The runs of a unit, one behind the other.
+    pub fn group(&self, slot: usize) -> &[Run]
+        requires { slot < length self.now.groups }
+        ensures { slice_get self.now.groups slot ≡ Some result.now }
+    {
+        let start = start_of(&self.counts, slot);
+        &self.runs[start..start + self.counts[slot]]
+    }
+
+    /// Fills the holes of a unit from a place to the place before another: they are pieces of a segment then.
+    pub fn fill(&mut self, slot: usize, from: u16, to: u16, by: u16)
+        requires slot { slot < length self.old.groups }
+        requires room { total_runs self.old.groups + 2 ≤ self.old.room }
+        ensures groups { (runs : List Run) → slice_get self.old.groups slot ≡ Some runs
+            → self.new.groups ≡ slice_set self.old.groups slot (filled from to by runs) }
+        ensures slots { self.old.slots ≤ self.new.slots }
+        ensures room { self.old.room ≤ self.new.room }
+    {
+        self.cut(slot, from);
+        self.cut(slot, to);
+        self.mark(slot, from, to, by);
+    }
+
+    /// Cuts the hole of a unit that a place lies in, so that one begins there.
+    fn cut(&mut self, slot: usize, place: u16)
+        requires slot { slot < length self.old.groups }
+        requires room { total_runs self.old.groups < self.old.room }
+        ensures groups { (runs : List Run) → slice_get self.old.groups slot ≡ Some runs
+            → self.new.groups ≡ slice_set self.old.groups slot (cut place runs) }
+        ensures slots { self.old.slots ≤ self.new.slots }
+        ensures room { self.old.room ≤ self.new.room }
+    {
+        let start = start_of(&self.counts, slot);
+        let count = cut_hole(&mut self.runs, start, self.counts[slot], place);
+        self.counts[slot] = count;
+    }
+
+    /// Makes the holes of a unit that lie from a place to the place before another pieces of a segment.
+    fn mark(&mut self, slot: usize, from: u16, to: u16, by: u16)
+        requires { slot < length self.old.groups }
+        ensures groups { (runs : List Run) → slice_get self.old.groups slot ≡ Some runs
+            → self.new.groups ≡ slice_set self.old.groups slot (map (marked from to by) runs) }
+        ensures slots { self.old.slots ≤ self.new.slots }
+        ensures room { self.old.room ≤ self.new.room }
+    {
+        let start = start_of(&self.counts, slot);
+        let end = start + self.counts[slot];
+        mark_holes(&mut self.runs[start..end], from, to, by);
+    }
+
+    /// Takes the runs of a unit out.
+    pub fn remove(&mut self, slot: usize)
+        requires { slot < length self.old.groups }
+        ensures groups { self.new.groups ≡ remove self.old.groups slot }
+        ensures slots { self.old.slots ≤ self.new.slots }
+        ensures room { self.old.room ≤ self.new.room }
+    {
+        let start = start_of(&self.counts, slot);
+        let count = self.counts.remove(slot);
+        drop(self.runs.drain(start..start + count));
+    }
+
+    /// Gives the segments other indices: those that stand at theirs.
+    pub fn rename(&mut self, names: &[u16])
+        ensures groups { self.new.groups ≡ map (map (renamed names.now)) self.old.groups }
+        ensures slots { self.old.slots ≤ self.new.slots }
+        ensures room { self.old.room ≤ self.new.room }
+    {
+        rename_all(&mut self.runs, names);
+    }
+
+    /// Takes all runs out.
+    pub fn clear(&mut self)
+        ensures groups { self.new.groups ≡ [] }
+        ensures slots { self.old.slots ≤ self.new.slots }
+        ensures room { self.old.room ≤ self.new.room }
+    {
+        self.counts.clear();
+        self.runs.clear();
+    }
+}
+
+/// Whether a hole has a place from `from` to the place before `to`.
+pub fn has_gap(runs: &[Run], from: u16, to: u16) -> bool
+    ensures { result ≡ list_any (is_gap from to) runs.now }
+{
+    runs.iter().any(|run| is_gap(run, from, to))
+}
+
+/// Whether a run is a hole with a place from `from` to the place before `to`.
+fn is_gap(run: &Run, from: u16, to: u16) -> bool
+    ensures { result ≡ is_gap from to run.now }
+{
+    run.by.is_none() && run.from.max(from) < run.to.min(to)
+}
+
+/// How many runs the units before one have.
+fn start_of(counts: &[usize], slot: usize) -> usize
+    requires slot { slot ≤ length counts.now }
+    requires few { sum counts.now < 2 ^ 64 }
+    ensures { result ≡ sum (take slot counts.now) }
+{
+    let mut start = 0;
+    for at in 0..slot {
+        start += counts[at];
+    }
+    start
+}
+
+/// Cuts the hole that a place lies in, where it is one of `count` runs from `start` on; tells how many these are then.
+fn cut_hole(runs: &mut Vec<Run>, start: usize, count: usize, place: u16) -> usize
+    requires within { start + count ≤ length runs.old.items }
+    requires room { length runs.old.items < vec_capacity runs.old }
+    ensures items { runs.new.items ≡ take start runs.old.items
+        ++ (cut place (take count (drop start runs.old.items)) ++ drop count (drop start runs.old.items)) }
+    ensures count { result ≡ length (cut place (take count (drop start runs.old.items))) }
+    ensures capacity { vec_capacity runs.new ≡ vec_capacity runs.old }
+{
+    let Some(at) = hole_across(&runs[start..start + count], place) else {
+        return count;
+    };
+    let run = runs[start + at];
+    runs[start + at] = Run { to: place, ..run };
+    let Ok(()) = runs.insert(start + at + 1, Run { from: place, ..run }) else {
+        unreachable!()
+    };
+    count + 1
+}
+
+/// The index of the hole that a place lies in, and doesn't begin.
+fn hole_across(runs: &[Run], place: u16) -> Option<usize>
+    ensures { result ≡ position_from (is_across place) 0 runs.now }
+{
+    runs.iter().position(|run| run.by.is_none() && run.from < place && place < run.to)
+}
+
+/// Makes each hole from a place to the place before another a piece of a segment.
+fn mark_holes(runs: &mut [Run], from: u16, to: u16, by: u16)
+    ensures { runs.new ≡ map (marked from to by) runs.old }
+{
+    for run in runs.iter_mut() {
+        *run = marked(*run, from, to, by);
+    }
+}
+
+/// A run, as a piece of a segment where it is a hole from a place to the place before another.
+fn marked(run: Run, from: u16, to: u16, by: u16) -> Run
+    ensures { result ≡ marked from to by run }
+{
+    if run.by.is_none() && from <= run.from && run.to <= to {
+        Run {
+            by: Some(by),
+            ..run
+        }
+    } else {
+        run
+    }
+}
+
+/// Gives the segment of each run another index.
+fn rename_all(runs: &mut [Run], names: &[u16])
+    ensures { runs.new ≡ map (renamed names.now) runs.old }
+{
+    for run in runs.iter_mut() {
+        *run = Run {
+            by: name_of(run.by, names),
+            ..*run
+        };
+    }
+}
+
+/// What stands at an index, if there is one.
+fn name_of(by: Option<u16>, names: &[u16]) -> Option<u16>
+    ensures { result ≡ named_in names.now by }
+{
+    names.get(usize::from(by?)).copied()
+}
