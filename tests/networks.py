@@ -4,9 +4,10 @@
 Half of the texts are scenarios, the others have a few words or lines changed. For each one the program must
 write the model's journal, or refuse the model's line and code.
 
-usage: tests/networks.py [--program PATH] [SEED [TEXTS]]
+usage: tests/networks.py [--program PATH | --try] [SEED [TEXTS]]
 
-PATH is another program to run than the built one, such as one that `rt try` compiled.
+PATH is another program to run than the built one. With --try the program is compiled and run by `rt try`, which takes
+less than a minute and proves nothing.
 """
 import argparse
 import collections
@@ -15,6 +16,7 @@ import random
 import re
 import subprocess
 import sys
+import tempfile
 
 ROOT = os.path.dirname(os.path.dirname(os.path.abspath(__file__)))
 PROGRAM = os.path.join(ROOT, "crates", "clnp_tool", "out", "clnp_tool")
@@ -733,21 +735,43 @@ def kinds_of(journal):
     return collections.Counter(f"hear-{line[5]}" if line[2] == "hear" else line[2] for line in words)
 
 
-def compared(program, text, kinds):
-    """Whether the program says of a text what the model says, and whether it is a scenario."""
-    wanted = read(text)
-    ran = subprocess.run([program, "sim"], input=text, capture_output=True)
-    if isinstance(wanted, Text):
-        journal, full = Network(wanted).journal()
-        kinds.update(kinds_of(journal))
-        same = ran.returncode == (0 if full is None else 4) and ran.stdout.decode() == journal
-    else:
-        told = f"clnp: bad input at line {wanted[0]}: {CODE_NAMES[wanted[1]]}\n"
-        same = ran.returncode == 3 and ran.stdout == b"" and ran.stderr.decode() == told
-    if not same:
-        sys.stdout.buffer.write(text)
-        sys.exit(f"the program and the model differ on this text; the program: {ran.returncode} {ran.stderr!r}")
-    return isinstance(wanted, Text)
+def run_each(program, texts):
+    """What the program says of each text: its status, its output, and what it writes to standard error."""
+    for text in texts:
+        ran = subprocess.run([program, "sim"], input=text, capture_output=True)
+        yield ran.returncode, ran.stdout.decode(), ran.stderr.decode()
+
+
+def try_all(texts):
+    """The same, of the program that `rt try` compiles once and runs on each text."""
+    with tempfile.TemporaryDirectory() as folder:
+        for at, text in enumerate(texts):
+            with open(os.path.join(folder, f"{at:06}"), "wb") as case:
+                case.write(text)
+        ran = subprocess.run(
+            ["rt", "try", "--seconds", "500", "--cases", folder, "--", "sim"],
+            cwd=os.path.join(ROOT, "crates", "clnp_tool"), capture_output=True)
+    outputs = re.split(r"^== [0-9]+\n", ran.stdout.decode(), flags=re.MULTILINE)[1:]
+    ends = re.findall(r"((?:^clnp: .*\n)*)^case=[0-9]+ run=ended status=([0-9]+)", ran.stderr.decode(), re.MULTILINE)
+    if not len(outputs) == len(ends) == len(texts):
+        sys.exit(f"rt try ran {len(ends)} of {len(texts)} texts: {ran.stderr.decode()[-2000:]}")
+    return [(int(status), output, said) for output, (said, status) in zip(outputs, ends)]
+
+
+def wanted_of(text, kinds):
+    """What the model says of a text, and whether it is a scenario."""
+    found = read(text)
+    if not isinstance(found, Text):
+        return (3, "", f"clnp: bad input at line {found[0]}: {CODE_NAMES[found[1]]}\n"), False
+    journal, full = Network(found).journal()
+    kinds.update(kinds_of(journal))
+    return (0, journal, "") if full is None else (4, journal, f"clnp: world full at {full} octets\n"), True
+
+
+def random_text():
+    lines = random_scenario() if random.random() < 0.5 else changed(random_scenario())
+    end = random.choice(["\n", "\r\n"]) if random.random() < 0.2 else "\n"
+    return (end.join(lines) + ("\n" if random.random() < 0.9 else "")).encode()
 
 
 def main():
@@ -755,16 +779,20 @@ def main():
     words.add_argument("seed", nargs="?", type=int, default=1)
     words.add_argument("texts", nargs="?", type=int, default=2000)
     words.add_argument("--program", help="another program to run than the built one")
+    words.add_argument("--try", dest="tries", action="store_true", help="run what `rt try` compiles")
     asked = words.parse_args()
     random.seed(asked.seed)
-    if asked.program is None:
+    texts = [random_text() for _ in range(asked.texts)]
+    if asked.program is None and not asked.tries:
         subprocess.run([os.path.join(ROOT, "clnp"), "--version"], check=True, stdout=subprocess.DEVNULL)
     accepted, kinds = 0, collections.Counter()
-    for _ in range(asked.texts):
-        lines = random_scenario() if random.random() < 0.5 else changed(random_scenario())
-        end = random.choice(["\n", "\r\n"]) if random.random() < 0.2 else "\n"
-        text = (end.join(lines) + ("\n" if random.random() < 0.9 else "")).encode()
-        accepted += compared(asked.program or PROGRAM, text, kinds)
+    for text, came in zip(texts, try_all(texts) if asked.tries else run_each(asked.program or PROGRAM, texts)):
+        wanted, is_scenario = wanted_of(text, kinds)
+        accepted += is_scenario
+        if came != wanted:
+            sys.stdout.buffer.write(text)
+            ends = f"{came[0]} {came[2]!r}, not {wanted[0]} {wanted[2]!r}"
+            sys.exit(f"the program and the model differ on this text; the program: {ends}")
     print(f"{asked.texts} texts, {accepted} of them scenarios: the program and the model agree")
     print("lines of their journals:", " ".join(f"{kind} {count}" for kind, count in sorted(kinds.items())))
 
