@@ -4,13 +4,19 @@
 Half of the texts are scenarios, the others have a few words or lines changed. For each one the program must
 write the model's journal, or refuse the model's line and code.
 
-usage: tests/networks.py [SEED [TEXTS]]
+usage: tests/networks.py [--program PATH | --try] [SEED [TEXTS]]
+
+PATH is another program to run than the built one. With --try the program is compiled and run by `rt try`, which takes
+less than a minute and proves nothing.
 """
+import argparse
+import collections
 import os
 import random
 import re
 import subprocess
 import sys
+import tempfile
 
 ROOT = os.path.dirname(os.path.dirname(os.path.abspath(__file__)))
 PROGRAM = os.path.join(ROOT, "crates", "clnp_tool", "out", "clnp_tool")
@@ -24,10 +30,18 @@ MOST_WEIGHT = 268_435_456
 
 # the settings that are numbers: their least and greatest values, and what they are where they are missing
 RANGES = {
-    b"rhold": (0, 65535, 120), b"slots": (1, 1024, 16), b"segments": (1, 16384, 1024),
+    b"hello": (0, 600, 60), b"suggest": (0, 32767, 0), b"rhold": (0, 65535, 120),
+    b"slots": (1, 1024, 16), b"segments": (1, 16384, 1024),
     b"budget": (512, 4194304, 262144), b"neighbours": (1, 1024, 64), b"routers": (1, 64, 8),
     b"redirects": (1, 1024, 64), b"life": (1, 255, 64),
 }
+
+# the least and the greatest numbers of addresses and of ports of a role
+ADDRESSES = {b"host": (1, 8), b"router": (1, 1)}
+PORTS = {b"host": (1, 1), b"router": (1, 8)}
+
+# whom a copy is for that is for a group
+GROUPS = {b"host": "es", b"router": "is"}
 
 
 class Refused(Exception):
@@ -119,11 +133,19 @@ def is_recorded(value):
     return True
 
 
-class Host:
-    def __init__(self, host_name, sealed, settings):
-        self.name, self.sealed, self.settings = host_name, sealed, settings
-        self.addresses, self.ports, self.units = [], [], 0
-        self.uses, self.quiet, self.buffers = [], 0, []
+class System:
+    """A host or a router."""
+
+    def __init__(self, system_name, role, sealed, settings):
+        self.name, self.role, self.sealed, self.settings = system_name, role, sealed, settings
+        self.addresses, self.ports, self.units = [], {}, 0
+        self.starts(0, 0)
+
+    def starts(self, moment, quiet):
+        """At its start, and again at a restart: nothing is kept, nothing was heard, and its hello is due."""
+        self.uses, self.buffers, self.quiet = [], [], quiet
+        self.heard = {"es": {}, "is": {}}
+        self.period, self.due = self.settings[b"hello"], moment
 
     def held(self):
         return sum(segment["size"] for buffer in self.buffers for segment in buffer["kept"])
@@ -131,19 +153,31 @@ class Host:
     def kept(self):
         return sum(len(buffer["kept"]) for buffer in self.buffers)
 
+    def is_complete(self):
+        counts = [(len(self.addresses), ADDRESSES), (len(self.ports), PORTS)]
+        in_range = all(ranges[self.role][0] <= count <= ranges[self.role][1] for count, ranges in counts)
+        return in_range and sorted(self.ports) == list(range(len(self.ports)))
+
+    def next_hop(self, destination):
+        """Where a host sends a unit: the end system of this address, else the router that it heard last."""
+        if destination in self.heard["es"]:
+            return self.heard["es"][destination]["snpa"]
+        routers = list(self.heard["is"].values())
+        return routers[-1]["snpa"] if routers else "es"
+
 
 class Text:
     """What the lines so far declare, and their events."""
 
     def __init__(self):
-        self.subnets, self.hosts, self.events, self.passed, self.ticks = [], [], [], 0, 0
+        self.subnets, self.systems, self.events, self.passed, self.ticks = [], [], [], 0, 0
         self.limits = None
 
     def subnet_names(self):
         return [subnet[0] for subnet in self.subnets]
 
-    def host_names(self):
-        return [host.name for host in self.hosts]
+    def system_names(self):
+        return [system.name for system in self.systems]
 
     def declare(self, keyword, words):
         kinds = {
@@ -171,8 +205,8 @@ class Text:
 
     def system(self, words):
         want(len(words) >= 2, SYNTAX)
-        host_name = name(words[0])
-        want(words[1] == b"host", SYNTAX)
+        system_name = name(words[0])
+        want(words[1] in (b"host", b"router"), SYNTAX)
         kinds, sealed = [], True
         settings = {key: default for key, (_, _, default) in RANGES.items()}
         for word in words[2:]:
@@ -180,40 +214,38 @@ class Text:
             if key in RANGES and word != key:
                 low, high, _ = RANGES[key]
                 settings[key] = number(word[len(key) + 1:], low, high)
-            elif word in (b"checksum=on", b"checksum=off"):
-                sealed = word == b"checksum=on"
             else:
-                want(word == b"hello=0", SYNTAX)
+                want(word in (b"checksum=on", b"checksum=off"), SYNTAX)
+                sealed = word == b"checksum=on"
             kinds.append(key)
-        want(b"hello" in kinds, SYNTAX)
-        want(host_name not in self.host_names() and len(set(kinds)) == len(kinds), DUP_NAME)
-        want(len(self.hosts) < 64, COUNT)
-        self.hosts.append(Host(host_name, sealed, settings))
+        want(system_name not in self.system_names() and len(set(kinds)) == len(kinds), DUP_NAME)
+        want(len(self.systems) < 64, COUNT)
+        self.systems.append(System(system_name, words[1], sealed, settings))
 
     def address(self, words):
         want(len(words) == 2, SYNTAX)
-        host = self.hosts[place(self.host_names(), words[0])]
+        system = self.systems[place(self.system_names(), words[0])]
         octets = address(words[1])
-        want(all(octets not in other.addresses for other in self.hosts), DUP_ADDRESS)
-        want(len(host.addresses) < 8, COUNT)
-        host.addresses.append(octets)
+        want(all(octets not in other.addresses for other in self.systems), DUP_ADDRESS)
+        want(len(system.addresses) < ADDRESSES[system.role][1], COUNT)
+        system.addresses.append(octets)
 
     def port(self, words):
         want(len(words) in (4, 5), SYNTAX)
-        host = self.hosts[place(self.host_names(), words[0])]
+        system = self.systems[place(self.system_names(), words[0])]
         port_number = number(words[1], 0, 7)
         subnet = place(self.subnet_names(), words[2])
         snpa = address(words[3])
         for transit in words[4:]:
             number(transit, 1, 255)
-        want(all(port_number != port[0] and subnet != port[1] for port in host.ports), DUP_NAME)
-        want(all((subnet, snpa) != port[1:] for other in self.hosts for port in other.ports), DUP_ADDRESS)
-        want(not host.ports, COUNT)
-        host.ports.append((port_number, subnet, snpa))
+        want(port_number not in system.ports, DUP_NAME)
+        want(all(subnet != other for other, _ in system.ports.values()), DUP_NAME)
+        want(all((subnet, snpa) not in other.ports.values() for other in self.systems), DUP_ADDRESS)
+        want(len(system.ports) < PORTS[system.role][1], COUNT)
+        system.ports[port_number] = (subnet, snpa)
 
     def start(self):
-        for host in self.hosts:
-            want(host.addresses and [port[0] for port in host.ports] == [0], COUNT)
+        want(all(system.is_complete() for system in self.systems), COUNT)
 
     def event(self, keyword, words):
         passed = ticks = 0
@@ -222,14 +254,14 @@ class Text:
         elif keyword == b"deliver":
             want(len(words) == 2, SYNTAX)
             copy = number(words[0], 1, 1_000_000_000)
-            event = ("deliver", copy, place(self.host_names(), words[1]))
+            event = ("deliver", copy, place(self.system_names(), words[1]))
         elif keyword == b"tick":
             want(len(words) == 1, SYNTAX)
             ticks = number(words[0], 1, 65535)
             event = ("tick", ticks)
         elif keyword == b"restart":
             want(len(words) == 1, SYNTAX)
-            event = ("restart", place(self.host_names(), words[0]))
+            event = ("restart", place(self.system_names(), words[0]))
         else:
             want(keyword in (b"settle", b"lose") and len(words) == 1, SYNTAX)
             passed = number(words[0], 1, 100_000)
@@ -241,7 +273,8 @@ class Text:
 
     def send(self, words):
         want(len(words) >= 4, SYNTAX)
-        host = place(self.host_names(), words[0])
+        host = place(self.system_names(), words[0])
+        want(self.systems[host].role == b"host", UNKNOWN_NAME)
         source, destination = address(words[1]), address(words[2])
         octets = data(words[3])
         kinds, life, options = [], None, b""
@@ -257,8 +290,9 @@ class Text:
                 want(word in (b"noreport", b"whole"), SYNTAX)
             kinds.append(word.split(b"=")[0])
         want(len(set(kinds)) == len(kinds), DUP_NAME)
-        lifetime = self.hosts[host].settings[b"life"] if life is None else life
-        return ("send", host, source, destination, octets, lifetime, b"noreport" not in kinds, b"whole" not in kinds, options)
+        lifetime = self.systems[host].settings[b"life"] if life is None else life
+        report, segment = b"noreport" not in kinds, b"whole" not in kinds
+        return ("send", host, source, destination, octets, lifetime, report, segment, options)
 
 
 def data(word):
@@ -328,6 +362,20 @@ def pdu(unit, offset, octets, more):
     return (sealed(header) if unit["sealed"] else header) + octets
 
 
+def hello(system):
+    """A system's hello: of its addresses, or of its title with the period that it asks hosts for."""
+    holding = min(65535, 2 * system.period).to_bytes(2, "big")
+    if system.role == b"host":
+        kind, part = 2, bytes([len(system.addresses)])
+        part += b"".join(bytes([len(octets)]) + octets for octets in system.addresses)
+    else:
+        kind, part = 4, bytes([len(system.addresses[0])]) + system.addresses[0]
+        if system.settings[b"suggest"] > 0:
+            part += b"\xc6\x02" + system.settings[b"suggest"].to_bytes(2, "big")
+    header = bytes([0x82, 9 + len(part), 1, 0, kind]) + holding + bytes(2) + part
+    return sealed(header) if system.sealed else header
+
+
 class Network:
     """The network of a text: it plays the text's events."""
 
@@ -335,61 +383,137 @@ class Network:
         self.text, self.clock, self.copies, self.cursor, self.lines, self.weight = text, 0, [], 0, [], 0
         self.age, self.hold, self.reuse = text.limits or (256, 60, 320)
 
-    def note(self, host, words):
-        self.lines.append(f"{self.clock} {host.name.decode()} {words}")
+    def note(self, system, words):
+        self.lines.append(f"{self.clock} {system.name.decode()} {words}")
 
-    def is_for(self, copy, host):
-        return host.ports[0][1] == copy["subnet"] and host.ports[0][2] != copy["sender"]
+    def puts(self, system, port, target, frame, **carried):
+        """A frame goes out on a port, to an address there or to a group."""
+        subnet, snpa = system.ports[port]
+        copy = dict(subnet=subnet, sender=snpa, target=target, birth=self.clock, size=len(frame), **carried)
+        self.copies.append(copy)
+        self.weight += len(frame) + 64
+        shown = target if isinstance(target, str) else target.hex()
+        self.note(system, f"tx {len(self.copies)} {port} {shown} {frame.hex()}")
 
-    def give(self, number_of_copy, host):
+    def entries(self, copy, system):
+        """The ports by which a copy comes to a system."""
+        def takes(snpa):
+            if copy["target"] in ("es", "is"):
+                return copy["target"] == GROUPS[system.role] and snpa != copy["sender"]
+            return copy["target"] == snpa
+
+        there = [(port, snpa) for port, (subnet, snpa) in sorted(system.ports.items()) if subnet == copy["subnet"]]
+        return [port for port, snpa in there if takes(snpa)]
+
+    def give(self, number_of_copy, system):
         copy = self.copies[number_of_copy - 1]
+        port = self.entries(copy, system)[0]
         if self.clock > copy["birth"] + self.age:
-            self.note(host, f"late {number_of_copy}")
-        elif copy["unit"]["to"] not in host.addresses:
-            self.note(host, f"notmine {copy['unit']['to'].hex()}")
-        elif len(copy["octets"]) == len(copy["unit"]["octets"]):
-            self.got(host, copy["unit"]["from"], copy["unit"]["to"], copy["octets"])
+            self.note(system, f"late {number_of_copy}")
+        elif "hello" in copy:
+            self.hears(system, port, copy["sender"], **copy["hello"])
+        elif copy["unit"]["to"] in system.addresses:
+            self.receive(system, copy)
+            if copy["target"] == "es":
+                self.tells_of_itself(system, port, copy["sender"])
+        elif system.role == b"host":
+            self.note(system, f"notmine {copy['unit']['to'].hex()}")
         else:
-            self.offer(host, copy)
+            self.note(system, "drop 81 00")
 
-    def got(self, host, source, destination, octets):
-        self.note(host, f"got {source.hex()} {destination.hex()} {octets.hex() or '-'}")
+    # hellos
 
-    def offer(self, host, copy):
-        unit, size, settings = copy["unit"], copy["size"], host.settings
+    def says(self, system, port, target):
+        suggest = system.settings[b"suggest"] if system.role == b"router" else 0
+        told = dict(role=system.role, addresses=system.addresses, holding=2 * system.period, suggest=suggest)
+        self.puts(system, port, target, hello(system), hello=told)
+
+    def tells_of_itself(self, system, port, snpa):
+        if system.period > 0:
+            self.says(system, port, snpa)
+
+    def hears(self, system, port, snpa, role, addresses, holding, suggest):
+        if system.role == b"router" and role == b"router":
+            return self.note(system, "ignored ish")
+        table = "es" if role == b"host" else "is"
+        answers = [self.keeps_in_mind(system, table, key, snpa, holding) for key in addresses]
+        if "new" in answers and (system.role, role) != (b"host", b"host"):
+            self.tells_of_itself(system, port, snpa)
+        if suggest > 0 and system.period > 0:
+            system.period = suggest
+            system.due = min(system.due, self.clock + 2 * suggest)
+
+    def keeps_in_mind(self, system, table, key, snpa, holding):
+        entries = system.heard[table]
+        limit = system.settings[{"es": b"neighbours", "is": b"routers"}[table]]
+        if key not in entries and len(entries) >= limit:
+            answer = f"full {len(entries)}"
+        else:
+            answer = "again" if key in entries else "new"
+            entries.pop(key, None)
+            entries[key] = dict(snpa=snpa, until=self.clock + 2 * holding)
+        self.note(system, f"hear {table} {key.hex()} {answer}")
+        return answer
+
+    def forgets(self, system):
+        for table, entries in system.heard.items():
+            for key in sorted(key for key, entry in entries.items() if entry["until"] <= self.clock):
+                del entries[key]
+                self.note(system, f"gone {table} {key.hex()}")
+
+    def says_hello(self, system):
+        if system.period > 0 and system.due <= self.clock:
+            system.due = self.clock + 2 * system.period
+            for port in sorted(system.ports):
+                self.says(system, port, "is" if system.role == b"host" else "es")
+
+    # units
+
+    def receive(self, system, copy):
+        if len(copy["octets"]) == len(copy["unit"]["octets"]):
+            self.got(system, copy["unit"]["from"], copy["unit"]["to"], copy["octets"])
+        else:
+            self.offer(system, copy)
+
+    def got(self, system, source, destination, octets):
+        self.note(system, f"got {source.hex()} {destination.hex()} {octets.hex() or '-'}")
+
+    def offer(self, system, copy):
+        unit, size, settings = copy["unit"], copy["size"], system.settings
         key = (unit["from"], unit["to"], unit["id"])
         identifier = f"{unit['id']:04x}"
-        there = [buffer for buffer in host.buffers if buffer["key"] == key]
+        there = [buffer for buffer in system.buffers if buffer["key"] == key]
         covered = there[0]["octets"] if there else {}
         places = range(copy["offset"], copy["offset"] + len(copy["octets"]))
         if there and there[0]["total"] != unit["total"]:
-            self.note(host, f"interference {identifier}")
-            self.note(host, "drop c0 00")
+            self.note(system, f"interference {identifier}")
+            self.note(system, "drop c0 00")
         elif all(at in covered for at in places):
-            self.note(host, f"repeat {identifier} {copy['offset']}")
-        elif not there and len(host.buffers) >= settings[b"slots"]:
-            self.note(host, f"noslot {len(host.buffers)}")
-            self.note(host, "drop 03 00")
-        elif host.held() + size > settings[b"budget"]:
-            self.note(host, f"crowded {host.held()} {size}")
-            self.note(host, "drop 03 00")
-        elif host.kept() >= settings[b"segments"]:
-            self.note(host, f"many {host.kept()}")
-            self.note(host, "drop 03 00")
+            self.note(system, f"repeat {identifier} {copy['offset']}")
+        elif not there and len(system.buffers) >= settings[b"slots"]:
+            self.note(system, f"noslot {len(system.buffers)}")
+            self.note(system, "drop 03 00")
+        elif system.held() + size > settings[b"budget"]:
+            self.note(system, f"crowded {system.held()} {size}")
+            self.note(system, "drop 03 00")
+        elif system.kept() >= settings[b"segments"]:
+            self.note(system, f"many {system.kept()}")
+            self.note(system, "drop 03 00")
         else:
             if not there:
                 deadline = self.clock + min(self.hold, unit["life"])
                 there = [dict(key=key, total=unit["total"], deadline=deadline, kept=[], octets={})]
-                host.buffers.append(there[0])
+                system.buffers.append(there[0])
             buffer = there[0]
             buffer["kept"].append(dict(offset=copy["offset"], size=size))
             for at, octet in zip(places, copy["octets"]):
                 buffer["octets"].setdefault(at, octet)
             if len(buffer["octets"]) == len(unit["octets"]):
-                host.buffers.remove(buffer)
-                self.got(host, unit["from"], unit["to"], bytes(buffer["octets"][at] for at in range(len(unit["octets"]))))
+                system.buffers.remove(buffer)
+                octets = bytes(buffer["octets"][at] for at in range(len(unit["octets"])))
+                self.got(system, unit["from"], unit["to"], octets)
             else:
-                self.note(host, f"held {identifier} {copy['offset']} {host.held()}")
+                self.note(system, f"held {identifier} {copy['offset']} {system.held()}")
 
     def send(self, host, source, destination, octets, life, report, segment, options):
         if source not in host.addresses:
@@ -415,7 +539,7 @@ class Network:
         }
         shown = "-" if identifier is None else f"{identifier:04x}"
         self.note(host, f"sent dt {host.units} {shown} {source.hex()} {destination.hex()} {len(octets)}")
-        mtu = self.text.subnets[host.ports[0][1]][1]
+        mtu = self.text.subnets[host.ports[0][0]][1]
         if length + len(octets) <= mtu:
             self.transmit(host, unit, 0, octets, False)
         elif not segment:
@@ -427,38 +551,41 @@ class Network:
 
     def transmit(self, host, unit, offset, octets, more):
         frame = pdu(unit, offset, octets, more)
-        _, subnet, snpa = host.ports[0]
-        self.copies.append(dict(
-            subnet=subnet, sender=snpa, birth=self.clock, unit=unit, offset=offset, octets=octets, size=len(frame)))
-        self.weight += len(frame) + 64
-        self.note(host, f"tx {len(self.copies)} 0 es {frame.hex()}")
+        self.puts(host, 0, host.next_hop(unit["to"]), frame, unit=unit, offset=offset, octets=octets)
+
+    # moves
 
     def tick(self):
         self.clock += 1
-        for host in self.text.hosts:
-            while due := [buffer for buffer in host.buffers if buffer["deadline"] <= self.clock]:
-                buffer = min(due, key=lambda ended: ended["deadline"])
-                host.buffers.remove(buffer)
-                self.note(host, f"expired {buffer['key'][2]:04x} {host.held()}")
-                if any(segment["offset"] == 0 for segment in buffer["kept"]):
-                    self.note(host, "drop a1 00")
+        for system in self.text.systems:
+            self.expire(system)
+            self.forgets(system)
+            self.says_hello(system)
 
-    def deliver(self, number_of_copy, host):
-        if number_of_copy <= len(self.copies) and self.is_for(self.copies[number_of_copy - 1], host):
-            self.give(number_of_copy, host)
+    def expire(self, system):
+        while due := [buffer for buffer in system.buffers if buffer["deadline"] <= self.clock]:
+            buffer = min(due, key=lambda ended: ended["deadline"])
+            system.buffers.remove(buffer)
+            self.note(system, f"expired {buffer['key'][2]:04x} {system.held()}")
+            if any(segment["offset"] == 0 for segment in buffer["kept"]):
+                self.note(system, "drop a1 00")
+
+    def deliver(self, number_of_copy, system):
+        if number_of_copy <= len(self.copies) and self.entries(self.copies[number_of_copy - 1], system):
+            self.give(number_of_copy, system)
         else:
-            self.note(host, f"void {number_of_copy}")
+            self.note(system, f"void {number_of_copy}")
 
     def pass_on(self, settles):
         if self.cursor < len(self.copies):
             self.cursor += 1
-            for host in self.text.hosts if settles else []:
-                if self.is_for(self.copies[self.cursor - 1], host):
-                    self.give(self.cursor, host)
+            for system in self.text.systems if settles else []:
+                if self.entries(self.copies[self.cursor - 1], system):
+                    self.give(self.cursor, system)
 
-    def restart(self, host):
-        host.uses, host.buffers, host.quiet = [], [], self.clock + self.reuse
-        self.note(host, "restart")
+    def restart(self, system):
+        system.starts(self.clock, self.clock + self.reuse)
+        self.note(system, "restart")
 
     def moves(self, event):
         if event[0] in ("settle", "lose"):
@@ -466,10 +593,10 @@ class Network:
         if event[0] == "tick":
             return event[1] * [self.tick]
         if event[0] == "deliver":
-            return [lambda: self.deliver(event[1], self.text.hosts[event[2]])]
+            return [lambda: self.deliver(event[1], self.text.systems[event[2]])]
         if event[0] == "restart":
-            return [lambda: self.restart(self.text.hosts[event[1]])]
-        return [lambda: self.send(self.text.hosts[event[1]], *event[2:])]
+            return [lambda: self.restart(self.text.systems[event[1]])]
+        return [lambda: self.send(self.text.systems[event[1]], *event[2:])]
 
     def journal(self):
         """The journal, and the weight at which the run stops, where it does."""
@@ -484,31 +611,51 @@ class Network:
 
 # ---- random texts
 
+def random_settings(role, is_silent):
+    hellos = [["hello=0"], [], ["hello=1"], [f"hello={random.randint(1, 5)}"]]
+    settings = ["hello=0"] if is_silent else random.choice(hellos)
+    settings += random.choice([[], ["checksum=off"], ["checksum=on"]])
+    settings += random.choice([[], [f"life={random.randint(1, 255)}"]])
+    settings += random.choice([[], [], ["slots=1"], ["segments=2"], ["budget=1100"], ["budget=512", "rhold=0"]])
+    settings += random.choice([[], ["neighbours=1"], ["neighbours=2", "routers=1"], ["routers=1"]])
+    if random.random() < (0.6 if role == "router" else 0.1):
+        settings.append(f"suggest={random.choice([0, 1, 2, 3, 7, 400, 32767])}")
+    random.shuffle(settings)
+    return "".join(" " + setting for setting in settings)
+
+
+def random_ports(role, subnets):
+    """The subnetworks of a system's ports, in the order of the ports' numbers."""
+    most = 1 if role == "host" else random.choice([1, 2, 3, 4])
+    return random.sample(subnets, min(most, len(subnets)))
+
+
 def random_scenario():
-    subnets = [f"s{at}" for at in range(random.randint(1, 4))]
-    hosts = [f"h{at}" for at in range(random.randint(1, 6))]
+    subnets = [f"s{at}" for at in range(random.choice([1, 1, 2, 3, 4]))]
+    hosts = [f"h{at}" for at in range(random.randint(0 if random.random() < 0.05 else 1, 6))]
+    routers = [f"r{at}" for at in range(random.choice([0, 1, 1, 2, 3]))]
+    systems = [(name, "host") for name in hosts] + [(name, "router") for name in routers]
+    random.shuffle(systems)
+    is_silent = random.random() < 0.4
     declared = [f"subnet {subnet} {random.choice([512, 513, 576, 1500, 65535])}" for subnet in subnets]
-    for host in hosts:
-        settings = ["hello=0"] + random.choice([[], ["checksum=off"], ["checksum=on"]])
-        settings += random.choice([[], [f"life={random.randint(1, 255)}"]])
-        settings += random.choice([[], [], ["slots=1"], ["segments=2"], ["budget=1100"], ["budget=512", "rhold=0"]])
-        random.shuffle(settings)
-        declared.append(f"system {host} host {' '.join(settings)}")
-    known, attached = {host: [] for host in hosts}, []
-    for host in hosts:
-        for _ in range(random.randint(1, 3)):
+    declared += [f"system {name} {role}{random_settings(role, is_silent)}" for name, role in systems]
+    known, attached = {name: [] for name, _ in systems}, []
+    for name, role in systems:
+        for _ in range(random.randint(1, 3) if role == "host" else 1):
             octets = random.randbytes(random.choice([1, 2, 4, 20])).hex()
             if all(octets not in others for others in known.values()):
-                known[host].append(octets)
-                attached.append(f"address {host} {random.choice([octets, octets.upper()])}")
-        transit = random.choice(["", "", " 1", " 255"])
-        attached.append(f"port {host} 0 {random.choice(subnets)} {random.randbytes(random.choice([1, 6])).hex()}{transit}")
+                known[name].append(octets)
+                attached.append(f"address {name} {random.choice([octets, octets.upper()])}")
+        for at, subnet in enumerate(random_ports(role, subnets)):
+            transit = random.choice(["", "", " 1", " 255"])
+            attached.append(f"port {name} {at} {subnet} {random.randbytes(random.choice([1, 6])).hex()}{transit}")
     if random.random() < 0.5:
         age, hold = random.randint(1, 9), random.randint(1, 9)
         attached.append(f"limits {age} {hold} {age + hold + random.randint(0, 3)}")
     random.shuffle(attached)
     everyone = [octets for others in known.values() for octets in others] + ["ab"]
-    events = [random_event(hosts, known, everyone) for _ in range(random.randint(0, 30))]
+    names = [name for name, _ in systems] or ["x"]
+    events = [random_event(hosts or names, names, known, everyone) for _ in range(random.randint(0, 50))]
     lines = []
     for line in ["clnp-sim 1"] + declared + attached + ["events"] + events + ["end"]:
         if random.random() < 0.1:
@@ -521,11 +668,11 @@ OPTIONS = ["", "c501c0", "cd0105", "cc00cc020000", "c807000304470027ff", "cb0700
            "c301c0cd010e", "cc80" + 128 * "00" + "cc50" + 80 * "00"]
 
 
-def random_event(hosts, known, everyone):
+def random_event(hosts, names, known, everyone):
     kind = random.random()
-    if kind < 0.35:
+    if kind < 0.25:
         host = random.choice(hosts)
-        source = random.choice(known[host] or everyone) if random.random() < 0.9 else random.choice(everyone)
+        source = random.choice(known.get(host) or everyone) if random.random() < 0.9 else random.choice(everyone)
         length = random.choice([0, 1, 3, 40, 490, 500, 600, 1480, 2000]) if random.random() < 0.95 else 64513
         words = random.choice([[], [], ["whole"]]) + random.choice([[], ["noreport"]])
         words += random.choice([[], [f"life={random.choice([1, 2, 10, 255])}"]])
@@ -534,17 +681,19 @@ def random_event(hosts, known, everyone):
         pattern = f"pat:{length}:{random.randint(0, 255)}"
         octets = pattern if random.random() < 0.5 else "hex:" + random.randbytes(length).hex()
         return f"send {host} {source} {random.choice(everyone)} {octets} {' '.join(words)}"
+    if kind < 0.4:
+        return f"deliver {random.randint(1, random.choice([5, 15, 60]))} {random.choice(names)}"
     if kind < 0.65:
-        return f"deliver {random.randint(1, 15)} {random.choice(hosts)}"
-    if kind < 0.75:
-        return f"tick {random.randint(1, 4)}"
-    if kind < 0.8:
-        return f"restart {random.choice(hosts)}"
-    return f"settle {random.randint(1, 4)}" if kind < 0.95 else f"lose {random.randint(1, 3)}"
+        return f"tick {random.choice([1, 1, 2, 3, 4, 8, 20]) if random.random() < 0.97 else random.randint(1, 300)}"
+    if kind < 0.69:
+        return f"restart {random.choice(names)}"
+    return f"settle {random.choice([1, 2, 4, 8, 30])}" if kind < 0.95 else f"lose {random.randint(1, 6)}"
 
 
-WORDS = """pat:3 pat:70001:0 pat:3:256 pat:x:1 opt= opt=c1020000 opt=cd opt=c5 slots=0 budget=511 tick suggest=1 x 0 256 65536 511 70 end events host hello=1 life=0 life=300 whole zz a.b 4 . hex:1 hex -1 007
-99999999999999999999999 checksum=maybe h0 s0 H0 abcdefghijklmnopq""".split()
+WORDS = """pat:3 pat:70001:0 pat:3:256 pat:x:1 opt= opt=c1020000 opt=cd opt=c5 slots=0 budget=511 tick suggest=1
+suggest=32768 suggest= hello=1 hello=601 hello= hello x 0 1 2 8 256 65536 511 70 end events host router r0 r1 life=0
+life=300 whole zz a.b 4 . hex:1 hex -1 007 99999999999999999999999 checksum=maybe h0 s0 H0 abcdefghijklmnopq""".split()
+MORE = "x whole life=3 noreport hello=0 hello=2 suggest=3 checksum=on opt=cd0101 slots=2 7".split()
 
 
 def changed(lines):
@@ -562,7 +711,7 @@ def changed(lines):
             del words[random.randrange(len(words))]
             lines[at] = " ".join(words)
         elif kind == 4:
-            lines[at] += " " + random.choice(["x", "whole", "life=3", "noreport", "hello=0", "checksum=on", "opt=cd0101", "slots=2", "7"])
+            lines[at] += " " + random.choice(MORE)
         elif kind == 5:
             other = random.randrange(len(lines))
             lines[at], lines[other] = lines[other], lines[at]
@@ -579,28 +728,73 @@ def changed(lines):
     return lines
 
 
+def kinds_of(journal):
+    """How often each kind of line stands in a journal; a hearing's kind is its answer too."""
+    lines = [line.split(" ") for line in journal.splitlines()]
+    words = [line for line in lines if line[0] != "end"]
+    return collections.Counter(f"hear-{line[5]}" if line[2] == "hear" else line[2] for line in words)
+
+
+def run_each(program, texts):
+    """What the program says of each text: its status, its output, and what it writes to standard error."""
+    for text in texts:
+        ran = subprocess.run([program, "sim"], input=text, capture_output=True)
+        yield ran.returncode, ran.stdout.decode(), ran.stderr.decode()
+
+
+def try_all(texts):
+    """The same, of the program that `rt try` compiles once and runs on each text."""
+    with tempfile.TemporaryDirectory() as folder:
+        for at, text in enumerate(texts):
+            with open(os.path.join(folder, f"{at:06}"), "wb") as case:
+                case.write(text)
+        ran = subprocess.run(
+            ["rt", "try", "--seconds", "500", "--cases", folder, "--", "sim"],
+            cwd=os.path.join(ROOT, "crates", "clnp_tool"), capture_output=True)
+    outputs = re.split(r"^== [0-9]+\n", ran.stdout.decode(), flags=re.MULTILINE)[1:]
+    ends = re.findall(r"((?:^clnp: .*\n)*)^case=[0-9]+ run=ended status=([0-9]+)", ran.stderr.decode(), re.MULTILINE)
+    if not len(outputs) == len(ends) == len(texts):
+        sys.exit(f"rt try ran {len(ends)} of {len(texts)} texts: {ran.stderr.decode()[-2000:]}")
+    return [(int(status), output, said) for output, (said, status) in zip(outputs, ends)]
+
+
+def wanted_of(text, kinds):
+    """What the model says of a text, and whether it is a scenario."""
+    found = read(text)
+    if not isinstance(found, Text):
+        return (3, "", f"clnp: bad input at line {found[0]}: {CODE_NAMES[found[1]]}\n"), False
+    journal, full = Network(found).journal()
+    kinds.update(kinds_of(journal))
+    return (0, journal, "") if full is None else (4, journal, f"clnp: world full at {full} octets\n"), True
+
+
+def random_text():
+    lines = random_scenario() if random.random() < 0.5 else changed(random_scenario())
+    end = random.choice(["\n", "\r\n"]) if random.random() < 0.2 else "\n"
+    return (end.join(lines) + ("\n" if random.random() < 0.9 else "")).encode()
+
+
 def main():
-    random.seed(int(sys.argv[1]) if len(sys.argv) > 1 else 1)
-    texts = int(sys.argv[2]) if len(sys.argv) > 2 else 2000
-    subprocess.run([os.path.join(ROOT, "clnp"), "--version"], check=True, stdout=subprocess.DEVNULL)
-    accepted = 0
-    for _ in range(texts):
-        lines = random_scenario() if random.random() < 0.5 else changed(random_scenario())
-        end = random.choice(["\n", "\r\n"]) if random.random() < 0.2 else "\n"
-        text = (end.join(lines) + ("\n" if random.random() < 0.9 else "")).encode()
-        wanted = read(text)
-        ran = subprocess.run([PROGRAM, "sim"], input=text, capture_output=True)
-        if isinstance(wanted, Text):
-            accepted += 1
-            wanted_text, full = Network(wanted).journal()
-            same = ran.returncode == (0 if full is None else 4) and ran.stdout.decode() == wanted_text
-        else:
-            told = f"clnp: bad input at line {wanted[0]}: {CODE_NAMES[wanted[1]]}\n"
-            same = ran.returncode == 3 and ran.stdout == b"" and ran.stderr.decode() == told
-        if not same:
+    words = argparse.ArgumentParser(description="Compares `clnp sim` with a plain model, on random texts.")
+    words.add_argument("seed", nargs="?", type=int, default=1)
+    words.add_argument("texts", nargs="?", type=int, default=2000)
+    words.add_argument("--program", help="another program to run than the built one")
+    words.add_argument("--try", dest="tries", action="store_true", help="run what `rt try` compiles")
+    asked = words.parse_args()
+    random.seed(asked.seed)
+    texts = [random_text() for _ in range(asked.texts)]
+    if asked.program is None and not asked.tries:
+        subprocess.run([os.path.join(ROOT, "clnp"), "--version"], check=True, stdout=subprocess.DEVNULL)
+    accepted, kinds = 0, collections.Counter()
+    for text, came in zip(texts, try_all(texts) if asked.tries else run_each(asked.program or PROGRAM, texts)):
+        wanted, is_scenario = wanted_of(text, kinds)
+        accepted += is_scenario
+        if came != wanted:
             sys.stdout.buffer.write(text)
-            sys.exit(f"the program and the model differ on this text; the program: {ran.returncode} {ran.stderr!r}")
-    print(f"{texts} texts, {accepted} of them scenarios: the program and the model agree")
+            ends = f"{came[0]} {came[2]!r}, not {wanted[0]} {wanted[2]!r}"
+            sys.exit(f"the program and the model differ on this text; the program: {ends}")
+    print(f"{asked.texts} texts, {accepted} of them scenarios: the program and the model agree")
+    print("lines of their journals:", " ".join(f"{kind} {count}" for kind, count in sorted(kinds.items())))
 
 
 main()
