@@ -26,7 +26,8 @@ pub enum System {
 }
 
 impl System {
-    /// The system that is declared, at its start, at a moment. It makes no unit with an identifier before the moment `quiet`.
+    /// The system that is declared, at its start, at a moment. It makes no unit with an identifier before the moment
+    /// `quiet`.
     ///
     /// # Errors
     ///
@@ -72,8 +73,8 @@ impl System {
         }
     }
 
-    /// A frame comes at a port, from a system of this subnetwork, to this one alone or through a group; what it gives out is
-    /// appended.
+    /// A frame comes at a port, from a system of this subnetwork, to this one alone or through a group; what it gives
+    /// out is appended.
     ///
     /// # Errors
     ///
@@ -104,7 +105,8 @@ impl System {
         }
     }
 
-    /// Forgets all that it keeps and heard, and is quiet as long as an identifier rests; the count of its units goes on.
+    /// Forgets all that it keeps and heard, and is quiet as long as an identifier rests; the count of its units goes
+    /// on.
     pub fn restart(&mut self)
         ensures stands { (s : SystemState) → Stands self.old s → Stands self.new (step s IsRestarted).after }
         ensures moment { (entity_of self.new).moment ≡ (entity_of self.old).moment }

@@ -15,8 +15,8 @@ mod moves;
 mod outputs;
 mod sending;
 
-/// The systems, the copies that were ever put on a subnetwork, and the clock. After memory was refused in a move it is in no
-/// known state.
+/// The systems, the copies that were ever put on a subnetwork, and the clock. After memory was refused in a move it is
+/// in no known state.
 #[derive(Debug, Drop)]
 pub(crate) struct Network {
     /// In ticks of 500 ms.

@@ -90,8 +90,8 @@ impl EndSystem {
         self.entity.tick(alloc, now, out)
     }
 
-    /// A frame comes at a port, from a system of this subnetwork, to the host alone or through a group; what the host gives
-    /// out is appended.
+    /// A frame comes at a port, from a system of this subnetwork, to the host alone or through a group; what the host
+    /// gives out is appended.
     ///
     /// # Errors
     ///
@@ -158,7 +158,8 @@ impl EndSystem {
         self.entity.make(alloc, Kind::Dt, from, to, body, ask, out)
     }
 
-    /// Forgets all that it keeps and heard, and is quiet as long as an identifier rests; the count of its units goes on.
+    /// Forgets all that it keeps and heard, and is quiet as long as an identifier rests; the count of its units goes
+    /// on.
     pub fn restart(&mut self)
         ensures stands { (s : SystemState) → Stands self.old s → Stands self.new (step s IsRestarted).after }
         ensures spent { self.new.entity.spent ≡ self.old.entity.spent }
@@ -175,8 +176,8 @@ impl EndSystem {
         self.entity.held()
     }
 
-    /// Where it sends a PDU for an address, on its one port: to the better hop of a redirect, to the end system of the address, to
-    /// the router that it heard last, or else to all end systems (ISO 9542, section 6.5).
+    /// Where it sends a PDU for an address, on its one port: to the better hop of a redirect, to the end system of the
+    /// address, to the router that it heard last, or else to all end systems (ISO 9542, section 6.5).
     pub fn next_hop(&self, to: &Address) -> Target
         ensures { (s : SystemState) → Stands self.now s → (port : ℕ) × (next_hop s to.now ≡ Some (record { port = port; target = result })) }
     {

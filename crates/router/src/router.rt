@@ -86,8 +86,8 @@ impl Router {
         self.entity.tick(alloc, now, out)
     }
 
-    /// A frame comes at a port, from a system of this subnetwork, to the router alone or through a group; what the router gives
-    /// out is appended.
+    /// A frame comes at a port, from a system of this subnetwork, to the router alone or through a group; what the router
+    /// gives out is appended.
     ///
     /// # Errors
     ///
@@ -123,7 +123,8 @@ impl Router {
         }
     }
 
-    /// Forgets all that it keeps and heard, and is quiet as long as an identifier rests; the count of its units goes on.
+    /// Forgets all that it keeps and heard, and is quiet as long as an identifier rests; the count of its units goes
+    /// on.
     pub fn restart(&mut self)
         ensures stands { (s : SystemState) → Stands self.old s → Stands self.new (step s IsRestarted).after }
         ensures spent { self.new.entity.spent ≡ self.old.entity.spent }

@@ -115,8 +115,8 @@ impl Network {
         )
     }
 
-    /// Puts a frame of the system at a place on the subnetwork of its port, where it has that port. What it carries was made at
-    /// this moment, since no system carries on a frame that came.
+    /// Puts a frame of the system at a place on the subnetwork of its port, where it has that port. What it carries was
+    /// made at this moment, since no system carries on a frame that came.
     fn put_copy(
         &mut self,
         place: usize,
