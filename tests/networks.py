@@ -631,7 +631,7 @@ def random_ports(role, subnets):
 
 
 def random_scenario():
-    subnets = [f"s{at}" for at in range(random.choice([1, 1, 2, 3, 4]))]
+    subnets = [f"s{at}" for at in range(random.choice([1, 1, 1, 2, 3, 4]))]
     hosts = [f"h{at}" for at in range(random.randint(0 if random.random() < 0.05 else 1, 6))]
     routers = [f"r{at}" for at in range(random.choice([0, 1, 1, 2, 3]))]
     systems = [(name, "host") for name in hosts] + [(name, "router") for name in routers]
@@ -655,7 +655,11 @@ def random_scenario():
     random.shuffle(attached)
     everyone = [octets for others in known.values() for octets in others] + ["ab"]
     names = [name for name, _ in systems] or ["x"]
-    events = [random_event(hosts or names, names, known, everyone) for _ in range(random.randint(0, 50))]
+    events = []
+    for _ in range(random.randint(0, 40)):
+        events.append(random_event(hosts or names, names, known, everyone))
+        if random.random() < 0.4 and events[-1].startswith(("send", "tick")):
+            events.append(f"settle {random.choice([4, 30])}")
     lines = []
     for line in ["clnp-sim 1"] + declared + attached + ["events"] + events + ["end"]:
         if random.random() < 0.1:
