@@ -624,12 +624,6 @@ def random_settings(role, is_silent):
     return "".join(" " + setting for setting in settings)
 
 
-def random_ports(role, subnets):
-    """The subnetworks of a system's ports, in the order of the ports' numbers."""
-    most = 1 if role == "host" else random.choice([1, 2, 3, 4])
-    return random.sample(subnets, min(most, len(subnets)))
-
-
 def random_scenario():
     subnets = [f"s{at}" for at in range(random.choice([1, 1, 1, 2, 3, 4]))]
     hosts = [f"h{at}" for at in range(random.randint(0 if random.random() < 0.05 else 1, 6))]
@@ -646,7 +640,8 @@ def random_scenario():
             if all(octets not in others for others in known.values()):
                 known[name].append(octets)
                 attached.append(f"address {name} {random.choice([octets, octets.upper()])}")
-        for at, subnet in enumerate(random_ports(role, subnets)):
+        ports = 1 if role == "host" else random.randint(1, len(subnets))
+        for at, subnet in enumerate(random.sample(subnets, ports)):
             transit = random.choice(["", "", " 1", " 255"])
             attached.append(f"port {name} {at} {subnet} {random.randbytes(random.choice([1, 6])).hex()}{transit}")
     if random.random() < 0.5:
