@@ -1,6 +1,6 @@
 use clnp_plan::{
-    Note, Role, Settings, SystemConfig, Why, journal_text, late_text, push_end, transmission_text,
-    void_text,
+    Note, PortConfig, Role, Settings, SystemConfig, Why, journal_text, late_text, push_end,
+    transmission_text, void_text,
 };
 use nsap::{Address, Snpa, Target};
 use pdu_header::Kind;
@@ -80,6 +80,13 @@ end 0 1
 #[test]
 fn copies_a_system(rt: HostRuntime) -> Result<(), Fail> {
     let alloc = rt.alloc();
+    let addresses = [Address::from_text(b"47002701")?];
+    let ports = [PortConfig {
+        subnet: 2,
+        snpa: Snpa::from_bytes(&[2, 0])?,
+        transit: 3,
+        mtu: 1497,
+    }];
     let settings = Settings {
         hello: 0,
         suggest: 1,
@@ -96,12 +103,15 @@ fn copies_a_system(rt: HostRuntime) -> Result<(), Fail> {
     let config = SystemConfig::new(
         Vec::from_slice(alloc, b"r1")?,
         Role::Router,
-        Vec::new(alloc),
-        Vec::new(alloc),
+        Vec::from_slice(alloc, &addresses)?,
+        Vec::from_slice(alloc, &ports)?,
         settings,
     );
     let copy = config.copy(alloc)?;
     assert_eq!(rt; copy.name(), b"r1".as_slice());
+    assert_eq!(rt; copy.role(), Role::Router);
+    assert_eq!(rt; copy.addresses(), addresses.as_slice());
+    assert_eq!(rt; copy.ports(), ports.as_slice());
     assert_eq!(rt; *copy.settings(), settings);
     Ok(())
 }
