@@ -2,7 +2,8 @@ use clnp_plan::{
     Note, PortConfig, Role, Settings, SystemConfig, Why, journal_text, late_text, push_end,
     transmission_text, void_text,
 };
-use nsap::{Address, Snpa, Target};
+use forwarding::Route;
+use nsap::{Address, Prefix, Snpa, Target};
 use pdu_header::Kind;
 use std::test::Fail;
 
@@ -87,6 +88,12 @@ fn copies_a_system(rt: HostRuntime) -> Result<(), Fail> {
         transit: 3,
         mtu: 1497,
     }];
+    let routes = [Route {
+        prefix: Prefix::from_text(b"470028")?,
+        port: 0,
+        snpa: Snpa::from_bytes(&[2, 1])?,
+        title: Address::from_text(b"470027ff")?,
+    }];
     let settings = Settings {
         hello: 0,
         suggest: 1,
@@ -105,6 +112,7 @@ fn copies_a_system(rt: HostRuntime) -> Result<(), Fail> {
         Role::Router,
         Vec::from_slice(alloc, &addresses)?,
         Vec::from_slice(alloc, &ports)?,
+        Vec::from_slice(alloc, &routes)?,
         settings,
     );
     let copy = config.copy(alloc)?;
@@ -112,6 +120,7 @@ fn copies_a_system(rt: HostRuntime) -> Result<(), Fail> {
     assert_eq!(rt; copy.role(), Role::Router);
     assert_eq!(rt; copy.addresses(), addresses.as_slice());
     assert_eq!(rt; copy.ports(), ports.as_slice());
+    assert_eq!(rt; copy.routes(), routes.as_slice());
     assert_eq!(rt; *copy.settings(), settings);
     Ok(())
 }

@@ -1,12 +1,12 @@
 //! The top call: words and input in, output and a status out.
-ghost use Rattle.std.specs.Prelude.{◌≡◌, ◌<◌, ◌≤◌, ◌⊎◌, ◌↔◌, ℕ, List, length, map, IfSome, IfOk, Ok, Err, string_bytes};
+ghost use Rattle.std.specs.Prelude.{◌≡◌, ◌<◌, ◌≤◌, ◌⊎◌, ◌↔◌, ℕ, List, [], length, map, IfSome, IfOk, Ok, Err, string_bytes};
 ghost use Rattle.std.specs.List.{AllByRecursion};
 ghost use Rattle.std.specs.Io.KnownBytes.{Consumes, Keeps};
 ghost use Rattle.clnp_base.specs.Streams.{Rose};
 ghost use Rattle.scenario.specs.Grammar.{plan_of};
 ghost use Rattle.clnp_network.specs.World.{first_world};
 ghost use Rattle.clnp_network.specs.Run.{run, world_after};
-ghost use Rattle.clnp_network.specs.Safe.{CarriesRanges, FramesAreUnbroken, HoldsUnitsApart, IdentifiersRest, IsHonest, IsWithinBudgets, IsWithinLifetimes, NoInterference, NoneIsAlien, TellsNoRule};
+ghost use Rattle.clnp_network.specs.Safe.{CarriesRanges, EachIsFounded, FramesAreUnbroken, HoldsUnitsApart, IdentifiersRest, IsHonest, IsWithinBudgets, IsWithinLifetimes, NoInterference, NoneIsAlien, TellsNoRule};
 ghost use Rattle.clnp_commands.specs.Words.{command_of, called, called_by, AppendsOutput, AppendsOutputFront, AppendsOutputParts, Excuses};
 ghost use Rattle.clnp_commands.specs.Sim.{most_input, ReadsWhole};
 ghost use Rattle.clnp_commands.specs.Play.{ComesTo};
@@ -125,6 +125,12 @@ pub fn clnp_main<S: Source, K: Sink>(
     ensures unrefused { (text : List ℕ) → IfOk (plan_of text) (λ plan.
         AllByRecursion (λ entry. AllByRecursion TellsNoRule entry.lines) (run plan)) }
 
+    // What a line of a scenario's moves says of error reports and echo replies that came to a system is
+    // founded on what the system made: a report's data are the header of a packet of a unit of its own;
+    // a reply answers a request that it made since its last restart, and an owner of its source made it.
+    ensures founded { (text : List ℕ) → IfOk (plan_of text) (λ plan. (moves : List Move)
+        → EachIsFounded plan (first_world plan) [] moves) }
+
     // No line of a run notes a frame of no protocol.
     ensures known { (text : List ℕ) → IfOk (plan_of text) (λ plan. AllByRecursion (λ entry. NoneIsAlien entry.lines) (run plan)) }
 
@@ -163,6 +169,8 @@ fn every_run_is_safe()
         → FramesAreUnbroken (world_after plan (first_world plan) moves)) }
     ensures unrefused { (text : List ℕ) → IfOk (plan_of text) (λ plan.
         AllByRecursion (λ entry. AllByRecursion TellsNoRule entry.lines) (run plan)) }
+    ensures founded { (text : List ℕ) → IfOk (plan_of text) (λ plan. (moves : List Move)
+        → EachIsFounded plan (first_world plan) [] moves) }
     ensures known { (text : List ℕ) → IfOk (plan_of text) (λ plan. AllByRecursion (λ entry. NoneIsAlien entry.lines) (run plan)) }
     ensures lifetimes { (text : List ℕ) → IfOk (plan_of text) (λ plan. (moves : List Move)
         → IsWithinLifetimes (world_after plan (first_world plan) moves)) }
@@ -176,6 +184,7 @@ fn every_run_is_safe()
     laws::identifiers_rest();
     laws::no_frame_breaks_a_rule();
     laws::no_frame_is_refused();
+    laws::reports_and_echoes_are_of_its_own();
     laws::no_frame_is_alien();
     laws::hops_are_within_lifetimes();
 }

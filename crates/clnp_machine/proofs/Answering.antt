@@ -13,20 +13,26 @@ use Rattle.esis_tables.specs.declared.fact.Place.{Place}
 use Rattle.esis_tables.specs.declared.fact.TableKind.TheVariants.{Es, Is}
 use Rattle.esis_tables.specs.Fact.{answer}
 use Rattle.nsap.specs.declared.target.Target.TheVariants.{System}
-use Rattle.pdu_header.specs.Rules.{octet, refusal as rule_broken}
+use Rattle.pdu_header.specs.Rules.{is_reportable, octet, refusal as rule_broken}
+use Rattle.esis_pdus.specs.Rules.{why_refused}
+use Rattle.clnp_plan.specs.declared.note.Note.{Note}
+use Rattle.clnp_plan.specs.declared.note.Note.TheVariants.{Discard}
 use Rattle.clnp_plan.specs.Configuration.{SystemConfiguration}
 use Rattle.clnp_plan.specs.declared.config.PortConfig.{PortConfig}
 use Rattle.clnp_plan.specs.declared.config.Role.{Role}
 use Rattle.clnp_plan.specs.declared.config.Role.TheVariants.{Host, Router}
 use Rattle.clnp_machine.specs.Unit as unit
 use Rattle.clnp_machine.specs.Unit.{Packet, whole_packet, cut}
+use Rattle.clnp_machine.specs.Content.{Labelled, Unlabelled}
 use Rattle.clnp_machine.specs.System.{SystemState, Output, Transmits, SendsEsis, Effect, idles, gives, then_does}
 use Rattle.clnp_machine.specs.Esis.{answers_new, end_system_heard, esis_comes, esis_heard, esis_limits, follows, heard_now, hears, hears_each, intermediate_system_heard, is_silent, own_hello, tells_new, tells_of_itself}
-use Rattle.clnp_machine.specs.Local.{Action, Sends, Tells, Deed}
-use Rattle.clnp_machine.specs.Step.{Hop, discard_refused, first_sent, is_asked_for, next_hop, octets_come, outputs_of, packet_comes, responds, sent_on, transmissions}
-use Rattle.clnp_machine.specs.Steps.{IsAtMostItsHello, sends_esis, sends_frame}
+use Rattle.clnp_machine.specs.Local.{Action, Sends, Tells, Deed, and_then, discard, made_in, receive, tells}
+use Rattle.clnp_machine.specs.Step.{Hop, discard_refused, first_sent, is_asked_for, octets_come, outputs_of, packet_comes, responds, sent_on, transmissions, unheard_note, unit_hop}
+use Rattle.clnp_machine.specs.Steps.{IsAtMostItsHello, IsAtMostReportOf, sends_esis, sends_frame}
+use Rattle.clnp_machine.proofs.Asked.{discard_makes, not_reported}
 use Rattle.clnp_machine.proofs.Deeds.{packet_is}
 use Rattle.clnp_machine.proofs.Hellos.{only_comes, only_hears_each, same_hello}
+use Rattle.clnp_machine.proofs.Passing.{packet_does}
 use Rattle.clnp_machine.proofs.Known.{IsKnown, all_known, becomes_known, none_new, not_new, told_old}
 
 -- where no output passes a test, none is left by it
@@ -144,39 +150,54 @@ pub deeds_silent : (s : SystemState) (actions : List Action) → NonePasses send
 deeds_silent s [] = tt
 deeds_silent s (Tells told ∷ actions) = (refl, deeds_silent s actions)
 deeds_silent s (Sends u ∷ actions) =
-    AllByRecursion-append (λ output. sends_esis output ≡ false) (first_sent s u (next_hop s u.destination)) (flat_map (outputs_of s) actions)
-    (first_silent s u (next_hop s u.destination)) (deeds_silent s actions)
+    AllByRecursion-append (λ output. sends_esis output ≡ false) (first_sent s u (unit_hop s u)) (flat_map (outputs_of s) actions)
+    (first_silent s u (unit_hop s u)) (deeds_silent s actions)
+
+pub packet_silent : (s : SystemState) (p : Packet) (following : List ℕ) → NonePasses sends_esis (packet_comes s p following).outputs
+packet_silent s p following =
+    packet_does (λ effect. NonePasses sends_esis effect.outputs) s p following
+    (λ reason of_none. deeds_silent (discard s (Labelled p following) reason 0).after (discard s (Labelled p following) reason 0).actions)
+    (λ hop port pieces there alive gives. pieces_silent hop pieces) (refl, tt)
+    (λ own. deeds_silent (receive s p following).after (receive s p following).actions)
 
 pub packet_causes : (s : SystemState) (place : Place) (to_group : Bool) (p : Packet) (following : List ℕ)
-    → IsAtMostItsHello s place (filter sends_esis (flat_map (outputs_of (packet_comes s p following).after) (packet_comes s p following).actions
-    ++ (responds (packet_comes s p following).after place to_group p).outputs))
+    → IsAtMostItsHello s place (filter sends_esis ((packet_comes s p following).outputs ++ (responds (packet_comes s p following).after place to_group p).outputs))
 packet_causes s place to_group p following =
-    let deed = packet_comes s p following in
-    let t = deed.after in
+    let come = packet_comes s p following in
+    let t = come.after in
     let is = packet_is s p following in
     subst (IsAtMostItsHello s place)
-    (sym (none_before sends_esis (flat_map (outputs_of t) deed.actions) (responds t place to_group p).outputs (deeds_silent t deed.actions)))
+    (sym (none_before sends_esis come.outputs (responds t place to_group p).outputs (packet_silent s p following)))
     (at_same s t place (filter sends_esis (responds t place to_group p).outputs) is.itself.configuration is.heard.hello
     (at_one_of sends_esis t place (is_asked_for t.configuration.role t to_group p) _ _ (told_esis t place) (inl refl)))
 
--- Octets that are no PDU are answered by nothing.
+-- Octets that are no PDU are answered by nothing but the report of their discard.
 
-refused_unanswered : (s : SystemState) (octets : List ℕ) (broken : Option OptionRefusal)
-    → filter sends_frame (flat_map (outputs_of (discard_refused s octets broken).after) (discard_refused s octets broken).actions) ≡ []
-refused_unanswered s octets None = refl
-refused_unanswered s octets (Some broken) = refl
+pub octets_silent : (s : SystemState) (octets : List ℕ) → filter sends_esis (flat_map (outputs_of (octets_come s octets).after) (octets_come s octets).actions) ≡ []
+octets_silent s octets = none_left sends_esis _ (deeds_silent (octets_come s octets).after (octets_come s octets).actions)
 
-abbrev pub Unanswered : Deed → Type 0
+-- a property of what is done with octets
+octets_do : (P : Deed → Type 0) (s : SystemState) (octets : List ℕ) → ((reason place : ℕ) → P (discard s (Unlabelled octets) reason place))
+    → ((told : Note) → P (tells s told)) → P (octets_come s octets)
+octets_do P s octets discarded told = go (octet octets 1 == 0x81) (rule_broken octets)
+  where
+    go : (begun : Bool) (broken : Option OptionRefusal) → P (if begun then discard_refused s octets broken else tells s (unheard_note (why_refused octets)))
+    go true None = discarded _ _
+    go true (Some broken) = discarded _ _
+    go false broken = told _
+
+abbrev Unanswered : Deed → Type 0
 Unanswered deed = filter sends_frame (flat_map (outputs_of deed.after) deed.actions) ≡ []
 
-unanswered_one_of : (test : Bool) (first second : Deed) → Unanswered first → Unanswered second → Unanswered (if test then first else second)
-unanswered_one_of true first second h k = h
-unanswered_one_of false first second h k = k
+pub octets_unanswered : (s : SystemState) (octets : List ℕ) → is_reportable octets ≡ false → Unanswered (octets_come s octets)
+octets_unanswered s octets e =
+    octets_do Unanswered s octets
+    (λ reason place. subst (λ (deed : Deed). Unanswered (and_then (tells s (Discard reason place)) (λ t. deed))) (sym (not_reported s octets reason place e)) refl)
+    (λ told. refl)
 
-pub octets_unanswered : (s : SystemState) (octets : List ℕ) → Unanswered (octets_come s octets)
-octets_unanswered s octets =
-    unanswered_one_of (octet octets 1 == 0x81) (discard_refused s octets (rule_broken octets)) _ (refused_unanswered s octets (rule_broken octets))
-    refl
+pub octets_reported : (s : SystemState) (octets : List ℕ) → IsAtMostReportOf octets (made_in (octets_come s octets).actions)
+octets_reported s octets =
+    octets_do (λ deed. IsAtMostReportOf octets (made_in deed.actions)) s octets (discard_makes s (Unlabelled octets)) (λ told. inl refl)
 
 -- What isn't new is answered by nothing.
 

@@ -1,33 +1,45 @@
--- What each deed of a system leaves: the same system at the same moment, within its budget, and units that are fresh.
+-- What each deed of a system leaves: the same system at the same moment, within its budget, and the units that it makes.
+use Rattle.clnp_base.proofs.Lists.{AllByRecursion-find, AllByRecursion-implies, AllByRecursion-map}
 use Rattle.clnp_base.proofs.Sums.{sum_filter}
-use Rattle.std.proofs.Common.{◌≡◌, ◌∙◌, ap, refl, ℕ, zero, suc, ◌≤◌, Bool, true, false, not, List, [], ◌∷◌, ◌++◌, length, Option, None, Some, arith}
-use Rattle.std.specs.Prelude.{◌==◌, if◌then◌else◌}
-use Rattle.std.specs.List.{AllByRecursion}
-use Rattle.pdu_header.specs.declared.kind.Kind.{Kind}
-use Rattle.pdu_header.specs.declared.kind.Kind.TheVariants.{Dt}
-use Rattle.pdu_header.specs.Rules.{octet, refusal as rule_broken}
+use Rattle.std.proofs.Common.{◌≡◌, ◌∙◌, ap, refl, sym, subst, ℕ, zero, suc, ◌≤◌, Bool, true, false, not, List, [], ◌∷◌, ◌++◌, length, map, Option, None, Some, option_map, Contains, arith}
+use Rattle.std.specs.Prelude.{◌==◌, ◌||◌, if◌then◌else◌, slice_get}
+use Rattle.std.specs.List.{AllByRecursion, find, list_any}
+use Rattle.std.specs.Str.{bytes_eq}
+use Rattle.clnp_options.specs.Parameter.{Parameter}
+use Rattle.clnp_options.specs.Reasons.{reason_code}
 use Rattle.clnp_options.specs.declared.judge.OptionRefusal.{OptionRefusal}
+use Rattle.clnp_options.specs.declared.reasons.Reason.TheVariants.{LifetimeExpiredInReassembly, NotSpecified}
+use Rattle.pdu_header.specs.declared.kind.Kind.{Kind}
+use Rattle.pdu_header.specs.declared.kind.Kind.TheVariants.{Dt, Er, Erq, Erp}
+use Rattle.pdu_header.specs.Rules.{header_of, is_reportable, octet, refusal as rule_broken}
+use Rattle.error_reports.specs.Report.{reason_option, source_of}
 use Rattle.reassembly.specs.Arrival.{Arrival, same_key}
 use Rattle.reassembly.specs.Buffer as buffer
 use Rattle.reassembly.specs.Buffer.{Answer, Buffer, held, size_of}
+use Rattle.esis_pdus.specs.Rules.{why_refused}
 use Rattle.esis_tables.specs.declared.fact.Place.{Place}
+use Rattle.esis_tables.proofs.Addresses.{same-itself}
+use Rattle.clnp_plan.specs.Configuration.{SystemConfiguration}
 use Rattle.clnp_plan.specs.declared.ask.Ask.{Ask}
-use Rattle.clnp_plan.specs.declared.config.Role.{Role}
-use Rattle.clnp_plan.specs.declared.config.Role.TheVariants.{Host, Router}
 use Rattle.clnp_plan.specs.declared.note.Note.{Note}
 use Rattle.clnp_plan.specs.declared.note.Note.TheVariants as note
 use Rattle.clnp_machine.specs.Identifiers.{Identifiers}
 use Rattle.clnp_machine.specs.Unit as unit
-use Rattle.clnp_machine.specs.Unit.{DeclaredAt, Packet}
-use Rattle.clnp_machine.specs.Content.{Content, Labelled, Esis, Unlabelled}
-use Rattle.clnp_machine.specs.System.{SystemState, Input, AsksToSend, FrameComes, MomentComes, IsRestarted, Effect, then_does, table_limits}
-use Rattle.clnp_machine.specs.Local.{Action, Sends, Tells, Deed, tells, and_then, made_in, is_own, is_all, offered, takes_in, offer, receive, refusal, unit_of, make, unless_refused, with_use, discard_first, gives_up, give_up_due, expire, at_moment, tick, restarted}
+use Rattle.clnp_machine.specs.Unit.{DeclaredAt, Packet, value_of, wire}
+use Rattle.clnp_machine.specs.Content.{Content, Labelled, Esis, Unlabelled, frame_of}
+use Rattle.clnp_machine.specs.System.{SystemState, Input, AsksToSend, AsksForEcho, FrameComes, MomentComes, IsRestarted, Effect, next_number, then_does, table_limits}
+use Rattle.clnp_machine.specs.Local.{Action, Sends, Tells, Deed, and_then, at_moment, data_in, discard, discard_first, echo_ask, expire, give_up_due, gives_up, hand_up, has_address, is_all, is_answer, made_in, make, makes, offer, offered, receive, refusal, report_unit, reports, reports_from, restarted, rests, takes_in, takes_reply, tells, tick, unit_of, unless_refused, with_use}
 use Rattle.clnp_machine.specs.Esis.{esis_comes, forgets, says_hello}
-use Rattle.clnp_machine.specs.Step.{passes_by, packet_comes, discard_refused, octets_come, effect_of, responds, content_comes, moment_comes, step}
-use Rattle.clnp_machine.specs.Steps.{AsksNothing, IsDeed, StaysItself, HearsNothing, LeavesTheRest, OnlyHellos, moment_after, IsFresh, IsWithinBudget}
+use Rattle.clnp_machine.specs.Step.{packet_comes, discard_refused, octets_come, effect_of, responds, content_comes, moment_comes, restart, step, unheard_note}
+use Rattle.clnp_machine.specs.Steps.{AreNumbered, IsDeed, IsEffect, StaysItself, HearsNothing, LeavesTheRest, OnlyHellos, WasPendingOrMade, moment_after, segments_in, IsFresh, IsWithinBudget}
+use Rattle.clnp_machine.specs.Told.{IsOfNoRule}
+use Rattle.clnp_machine.proofs.Gained.{KeepsOnly, each_kept, keeps_give_up}
 use Rattle.clnp_machine.proofs.Hellos.{only_comes, only_forgets, only_responds, only_says_hello, only_then}
-use Rattle.clnp_machine.proofs.Kept.{held_after}
-use Rattle.clnp_machine.proofs.Making.{allowed, total_is}
+use Rattle.clnp_machine.proofs.Kept.{all_contained, due_of, held_after}
+use Rattle.clnp_machine.proofs.Makes.{Makes, are_numbered, makes_answered, makes_both, makes_forgotten, makes_none, makes_one}
+use Rattle.clnp_machine.proofs.Making.{allowed, total_is, total_with}
+use Rattle.clnp_machine.proofs.Passing.{packet_does}
+use Rattle.clnp_machine.proofs.Reasons.{congestion, interference}
 
 -- the same system, at the same moment, within its budget where it was
 pub record Goes (s t : SystemState) : Type 0 where
@@ -35,10 +47,10 @@ pub record Goes (s t : SystemState) : Type 0 where
   pub moment : t.moment ≡ s.moment
   pub budget : IsWithinBudget s → IsWithinBudget t
 
-goes-nowhere : (s : SystemState) → Goes s s
+pub goes-nowhere : (s : SystemState) → Goes s s
 goes-nowhere s = record { itself = record { place = refl; configuration = refl; hold = refl; reuse = refl }; moment = refl; budget = λ h. h }
 
-goes-on : (s t u : SystemState) → Goes s t → Goes t u → Goes s u
+pub goes-on : (s t u : SystemState) → Goes s t → Goes t u → Goes s u
 goes-on s t u h k = record {
   itself = record {
     place = k.itself.place ∙ h.itself.place;
@@ -51,281 +63,489 @@ goes-on s t u h k = record {
 }
 
 -- it hears nothing
-hears-nothing : (s : SystemState) → HearsNothing s s
+pub hears-nothing : (s : SystemState) → HearsNothing s s
 hears-nothing s = record { facts = refl; hello = refl; next_hello = refl }
 
-pub record Does (s : SystemState) (deed : Deed) : Type 0 where
+hears-on : (s t u : SystemState) → HearsNothing s t → HearsNothing t u → HearsNothing s u
+hears-on s t u h k = record { facts = k.facts ∙ h.facts; hello = k.hello ∙ h.hello; next_hello = k.next_hello ∙ h.next_hello }
+
+-- what a deed leaves, and the units that it makes, where W says of each what it is
+pub record Does (W : unit.Unit → Type 0) (s : SystemState) (deed : Deed) : Type 0 where
   pub goes : Goes s deed.after
   pub heard : HearsNothing s deed.after
-  pub makes_none : made_in deed.actions ≡ []
+  pub makes : Makes W s deed.after (made_in deed.actions)
 
 made_in-append : (xs ys : List Action) → made_in (xs ++ ys) ≡ made_in xs ++ made_in ys
 made_in-append [] ys = refl
 made_in-append (Tells told ∷ xs) ys = made_in-append xs ys
 made_in-append (Sends u ∷ xs) ys = ap (λ us. u ∷ us) (made_in-append xs ys)
 
-does_both : (s : SystemState) (first : Deed) (next : SystemState → Deed) → Does s first → ((t : SystemState) → Does t (next t)) → Does s (and_then first next)
-does_both s first next h k =
-    let second = k first.after in
-    record {
-      goes = goes-on s first.after (next first.after).after h.goes second.goes;
-      heard = record {
-        facts = second.heard.facts ∙ h.heard.facts;
-        hello = second.heard.hello ∙ h.heard.hello;
-        next_hello = second.heard.next_hello ∙ h.heard.next_hello;
-      };
-      makes_none = made_in-append first.actions (next first.after).actions
-          ∙ ap (λ (us : List unit.Unit). us ++ made_in (next first.after).actions) h.makes_none ∙ second.makes_none;
-    }
-
--- only something is noted
-does_tell : (s : SystemState) (told : Note) → Does s (record { after = s; actions = Tells told ∷ [] })
-does_tell s told = record { goes = goes-nowhere s; heard = hears-nothing s; makes_none = refl }
-
--- Units that are asked for.
-
 reuse_kept : (s : SystemState) (identifier : Option ℕ) → (with_use s identifier).reuse ≡ s.identifiers.reuse
 reuse_kept s None = refl
 reuse_kept s (Some identifier) = refl
-
-stays : (s : SystemState) (u : unit.Unit) (refused : Option Note) → Goes s (unless_refused refused s u).after
-stays s u None = record { itself = record { place = refl; configuration = refl; hold = refl; reuse = reuse_kept s u.identifier }; moment = refl; budget = λ h. h }
-stays s u (Some told) = goes-nowhere s
-
-stays_deaf : (s : SystemState) (u : unit.Unit) (refused : Option Note) → HearsNothing s (unless_refused refused s u).after
-stays_deaf s u None = record { facts = refl; hello = refl; next_hello = refl }
-stays_deaf s u (Some told) = hears-nothing s
-
-asked_is_fresh : (s : SystemState) (kind : Kind) (from to octets : List ℕ) (ask : Ask) (refused : Option Note)
-    → refusal s (unit_of s kind from to octets ask) ≡ refused
-    → AllByRecursion (IsFresh s s.moment) (made_in (unless_refused refused s (unit_of s kind from to octets ask)).actions)
-asked_is_fresh s kind from to octets ask None e = (
-  record {
-    maker = refl;
-    number = refl;
-    made = refl;
-    source = (allowed s (unit_of s kind from to octets ask) e).own;
-    first_position = refl;
-    total = total_is s kind from to octets ask;
-  },
-  tt,
-)
-asked_is_fresh s kind from to octets ask (Some told) e = tt
-
--- Packets that come.
 
 with_buffers : (s : SystemState) (buffers : List (Buffer Packet)) → (IsWithinBudget s → held buffers ≤ s.configuration.settings.budget)
     → Goes s (record s { buffers = buffers })
 with_buffers s buffers within = record { itself = record { place = refl; configuration = refl; hold = refl; reuse = refl }; moment = refl; budget = within }
 
-does_take_in : (s : SystemState) (frame : Content) (arrival : Arrival Packet) (kept : List (Buffer Packet)) (answer : Answer)
-    → (IsWithinBudget s → held kept ≤ s.configuration.settings.budget) → Does s (takes_in s frame arrival kept answer)
-does_take_in s frame arrival kept buffer.Held within = record { goes = with_buffers s kept within; heard = record { facts = refl; hello = refl; next_hello = refl }; makes_none = refl }
-does_take_in s frame arrival kept buffer.Whole within = record {
-  goes = with_buffers s (buffer.without arrival.key kept)
-      (λ h.
-      let less = sum_filter size_of (λ (b : Buffer Packet). not (same_key b.key arrival.key)) kept in
-      let most = within h in
-      omega arith);
-  heard = record { facts = refl; hello = refl; next_hello = refl };
-  makes_none = refl;
-}
-does_take_in s frame arrival kept (buffer.Interference there other) within = record { goes = goes-nowhere s; heard = hears-nothing s; makes_none = refl }
-does_take_in s frame arrival kept buffer.Repeat within = does_tell s _
-does_take_in s frame arrival kept (buffer.NoSlot live) within = record { goes = goes-nowhere s; heard = hears-nothing s; makes_none = refl }
-does_take_in s frame arrival kept (buffer.Crowded held size) within = record { goes = goes-nowhere s; heard = hears-nothing s; makes_none = refl }
-does_take_in s frame arrival kept (buffer.Many segments) within = record { goes = goes-nowhere s; heard = hears-nothing s; makes_none = refl }
+-- the reply that a system makes to a request
+abbrev pub reply_unit : SystemState → (source destination octets : List ℕ) → unit.Unit
+reply_unit s source destination octets = unit_of s Erp destination source octets (echo_ask s destination source (length octets) false)
 
-does_offer : (s : SystemState) (frame : Content) (arrival : Arrival Packet) → Does s (offer s frame arrival)
-does_offer s frame arrival =
-    does_take_in s frame arrival (buffer.after (table_limits s) s.moment arrival s.buffers) (buffer.answer (table_limits s) s.moment arrival s.buffers)
-    (held_after (table_limits s) s.moment arrival s.buffers)
+module _ (W : unit.Unit → Type 0) where
+  does_rest : (s : SystemState) → Does W s (rests s)
+  does_rest s = record { goes = goes-nowhere s; heard = hears-nothing s; makes = makes_none W s s refl refl }
 
-does_one_of : (s : SystemState) (test : Bool) (first second : Deed) → Does s first → Does s second → Does s (if test then first else second)
-does_one_of s true first second h k = h
-does_one_of s false first second h k = k
+  -- only something is noted
+  does_tell : (s : SystemState) (told : Note) → Does W s (tells s told)
+  does_tell s told = record { goes = goes-nowhere s; heard = hears-nothing s; makes = makes_none W s s refl refl }
 
-does_receive : (s : SystemState) (p : Packet) (following : List ℕ) → Does s (receive s p following)
-does_receive s p following =
-    does_one_of s (is_all p) _ (offer s (Labelled p following) (offered p following)) (does_tell s _) (does_offer s (Labelled p following) (offered p following))
+  -- what comes first makes no unit
+  does_from : (s t : SystemState) (deed : Deed) → Goes s t → HearsNothing s t → t.count ≡ s.count → t.pending ≡ s.pending → Does W t deed → Does W s deed
+  does_from s t deed goes heard count pending h = record {
+    goes = goes-on s t deed.after goes h.goes;
+    heard = hears-on s t deed.after heard h.heard;
+    makes = makes_both W s t deed.after [] (made_in deed.actions) (makes_none W s t count pending) h.makes;
+  }
 
-does_pass_by : (role : Role) (s : SystemState) (p : Packet) (following : List ℕ) → Does s (passes_by role s p following)
-does_pass_by Host s p following = does_tell s _
-does_pass_by Router s p following = does_tell s _
+  does_both : (s : SystemState) (first : Deed) (next : SystemState → Deed) → Does W s first → Does W first.after (next first.after)
+      → Does W s (and_then first next)
+  does_both s first next h k =
+      let second = next first.after in
+      record {
+        goes = goes-on s first.after second.after h.goes k.goes;
+        heard = hears-on s first.after second.after h.heard k.heard;
+        makes = subst (Makes W s second.after) (sym (made_in-append first.actions second.actions))
+            (makes_both W s first.after second.after (made_in first.actions) (made_in second.actions) h.makes k.makes);
+      }
 
-does_with_packet : (s : SystemState) (p : Packet) (following : List ℕ) → Does s (packet_comes s p following)
-does_with_packet s p following =
-    does_one_of s (p.lifetime == 0) _ _ (does_tell s _)
-    (does_one_of s (is_own s p.unit.destination) (receive s p following) _ (does_receive s p following)
-    (does_pass_by s.configuration.role s p following))
+  -- something is noted, and then comes a deed
+  does_tell_and : (s : SystemState) (told : Note) (next : SystemState → Deed) → Does W s (next s) → Does W s (and_then (tells s told) next)
+  does_tell_and s told next h = does_both s (tells s told) next (does_tell s told) h
 
-does_discard_refused : (s : SystemState) (octets : List ℕ) (broken : Option OptionRefusal) → Does s (discard_refused s octets broken)
-does_discard_refused s octets None = does_tell s _
-does_discard_refused s octets (Some broken) = does_tell s _
+  does_one_of : (s : SystemState) (test : Bool) (first second : Deed) → (test ≡ true → Does W s first) → Does W s second
+      → Does W s (if test then first else second)
+  does_one_of s true first second h k = h refl
+  does_one_of s false first second h k = k
 
-does_with_octets : (s : SystemState) (octets : List ℕ) → Does s (octets_come s octets)
-does_with_octets s octets =
-    does_one_of s (octet octets 1 == 0x81) (discard_refused s octets (rule_broken octets)) _ (does_discard_refused s octets (rule_broken octets))
-    (does_tell s _)
+  -- Units that are made.
 
--- Moments that come.
+  does_make_unit : (s : SystemState) (u : unit.Unit) → u.number ≡ next_number s → W u → Does W s (makes s u)
+  does_make_unit s u number is = record {
+    goes = record { itself = record { place = refl; configuration = refl; hold = refl; reuse = reuse_kept s u.identifier }; moment = refl; budget = λ h. h };
+    heard = record { facts = refl; hello = refl; next_hello = refl };
+    makes = makes_one W s u number is;
+  }
 
--- where the PDU at the beginning of a unit is discarded the system stays as it is
-discard_first_after : (s : SystemState) (first : Option Packet) → (discard_first s first).after ≡ s
-discard_first_after s None = refl
-discard_first_after s (Some p) = refl
+  does_unless_refused : (s : SystemState) (u : unit.Unit) (refused : Option Note) → u.number ≡ next_number s → (refused ≡ None → W u)
+      → Does W s (unless_refused refused s u)
+  does_unless_refused s u None number is = does_make_unit s u number (is refl)
+  does_unless_refused s u (Some told) number is = does_tell s told
 
--- a buffer that is taken out leaves the others
-pub given_up_after : (s : SystemState) (ended : Buffer Packet) → (gives_up s ended).after ≡ record s { buffers = buffer.without ended.key s.buffers }
-given_up_after s ended = discard_first_after (record s { buffers = buffer.without ended.key s.buffers }) (buffer.first_carried ended)
+  pub does_make : (s : SystemState) (kind : Kind) (from to octets : List ℕ) (ask : Ask)
+      → (refusal s (unit_of s kind from to octets ask) ≡ None → W (unit_of s kind from to octets ask)) → Does W s (make s kind from to octets ask)
+  does_make s kind from to octets ask is =
+      does_unless_refused s (unit_of s kind from to octets ask) (refusal s (unit_of s kind from to octets ask)) refl is
 
-does_discard_first : (s : SystemState) (first : Option Packet) → Does s (discard_first s first)
-does_discard_first s None = record { goes = goes-nowhere s; heard = hears-nothing s; makes_none = refl }
-does_discard_first s (Some p) = does_tell s _
+  -- What a system that began in a state makes unasked.
 
-does_give_up : (s : SystemState) (ended : Buffer Packet) → Does s (gives_up s ended)
-does_give_up s ended =
-    let rest : List (Buffer Packet) = buffer.without ended.key s.buffers in
-    does_both s (tells (record s { buffers = rest }) (note.Expired ended.key.id (held rest))) (λ t. discard_first t (buffer.first_carried ended))
-    (record {
-      goes = with_buffers s (buffer.without ended.key s.buffers)
-          (λ h.
-          let less = sum_filter size_of (λ (b : Buffer Packet). not (same_key b.key ended.key)) s.buffers in
-          omega arith);
+  module _ (o : SystemState) where
+    -- the report of a frame's discard is such as W says
+    abbrev pub Reported : (frame : List ℕ) → (reason place : ℕ) → Type 0
+    Reported frame reason place =
+        (t : SystemState) → Goes o t → (own : List ℕ) → slice_get t.configuration.addresses 0 ≡ Some own → is_reportable frame ≡ true
+        → W (report_unit t own frame reason place)
+
+    -- so is the reply to a request
+    abbrev pub Replied : (source destination octets : List ℕ) → Type 0
+    Replied source destination octets =
+        (t : SystemState) → Goes o t → refusal t (reply_unit t source destination octets) ≡ None → W (reply_unit t source destination octets)
+
+    does_report_from : (t : SystemState) → Goes o t → (frame : List ℕ) (reason place : ℕ) → Reported frame reason place → (found : Option (List ℕ))
+        → slice_get t.configuration.addresses 0 ≡ found → Does W t (reports_from found t frame reason place)
+    does_report_from t at frame reason place such None e = does_rest t
+    does_report_from t at frame reason place such (Some own) e =
+        does_one_of t (is_reportable frame) (makes t (report_unit t own frame reason place)) (rests t)
+        (λ reportable. does_make_unit t (report_unit t own frame reason place) refl (such t at own e reportable)) (does_rest t)
+
+    pub does_discard : (t : SystemState) → Goes o t → (frame : Content) (reason place : ℕ) → Reported (frame_of frame) reason place
+        → Does W t (discard t frame reason place)
+    does_discard t at frame reason place such =
+        does_tell_and t (note.Discard reason place) (λ v. reports v (frame_of frame) reason place)
+        (does_report_from t at (frame_of frame) reason place such (slice_get t.configuration.addresses 0) refl)
+
+    does_take_reply : (t : SystemState) (source destination octets : List ℕ) (found : Option unit.Unit) → Does W t (takes_reply t source destination octets found)
+    does_take_reply t source destination octets None = does_tell t _
+    does_take_reply t source destination octets (Some request) = record {
+      goes = record { itself = record { place = refl; configuration = refl; hold = refl; reuse = refl }; moment = refl; budget = λ h. h };
       heard = record { facts = refl; hello = refl; next_hello = refl };
-      makes_none = refl;
-    })
-    (λ t. does_discard_first t (buffer.first_carried ended))
+      makes = makes_answered W t (is_answer source destination octets);
+    }
 
-does_give_up_due : (s : SystemState) (found : Option (Buffer Packet)) (next : SystemState → Deed) → ((t : SystemState) → Does t (next t))
-    → Does s (give_up_due found s next)
-does_give_up_due s None next h = record { goes = goes-nowhere s; heard = hears-nothing s; makes_none = refl }
-does_give_up_due s (Some ended) next h = does_both s (gives_up s ended) next (does_give_up s ended) h
+    does_hand_up : (t : SystemState) → Goes o t → (kind : Kind) (source destination octets : List ℕ) (options : List Parameter)
+        → (kind ≡ Erq → Replied source destination octets) → Does W t (hand_up t kind source destination octets options)
+    does_hand_up t at Dt source destination octets options such = does_tell t _
+    does_hand_up t at Er source destination octets options such = does_tell t _
+    does_hand_up t at Erq source destination octets options such =
+        does_make t Erp destination source octets (echo_ask t destination source (length octets) false) (λ none. such refl t at none)
+    does_hand_up t at Erp source destination octets options such =
+        does_take_reply t source destination octets (find (is_answer source destination octets) t.pending)
 
-does_expire : (most : ℕ) (s : SystemState) → Does s (expire most s)
-does_expire zero s = record { goes = goes-nowhere s; heard = hears-nothing s; makes_none = refl }
-does_expire (suc most) s = does_give_up_due s (buffer.due s.moment s.buffers) (expire most) (does_expire most)
+    -- what a packet that came causes is such: the reports of its discard, and the replies to it
+    pub record CausesSuch (p : Packet) (following : List ℕ) : Type 0 where
+      pub reported : (reason : ℕ) → IsOfNoRule reason → Reported (wire p ++ following) reason 0
+      pub replied : (octets : List ℕ) → p.unit.kind ≡ Erq → Replied p.unit.source p.unit.destination octets
+
+    -- Packets that come.
+
+    module _ (p : Packet) (following : List ℕ) (such : CausesSuch p following) where
+      does_drop : (t : SystemState) → Goes o t → (told : Note) (reason : ℕ) → IsOfNoRule reason
+          → Does W t (and_then (tells t told) (λ v. discard v (Labelled p following) reason 0))
+      does_drop t at told reason of_none =
+          does_tell_and t told (λ v. discard v (Labelled p following) reason 0)
+          (does_discard t at (Labelled p following) reason 0 (such.reported reason of_none))
+
+      does_take_in : (t : SystemState) → Goes o t → (kept : List (Buffer Packet)) (answer : Answer)
+          → (IsWithinBudget t → held kept ≤ t.configuration.settings.budget) → Does W t (takes_in t (Labelled p following) (offered p following) kept answer)
+      does_take_in t at kept buffer.Held within =
+          does_from t (record t { buffers = kept }) (tells (record t { buffers = kept }) _) (with_buffers t kept within)
+          (record { facts = refl; hello = refl; next_hello = refl }) refl refl (does_tell (record t { buffers = kept }) _)
+      does_take_in t at kept buffer.Whole within =
+          let arrival = offered p following in
+          let rest : List (Buffer Packet) = buffer.without arrival.key kept in
+          let v : SystemState = record t { buffers = rest } in
+          let octets = data_in (buffer.buffer_of arrival.key kept) in
+          let goes : Goes t v = with_buffers t rest
+          (λ h.
+          let less = sum_filter size_of (λ (b : Buffer Packet). not (same_key b.key arrival.key)) kept in
+          let most = within h in
+          omega arith) in
+          does_from t v (hand_up v p.unit.kind p.unit.source p.unit.destination octets p.options) goes
+          (record { facts = refl; hello = refl; next_hello = refl }) refl refl
+          (does_hand_up v (goes-on o t v at goes) p.unit.kind p.unit.source p.unit.destination octets p.options (such.replied octets))
+      does_take_in t at kept (buffer.Interference there other) within = does_drop t at _ _ interference
+      does_take_in t at kept buffer.Repeat within = does_tell t _
+      does_take_in t at kept (buffer.NoSlot live) within = does_drop t at _ _ congestion
+      does_take_in t at kept (buffer.Crowded held size) within = does_drop t at _ _ congestion
+      does_take_in t at kept (buffer.Many segments) within = does_drop t at _ _ congestion
+
+      does_offer : (t : SystemState) → Goes o t → Does W t (offer t (Labelled p following) (offered p following))
+      does_offer t at =
+          does_take_in t at (buffer.after (table_limits t) t.moment (offered p following) t.buffers)
+          (buffer.answer (table_limits t) t.moment (offered p following) t.buffers) (held_after (table_limits t) t.moment (offered p following) t.buffers)
+
+      pub does_receive : (t : SystemState) → Goes o t → Does W t (receive t p following)
+      does_receive t at =
+          does_one_of t (is_all p) (hand_up t p.unit.kind p.unit.source p.unit.destination (value_of p).body p.options)
+          (offer t (Labelled p following) (offered p following))
+          (λ all. does_hand_up t at p.unit.kind p.unit.source p.unit.destination (value_of p).body p.options (such.replied (value_of p).body)) (does_offer t at)
+
+    -- Octets that come.
+
+    does_discard_refused : (t : SystemState) → Goes o t → (octets : List ℕ) → ((reason place : ℕ) → Reported octets reason place)
+        → (broken : Option OptionRefusal) → Does W t (discard_refused t octets broken)
+    does_discard_refused t at octets such None = does_discard t at (Unlabelled octets) (reason_code NotSpecified) 0 (such (reason_code NotSpecified) 0)
+    does_discard_refused t at octets such (Some broken) =
+        does_discard t at (Unlabelled octets) broken.reason broken.place (such broken.reason broken.place)
+
+    pub does_with_octets : (t : SystemState) → Goes o t → (octets : List ℕ) → ((reason place : ℕ) → Reported octets reason place)
+        → Does W t (octets_come t octets)
+    does_with_octets t at octets such =
+        does_one_of t (octet octets 1 == 0x81) (discard_refused t octets (rule_broken octets)) (tells t (unheard_note (why_refused octets)))
+        (λ begun. does_discard_refused t at octets such (rule_broken octets)) (does_tell t _)
+
+    -- Moments that come.
+
+    -- of each segment that is kept, the report of its discard is such
+    abbrev pub ReportsSuch : Packet → Type 0
+    ReportsSuch p = Reported (wire p ++ []) (reason_code LifetimeExpiredInReassembly) 0
+
+    abbrev pub KeepsSuch : SystemState → Type 0
+    KeepsSuch t = KeepsOnly (λ (arrival : Arrival Packet). ReportsSuch arrival.carried) t.buffers
+
+    does_discard_first : (t : SystemState) → Goes o t → (kept : List (Arrival Packet)) → AllByRecursion (λ arrival. ReportsSuch arrival.carried) kept
+        → Does W t (discard_first t (option_map (λ (arrival : Arrival Packet). arrival.carried) (find (λ (arrival : Arrival Packet). arrival.offset == 0) kept)))
+    does_discard_first t at kept each = go (find (λ (arrival : Arrival Packet). arrival.offset == 0) kept) refl
+      where
+        go : (found : Option (Arrival Packet)) → find (λ (arrival : Arrival Packet). arrival.offset == 0) kept ≡ found
+            → Does W t (discard_first t (option_map (λ (arrival : Arrival Packet). arrival.carried) found))
+        go None e = does_rest t
+        go (Some arrival) e =
+            does_discard t at (Labelled arrival.carried []) (reason_code LifetimeExpiredInReassembly) 0
+            (AllByRecursion-find (λ arrival. ReportsSuch arrival.carried) (λ arrival. arrival.offset == 0) kept arrival e each)
+
+    does_give_up : (t : SystemState) → Goes o t → (ended : Buffer Packet) → AllByRecursion (λ arrival. ReportsSuch arrival.carried) ended.kept
+        → Does W t (gives_up t ended)
+    does_give_up t at ended each =
+        let rest : List (Buffer Packet) = buffer.without ended.key t.buffers in
+        let v : SystemState = record t { buffers = rest } in
+        let goes : Goes t v = with_buffers t rest
+        (λ h.
+        let less = sum_filter size_of (λ (b : Buffer Packet). not (same_key b.key ended.key)) t.buffers in
+        omega arith) in
+        does_from t v (gives_up t ended) goes (record { facts = refl; hello = refl; next_hello = refl }) refl refl
+        (does_tell_and v (note.Expired ended.key.id (held rest)) (λ x. discard_first x (buffer.first_carried ended))
+        (does_discard_first v (goes-on o t v at goes) ended.kept each))
+
+    does_give_up_due : (t : SystemState) → Goes o t → (found : Option (Buffer Packet)) (next : SystemState → Deed) → KeepsSuch t
+        → ((ended : Buffer Packet) → found ≡ Some ended → AllByRecursion (λ arrival. ReportsSuch arrival.carried) ended.kept)
+        → ((v : SystemState) → Goes o v → KeepsSuch v → Does W v (next v)) → Does W t (give_up_due found t next)
+    does_give_up_due t at None next keeps each h = does_rest t
+    does_give_up_due t at (Some ended) next keeps each h =
+        let first = does_give_up t at ended (each ended refl) in
+        does_both t (gives_up t ended) next first
+        (h (gives_up t ended).after (goes-on o t (gives_up t ended).after at first.goes)
+        (keeps_give_up (λ (arrival : Arrival Packet). ReportsSuch arrival.carried) t ended keeps))
+
+    pub does_expire : (most : ℕ) (t : SystemState) → Goes o t → KeepsSuch t → Does W t (expire most t)
+    does_expire zero t at keeps = does_rest t
+    does_expire (suc most) t at keeps =
+        does_give_up_due t at (buffer.due t.moment t.buffers) (expire most) keeps
+        (λ ended e. due_of (λ (b : Buffer Packet). AllByRecursion (λ (arrival : Arrival Packet). ReportsSuch arrival.carried) b.kept) t.moment t.buffers ended e keeps)
+        (does_expire most)
 
 -- What that says of a step.
 
--- what an effect leaves that was not asked for
-pub record Leads (s : SystemState) (effect : Effect) : Type 0 where
+-- what an effect leaves, and the units that are made
+pub record Leads (W : unit.Unit → Type 0) (s : SystemState) (effect : Effect) : Type 0 where
   pub goes : Goes s effect.after
-  pub makes_none : effect.units ≡ []
+  pub makes : Makes W s effect.after effect.units
 
--- the effect of a deed
-by_deed : (s : SystemState) (deed : Deed) → Does s deed → Leads s (effect_of deed)
-by_deed s deed h = record { goes = h.goes; makes_none = h.makes_none }
+-- what comes of a packet
+pub record Takes (W : unit.Unit → Type 0) (s : SystemState) (effect : Effect) : Type 0 where
+  pub leads : Leads W s effect
+  pub heard : HearsNothing s effect.after
 
 within_budget : (s t : SystemState) → LeavesTheRest s t → IsWithinBudget s → IsWithinBudget t
 within_budget s t rest within = rw (rest.buffers, rest.configuration) within
-
--- what is said and heard between systems
-by_hellos : (s : SystemState) (effect : Effect) → OnlyHellos s effect → Leads s effect
-by_hellos s effect h = record {
-  goes = record {
-    itself = record {
-      place = h.rest.place;
-      configuration = h.rest.configuration;
-      hold = h.rest.hold;
-      reuse = ap (λ (ids : Identifiers). ids.reuse) h.rest.identifiers;
-    };
-    moment = h.rest.moment;
-    budget = within_budget s effect.after h.rest;
-  };
-  makes_none = h.units;
-}
-
-leads-on : (s : SystemState) (effect : Effect) (next : SystemState → Effect) → Leads s effect → Leads effect.after (next effect.after)
-    → Leads s (then_does effect next)
-leads-on s effect next h k = record {
-  goes = goes-on s effect.after (next effect.after).after h.goes k.goes;
-  makes_none = ap (λ (us : List unit.Unit). us ++ (next effect.after).units) h.makes_none ∙ k.makes_none;
-}
-
-leads_content : (s : SystemState) (place : Place) (to_group : Bool) (content : Content) → Leads s (content_comes s place to_group content)
-leads_content s place to_group (Labelled p following) =
-    leads-on s (effect_of (packet_comes s p following)) (λ t. responds t place to_group p)
-    (by_deed s (packet_comes s p following) (does_with_packet s p following))
-    (by_hellos (packet_comes s p following).after (responds (packet_comes s p following).after place to_group p)
-    (only_responds (packet_comes s p following).after place to_group p))
-leads_content s place to_group (Esis value following) = by_hellos s (esis_comes s place value) (only_comes s place value)
-leads_content s place to_group (Unlabelled octets) = by_deed s (octets_come s octets) (does_with_octets s octets)
-
-leads_moment : (s : SystemState) (now : ℕ) → Leads (at_moment now s) (moment_comes s now)
-leads_moment s now =
-    let ticked = (tick s now).after in
-    leads-on (at_moment now s) (effect_of (tick s now)) (λ t. then_does (forgets s.moment t) says_hello)
-    (by_deed (at_moment now s) (tick s now) (does_expire (length s.buffers) (at_moment now s)))
-    (by_hellos ticked (then_does (forgets s.moment ticked) says_hello)
-    (only_then ticked (forgets s.moment ticked) says_hello (only_forgets s.moment ticked) (only_says_hello ticked)))
-
-goes_restarted : (s : SystemState) → Goes s (restarted s)
-goes_restarted s =
-    record { itself = record { place = refl; configuration = refl; hold = refl; reuse = refl }; moment = refl; budget = λ h. omega arith }
 
 -- the state in which a step is taken: a moment that comes has come
 abbrev pub begun : SystemState → Input → SystemState
 begun s input = at_moment (moment_after s input) s
 
-pub goes : (s : SystemState) (input : Input) → Goes (begun s input) (step s input).after
-goes s (AsksToSend from to octets ask) = stays s (unit_of s Dt from to octets ask) (refusal s (unit_of s Dt from to octets ask))
-goes s (FrameComes port sender to_group content) = (leads_content s (record { port = port; snpa = sender }) to_group content).goes
-goes s (MomentComes now) = (leads_moment s now).goes
-goes s IsRestarted = goes_restarted s
+-- the packets of which segments are kept
+abbrev pub carried_in : List (Buffer Packet) → List Packet
+carried_in buffers = map (λ (arrival : Arrival Packet). arrival.carried) (segments_in buffers)
 
--- a unit that isn't asked for isn't made
-pub makes_none : (s : SystemState) (input : Input) → AsksNothing input → (step s input).units ≡ []
-makes_none s (AsksToSend from to octets ask) asks = absurd asks
-makes_none s (FrameComes port sender to_group content) asks = (leads_content s (record { port = port; snpa = sender }) to_group content).makes_none
-makes_none s (MomentComes now) asks = (leads_moment s now).makes_none
-makes_none s IsRestarted asks = refl
+module _ (W : unit.Unit → Type 0) where
+  -- the effect of a deed
+  by_deed : (s : SystemState) (deed : Deed) → Does W s deed → Leads W s (effect_of deed)
+  by_deed s deed h = record { goes = h.goes; makes = h.makes }
 
-none_fresh : (s : SystemState) (now : ℕ) (units : List unit.Unit) → units ≡ [] → AllByRecursion (IsFresh s now) units
-none_fresh s now [] none = tt
-none_fresh s now (u ∷ units) none = absurd (cc)
+  taken : (s : SystemState) (deed : Deed) → Does W s deed → Takes W s (effect_of deed)
+  taken s deed h = record { leads = by_deed s deed h; heard = h.heard }
+
+  pub takes_packet : (s : SystemState) (p : Packet) (following : List ℕ) → CausesSuch W s p following → Takes W s (packet_comes s p following)
+  takes_packet s p following such =
+      packet_does (Takes W s) s p following
+      (λ reason of_none. taken s (discard s (Labelled p following) reason 0)
+      (does_discard W s s (goes-nowhere s) (Labelled p following) reason 0 (such.reported reason of_none)))
+      (λ hop port pieces there alive gives. record { leads = record { goes = goes-nowhere s; makes = makes_none W s s refl refl }; heard = hears-nothing s })
+      (taken s (tells s _) (does_tell W s _)) (λ own. taken s (receive s p following) (does_receive W s p following such s (goes-nowhere s)))
+
+  -- what is said and heard between systems
+  by_hellos : (s : SystemState) (effect : Effect) → OnlyHellos s effect → Leads W s effect
+  by_hellos s effect h = record {
+    goes = record {
+      itself = record {
+        place = h.rest.place;
+        configuration = h.rest.configuration;
+        hold = h.rest.hold;
+        reuse = ap (λ (ids : Identifiers). ids.reuse) h.rest.identifiers;
+      };
+      moment = h.rest.moment;
+      budget = within_budget s effect.after h.rest;
+    };
+    makes = subst (Makes W s effect.after) (sym h.units) (makes_none W s effect.after h.rest.count h.rest.pending);
+  }
+
+  leads-on : (s : SystemState) (effect : Effect) (next : SystemState → Effect) → Leads W s effect → Leads W effect.after (next effect.after)
+      → Leads W s (then_does effect next)
+  leads-on s effect next h k = record {
+    goes = goes-on s effect.after (next effect.after).after h.goes k.goes;
+    makes = makes_both W s effect.after (next effect.after).after effect.units (next effect.after).units h.makes k.makes;
+  }
+
+  -- each unit that may be made where something comes is such
+  abbrev pub AllSuch : SystemState → Input → Type 0
+  AllSuch s (AsksToSend from to octets ask) = refusal s (unit_of s Dt from to octets ask) ≡ None → W (unit_of s Dt from to octets ask)
+  AllSuch s (AsksForEcho from to octets) =
+      let u = unit_of s Erq from to octets (echo_ask s from to (length octets) true) in refusal s u ≡ None → W u
+  AllSuch s (FrameComes port sender to_group (Labelled p following)) = CausesSuch W s p following
+  AllSuch s (FrameComes port sender to_group (Esis value following)) = Unit {0}
+  AllSuch s (FrameComes port sender to_group (Unlabelled octets)) = (reason place : ℕ) → Reported W s octets reason place
+  AllSuch s (MomentComes now) = (p : Packet) → Contains (carried_in s.buffers) p → ReportsSuch W (at_moment now s) p
+  AllSuch s IsRestarted = Unit {0}
+
+  leads_content : (s : SystemState) (port : ℕ) (sender : List ℕ) (to_group : Bool) (content : Content)
+      → AllSuch s (FrameComes port sender to_group content) → Leads W s (content_comes s (record { port = port; snpa = sender }) to_group content)
+  leads_content s port sender to_group (Labelled p following) such =
+      let place : Place = record { port = port; snpa = sender } in
+      leads-on s (packet_comes s p following) (λ t. responds t place to_group p) (takes_packet s p following such).leads
+      (by_hellos (packet_comes s p following).after (responds (packet_comes s p following).after place to_group p)
+      (only_responds (packet_comes s p following).after place to_group p))
+  leads_content s port sender to_group (Esis value following) such =
+      let place : Place = record { port = port; snpa = sender } in by_hellos s (esis_comes s place value) (only_comes s place value)
+  leads_content s port sender to_group (Unlabelled octets) such =
+      by_deed s (octets_come s octets) (does_with_octets W s s (goes-nowhere s) octets such)
+
+  pub does_tick : (s : SystemState) (now : ℕ) → AllSuch s (MomentComes now) → Does W (at_moment now s) (tick s now)
+  does_tick s now such =
+      let t : SystemState = at_moment now s in
+      does_expire W t (length s.buffers) t (goes-nowhere t)
+      (each_kept (λ (arrival : Arrival Packet). ReportsSuch W t arrival.carried) s.buffers
+      (AllByRecursion-map (ReportsSuch W t) (λ (arrival : Arrival Packet). arrival.carried) (segments_in s.buffers)
+      (AllByRecursion-implies (Contains (carried_in s.buffers)) (ReportsSuch W t) such (carried_in s.buffers) (all_contained (carried_in s.buffers)))))
+
+  leads_moment : (s : SystemState) (now : ℕ) → AllSuch s (MomentComes now) → Leads W (at_moment now s) (moment_comes s now)
+  leads_moment s now such =
+      let ticked = (tick s now).after in
+      leads-on (at_moment now s) (effect_of (tick s now)) (λ t. then_does (forgets s.moment t) says_hello)
+      (by_deed (at_moment now s) (tick s now) (does_tick s now such))
+      (by_hellos ticked (then_does (forgets s.moment ticked) says_hello)
+      (only_then ticked (forgets s.moment ticked) says_hello (only_forgets s.moment ticked) (only_says_hello ticked)))
+
+  leads_restarted : (s : SystemState) → Leads W s (effect_of (restart s))
+  leads_restarted s = record {
+    goes = record { itself = record { place = refl; configuration = refl; hold = refl; reuse = refl }; moment = refl; budget = λ h. omega arith };
+    makes = makes_forgotten W s (restarted s) refl refl;
+  }
+
+  pub leads_step : (s : SystemState) (input : Input) → AllSuch s input → Leads W (begun s input) (step s input)
+  leads_step s (AsksToSend from to octets ask) such = by_deed s (make s Dt from to octets ask) (does_make W s Dt from to octets ask such)
+  leads_step s (AsksForEcho from to octets) such =
+      let ask = echo_ask s from to (length octets) true in by_deed s (make s Erq from to octets ask) (does_make W s Erq from to octets ask such)
+  leads_step s (FrameComes port sender to_group content) such = leads_content s port sender to_group content such
+  leads_step s (MomentComes now) such = leads_moment s now such
+  leads_step s IsRestarted such = leads_restarted s
+
+-- Each unit that is made is made now by the system, of a source that is its own.
+
+pub own_title : (c : SystemConfiguration) (own : List ℕ) → slice_get c.addresses 0 ≡ Some own → has_address c own ≡ true
+own_title c own first = go c.addresses first
+  where
+    go : (addresses : List (List ℕ)) → slice_get addresses 0 ≡ Some own → list_any (λ address. bytes_eq address own) addresses ≡ true
+    go [] e = absurd (cc)
+    go (address ∷ others) e =
+        let same : address ≡ own = cc in
+        ap (λ (test : Bool). test || list_any (λ a. bytes_eq a own) others) (subst (λ a. bytes_eq a own ≡ true) (sym same) (same-itself own))
+
+module _ (o : SystemState) where
+  report_fresh : (frame : List ℕ) (reason place : ℕ) → Reported (IsFresh o o.moment) o frame reason place
+  report_fresh frame reason place t at own first reportable = record {
+    maker = ap (λ (n : ℕ). DeclaredAt n) at.itself.place;
+    made = at.moment;
+    source = subst (λ (c : SystemConfiguration). has_address c own ≡ true) at.itself.configuration (own_title t.configuration own first);
+    first_position = refl;
+    total = total_with t Er own (source_of frame) (header_of frame) t.configuration.settings.life false false (reason_option reason place ∷ []);
+  }
+
+  asked_fresh : (t : SystemState) → Goes o t → (kind : Kind) (from to octets : List ℕ) (ask : Ask) → refusal t (unit_of t kind from to octets ask) ≡ None
+      → IsFresh o o.moment (unit_of t kind from to octets ask)
+  asked_fresh t at kind from to octets ask none = record {
+    maker = ap (λ (n : ℕ). DeclaredAt n) at.itself.place;
+    made = at.moment;
+    source = subst (λ (c : SystemConfiguration). has_address c from ≡ true) at.itself.configuration (allowed t (unit_of t kind from to octets ask) none).own;
+    first_position = refl;
+    total = total_is t kind from to octets ask;
+  }
+
+  causes_fresh : (p : Packet) (following : List ℕ) → CausesSuch (IsFresh o o.moment) o p following
+  causes_fresh p following = record {
+    reported = λ reason of_none. report_fresh (wire p ++ following) reason 0;
+    replied = λ octets request t at none.
+        asked_fresh t at Erp p.unit.destination p.unit.source octets (echo_ask t p.unit.destination p.unit.source (length octets) false) none;
+  }
+
+all_fresh : (s : SystemState) (input : Input) → AllSuch (IsFresh (begun s input) (moment_after s input)) s input
+all_fresh s (AsksToSend from to octets ask) = asked_fresh s s (goes-nowhere s) Dt from to octets ask
+all_fresh s (AsksForEcho from to octets) = asked_fresh s s (goes-nowhere s) Erq from to octets (echo_ask s from to (length octets) true)
+all_fresh s (FrameComes port sender to_group (Labelled p following)) = causes_fresh s p following
+all_fresh s (FrameComes port sender to_group (Esis value following)) = tt
+all_fresh s (FrameComes port sender to_group (Unlabelled octets)) = report_fresh s octets
+all_fresh s (MomentComes now) = λ p there. report_fresh (at_moment now s) (wire p ++ []) (reason_code LifetimeExpiredInReassembly) 0
+all_fresh s IsRestarted = tt
+
+leads_fresh : (s : SystemState) (input : Input) → Leads (IsFresh (begun s input) (moment_after s input)) (begun s input) (step s input)
+leads_fresh s input = leads_step (IsFresh (begun s input) (moment_after s input)) s input (all_fresh s input)
 
 pub step_itself : (s : SystemState) (input : Input) → StaysItself s (step s input).after
 step_itself s input =
-    let went = (goes s input).itself in
+    let went = (leads_fresh s input).goes.itself in
     record { place = went.place; configuration = went.configuration; hold = went.hold; reuse = went.reuse }
 
 pub step_moment : (s : SystemState) (input : Input) → (step s input).after.moment ≡ moment_after s input
-step_moment s input = (goes s input).moment
+step_moment s input = (leads_fresh s input).goes.moment
+
+fresh_before : (s : SystemState) (now moment : ℕ) (u : unit.Unit) → IsFresh (at_moment now s) moment u → IsFresh s moment u
+fresh_before s now moment u h = record { maker = h.maker; made = h.made; source = h.source; first_position = h.first_position; total = h.total }
 
 pub step_fresh : (s : SystemState) (input : Input) → AllByRecursion (IsFresh s (moment_after s input)) (step s input).units
-step_fresh s (AsksToSend from to octets ask) = asked_is_fresh s Dt from to octets ask (refusal s (unit_of s Dt from to octets ask)) refl
-step_fresh s (FrameComes port sender to_group content) =
-    none_fresh s s.moment (step s (FrameComes port sender to_group content)).units (makes_none s (FrameComes port sender to_group content) tt)
-step_fresh s (MomentComes now) = none_fresh s now (step s (MomentComes now)).units (makes_none s (MomentComes now) tt)
-step_fresh s IsRestarted = tt
+step_fresh s input =
+    AllByRecursion-implies (IsFresh (begun s input) (moment_after s input)) (IsFresh s (moment_after s input))
+    (fresh_before s (moment_after s input) (moment_after s input)) (step s input).units (leads_fresh s input).makes.such
+
+pub step_numbered : (s : SystemState) (input : Input) → AreNumbered s.count (step s input).units
+step_numbered s input = are_numbered s.count (step s input).after.count (step s input).units (leads_fresh s input).makes.numbered
+
+pub step_few : (s : SystemState) (input : Input) → length s.pending ≤ 8 → length (step s input).after.pending ≤ 8
+step_few s input few = (leads_fresh s input).makes.few few
+
+pub step_pending : (s : SystemState) (input : Input) → AllByRecursion (WasPendingOrMade s (step s input)) (step s input).after.pending
+step_pending s input = (leads_fresh s input).makes.pending
 
 pub step_budget : (s : SystemState) (input : Input) → IsWithinBudget s → IsWithinBudget (step s input).after
-step_budget s input within = (goes s input).budget within
+step_budget s input within = (leads_fresh s input).goes.budget within
 
 -- What that says of a deed.
 
-is_deed : (s : SystemState) (deed : Deed) → Does s deed → IsDeed s deed
-is_deed s deed h = record { itself = h.goes.itself; moment = h.goes.moment; heard = h.heard; fresh = none_fresh s s.moment (made_in deed.actions) h.makes_none }
+is_deed : (s : SystemState) (deed : Deed) → Does (IsFresh s s.moment) s deed → IsDeed s deed
+is_deed s deed h = record { itself = h.goes.itself; moment = h.goes.moment; heard = h.heard; fresh = h.makes.such }
 
 pub make_is : (s : SystemState) (kind : Kind) (from to octets : List ℕ) (ask : Ask) → IsDeed s (make s kind from to octets ask)
 make_is s kind from to octets ask =
-    let went = stays s (unit_of s kind from to octets ask) (refusal s (unit_of s kind from to octets ask)) in
-    record {
-      itself = went.itself;
-      moment = went.moment;
-      heard = stays_deaf s (unit_of s kind from to octets ask) (refusal s (unit_of s kind from to octets ask));
-      fresh = asked_is_fresh s kind from to octets ask (refusal s (unit_of s kind from to octets ask)) refl;
-    }
+    is_deed s (make s kind from to octets ask)
+    (does_make (IsFresh s s.moment) s kind from to octets ask (asked_fresh s s (goes-nowhere s) kind from to octets ask))
 
 pub receive_is : (s : SystemState) (p : Packet) (following : List ℕ) → IsDeed s (receive s p following)
-receive_is s p following = is_deed s (receive s p following) (does_receive s p following)
+receive_is s p following =
+    is_deed s (receive s p following) (does_receive (IsFresh s s.moment) s p following (causes_fresh s p following) s (goes-nowhere s))
 
-pub packet_is : (s : SystemState) (p : Packet) (following : List ℕ) → IsDeed s (packet_comes s p following)
-packet_is s p following = is_deed s (packet_comes s p following) (does_with_packet s p following)
+pub discard_is : (s : SystemState) (content : Content) (reason place : ℕ) → IsDeed s (discard s content reason place)
+discard_is s content reason place =
+    is_deed s (discard s content reason place)
+    (does_discard (IsFresh s s.moment) s s (goes-nowhere s) content reason place (report_fresh s (frame_of content) reason place))
+
+pub packet_is : (s : SystemState) (p : Packet) (following : List ℕ) → IsEffect s (packet_comes s p following)
+packet_is s p following =
+    let took = takes_packet (IsFresh s s.moment) s p following (causes_fresh s p following) in
+    record { itself = took.leads.goes.itself; moment = took.leads.goes.moment; heard = took.heard; fresh = took.leads.makes.such }
 
 pub octets_are : (s : SystemState) (octets : List ℕ) → IsDeed s (octets_come s octets)
-octets_are s octets = is_deed s (octets_come s octets) (does_with_octets s octets)
+octets_are s octets =
+    is_deed s (octets_come s octets) (does_with_octets (IsFresh s s.moment) s s (goes-nowhere s) octets (report_fresh s octets))
 
 pub tick_is : (s : SystemState) (now : ℕ) → IsDeed (at_moment now s) (tick s now)
-tick_is s now = is_deed (at_moment now s) (tick s now) (does_expire (length s.buffers) (at_moment now s))
+tick_is s now = is_deed (at_moment now s) (tick s now) (does_tick (IsFresh (at_moment now s) now) s now (all_fresh s (MomentComes now)))
+
+-- A buffer that is taken out leaves all but the count of units.
+pub given_up_after : (s : SystemState) (ended : Buffer Packet)
+    → (gives_up s ended).after ≡ record s { buffers = buffer.without ended.key s.buffers; count = (gives_up s ended).after.count }
+given_up_after s ended = discarded (buffer.first_carried ended)
+  where
+    one_of : (t : SystemState) (test : Bool) (u : unit.Unit) → u.kind ≡ Er → u.identifier ≡ None
+        → (if test then makes t u else rests t).after ≡ record t { count = (if test then makes t u else rests t).after.count }
+    one_of t true u kind whole = rw (kind, whole) refl
+    one_of t false u kind whole = refl
+
+    reported : (t : SystemState) (frame : List ℕ) (found : Option (List ℕ))
+        → (reports_from found t frame (reason_code LifetimeExpiredInReassembly) 0).after
+        ≡ record t { count = (reports_from found t frame (reason_code LifetimeExpiredInReassembly) 0).after.count }
+    reported t frame None = refl
+    reported t frame (Some own) = one_of t (is_reportable frame) (report_unit t own frame (reason_code LifetimeExpiredInReassembly) 0) refl refl
+
+    discarded : (first : Option Packet)
+        → (discard_first (record s { buffers = buffer.without ended.key s.buffers }) first).after
+        ≡ record s { buffers = buffer.without ended.key s.buffers; count = (discard_first (record s { buffers = buffer.without ended.key s.buffers }) first).after.count }
+    discarded None = refl
+    discarded (Some p) = reported (record s { buffers = buffer.without ended.key s.buffers }) (wire p ++ []) (slice_get s.configuration.addresses 0)

@@ -1,20 +1,20 @@
 -- What holds of each buffer once a segment was offered.
 use Rattle.clnp_base.proofs.Filters.{AllByRecursion-filter}
 use Rattle.clnp_base.proofs.Lists.{AllByRecursion-implies}
-use Rattle.std.proofs.Common.{◌≡◌, ℕ, ◌+◌, ◌≤◌, inl, inr, Bool, true, false, cond, not, List, [], ◌∷◌, ◌++◌, length, Option, None, Some, Contains, refl, arith}
+use Rattle.std.proofs.Common.{◌≡◌, subst, ℕ, ◌+◌, ◌≤◌, inl, inr, Bool, true, false, cond, not, List, [], ◌∷◌, ◌++◌, length, Option, None, Some, Contains, refl, arith}
 use Rattle.std.specs.Prelude.{◌&&◌, is_none, nat_le, nat_lt}
-use Rattle.std.specs.List.{AllByRecursion}
+use Rattle.std.specs.List.{AllByRecursion, filter}
 use Rattle.std.proofs.lemmas.Bool.{cases_Bool}
 use Rattle.std.proofs.lemmas.List.Elements.{All-contains_itself, recursion_from_All}
 use Rattle.reassembly.specs.declared.table.TableLimits.{TableLimits}
 use Rattle.reassembly.specs.Arrival.{Arrival, are_covered, same_key}
-use Rattle.reassembly.specs.Buffer.{Answer, Buffer, Crowded, Held, Many, NoSlot, Repeat, Whole, after, answer, answer_of, buffer_of, clashes, held, is_whole_in, kept, kept_in, opened_by, refusal, with_kept, without}
+use Rattle.reassembly.specs.Buffer.{Answer, Buffer, Crowded, Held, Many, NoSlot, Repeat, Whole, after, answer, answer_of, buffer_of, clashes, due, held, is_whole_in, kept, kept_in, opened_by, refusal, sooner, soonest, with_kept, without}
 use Rattle.clnp_machine.specs.Unit.{Packet}
 use Rattle.clnp_machine.specs.Told.{TellsNoInterference, WasThereOrTakes}
 use Rattle.reassembly.proofs.Shared.{held-with_kept, kept_or_not, may_be_kept}
 use Rattle.reassembly.proofs.Shared.{same_key-refl}
 
-all_contained : {X : Type 0} (xs : List X) → AllByRecursion (Contains xs) xs
+pub all_contained : {X : Type 0} (xs : List X) → AllByRecursion (Contains xs) xs
 all_contained xs = recursion_from_All (Contains xs) xs (λ i d within. All-contains_itself xs i d within)
 
 abbrev NoneInterferes : Option Answer → Type 0
@@ -82,6 +82,28 @@ module _ {C : Type 0} (limits : TableLimits) (moment : ℕ) (arrival : Arrival C
         | inl same ↦ rw (same, same) (AllByRecursion-filter (λ b. not (same_key b.key arrival.key)) P P (λ b t h. h) others all.1)
         | inr other ↦ rw (other, other) (all.0, others_with_kept P others all.1)
       ]
+
+-- the buffer whose time has ended is one of those that there are
+
+module _ {C : Type 0} (P : Buffer C → Type 0) where
+  sooner_of : (b : Buffer C) (found : Option (Buffer C)) → P b → ((other : Buffer C) → found ≡ Some other → P other) → P (sooner b found)
+  sooner_of b None h k = h
+  sooner_of b (Some other) h k = go (nat_le b.deadline other.deadline)
+    where
+      go : (test : Bool) → P (cond test b other)
+      go true = h
+      go false = k other refl
+
+  soonest_of : (buffers : List (Buffer C)) (ended : Buffer C) → soonest buffers ≡ Some ended → AllByRecursion P buffers → P ended
+  soonest_of [] ended e h = absurd (cc)
+  soonest_of (b ∷ others) ended e h =
+      let same : sooner b (soonest others) ≡ ended = cc in
+      subst P same (sooner_of b (soonest others) h.0 (λ other found. soonest_of others other found h.1))
+
+  pub due_of : (moment : ℕ) (buffers : List (Buffer C)) (ended : Buffer C) → due moment buffers ≡ Some ended → AllByRecursion P buffers → P ended
+  due_of moment buffers ended e h =
+      soonest_of (filter (λ b. nat_le b.deadline moment) buffers) ended e
+      (AllByRecursion-filter (λ b. nat_le b.deadline moment) P P (λ b t k. k) buffers h)
 
 -- which buffers there are then
 

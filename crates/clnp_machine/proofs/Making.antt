@@ -1,7 +1,7 @@
 -- The unit that is asked for, where it isn't refused.
 use Rattle.std.proofs.Common.{◌≡◌, ℕ, ◌+◌, ◌≤◌, Bool, true, not, if◌then◌else◌, nat_lt, List, ◌++◌, length, Option, None, Some, option_map, refl, ap, arith, length-append}
 use Rattle.std.proofs.lemmas.Bool.Decides.{nat_tests}
-use Rattle.clnp_options.specs.Parameter.{spelled}
+use Rattle.clnp_options.specs.Parameter.{Parameter, parameters, spelled}
 use Rattle.pdu_header.specs.declared.kind.Kind.{Kind}
 use Rattle.pdu_header.specs.Spelling.{counted, segmentation_octets}
 use Rattle.clnp_plan.specs.declared.ask.Ask.{Ask}
@@ -9,7 +9,7 @@ use Rattle.clnp_plan.specs.declared.note.Note.{Note}
 use Rattle.clnp_machine.specs.Unit as unit
 use Rattle.clnp_machine.specs.System.{SystemState}
 use Rattle.clnp_machine.specs.Told.{IsAllowed}
-use Rattle.clnp_machine.specs.Local.{is_own, most_octets, identifier_for, unit_of, header_size, identifier_refusal, refusal}
+use Rattle.clnp_machine.specs.Local.{is_own, most_octets, identifier_for, unit_of, unit_with, header_size, identifier_refusal, refusal}
 
 allowed_of : (own : Bool) (len size : ℕ) (first second third : Note) (last : Option Note)
     → (if not own then Some first else if nat_lt most_octets len then Some second else if nat_lt 254 size then Some third else last) ≡ None
@@ -39,8 +39,13 @@ same_header : (u : unit.Unit) (a b : ℕ) (identifier : Option ℕ) → header_w
 same_header u a b None = refl
 same_header u a b (Some identifier) = simp length-append
 
+pub total_with : (s : SystemState) (kind : Kind) (from to octets : List ℕ) (life : ℕ) (report segment : Bool) (options : List Parameter)
+    → (unit_with s kind from to octets life report segment options).total
+    ≡ header_size (unit_with s kind from to octets life report segment options) + length octets
+total_with s kind from to octets life report segment options =
+    let u = unit_with s kind from to octets life report segment options in
+    ap (λ n. n + length octets) (same_header u 0 u.total (identifier_for s segment))
+
 pub total_is : (s : SystemState) (kind : Kind) (from to octets : List ℕ) (ask : Ask)
     → (unit_of s kind from to octets ask).total ≡ header_size (unit_of s kind from to octets ask) + length octets
-total_is s kind from to octets ask =
-    let u = unit_of s kind from to octets ask in
-    ap (λ n. n + length octets) (same_header u 0 u.total (identifier_for s ask.segment))
+total_is s kind from to octets ask = total_with s kind from to octets ask.life ask.report ask.segment (parameters ask.options)

@@ -117,7 +117,7 @@ carries_other : (octets : List ℕ) → IsBytes octets → is_accepted octets �
 carries_other octets bytes fails None e =
     let told = not_refused octets e in carries_esis octets (esis_frames.front octets bytes told.0 told.1)
 carries_other octets bytes fails (Some why) e =
-    record { frame = refl; carried = record { clnp = not_accepted octets fails; esis = refused_spells_none octets why e } }
+    record { frame = refl; carried = record { bytes = bytes; clnp = not_accepted octets fails; esis = refused_spells_none octets why e } }
 
 pub has_content : (number moment : ℕ) (octets : List ℕ) → IsBytes octets → Carries octets (content_of number moment octets)
 has_content number moment octets bytes =

@@ -19,12 +19,12 @@ use Rattle.clnp_plan.specs.Configuration.{HasItsAddresses, IsSystem, SystemConfi
 use Rattle.clnp_plan.specs.declared.config.Role.{Role}
 use Rattle.clnp_plan.specs.declared.config.Role.TheVariants.{Host, Router}
 use Rattle.clnp_machine.specs.Content.{Content, Esis, Labelled, Unlabelled}
-use Rattle.clnp_machine.specs.System.{SystemState, Input, AsksToSend, FrameComes, MomentComes, IsRestarted, Output, Transmits, SendsEsis, Notes, Effect, idles, then_does}
+use Rattle.clnp_machine.specs.System.{SystemState, Input, AsksToSend, AsksForEcho, FrameComes, MomentComes, IsRestarted, Output, Transmits, SendsEsis, Notes, Effect, idles, then_does}
 use Rattle.clnp_machine.specs.Esis.{answers_new, end_system_heard, esis_heard, first_of, forgets, gone_note, hearers, hears, hears_each, holding_time, intermediate_system_heard, is_silent, own_hello, says_hello, tells_new, tells_of_itself, wish}
-use Rattle.clnp_machine.specs.Local.{Action, make, tick}
+use Rattle.clnp_machine.specs.Local.{Action, make, requests_echo, tick}
 use Rattle.clnp_machine.specs.Step.{content_comes, is_asked_for, octets_come, outputs_of, packet_comes, responds, step}
 use Rattle.clnp_machine.specs.Steps.{IsItsHello, SendsEsisPdus, SendsItsHellos, sends_esis, sends_frame}
-use Rattle.clnp_machine.proofs.Answering.{deeds_silent, hears_notes}
+use Rattle.clnp_machine.proofs.Answering.{deeds_silent, hears_notes, packet_silent}
 use Rattle.clnp_machine.proofs.Deeds.{packet_is, tick_is}
 use Rattle.clnp_machine.proofs.Hellos.{only_hears_each, hello_is, said, same_hello}
 
@@ -95,9 +95,10 @@ module _ (s : SystemState) where
 
   content_its : (place : Place) (to_group : Bool) (content : Content) → SendsIts (content_comes s place to_group content).outputs
   content_its place to_group (Labelled p following) =
-      let deed = packet_comes s p following in
-      let t = deed.after in
-      AllByRecursion-append (SendsItsHellos s) (flat_map (outputs_of t) deed.actions) (responds t place to_group p).outputs (deeds_its t deed.actions)
+      let come = packet_comes s p following in
+      let t = come.after in
+      AllByRecursion-append (SendsItsHellos s) come.outputs (responds t place to_group p).outputs
+      (AllByRecursion-implies (λ output. sends_esis output ≡ false) (SendsItsHellos s) silent_its come.outputs (packet_silent s p following))
       (one_its (is_asked_for t.configuration.role t to_group p) _ _ (told_its t place.port place.snpa (packet_is s p following).itself.configuration) tt)
   content_its place to_group (Esis value following) =
       heard_its s.configuration.role place value.holding value.body (suggested value.body value.options)
@@ -105,6 +106,7 @@ module _ (s : SystemState) where
 
   pub step_its : (input : Input) → SendsIts (step s input).outputs
   step_its (AsksToSend from to octets ask) = deeds_its (make s Dt from to octets ask).after (make s Dt from to octets ask).actions
+  step_its (AsksForEcho from to octets) = deeds_its (requests_echo s from to octets).after (requests_echo s from to octets).actions
   step_its (FrameComes port sender to_group content) = content_its (record { port = port; snpa = sender }) to_group content
   step_its (MomentComes now) =
       let deed = tick s now in

@@ -1,33 +1,56 @@
 -- PDUs can carry what a system sends, where what is asked of it is fair.
 use Rattle.clnp_base.proofs.Choices.{below_not}
 use Rattle.clnp_base.proofs.Lists.{AllByRecursion-append, AllByRecursion-implies, AllByRecursion-slice_get, length_part}
-use Rattle.std.proofs.Common.{◌≡◌, ℕ, ◌+◌, ◌-◌, ◌^◌, ◌<◌, ◌≤◌, Bool, true, false, nat_lt, List, [], ◌∷◌, ◌++◌, length, map, take, drop, Option, None, Some, option_map, refl, arith, subst}
-use Rattle.std.specs.Prelude.{slice_get}
+use Rattle.std.proofs.Common.{◌≡◌, ℕ, zero, suc, ◌+◌, ◌-◌, ◌^◌, ◌<◌, ◌≤◌, Bool, true, false, not, nat_lt, List, [], ◌∷◌, ◌++◌, length, map, take, drop, All, Option, None, Some, is_some, option_map, refl, sym, ap, arith, subst}
+use Rattle.std.specs.Prelude.{◌==◌, slice_get}
 use Rattle.std.specs.List.{AllByRecursion, flat_map}
-use Rattle.clnp_options.specs.Grammar.{FitsKind}
-use Rattle.pdu_header.specs.declared.kind.Kind.TheVariants.{Dt}
-use Rattle.pdu_header.specs.Grammar.{IsSegment, is_report}
-use Rattle.pdu_header.proofs.Frames.{is_front}
+use Rattle.std.proofs.lemmas.Bool.{and_parts}
+use Rattle.std.proofs.lemmas.List.Elements.{All-nil, recursion_from_All}
+use Rattle.hex.specs.Hex.{IsBytes}
 use Rattle.nsap.specs.Address.{IsAddress}
-use Rattle.clnp_options.specs.Grammar.{AreFormed}
-use Rattle.clnp_plan.specs.Configuration.{IsPort, IsSystem}
+use Rattle.clnp_options.specs.Grammar.{AreFormed, FitsKind, HasForm}
+use Rattle.clnp_options.specs.Parameter.{parameters, parameters_after}
+use Rattle.clnp_options.specs.Reasons.{reason_code}
+use Rattle.clnp_options.specs.declared.reasons.Reason.TheVariants.{LifetimeExpiredInReassembly}
+use Rattle.clnp_options.proofs.Agree.{are_formed}
+use Rattle.pdu_header.specs.declared.kind.Kind.{Kind}
+use Rattle.pdu_header.specs.declared.kind.Kind.TheVariants.{Dt, Er, Erq, Erp}
+use Rattle.pdu_header.specs.Grammar.{IsSegment, is_report}
+use Rattle.pdu_header.specs.Rules.{extent_refusal, header_of, header_size as size_of_header, is_bad_address, is_reportable, octet, source_place, type_of, wants_report}
+use Rattle.pdu_header.specs.Value.{PduValue, SegmentationPart}
+use Rattle.pdu_header.proofs.Accepted.{within}
+use Rattle.pdu_header.proofs.Changed.{header_length-is}
+use Rattle.pdu_header.proofs.Read.{read_as}
+use Rattle.pdu_header.proofs.Spelled.{address_is, octets_of_take}
+use Rattle.error_reports.specs.Report.{reason_option, source_of}
+use Rattle.error_reports.proofs.Lengths.{four}
+use Rattle.error_reports.proofs.Reason.{alone, alone_fits}
+use Rattle.reassembly.specs.Arrival.{Arrival}
+use Rattle.esis_tables.specs.declared.fact.Place.{Place}
+use Rattle.clnp_plan.specs.Asking.{IsFormedAsk}
+use Rattle.clnp_plan.specs.Configuration.{IsPort, IsSystem, SystemConfiguration}
 use Rattle.clnp_plan.specs.declared.ask.Ask.{Ask}
 use Rattle.clnp_plan.specs.declared.config.PortConfig.{PortConfig}
-use Rattle.clnp_plan.specs.declared.note.Note.{Note}
 use Rattle.clnp_machine.specs.Unit as unit
 use Rattle.clnp_machine.specs.Unit.{Packet, IsCarriable, cut, more_follows, segmentation_of, value_of, value_with, whole_packet, wire}
-use Rattle.clnp_machine.specs.System.{SystemState, Input, AsksToSend, FrameComes, MomentComes, IsRestarted, Output, Transmits, SendsEsis, Notes}
-use Rattle.clnp_machine.specs.Local.{header_size, identifier_for, makes, most_octets, refusal, unit_of, unless_refused}
-use Rattle.clnp_machine.specs.Step.{Hop, next_hop, sent_on, transmissions, first_sent, outputs_of, step}
-use Rattle.clnp_machine.specs.Steps.{AreCarriable, AsksNothing, BreaksNoEsisRule, BreaksNoRule, IsFairlyAsked, SendsCarriable, SendsRangesOf}
-use Rattle.clnp_machine.proofs.Deeds.{makes_none}
-use Rattle.clnp_machine.proofs.Making.{allowed, total_is}
+use Rattle.clnp_machine.specs.Content.{Content, Esis, IsCarried, Labelled, Unlabelled}
+use Rattle.clnp_machine.specs.System.{SystemState, Input, AsksToSend, AsksForEcho, FrameComes, MomentComes, IsRestarted, Output, Transmits, SendsEsis, Notes, Effect, then_does}
+use Rattle.clnp_machine.specs.Esis.{esis_comes, forgets, says_hello}
+use Rattle.clnp_machine.specs.Local.{Action, Deed, IsAsOffered, Sends, Tells, at_moment, discard, echo_ask, header_size, identifier_for, made_in, make, most_octets, receive, refusal, report_unit, tick, unit_of}
+use Rattle.clnp_machine.specs.Step.{Hop, content_comes, effect_of, first_sent, forwarded, loss_at, moment_comes, octets_come, outputs_of, packet_comes, responds, sent_on, step, transmissions, unit_hop}
+use Rattle.clnp_machine.specs.Steps.{AreCarriable, ComesWith, IsFair, IsOfHellos, KeepsAsOffered, OnlyHellos, SendsCarriable}
+use Rattle.clnp_machine.proofs.Deeds.{AllSuch, CausesSuch, Does, Replied, Reported, does_discard, does_make, does_receive, does_tick, does_with_octets, goes-nowhere}
+use Rattle.clnp_machine.proofs.Gained.{all_segments, each_kept, keeps_step}
+use Rattle.clnp_machine.proofs.Hellos.{only_comes, only_forgets, only_responds, only_says_hello, only_then}
+use Rattle.clnp_machine.proofs.Making.{allowed, total_is, total_with}
+use Rattle.clnp_machine.proofs.Passing.{Onward, packet_does}
 use Rattle.clnp_machine.proofs.Pieces.{cut_carriable}
-use Rattle.clnp_machine.proofs.Sent.{step_sends_ranges}
-use Rattle.esis_pdus.specs.Grammar as esis
-use Rattle.esis_pdus.specs.Spelling.{spelling}
-use Rattle.esis_pdus.specs.Value.{EsisValue}
-use Rattle.esis_pdus.proofs.Frames as esis_frames
+use Rattle.clnp_machine.proofs.Reporting.{header_in, kept_carriable, source_is}
+
+each_sent : (hop : Hop) (packets : List Packet) → AllByRecursion IsCarriable packets
+    → AllByRecursion SendsCarriable (map (λ packet. Transmits hop.port hop.target packet) packets)
+each_sent hop [] k = tt
+each_sent hop (packet ∷ packets) k = (k.0, each_sent hop packets k.1)
 
 -- an identifier, where there is one, has two octets
 abbrev IsSmall : Option ℕ → Type 0
@@ -90,11 +113,6 @@ module _ (u : unit.Unit) (h : IsSendable u) where
         to = omega (arith, h.first_position);
       }
 
-  each_sent : (hop : Hop) (packets : List Packet) → AllByRecursion IsCarriable packets
-      → AllByRecursion SendsCarriable (map (λ packet. Transmits hop.port hop.target packet) packets)
-  each_sent hop [] k = tt
-  each_sent hop (packet ∷ packets) k = (k.0, each_sent hop packets k.1)
-
   pieces_sent : (hop : Hop) (found : Option (List Packet)) → AreCarriable found → AllByRecursion SendsCarriable (transmissions hop found)
   pieces_sent hop None k = (tt, tt)
   pieces_sent hop (Some packets) k = each_sent hop packets k
@@ -114,66 +132,255 @@ small_identifier : (s : SystemState) (segment : Bool) → IsSmall (identifier_fo
 small_identifier s true = omega arith
 small_identifier s false = tt
 
--- a unit that is fairly asked for and isn't refused
-asked_is_sendable : (s : SystemState) (from to octets : List ℕ) (ask : Ask) → IsFairlyAsked (AsksToSend from to octets ask)
-    → refusal s (unit_of s Dt from to octets ask) ≡ None → IsSendable (unit_of s Dt from to octets ask)
-asked_is_sendable s from to octets ask fair none =
-    let is = allowed s (unit_of s Dt from to octets ask) none in
+-- Options of units that a system makes unasked.
+
+reason_formed : (cause place : ℕ) → AreFormed (reason_option cause place ∷ [])
+unfolding parameters_after
+reason_formed cause place = are_formed (reason_option cause place ∷ []) (alone cause place)
+
+none_formed : AreFormed (parameters [])
+unfolding parameters_after
+none_formed = record { formed = All-nil HasForm; distinct = λ i j d before within. absurd (omega arith) }
+
+no_reason : FitsKind false (parameters [])
+unfolding parameters_after
+no_reason = (λ t. absurd (cc), λ any. let within = any.2 in absurd (omega arith))
+
+-- a unit that is asked for between addresses and isn't refused
+asked_is_sendable : (t : SystemState) (kind : Kind) (from to octets : List ℕ) (ask : Ask) → IsFormedAsk from to ask
+    → FitsKind (is_report kind) (parameters ask.options) → refusal t (unit_of t kind from to octets ask) ≡ None
+    → IsSendable (unit_of t kind from to octets ask)
+asked_is_sendable t kind from to octets ask formed fits none =
+    let is = allowed t (unit_of t kind from to octets ask) none in
     record {
-      lifetime = fair.0.lifetime;
-      destination = fair.0.destination;
-      source = fair.0.source;
-      identifier = small_identifier s ask.segment;
-      options = fair.0.options;
-      reason = fair.1;
+      lifetime = formed.lifetime;
+      destination = formed.destination;
+      source = formed.source;
+      identifier = small_identifier t ask.segment;
+      options = formed.options;
+      reason = fits;
       first_position = refl;
-      total = total_is s Dt from to octets ask;
+      total = total_is t kind from to octets ask;
       octets = is.octets;
       header = is.header;
     }
 
-made_is_carriable : (s : SystemState) (u : unit.Unit) → IsSystem s.configuration → IsSendable u
-    → AllByRecursion SendsCarriable (flat_map (outputs_of (makes s u).after) (makes s u).actions)
-made_is_carriable s u system h = (
-  tt,
-  AllByRecursion-append SendsCarriable (first_sent (makes s u).after u (next_hop (makes s u).after u.destination)) []
-      (first_is_carriable u h (makes s u).after (next_hop (makes s u).after u.destination) system.each_port) tt,
-)
+-- an echo request or reply is asked for as it should be
+echo_formed : (t : SystemState) → IsSystem t.configuration → (from to : List ℕ) (len : ℕ) (report : Bool) → IsAddress from → IsAddress to
+    → IsFormedAsk from to (echo_ask t from to len report)
+echo_formed t system from to len report source destination =
+    let most = system.settings.life.most in
+    record { source = source; destination = destination; lifetime = omega arith; options = none_formed }
 
-unless_refused_carriable : (s : SystemState) (u : unit.Unit) (refused : Option Note) → IsSystem s.configuration → (refused ≡ None → IsSendable u)
-    → AllByRecursion SendsCarriable (flat_map (outputs_of (unless_refused refused s u).after) (unless_refused refused s u).actions)
-unless_refused_carriable s u None system h = made_is_carriable s u system (h refl)
-unless_refused_carriable s u (Some told) system h = (tt, tt)
+-- what a frame's header tells where the frame's discard is reported
+record IsReadable (frame : List ℕ) : Type 0 where
+  source : IsAddress (source_of frame)
+  few : length (header_of frame) ≤ 255
 
--- where nothing is made, no packet is sent
+readable_packet : (p : Packet) (following : List ℕ) → IsCarriable p → IsReadable (wire p ++ following)
+readable_packet p following h =
+    let short = (read_as (value_of p) h.pdu).short in
+    let size = ap length (header_in p following h) in
+    record { source = subst IsAddress (sym (source_is p following h)) h.pdu.source; few = omega arith }
 
-none_sent : (output : Output) → SendsRangesOf [] output → SendsCarriable output
-none_sent (Transmits port target packet) h = let within = h.unit.1 in absurd (omega arith)
-none_sent (SendsEsis port target value) h = tt
-none_sent (Notes note) h = tt
+not_true : (test : Bool) → not test ≡ true → test ≡ false
+not_true true e = absurd (cc)
+not_true false e = refl
 
-quiet_is_carriable : (s : SystemState) (input : Input) → AsksNothing input → AllByRecursion SendsCarriable (step s input).outputs
-quiet_is_carriable s input nothing =
-    AllByRecursion-implies (SendsRangesOf []) SendsCarriable none_sent (step s input).outputs
-    (subst (λ units. AllByRecursion (SendsRangesOf units) (step s input).outputs) (makes_none s input nothing) (step_sends_ranges s input))
+take_few : (n : ℕ) (xs : List ℕ) → length (take n xs) ≤ n
+take_few zero xs = omega arith
+take_few (suc n) [] = omega arith
+take_few (suc n) (x ∷ xs) = let few = take_few n xs in omega arith
 
-pub step_carriable : (s : SystemState) (input : Input) → IsSystem s.configuration → IsFairlyAsked input → AllByRecursion SendsCarriable (step s input).outputs
-step_carriable s (AsksToSend from to octets ask) system fair =
-    unless_refused_carriable s (unit_of s Dt from to octets ask) (refusal s (unit_of s Dt from to octets ask)) system
-    (asked_is_sendable s from to octets ask fair)
-step_carriable s (FrameComes port sender to_group content) system fair = quiet_is_carriable s (FrameComes port sender to_group content) tt
-step_carriable s (MomentComes now) system fair = quiet_is_carriable s (MomentComes now) tt
-step_carriable s IsRestarted system fair = (tt, tt)
+readable_octets : (octets : List ℕ) → IsBytes octets → is_reportable octets ≡ true → IsReadable octets
+readable_octets octets bytes is =
+    let head = header_of octets in
+    let begun = and_parts (octet octets 1 == 0x81) _ is in
+    let whole = and_parts (not (is_some (extent_refusal octets))) _ begun.1 in
+    let wanted = and_parts (wants_report head) _ whole.1 in
+    let no_report = and_parts (not (type_of head == 1)) _ wanted.1 in
+    let addresses = and_parts (not (is_bad_address head 10)) (not (is_bad_address head (source_place head))) no_report.1 in
+    let small : size_of_header octets < 256 = bytes 1 in
+    let few = take_few (size_of_header octets) octets in
+    record {
+      source = address_is head (source_place head) (octets_of_take octets (size_of_header octets) bytes)
+          (within head (source_place head) (not_true (is_bad_address head (source_place head)) addresses.1));
+      few = omega arith;
+    }
 
--- a frame of such a packet breaks no rule
-pub carriable_unbroken : (p : Packet) (following : List ℕ) → IsCarriable p → BreaksNoRule (wire p ++ following)
-carriable_unbroken p following h =
-    let front = is_front (wire p ++ following) (value_of p) following
-    (record { octets = wire p; spells = record { pdu = h.pdu; octets_are = refl }; split = refl }) in
-    record { protocol = front.protocol; rules = front.unbroken }
+module _ (s : SystemState) (system : IsSystem s.configuration) (each : All IsAddress s.configuration.addresses) where
+  report_sendable : (frame : List ℕ) (reason place : ℕ) → (is_reportable frame ≡ true → IsReadable frame) → Reported IsSendable s frame reason place
+  report_sendable frame reason place readable t at own first reportable =
+      let life = (subst IsSystem (sym at.itself.configuration) system).settings.life.most in
+      let addresses : All IsAddress t.configuration.addresses = subst (λ (c : SystemConfiguration). All IsAddress c.addresses) (sym at.itself.configuration) each in
+      let source : IsAddress own =
+      AllByRecursion-slice_get IsAddress t.configuration.addresses 0 own first (recursion_from_All IsAddress t.configuration.addresses addresses) in
+      let is = readable reportable in
+      let from = source.few in
+      let to = is.source.few in
+      let few = is.few in
+      let size = header_length-is (value_of (whole_packet (report_unit t own frame reason place))) in
+      let option = four (reason_option reason place ∷ []) reason place refl in
+      record {
+        lifetime = omega arith;
+        destination = is.source;
+        source = source;
+        identifier = tt;
+        options = reason_formed reason place;
+        reason = alone_fits (reason_option reason place ∷ []) reason place refl;
+        first_position = refl;
+        total = total_with t Er own (source_of frame) (header_of frame) t.configuration.settings.life false false (reason_option reason place ∷ []);
+        octets = omega arith;
+        header = omega arith;
+      }
 
-pub esis_unbroken : (value : EsisValue) (following : List ℕ) → esis.IsPdu value → BreaksNoEsisRule (spelling value ++ following)
-esis_unbroken value following h =
-    let front = esis_frames.is_front (spelling value ++ following) value following
-    (record { octets = spelling value; spells = record { pdu = h; octets_are = refl }; split = refl }) in
-    record { protocol = front.protocol; rules = front.unbroken }
+  reply_sendable : (source destination octets : List ℕ) → IsAddress source → IsAddress destination → Replied IsSendable s source destination octets
+  reply_sendable source destination octets from to t at none =
+      asked_is_sendable t Erp destination source octets (echo_ask t destination source (length octets) false)
+      (echo_formed t (subst IsSystem (sym at.itself.configuration) system) destination source (length octets) false to from) no_reason none
+
+  causes_sendable : (p : Packet) (following : List ℕ) → IsCarriable p → CausesSuch IsSendable s p following
+  causes_sendable p following h = record {
+    reported = λ reason of_none. report_sendable (wire p ++ following) reason 0 (λ is. readable_packet p following h);
+    replied = λ octets request. reply_sendable p.unit.source p.unit.destination octets h.pdu.source h.pdu.destination;
+  }
+
+all_sendable : (s : SystemState) (input : Input) → IsSystem s.configuration → IsFair input → All IsAddress s.configuration.addresses → KeepsAsOffered s
+    → AllSuch IsSendable s input
+all_sendable s (AsksToSend from to octets ask) system fair each keeps = asked_is_sendable s Dt from to octets ask fair.0 fair.1
+all_sendable s (AsksForEcho from to octets) system fair each keeps =
+    asked_is_sendable s Erq from to octets (echo_ask s from to (length octets) true)
+    (echo_formed s system from to (length octets) true fair.0 fair.1) no_reason
+all_sendable s (FrameComes port sender to_group (Labelled p following)) system fair each keeps = causes_sendable s system each p following fair
+all_sendable s (FrameComes port sender to_group (Esis value following)) system fair each keeps = tt
+all_sendable s (FrameComes port sender to_group (Unlabelled octets)) system fair each keeps =
+    λ reason place. report_sendable s system each octets reason place (readable_octets octets fair.bytes)
+all_sendable s (MomentComes now) system fair each keeps =
+    λ p there. report_sendable (at_moment now s) system each (wire p ++ []) (reason_code LifetimeExpiredInReassembly) 0
+    (λ is. readable_packet p [] (kept_carriable s keeps p there))
+all_sendable s IsRestarted system fair each keeps = tt
+
+-- What is sent of what a system does at its addresses.
+
+deeds_carriable : (t : SystemState) (actions : List Action) → AllByRecursion IsPort t.configuration.ports → AllByRecursion IsSendable (made_in actions)
+    → AllByRecursion SendsCarriable (flat_map (outputs_of t) actions)
+deeds_carriable t [] each h = tt
+deeds_carriable t (Tells told ∷ actions) each h = (tt, deeds_carriable t actions each h)
+deeds_carriable t (Sends u ∷ actions) each h =
+    AllByRecursion-append SendsCarriable (first_sent t u (unit_hop t u)) (flat_map (outputs_of t) actions)
+    (first_is_carriable u h.0 t (unit_hop t u) each) (deeds_carriable t actions each h.1)
+
+deed_carriable : (s : SystemState) (deed : Deed) → IsSystem s.configuration → Does IsSendable s deed
+    → AllByRecursion SendsCarriable (effect_of deed).outputs
+deed_carriable s deed system h =
+    deeds_carriable deed.after deed.actions
+    (subst (λ (c : SystemConfiguration). AllByRecursion IsPort c.ports) (sym h.goes.itself.configuration) system.each_port) h.makes.such
+
+-- What goes on.
+
+segment_kept : (v : PduValue) (life : ℕ) (part : Option SegmentationPart) → IsSegment v part → IsSegment (record v { lifetime = life }) part
+segment_kept v life None h = h
+segment_kept v life (Some part) h = record { identifier = h.identifier; offset = h.offset; total = h.total; range = h.range }
+
+-- a PDU can carry a packet of less lifetime where it can carry the packet
+forwarded_carriable : (p : Packet) (loss : ℕ) → IsCarriable p → IsCarriable (forwarded p loss)
+forwarded_carriable p loss h =
+    let pdu = h.pdu in
+    let lifetime : p.lifetime < 256 = pdu.lifetime in
+    record {
+      pdu = record {
+        lifetime = omega arith;
+        destination = pdu.destination;
+        source = pdu.source;
+        segmentation = segment_kept (value_of p) (p.lifetime - loss) (segmentation_of p) pdu.segmentation;
+        options = pdu.options;
+        reason = pdu.reason;
+        header_fits = pdu.header_fits;
+        segment_fits = pdu.segment_fits;
+      };
+      from = h.from;
+      to = h.to;
+    }
+
+found_carriable : (found : Option (List Packet)) (given : List Packet) → found ≡ Some given → AreCarriable found → AllByRecursion IsCarriable given
+found_carriable found given same h = subst AreCarriable same h
+
+onward_carriable : (s : SystemState) (p : Packet) → AllByRecursion IsPort s.configuration.ports → IsCarriable p
+    → Onward (λ effect. AllByRecursion SendsCarriable effect.outputs) s p
+onward_carriable s p each h hop port given there alive gives =
+    let wide : 512 ≤ port.mtu = (AllByRecursion-slice_get IsPort s.configuration.ports hop.port port there each).mtu.least in
+    each_sent hop given
+    (found_carriable (cut (forwarded p (loss_at port)) port.mtu) given gives
+    (cut_carriable (forwarded p (loss_at port)) port.mtu (forwarded_carriable p (loss_at port) h) wide))
+
+hello_carriable : (output : Output) → IsOfHellos output → SendsCarriable output
+hello_carriable (Transmits port target packet) h = absurd h
+hello_carriable (SendsEsis port target value) h = tt
+hello_carriable (Notes note) h = tt
+
+hellos_carriable : (s : SystemState) (effect : Effect) → OnlyHellos s effect → AllByRecursion SendsCarriable effect.outputs
+hellos_carriable s effect h = AllByRecursion-implies IsOfHellos SendsCarriable hello_carriable effect.outputs h.outputs
+
+packet_carriable : (s : SystemState) (p : Packet) (following : List ℕ) → IsSystem s.configuration → IsCarriable p → CausesSuch IsSendable s p following
+    → AllByRecursion SendsCarriable (packet_comes s p following).outputs
+packet_carriable s p following system h such =
+    packet_does (λ effect. AllByRecursion SendsCarriable effect.outputs) s p following
+    (λ reason of_none. deed_carriable s (discard s (Labelled p following) reason 0) system
+    (does_discard IsSendable s s (goes-nowhere s) (Labelled p following) reason 0 (such.reported reason of_none)))
+    (onward_carriable s p system.each_port h) (tt, tt)
+    (λ own. deed_carriable s (receive s p following) system (does_receive IsSendable s p following such s (goes-nowhere s)))
+
+content_carriable : (s : SystemState) (port : ℕ) (sender : List ℕ) (to_group : Bool) (content : Content) → IsSystem s.configuration → IsCarried content
+    → AllSuch IsSendable s (FrameComes port sender to_group content)
+    → AllByRecursion SendsCarriable (content_comes s (record { port = port; snpa = sender }) to_group content).outputs
+content_carriable s port sender to_group (Labelled p following) system h such =
+    let place : Place = record { port = port; snpa = sender } in
+    let come = packet_comes s p following in
+    AllByRecursion-append SendsCarriable come.outputs (responds come.after place to_group p).outputs (packet_carriable s p following system h such)
+    (hellos_carriable come.after (responds come.after place to_group p) (only_responds come.after place to_group p))
+content_carriable s port sender to_group (Esis value following) system h such =
+    let place : Place = record { port = port; snpa = sender } in hellos_carriable s (esis_comes s place value) (only_comes s place value)
+content_carriable s port sender to_group (Unlabelled octets) system h such =
+    deed_carriable s (octets_come s octets) system (does_with_octets IsSendable s s (goes-nowhere s) octets such)
+
+moment_carriable : (s : SystemState) (now : ℕ) → IsSystem s.configuration → AllSuch IsSendable s (MomentComes now)
+    → AllByRecursion SendsCarriable (moment_comes s now).outputs
+moment_carriable s now system such =
+    let ticked = (tick s now).after in
+    let hellos = then_does (forgets s.moment ticked) says_hello in
+    AllByRecursion-append SendsCarriable (effect_of (tick s now)).outputs hellos.outputs
+    (deed_carriable (at_moment now s) (tick s now) system (does_tick IsSendable s now such))
+    (hellos_carriable ticked hellos
+    (only_then ticked (forgets s.moment ticked) says_hello (only_forgets s.moment ticked) (only_says_hello ticked)))
+
+carriable_where : (s : SystemState) (input : Input) → IsSystem s.configuration → IsFair input → AllSuch IsSendable s input
+    → AllByRecursion SendsCarriable (step s input).outputs
+carriable_where s (AsksToSend from to octets ask) system fair such =
+    deed_carriable s (make s Dt from to octets ask) system (does_make IsSendable s Dt from to octets ask such)
+carriable_where s (AsksForEcho from to octets) system fair such =
+    let ask = echo_ask s from to (length octets) true in
+    deed_carriable s (make s Erq from to octets ask) system (does_make IsSendable s Erq from to octets ask such)
+carriable_where s (FrameComes port sender to_group content) system fair such = content_carriable s port sender to_group content system fair such
+carriable_where s (MomentComes now) system fair such = moment_carriable s now system such
+carriable_where s IsRestarted system fair such = (tt, tt)
+
+pub step_carriable : (s : SystemState) (input : Input) → IsSystem s.configuration → IsFair input → All IsAddress s.configuration.addresses
+    → KeepsAsOffered s → AllByRecursion SendsCarriable (step s input).outputs
+step_carriable s input system fair each keeps = carriable_where s input system fair (all_sendable s input system fair each keeps)
+
+-- Segments that are kept are as they were offered.
+
+comes_offered : (input : Input) → IsFair input → (arrival : Arrival Packet) → ComesWith input arrival → IsAsOffered arrival
+comes_offered (FrameComes port sender to_group (Labelled p following)) fair arrival comes =
+    subst IsAsOffered (sym comes) (record { following = following; is_offered = refl; carriable = fair })
+comes_offered (FrameComes port sender to_group (Esis value following)) fair arrival comes = absurd comes
+comes_offered (FrameComes port sender to_group (Unlabelled octets)) fair arrival comes = absurd comes
+comes_offered (AsksToSend from to octets ask) fair arrival comes = absurd comes
+comes_offered (AsksForEcho from to octets) fair arrival comes = absurd comes
+comes_offered (MomentComes now) fair arrival comes = absurd comes
+comes_offered IsRestarted fair arrival comes = absurd comes
+
+pub step_keeps : (s : SystemState) (input : Input) → IsFair input → KeepsAsOffered s → KeepsAsOffered (step s input).after
+step_keeps s input fair keeps =
+    all_segments IsAsOffered (step s input).after.buffers
+    (keeps_step IsAsOffered s input (each_kept IsAsOffered s.buffers keeps) (comes_offered input fair))

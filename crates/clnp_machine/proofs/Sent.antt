@@ -1,23 +1,26 @@
--- What a system sends of a unit that it makes: ranges of it.
-use Rattle.clnp_base.proofs.Lists.{AllByRecursion-append, AllByRecursion-implies}
-use Rattle.std.proofs.Common.{◌≡◌, ℕ, zero, suc, ◌+◌, ◌-◌, ◌*◌, ◌/◌, ◌<◌, ◌≤◌, Bool, true, false, List, [], ◌∷◌, ◌++◌, length, map, Option, None, Some, nat_le, option_map, if◌then◌else◌, Contains, refl, subst, arith}
+-- What a system sends: ranges of the units that it makes, and what goes on.
+use Rattle.clnp_base.proofs.Lists.{AllByRecursion-append, AllByRecursion-implies, AllByRecursion-mapped}
+use Rattle.std.proofs.Common.{◌≡◌, ◌∙◌, ap, sym, inl, inr, ℕ, zero, suc, ◌+◌, ◌-◌, ◌*◌, ◌/◌, ◌<◌, ◌≤◌, Bool, true, false, List, [], ◌∷◌, ◌++◌, length, map, Option, None, Some, nat_le, option_map, if◌then◌else◌, Contains, refl, subst, arith}
 use Rattle.std.specs.List.{AllByRecursion, flat_map, range_with_len}
 use Rattle.std.proofs.lemmas.List.Elements.{Contains-append_left, Contains-append_right}
 use Rattle.std.specs.Prelude.{slice_get}
 use Rattle.esis_tables.specs.declared.fact.Place.{Place}
 use Rattle.pdu_header.specs.declared.kind.Kind.TheVariants.{Dt}
+use Rattle.pdu_header.specs.Spelling.{header_length}
 use Rattle.clnp_plan.specs.declared.config.PortConfig.{PortConfig}
 use Rattle.segmenter.specs.Range.{Range}
 use Rattle.segmenter.specs.Cut.{data_room, nth_range, ranges}
 use Rattle.clnp_machine.specs.Unit as unit
 use Rattle.clnp_machine.specs.Unit.{Packet, value_of, wire, whole_packet, piece_of, pieces, cut}
-use Rattle.clnp_machine.specs.Content.{Content, Labelled, Esis, Unlabelled}
-use Rattle.clnp_machine.specs.System.{SystemState, Input, AsksToSend, FrameComes, MomentComes, IsRestarted, Output, Transmits, SendsEsis, Notes, Effect, then_does}
+use Rattle.clnp_machine.specs.Content.{Labelled, Esis, Unlabelled}
+use Rattle.clnp_machine.specs.System.{SystemState, Input, AsksToSend, AsksForEcho, FrameComes, MomentComes, IsRestarted, Output, Transmits, SendsEsis, Notes, Effect, then_does}
 use Rattle.clnp_machine.specs.Esis.{esis_comes, forgets, says_hello}
-use Rattle.clnp_machine.specs.Local.{Action, Sends, Tells, Deed, header_size, made_in, make, tick}
-use Rattle.clnp_machine.specs.Step.{Hop, next_hop, transmissions, sent_on, first_sent, outputs_of, effect_of, packet_comes, octets_come, responds, content_comes, step}
-use Rattle.clnp_machine.specs.Steps.{IsOfHellos, IsRangeOf, OnlyHellos, SendsRangesOf}
+use Rattle.clnp_machine.specs.Local.{Action, Sends, Tells, Deed, discard, made_in, make, receive, requests_echo, tick}
+use Rattle.clnp_machine.specs.Step.{Hop, effect_of, first_sent, forwarded, loss_at, octets_come, outputs_of, packet_comes, passes_by, responds, sent_on, step, transmissions, unit_hop}
+use Rattle.clnp_machine.specs.Steps.{GoesOnFrom, GoesOnOrIsReported, IsOfHellos, IsRangeOf, OnlyHellos, SendsOn, SendsRangesOf, SendsRangesOrGoesOn}
+use Rattle.clnp_machine.proofs.Asked.{discard_makes}
 use Rattle.clnp_machine.proofs.Hellos.{only_comes, only_forgets, only_responds, only_says_hello, only_then}
+use Rattle.clnp_machine.proofs.Passing.{packet_does, passing_does}
 
 -- a range of so many places
 abbrev Within : ℕ → Range → Type 0
@@ -37,41 +40,70 @@ ranges_within : (room len : ℕ) → AllByRecursion (Within len) (ranges room le
 ranges_within zero len = none_within len 0 ((len + zero - 1) / zero)
 ranges_within (suc room) len = within_from (suc room) len 0 ((len + suc room - 1) / suc room) (omega arith)
 
--- a range of a unit
-record IsPiece (units : List unit.Unit) (u : unit.Unit) (p : Packet) : Type 0 where
-  range : IsRangeOf units p
-  unit : p.unit ≡ u
+-- a packet that is part of another: a range of it, and all of it where its unit may not be segmented
+pub record IsPartOf (p q : Packet) : Type 0 where
+  pub unit : q.unit ≡ p.unit
+  pub options : q.options ≡ p.options
+  pub lifetime : q.lifetime ≡ p.lifetime
+  pub hops : q.hops ≡ p.hops
+  pub from : p.offset ≤ q.offset
+  pub to : q.offset + q.length ≤ p.offset + p.length
+  pub whole : p.unit.identifier ≡ None → (q.offset ≡ p.offset) × (q.length ≡ p.length)
 
-module _ (units : List unit.Unit) (u : unit.Unit) (made : Contains units u) where
-  whole_is_range : IsRangeOf units (whole_packet u)
-  whole_is_range = record { unit = made; options = refl; lifetime = omega arith; within = omega arith; whole = λ none. (refl, refl) }
+module _ (p : Packet) where
+  itself_is_part : IsPartOf p p
+  itself_is_part =
+      record { unit = refl; options = refl; lifetime = refl; hops = refl; from = omega arith; to = omega arith; whole = λ none. (refl, refl) }
 
-  piece_is_range : (identifier : ℕ) → u.identifier ≡ Some identifier → (range : Range) → Within (length u.octets) range
-      → IsRangeOf units (piece_of (whole_packet u) range)
-  piece_is_range identifier identified range within =
-      record { unit = made; options = refl; lifetime = omega arith; within = omega arith; whole = λ none. absurd (cc) }
+  piece_is_part : (identifier : ℕ) → p.unit.identifier ≡ Some identifier → (range : Range) → Within p.length range → IsPartOf p (piece_of p range)
+  piece_is_part identifier identified range within = record {
+    unit = refl;
+    options = refl;
+    lifetime = refl;
+    hops = refl;
+    from = omega arith;
+    to = omega arith;
+    whole = λ none. absurd (cc);
+  }
 
-  each_piece : (identifier : ℕ) → u.identifier ≡ Some identifier → (given : List Range) → AllByRecursion (Within (length u.octets)) given
-      → AllByRecursion (IsRangeOf units) (map (piece_of (whole_packet u)) given)
-  each_piece identifier identified [] within = tt
-  each_piece identifier identified (range ∷ others) within =
-      (piece_is_range identifier identified range within.0, each_piece identifier identified others within.1)
+  each_piece : (identifier : ℕ) → p.unit.identifier ≡ Some identifier → (given : List Range) → AllByRecursion (Within p.length) given
+      → AllByRecursion (IsPartOf p) (map (piece_of p) given)
+  each_piece identifier identified given within =
+      AllByRecursion-mapped (Within p.length) (IsPartOf p) (piece_of p) given (piece_is_part identifier identified) within
 
-  -- what a unit is cut into
-  cut_is_ranges : (mtu : ℕ) (given : List Packet) → cut (whole_packet u) mtu ≡ Some given → AllByRecursion (IsRangeOf units) given
-  cut_is_ranges mtu given gives = go (nat_le (length (wire (whole_packet u))) mtu) u.identifier refl gives
+  -- what a packet is cut into
+  cut_is_parts : (mtu : ℕ) (given : List Packet) → cut p mtu ≡ Some given → AllByRecursion (IsPartOf p) given
+  cut_is_parts mtu given gives = go (nat_le (length (wire p)) mtu) p.unit.identifier refl gives
     where
-      go : (one : Bool) (identifier : Option ℕ) → u.identifier ≡ identifier
-          → (if one then Some (whole_packet u ∷ []) else option_map (λ i. pieces (whole_packet u) mtu) identifier) ≡ Some given
-          → AllByRecursion (IsRangeOf units) given
+      go : (one : Bool) (identifier : Option ℕ) → p.unit.identifier ≡ identifier
+          → (if one then Some (p ∷ []) else option_map (λ i. pieces p mtu) identifier) ≡ Some given → AllByRecursion (IsPartOf p) given
       go true identifier e is =
-          let same : (whole_packet u ∷ []) ≡ given = cc in
-          subst (AllByRecursion (IsRangeOf units)) same (whole_is_range, tt)
+          let same : (p ∷ []) ≡ given = cc in
+          subst (AllByRecursion (IsPartOf p)) same (itself_is_part, tt)
       go false None e is = absurd (cc)
       go false (Some identifier) e is =
-          let same : pieces (whole_packet u) mtu ≡ given = cc in
-          subst (AllByRecursion (IsRangeOf units)) same
-          (each_piece identifier e (ranges (data_room (header_size u) mtu) (length u.octets)) (ranges_within (data_room (header_size u) mtu) (length u.octets)))
+          let same : pieces p mtu ≡ given = cc in
+          subst (AllByRecursion (IsPartOf p)) same
+          (each_piece identifier e (ranges (data_room (header_length (value_of p)) mtu) p.length) (ranges_within (data_room (header_length (value_of p)) mtu) p.length))
+
+module _ (units : List unit.Unit) (u : unit.Unit) (made : Contains units u) where
+  part_is_range : (q : Packet) → IsPartOf (whole_packet u) q → IsRangeOf units q
+  part_is_range q h =
+      let same : q.unit ≡ u = h.unit in
+      let lifetime : q.lifetime ≡ u.lifetime = h.lifetime in
+      let hops : q.hops ≡ 0 = h.hops in
+      let to : q.offset + q.length ≤ 0 + length u.octets = h.to in
+      record {
+        unit = subst (Contains units) (sym same) made;
+        options = h.options ∙ ap (λ (v : unit.Unit). v.options) (sym same);
+        lifetime = rw same (omega arith);
+        within = rw same (omega arith);
+        whole = rw same h.whole;
+      }
+
+  cut_is_ranges : (mtu : ℕ) (given : List Packet) → cut (whole_packet u) mtu ≡ Some given → AllByRecursion (IsRangeOf units) given
+  cut_is_ranges mtu given gives =
+      AllByRecursion-implies (IsPartOf (whole_packet u)) (IsRangeOf units) part_is_range given (cut_is_parts (whole_packet u) mtu given gives)
 
   each_transmitted : (hop : Hop) (packets : List Packet) → AllByRecursion (IsRangeOf units) packets
       → AllByRecursion (SendsRangesOf units) (map (λ packet. Transmits hop.port hop.target packet) packets)
@@ -110,17 +142,10 @@ pub sends_ranges : (s : SystemState) (actions : List Action) → AllByRecursion 
 sends_ranges s [] = tt
 sends_ranges s (Tells told ∷ actions) = (tt, sends_ranges s actions)
 sends_ranges s (Sends u ∷ actions) =
-    AllByRecursion-append (SendsRangesOf (u ∷ made_in actions)) (first_sent s u (next_hop s u.destination)) (flat_map (outputs_of s) actions)
-    (first_sent_is_ranges (u ∷ made_in actions) u (0, omega arith, refl) s (next_hop s u.destination))
+    AllByRecursion-append (SendsRangesOf (u ∷ made_in actions)) (first_sent s u (unit_hop s u)) (flat_map (outputs_of s) actions)
+    (first_sent_is_ranges (u ∷ made_in actions) u (0, omega arith, refl) s (unit_hop s u))
     (AllByRecursion-implies (SendsRangesOf (made_in actions)) (SendsRangesOf (u ∷ made_in actions)) (sends_later (u ∷ []) (made_in actions))
     (flat_map (outputs_of s) actions) (sends_ranges s actions))
-
--- what is said and heard between systems sends no packet
-
-hello_sends : (units : List unit.Unit) (output : Output) → IsOfHellos output → SendsRangesOf units output
-hello_sends units (Transmits port target packet) h = absurd h
-hello_sends units (SendsEsis port target value) h = tt
-hello_sends units (Notes note) h = tt
 
 range_sooner : (units more : List unit.Unit) (p : Packet) → IsRangeOf units p → IsRangeOf (units ++ more) p
 range_sooner units more p h = record {
@@ -131,39 +156,112 @@ range_sooner units more p h = record {
   whole = h.whole;
 }
 
-sends_sooner : (units more : List unit.Unit) (output : Output) → SendsRangesOf units output → SendsRangesOf (units ++ more) output
-sends_sooner units more (Transmits port target packet) h = range_sooner units more packet h
-sends_sooner units more (SendsEsis port target value) h = tt
-sends_sooner units more (Notes note) h = tt
+-- Packets that go on.
 
--- a deed, and then what is said and heard
-sends_then : (deed : Deed) (next : SystemState → Effect) → OnlyHellos deed.after (next deed.after)
-    → AllByRecursion (SendsRangesOf (then_does (effect_of deed) next).units) (then_does (effect_of deed) next).outputs
-sends_then deed next h =
-    let units = made_in deed.actions in
-    let more = (next deed.after).units in
-    AllByRecursion-append (SendsRangesOf (units ++ more)) (effect_of deed).outputs (next deed.after).outputs
-    (AllByRecursion-implies (SendsRangesOf units) (SendsRangesOf (units ++ more)) (sends_sooner units more) (effect_of deed).outputs
-    (sends_ranges deed.after deed.actions))
-    (AllByRecursion-implies IsOfHellos (SendsRangesOf (units ++ more)) (hello_sends (units ++ more)) (next deed.after).outputs h.outputs)
+module _ (s : SystemState) (p : Packet) where
+  part_goes_on : (number : ℕ) (port : PortConfig) → slice_get s.configuration.ports number ≡ Some port → loss_at port < p.lifetime → (q : Packet)
+      → IsPartOf (forwarded p (loss_at port)) q → GoesOnFrom s number p q
+  part_goes_on number port there alive q h =
+      let same : q.unit ≡ p.unit = h.unit in
+      let lifetime : q.lifetime ≡ p.lifetime - loss_at port = h.lifetime in
+      record {
+        port = port;
+        there = there;
+        unit = same;
+        options = h.options;
+        hops = h.hops;
+        lifetime = omega arith;
+        alive = omega arith;
+        from = h.from;
+        to = h.to;
+        whole = λ none. h.whole (ap (λ (u : unit.Unit). u.identifier) (sym same) ∙ none);
+      }
 
-content_sends : (s : SystemState) (place : Place) (to_group : Bool) (content : Content)
-    → AllByRecursion (SendsRangesOf (content_comes s place to_group content).units) (content_comes s place to_group content).outputs
-content_sends s place to_group (Labelled p following) =
-    let come = (packet_comes s p following).after in
-    sends_then (packet_comes s p following) (λ t. responds t place to_group p) (only_responds come place to_group p)
-content_sends s place to_group (Esis value following) =
-    let effect = esis_comes s place value in
-    AllByRecursion-implies IsOfHellos (SendsRangesOf effect.units) (hello_sends effect.units) effect.outputs (only_comes s place value).outputs
-content_sends s place to_group (Unlabelled octets) = sends_ranges (octets_come s octets).after (octets_come s octets).actions
+  onward : (hop : Hop) (port : PortConfig) (given : List Packet) → slice_get s.configuration.ports hop.port ≡ Some port → loss_at port < p.lifetime
+      → cut (forwarded p (loss_at port)) port.mtu ≡ Some given → AllByRecursion (SendsOn s p) (map (λ piece. Transmits hop.port hop.target piece) given)
+  onward hop port given there alive gives =
+      AllByRecursion-mapped (IsPartOf (forwarded p (loss_at port))) (SendsOn s p) (λ piece. Transmits hop.port hop.target piece) given
+      (part_goes_on hop.port port there alive) (cut_is_parts (forwarded p (loss_at port)) port.mtu given gives)
 
-pub step_sends_ranges : (s : SystemState) (input : Input) → AllByRecursion (SendsRangesOf (step s input).units) (step s input).outputs
-step_sends_ranges s (AsksToSend from to octets ask) =
-    let deed = make s Dt from to octets ask in
-    sends_ranges deed.after deed.actions
-step_sends_ranges s (FrameComes port sender to_group content) = content_sends s (record { port = port; snpa = sender }) to_group content
-step_sends_ranges s (MomentComes now) =
+  -- what comes of a packet for another address goes on, or its discard is reported
+  pub passing_sends : (following : List ℕ) → GoesOnOrIsReported s p (wire p ++ following) (passes_by s.configuration.role s p following)
+  passing_sends following =
+      passing_does (GoesOnOrIsReported s p (wire p ++ following)) s p following
+      (λ reason of_none.
+      let deed = discard s (Labelled p following) reason 0 in
+      inr (sends_ranges deed.after deed.actions, discard_makes s (Labelled p following) reason 0))
+      (λ hop port given there alive gives. inl (onward hop port given there alive gives, refl)) (inl ((tt, tt), refl)) s.configuration.role
+
+-- All that is sent in a step.
+
+module _ (s : SystemState) (input : Input) where
+  abbrev pub SendsSuch : List unit.Unit → Output → Type 0
+  SendsSuch units = SendsRangesOrGoesOn s input units
+
+  made_such : (units : List unit.Unit) (output : Output) → SendsRangesOf units output → SendsSuch units output
+  made_such units (Transmits port target packet) h = inl h
+  made_such units (SendsEsis port target value) h = tt
+  made_such units (Notes note) h = tt
+
+  such_sooner : (units more : List unit.Unit) (output : Output) → SendsSuch units output → SendsSuch (units ++ more) output
+  such_sooner units more (Transmits port target packet) (inl made) = inl (range_sooner units more packet made)
+  such_sooner units more (Transmits port target packet) (inr on) = inr on
+  such_sooner units more (SendsEsis port target value) h = tt
+  such_sooner units more (Notes note) h = tt
+
+  hello_such : (units : List unit.Unit) (output : Output) → IsOfHellos output → SendsSuch units output
+  hello_such units (Transmits port target packet) h = absurd h
+  hello_such units (SendsEsis port target value) h = tt
+  hello_such units (Notes note) h = tt
+
+  hellos_such : (t : SystemState) (units : List unit.Unit) (effect : Effect) → OnlyHellos t effect → AllByRecursion (SendsSuch units) effect.outputs
+  hellos_such t units effect h = AllByRecursion-implies IsOfHellos (SendsSuch units) (hello_such units) effect.outputs h.outputs
+
+  abbrev pub SendsSuchOf : Effect → Type 0
+  SendsSuchOf effect = AllByRecursion (SendsSuch effect.units) effect.outputs
+
+  deed_such : (deed : Deed) → SendsSuchOf (effect_of deed)
+  deed_such deed =
+      AllByRecursion-implies (SendsRangesOf (made_in deed.actions)) (SendsSuch (made_in deed.actions)) (made_such (made_in deed.actions))
+      (flat_map (outputs_of deed.after) deed.actions) (sends_ranges deed.after deed.actions)
+
+  -- an effect, and then what is said and heard
+  then_such : (effect : Effect) (next : SystemState → Effect) → SendsSuchOf effect → OnlyHellos effect.after (next effect.after) → SendsSuchOf (then_does effect next)
+  then_such effect next h k =
+      let more = (next effect.after).units in
+      AllByRecursion-append (SendsSuch (effect.units ++ more)) effect.outputs (next effect.after).outputs
+      (AllByRecursion-implies (SendsSuch effect.units) (SendsSuch (effect.units ++ more)) (such_sooner effect.units more) effect.outputs h)
+      (hellos_such effect.after (effect.units ++ more) (next effect.after) k)
+
+on_such : (s : SystemState) (at : ℕ) (sender : List ℕ) (to_group : Bool) (p : Packet) (following : List ℕ) (output : Output) → SendsOn s p output
+    → SendsRangesOrGoesOn s (FrameComes at sender to_group (Labelled p following)) [] output
+on_such s at sender to_group p following (Transmits port target packet) h = inr h
+on_such s at sender to_group p following (SendsEsis port target value) h = tt
+on_such s at sender to_group p following (Notes note) h = tt
+
+packet_such : (s : SystemState) (at : ℕ) (sender : List ℕ) (to_group : Bool) (p : Packet) (following : List ℕ)
+    → SendsSuchOf s (FrameComes at sender to_group (Labelled p following)) (packet_comes s p following)
+packet_such s at sender to_group p following =
+    let input : Input = FrameComes at sender to_group (Labelled p following) in
+    packet_does (SendsSuchOf s input) s p following (λ reason of_none. deed_such s input (discard s (Labelled p following) reason 0))
+    (λ hop port given there alive gives. AllByRecursion-implies (SendsOn s p) (SendsRangesOrGoesOn s input []) (on_such s at sender to_group p following)
+    (map (λ piece. Transmits hop.port hop.target piece) given) (onward s p hop port given there alive gives))
+    (tt, tt) (λ own. deed_such s input (receive s p following))
+
+pub step_sends : (s : SystemState) (input : Input) → AllByRecursion (SendsRangesOrGoesOn s input (step s input).units) (step s input).outputs
+step_sends s (AsksToSend from to octets ask) = deed_such s (AsksToSend from to octets ask) (make s Dt from to octets ask)
+step_sends s (AsksForEcho from to octets) = deed_such s (AsksForEcho from to octets) (requests_echo s from to octets)
+step_sends s (FrameComes port sender to_group (Labelled p following)) =
+    let place : Place = record { port = port; snpa = sender } in
+    then_such s (FrameComes port sender to_group (Labelled p following)) (packet_comes s p following) (λ t. responds t place to_group p)
+    (packet_such s port sender to_group p following) (only_responds (packet_comes s p following).after place to_group p)
+step_sends s (FrameComes port sender to_group (Esis value following)) =
+    let place : Place = record { port = port; snpa = sender } in
+    hellos_such s (FrameComes port sender to_group (Esis value following)) s (esis_comes s place value).units (esis_comes s place value)
+    (only_comes s place value)
+step_sends s (FrameComes port sender to_group (Unlabelled octets)) = deed_such s (FrameComes port sender to_group (Unlabelled octets)) (octets_come s octets)
+step_sends s (MomentComes now) =
     let ticked = (tick s now).after in
-    sends_then (tick s now) (λ t. then_does (forgets s.moment t) says_hello)
+    then_such s (MomentComes now) (effect_of (tick s now)) (λ t. then_does (forgets s.moment t) says_hello) (deed_such s (MomentComes now) (tick s now))
     (only_then ticked (forgets s.moment ticked) says_hello (only_forgets s.moment ticked) (only_says_hello ticked))
-step_sends_ranges s IsRestarted = (tt, tt)
+step_sends s IsRestarted = (tt, tt)

@@ -1,5 +1,6 @@
 -- What a frame carries.
 use Rattle.std.specs.Prelude.{ℕ, ◌==◌, ◌&&◌, if◌then◌else◌, List, ◌++◌, length, Option, None, Some, is_none, option_map, Bool}
+use Rattle.hex.specs.Hex.{IsBytes}
 use Rattle.pdu_header.specs.Value.{SegmentationPart, PduValue}
 use Rattle.pdu_header.specs.Spelling.{segment_length}
 use Rattle.pdu_header.specs.Grammar.{BeginsWith}
@@ -23,8 +24,9 @@ frame_of (Labelled packet following) = wire packet ++ following
 frame_of (Esis value following) = esis_spelling.spelling value ++ following
 frame_of (Unlabelled octets) = octets
 
--- octets that begin with no PDU, neither of CLNP nor of ES-IS
+-- octets, that begin with no PDU, neither of CLNP nor of ES-IS
 pub record SpellsNothing (octets : List ℕ) : Type 0 where
+  pub bytes : IsBytes octets
   pub clnp : (value : PduValue) (rest : List ℕ) → BeginsWith octets value rest → ⊥
   pub esis : (value : EsisValue) (rest : List ℕ) → esis.BeginsWith octets value rest → ⊥
 

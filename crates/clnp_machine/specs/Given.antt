@@ -1,5 +1,5 @@
 -- The outputs of a system of the code, and those of the model.
-use Rattle.std.specs.Prelude.{◌≡◌, ℕ, false, List, [], ◌∷◌, ◌++◌, Option, None, Some}
+use Rattle.std.specs.Prelude.{◌≡◌, ◌⊎◌, ℕ, true, false, List, [], ◌∷◌, ◌++◌, Option, None, Some}
 use Rattle.nsap.specs.declared.target.Target.{Target}
 use Rattle.clnp_views.specs.Extent.{Extent, seen}
 use Rattle.esis_pdus.specs.Grammar as esis
@@ -8,6 +8,8 @@ use Rattle.esis_pdus.specs.Value.{EsisValue}
 use Rattle.clnp_plan.specs.declared.output.Output.{Output}
 use Rattle.clnp_plan.specs.declared.output.Output.TheVariants.{Transmit, Note}
 use Rattle.clnp_plan.specs.declared.output.Sending.{Sending}
+use Rattle.clnp_machine.specs.Content.{Content, Labelled, Esis, Unlabelled}
+use Rattle.clnp_machine.specs.Unit as unit
 use Rattle.clnp_machine.specs.Unit.{Packet, wire, IsCarriable}
 use Rattle.clnp_machine.specs.System as machine
 
@@ -58,3 +60,42 @@ pub record Appends (moment : ℕ) (before after : List Output) (others : List ma
   pub outputs : List Output
   pub appended : after ≡ before ++ outputs
   pub give_all : GiveAll moment outputs others
+
+-- Frames that go on.
+
+-- a frame that came carries a packet of the unit
+abbrev pub CarriesUnit : Content → unit.Unit → Type 0
+CarriesUnit (Labelled came following) u = came.unit ≡ u
+CarriesUnit (Esis value following) u = ⊥
+CarriesUnit (Unlabelled octets) u = ⊥
+
+-- a frame goes out for a packet of the unit of which one came: its octets are those of the packet's PDU
+pub record IsSentOnFor (came : Content) (sending : Sending) (port : ℕ) (target : Target) (packet : Packet) : Type 0 where
+  pub port_is : sending.port ≡ port
+  pub target_is : sending.to ≡ target
+  pub octets : frame_in sending ≡ wire packet
+  pub forwarded : sending.forwarded ≡ true
+  pub carriable : IsCarriable packet
+  pub unit : CarriesUnit came packet.unit
+
+-- where a frame came, an output of the code is one of the model
+abbrev pub GivesFor : ℕ → Content → Output → machine.Output → Type 0
+GivesFor moment came (Note note) (machine.Notes told) = note ≡ told
+GivesFor moment came (Transmit sending) (machine.Transmits port target packet) =
+    IsSentFor moment sending port target packet ⊎ IsSentOnFor came sending port target packet
+GivesFor moment came (Transmit sending) (machine.SendsEsis port target value) = IsSentForEsis sending port target value
+GivesFor moment came (Note note) (machine.Transmits port target packet) = ⊥
+GivesFor moment came (Note note) (machine.SendsEsis port target value) = ⊥
+GivesFor moment came (Transmit sending) (machine.Notes told) = ⊥
+
+abbrev pub GiveAllFor : ℕ → Content → List Output → List machine.Output → Type 0
+GiveAllFor moment came [] [] = Unit {0}
+GiveAllFor moment came (output ∷ outputs) (other ∷ others) = GivesFor moment came output other × GiveAllFor moment came outputs others
+GiveAllFor moment came [] (other ∷ others) = ⊥
+GiveAllFor moment came (output ∷ outputs) [] = ⊥
+
+-- outputs that are these ones of the model, where a frame came, were appended
+pub record AppendsFor (moment : ℕ) (came : Content) (before after : List Output) (others : List machine.Output) : Type 0 where
+  pub outputs : List Output
+  pub appended : after ≡ before ++ outputs
+  pub give_all : GiveAllFor moment came outputs others

@@ -1,12 +1,18 @@
 -- What a system does at its own addresses, be it a host or a router (ISO 8473, sections 6.1, 6.2, 6.8 and 6.9).
-use Rattle.std.specs.Prelude.{ℕ, zero, suc, ◌+◌, ◌-◌, ◌==◌, ◌&&◌, ◌||◌, not, nat_lt, Bool, if◌then◌else◌, List, [], ◌∷◌, ◌++◌, length, slice_index, Option, None, Some, option_map, is_none}
-use Rattle.std.specs.List.{list_any}
+use Rattle.std.specs.Prelude.{◌≡◌, ℕ, zero, suc, ◌+◌, ◌-◌, ◌==◌, ◌&&◌, ◌||◌, not, nat_lt, Bool, true, false, if◌then◌else◌, List, [], ◌∷◌, ◌++◌, length, drop, slice_get, slice_index, Option, None, Some, option_map, is_none}
+use Rattle.std.specs.List.{find, list_any}
 use Rattle.std.specs.Str.{bytes_eq}
 use Rattle.clnp_options.specs.Parameter.{Parameter, parameters}
 use Rattle.clnp_options.specs.Reasons.{reason_code}
 use Rattle.clnp_options.specs.declared.reasons.Reason.TheVariants.{Congestion, LifetimeExpiredInReassembly, ReassemblyInterference}
 use Rattle.pdu_header.specs.declared.kind.Kind.{Kind}
+use Rattle.pdu_header.specs.declared.kind.Kind.TheVariants.{Dt, Er, Erq, Erp}
+use Rattle.pdu_header.specs.Rules.{header_of, is_reportable}
 use Rattle.pdu_header.specs.Spelling.{header_length, type_code}
+use Rattle.error_reports.specs.Report.{reason_option, source_of}
+use Rattle.error_reports.specs.Told.{cause_in, place_in}
+use Rattle.echo.specs.Match.{echoes}
+use Rattle.echo.specs.Reply.{needs_identifier}
 use Rattle.reassembly.specs.Arrival.{Arrival}
 use Rattle.reassembly.specs.Buffer as buffer
 use Rattle.reassembly.specs.Buffer.{Answer, Buffer}
@@ -17,8 +23,8 @@ use Rattle.clnp_plan.specs.declared.note.Note.TheVariants as note
 use Rattle.clnp_plan.specs.declared.note.Why.TheVariants as why
 use Rattle.clnp_machine.specs.Identifiers as ids
 use Rattle.clnp_machine.specs.Identifiers.{Identifiers, NotDrawn, IsQuiet, IsBusy, not_drawn}
-use Rattle.clnp_machine.specs.Unit.{DeclaredAt, Unit, Packet, value_of, wire, whole_packet}
-use Rattle.clnp_machine.specs.Content.{Content, Labelled}
+use Rattle.clnp_machine.specs.Unit.{DeclaredAt, Unit, Packet, IsCarriable, value_of, wire, whole_packet}
+use Rattle.clnp_machine.specs.Content.{Content, Labelled, frame_of}
 use Rattle.clnp_machine.specs.System.{SystemState, next_number, table_limits}
 
 -- it sends a unit that it made, or notes something
@@ -57,16 +63,6 @@ has_address configuration address = list_any (λ own. bytes_eq own address) conf
 abbrev pub is_own : SystemState → List ℕ → Bool
 is_own s address = has_address s.configuration address
 
--- What comes of PDUs.
-
--- A PDU that came in a frame is discarded (ISO 8473, section 6.9), for a reason and with the place of the octet at fault.
-abbrev pub discard : SystemState → (frame : Content) → (reason place : ℕ) → Deed
-discard s frame reason place = tells s (note.Discard reason place)
-
--- The data of a unit of a kind are handed up, once they are whole; the options are those of the PDU that made them whole.
-abbrev pub hand_up : SystemState → Kind → (source destination octets : List ℕ) → (options : List Parameter) → Deed
-hand_up s kind source destination octets options = tells s (note.Got source destination octets)
-
 -- Units that it makes.
 
 -- the most octets that a unit may have
@@ -77,25 +73,30 @@ most_octets = 64512
 abbrev pub identifier_for : SystemState → Bool → Option ℕ
 identifier_for s segment = if segment then Some (ids.next s.identifiers) else None
 
--- the unit that is made where it isn't refused
-abbrev pub unit_of : SystemState → Kind → (from to octets : List ℕ) → Ask → Unit
-unit_of s kind from to octets ask =
+-- the unit of some octets that a system makes, with what its initial PDU says
+abbrev pub unit_with : SystemState → Kind → (from to octets : List ℕ) → (life : ℕ) → (report segment : Bool)
+    → (options : List Parameter) → Unit
+unit_with s kind from to octets life report segment options =
     let made : ℕ → Unit = λ total. record {
       maker = DeclaredAt s.place;
       number = next_number s;
       made = s.moment;
       kind = kind;
-      report = ask.report;
+      report = report;
       sealed = s.configuration.settings.sealed;
       source = from;
       destination = to;
-      identifier = identifier_for s ask.segment;
-      options = parameters ask.options;
-      lifetime = ask.life;
+      identifier = identifier_for s segment;
+      options = options;
+      lifetime = life;
       first_position = 0;
       total = total;
       octets = octets;
     } in made (header_length (value_of (whole_packet (made 0))) + length octets)
+
+-- the unit that is made of what is asked for, where it isn't refused
+abbrev pub unit_of : SystemState → Kind → (from to octets : List ℕ) → Ask → Unit
+unit_of s kind from to octets ask = unit_with s kind from to octets ask.life ask.report ask.segment (parameters ask.options)
 
 -- how many octets the header of a unit has
 abbrev pub header_size : Unit → ℕ
@@ -127,11 +128,26 @@ with_use s (Some identifier) = ids.after_use s.moment s.identifiers
 abbrev pub sent_note : Unit → Note
 sent_note u = note.Sent u.kind u.number u.identifier u.source u.destination (length u.octets)
 
+-- the most echo requests that are to be answered
+abbrev pub most_pending : ℕ
+most_pending = 8
+
+-- where they are too many, the oldest is given up
+abbrev pub within_most : List Unit → List Unit
+within_most requests = if nat_lt most_pending (length requests) then drop 1 requests else requests
+
+-- the requests that are to be answered, once a unit was made
+abbrev pub with_made : Kind → List Unit → Unit → List Unit
+with_made Erq requests u = within_most (requests ++ u ∷ [])
+with_made Dt requests u = requests
+with_made Er requests u = requests
+with_made Erp requests u = requests
+
 -- the unit is made, noted and sent
 abbrev pub makes : SystemState → Unit → Deed
 makes s u =
     record {
-      after = record s { count = u.number; identifiers = with_use s u.identifier };
+      after = record s { count = u.number; identifiers = with_use s u.identifier; pending = with_made u.kind s.pending u };
       actions = Tells (sent_note u) ∷ Sends u ∷ [];
     }
 
@@ -143,6 +159,79 @@ unless_refused None s u = makes s u
 -- a unit of these octets is asked for
 abbrev pub make : SystemState → Kind → (from to octets : List ℕ) → Ask → Deed
 make s kind from to octets ask = unless_refused (refusal s (unit_of s kind from to octets ask)) s (unit_of s kind from to octets ask)
+
+-- Echo requests and replies (RFC 1575) may be segmented exactly where not every subnetwork takes them in one piece; they have
+-- the system's own lifetime, and no options. A report is wanted of a request alone.
+abbrev pub echo_ask : SystemState → (from to : List ℕ) → (len : ℕ) → (report : Bool) → Ask
+echo_ask s from to len report =
+    record { life = s.configuration.settings.life; report = report; segment = needs_identifier from to len; options = [] }
+
+-- an echo request with these octets, as it is made where it isn't refused
+abbrev pub request_unit : SystemState → (from to octets : List ℕ) → Unit
+request_unit s from to octets = unit_of s Erq from to octets (echo_ask s from to (length octets) true)
+
+-- an echo request with these octets is asked for
+abbrev pub requests_echo : SystemState → (from to octets : List ℕ) → Deed
+requests_echo s from to octets = make s Erq from to octets (echo_ask s from to (length octets) true)
+
+-- a request is answered with its data alone
+abbrev pub replies : SystemState → (source destination octets : List ℕ) → Deed
+replies s source destination octets =
+    make s Erp destination source octets (echo_ask s destination source (length octets) false)
+
+-- What comes of PDUs.
+
+-- The report of a frame's discard (sections 6.10 and 7.9): from the system's title to the discarded PDU's source, with the
+-- discarded header, as it came, for its data, and the reason for its one option. It is never refused.
+abbrev pub report_unit : SystemState → (own frame : List ℕ) → (reason place : ℕ) → Unit
+report_unit s own frame reason place =
+    unit_with s Er own (source_of frame) (header_of frame) s.configuration.settings.life false false (reason_option reason place ∷ [])
+
+-- the discard of a frame is reported exactly where the frame is reportable, by a system that has a title
+abbrev pub reports_from : Option (List ℕ) → SystemState → (frame : List ℕ) → (reason place : ℕ) → Deed
+reports_from None s frame reason place = rests s
+reports_from (Some own) s frame reason place =
+    if is_reportable frame then makes s (report_unit s own frame reason place) else rests s
+
+abbrev pub reports : SystemState → (frame : List ℕ) → (reason place : ℕ) → Deed
+reports s frame reason place = reports_from (slice_get s.configuration.addresses 0) s frame reason place
+
+-- A PDU that came in a frame is discarded (ISO 8473, section 6.9), for a reason and with the place of the octet at fault.
+abbrev pub discard : SystemState → (frame : Content) → (reason place : ℕ) → Deed
+discard s frame reason place =
+    and_then (tells s (note.Discard reason place)) (λ t. reports t (frame_of frame) reason place)
+
+-- whether an echo reply between two addresses with these data answers a request (RFC 1575)
+abbrev pub is_answer : (source destination octets : List ℕ) → Unit → Bool
+is_answer source destination octets request =
+    bytes_eq request.destination source && (bytes_eq request.source destination && echoes request.octets octets)
+
+-- the requests without the first that an answer is for
+abbrev pub without_answered : (Unit → Bool) → List Unit → List Unit
+without_answered is_answered [] = []
+without_answered is_answered (request ∷ later) =
+    if is_answered request then later else request ∷ without_answered is_answered later
+
+-- a reply is taken for the request that it answers, if there is one
+abbrev pub takes_reply : SystemState → (source destination octets : List ℕ) → Option Unit → Deed
+takes_reply s source destination octets None = tells s (note.Stray source destination)
+takes_reply s source destination octets (Some request) =
+    tells (record s { pending = without_answered (is_answer source destination octets) s.pending })
+    (note.Echoed source destination request.number)
+
+-- it answers the oldest of the requests that it may answer
+abbrev pub is_replied : SystemState → (source destination octets : List ℕ) → Deed
+is_replied s source destination octets =
+    takes_reply s source destination octets (find (is_answer source destination octets) s.pending)
+
+-- The data of a unit of a kind are handed up, once they are whole; the options are those of the PDU that made them whole. An
+-- error report tells its reason and place, an echo request is answered, and a reply is taken for an answer.
+abbrev pub hand_up : SystemState → Kind → (source destination octets : List ℕ) → (options : List Parameter) → Deed
+hand_up s Dt source destination octets options = tells s (note.Got source destination octets)
+hand_up s Er source destination octets options =
+    tells s (note.Report source destination (cause_in options) (place_in options) octets)
+hand_up s Erq source destination octets options = replies s source destination octets
+hand_up s Erp source destination octets options = is_replied s source destination octets
 
 -- Packets for its own addresses.
 
@@ -166,6 +255,12 @@ offered p following =
       lifetime = p.lifetime;
       carried = p;
     }
+
+-- a kept segment is as it was offered, and a PDU can carry it
+pub record IsAsOffered (arrival : Arrival Packet) : Type 0 where
+  pub following : List ℕ
+  pub is_offered : arrival ≡ offered arrival.carried following
+  pub carriable : IsCarriable arrival.carried
 
 -- the octet at a place of the data of the packet's unit
 abbrev pub octet_of : Arrival Packet → ℕ → ℕ
@@ -241,6 +336,7 @@ restarted s =
     record s {
       identifiers = ids.restarted s.moment s.identifiers;
       buffers = [];
+      pending = [];
       facts = [];
       hello = s.configuration.settings.hello;
       next_hello = s.moment;

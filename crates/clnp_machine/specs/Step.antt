@@ -1,7 +1,8 @@
 -- One step of a system, whatever comes to it: hosts and routers differ in where they send, in what they do with a packet for
 -- another address (ISO 8473, section 6), and in what they say and hear of each other (ISO 9542, section 6).
-use Rattle.std.specs.Prelude.{ℕ, ◌==◌, ◌&&◌, not, Bool, false, if◌then◌else◌, List, [], ◌∷◌, map, slice_get, Option, None, Some, option_map}
+use Rattle.std.specs.Prelude.{ℕ, ◌+◌, ◌-◌, ◌==◌, ◌&&◌, max, nat_le, not, Bool, false, if◌then◌else◌, List, [], ◌∷◌, map, slice_get, Option, None, Some, option_map}
 use Rattle.std.specs.List.{flat_map}
+use Rattle.std.specs.Option.{option_or}
 use Rattle.nsap.specs.declared.target.Target.{Target}
 use Rattle.nsap.specs.declared.target.Target.TheVariants.{System, EndSystems}
 use Rattle.esis_pdus.specs.declared.pdu.EsisRefusal.{EsisRefusal}
@@ -10,6 +11,8 @@ use Rattle.esis_pdus.specs.Rules.{why_refused}
 use Rattle.esis_tables.specs.declared.fact.Place.{Place}
 use Rattle.esis_tables.specs.declared.fact.TableKind.TheVariants.{Es}
 use Rattle.esis_tables.specs.NextHop as heard
+use Rattle.forwarding.specs.declared.route.Route.{Route}
+use Rattle.forwarding.specs.Longest.{longest}
 use Rattle.pdu_header.specs.declared.kind.Kind.TheVariants.{Dt}
 use Rattle.clnp_options.specs.declared.judge.OptionRefusal.{OptionRefusal}
 use Rattle.clnp_options.specs.Reasons.{reason_code}
@@ -22,9 +25,9 @@ use Rattle.clnp_plan.specs.declared.note.Note.{Note}
 use Rattle.clnp_plan.specs.declared.note.Note.TheVariants.{BadEsis, Discard, NotMine, Alien, Restart}
 use Rattle.clnp_machine.specs.Unit.{Unit, Packet, whole_packet, cut}
 use Rattle.clnp_machine.specs.Content.{Content, Labelled, Esis, Unlabelled}
-use Rattle.clnp_machine.specs.System.{SystemState, Input, AsksToSend, FrameComes, MomentComes, IsRestarted, Output, Transmits, Notes, Effect, idles, then_does}
+use Rattle.clnp_machine.specs.System.{SystemState, Input, AsksToSend, AsksForEcho, FrameComes, MomentComes, IsRestarted, Output, Transmits, Notes, Effect, idles, gives, then_does}
 use Rattle.clnp_machine.specs.Esis.{esis_comes, forgets, says_hello, tells_of_itself}
-use Rattle.clnp_machine.specs.Local.{Action, Sends, Tells, Deed, tells, made_in, is_own, make, discard, receive, tick, restarted}
+use Rattle.clnp_machine.specs.Local.{Action, Sends, Tells, Deed, tells, made_in, is_own, make, discard, receive, requests_echo, tick, restarted}
 
 -- Where a system sends.
 
@@ -42,11 +45,32 @@ abbrev pub host_hop : Option Place → Hop
 host_hop None = record { port = 0; target = EndSystems }
 host_hop (Some place) = hop_to place
 
+-- The next system on a router's way to an address: where it is, and its title where it is reached by a route.
+pub record Way : Type 0 where
+  pub place : Place
+  pub title : Option (List ℕ)
+
+abbrev pub to_neighbour : Place → Way
+to_neighbour place = record { place = place; title = None }
+
+abbrev pub by_route : Route → Way
+by_route route = record { place = record { port = route.port; snpa = route.snpa }; title = Some route.title }
+
+-- A router sends to the end system of an address where it heard of it, else by the route with the most digits among those
+-- whose prefix covers the address (ISO 8473, section 6.5).
+abbrev pub way_of : SystemState → List ℕ → Option Way
+way_of s to =
+    option_or (option_map to_neighbour (heard.current_place s.moment Es to s.facts))
+    (option_map by_route (longest to s.configuration.routes))
+
+abbrev pub hop_by : Way → Hop
+hop_by way = hop_to way.place
+
 -- Where a packet for an address goes. A host sends it where it heard of: to the better hop of a redirect, to the end system, or
--- to the router that it heard last. A router without routes knows the way to its neighbours alone.
+-- to the router that it heard last. A router knows its neighbours and its routes.
 abbrev pub hop_of : Role → SystemState → List ℕ → Option Hop
 hop_of Host s to = Some (host_hop (heard.next_hop s.moment to s.facts))
-hop_of Router s to = option_map hop_to (heard.current_place s.moment Es to s.facts)
+hop_of Router s to = option_map hop_by (way_of s to)
 
 abbrev pub next_hop : SystemState → List ℕ → Option Hop
 next_hop s to = hop_of s.configuration.role s to
@@ -70,10 +94,19 @@ abbrev pub first_sent : SystemState → Unit → Option Hop → List Output
 first_sent s u None = no_way
 first_sent s u (Some hop) = sent_on hop (slice_get s.configuration.ports hop.port) u
 
+-- A router sends nothing to itself, so there is no way for such a unit.
+abbrev pub is_to_itself : Role → SystemState → Unit → Bool
+is_to_itself Host s u = false
+is_to_itself Router s u = is_own s u.destination
+
+-- where a unit that a system made goes
+abbrev pub unit_hop : SystemState → Unit → Option Hop
+unit_hop s u = if is_to_itself s.configuration.role s u then None else next_hop s u.destination
+
 -- what a system gives out for what it does at its own addresses
 abbrev pub outputs_of : SystemState → Action → List Output
 outputs_of s (Tells told) = Notes told ∷ []
-outputs_of s (Sends u) = first_sent s u (next_hop s u.destination)
+outputs_of s (Sends u) = first_sent s u (unit_hop s u)
 
 abbrev pub effect_of : Deed → Effect
 effect_of deed =
@@ -81,16 +114,45 @@ effect_of deed =
 
 -- What comes in a frame.
 
--- a packet for another address: no host is asked to carry it on, and a router without routes knows no way for it
-abbrev pub passes_by : Role → SystemState → Packet → (following : List ℕ) → Deed
-passes_by Host s p following = tells s (NotMine p.unit.destination)
-passes_by Router s p following = discard s (Labelled p following) (reason_code DestinationUnknown) 0
+-- A PDU loses of its lifetime the transit of the port by which it goes on, and never less than 1 (section 6.4).
+abbrev pub loss_at : PortConfig → ℕ
+loss_at port = max 1 port.transit
+
+-- a packet that was forwarded once more
+abbrev pub forwarded : Packet → (loss : ℕ) → Packet
+forwarded p loss = record p { lifetime = p.lifetime - loss; hops = p.hops + 1 }
+
+-- a packet that came in a frame is discarded for a reason, for which no place in it is told
+abbrev pub discards : SystemState → Packet → (following : List ℕ) → (reason : ℕ) → Effect
+discards s p following reason = effect_of (discard s (Labelled p following) reason 0)
+
+-- the pieces of a packet go on; one that may not be cut is discarded (section 6.9)
+abbrev pub pieces_go_on : SystemState → Packet → (following : List ℕ) → Hop → Option (List Packet) → Effect
+pieces_go_on s p following hop None = discards s p following (reason_code SegmentationNotPermitted)
+pieces_go_on s p following hop (Some pieces) = gives s (map (λ piece. Transmits hop.port hop.target piece) pieces)
+
+-- A packet goes on by a port, in frames that its subnetwork takes, unless its lifetime ends on the way there (section 6.4).
+abbrev pub goes_on_by : SystemState → Packet → (following : List ℕ) → Hop → Option PortConfig → Effect
+goes_on_by s p following hop None = discards s p following (reason_code DestinationUnknown)
+goes_on_by s p following hop (Some port) =
+    if nat_le p.lifetime (loss_at port) then discards s p following (reason_code LifetimeExpiredInTransit)
+    else pieces_go_on s p following hop (cut (forwarded p (loss_at port)) port.mtu)
+
+-- a packet goes on to where it goes next; without a way its destination is unknown
+abbrev pub goes_on : SystemState → Packet → (following : List ℕ) → Option Hop → Effect
+goes_on s p following None = discards s p following (reason_code DestinationUnknown)
+goes_on s p following (Some hop) = goes_on_by s p following hop (slice_get s.configuration.ports hop.port)
+
+-- a packet for another address: no host is asked to carry it on, a router forwards it (section 6.5)
+abbrev pub passes_by : Role → SystemState → Packet → (following : List ℕ) → Effect
+passes_by Host s p following = effect_of (tells s (NotMine p.unit.destination))
+passes_by Router s p following = goes_on s p following (next_hop s p.unit.destination)
 
 -- A packet comes: its lifetime is over (section 6.4), or it is for the system (section 6.2), or for another address.
-abbrev pub packet_comes : SystemState → Packet → (following : List ℕ) → Deed
+abbrev pub packet_comes : SystemState → Packet → (following : List ℕ) → Effect
 packet_comes s p following =
-    if p.lifetime == 0 then discard s (Labelled p following) (reason_code LifetimeExpiredInTransit) 0
-    else if is_own s p.unit.destination then receive s p following
+    if p.lifetime == 0 then discards s p following (reason_code LifetimeExpiredInTransit)
+    else if is_own s p.unit.destination then effect_of (receive s p following)
     else passes_by s.configuration.role s p following
 
 -- octets that break a rule of PDUs are discarded with its reason and place
@@ -124,7 +186,7 @@ responds s place to_group p =
 -- a frame comes from a place, to a group of systems or to this one alone
 abbrev pub content_comes : SystemState → Place → (to_group : Bool) → Content → Effect
 content_comes s place to_group (Labelled packet following) =
-    then_does (effect_of (packet_comes s packet following)) (λ t. responds t place to_group packet)
+    then_does (packet_comes s packet following) (λ t. responds t place to_group packet)
 content_comes s place to_group (Esis value following) = esis_comes s place value
 content_comes s place to_group (Unlabelled octets) = effect_of (octets_come s octets)
 
@@ -139,6 +201,7 @@ restart s = tells (restarted s) Restart
 -- One step, whatever comes.
 abbrev pub step : SystemState → Input → Effect
 step s (AsksToSend from to octets ask) = effect_of (make s Dt from to octets ask)
+step s (AsksForEcho from to octets) = effect_of (requests_echo s from to octets)
 step s (FrameComes port sender to_group content) = content_comes s (record { port = port; snpa = sender }) to_group content
 step s (MomentComes now) = moment_comes s now
 step s IsRestarted = effect_of (restart s)

@@ -1,10 +1,12 @@
 -- What is so of every step of a system.
-use Rattle.std.specs.Prelude.{◌≡◌, ℕ, ◌+◌, ◌≤◌, ◌⊎◌, Bool, true, false, List, [], ◌∷◌, ◌++◌, length, Option, None, Some}
+use Rattle.std.specs.Prelude.{◌≡◌, ℕ, ◌+◌, ◌≤◌, ◌⊎◌, Bool, true, false, List, [], ◌∷◌, ◌++◌, length, map, slice_get, Option, None, Some}
 use Rattle.std.specs.List.{AllByRecursion, Contains, flat_map}
 use Rattle.clnp_options.specs.Grammar.{FitsKind}
 use Rattle.clnp_options.specs.Parameter.{parameters}
 use Rattle.pdu_header.specs.Grammar.{BeginsWith}
-use Rattle.pdu_header.specs.Rules.{octet, refusal}
+use Rattle.pdu_header.specs.declared.kind.Kind.TheVariants.{Dt, Er, Erq, Erp}
+use Rattle.pdu_header.specs.Rules.{header_of, octet, refusal}
+use Rattle.error_reports.specs.Report.{source_of}
 use Rattle.pdu_header.specs.Value.{PduValue}
 use Rattle.esis_pdus.specs.Grammar as esis
 use Rattle.esis_pdus.specs.Rules as esis_rules
@@ -12,18 +14,21 @@ use Rattle.esis_pdus.specs.Grammar.{IsPdu}
 use Rattle.esis_pdus.specs.Spelling.{spelling}
 use Rattle.esis_pdus.specs.Value.{EsisValue}
 use Rattle.esis_tables.specs.declared.fact.Place.{Place}
+use Rattle.nsap.specs.Address.{IsAddress}
 use Rattle.nsap.specs.declared.target.Target.TheVariants.{System}
 use Rattle.reassembly.specs.Arrival.{Arrival}
 use Rattle.reassembly.specs.Buffer.{Buffer, held}
 use Rattle.clnp_plan.specs.Asking.{IsFormedAsk}
+use Rattle.clnp_plan.specs.declared.config.PortConfig.{PortConfig}
 use Rattle.clnp_plan.specs.declared.note.Note.{Note}
-use Rattle.clnp_plan.specs.declared.note.Note.TheVariants.{Gone, Got, Hear, Ignored}
+use Rattle.clnp_plan.specs.declared.note.Note.TheVariants.{Echoed, Gone, Got, Hear, Ignored, Report, Restart, Stray}
 use Rattle.clnp_machine.specs.Unit as unit
 use Rattle.clnp_machine.specs.Unit.{DeclaredAt, Packet, IsCarriable, value_of, wire}
-use Rattle.clnp_machine.specs.Content.{Content, Labelled, Esis, Unlabelled}
-use Rattle.clnp_machine.specs.System.{SystemState, next_number, Input, AsksToSend, FrameComes, MomentComes, IsRestarted, Output, Transmits, SendsEsis, Notes, Effect}
+use Rattle.clnp_machine.specs.Content.{Content, IsCarried, Labelled, Esis, Unlabelled}
+use Rattle.clnp_machine.specs.System.{SystemState, number_behind, Input, AsksToSend, AsksForEcho, FrameComes, MomentComes, IsRestarted, Output, Transmits, SendsEsis, Notes, Effect}
 use Rattle.clnp_machine.specs.Esis.{own_hello}
-use Rattle.clnp_machine.specs.Local.{Deed, made_in, is_own, header_size, offered}
+use Rattle.clnp_machine.specs.Local.{Deed, IsAsOffered, made_in, is_own, header_size, offered}
+use Rattle.clnp_machine.specs.Step.{loss_at}
 
 -- it is still the same system, at its place, of the same configuration
 pub record StaysItself (before after : SystemState) : Type 0 where
@@ -35,6 +40,7 @@ pub record StaysItself (before after : SystemState) : Type 0 where
 -- a system's moment is the last that came to it
 abbrev pub moment_after : SystemState → Input → ℕ
 moment_after s (AsksToSend from to octets ask) = s.moment
+moment_after s (AsksForEcho from to octets) = s.moment
 moment_after s (FrameComes port sender to_group content) = s.moment
 moment_after s (MomentComes now) = now
 moment_after s IsRestarted = s.moment
@@ -42,21 +48,36 @@ moment_after s IsRestarted = s.moment
 -- nothing is asked of the system
 abbrev pub AsksNothing : Input → Type 0
 AsksNothing (AsksToSend from to octets ask) = ⊥
+AsksNothing (AsksForEcho from to octets) = ⊥
 AsksNothing _ = Unit {0}
 
--- What is asked of a system, if anything is: a unit that is formed as it should be, with options that a data unit may have.
-abbrev pub IsFairlyAsked : Input → Type 0
-IsFairlyAsked (AsksToSend from to octets ask) = IsFormedAsk from to ask × FitsKind false (parameters ask.options)
-IsFairlyAsked _ = Unit {0}
+-- What comes to a system is fair: a unit that is asked for is formed as it should be, with options that a data unit may have;
+-- an echo is asked for between addresses; and what a frame carries is what one may carry.
+abbrev pub IsFair : Input → Type 0
+IsFair (AsksToSend from to octets ask) = IsFormedAsk from to ask × FitsKind false (parameters ask.options)
+IsFair (AsksForEcho from to octets) = IsAddress from × IsAddress to
+IsFair (FrameComes port sender to_group content) = IsCarried content
+IsFair _ = Unit {0}
 
--- a unit that a system makes at a moment: its next one, of a source that is its own, and all that its initial PDU carries
+-- a unit that a system makes at a moment: of a source that is its own, and all that its initial PDU carries
 pub record IsFresh (s : SystemState) (now : ℕ) (u : unit.Unit) : Type 0 where
   pub maker : u.maker ≡ DeclaredAt s.place
-  pub number : u.number ≡ next_number s
   pub made : u.made ≡ now
   pub source : is_own s u.source ≡ true
   pub first_position : u.first_position ≡ 0
   pub total : u.total ≡ header_size u + length u.octets
+
+-- units are numbered one behind another, the first of them behind a number
+abbrev pub AreNumbered : ℕ → List unit.Unit → Type 0
+AreNumbered number [] = Unit {0}
+AreNumbered number (u ∷ units) = (u.number ≡ number_behind number) × AreNumbered u.number units
+
+-- What a unit is made for: one of data for the octets that are to be sent, an echo request where one is asked for; and beside
+-- these an error report, or an echo reply.
+abbrev pub IsMadeFor : Input → unit.Unit → Type 0
+IsMadeFor (AsksToSend from to octets ask) u = (u.kind ≡ Dt) × (u.source ≡ from) × (u.destination ≡ to) × (u.octets ≡ octets)
+IsMadeFor (AsksForEcho from to octets) u = (u.kind ≡ Erq) × (u.source ≡ from) × (u.destination ≡ to) × (u.octets ≡ octets)
+IsMadeFor _ u = (u.kind ≡ Er) ⊎ (u.kind ≡ Erp)
 
 -- what it heard, and when it says hello, is as before
 pub record HearsNothing (before after : SystemState) : Type 0 where
@@ -73,6 +94,7 @@ pub record LeavesTheRest (before after : SystemState) : Type 0 where
   pub count : after.count ≡ before.count
   pub identifiers : after.identifiers ≡ before.identifiers
   pub buffers : after.buffers ≡ before.buffers
+  pub pending : after.pending ≡ before.pending
 
 -- an ES-IS PDU, or a note of what is heard or gone
 abbrev pub IsOfHellos : Output → Type 0
@@ -96,6 +118,13 @@ pub record IsDeed (s : SystemState) (deed : Deed) : Type 0 where
   pub heard : HearsNothing s deed.after
   pub fresh : AllByRecursion (IsFresh s s.moment) (made_in deed.actions)
 
+-- what a packet that comes leaves and makes: the same, as an effect
+pub record IsEffect (s : SystemState) (effect : Effect) : Type 0 where
+  pub itself : StaysItself s effect.after
+  pub moment : effect.after.moment ≡ s.moment
+  pub heard : HearsNothing s effect.after
+  pub fresh : AllByRecursion (IsFresh s s.moment) effect.units
+
 -- What holds of a packet of one of some units: it is a range of the unit, and all of it where the unit may not be
 -- segmented; it was forwarded no more often than its lifetime allowed, and its options are as the unit's.
 pub record IsRangeOf (units : List unit.Unit) (p : Packet) : Type 0 where
@@ -105,11 +134,42 @@ pub record IsRangeOf (units : List unit.Unit) (p : Packet) : Type 0 where
   pub within : p.offset + p.length ≤ length p.unit.octets
   pub whole : p.unit.identifier ≡ None → (p.offset ≡ 0) × (p.length ≡ length p.unit.octets)
 
+-- What holds of a packet that goes on by a port, of one that came: it is a range of that one's, and all of it where its unit may
+-- not be segmented; it was forwarded once more, and its lifetime is lower by the port's transit, by 1 at least, and not over.
+pub record GoesOnFrom (s : SystemState) (number : ℕ) (came p : Packet) : Type 0 where
+  pub port : PortConfig
+  pub there : slice_get s.configuration.ports number ≡ Some port
+  pub unit : p.unit ≡ came.unit
+  pub options : p.options ≡ came.options
+  pub hops : p.hops ≡ came.hops + 1
+  pub lifetime : p.lifetime + loss_at port ≡ came.lifetime
+  pub alive : 1 ≤ p.lifetime
+  pub from : came.offset ≤ p.offset
+  pub to : p.offset + p.length ≤ came.offset + came.length
+  pub whole : p.unit.identifier ≡ None → (p.offset ≡ came.offset) × (p.length ≡ came.length)
+
+-- each packet that is sent goes on, of one that came
+abbrev pub SendsOn : SystemState → Packet → Output → Type 0
+SendsOn s came (Transmits port target packet) = GoesOnFrom s port came packet
+SendsOn s came (SendsEsis port target value) = Unit {0}
+SendsOn s came (Notes note) = Unit {0}
+
+-- a packet goes on, of one that comes
+abbrev pub GoesOnOf : SystemState → (port : ℕ) → Input → Packet → Type 0
+GoesOnOf s port (FrameComes at sender to_group (Labelled came following)) p = GoesOnFrom s port came p
+GoesOnOf s port _ p = ⊥
+
 -- what is sent is a range of one of some units, or an ES-IS PDU
 abbrev pub SendsRangesOf : List unit.Unit → Output → Type 0
 SendsRangesOf units (Transmits port target packet) = IsRangeOf units packet
 SendsRangesOf units (SendsEsis port target value) = Unit {0}
 SendsRangesOf units (Notes note) = Unit {0}
+
+-- what is sent is a range of one of some units, or goes on, or is an ES-IS PDU
+abbrev pub SendsRangesOrGoesOn : SystemState → Input → List unit.Unit → Output → Type 0
+SendsRangesOrGoesOn s input units (Transmits port target packet) = IsRangeOf units packet ⊎ GoesOnOf s port input packet
+SendsRangesOrGoesOn s input units (SendsEsis port target value) = Unit {0}
+SendsRangesOrGoesOn s input units (Notes note) = Unit {0}
 
 -- a PDU can carry each packet that is sent
 abbrev pub SendsCarriable : Output → Type 0
@@ -156,15 +216,66 @@ NotesOnly Q (Notes note) = Q note
 -- what a note hands up is for an address of the system
 abbrev pub IsForOwn : SystemState → Note → Type 0
 IsForOwn s (Got from to octets) = is_own s to ≡ true
+IsForOwn s (Report from to reason place octets) = is_own s to ≡ true
+IsForOwn s (Echoed from to unit) = is_own s to ≡ true
+IsForOwn s (Stray from to) = is_own s to ≡ true
 IsForOwn s _ = Unit {0}
-
--- no more octets are held for reassembly than the system may
-abbrev pub IsWithinBudget : SystemState → Type 0
-IsWithinBudget s = held s.buffers ≤ s.configuration.settings.budget
 
 -- all segments that are kept
 abbrev pub segments_in : List (Buffer Packet) → List (Arrival Packet)
 segments_in buffers = flat_map (λ buffer. buffer.kept) buffers
+
+-- the segments that a system keeps are as they were offered, and PDUs can carry them
+abbrev pub KeepsAsOffered : SystemState → Type 0
+KeepsAsOffered s = AllByRecursion IsAsOffered (segments_in s.buffers)
+
+-- Reports and echoes.
+
+-- units that are made where a frame is discarded: at most its report, of which no report is wanted
+pub record IsReportOf (frame : List ℕ) (u : unit.Unit) : Type 0 where
+  pub kind : u.kind ≡ Er
+  pub unreported : u.report ≡ false
+  pub whole : u.identifier ≡ None
+  pub destination : u.destination ≡ source_of frame
+  pub data_are : u.octets ≡ header_of frame
+
+abbrev pub IsAtMostReportOf : List ℕ → List unit.Unit → Type 0
+IsAtMostReportOf frame units = (units ≡ []) ⊎ ((u : unit.Unit) × (units ≡ u ∷ []) × IsReportOf frame u)
+
+-- what is sent goes on, of a packet that came, and no unit is made; or what is sent is of a unit that is made, at most the report
+-- of the discard of the frame
+abbrev pub GoesOnOrIsReported : SystemState → Packet → (frame : List ℕ) → Effect → Type 0
+GoesOnOrIsReported s came frame effect =
+    (AllByRecursion (SendsOn s came) effect.outputs × (effect.units ≡ []))
+    ⊎ (AllByRecursion (SendsRangesOf effect.units) effect.outputs × IsAtMostReportOf frame effect.units)
+
+-- a packet came in a step, or was kept before it
+abbrev pub IsAtHand : SystemState → Input → Packet → Type 0
+IsAtHand s (FrameComes port sender to_group (Labelled came following)) p = (p ≡ came) ⊎ Contains (map (λ (arrival : Arrival Packet). arrival.carried) (segments_in s.buffers)) p
+IsAtHand s input p = Contains (map (λ (arrival : Arrival Packet). arrival.carried) (segments_in s.buffers)) p
+
+-- a unit that is an error report is that of the discard of a packet that is at hand: its data are the header of the packet's
+-- PDU, and it goes to the packet's source
+abbrev pub ReportsOn : SystemState → Input → unit.Unit → Type 0
+ReportsOn s input u = u.kind ≡ Er → (p : Packet) × IsAtHand s input p × IsReportOf (wire p) u × (source_of (wire p) ≡ p.unit.source)
+
+-- a request that is to be answered after a step was so before it, or was made in it
+abbrev pub WasPendingOrMade : SystemState → Effect → unit.Unit → Type 0
+WasPendingOrMade s effect request = Contains s.pending request ⊎ (Contains effect.units request × (request.kind ≡ Erq))
+
+-- a note doesn't say that the system was restarted
+abbrev pub IsNoRestart : Note → Type 0
+IsNoRestart Restart = ⊥
+IsNoRestart _ = Unit {0}
+
+-- nobody restarts the system
+abbrev pub RestartsNothing : Input → Type 0
+RestartsNothing IsRestarted = ⊥
+RestartsNothing _ = Unit {0}
+
+-- no more octets are held for reassembly than the system may
+abbrev pub IsWithinBudget : SystemState → Type 0
+IsWithinBudget s = held s.buffers ≤ s.configuration.settings.budget
 
 -- the segment that comes in a frame
 abbrev pub CarriesSegment : Content → Arrival Packet → Type 0

@@ -25,6 +25,8 @@ pub record SystemState : Type 0 where
   pub identifiers : Identifiers
   -- the segments of units that aren't whole yet
   pub buffers : List (Buffer Packet)
+  -- the echo requests that it made and that are still to be answered, the oldest first (RFC 1575)
+  pub pending : List Unit
   -- what it heard of other systems since its last restart, in order (ISO 9542, section 6.3)
   pub facts : List Fact
   -- its configuration timer: how often it says hello, in seconds; 0 is never (ISO 9542, section 6.1.1)
@@ -43,6 +45,7 @@ first_state place configuration limits now quiet =
       count = 0;
       identifiers = opening limits.reuse quiet;
       buffers = [];
+      pending = [];
       facts = [];
       hello = configuration.settings.hello;
       next_hello = now;
@@ -58,10 +61,11 @@ table_limits s =
       hold = s.hold;
     }
 
--- What comes to a system: it is asked to send octets; a frame comes in at a port, from an address there, to a group of
+-- What comes to a system: it is asked to send octets, or an echo request with them; a frame comes in at a port, from an address there, to a group of
 -- systems or to it alone; a moment comes; it is restarted.
 pub data Input : Type 0 where
   AsksToSend : (from to octets : List ℕ) (ask : Ask) → Input
+  AsksForEcho : (from to octets : List ℕ) → Input
   FrameComes : (port : ℕ) (sender : List ℕ) (to_group : Bool) (content : Content) → Input
   MomentComes : (now : ℕ) → Input
   IsRestarted : Input
@@ -95,6 +99,10 @@ then_does effect next =
       units = effect.units ++ (next effect.after).units;
     }
 
--- the number of the next unit: one more than the last, and the greatest one for ever
+-- the number behind another one, among a system's units: one more, and the greatest one for ever
+abbrev pub number_behind : ℕ → ℕ
+number_behind number = min (number + 1) (2 ^ 64 - 1)
+
+-- the number of the next unit
 abbrev pub next_number : SystemState → ℕ
-next_number s = min (s.count + 1) (2 ^ 64 - 1)
+next_number s = number_behind s.count

@@ -15,6 +15,9 @@ use Rattle.clnp_machine.specs.Local.{Action, Sends, Tells, header_size, identifi
 -- a note that neither hands up nor refuses, and tells of no interference and of no frame of no protocol
 abbrev pub NoteIsQuiet : Note → Type 0
 NoteIsQuiet (note.Got from to octets) = ⊥
+NoteIsQuiet (note.Report from to reason place octets) = ⊥
+NoteIsQuiet (note.Echoed from to unit) = ⊥
+NoteIsQuiet (note.Stray from to) = ⊥
 NoteIsQuiet (note.Refused why value) = ⊥
 NoteIsQuiet (note.Interference id) = ⊥
 NoteIsQuiet note.Alien = ⊥

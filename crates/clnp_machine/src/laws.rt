@@ -1,12 +1,17 @@
 //! Laws of one step of a system: each holds for every state and whatever comes, and its function
 //! does nothing.
-ghost use Rattle.std.specs.Prelude.{All, Bool, false, ◌≡◌, ◌↔◌, ◌≤◌, ℕ, None, List, [], ◌++◌, map, option_map};
+ghost use Rattle.std.specs.Prelude.{All, Bool, false, ◌≡◌, ◌==◌, ◌&&◌, ◌↔◌, ◌≤◌, ℕ, None, Some, List, [], ◌++◌, length, map, not, option_map};
 ghost use Rattle.std.specs.List.{AllByRecursion, Contains, filter, flat_map, list_any};
 ghost use Rattle.hex.specs.Hex.{IsBytes};
 ghost use Rattle.pdu_header.specs.declared.kind.Kind.{Kind};
+ghost use Rattle.pdu_header.specs.declared.kind.Kind.TheVariants.{Er, Erp};
+ghost use Rattle.pdu_header.specs.Spelling.{type_code};
+ghost use Rattle.pdu_header.specs.Value.{PduValue};
+ghost use Rattle.error_reports.specs.Report.{report_of};
+ghost use Rattle.echo.specs.Reply.{reply_of};
 ghost use Rattle.segmenter.specs.Cut as segmenter;
 ghost use Rattle.nsap.specs.Address.{IsAddress};
-ghost use Rattle.pdu_header.specs.Rules.{octet};
+ghost use Rattle.pdu_header.specs.Rules.{header_of, is_reportable, kind_of, octet, type_of};
 ghost use Rattle.esis_pdus.specs.Grammar.{IsPdu};
 ghost use Rattle.esis_pdus.specs.Spelling.{spelling};
 ghost use Rattle.esis_pdus.specs.Value.{EsisValue};
@@ -17,13 +22,13 @@ ghost use Rattle.reassembly.specs.Buffer.{Buffer, buffer_of, clashes, held, with
 ghost use Rattle.clnp_plan.specs.Configuration.{IsSystem};
 ghost use Rattle.esis_tables.specs.declared.fact.Place.{Place};
 ghost use Rattle.clnp_plan.specs.declared.ask.Ask.{Ask};
-ghost use Rattle.clnp_machine.specs.Unit.{Unit, Packet, IsCarriable, cut, value_of, wire};
-ghost use Rattle.clnp_machine.specs.Content.{Esis, IsCarried, Labelled, Unlabelled, content_of, frame_of};
+ghost use Rattle.clnp_machine.specs.Unit.{Unit, Packet, IsCarriable, cut, value_of, whole_packet, wire};
+ghost use Rattle.clnp_machine.specs.Content.{Content, Esis, IsCarried, Labelled, Unlabelled, content_of, frame_of};
 ghost use Rattle.clnp_machine.specs.Esis.{esis_comes, forgets, own_hello, says_hello, tells_new, tells_of_itself};
-ghost use Rattle.clnp_machine.specs.Local.{Action, at_moment, gives_up, make, receive, refusal, tick};
-ghost use Rattle.clnp_machine.specs.System.{SystemState, Input, FrameComes};
-ghost use Rattle.clnp_machine.specs.Step.{octets_come, outputs_of, packet_comes, responds, step};
-ghost use Rattle.clnp_machine.specs.Steps.{AreCarriable, AsksNothing, BreaksNoEsisRule, BreaksNoRule, CarriesOneEsisValue, CarriesOnePacket, IsAtMostItsHello, IsDeed, IsFairlyAsked, IsForOwn, IsFresh, IsWithinBudget, NotesOnly, OnlyHellos, SendsCarriable, SendsEsisPdus, SendsItsHellos, SendsRangesOf, StaysItself, WasKeptOrComes, moment_after, segments_in, sends_esis, sends_frame};
+ghost use Rattle.clnp_machine.specs.Local.{Action, at_moment, discard, echo_ask, gives_up, made_in, make, receive, refusal, report_unit, tick, unit_of};
+ghost use Rattle.clnp_machine.specs.System.{SystemState, Input, FrameComes, IsRestarted};
+ghost use Rattle.clnp_machine.specs.Step.{octets_come, outputs_of, packet_comes, passes_by, responds, step};
+ghost use Rattle.clnp_machine.specs.Steps.{AreCarriable, AreNumbered, IsAtMostReportOf, IsMadeFor, IsNoRestart, KeepsAsOffered, ReportsOn, RestartsNothing, WasPendingOrMade, BreaksNoEsisRule, BreaksNoRule, CarriesOneEsisValue, CarriesOnePacket, IsAtMostItsHello, IsDeed, IsEffect, IsFair, IsForOwn, GoesOnOrIsReported, IsFresh, IsWithinBudget, NotesOnly, OnlyHellos, SendsCarriable, SendsEsisPdus, SendsItsHellos, SendsRangesOrGoesOn, StaysItself, WasKeptOrComes, moment_after, segments_in, sends_esis, sends_frame};
 ghost use Rattle.clnp_machine.specs.Told.{IsAllowed, IsRefusal, IsToldBy, NoteIsQuiet, NotesNoRule, SpellsPdus, TellsNoInterference, TellsOnly, WasThereOrTakes};
 
 /// A step leaves a system at its place with its configuration, at the moment that came last.
@@ -37,7 +42,8 @@ pub fn a_system_stays_itself()
 pub fn deeds_are_of_their_moment()
     ensures make { (s : SystemState) (kind : Kind) (from to octets : List ℕ) (ask : Ask) → IsDeed s (make s kind from to octets ask) }
     ensures receive { (s : SystemState) (p : Packet) (following : List ℕ) → IsDeed s (receive s p following) }
-    ensures packet { (s : SystemState) (p : Packet) (following : List ℕ) → IsDeed s (packet_comes s p following) }
+    ensures discard { (s : SystemState) (content : Content) (reason place : ℕ) → IsDeed s (discard s content reason place) }
+    ensures packet { (s : SystemState) (p : Packet) (following : List ℕ) → IsEffect s (packet_comes s p following) }
     ensures octets { (s : SystemState) (octets : List ℕ) → IsDeed s (octets_come s octets) }
     ensures tick { (s : SystemState) (now : ℕ) → IsDeed (at_moment now s) (tick s now) }
 {}
@@ -53,22 +59,35 @@ pub fn hellos_leave_the_rest()
 {}
 
 /// The units that are made in a step are made now by the system, of a source that is its own, and
-/// their initial PDU carries all of their data; none is made that isn't asked for.
+/// their initial PDU carries all of their data; they are numbered one behind another; and one that
+/// isn't asked for is an error report or an echo reply.
 pub fn new_units_are_fresh()
     ensures fresh { (s : SystemState) (input : Input) → AllByRecursion (IsFresh s (moment_after s input)) (step s input).units }
-    ensures asked { (s : SystemState) (input : Input) → AsksNothing input → (step s input).units ≡ [] }
+    ensures numbered { (s : SystemState) (input : Input) → AreNumbered s.count (step s input).units }
+    ensures asked { (s : SystemState) (input : Input) → AllByRecursion (IsMadeFor input) (step s input).units }
 {}
 
 /// Each packet that is sent in a step is a range of a unit that was made in it, and meets the bound
-/// on hops and lifetime.
+/// on hops and lifetime; or it goes on, of a packet that came in the step.
 pub fn ranges_of_units_are_sent()
-    ensures { (s : SystemState) (input : Input) → AllByRecursion (SendsRangesOf (step s input).units) (step s input).outputs }
+    ensures { (s : SystemState) (input : Input)
+        → AllByRecursion (SendsRangesOrGoesOn s input (step s input).units) (step s input).outputs }
 {}
 
-/// PDUs can carry each packet that is sent in a step of a system of sound configuration that is fairly asked.
+/// Each packet that forwarding sends has one hop more than the one that came, and a lifetime that is
+/// lower by the transit of the port by which it goes on, at least by one; or the one that came doesn't
+/// go on, and what is sent is at most the report of its discard.
+pub fn forwarding_costs_lifetime()
+    ensures { (s : SystemState) (p : Packet) (following : List ℕ)
+        → GoesOnOrIsReported s p (wire p ++ following) (passes_by s.configuration.role s p following) }
+{}
+
+/// PDUs can carry each packet that is sent in a step of a system of sound configuration with addresses,
+/// where what comes to it is fair, and the segments that it keeps can be carried.
 pub fn what_is_sent_is_carriable()
-    ensures { (s : SystemState) (input : Input) → IsSystem s.configuration → IsFairlyAsked input
-        → AllByRecursion SendsCarriable (step s input).outputs }
+    ensures sent { (s : SystemState) (input : Input) → IsSystem s.configuration → IsFair input
+        → All IsAddress s.configuration.addresses → KeepsAsOffered s → AllByRecursion SendsCarriable (step s input).outputs }
+    ensures kept { (s : SystemState) (input : Input) → IsFair input → KeepsAsOffered s → KeepsAsOffered (step s input).after }
 {}
 
 /// A system sends no ES-IS PDU but its own hello. Where it is configured as a system with addresses,
@@ -82,7 +101,8 @@ pub fn hellos_are_pdus()
 
 /// An ES-IS PDU that comes makes a system send at most its own hello, to where the PDU came from, and
 /// no packet. So does a packet, beside the packets that are sent then. Octets that spell no PDU are
-/// answered by nothing.
+/// answered by no ES-IS PDU, and by nothing at all but the report of their discard, where they are
+/// reportable.
 pub fn a_hello_causes_at_most_one()
     ensures hello { (s : SystemState) (port : ℕ) (sender : List ℕ) (to_group : Bool) (value : EsisValue) (following : List ℕ)
         → IsAtMostItsHello s (record { port = port; snpa = sender })
@@ -91,7 +111,11 @@ pub fn a_hello_causes_at_most_one()
         → IsAtMostItsHello s (record { port = port; snpa = sender })
         (filter sends_esis (step s (FrameComes port sender to_group (Labelled p following))).outputs) }
     ensures octets { (s : SystemState) (port : ℕ) (sender : List ℕ) (to_group : Bool) (octets : List ℕ)
-        → filter sends_frame (step s (FrameComes port sender to_group (Unlabelled octets))).outputs ≡ [] }
+        → filter sends_esis (step s (FrameComes port sender to_group (Unlabelled octets))).outputs ≡ [] }
+    ensures unreported { (s : SystemState) (port : ℕ) (sender : List ℕ) (to_group : Bool) (octets : List ℕ)
+        → is_reportable octets ≡ false → filter sends_frame (step s (FrameComes port sender to_group (Unlabelled octets))).outputs ≡ [] }
+    ensures reported { (s : SystemState) (port : ℕ) (sender : List ℕ) (to_group : Bool) (octets : List ℕ)
+        → IsAtMostReportOf octets (step s (FrameComes port sender to_group (Unlabelled octets))).units }
 {}
 
 /// An exchange of answers ends: an ES-IS PDU that comes again at the same moment is answered by
@@ -131,10 +155,64 @@ pub fn rules_are_noted_of_octets_alone()
         → AllByRecursion (NotesOnly NotesNoRule) (step s input).outputs }
 {}
 
-/// A buffer whose time has ended is taken out, and all else stays.
+/// A buffer whose time has ended is taken out, and all else stays, but for the count of units where a
+/// report is made.
 pub fn ended_buffers_are_taken_out()
     ensures { (s : SystemState) (ended : Buffer Packet)
-        → (gives_up s ended).after ≡ record s { buffers = without ended.key s.buffers } }
+        → (gives_up s ended).after ≡ record s { buffers = without ended.key s.buffers; count = (gives_up s ended).after.count } }
+{}
+
+/// Reports make no storm: where a frame is discarded at most one unit is made, which is its report and
+/// of which no report is wanted; the discard of an error report makes none.
+pub fn reports_make_no_storm()
+    ensures one { (s : SystemState) (frame : Content) (reason place : ℕ)
+        → IsAtMostReportOf (frame_of frame) (made_in (discard s frame reason place).actions) }
+    ensures none { (s : SystemState) (frame : Content) (reason place : ℕ) → kind_of (type_of (header_of (frame_of frame))) ≡ Some Er
+        → made_in (discard s frame reason place).actions ≡ [] }
+{
+    error_reports::laws::no_report_of_a_report();
+}
+
+/// The discard of a packet is reported exactly where its unit wants a report and isn't one; and the PDU
+/// of a report is that of the definition.
+pub fn discards_are_reported_as_wanted()
+    ensures wanted { (p : Packet) (following : List ℕ) → IsCarriable p
+        → is_reportable (wire p ++ following) ≡ (p.unit.report && not (type_code p.unit.kind == type_code Er)) }
+    ensures report { (s : SystemState) (own frame : List ℕ) (reason place : ℕ)
+        → value_of (whole_packet (report_unit s own frame reason place))
+        ≡ report_of frame own reason place s.configuration.settings.life s.configuration.settings.sealed }
+{
+    pdu_header::laws::reportable_where_wanted();
+}
+
+/// An error report that is made in a step in which no octets come that spell no PDU is that of a packet
+/// that came in it, or was kept before.
+pub fn reports_are_of_packets()
+    ensures { (s : SystemState) (input : Input) → IsFair input → SpellsPdus input → KeepsAsOffered s
+        → AllByRecursion (ReportsOn s input) (step s input).units }
+{}
+
+/// The PDU of a reply is the reply to a request of which it has the data, and goes the other way.
+pub fn replies_are_replies()
+    ensures { (s : SystemState) (request : PduValue)
+        → let reply = unit_of s Erp request.destination request.source request.body
+        (echo_ask s request.destination request.source (length request.body) false) in
+        value_of (whole_packet reply)
+        ≡ reply_of request reply.identifier s.configuration.settings.life s.configuration.settings.sealed }
+{}
+
+/// The requests that are to be answered are at most eight; each was so before a step or was made in it;
+/// a restart forgets them.
+pub fn requests_are_kept()
+    ensures few { (s : SystemState) (input : Input) → length s.pending ≤ 8 → length (step s input).after.pending ≤ 8 }
+    ensures made { (s : SystemState) (input : Input) → AllByRecursion (WasPendingOrMade s (step s input)) (step s input).after.pending }
+    ensures forgotten { (s : SystemState) → (step s IsRestarted).after.pending ≡ [] }
+{}
+
+/// That a system was restarted is noted only where it is.
+pub fn only_restarts_are_noted_as_such()
+    ensures { (s : SystemState) (input : Input) → RestartsNothing input
+        → AllByRecursion (NotesOnly IsNoRestart) (step s input).outputs }
 {}
 
 /// A segment that is offered leaves each buffer as it was, or opens one, or is kept in that of its key;

@@ -1,20 +1,26 @@
--- Worked examples of systems on one subnetwork, computed with the definitions: with a checksum and without one, copies that come
--- again, a host that is restarted, and hellos that are said, heard and answered.
-use Rattle.std.proofs.Common.{◌≡◌, ℕ, true, List, [], ◌∷◌, refl, Result, Ok, Err, codes}
+-- Worked examples of systems on one subnetwork or two, computed with the definitions: with a checksum and without one, copies that
+-- come again, a host that is restarted, an echo, hellos that are said, heard and answered, and packets that a router forwards or reports.
+use Rattle.std.proofs.Common.{◌≡◌, ℕ, true, false, List, [], ◌∷◌, refl, Result, Ok, Err, codes}
 use Rattle.hex.specs.Hex.{encode_with, decode_pairs}
 use Rattle.fletcher.specs.Checksum.{sealed, checksum_x, checksum_y}
 use Rattle.clnp_options.specs.Parameter.{spelled, parameters_after}
+use Rattle.clnp_options.specs.Edits.{value_of}
 use Rattle.clnp_options.specs.Grammar.{joined}
+use Rattle.pdu_header.specs.Rules.{extent_refusal}
 use Rattle.esis_pdus.specs.Timer.{seconds_of}
+use Rattle.forwarding.specs.declared.route.Route.{Route}
+use Rattle.clnp_plan.specs.Configuration.{SystemConfiguration}
 use Rattle.clnp_plan.specs.declared.config.PortConfig.{PortConfig}
 use Rattle.clnp_plan.specs.declared.config.Role.TheVariants.{Host, Router}
 use Rattle.clnp_plan.specs.declared.config.Settings.{Settings}
 use Rattle.scenario.specs.Scenario.{Plan}
 use Rattle.scenario.specs.declared.event.Event.{Event}
-use Rattle.scenario.specs.declared.event.Event.TheVariants.{Settle, Tick}
+use Rattle.scenario.specs.declared.event.Body.TheVariants.{Hex}
+use Rattle.scenario.specs.declared.event.Event.TheVariants.{Send, Settle, Tick}
 use Rattle.scenario.specs.Grammar.{BadLine, plan_of, plan_at, events_from, counted_event}
 use Rattle.scenario.specs.Declarations.{limits_line, subnet_line, room_word, setting_word, system_line, address_line, port_line, declaration_line}
-use Rattle.scenario.specs.Events.{wish_word, send_line, deliver_line, tick_line, restart_line, count_line, event_line}
+use Rattle.scenario.specs.Events.{wish_word, send_line, deliver_line, tick_line, restart_line, echo_line, count_line, event_line}
+use Rattle.nsap.specs.Prefix.{digits_of}
 use Rattle.nsap.specs.Text.{octets_of}
 use Rattle.std.specs.Fmt.{digits}
 use Rattle.clnp_network.specs.Run.{journal}
@@ -30,6 +36,9 @@ two_deliveries = codes "clnp-sim 1\nsubnet lan 1500\nsystem a host hello=0\nsyst
 
 abbrev restart : List ℕ
 restart = codes "clnp-sim 1\nlimits 4 2 6\nsubnet lan 1500\nsystem a host hello=0\nsystem b host hello=0\naddress a 47002702\naddress b 47002701\nport a 0 lan 01\nport b 0 lan 02\nevents\nsend a 47002702 47002701 hex:6869\ntick 1\nrestart a\nsend a 47002702 47002701 hex:6869\ntick 4\ndeliver 1 b\nend\n"
+
+abbrev echo : List ℕ
+echo = codes "clnp-sim 1\nsubnet lan 1500\nsystem a host hello=0\nsystem b host hello=0\naddress a 47002702\naddress b 47002701\nport a 0 lan 01\nport b 0 lan 02\nevents\necho a 47002702 47002701 hex:6869\nsettle 2\ndeliver 2 a\nend\n"
 
 abbrev written : Result Plan BadLine → List ℕ
 written (Ok plan) = journal plan
@@ -51,6 +60,11 @@ journal-restart : written (plan_of restart) ≡ codes "0 a sent dt 1 0000 470027
 unfolding parameters_after encode_with decode_pairs sealed checksum_x checksum_y spelled octets_of digits plan_at events_from counted_event limits_line subnet_line room_word setting_word system_line address_line port_line declaration_line wish_word send_line deliver_line tick_line restart_line count_line event_line
 journal-restart = refl
 
+-- an echo request is answered once, and a reply that comes again answers nothing
+journal-echo : written (plan_of echo) ≡ codes "0 a sent erq 1 - 47002702 47002701 2\n0 a tx 1 0 es 811301403e0015b737044700270104470027026869\n0 b sent erp 1 - 47002701 47002702 2\n0 b tx 2 0 es 811301401f00152fde044700270204470027016869\n0 a echoed 47002701 47002702 1\n0 a stray 47002701 47002702\nend 0 2\n"
+unfolding parameters_after encode_with decode_pairs sealed checksum_x checksum_y spelled octets_of digits plan_at events_from counted_event limits_line subnet_line room_word setting_word system_line address_line port_line declaration_line wish_word send_line deliver_line tick_line restart_line echo_line count_line event_line
+journal-echo = refl
+
 -- Two hosts and a router that say hello.
 
 abbrev defaults : Settings
@@ -68,17 +82,35 @@ defaults = record {
   sealed = true;
 }
 
+abbrev on_subnetwork : ℕ → List ℕ → PortConfig
+on_subnetwork subnet snpa = record { subnet = subnet; snpa = snpa; transit = 1; mtu = 1500 }
+
 abbrev on_lan : List ℕ → PortConfig
-on_lan snpa = record { subnet = 0; snpa = snpa; transit = 1; mtu = 1500 }
+on_lan = on_subnetwork 0
+
+abbrev a_host : (name address : List ℕ) → PortConfig → Settings → SystemConfiguration
+a_host name address port settings =
+    record { name = name; role = Host; addresses = address ∷ []; ports = port ∷ []; routes = []; settings = settings }
+
+abbrev router_r : List PortConfig → List Route → Settings → SystemConfiguration
+router_r ports routes settings =
+    record { name = codes "r"; role = Router; addresses = (0x47 ∷ 0 ∷ 0x27 ∷ 0xff ∷ []) ∷ []; ports = ports; routes = routes; settings = settings }
+
+-- the addresses of two hosts
+abbrev of_a : List ℕ
+of_a = 0x47 ∷ 0 ∷ 0x27 ∷ 2 ∷ []
+
+abbrev of_b : List ℕ
+of_b = 0x47 ∷ 0 ∷ 0x27 ∷ 1 ∷ []
 
 abbrev on_one_subnetwork : (router : Settings) → List Event → Plan
 on_one_subnetwork router events = record {
   limits = record { age = 256; hold = 60; reuse = 320 };
   subnets = record { name = codes "lan"; mtu = 1500 } ∷ [];
   systems =
-      record { name = codes "a"; role = Host; addresses = (0x47 ∷ 0 ∷ 0x27 ∷ 2 ∷ []) ∷ []; ports = on_lan (1 ∷ []) ∷ []; settings = defaults }
-      ∷ record { name = codes "b"; role = Host; addresses = (0x47 ∷ 0 ∷ 0x27 ∷ 1 ∷ []) ∷ []; ports = on_lan (2 ∷ []) ∷ []; settings = defaults }
-      ∷ record { name = codes "r"; role = Router; addresses = (0x47 ∷ 0 ∷ 0x27 ∷ 0xff ∷ []) ∷ []; ports = on_lan (10 ∷ []) ∷ []; settings = router }
+      a_host (codes "a") of_a (on_lan (1 ∷ [])) defaults
+      ∷ a_host (codes "b") of_b (on_lan (2 ∷ [])) defaults
+      ∷ router_r (on_lan (10 ∷ []) ∷ []) [] router
       ∷ [];
   events = events;
 }
@@ -91,3 +123,40 @@ journal-hellos = refl
 journal-suggested : journal (on_one_subnetwork (record defaults { suggest = 30 }) (Tick 1 ∷ [])) ≡ codes "1 a tx 1 0 is 820f0100020078324b010447002702\n1 b tx 2 0 is 820f01000200782c52010447002701\n1 r tx 3 0 es 821201000400785b3904470027ffc602001e\nend 1 3\n"
 unfolding encode_with sealed checksum_x checksum_y spelled joined digits seconds_of
 journal-suggested = refl
+
+-- A router between two subnetworks, with a route to each of two hosts that say nothing: what one sends to the other goes on, with
+-- one hop more and its lifetime lower by one.
+
+abbrev silent : Settings
+silent = record defaults { hello = 0 }
+
+-- a route to the host with this address alone, which is the title too
+abbrev to_host : (address : List ℕ) (port : ℕ) (snpa : List ℕ) → Route
+to_host address port snpa = record { prefix = digits_of address; port = port; snpa = snpa; title = address }
+
+abbrev to_both : List Route
+to_both = to_host of_b 1 (2 ∷ []) ∷ to_host of_a 0 (1 ∷ []) ∷ []
+
+abbrev sent_across : (to : List ℕ) → Plan
+sent_across to = record {
+  limits = record { age = 256; hold = 60; reuse = 320 };
+  subnets = record { name = codes "one"; mtu = 1500 } ∷ record { name = codes "two"; mtu = 1500 } ∷ [];
+  systems =
+      a_host (codes "a") of_a (on_subnetwork 0 (1 ∷ [])) silent
+      ∷ router_r (on_subnetwork 0 (10 ∷ []) ∷ on_subnetwork 1 (11 ∷ []) ∷ []) to_both defaults
+      ∷ a_host (codes "b") of_b (on_subnetwork 1 (2 ∷ [])) silent
+      ∷ [];
+  events =
+      Tick 1 ∷ Settle 2
+      ∷ Send 0 of_a to (Hex (0x68 ∷ 0x69 ∷ [])) (record { life = 10; report = true; segment = false; options = [] })
+      ∷ Settle 2 ∷ [];
+}
+
+journal-across_a_router : journal (sent_across of_b) ≡ codes "1 r tx 1 0 es 820e0100040078b1cd04470027ff\n1 r tx 2 1 es 820e0100040078b1cd04470027ff\n1 a hear is 470027ff new\n1 b hear is 470027ff new\n1 a sent dt 1 - 47002702 47002701 2\n1 a tx 3 0 0a 8113010a3c0015ce58044700270104470027026869\n1 r tx 4 1 02 811301093c0015d354044700270104470027026869\n1 b got 47002702 47002701 6869\nend 1 4\n"
+unfolding parameters_after encode_with sealed checksum_x checksum_y spelled joined digits seconds_of
+journal-across_a_router = refl
+
+-- a host that the router has no way to: the discard is reported, with the header that came
+journal-reported : journal (sent_across (0x47 ∷ 0 ∷ 0x27 ∷ 3 ∷ [])) ≡ codes "1 r tx 1 0 es 820e0100040078b1cd04470027ff\n1 r tx 2 1 es 820e0100040078b1cd04470027ff\n1 a hear is 470027ff new\n1 b hear is 470027ff new\n1 a sent dt 1 - 47002702 47002703 2\n1 a tx 3 0 0a 8113010a3c0015d84c044700270304470027026869\n1 r drop 81 00\n1 r sent er 1 - 470027ff 47002702 19\n1 r tx 4 0 01 8117014001002a5678044700270204470027ffc10281008113010a3c0015d84c04470027030447002702\n1 a report 470027ff 47002702 81 00 8113010a3c0015d84c04470027030447002702\nend 1 4\n"
+unfolding extent_refusal value_of parameters_after encode_with sealed checksum_x checksum_y spelled joined digits seconds_of
+journal-reported = refl

@@ -1,21 +1,26 @@
 -- What a safe run is: each data unit handed up is one that was sent before, and no system holds more octets for
 -- reassembly than it may.
-use Rattle.std.specs.Prelude.{◌≡◌, ℕ, ◌+◌, ◌≤◌, ◌⊎◌, List, [], ◌∷◌, ◌++◌, slice_get, Option, Some, AllPairs}
+use Rattle.std.specs.Prelude.{true, ◌≡◌, ◌≢◌, ℕ, ◌+◌, ◌≤◌, ◌⊎◌, List, [], ◌∷◌, ◌++◌, slice_get, Option, Some, AllPairs}
 use Rattle.clnp_plan.specs.Journal.{Line, Noted}
-use Rattle.clnp_plan.specs.declared.note.Note.TheVariants.{Refused, Got, Interference, Alien}
+use Rattle.clnp_plan.specs.declared.note.Note.TheVariants.{Sent, Refused, Got, Report, Echoed, Interference, Alien, Restart}
 use Rattle.scenario.specs.Scenario.{Plan, octets_of}
 use Rattle.scenario.specs.declared.event.Event.{Event}
 use Rattle.scenario.specs.declared.event.Event.TheVariants.{Send}
 use Rattle.scenario.specs.declared.event.Move.{Move}
 use Rattle.scenario.specs.declared.event.Move.TheVariants.{One, SettleOne, LoseOne, TickOne}
+use Rattle.pdu_header.specs.declared.kind.Kind.TheVariants.{Erq, Erp}
+use Rattle.pdu_header.specs.Rules.{header_of}
+use Rattle.echo.specs.Match.{Echoes}
 use Rattle.esis_pdus.specs.Grammar.{IsPdu}
 use Rattle.clnp_machine.specs.Content.{Labelled, Esis, Unlabelled, Content, frame_of}
 use Rattle.clnp_machine.specs.Unit as unit
-use Rattle.clnp_machine.specs.Unit.{Packet}
+use Rattle.clnp_machine.specs.Unit.{DeclaredAt, Packet, wire}
+use Rattle.clnp_machine.specs.Local.{is_own}
+use Rattle.clnp_machine.specs.System.{SystemState}
 use Rattle.clnp_machine.specs.Steps.{BreaksNoEsisRule, BreaksNoRule, IsRangeOf}
 use Rattle.clnp_machine.specs.Told.{NotesNoRule}
 use Rattle.reassembly.specs.Arrival.{Arrival}
-use Rattle.clnp_network.specs.World.{World}
+use Rattle.clnp_network.specs.World.{World, after}
 use Rattle.clnp_network.specs.Run.{Entry}
 use Rattle.reassembly.specs.Buffer.{Buffer, held}
 use Rattle.std.specs.List.{AllByRecursion, Contains}
@@ -133,3 +138,77 @@ NoneIsAlien (_ ∷ lines) = NoneIsAlien lines
 abbrev pub TellsNoRule : Line → Type 0
 TellsNoRule (Noted now name note) = NotesNoRule note
 TellsNoRule _ = Unit {0}
+
+-- Error reports and echoes.
+
+-- a unit was made by the system of a place
+pub record IsMadeAt (w : World) (place : ℕ) (system : SystemState) (u : unit.Unit) : Type 0 where
+  pub made : Contains w.units u
+  pub maker : u.maker ≡ DeclaredAt place
+  pub there : slice_get w.systems place ≡ Some system
+
+-- octets are the header of the PDU of a packet of a unit that the system with a name made
+pub record IsHeaderOfOwn (w : World) (name octets : List ℕ) : Type 0 where
+  pub place : ℕ
+  pub system : SystemState
+  pub packet : Packet
+  pub made : IsMadeAt w place system packet.unit
+  pub named : system.configuration.name ≡ name
+  pub range : IsRangeOf w.units packet
+  pub header : octets ≡ header_of (wire packet)
+
+-- a line says that the system with a name made an echo request of this number, from one address to another
+abbrev pub SaysRequested : (name : List ℕ) (number : ℕ) (from to : List ℕ) → Line → Type 0
+SaysRequested name number from to (Noted now maker (Sent Erq made id source destination len)) =
+    (maker ≡ name) × (made ≡ number) × (source ≡ from) × (destination ≡ to)
+SaysRequested name number from to _ = ⊥
+
+-- a line doesn't say that the system with a name was restarted
+abbrev pub SaysNoRestart : (name : List ℕ) → Line → Type 0
+SaysNoRestart name (Noted now restarted Restart) = restarted ≢ name
+SaysNoRestart name _ = Unit {0}
+
+-- one of the entries made such a request, and the system was not restarted in those after it
+abbrev pub RequestedSinceRestart : List Entry → (name : List ℕ) (number : ℕ) (from to : List ℕ) → Type 0
+RequestedSinceRestart [] name number from to = ⊥
+RequestedSinceRestart (entry ∷ later) name number from to =
+    (((line : Line) × Contains entry.lines line × SaysRequested name number from to line)
+    × AllByRecursion (λ (other : Entry). AllByRecursion (SaysNoRestart name) other.lines) later)
+    ⊎ RequestedSinceRestart later name number from to
+
+-- An echo reply from one address to another came for the request of a number that the system with a name made: the request was
+-- made since its last restart, with the two addresses exchanged; the reply is a unit that an owner of its source made, and its
+-- data answer the request (RFC 1575).
+pub record IsAnswered (w : World) (past : List Entry) (name from to : List ℕ) (number : ℕ) : Type 0 where
+  pub since : RequestedSinceRestart past name number to from
+  pub place : ℕ
+  pub system : SystemState
+  pub request : unit.Unit
+  pub requested : IsMadeAt w place system request
+  pub named : system.configuration.name ≡ name
+  pub request_kind : request.kind ≡ Erq
+  pub request_number : request.number ≡ number
+  pub request_source : request.source ≡ to
+  pub request_destination : request.destination ≡ from
+  pub owner_place : ℕ
+  pub owner : SystemState
+  pub reply : unit.Unit
+  pub replied : IsMadeAt w owner_place owner reply
+  pub owns : is_own owner from ≡ true
+  pub reply_kind : reply.kind ≡ Erp
+  pub reply_source : reply.source ≡ from
+  pub reply_destination : reply.destination ≡ to
+  pub answers : Echoes request.octets reply.octets
+
+-- what a line says of error reports and echo replies that came to a system is founded on what the system made
+abbrev pub IsFounded : World → List Entry → Line → Type 0
+IsFounded w past (Noted now name (Report from to reason place octets)) = IsHeaderOfOwn w name octets
+IsFounded w past (Noted now name (Echoed from to number)) = IsAnswered w past name from to number
+IsFounded w past _ = Unit {0}
+
+-- so is each line of some moves
+abbrev pub EachIsFounded : Plan → World → List Entry → List Move → Type 0
+EachIsFounded plan w past [] = Unit {0}
+EachIsFounded plan w past (move ∷ moves) =
+    AllByRecursion (IsFounded w past) (after plan w move).lines
+    × EachIsFounded plan (after plan w move).world (past ++ record { move = move; lines = (after plan w move).lines } ∷ []) moves

@@ -1,6 +1,8 @@
 -- What a scenario says of one system, and how long things last in a network.
-use Rattle.std.specs.Prelude.{◌≡◌, ◌≢◌, ℕ, ◌+◌, ◌≤◌, List, length, AllPairs}
+use Rattle.std.specs.Prelude.{◌≡◌, ◌≢◌, ℕ, ◌+◌, ◌<◌, ◌≤◌, List, [], length, AllPairs}
 use Rattle.std.specs.List.{AllByRecursion}
+use Rattle.forwarding.specs.declared.route.Route.{Route}
+use Rattle.forwarding.specs.Distinct as prefixes
 use Rattle.clnp_plan.specs.declared.config.Limits.{Limits}
 use Rattle.clnp_plan.specs.declared.config.Role.{Role}
 use Rattle.clnp_plan.specs.declared.config.Role.TheVariants.{Host, Router}
@@ -13,6 +15,8 @@ pub record SystemConfiguration : Type 0 where
   -- the first is the system's title
   pub addresses : List (List ℕ)
   pub ports : List PortConfig
+  -- where a router sends what is for no neighbour of its own
+  pub routes : List Route
   pub settings : Settings
 
 -- a number within its range
@@ -29,6 +33,11 @@ HasItsAddresses Router addresses = length addresses ≡ 1
 abbrev pub HasItsPorts : Role → List PortConfig → Type 0
 HasItsPorts Host ports = length ports ≡ 1
 HasItsPorts Router ports = IsWithin 1 8 (length ports)
+
+-- A host has no routes, a router has at most 256.
+abbrev pub HasItsRoutes : Role → List Route → Type 0
+HasItsRoutes Host routes = routes ≡ []
+HasItsRoutes Router routes = length routes ≤ 256
 
 pub record IsPort (port : PortConfig) : Type 0 where
   pub transit : IsWithin 1 255 port.transit
@@ -56,6 +65,10 @@ pub record IsSystem (system : SystemConfiguration) : Type 0 where
   pub distinct : AreDistinct system.addresses
   pub ports : HasItsPorts system.role system.ports
   pub each_port : AllByRecursion IsPort system.ports
+  pub routes : HasItsRoutes system.role system.routes
+  pub distinct_routes : prefixes.AreDistinct system.routes
+  -- a route leads out of one of the ports
+  pub each_route : AllByRecursion (λ (route : Route). route.port < length system.ports) system.routes
   pub settings : AreSettings system.settings
 
 -- An identifier rests until no segment of the unit that had it can be on its way or in a buffer (ISO 8473, section 6.8).

@@ -13,7 +13,7 @@ use Rattle.esis_tables.specs.declared.fact.Heard.TheVariants as heard
 use Rattle.esis_tables.specs.declared.fact.TableKind.{TableKind}
 use Rattle.esis_tables.specs.declared.fact.TableKind.TheVariants as table
 use Rattle.clnp_plan.specs.declared.note.Note.{Note}
-use Rattle.clnp_plan.specs.declared.note.Note.TheVariants.{Sent, Refused, Got, Discard, Held, Repeat, Crowded, Many, NoSlot, Interference, Expired, NotMine, Alien, BadEsis, Hear, Gone, Ignored, Restart}
+use Rattle.clnp_plan.specs.declared.note.Note.TheVariants.{Sent, Refused, Got, Report, Echoed, Stray, Discard, Held, Repeat, Crowded, Many, NoSlot, Interference, Expired, NotMine, Alien, BadEsis, Hear, Gone, Ignored, Restart}
 use Rattle.clnp_plan.specs.declared.note.Why.{Why}
 use Rattle.clnp_plan.specs.declared.note.Why.TheVariants as why
 
@@ -85,6 +85,10 @@ note_words (Sent kind unit id from to len) =
     codes "sent" ∷ kind_word kind ∷ decimal unit ∷ identifier_word id ∷ hex_text from ∷ hex_text to ∷ decimal len ∷ []
 note_words (Refused why value) = codes "refused" ∷ why_word why ∷ decimal value ∷ []
 note_words (Got from to octets) = codes "got" ∷ hex_text from ∷ hex_text to ∷ octets_word octets ∷ []
+note_words (Report from to reason place octets) =
+    codes "report" ∷ hex_text from ∷ hex_text to ∷ octet_word reason ∷ octet_word place ∷ octets_word octets ∷ []
+note_words (Echoed from to unit) = codes "echoed" ∷ hex_text from ∷ hex_text to ∷ decimal unit ∷ []
+note_words (Stray from to) = codes "stray" ∷ hex_text from ∷ hex_text to ∷ []
 note_words (Discard reason place) = codes "drop" ∷ octet_word reason ∷ octet_word place ∷ []
 note_words (Held id offset held) = codes "held" ∷ hex_text (pair_of id) ∷ decimal offset ∷ decimal held ∷ []
 note_words (Repeat id offset) = codes "repeat" ∷ hex_text (pair_of id) ∷ decimal offset ∷ []

@@ -3,6 +3,7 @@ ghost use Rattle.std.specs.Prelude.{◌≡◌, IfOk};
 ghost use Rattle.clnp_plan.specs.Configuration.{HasItsPorts, IsSystem};
 
 use clnp_base::NoMemory;
+use forwarding::Route;
 use nsap::{Address, Snpa};
 use std::alloc::Global;
 use std::marker::Model;
@@ -66,13 +67,14 @@ pub struct Settings {
 }
 
 /// What a scenario says of one system: its name, whether it is a host or a router, its addresses,
-/// of which the first is its title, its ports and its settings.
+/// of which the first is its title, its ports, its routes and its settings.
 #[derive(Debug, Drop)]
 pub struct SystemConfig {
     name: Vec<u8>,
     role: Role,
     addresses: Vec<Address>,
     ports: Vec<PortConfig>,
+    routes: Vec<Route>,
     settings: Settings,
 }
 
@@ -86,6 +88,7 @@ impl Model for SystemConfig {
       role = c.role;
       addresses = c.addresses.items;
       ports = c.ports.items;
+      routes = c.routes.items;
       settings = c.settings;
     } };
 
@@ -94,17 +97,19 @@ impl Model for SystemConfig {
       role = c.role;
       addresses = c.addresses.items;
       ports = c.ports.items;
+      routes = c.routes.items;
       settings = c.settings;
     }) };
 }
 
 impl SystemConfig {
-    /// A system of this name and role, with these addresses, ports and settings.
+    /// A system of this name and role, with these addresses, ports, routes and settings.
     pub fn new(
         name: Vec<u8>,
         role: Role,
         addresses: Vec<Address>,
         ports: Vec<PortConfig>,
+        routes: Vec<Route>,
         settings: Settings,
     ) -> SystemConfig
         requires { IsSystem (record {
@@ -112,6 +117,7 @@ impl SystemConfig {
           role = role;
           addresses = addresses.items;
           ports = ports.items;
+          routes = routes.items;
           settings = settings;
         }) }
         ensures { result ≡ record {
@@ -119,6 +125,7 @@ impl SystemConfig {
           role = role;
           addresses = addresses.items;
           ports = ports.items;
+          routes = routes.items;
           settings = settings;
         } }
     {
@@ -127,6 +134,7 @@ impl SystemConfig {
             role,
             addresses,
             ports,
+            routes,
             settings,
         }
     }
@@ -159,6 +167,13 @@ impl SystemConfig {
         self.ports.as_slice()
     }
 
+    /// The routes, no two of one prefix; a host has none.
+    pub fn routes(&self) -> &[Route]
+        ensures { result.now ≡ self.now.routes }
+    {
+        self.routes.as_slice()
+    }
+
     /// The settings.
     pub fn settings(&self) -> &Settings
         ensures { result.now ≡ self.now.settings }
@@ -185,11 +200,13 @@ impl SystemConfig {
         let name = Vec::from_slice(alloc, &self.name).map_err(|_| NoMemory)?;
         let addresses = Vec::from_slice(alloc, &self.addresses).map_err(|_| NoMemory)?;
         let ports = Vec::from_slice(alloc, &self.ports).map_err(|_| NoMemory)?;
+        let routes = Vec::from_slice(alloc, &self.routes).map_err(|_| NoMemory)?;
         Ok(SystemConfig {
             name,
             role: self.role,
             addresses,
             ports,
+            routes,
             settings: self.settings,
         })
     }

@@ -85,6 +85,43 @@ pub fn journal_text<'a>(
             ];
             push_line(first, &words, out)
         }
+        Note::Report {
+            from,
+            to,
+            reason,
+            place,
+            octets,
+        } => {
+            let words = [
+                name,
+                Word::Text(b"report"),
+                address_word(from),
+                address_word(to),
+                Word::Octet(*reason),
+                Word::Octet(*place),
+                octets_word(octets.as_bytes()),
+            ];
+            push_line(first, &words, out)
+        }
+        Note::Echoed { from, to, unit } => {
+            let words = [
+                name,
+                Word::Text(b"echoed"),
+                address_word(from),
+                address_word(to),
+                Word::Number(*unit),
+            ];
+            push_line(first, &words, out)
+        }
+        Note::Stray { from, to } => {
+            let words = [
+                name,
+                Word::Text(b"stray"),
+                address_word(from),
+                address_word(to),
+            ];
+            push_line(first, &words, out)
+        }
         Note::Discard { reason, place } => {
             let words = [
                 name,

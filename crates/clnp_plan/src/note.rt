@@ -40,6 +40,25 @@ pub enum Note {
         to: Address,
         octets: Octets,
     },
+    /// An error report was handed up, with the reason and the place that it tells, and its data (ISO 8473, section 7.9).
+    Report {
+        from: Address,
+        to: Address,
+        reason: u8,
+        place: u8,
+        octets: Octets,
+    },
+    /// An echo reply came for the system's own request of this number (RFC 1575).
+    Echoed {
+        from: Address,
+        to: Address,
+        unit: u64,
+    },
+    /// An echo reply came for no request.
+    Stray {
+        from: Address,
+        to: Address,
+    },
     /// A PDU was discarded (reasons by ISO 8473, section 7.9.5), with the place in its header.
     Discard {
         reason: u8,

@@ -2,38 +2,48 @@
 use Rattle.clnp_base.proofs.Filters.{AllByRecursion-filter}
 use Rattle.clnp_base.proofs.Lists.{AllByRecursion-both, AllByRecursion-find, AllByRecursion-implies}
 use Rattle.clnp_base.proofs.Sums.{sum_filter}
-use Rattle.std.proofs.Common.{◌≡◌, ◌∙◌, sym, ap, subst, refl, ℕ, ◌+◌, ◌<◌, ◌≤◌, inl, inr, Bool, true, false, not, List, [], length, Option, None, Some, arith}
-use Rattle.std.specs.Prelude.{◌==◌, ◌&&◌, ◌||◌, is_none}
-use Rattle.std.specs.List.{AllByRecursion}
+use Rattle.std.proofs.Common.{◌≡◌, ◌∙◌, sym, ap, subst, refl, ℕ, ◌+◌, ◌<◌, ◌≤◌, inl, inr, Bool, true, false, not, List, [], ◌∷◌, length, map, slice_get, Option, None, Some, arith}
+use Rattle.std.specs.Prelude.{◌==◌, ◌&&◌, ◌||◌, is_none, nat_le}
+use Rattle.std.specs.List.{AllByRecursion, find}
 use Rattle.std.proofs.lemmas.Bool.{cases_Bool, eqb-false, true≢false}
+use Rattle.std.proofs.lemmas.List.{append-nil}
+use Rattle.clnp_options.specs.Parameter.{Parameter}
+use Rattle.clnp_options.specs.Reasons.{reason_code}
+use Rattle.clnp_options.specs.declared.reasons.Reason.TheVariants.{Congestion}
+use Rattle.pdu_header.specs.declared.kind.Kind.{Kind}
+use Rattle.pdu_header.specs.declared.kind.Kind.TheVariants.{Dt, Er, Erq, Erp}
+use Rattle.clnp_plan.specs.declared.note.Note.{Note}
 use Rattle.clnp_plan.specs.declared.note.Note.TheVariants as note
 use Rattle.scenario.specs.Scenario.{IsFit, Plan}
 use Rattle.reassembly.specs.Arrival.{data_len, same_key}
 use Rattle.reassembly.specs.Buffer as buffer
 use Rattle.reassembly.specs.Buffer.{Answer, Buffer, buffer_of, held, is_whole, size_of, with_kept, without}
 use Rattle.reassembly.proofs.Shared.{made_whole, none_whole-after}
-use Rattle.reassembly.proofs.Shared.{same_key-true}
 use Rattle.clnp_machine.specs.Unit as unit
-use Rattle.clnp_machine.specs.Unit.{Packet, value_of}
-use Rattle.clnp_machine.specs.Content.{Content, Labelled, Esis, Unlabelled}
+use Rattle.clnp_machine.specs.Unit.{IsCarriable, Packet, cut, value_of}
+use Rattle.clnp_machine.specs.Content.{Content, IsCarried, Labelled, Esis, Unlabelled}
 use Rattle.esis_tables.specs.declared.fact.Place.{Place}
 use Rattle.clnp_machine.specs.Esis.{esis_comes}
-use Rattle.clnp_machine.specs.System.{SystemState, table_limits}
-use Rattle.clnp_machine.specs.Local.{Deed, data_in, is_all, is_own, octet_of, offer, offered, receive, takes_in}
-use Rattle.clnp_machine.specs.Step.{content_comes, effect_of, packet_comes, passes_by, responds}
-use Rattle.clnp_machine.specs.Steps.{IsRangeOf}
-use Rattle.clnp_machine.specs.Told.{TellsNoInterference, TellsOnly}
+use Rattle.clnp_machine.specs.System.{SystemState, Effect, Transmits, table_limits}
+use Rattle.clnp_machine.specs.Local.{Deed, and_then, data_in, discard, echo_ask, hand_up, is_all, is_answer, is_own, octet_of, offer, offered, receive, takes_in, takes_reply, tells}
+use Rattle.clnp_machine.specs.Step.{Hop, content_comes, discards, forwarded, goes_on, goes_on_by, loss_at, next_hop, packet_comes, passes_by, pieces_go_on, responds}
+use Rattle.clnp_machine.specs.Steps.{IsRangeOf, NotesOnly}
+use Rattle.clnp_machine.specs.Told.{TellsNoInterference}
+use Rattle.clnp_plan.specs.declared.config.PortConfig.{PortConfig}
 use Rattle.clnp_plan.specs.declared.config.Role.{Role}
 use Rattle.clnp_plan.specs.declared.config.Role.TheVariants.{Host, Router}
-use Rattle.clnp_network.specs.Safe.{WasSent}
+use Rattle.clnp_network.specs.World.{World}
 use Rattle.clnp_network.specs.Run.{Entry}
-use Rattle.clnp_safety.specs.Invariant.{BufferIsSound, Carries, IsBornWithUnit, NoteIsHonest, SystemIsSound, UnitsAreSound}
+use Rattle.clnp_safety.specs.Growth.{IsFront}
+use Rattle.clnp_safety.specs.Invariant.{BufferIsSound, Carries, IsBornWithUnit, IsMadeOn, IsPending, SystemIsSound, UnitsAreSound, WorldIsSound}
 use Rattle.clnp_safety.specs.StepLaws.{StepLaws}
-use Rattle.clnp_safety.proofs.Lines.{sent_alike}
-use Rattle.clnp_safety.proofs.BufferOffers.{IsLive, clashes_with_none, stay_live, unit_sound}
-use Rattle.clnp_safety.proofs.Hellos.{EffectIsSound, deed_is_sound, hellos_are_sound, then_is_sound}
+use Rattle.clnp_safety.proofs.BufferOffers.{IsLive, clashes_with_none, stay_live, unit_in, unit_sound}
+use Rattle.clnp_safety.proofs.Deeds.{DeedIsSound, IsHonest, MayDo, discards_soundly, like_is_sound, make_soundly, tells_soundly, told_and_done}
+use Rattle.clnp_safety.proofs.Founded.{reply_is_founded, report_is_founded}
+use Rattle.clnp_safety.proofs.Hellos.{EffectIsSound, deed_is_sound, hellos_are_sound, then_hellos}
 use Rattle.clnp_safety.proofs.Kept.{all_after, find_passes, others_with_kept}
 use Rattle.clnp_safety.proofs.Joining.{joined_is_unit, whole_is_unit}
+use Rattle.clnp_safety.proofs.Units.{packet_later}
 
 -- a packet that comes at a moment is of a unit that isn't older
 abbrev pub ComesYoung : (age now : ℕ) → Content → Type 0
@@ -47,20 +57,33 @@ comes_young age now birth (Labelled packet following) born young = subst (λ mom
 comes_young age now birth (Esis value following) born young = tt
 comes_young age now birth (Unlabelled octets) born young = tt
 
-module _ (laws : StepLaws) (plan : Plan) (past : List Entry) (units : List unit.Unit) (now place : ℕ) where
-  -- what a deed leaves is sound, and what it tells is honest
-  abbrev pub DeedIsSound : Deed → Type 0
-  DeedIsSound deed = SystemIsSound plan units now place deed.after × AllByRecursion (TellsOnly (NoteIsHonest plan past)) deed.actions
+pub later_range : (before units : List unit.Unit) (p : Packet) → IsFront before units → IsRangeOf before p → IsRangeOf units p
+later_range before units p front h = subst (λ us. IsRangeOf us p) (sym front.1) (packet_later before front.0 p h)
 
-  pub live_buffers : (s : SystemState) → SystemIsSound plan units now place s → AllByRecursion (IsLive plan units now) s.buffers
-  live_buffers s sound =
-      AllByRecursion-both (BufferIsSound plan units) (λ (b : Buffer Packet). now < b.deadline) (IsLive plan units now) (λ b h k. record { sound = h; lasts = k })
+-- a network that is sound before a move, and the units so far
+module _ (laws : StepLaws) (plan : Plan) (fit : IsFit plan) (past : List Entry) (w : World) (h : WorldIsSound plan past w) (units : List unit.Unit)
+    (front : IsFront w.units units) (made : UnitsAreSound plan past w.clock units) (place : ℕ) (s : SystemState)
+    (sound : SystemIsSound plan units w.clock place s) (pending : AllByRecursion (IsPending past w.units place s.configuration.name) s.pending) where
+  -- what a deed leaves is sound, and what it tells is honest
+  abbrev Does : Deed → Type 0
+  Does = DeedIsSound plan past w s.configuration.name units w.clock place
+
+  -- and so is an effect
+  abbrev Gives : Effect → Type 0
+  Gives = EffectIsSound plan past w s.configuration.name units w.clock place
+
+  may : MayDo plan units w.clock place s
+  may = record { sound = sound; rest = made.rest }
+
+  live_buffers : AllByRecursion (IsLive plan units w.clock) s.buffers
+  live_buffers =
+      AllByRecursion-both (BufferIsSound plan units) (λ (b : Buffer Packet). w.clock < b.deadline) (IsLive plan units w.clock) (λ b h k. record { sound = h; lasts = k })
       s.buffers sound.buffers sound.not_due
 
-  pub with_buffers : (s : SystemState) (buffers : List (Buffer Packet)) → SystemIsSound plan units now place s → AllByRecursion (IsLive plan units now) buffers
+  with_buffers : (buffers : List (Buffer Packet)) → AllByRecursion (IsLive plan units w.clock) buffers
       → AllByRecursion (λ b. is_whole b ≡ false) buffers → held buffers ≤ s.configuration.settings.budget
-      → SystemIsSound plan units now place (record s { buffers = buffers })
-  with_buffers s buffers sound live not_whole within = record {
+      → SystemIsSound plan units w.clock place (record s { buffers = buffers })
+  with_buffers buffers live not_whole within = record {
     stands_at = sound.stands_at;
     declared = sound.declared;
     hold = sound.hold;
@@ -68,121 +91,212 @@ module _ (laws : StepLaws) (plan : Plan) (past : List Entry) (units : List unit.
     reuse = sound.reuse;
     uses = sound.uses;
     used = sound.used;
-    buffers = AllByRecursion-implies (IsLive plan units now) (BufferIsSound plan units) (λ b h. h.sound) buffers live;
-    not_due = AllByRecursion-implies (IsLive plan units now) (λ (b : Buffer Packet). now < b.deadline) (λ b h. h.lasts) buffers live;
+    buffers = AllByRecursion-implies (IsLive plan units w.clock) (BufferIsSound plan units) (λ b h. h.sound) buffers live;
+    not_due = AllByRecursion-implies (IsLive plan units w.clock) (λ (b : Buffer Packet). w.clock < b.deadline) (λ b h. h.lasts) buffers live;
     not_whole = not_whole;
     budget = within;
   }
 
-  module _ (fit : IsFit plan) (made : UnitsAreSound plan past now units) (s : SystemState) (sound : SystemIsSound plan units now place s)
-      (p : Packet) (packet : IsRangeOf units p) (young : now ≤ p.unit.made + plan.limits.age) (alive : 1 ≤ p.lifetime) where
-    module _ (identifier : ℕ) (identified : p.unit.identifier ≡ Some identifier) where
-      abbrev kept : List (Buffer Packet)
-      kept = buffer.after (table_limits s) s.moment (offered p []) s.buffers
+  module _ (p : Packet) (range : IsRangeOf w.units p) (carriable : IsCarriable p) where
+    packet : IsRangeOf units p
+    packet = later_range w.units units p front range
 
-      kept_live : AllByRecursion (IsLive plan units now) kept
-      kept_live =
-          all_after laws (table_limits s) s.moment (offered p []) (IsLive plan units now)
-          (stay_live plan fit past now units made p packet young identifier identified (table_limits s) sound.hold s.moment sound.moment alive)
-          s.buffers (live_buffers s sound)
+    discards_it : (t : SystemState) (reason : ℕ) → MayDo plan units w.clock place t → Does (discard t (Labelled p []) reason 0)
+    discards_it t reason may = discards_soundly plan past w s.configuration.name units w.clock place laws t (Labelled p []) reason 0 may
 
-      kept_within : held kept ≤ s.configuration.settings.budget
-      kept_within = laws.segments.within (table_limits s) s.moment (offered p []) s.buffers sound.budget
+    -- The data of its unit are handed up, once they are whole.
+    module _ (own : is_own s p.unit.destination ≡ true) (buffers : List (Buffer Packet))
+        (left : SystemIsSound plan units w.clock place (record s { buffers = buffers })) (options : List Parameter) where
+      -- the system as it is then
+      abbrev then : SystemState
+      then = record s { buffers = buffers }
 
-      is_held : buffer.answer (table_limits s) s.moment (offered p []) s.buffers ≡ buffer.Held
-          → DeedIsSound (takes_in s (Labelled p []) (offered p []) kept buffer.Held)
-      is_held told = (
-        with_buffers s kept sound kept_live
-            (none_whole-after (table_limits s) s.moment (offered p []) s.buffers sound.not_whole (λ whole. absurd (let e : buffer.Held ≡ buffer.Whole = sym told ∙ whole in cc)))
-            kept_within,
-        (tt, tt),
-      )
+      may_then : MayDo plan units w.clock place then
+      may_then = record { sound = left; rest = made.rest }
 
-      got_is_sound : (joined : Buffer Packet) → IsLive plan units now joined → same_key joined.key (offered p []).key ≡ true → is_whole joined ≡ true
-          → NoteIsHonest plan past (note.Got (offered p []).key.from (offered p []).key.to (buffer.data_of octet_of joined))
-      got_is_sound joined live same whole =
-          let u = live.sound.unit in
-          let it = unit_sound plan past now units u made live.sound.made in
-          let keys = sym live.sound.key ∙ same_key-true joined.key (offered p []).key same in
-          let len : data_len joined.shape ≡ length u.octets = ap data_len live.sound.shape ∙ (let total = it.total in omega arith) in
-          sent_alike plan past u.source u.destination u.octets (offered p []).key.from (offered p []).key.to (buffer.data_of octet_of joined)
-          (ap (λ key. key.from) keys) (ap (λ key. key.to) keys) (sym (joined_is_unit units u it.first_position joined live.sound.kept len whole)) it.sent
+      takes_soundly : p.unit.kind ≡ Erp → (found : Option unit.Unit)
+          → ((request : unit.Unit) → found ≡ Some request
+          → IsPending past w.units place s.configuration.name request × (is_answer p.unit.source p.unit.destination p.unit.octets request ≡ true))
+          → Does (takes_reply then p.unit.source p.unit.destination p.unit.octets found)
+      takes_soundly erp None is = tells_soundly plan past w s.configuration.name units w.clock place then (note.Stray p.unit.source p.unit.destination) may_then tt
+      takes_soundly erp (Some request) is =
+          let taken = takes_reply then p.unit.source p.unit.destination p.unit.octets (Some request) in
+          let it = is request refl in
+          tells_soundly plan past w s.configuration.name units w.clock place taken.after (note.Echoed p.unit.source p.unit.destination request.number)
+          (record {
+            sound = like_is_sound plan units w.clock place then taken.after
+                (record { place = refl; configuration = refl; hold = refl; moment = refl; identifiers = refl; buffers = refl }) left;
+            rest = made.rest;
+          })
+          (reply_is_founded laws plan fit past w h p.unit range.unit place s sound.declared request it.0 erp it.1)
 
-      is_joined : buffer.answer (table_limits s) s.moment (offered p []) s.buffers ≡ buffer.Whole
-          → DeedIsSound (takes_in s (Labelled p []) (offered p []) kept buffer.Whole)
-      is_joined told =
-          let whole = made_whole (table_limits s) s.moment (offered p []) s.buffers told in
-          let key = (offered p []).key in
-          let has_key : Buffer Packet → Bool = λ b. same_key b.key key in
-          let live = AllByRecursion-find (IsLive plan units now) has_key kept whole.buffer whole.found kept_live in (
-            with_buffers s (without key kept) sound
-                (AllByRecursion-filter (λ b. not (same_key b.key key)) (IsLive plan units now) (IsLive plan units now) (λ b t h. h) kept kept_live)
-                (subst (λ l. AllByRecursion (λ (b : Buffer Packet). is_whole b ≡ false) (without key l)) (sym whole.after_is)
-                (others_with_kept laws (table_limits s) s.moment (offered p []) (λ (b : Buffer Packet). is_whole b ≡ false) s.buffers sound.not_whole))
-                (let less = sum_filter size_of (λ (b : Buffer Packet). not (same_key b.key key)) kept in let within = kept_within in omega arith),
-            (
-              subst (λ found. NoteIsHonest plan past (note.Got key.from key.to (data_in found))) (sym whole.found)
-                  (got_is_sound whole.buffer live (find_passes has_key kept whole.buffer whole.found) whole.whole),
-              tt,
-            ),
-          )
+      hands_up : (kind : Kind) → p.unit.kind ≡ kind → Does (hand_up then kind p.unit.source p.unit.destination p.unit.octets options)
+      hands_up Dt is =
+          let it = unit_sound plan past w.clock w.units p.unit h.made range.unit in
+          tells_soundly plan past w s.configuration.name units w.clock place then (note.Got p.unit.source p.unit.destination p.unit.octets) may_then
+          (subst (λ kind. IsMadeOn plan past w.units kind p.unit) is it.founded)
+      hands_up Er is =
+          tells_soundly plan past w s.configuration.name units w.clock place then _ may_then
+          (report_is_founded laws plan fit past w h p.unit range.unit place s sound.declared is own)
+      hands_up Erq is =
+          make_soundly plan past w s.configuration.name units w.clock place laws then Erp p.unit.destination p.unit.source p.unit.octets
+          (echo_ask then p.unit.destination p.unit.source (length p.unit.octets) false) may_then
+          (λ erp. subst (λ kind. IsMadeOn plan past w.units kind p.unit) is (unit_sound plan past w.clock w.units p.unit h.made range.unit).founded)
+      hands_up Erp is =
+          let answers = is_answer p.unit.source p.unit.destination p.unit.octets in
+          takes_soundly is (find answers s.pending)
+          (λ request found. (
+            AllByRecursion-find (IsPending past w.units place s.configuration.name) answers s.pending request found pending,
+            find_passes answers s.pending request found,
+          ))
 
-      taken : (told : Answer) → buffer.answer (table_limits s) s.moment (offered p []) s.buffers ≡ told
-          → DeedIsSound (takes_in s (Labelled p []) (offered p []) kept told)
-      taken buffer.Held told = is_held told
-      taken buffer.Whole told = is_joined told
-      taken (buffer.Interference there other) told =
-          absurd (subst TellsNoInterference told (laws.segments.apart (table_limits s) s.moment (offered p []) s.buffers
-          (clashes_with_none plan fit past now units made p packet young identifier identified s.buffers (live_buffers s sound))))
-      taken buffer.Repeat told = (sound, (tt, tt))
-      taken (buffer.NoSlot live) told = (sound, (tt, (tt, tt)))
-      taken (buffer.Crowded held size) told = (sound, (tt, (tt, tt)))
-      taken (buffer.Many segments) told = (sound, (tt, (tt, tt)))
+      -- octets that are its unit's are handed up
+      pub hands_up_octets : (octets : List ℕ) → octets ≡ p.unit.octets → Does (hand_up then p.unit.kind p.unit.source p.unit.destination octets options)
+      hands_up_octets octets same =
+          subst (λ whole. Does (hand_up then p.unit.kind p.unit.source p.unit.destination whole options)) (sym same) (hands_up p.unit.kind refl)
 
-    offer_is_sound : (identifier : Option ℕ) → p.unit.identifier ≡ identifier → is_all p ≡ false → DeedIsSound (offer s (Labelled p []) (offered p []))
-    offer_is_sound None is part =
-        absurd (true≢false (sym (ap (λ i. is_none i || ((p.offset == 0) && not (value_of p).more)) is) ∙ part))
-    offer_is_sound (Some identifier) is part =
-        taken identifier is (buffer.answer (table_limits s) s.moment (offered p []) s.buffers) refl
+    module _ (young : w.clock ≤ p.unit.made + plan.limits.age) (alive : 1 ≤ p.lifetime) (own : is_own s p.unit.destination ≡ true) where
+      module _ (identifier : ℕ) (identified : p.unit.identifier ≡ Some identifier) where
+        abbrev kept : List (Buffer Packet)
+        kept = buffer.after (table_limits s) s.moment (offered p []) s.buffers
 
-    receive_is_sound : DeedIsSound (receive s p [])
-    receive_is_sound =
-        let it = unit_sound plan past now units p.unit made packet.unit in
-        elim (cases_Bool (is_all p)) [
-          | inl all ↦ (
-              let sent : WasSent plan past p.unit.source p.unit.destination (value_of p).body =
-              sent_alike plan past p.unit.source p.unit.destination p.unit.octets p.unit.source p.unit.destination (value_of p).body refl refl
-              (sym (whole_is_unit units p packet it.first_position it.total all)) it.sent in
-              rw all (sound, (sent, tt)))
-          | inr part ↦ rw part (offer_is_sound p.unit.identifier refl part)
+        kept_live : AllByRecursion (IsLive plan units w.clock) kept
+        kept_live =
+            all_after laws (table_limits s) s.moment (offered p []) (IsLive plan units w.clock)
+            (stay_live plan fit past w.clock units made p packet carriable young identifier identified (table_limits s) sound.hold s.moment sound.moment alive)
+            s.buffers live_buffers
+
+        kept_within : held kept ≤ s.configuration.settings.budget
+        kept_within = laws.segments.within (table_limits s) s.moment (offered p []) s.buffers sound.budget
+
+        is_held : buffer.answer (table_limits s) s.moment (offered p []) s.buffers ≡ buffer.Held
+            → Does (takes_in s (Labelled p []) (offered p []) kept buffer.Held)
+        is_held told =
+            tells_soundly plan past w s.configuration.name units w.clock place (record s { buffers = kept }) _
+            (record {
+              sound = with_buffers kept kept_live
+                  (none_whole-after (table_limits s) s.moment (offered p []) s.buffers sound.not_whole (λ whole. absurd (let e : buffer.Held ≡ buffer.Whole = sym told ∙ whole in cc)))
+                  kept_within;
+              rest = made.rest;
+            })
+            tt
+
+        joined_data : (joined : Buffer Packet) → IsLive plan units w.clock joined → same_key joined.key (offered p []).key ≡ true → is_whole joined ≡ true
+            → buffer.data_of octet_of joined ≡ p.unit.octets
+        joined_data joined live same whole =
+            let u = live.sound.unit in
+            let it = unit_sound plan past w.clock units u made live.sound.made in
+            let len : data_len joined.shape ≡ length u.octets = ap data_len live.sound.shape ∙ (let total = it.total in omega arith) in
+            joined_is_unit units u it.first_position joined live.sound.kept len whole
+            ∙ ap (λ (v : unit.Unit). v.octets) (unit_in plan fit past w.clock units made p packet carriable young identifier identified joined live same)
+
+        is_joined : buffer.answer (table_limits s) s.moment (offered p []) s.buffers ≡ buffer.Whole
+            → Does (takes_in s (Labelled p []) (offered p []) kept buffer.Whole)
+        is_joined told =
+            let whole = made_whole (table_limits s) s.moment (offered p []) s.buffers told in
+            let key = (offered p []).key in
+            let has_key : Buffer Packet → Bool = λ b. same_key b.key key in
+            let live = AllByRecursion-find (IsLive plan units w.clock) has_key kept whole.buffer whole.found kept_live in
+            hands_up_octets own (without key kept)
+            (with_buffers (without key kept)
+            (AllByRecursion-filter (λ b. not (same_key b.key key)) (IsLive plan units w.clock) (IsLive plan units w.clock) (λ b t h. h) kept kept_live)
+            (subst (λ l. AllByRecursion (λ (b : Buffer Packet). is_whole b ≡ false) (without key l)) (sym whole.after_is)
+            (others_with_kept laws (table_limits s) s.moment (offered p []) (λ (b : Buffer Packet). is_whole b ≡ false) s.buffers sound.not_whole))
+            (let less = sum_filter size_of (λ (b : Buffer Packet). not (same_key b.key key)) kept in let within = kept_within in omega arith))
+            p.options (data_in (buffer_of key kept))
+            (ap data_in whole.found ∙ joined_data whole.buffer live (find_passes has_key kept whole.buffer whole.found) whole.whole)
+
+        -- something is told, and the segment is discarded
+        tells_and_discards : (told : Note) (reason : ℕ) → IsHonest plan past w s.configuration.name told
+            → Does (and_then (tells s told) (λ t. discard t (Labelled p []) reason 0))
+        tells_and_discards told reason honest =
+            told_and_done plan past w s.configuration.name units w.clock place s told (λ t. discard t (Labelled p []) reason 0) honest (discards_it s reason may)
+
+        taken : (told : Answer) → buffer.answer (table_limits s) s.moment (offered p []) s.buffers ≡ told
+            → Does (takes_in s (Labelled p []) (offered p []) kept told)
+        taken buffer.Held told = is_held told
+        taken buffer.Whole told = is_joined told
+        taken (buffer.Interference there other) told =
+            absurd (subst TellsNoInterference told (laws.segments.apart (table_limits s) s.moment (offered p []) s.buffers
+            (clashes_with_none plan fit past w.clock units made p packet carriable young identifier identified s.buffers live_buffers)))
+        taken buffer.Repeat told = tells_soundly plan past w s.configuration.name units w.clock place s _ may tt
+        taken (buffer.NoSlot live) told = tells_and_discards (note.NoSlot live) (reason_code Congestion) tt
+        taken (buffer.Crowded held size) told = tells_and_discards (note.Crowded held size) (reason_code Congestion) tt
+        taken (buffer.Many segments) told = tells_and_discards (note.Many segments) (reason_code Congestion) tt
+
+      offer_is_sound : (identifier : Option ℕ) → p.unit.identifier ≡ identifier → is_all p ≡ false → Does (offer s (Labelled p []) (offered p []))
+      offer_is_sound None is part =
+          absurd (true≢false (sym (ap (λ i. is_none i || ((p.offset == 0) && not (value_of p).more)) is) ∙ part))
+      offer_is_sound (Some identifier) is part =
+          taken identifier is (buffer.answer (table_limits s) s.moment (offered p []) s.buffers) refl
+
+      receive_is_sound : Does (receive s p [])
+      receive_is_sound =
+          let it = unit_sound plan past w.clock units p.unit made packet.unit in
+          elim (cases_Bool (is_all p)) [
+            | inl all ↦ rw all (hands_up_octets own s.buffers sound p.options (value_of p).body (whole_is_unit units p packet it.first_position it.total all))
+            | inr part ↦ rw part (offer_is_sound p.unit.identifier refl part)
+          ]
+
+    -- A packet for another address: it is noted or discarded, or goes on, and the system stays as it is.
+
+    is_discarded : (reason : ℕ) → Gives (discards s p [] reason)
+    is_discarded reason =
+        deed_is_sound plan past w s.configuration.name units w.clock place laws (discard s (Labelled p []) reason 0) (discards_it s reason may)
+
+    pieces_note_nothing : (hop : Hop) (pieces : List Packet)
+        → AllByRecursion (NotesOnly (IsHonest plan past w s.configuration.name)) (map (λ piece. Transmits hop.port hop.target piece) pieces)
+    pieces_note_nothing hop [] = tt
+    pieces_note_nothing hop (piece ∷ pieces) = (tt, pieces_note_nothing hop pieces)
+
+    pieces_soundly : (hop : Hop) (pieces : Option (List Packet)) → Gives (pieces_go_on s p [] hop pieces)
+    pieces_soundly hop None = is_discarded _
+    pieces_soundly hop (Some pieces) = record {
+      after = subst (λ us. SystemIsSound plan us w.clock place s) (sym (append-nil units)) sound;
+      rest = (subst (λ us. MayDo plan us w.clock place s) (sym (append-nil units)) may).rest;
+      replies = tt;
+      notes = pieces_note_nothing hop pieces;
+    }
+
+    goes_on_by_soundly : (hop : Hop) (port : Option PortConfig) → Gives (goes_on_by s p [] hop port)
+    goes_on_by_soundly hop None = is_discarded _
+    goes_on_by_soundly hop (Some port) =
+        elim (cases_Bool (nat_le p.lifetime (loss_at port))) [
+          | inl over ↦ rw over (is_discarded _)
+          | inr lives ↦ rw lives (pieces_soundly hop (cut (forwarded p (loss_at port)) port.mtu))
         ]
 
-  passes_soundly : (role : Role) (s : SystemState) (p : Packet) → SystemIsSound plan units now place s → DeedIsSound (passes_by role s p [])
-  passes_soundly Host s p sound = (sound, (tt, tt))
-  passes_soundly Router s p sound = (sound, (tt, tt))
+    goes_on_soundly : (hop : Option Hop) → Gives (goes_on s p [] hop)
+    goes_on_soundly None = is_discarded _
+    goes_on_soundly (Some hop) = goes_on_by_soundly hop (slice_get s.configuration.ports hop.port)
 
-  packet_is_sound : IsFit plan → UnitsAreSound plan past now units → (s : SystemState) → SystemIsSound plan units now place s
-      → (p : Packet) → IsRangeOf units p → now ≤ p.unit.made + plan.limits.age → DeedIsSound (packet_comes s p [])
-  packet_is_sound fit made s sound p packet young =
-      elim (cases_Bool (p.lifetime == 0)) [
-        | inl over ↦ rw over (sound, (tt, tt))
-        | inr lives ↦
-            rw lives
-            (elim (cases_Bool (is_own s p.unit.destination)) [
-              | inl own ↦ rw own (receive_is_sound fit made s sound p packet young (let some = eqb-false p.lifetime 0 lives in omega arith))
-              | inr other ↦ rw other (passes_soundly s.configuration.role s p sound)
-            ])
-      ]
+    passes_soundly : (role : Role) → Gives (passes_by role s p [])
+    passes_soundly Host =
+        deed_is_sound plan past w s.configuration.name units w.clock place laws _ (tells_soundly plan past w s.configuration.name units w.clock place s (note.NotMine p.unit.destination) may tt)
+    passes_soundly Router = goes_on_soundly (next_hop s p.unit.destination)
 
-  pub arrival_is_sound : IsFit plan → (s : SystemState) (from : Place) (to_group : Bool) (content : Content) → UnitsAreSound plan past now units
-      → SystemIsSound plan units now place s → Carries (IsRangeOf units) content → ComesYoung plan.limits.age now content
-      → EffectIsSound plan past units now place (content_comes s from to_group content)
-  arrival_is_sound fit s from to_group (Labelled p following) made sound carries young =
-      let done = subst (λ rest. DeedIsSound (packet_comes s p rest)) (sym carries.1) (packet_is_sound fit made s sound p carries.0 young) in
-      let comes = effect_of (packet_comes s p following) in
-      then_is_sound plan past units now place comes (λ t. responds t from to_group p)
-      (deed_is_sound plan past units now place laws (packet_comes s p following) done.0 done.1)
-      (hellos_are_sound plan past units now place comes.after (responds comes.after from to_group p) (laws.hellos.answers comes.after from to_group p))
-  arrival_is_sound fit s from to_group (Esis value following) made sound carries young =
-      hellos_are_sound plan past units now place s (esis_comes s from value) (laws.hellos.comes s from value) sound
-  arrival_is_sound fit s from to_group (Unlabelled octets) made sound carries young = absurd carries
+    packet_is_sound : w.clock ≤ p.unit.made + plan.limits.age → Gives (packet_comes s p [])
+    packet_is_sound young =
+        elim (cases_Bool (p.lifetime == 0)) [
+          | inl over ↦ rw over (is_discarded _)
+          | inr lives ↦
+              rw lives
+              (elim (cases_Bool (is_own s p.unit.destination)) [
+                | inl own ↦
+                    rw own
+                    (deed_is_sound plan past w s.configuration.name units w.clock place laws (receive s p [])
+                    (receive_is_sound young (let some = eqb-false p.lifetime 0 lives in omega arith) own))
+                | inr other ↦ rw other (passes_soundly s.configuration.role)
+              ])
+        ]
+
+  pub arrival_is_sound : (from : Place) (to_group : Bool) (content : Content) → Carries (IsRangeOf w.units) content → IsCarried content
+      → ComesYoung plan.limits.age w.clock content → Gives (content_comes s from to_group content)
+  arrival_is_sound from to_group (Labelled p following) carries carried young =
+      let comes = packet_comes s p following in
+      then_hellos plan past w s.configuration.name units w.clock place comes (λ t. responds t from to_group p)
+      (subst (λ rest. Gives (packet_comes s p rest)) (sym carries.1) (packet_is_sound p carries.0 carried young))
+      (laws.hellos.answers comes.after from to_group p)
+  arrival_is_sound from to_group (Esis value following) carries carried young =
+      hellos_are_sound plan past w s.configuration.name units w.clock place s (esis_comes s from value) (laws.hellos.comes s from value) may
+  arrival_is_sound from to_group (Unlabelled octets) carries carried young = absurd carries

@@ -1,151 +1,216 @@
--- A host is asked to send: a unit is made, or refused, and none is handed up.
-use Rattle.clnp_base.proofs.Lists.{AllByRecursion-append}
-use Rattle.std.proofs.Common.{◌≡◌, ℕ, List, [], ◌∷◌, ◌++◌, length, refl, subst, arith}
+-- A system is asked to send, or for an echo: a unit is made, or refused, and nothing is handed up.
+use Rattle.clnp_base.proofs.Lists.{AllByRecursion-both, AllByRecursion-contains, AllByRecursion-implies}
+use Rattle.std.proofs.Common.{◌≡◌, ◌≢◌, ◌∙◌, ℕ, inl, inr, List, [], ◌∷◌, ◌++◌, length, true, refl, sym, ap, subst, arith, Contains}
 use Rattle.std.specs.Prelude.{slice_get, Option, None, Some}
 use Rattle.std.specs.List.{AllByRecursion}
-use Rattle.pdu_header.specs.declared.kind.Kind.TheVariants.{Dt}
+use Rattle.std.proofs.lemmas.List.Elements.{Contains-append_right}
+use Rattle.hex.specs.Hex.{IsBytes}
+use Rattle.pdu_header.specs.declared.kind.Kind.{Kind}
+use Rattle.pdu_header.specs.declared.kind.Kind.TheVariants.{Dt, Erq, Erp}
+use Rattle.clnp_plan.specs.Configuration.{SystemConfiguration}
+use Rattle.clnp_plan.specs.Journal.{Line, Noted}
 use Rattle.clnp_plan.specs.declared.ask.Ask.{Ask}
 use Rattle.clnp_plan.specs.declared.config.Role.{Role}
 use Rattle.clnp_plan.specs.declared.config.Role.TheVariants.{Host, Router}
 use Rattle.clnp_plan.specs.declared.note.Note.{Note}
-use Rattle.clnp_plan.specs.declared.note.Note.TheVariants.{Refused}
+use Rattle.clnp_plan.specs.declared.note.Note.TheVariants.{Sent}
 use Rattle.scenario.specs.Scenario.{Plan, IsFit}
 use Rattle.scenario.specs.declared.event.Move.{Move}
 use Rattle.clnp_machine.specs.Unit as unit
-use Rattle.clnp_machine.specs.System.{SystemState, AsksToSend}
-use Rattle.clnp_machine.specs.Local.{refusal, unit_of, makes, unless_refused}
+use Rattle.clnp_machine.specs.Unit.{DeclaredAt}
+use Rattle.clnp_machine.specs.System.{SystemState, Input, AsksToSend, AsksForEcho, Effect}
+use Rattle.clnp_machine.specs.Local.{echo_ask, make, makes, refusal, sent_note, unit_of, unless_refused}
 use Rattle.clnp_machine.specs.Step.{effect_of, step}
-use Rattle.clnp_machine.specs.Steps.{IsFresh, SendsRangesOf}
-use Rattle.clnp_machine.specs.Told.{IsRefusal, NoteIsQuiet}
-use Rattle.clnp_network.specs.World.{World, Step, takes_effect, comes_to, asks_role, asks_system, asks}
+use Rattle.clnp_machine.specs.Steps.{IsFair, IsFresh, IsMadeFor, IsNoRestart, NotesOnly, RestartsNothing, WasPendingOrMade, moment_after}
+use Rattle.clnp_machine.specs.Told.{NoteIsQuiet}
+use Rattle.clnp_network.specs.World.{World, Step, takes_effect, comes, comes_to, asks_role, asks_system, asks}
 use Rattle.clnp_network.specs.Run.{Entry}
-use Rattle.clnp_network.specs.Safe.{IsSend, WasSent}
-use Rattle.clnp_safety.specs.Invariant.{NoteIsHonest, SystemIsSound, UnitIsSound, UnitsAreSound, WorldIsSound}
-use Rattle.clnp_safety.specs.Outputs.{OutputIsSound}
+use Rattle.clnp_network.specs.Safe.{IsSend, NoRefusal, SaysNoRestart, SaysRequested}
+use Rattle.clnp_safety.specs.Invariant.{IsMadeOn, IsPending, NoteIsSound, NoteIsSteady, SystemStands, UnitIsSound, UnitsAreSound, WorldIsSound}
+use Rattle.clnp_safety.specs.Outputs.{ComesSoundly}
 use Rattle.clnp_safety.specs.StepLaws.{StepLaws}
-use Rattle.clnp_safety.proofs.Past.{sent_last, units_later}
-use Rattle.clnp_safety.proofs.Lines.{LineIs, lines_are, lines_are_apart, lines_are_honest, lines_are_known, quiet_is_honest, quiet_lines_refuse_nothing}
-use Rattle.clnp_safety.proofs.Steps.{keeps-map}
-use Rattle.clnp_safety.proofs.Outputs.{Stands, takes_effect_notes, takes_effect_stands}
-use Rattle.clnp_safety.proofs.SendAsked.{asked_is_fresh, asked_is_new, asked_is_sound}
+use Rattle.clnp_safety.proofs.Past.{pending_later, requested_last, sent_last, units_later}
+use Rattle.clnp_safety.proofs.Deeds.{make_soundly}
+use Rattle.clnp_safety.proofs.Hellos.{EffectIsSound, deed_is_sound}
+use Rattle.clnp_safety.proofs.Lines.{LineIs, lines_are, lines_say_no_restart, quiet_lines_refuse_nothing, sent_alike}
+use Rattle.clnp_safety.proofs.Outputs.{takes_effect_notes, takes_effect_stands}
 use Rattle.clnp_safety.proofs.Told.{outputs_note}
-use Rattle.clnp_safety.proofs.SendUnits.{maker_after, new_rests, others_after}
-use Rattle.clnp_safety.proofs.Effects.{StaysSound, effect_keeps, outputs_are_sound, sound_with}
-use Rattle.clnp_safety.proofs.Moves.{IsSoundAt, MoveIsSound, sound_at_clock, sound_from_clock, kept_is_sound, nothing_is_sound}
+use Rattle.clnp_safety.proofs.Units.{units_with}
+use Rattle.clnp_safety.proofs.Effects.{fresh_is_sound, notes_are_steady, others_stand, step_gives_soundly}
+use Rattle.clnp_safety.proofs.Moves.{MoveIsSound, nothing_is_sound, stands_soundly, stay_pending}
 
--- the step by which a unit is sent, and that by which none is
+-- the step by which a unit is sent
 abbrev pub sending : World → ℕ → SystemState → unit.Unit → Step
 sending w place s u = takes_effect w place (effect_of (makes s u))
 
-abbrev pub refusing : World → ℕ → SystemState → unit.Unit → Note → Step
-refusing w place s u note = takes_effect w place (effect_of (unless_refused (Some note) s u))
-
-pub lines_are_quiet : StepLaws → (w : World) (place : ℕ) (s : SystemState) (u : unit.Unit) → AllByRecursion (LineIs NoteIsQuiet) (sending w place s u).lines
+pub lines_are_quiet : StepLaws → (w : World) (place : ℕ) (s : SystemState) (u : unit.Unit) → AllByRecursion (LineIs (λ name. NoteIsQuiet)) (sending w place s u).lines
 lines_are_quiet laws w place s u =
     takes_effect_notes NoteIsQuiet w place (effect_of (makes s u))
     (outputs_note laws NoteIsQuiet (λ note h. h) (makes s u).after (makes s u).actions (tt, (tt, tt)))
 
-refusal_is_honest : (plan : Plan) (past : List Entry) (note : Note) → IsRefusal (Some note) → NoteIsHonest plan past note
-refusal_is_honest plan past (Refused why value) h = tt
-refusal_is_honest plan past _ h = absurd h
+-- what lines say of a unit that was asked for and made: nothing was refused, and it was sent
+record IsAskedIn (now : ℕ) (name : List ℕ) (lines : List Line) (u : unit.Unit) : Type 0 where
+  unrefused : NoRefusal lines
+  said : Contains lines (Noted now name (sent_note u))
+
+asked_in : StepLaws → (w : World) (place : ℕ) (s : SystemState) (u : unit.Unit) (refused : Option Note)
+    → AllByRecursion (IsAskedIn w.clock s.configuration.name (takes_effect w place (effect_of (unless_refused refused s u))).lines)
+    (effect_of (unless_refused refused s u)).units
+asked_in laws w place s u None = (
+  record { unrefused = quiet_lines_refuse_nothing (sending w place s u).lines (lines_are_quiet laws w place s u); said = (0, omega arith, refl) },
+  tt,
+)
+asked_in laws w place s u (Some note) = tt
+
+-- that a request was sent says that it was made
+says_requested : (now : ℕ) (name : List ℕ) (u : unit.Unit) → u.kind ≡ Erq → SaysRequested name u.number u.source u.destination (Noted now name (sent_note u))
+says_requested now name u erq =
+    subst (λ kind. SaysRequested name u.number u.source u.destination (Noted now name (Sent kind u.number u.identifier u.source u.destination (length u.octets))))
+    (sym erq) (refl, refl, refl, refl)
 
 module _ (laws : StepLaws) (plan : Plan) (fit : IsFit plan) (past : List Entry) (move : Move) (w : World) (h : WorldIsSound plan past w) where
-  -- what holds of a system at a place, beside units
-  abbrev Each : List unit.Unit → ℕ → SystemState → Type 0
-  Each units = SystemIsSound plan units w.clock
+  module _ (place : ℕ) (s : SystemState) (there : slice_get w.systems place ≡ Some s) (kind : Kind) (from to octets : List ℕ) (ask : Ask) (input : Input)
+      (is : effect_of (make s kind from to octets ask) ≡ step s input) (at : moment_after s input ≡ s.moment) (fair : IsFair input)
+      (comes : ComesSoundly w.units input) (steady : RestartsNothing input)
+      (no_reply : kind ≡ Erp → ⊥) where
+    abbrev effect : Effect
+    effect = step s input
 
-  module _ (place : ℕ) (s : SystemState) (there : slice_get w.systems place ≡ Some s) (from to octets : List ℕ) (ask : Ask) (asked : IsSend plan move from to octets) where
-    -- the unit that is asked for, and the units once it is made
-    abbrev this : unit.Unit
-    this = unit_of s Dt from to octets ask
+    abbrev taken : Step
+    taken = takes_effect w place effect
+
+    -- the entry of the move, and all entries and units then
+    abbrev entry : Entry
+    entry = record { move = move; lines = taken.lines }
+
+    abbrev then : List Entry
+    then = past ++ entry ∷ []
 
     abbrev later : List unit.Unit
-    later = w.units ++ this ∷ []
+    later = w.units ++ effect.units
 
-    -- the entry of the move that sends it
-    abbrev entry : Entry
-    entry = record { move = move; lines = (sending w place s this).lines }
+    it : SystemStands plan past w.units w.units w.clock place s
+    it = h.systems.each place s there
 
-    sound : SystemIsSound plan w.units w.clock place s
-    sound = h.systems.each place s there
+    now : moment_after s input ≡ w.clock
+    now = at ∙ it.sound.moment
 
-    honest : AllByRecursion (LineIs (NoteIsHonest plan past)) (sending w place s this).lines
-    honest = lines_are NoteIsQuiet (NoteIsHonest plan past) (quiet_is_honest plan past) (sending w place s this).lines (lines_are_quiet laws w place s this)
+    done : EffectIsSound plan past w s.configuration.name w.units w.clock place effect
+    done =
+        subst (EffectIsSound plan past w s.configuration.name w.units w.clock place) is
+        (deed_is_sound plan past w s.configuration.name w.units w.clock place laws (make s kind from to octets ask)
+        (make_soundly plan past w s.configuration.name w.units w.clock place laws s kind from to octets ask (record { sound = it.sound; rest = h.made.rest })
+        (λ erp. absurd (no_reply erp))))
 
-    was_sent : WasSent plan (past ++ entry ∷ []) from to octets
-    was_sent = sent_last plan past entry from to octets asked (quiet_lines_refuse_nothing (sending w place s this).lines (lines_are_quiet laws w place s this))
+    asked : AllByRecursion (IsAskedIn w.clock s.configuration.name taken.lines) effect.units
+    asked =
+        subst (λ (e : Effect). AllByRecursion (IsAskedIn w.clock s.configuration.name (takes_effect w place e).lines) e.units) is
+        (asked_in laws w place s (unit_of s kind from to octets ask) (refusal s (unit_of s kind from to octets ask)))
 
-    module _ (none : refusal s this ≡ None) where
-      units_are_sound : UnitsAreSound plan (past ++ entry ∷ []) w.clock later
-      units_are_sound = record {
-        each = AllByRecursion-append (UnitIsSound plan (past ++ entry ∷ []) w.clock) w.units (this ∷ [])
-            (units_later plan past (entry ∷ []) w.clock w.clock w.units (omega arith) h.made).each
-            (asked_is_sound laws plan w.units w.clock place s Dt from to octets ask (past ++ entry ∷ []) none sound was_sent, tt);
-        rest = new_rests plan w.units w.clock place s this (asked_is_new laws plan w.units w.clock place s Dt from to octets ask none sound) past h.made sound;
+    -- no line says that a system was restarted
+    quiet : (name : List ℕ) → AllByRecursion (SaysNoRestart name) taken.lines
+    quiet name = lines_say_no_restart name taken.lines (takes_effect_notes IsNoRestart w place effect (laws.steps.no_restart s input steady))
+
+    module _ (founded : (u : unit.Unit) → IsMadeFor input u → NoRefusal taken.lines → IsMadeOn plan then w.units u.kind u) where
+      new_units : AllByRecursion (UnitIsSound plan then w.units w.clock) effect.units
+      new_units =
+          AllByRecursion-both (IsFresh s (moment_after s input)) (λ u. IsMadeOn plan then w.units u.kind u) (UnitIsSound plan then w.units w.clock)
+          (fresh_is_sound plan then w.units w.clock place s it.sound (moment_after s input) w.clock now) effect.units (laws.steps.fresh s input)
+          (AllByRecursion-both (IsMadeFor input) (IsAskedIn w.clock s.configuration.name taken.lines) (λ u. IsMadeOn plan then w.units u.kind u)
+          (λ u for was. founded u for was.unrefused) effect.units (laws.steps.made_for s input) asked)
+
+      units_are_sound : UnitsAreSound plan then w.clock later
+      units_are_sound =
+          units_with plan then w.units effect.units w.clock (units_later plan past (entry ∷ []) w.clock w.clock w.units (omega arith) h.made) done.rest new_units
+
+      others : (other : ℕ) (t : SystemState) → other ≢ place → SystemStands plan past w.units w.units w.clock other t
+          → SystemStands plan then later later w.clock other t
+      others other t apart stood = record {
+        sound = (others_stand laws plan fit past w.units w.clock place s it.sound input comes w.units w.clock other t apart stood).sound;
+        pending = stay_pending past entry w.units effect.units other t.configuration.name t.pending (quiet t.configuration.name) stood.pending;
       }
 
-      fresh : AllByRecursion (IsFresh s w.clock) (this ∷ [])
-      fresh = (subst (λ now. IsFresh s now this) sound.moment (asked_is_fresh laws s Dt from to octets ask none), tt)
+      -- a request that is made now
+      requested : (request : unit.Unit) → Contains effect.units request → request.kind ≡ Erq → IsPending then later place s.configuration.name request
+      requested request made erq =
+          let was = AllByRecursion-contains (IsAskedIn w.clock s.configuration.name taken.lines) effect.units request made asked in
+          let fresh = AllByRecursion-contains (IsFresh s (moment_after s input)) effect.units request made (laws.steps.fresh s input) in
+          record {
+            made = Contains-append_right w.units effect.units request made;
+            maker = fresh.maker ∙ ap DeclaredAt it.sound.stands_at;
+            kind = erq;
+            since = requested_last s.configuration.name request.number request.source request.destination past entry
+                (Noted w.clock s.configuration.name (sent_note request)) was.said (says_requested w.clock s.configuration.name request erq);
+          }
 
-      sends : AllByRecursion (SendsRangesOf (this ∷ [])) (effect_of (makes s this)).outputs
-      sends =
-          subst (λ refused. AllByRecursion (SendsRangesOf (effect_of (unless_refused refused s this)).units) (effect_of (unless_refused refused s this)).outputs)
-          none (laws.steps.ranges s (AsksToSend from to octets ask))
+      pending : AllByRecursion (IsPending then later place effect.after.configuration.name) effect.after.pending
+      pending =
+          subst (λ (c : SystemConfiguration). AllByRecursion (IsPending then later place c.name) effect.after.pending) (sym (laws.steps.itself s input).configuration)
+          (AllByRecursion-implies (WasPendingOrMade s effect) (IsPending then later place s.configuration.name)
+          (λ request was.
+          elim was [
+            | inl before ↦
+                pending_later past entry w.units effect.units place s.configuration.name (quiet s.configuration.name) request
+                (AllByRecursion-contains (IsPending past w.units place s.configuration.name) s.pending request before it.pending)
+            | inr made ↦ requested request made.0 made.1
+          ])
+          effect.after.pending (laws.steps.pending s input))
 
-      given : AllByRecursion (OutputIsSound (NoteIsHonest plan past) later w.clock) (effect_of (makes s this)).outputs
-      given =
-          outputs_are_sound (NoteIsHonest plan past) w.units (this ∷ []) s w.clock fresh (effect_of (makes s this)).outputs
-          sends
-          (outputs_note laws (NoteIsHonest plan past) (quiet_is_honest plan past) (makes s this).after (makes s this).actions (tt, (tt, tt)))
+      soundly : MoveIsSound plan past move w taken
+      soundly =
+          let notes = subst (λ (c : SystemConfiguration). AllByRecursion (NotesOnly (NoteIsSteady plan past w c.name)) effect.outputs)
+          (sym (laws.steps.itself s input).configuration)
+          (notes_are_steady laws plan fit past w s.configuration.name s input w.units comes done.notes steady) in
+          let kept = takes_effect_stands w.clock (length plan.systems) (NoteIsSteady plan past w) w.units
+          (λ other. SystemStands plan past w.units w.units w.clock other) (λ other. SystemStands plan then later later w.clock other) w place effect others
+          (record { sound = done.after; pending = pending })
+          (step_gives_soundly laws plan fit past w.units w.clock place s it.sound input comes (NoteIsSteady plan past w effect.after.configuration.name) fair notes)
+          (record { made = refl; clock = refl; copies = h.copies; number = h.systems.number; each = h.systems.each }) in
+          record {
+            world = stands_soundly plan then later w.clock taken.world units_are_sound kept.world;
+            lines = lines_are (NoteIsSteady plan past w) (NoteIsSound plan past w) (λ name note is. is.sound) taken.lines kept.lines;
+          }
 
-      world_stands : Stands later w.clock (length plan.systems) (Each later) (sending w place s this).world
-      world_stands =
-          let new = asked_is_new laws plan w.units w.clock place s Dt from to octets ask none sound in
-          (takes_effect_stands w.clock (length plan.systems) (NoteIsHonest plan past) w.units (Each w.units) (Each later) w place (effect_of (makes s this))
-          (others_after plan w.units w.clock place s this new) (maker_after plan w.units w.clock place s this new sound) given
-          (record { made = refl; clock = refl; copies = h.copies; number = h.systems.number; each = h.systems.each })).world
+  sent_soundly : (place : ℕ) (from to octets : List ℕ) (ask : Ask) → IsFair (AsksToSend from to octets ask) → IsSend plan move from to octets
+      → (found : Option SystemState) → slice_get w.systems place ≡ found → MoveIsSound plan past move w (comes_to w place (AsksToSend from to octets ask) found)
+  sent_soundly place from to octets ask fair sends None e = nothing_is_sound plan past move w h
+  sent_soundly place from to octets ask fair sends (Some s) e =
+      let taken = takes_effect w place (step s (AsksToSend from to octets ask)) in
+      soundly place s e Dt from to octets ask (AsksToSend from to octets ask) refl refl fair tt tt
+      (λ reply. cc)
+      (λ u for unrefused.
+      let entry : Entry = record { move = move; lines = taken.lines } in
+      let then : List Entry = past ++ entry ∷ [] in
+      subst (λ kind. IsMadeOn plan then w.units kind u) (sym for.0)
+      (sent_alike plan then from to octets u.source u.destination u.octets (sym for.1) (sym for.2) (sym for.3)
+      (sent_last plan past entry from to octets sends unrefused)))
 
-      sending_is_sound : MoveIsSound plan past move (sending w place s this)
-      sending_is_sound = record {
-        world = sound_from_clock plan (past ++ entry ∷ []) w.clock (sending w place s this).world
-            (sound_with plan (past ++ entry ∷ []) w.clock Each later (sending w place s this).world units_are_sound world_stands);
-        honest = lines_are_honest plan past (sending w place s this).lines honest;
-        apart = lines_are_apart plan past (sending w place s this).lines honest;
-        known = lines_are_known plan past (sending w place s this).lines honest;
-      }
+  -- nobody asks a router to send
+  sent_by_role : (role : Role) (place : ℕ) (from to octets : List ℕ) (ask : Ask) → IsFair (AsksToSend from to octets ask) → IsSend plan move from to octets
+      → MoveIsSound plan past move w (asks_role role w place (AsksToSend from to octets ask))
+  sent_by_role Host place from to octets ask fair sends = sent_soundly place from to octets ask fair sends (slice_get w.systems place) refl
+  sent_by_role Router place from to octets ask fair sends = nothing_is_sound plan past move w h
 
-    refusing_is_sound : (note : Note) → IsRefusal (Some note) → MoveIsSound plan past move (refusing w place s this note)
-    refusing_is_sound note refuses =
-        kept_is_sound plan past move w.clock (refusing w place s this note)
-        (keeps-map (StaysSound plan past w.clock Each Each w) (IsSoundAt plan past w.clock) (LineIs (NoteIsHonest plan past)) (refusing w place s this note)
-        (λ v stays. stays.0)
-        (effect_keeps plan past w.clock Each Each w place (effect_of (unless_refused (Some note) s this)) refl (λ other t apart k. k) sound
-        (refusal_is_honest plan past note refuses, tt) (sound_at_clock plan past w h)))
+  sent_at : (place : ℕ) (from to octets : List ℕ) (ask : Ask) → IsFair (AsksToSend from to octets ask) → (found : Option SystemState) → IsSend plan move from to octets
+      → MoveIsSound plan past move w (asks_system w place (AsksToSend from to octets ask) found)
+  sent_at place from to octets ask fair None sends = nothing_is_sound plan past move w h
+  sent_at place from to octets ask fair (Some s) sends = sent_by_role s.configuration.role place from to octets ask fair sends
 
-    unless_refused_is_sound : (refused : Option Note) → IsRefusal refused → refusal s this ≡ refused
-        → MoveIsSound plan past move (takes_effect w place (effect_of (unless_refused refused s this)))
-    unless_refused_is_sound None refuses e = sending_is_sound e
-    unless_refused_is_sound (Some note) refuses e = refusing_is_sound note refuses
+  pub system_is_asked : (place : ℕ) (from to octets : List ℕ) (ask : Ask) → IsFair (AsksToSend from to octets ask) → IsSend plan move from to octets
+      → MoveIsSound plan past move w (asks w place (AsksToSend from to octets ask))
+  system_is_asked place from to octets ask fair sends = sent_at place from to octets ask fair (slice_get w.systems place) sends
 
-    asked_soundly : MoveIsSound plan past move (takes_effect w place (step s (AsksToSend from to octets ask)))
-    asked_soundly = unless_refused_is_sound (refusal s this) (laws.deeds.refused s this) refl
+  echo_soundly : (place : ℕ) (from to octets : List ℕ) → IsFair (AsksForEcho from to octets) → IsBytes octets → (found : Option SystemState) → slice_get w.systems place ≡ found
+      → MoveIsSound plan past move w (comes_to w place (AsksForEcho from to octets) found)
+  echo_soundly place from to octets fair bytes None e = nothing_is_sound plan past move w h
+  echo_soundly place from to octets fair bytes (Some s) e =
+      let taken = takes_effect w place (step s (AsksForEcho from to octets)) in
+      soundly place s e Erq from to octets (echo_ask s from to (length octets) true) (AsksForEcho from to octets) refl refl fair tt tt
+      (λ reply. cc)
+      (λ u for unrefused. subst (λ kind. IsMadeOn plan (past ++ record { move = move; lines = taken.lines } ∷ []) w.units kind u) (sym for.0)
+      (subst IsBytes (sym for.3) bytes))
 
-  asked_at_is_sound : (place : ℕ) (from to octets : List ℕ) (ask : Ask) (found : Option SystemState) → slice_get w.systems place ≡ found
-      → IsSend plan move from to octets → MoveIsSound plan past move (comes_to w place (AsksToSend from to octets ask) found)
-  asked_at_is_sound place from to octets ask None e asked = nothing_is_sound plan past move w h
-  asked_at_is_sound place from to octets ask (Some s) e asked = asked_soundly place s e from to octets ask asked
-
-  -- nobody asks a router
-  asked_by_role : (role : Role) (place : ℕ) (from to octets : List ℕ) (ask : Ask) → IsSend plan move from to octets
-      → MoveIsSound plan past move (asks_role role w place (AsksToSend from to octets ask))
-  asked_by_role Host place from to octets ask asked = asked_at_is_sound place from to octets ask (slice_get w.systems place) refl asked
-  asked_by_role Router place from to octets ask asked = nothing_is_sound plan past move w h
-
-  system_is_asked_at : (place : ℕ) (from to octets : List ℕ) (ask : Ask) (found : Option SystemState) → IsSend plan move from to octets
-      → MoveIsSound plan past move (asks_system w place (AsksToSend from to octets ask) found)
-  system_is_asked_at place from to octets ask None asked = nothing_is_sound plan past move w h
-  system_is_asked_at place from to octets ask (Some s) asked = asked_by_role s.configuration.role place from to octets ask asked
-
-  pub system_is_asked : (place : ℕ) (from to octets : List ℕ) (ask : Ask) → IsSend plan move from to octets
-      → MoveIsSound plan past move (asks w place (AsksToSend from to octets ask))
-  system_is_asked place from to octets ask asked = system_is_asked_at place from to octets ask (slice_get w.systems place) asked
+  -- an echo is asked for
+  pub echo_is_asked : (place : ℕ) (from to octets : List ℕ) → IsFair (AsksForEcho from to octets) → IsBytes octets
+      → MoveIsSound plan past move w (comes w place (AsksForEcho from to octets))
+  echo_is_asked place from to octets fair bytes = echo_soundly place from to octets fair bytes (slice_get w.systems place) refl

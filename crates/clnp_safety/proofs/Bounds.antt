@@ -1,6 +1,6 @@
 -- Whatever the moves: packets meet the bound on hops and lifetime, and systems keep their budgets.
 use Rattle.clnp_base.proofs.Lists.{AllByRecursion-any, AllByRecursion-append, AllByRecursion-implies, AllByRecursion-slice_get}
-use Rattle.std.proofs.Common.{◌≡◌, ◌+◌, ℕ, zero, suc, List, [], ◌∷◌, arith}
+use Rattle.std.proofs.Common.{◌≡◌, ◌≤◌, ◌+◌, ℕ, zero, suc, inl, inr, List, [], ◌∷◌, arith}
 use Rattle.std.specs.Prelude.{slice_get, slice_set, Option, None, Some}
 use Rattle.std.specs.List.{AllByRecursion}
 use Rattle.nsap.specs.declared.target.Target.{Target}
@@ -10,23 +10,39 @@ use Rattle.clnp_plan.specs.declared.config.PortConfig.{PortConfig}
 use Rattle.scenario.specs.Scenario.{Plan}
 use Rattle.scenario.specs.declared.event.Move.{Move}
 use Rattle.clnp_machine.specs.Unit as unit
-use Rattle.clnp_machine.specs.Unit.{Maker, DeclaredAt}
+use Rattle.clnp_machine.specs.Unit.{Maker, DeclaredAt, Packet}
 use Rattle.clnp_machine.specs.Content.{Content, Labelled, Esis}
-use Rattle.clnp_machine.specs.System.{SystemState, Input, Output, Transmits, SendsEsis, Notes, Effect}
+use Rattle.clnp_machine.specs.System.{SystemState, Input, FrameComes, Output, Transmits, SendsEsis, Notes, Effect}
 use Rattle.clnp_machine.specs.Step.{step}
-use Rattle.clnp_machine.specs.Steps.{IsWithinBudget, SendsRangesOf}
-use Rattle.clnp_network.specs.World.{World, Copy, copy_from, sends_frame, put_out, takes_effect, with_effect, states_from, first_world}
+use Rattle.clnp_machine.specs.Steps.{GoesOnOf, IsWithinBudget, SendsRangesOrGoesOn}
+use Rattle.clnp_network.specs.World.{World, Copy, copy_from, frame_to, sends_frame, put_out, takes_effect, with_effect, states_from, first_world}
 use Rattle.clnp_network.specs.Run.{world_after}
 use Rattle.clnp_network.specs.Safe.{IsWithinBudgets, IsWithinLifetimes, MeetsLifetime}
 use Rattle.clnp_safety.specs.StepLaws.{StepLaws}
 use Rattle.clnp_safety.proofs.Lines.{AnyLine, any_line_is_fine}
 use Rattle.clnp_safety.proofs.Steps.{Keeps, keeps-put_all_out}
-use Rattle.clnp_safety.proofs.EveryMove.{AnyInput, any_events, keeps-moves}
+use Rattle.clnp_safety.proofs.EveryMove.{AnyInput, any_events, asked_by_all, keeps-moves}
+use Rattle.clnp_safety.proofs.Units.{lives_within}
 
 -- Hops and lifetimes.
 
 abbrev Bounded : Copy → Type 0
 Bounded copy = MeetsLifetime copy.content
+
+-- a packet that comes meets the bound
+abbrev ComesWithin : Input → Type 0
+ComesWithin (FrameComes port sender to_group content) = MeetsLifetime content
+ComesWithin _ = Unit {0}
+
+-- and so does one that goes on
+goes_on_within : (s : SystemState) (port : ℕ) (input : Input) (p : Packet) → ComesWithin input → GoesOnOf s port input p
+    → p.hops + p.lifetime ≤ p.unit.lifetime
+goes_on_within s port (FrameComes at sender to_group (Labelled came following)) p comes on = lives_within s port came p on comes
+goes_on_within s port _ p comes on = absurd on
+
+frame_comes_within : (w : World) (at : ℕ) (copy : Copy) → slice_get w.copies at ≡ Some copy → IsWithinLifetimes w → (s : SystemState)
+    → ComesWithin (frame_to s copy)
+frame_comes_within w at copy there k s = AllByRecursion-slice_get Bounded w.copies at copy there k
 
 copy_meets : (found : Option PortConfig) (target : Target) (maker : Maker) (birth : ℕ) (content : Content) → MeetsLifetime content
     → AllByRecursion Bounded (copy_from found target maker birth content)
@@ -41,29 +57,33 @@ frame_meets system v port target maker birth content h k = record {
   lines = (tt, tt);
 }
 
-put_out_meets : (units : List unit.Unit) (system : SystemState) (output : Output) → SendsRangesOf units output → (v : World) → IsWithinLifetimes v
-    → Keeps IsWithinLifetimes AnyLine (put_out system v output)
-put_out_meets units system (Notes note) sends v k = record { world = k; lines = (tt, tt) }
-put_out_meets units system (Transmits port target packet) sends v k =
-    frame_meets system v port target packet.unit.maker packet.unit.made (Labelled packet []) sends.lifetime k
-put_out_meets units system (SendsEsis port target value) sends v k =
-    frame_meets system v port target (DeclaredAt system.place) v.clock (Esis value []) tt k
+module _ (s : SystemState) (input : Input) (comes : ComesWithin input) (units : List unit.Unit) where
+  sent_within : (port : ℕ) (target : Target) (p : Packet) → SendsRangesOrGoesOn s input units (Transmits port target p) → p.hops + p.lifetime ≤ p.unit.lifetime
+  sent_within port target p sends = elim sends [ inl new ↦ new.lifetime | inr on ↦ goes_on_within s port input p comes on ]
 
-step_meets : StepLaws → (w : World) (place : ℕ) (s : SystemState) (input : Input) → slice_get w.systems place ≡ Some s → AnyInput input → IsWithinLifetimes w
-    → Keeps IsWithinLifetimes AnyLine (takes_effect w place (step s input))
-step_meets laws w place s input there any k =
+  put_out_meets : (system : SystemState) (output : Output) → SendsRangesOrGoesOn s input units output → (v : World) → IsWithinLifetimes v
+      → Keeps IsWithinLifetimes AnyLine (put_out system v output)
+  put_out_meets system (Notes note) sends v k = record { world = k; lines = (tt, tt) }
+  put_out_meets system (Transmits port target packet) sends v k =
+      frame_meets system v port target packet.unit.maker packet.unit.made (Labelled packet []) (sent_within port target packet sends) k
+  put_out_meets system (SendsEsis port target value) sends v k =
+      frame_meets system v port target (DeclaredAt system.place) v.clock (Esis value []) tt k
+
+step_meets : StepLaws → (w : World) (place : ℕ) (s : SystemState) (input : Input) → slice_get w.systems place ≡ Some s → ComesWithin input
+    → IsWithinLifetimes w → Keeps IsWithinLifetimes AnyLine (takes_effect w place (step s input))
+step_meets laws w place s input there comes k =
     let effect : Effect = step s input in
     keeps-put_all_out IsWithinLifetimes AnyLine effect.after effect.outputs
-    (AllByRecursion-implies (SendsRangesOf effect.units)
+    (AllByRecursion-implies (SendsRangesOrGoesOn s input effect.units)
     (λ output. (v : World) → IsWithinLifetimes v → Keeps IsWithinLifetimes AnyLine (put_out effect.after v output))
-    (put_out_meets effect.units effect.after) effect.outputs (laws.steps.ranges s input))
+    (put_out_meets s input comes effect.units effect.after) effect.outputs (laws.steps.ranges s input))
     (with_effect w place effect) k
 
 pub lifetimes_hold : StepLaws → (plan : Plan) (moves : List Move) → IsWithinLifetimes (world_after plan (first_world plan) moves)
 lifetimes_hold laws plan moves =
-    keeps-moves AnyInput IsWithinLifetimes AnyLine
-    (record { steps = step_meets laws; frames = λ w at copy e k s. tt; moments = λ now. tt; restarts = tt; cursor = λ w next k. k; clock = λ w now k. k; fine = any_line_is_fine })
-    plan (any_events plan.events) moves (first_world plan) tt
+    keeps-moves ComesWithin IsWithinLifetimes AnyLine
+    (record { steps = step_meets laws; frames = frame_comes_within; moments = λ now. tt; restarts = tt; cursor = λ w next k. k; clock = λ w now k. k; fine = any_line_is_fine })
+    plan (asked_by_all ComesWithin (λ from to octets ask. tt) (λ from to octets. tt) plan.events) moves (first_world plan) tt
 
 -- Budgets.
 

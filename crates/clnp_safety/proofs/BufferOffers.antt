@@ -13,7 +13,7 @@ use Rattle.reassembly.specs.Arrival.{same_key, same_shape}
 use Rattle.reassembly.specs.Buffer.{Buffer, buffer_of, clashes, opened_by}
 use Rattle.reassembly.proofs.Shared.{same_key-true}
 use Rattle.clnp_machine.specs.Unit as unit
-use Rattle.clnp_machine.specs.Unit.{Packet, value_of}
+use Rattle.clnp_machine.specs.Unit.{IsCarriable, Packet, value_of}
 use Rattle.clnp_machine.specs.Local.{header_size, identifier_in, offered}
 use Rattle.clnp_network.specs.Run.{Entry}
 use Rattle.clnp_safety.specs.Invariant.{BufferIsSound, IsOfUnit, Owns, UnitIsSound, UnitsAreSound}
@@ -23,9 +23,9 @@ use Rattle.clnp_safety.proofs.Units.{different_makers, same_unit}
 use Rattle.clnp_safety.proofs.Kept.{KeptIn, find_passes}
 
 pub unit_sound : (plan : Plan) (past : List Entry) (now : ℕ) (units : List unit.Unit) (u : unit.Unit) → UnitsAreSound plan past now units
-    → Contains units u → UnitIsSound plan past now u
+    → Contains units u → UnitIsSound plan past units now u
 unit_sound plan past now units u sound within =
-    All-contains (UnitIsSound plan past now) units u (All-from_recursion (UnitIsSound plan past now) units sound.each) within
+    All-contains (UnitIsSound plan past units now) units u (All-from_recursion (UnitIsSound plan past units now) units sound.each) within
 
 same_shape-like : (a b : Shape) → a ≡ b → same_shape a b ≡ true
 same_shape-like a b e =
@@ -46,7 +46,7 @@ pub record IsLive (plan : Plan) (units : List unit.Unit) (now : ℕ) (buffer : B
   pub lasts : now < buffer.deadline
 
 module _ (plan : Plan) (fit : IsFit plan) (past : List Entry) (now : ℕ) (units : List unit.Unit) (made : UnitsAreSound plan past now units)
-    (p : Packet) (packet : IsRangeOf units p) (young : now ≤ p.unit.made + plan.limits.age) (identifier : ℕ)
+    (p : Packet) (packet : IsRangeOf units p) (carriable : IsCarriable p) (young : now ≤ p.unit.made + plan.limits.age) (identifier : ℕ)
     (identified : p.unit.identifier ≡ Some identifier) where
   -- a unit that was made so long before or after it isn't that of a buffer that lasts
   not_another : (buffer : Buffer Packet) (v : unit.Unit) → Contains units v → now < buffer.deadline
@@ -98,7 +98,7 @@ module _ (plan : Plan) (fit : IsFit plan) (past : List Entry) (now : ℕ) (units
       (λ buffer found. shape_in_buffer buffer (AllByRecursion-find (IsLive plan units now) has_key buffers buffer found live) (find_passes has_key buffers buffer found))
 
   of_unit : (v : unit.Unit) → v ≡ p.unit → IsOfUnit units v (offered p [])
-  of_unit v same = record { packet = packet; unit = sym same; offered = refl }
+  of_unit v same = record { packet = packet; carriable = carriable; unit = sym same; offered = refl }
 
   module _ (table : TableLimits) (hold : table.hold ≡ plan.limits.hold) (moment : ℕ) (at : moment ≡ now) (alive : 1 ≤ p.lifetime) where
     opened_is_live : IsLive plan units now (opened_by table moment (offered p []))

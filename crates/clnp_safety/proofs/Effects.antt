@@ -1,91 +1,286 @@
--- A step of a system that is asked nothing keeps a world sound.
-use Rattle.clnp_base.proofs.Lists.{AllByRecursion-contains}
-use Rattle.std.proofs.Common.{◌≡◌, ◌≢◌, ◌∙◌, sym, ap, subst, ℕ, List, [], ◌∷◌, ◌++◌, length}
+-- A step of a system that is asked nothing keeps a world sound: what it makes is founded on what came, and what it sends and notes
+-- is as it should be.
+use Rattle.clnp_base.proofs.Lists.{AllByRecursion-append, AllByRecursion-both, AllByRecursion-contains, AllByRecursion-implies, AllByRecursion-mapped, AllByRecursion-slice_get}
+use Rattle.std.proofs.Common.{◌≡◌, ◌≢◌, ◌⊎◌, ◌∙◌, sym, ap, subst, All, ℕ, inl, inr, List, [], ◌∷◌, ◌++◌, length, map, slice_get, Some, arith}
 use Rattle.std.specs.List.{AllByRecursion}
-use Rattle.std.proofs.lemmas.List.{append-nil}
-use Rattle.scenario.specs.Scenario.{Plan}
-use Rattle.clnp_plan.specs.Journal.{Line}
+use Rattle.std.proofs.lemmas.List.Elements.{Contains-append_cases}
+use Rattle.nsap.specs.Address.{IsAddress}
+use Rattle.pdu_header.specs.declared.kind.Kind.{Kind}
+use Rattle.pdu_header.specs.declared.kind.Kind.TheVariants.{Er, Erq, Erp}
+use Rattle.scenario.specs.Scenario.{IsFit, Plan}
+use Rattle.clnp_plan.specs.Configuration.{IsSystem, SystemConfiguration}
 use Rattle.clnp_plan.specs.declared.note.Note.{Note}
+use Rattle.reassembly.specs.Arrival.{Arrival}
+use Rattle.reassembly.specs.Buffer.{Buffer}
 use Rattle.clnp_machine.specs.Unit as unit
-use Rattle.clnp_machine.specs.Unit.{Packet}
-use Rattle.clnp_machine.specs.System.{SystemState, Input, Output, Transmits, SendsEsis, Notes, Effect}
+use Rattle.clnp_machine.specs.Unit.{DeclaredAt, Packet, wire}
+use Rattle.clnp_machine.specs.Content.{Labelled, Esis, Unlabelled}
+use Rattle.clnp_machine.specs.System.{SystemState, Input, AsksToSend, AsksForEcho, FrameComes, Output, Transmits, SendsEsis, Notes, Effect}
+use Rattle.clnp_machine.specs.Local.{IsAsOffered}
 use Rattle.clnp_machine.specs.Step.{step}
-use Rattle.clnp_machine.specs.Steps.{AsksNothing, IsFresh, NotesOnly, SendsRangesOf, moment_after}
+use Rattle.clnp_machine.specs.Steps.{AsksNothing, GoesOnOf, IsAtHand, IsFair, IsFresh, IsMadeFor, IsNoRestart, IsRangeOf, KeepsAsOffered, NotesOnly, ReportsOn, RestartsNothing, SendsCarriable, SendsEsisPdus, SendsRangesOrGoesOn, WasPendingOrMade, moment_after, segments_in}
+use Rattle.clnp_machine.specs.Told.{NotesNoRule, SpellsPdus}
 use Rattle.clnp_network.specs.Run.{Entry}
 use Rattle.clnp_network.specs.World.{World, takes_effect}
-use Rattle.clnp_safety.specs.Invariant.{NoteIsHonest, UnitsAreSound}
-use Rattle.clnp_safety.specs.Outputs.{OutputIsSound}
+use Rattle.clnp_safety.specs.Growth.{IsFront}
+use Rattle.clnp_safety.specs.Invariant.{BufferIsSound, EachRests, IsMadeOn, IsOfUnit, IsPending, NoteIsHonest, NoteIsSound, NoteIsSteady, SystemIsSound, SystemStands, UnitIsSound, UnitsAreSound}
+use Rattle.clnp_safety.specs.Outputs.{ComesSoundly, OutputIsSound}
 use Rattle.clnp_safety.specs.StepLaws.{StepLaws}
+use Rattle.clnp_safety.proofs.Deeds.{RepliesInOctets}
+use Rattle.clnp_safety.proofs.Grows.{front-more}
 use Rattle.clnp_safety.proofs.Lines.{LineIs}
 use Rattle.clnp_safety.proofs.Outputs.{Stands, takes_effect_stands}
+use Rattle.clnp_safety.proofs.SendAsked.{own_address}
 use Rattle.clnp_safety.proofs.Steps.{Keeps}
-use Rattle.clnp_safety.proofs.Units.{packet_of_more}
+use Rattle.clnp_safety.proofs.Units.{buffer_later, packet_goes_on, packet_later, packet_of_more, units_with}
 
--- What a step gives out is sound, where its notes are: what it sends is of units that are made now.
+-- What a step gives out is sound, where its notes are: what it sends is of units that are made in it, or of that of the packet
+-- that came.
 
-module _ (Q : Note → Type 0) (units made : List unit.Unit) (s : SystemState) (now : ℕ) (fresh : AllByRecursion (IsFresh s now) made) where
-  output_is_sound : (output : Output) → SendsRangesOf made output → NotesOnly Q output → OutputIsSound Q (units ++ made) now output
-  output_is_sound (Transmits port target packet) sends notes =
-      (packet_of_more units made packet sends, (AllByRecursion-contains (IsFresh s now) made packet.unit sends.unit fresh).made)
-  output_is_sound (SendsEsis port target value) sends notes = tt
-  output_is_sound (Notes note) sends notes = notes
+range_goes_on : (units : List unit.Unit) (s : SystemState) (port : ℕ) (input : Input) (p : Packet) → ComesSoundly units input → GoesOnOf s port input p
+    → IsRangeOf units p
+range_goes_on units s port (FrameComes at sender to_group (Labelled came following)) p comes on = packet_goes_on units s port came p on comes.0.0
+range_goes_on units s port _ p comes on = absurd on
 
-  pub outputs_are_sound : (outputs : List Output) → AllByRecursion (SendsRangesOf made) outputs → AllByRecursion (NotesOnly Q) outputs
-      → AllByRecursion (OutputIsSound Q (units ++ made) now) outputs
-  outputs_are_sound [] sends notes = tt
-  outputs_are_sound (output ∷ outputs) sends notes = (output_is_sound output sends.0 notes.0, outputs_are_sound outputs sends.1 notes.1)
+module _ (Q : Note → Type 0) (units made : List unit.Unit) (s : SystemState) (input : Input) (comes : ComesSoundly units input) where
+  output_is_sound : (output : Output) → SendsRangesOrGoesOn s input made output → SendsCarriable output → SendsEsisPdus output → NotesOnly Q output
+      → OutputIsSound Q (units ++ made) output
+  output_is_sound (Transmits port target packet) sends carriable pdus notes = (
+    elim sends [
+      | inl new ↦ packet_of_more units made packet new
+      | inr on ↦ packet_later units made packet (range_goes_on units s port input packet comes on)
+    ],
+    carriable,
+  )
+  output_is_sound (SendsEsis port target value) sends carriable pdus notes = pdus
+  output_is_sound (Notes note) sends carriable pdus notes = notes
 
-pub step_gives_soundly : StepLaws → (Q : Note → Type 0) (units : List unit.Unit) (s : SystemState) (input : Input) → AllByRecursion (NotesOnly Q) (step s input).outputs
-    → AllByRecursion (OutputIsSound Q (units ++ (step s input).units) (moment_after s input)) (step s input).outputs
-step_gives_soundly laws Q units s input notes =
-    outputs_are_sound Q units (step s input).units s (moment_after s input) (laws.steps.fresh s input) (step s input).outputs (laws.steps.ranges s input) notes
+  pub outputs_are_sound : (outputs : List Output) → AllByRecursion (SendsRangesOrGoesOn s input made) outputs → AllByRecursion SendsCarriable outputs
+      → AllByRecursion SendsEsisPdus outputs → AllByRecursion (NotesOnly Q) outputs → AllByRecursion (OutputIsSound Q (units ++ made)) outputs
+  outputs_are_sound [] sends carriable pdus notes = tt
+  outputs_are_sound (output ∷ outputs) sends carriable pdus notes = (
+    output_is_sound output sends.0 carriable.0 pdus.0 notes.0,
+    outputs_are_sound outputs sends.1 carriable.1 pdus.1 notes.1,
+  )
 
-module _ (plan : Plan) (past : List Entry) (now : ℕ) where
-  -- the units of a world are sound, P holds of the system at each place, at this clock, and the copies are sound
+-- What is kept.
+
+module _ (plan : Plan) (units : List unit.Unit) (P : Arrival Packet → Type 0) (each : (u : unit.Unit) (arrival : Arrival Packet) → IsOfUnit units u arrival → P arrival) where
+  segments_are : (buffers : List (Buffer Packet)) → AllByRecursion (BufferIsSound plan units) buffers → AllByRecursion P (segments_in buffers)
+  segments_are [] sound = tt
+  segments_are (buffer ∷ buffers) sound =
+      AllByRecursion-append P buffer.kept (segments_in buffers)
+      (AllByRecursion-implies (IsOfUnit units sound.0.unit) P (each sound.0.unit) buffer.kept sound.0.kept)
+      (segments_are buffers sound.1)
+
+kept_as_offered : (plan : Plan) (units : List unit.Unit) (s : SystemState) → AllByRecursion (BufferIsSound plan units) s.buffers → KeepsAsOffered s
+kept_as_offered plan units s sound =
+    segments_are plan units IsAsOffered (λ u arrival of. record { following = []; is_offered = of.offered; carriable = of.carriable }) s.buffers sound
+
+kept_are_ranges : (plan : Plan) (units : List unit.Unit) (s : SystemState) → AllByRecursion (BufferIsSound plan units) s.buffers
+    → AllByRecursion (IsRangeOf units) (map (λ (arrival : Arrival Packet). arrival.carried) (segments_in s.buffers))
+kept_are_ranges plan units s sound =
+    AllByRecursion-mapped (λ (arrival : Arrival Packet). IsRangeOf units arrival.carried) (IsRangeOf units) (λ (arrival : Arrival Packet). arrival.carried)
+    (segments_in s.buffers) (λ arrival range. range)
+    (segments_are plan units (λ (arrival : Arrival Packet). IsRangeOf units arrival.carried) (λ u arrival of. of.packet) s.buffers sound)
+
+-- a packet that is at hand is a range of a unit
+at_hand_is_range : (units : List unit.Unit) (s : SystemState) (input : Input) (p : Packet) → ComesSoundly units input
+    → AllByRecursion (IsRangeOf units) (map (λ (arrival : Arrival Packet). arrival.carried) (segments_in s.buffers)) → IsAtHand s input p → IsRangeOf units p
+at_hand_is_range units s (FrameComes port sender to_group (Labelled came following)) p comes kept at =
+    elim at [
+      | inl same ↦ subst (IsRangeOf units) (sym same) comes.0.0
+      | inr was ↦ AllByRecursion-contains (IsRangeOf units) (map (λ (arrival : Arrival Packet). arrival.carried) (segments_in s.buffers)) p was kept
+    ]
+at_hand_is_range units s _ p comes kept at =
+    AllByRecursion-contains (IsRangeOf units) (map (λ (arrival : Arrival Packet). arrival.carried) (segments_in s.buffers)) p at kept
+
+comes_fairly : (units : List unit.Unit) (input : Input) → AsksNothing input → ComesSoundly units input → IsFair input
+comes_fairly units (AsksToSend from to octets ask) nothing comes = absurd nothing
+comes_fairly units (AsksForEcho from to octets) nothing comes = absurd nothing
+comes_fairly units (FrameComes port sender to_group content) nothing comes = comes.1
+comes_fairly units _ nothing comes = tt
+
+spells_pdus : (units : List unit.Unit) (input : Input) → ComesSoundly units input → SpellsPdus input
+spells_pdus units (FrameComes port sender to_group (Labelled packet following)) comes = tt
+spells_pdus units (FrameComes port sender to_group (Esis value following)) comes = tt
+spells_pdus units (FrameComes port sender to_group (Unlabelled octets)) comes = absurd comes.0
+spells_pdus units _ comes = tt
+
+-- who isn't asked makes reports and replies
+made_unasked : (input : Input) (u : unit.Unit) → AsksNothing input → IsMadeFor input u → (u.kind ≡ Er) ⊎ (u.kind ≡ Erp)
+made_unasked (AsksToSend from to octets ask) u nothing for = absurd nothing
+made_unasked (AsksForEcho from to octets) u nothing for = absurd nothing
+made_unasked _ u nothing for = for
+
+no_request : (kind : Kind) → (kind ≡ Er) ⊎ (kind ≡ Erp) → kind ≡ Erq → ⊥
+no_request kind made e = elim made [ inl er ↦ absurd (let same : Er ≡ Erq = sym er ∙ e in cc) | inr erp ↦ absurd (let same : Erp ≡ Erq = sym erp ∙ e in cc) ]
+
+-- a unit that is made now is sound, where it is founded
+pub fresh_is_sound : (plan : Plan) (past : List Entry) (units : List unit.Unit) (before place : ℕ) (s : SystemState) → SystemIsSound plan units before place s
+    → (moment now : ℕ) → moment ≡ now → (u : unit.Unit) → IsFresh s moment u → IsMadeOn plan past units u.kind u → UnitIsSound plan past units now u
+fresh_is_sound plan past units before place s sound moment now at u fresh founded = record {
+  founded = founded;
+  place = place;
+  maker = fresh.maker ∙ ap DeclaredAt sound.stands_at;
+  owner = record { system = s.configuration; there = sound.declared; own = own_address s u.source fresh.source };
+  first_position = fresh.first_position;
+  total = fresh.total;
+  made = let made = fresh.made in omega arith;
+}
+
+module _ (plan : Plan) (past : List Entry) (base : World) (now : ℕ) where
+  -- the units of a world are sound, and more than those of the world before the move; P holds of the system at each place, at this
+  -- clock, and the copies are sound
   pub record IsSoundWith (P : List unit.Unit → ℕ → SystemState → Type 0) (w : World) : Type 0 where
     pub made : UnitsAreSound plan past now w.units
+    pub front : IsFront base.units w.units
     pub stands : Stands w.units now (length plan.systems) (P w.units) w
 
-  -- what lines tell is honest
-  abbrev pub Told : Line → Type 0
-  Told = LineIs (NoteIsHonest plan past)
-
-  pub sound_with : (P : List unit.Unit → ℕ → SystemState → Type 0) (units : List unit.Unit) (w : World) → UnitsAreSound plan past now units
-      → Stands units now (length plan.systems) (P units) w → IsSoundWith P w
-  sound_with P units w made h = record {
+  sound_with : (P : List unit.Unit → ℕ → SystemState → Type 0) (units : List unit.Unit) (w : World) → UnitsAreSound plan past now units
+      → IsFront base.units units → Stands units now (length plan.systems) (P units) w → IsSoundWith P w
+  sound_with P units w made front h = record {
     made = subst (λ us. UnitsAreSound plan past now us) (sym h.made) made;
+    front = subst (IsFront base.units) (sym h.made) front;
     stands = subst (λ us. Stands us now (length plan.systems) (P us) w) (sym h.made) h;
   }
 
-  module _ (P Q : List unit.Unit → ℕ → SystemState → Type 0) where
-    -- still sound, with the same units
-    abbrev pub StaysSound : World → World → Type 0
-    StaysSound w v = IsSoundWith Q v × (v.units ≡ w.units)
+module _ (laws : StepLaws) (plan : Plan) (fit : IsFit plan) (past : List Entry) where
+  -- a system of the plan is configured as it must be
+  pub configured : (place : ℕ) (configuration : SystemConfiguration) → slice_get plan.systems place ≡ Some configuration
+      → IsSystem configuration × All IsAddress configuration.addresses
+  configured place configuration declared = (
+    AllByRecursion-slice_get IsSystem plan.systems place configuration declared fit.systems,
+    AllByRecursion-slice_get (λ (system : SystemConfiguration). All IsAddress system.addresses) plan.systems place configuration declared fit.each_address,
+  )
 
-    -- a system has taken a step in which it made nothing
-    pub effect_keeps : (w : World) (place : ℕ) (effect : Effect) → effect.units ≡ []
-        → ((other : ℕ) (t : SystemState) → other ≢ place → P w.units other t → Q w.units other t) → Q w.units place effect.after
-        → AllByRecursion (OutputIsSound (NoteIsHonest plan past) (w.units ++ effect.units) now) effect.outputs → IsSoundWith P w
-        → Keeps (StaysSound w) Told (takes_effect w place effect)
-    effect_keeps w place effect none others here outputs k =
-        let same : (w.units ++ effect.units) ≡ w.units = ap (λ us. w.units ++ us) none ∙ append-nil w.units in
-        let later = takes_effect_stands now (length plan.systems) (NoteIsHonest plan past) w.units (P w.units) (Q w.units) w place effect others here outputs k.stands in
+  module _ (units : List unit.Unit) (before place : ℕ) (s : SystemState) (sound : SystemIsSound plan units before place s) (input : Input)
+      (comes : ComesSoundly units input) where
+    pub step_gives_soundly : (Q : Note → Type 0) → IsFair input → AllByRecursion (NotesOnly Q) (step s input).outputs
+        → AllByRecursion (OutputIsSound Q (units ++ (step s input).units)) (step s input).outputs
+    step_gives_soundly Q fair notes =
+        let is = configured place s.configuration sound.declared in
+        outputs_are_sound Q units (step s input).units s input comes (step s input).outputs (laws.steps.ranges s input)
+        (laws.steps.carriable s input is.0 fair is.1 (kept_as_offered plan units s sound.buffers)) (laws.steps.esis_pdus s input is.0 is.1) notes
+
+    -- other systems stay as they are where the system makes units
+    pub others_stand : (before_move : List unit.Unit) (now other : ℕ) (t : SystemState) → other ≢ place
+        → SystemStands plan past before_move units now other t → SystemStands plan past before_move (units ++ (step s input).units) now other t
+    others_stand before_move now other t apart h =
+        let made = (step s input).units in
         record {
-          world = (
-            sound_with Q w.units (takes_effect w place effect).world k.made
-                (subst (λ us. Stands us now (length plan.systems) (Q w.units) (takes_effect w place effect).world) same later.world),
-            later.world.made ∙ same,
-          );
-          lines = later.lines;
+          sound = record {
+            stands_at = h.sound.stands_at;
+            declared = h.sound.declared;
+            hold = h.sound.hold;
+            moment = h.sound.moment;
+            reuse = h.sound.reuse;
+            uses = h.sound.uses;
+            used = λ u has maker. elim (Contains-append_cases units made u has) [
+              | inl there ↦ h.sound.used u there maker
+              | inr new ↦ (
+                  let fresh = AllByRecursion-contains (IsFresh s (moment_after s input)) made u new (laws.steps.fresh s input) in
+                  let here : DeclaredAt place ≡ DeclaredAt other = ap DeclaredAt (sym sound.stands_at) ∙ sym fresh.maker ∙ maker in
+                  let one : other ≡ place = cc in
+                  absurd (apart one))
+            ];
+            buffers = AllByRecursion-implies (BufferIsSound plan units) (BufferIsSound plan (units ++ made)) (buffer_later units made plan) t.buffers h.sound.buffers;
+            not_due = h.sound.not_due;
+            not_whole = h.sound.not_whole;
+            budget = h.sound.budget;
+          };
+          pending = h.pending;
         }
 
-    -- a system takes a step that makes nothing
-    pub step_keeps : StepLaws → (w : World) (place : ℕ) (s : SystemState) (input : Input) → AsksNothing input → moment_after s input ≡ now
-        → ((other : ℕ) (t : SystemState) → other ≢ place → P w.units other t → Q w.units other t) → Q w.units place (step s input).after
-        → AllByRecursion (NotesOnly (NoteIsHonest plan past)) (step s input).outputs → IsSoundWith P w
-        → Keeps (StaysSound w) Told (takes_effect w place (step s input))
-    step_keeps laws w place s input nothing at others here honest k =
-        effect_keeps w place (step s input) (laws.steps.asked s input nothing) others here
-        (subst (λ n. AllByRecursion (OutputIsSound (NoteIsHonest plan past) (w.units ++ (step s input).units) n) (step s input).outputs) at
-        (step_gives_soundly laws (NoteIsHonest plan past) w.units s input honest))
-        k
+    module _ (nothing : AsksNothing input) (now : ℕ) (at : moment_after s input ≡ now) where
+      report_is_founded : (u : unit.Unit) → u.kind ≡ Er → ReportsOn s input u → IsMadeOn plan past units u.kind u
+      report_is_founded u er reports =
+          let on = reports er in
+          subst (λ kind. IsMadeOn plan past units kind u) (sym er)
+          (record {
+            whole = on.2.whole;
+            packet = on.0;
+            range = at_hand_is_range units s input on.0 comes (kept_are_ranges plan units s sound.buffers) on.1;
+            destination = sym on.3 ∙ sym on.2.destination;
+            data_are = on.2.data_are;
+          })
+
+      new_unit_is_sound : (u : unit.Unit) → IsFresh s (moment_after s input) u → IsMadeFor input u × ReportsOn s input u × RepliesInOctets u → UnitIsSound plan past units now u
+      new_unit_is_sound u fresh for =
+          fresh_is_sound plan past units before place s sound (moment_after s input) now at u fresh
+          (elim (made_unasked input u nothing for.0) [
+            | inl er ↦ report_is_founded u er for.1
+            | inr erp ↦ subst (λ kind. IsMadeOn plan past units kind u) (sym erp) (for.2 erp)
+          ])
+
+      new_units_are_sound : AllByRecursion RepliesInOctets (step s input).units → AllByRecursion (UnitIsSound plan past units now) (step s input).units
+      new_units_are_sound replies =
+          AllByRecursion-both (IsFresh s (moment_after s input)) (λ u. IsMadeFor input u × ReportsOn s input u × RepliesInOctets u) (UnitIsSound plan past units now)
+          new_unit_is_sound (step s input).units (laws.steps.fresh s input)
+          (AllByRecursion-both (IsMadeFor input) (λ u. ReportsOn s input u × RepliesInOctets u) (λ u. IsMadeFor input u × ReportsOn s input u × RepliesInOctets u)
+          (λ u for rest. (for, rest.0, rest.1)) (step s input).units (laws.steps.made_for s input)
+          (AllByRecursion-both (ReportsOn s input) RepliesInOctets (λ u. ReportsOn s input u × RepliesInOctets u) (λ u on reply. (on, reply)) (step s input).units
+          (laws.steps.reports s input (comes_fairly units input nothing comes) (spells_pdus units input comes) (kept_as_offered plan units s sound.buffers))
+          replies))
+
+      pub units_after : UnitsAreSound plan past now units → EachRests plan.limits.reuse (units ++ (step s input).units)
+          → AllByRecursion RepliesInOctets (step s input).units → UnitsAreSound plan past now (units ++ (step s input).units)
+      units_after made rest replies = units_with plan past units (step s input).units now made rest (new_units_are_sound replies)
+
+    -- what is pending after a step was pending before it
+    pub pending_after : AsksNothing input → (before_move : List unit.Unit) → AllByRecursion (IsPending past before_move place s.configuration.name) s.pending
+        → AllByRecursion (IsPending past before_move place (step s input).after.configuration.name) (step s input).after.pending
+    pending_after nothing before_move pending =
+        let after = (step s input).after in
+        subst (λ (c : SystemConfiguration). AllByRecursion (IsPending past before_move place c.name) after.pending) (sym (laws.steps.itself s input).configuration)
+        (AllByRecursion-implies (WasPendingOrMade s (step s input)) (IsPending past before_move place s.configuration.name)
+        (λ request was.
+        elim was [
+          | inl there ↦ AllByRecursion-contains (IsPending past before_move place s.configuration.name) s.pending request there pending
+          | inr made ↦ absurd (no_request request.kind
+              (made_unasked input request nothing (AllByRecursion-contains (IsMadeFor input) (step s input).units request made.0 (laws.steps.made_for s input))) made.1)
+        ])
+        after.pending (laws.steps.pending s input))
+
+  -- Notes that are honest tell of no rule, and of no restart where there is none.
+
+  module _ (w : World) (name : List ℕ) (s : SystemState) (input : Input) (units : List unit.Unit) (comes : ComesSoundly units input)
+      (honest : AllByRecursion (NotesOnly (NoteIsHonest plan past w name)) (step s input).outputs) where
+    output_notes_both : (P Q R : Note → Type 0) → ((note : Note) → P note → Q note → R note) → (output : Output) → NotesOnly P output → NotesOnly Q output
+        → NotesOnly R output
+    output_notes_both P Q R both (Transmits port target packet) h k = tt
+    output_notes_both P Q R both (SendsEsis port target value) h k = tt
+    output_notes_both P Q R both (Notes note) h k = both note h k
+
+    pub notes_are_sound : AllByRecursion (NotesOnly (NoteIsSound plan past w name)) (step s input).outputs
+    notes_are_sound =
+        AllByRecursion-both (NotesOnly (NoteIsHonest plan past w name)) (NotesOnly NotesNoRule) (NotesOnly (NoteIsSound plan past w name))
+        (output_notes_both (NoteIsHonest plan past w name) NotesNoRule (NoteIsSound plan past w name) (λ note h k. record { honest = h; no_rule = k }))
+        (step s input).outputs honest (laws.steps.no_rule s input (spells_pdus units input comes))
+
+    pub notes_are_steady : RestartsNothing input → AllByRecursion (NotesOnly (NoteIsSteady plan past w name)) (step s input).outputs
+    notes_are_steady steady =
+        AllByRecursion-both (NotesOnly (NoteIsSound plan past w name)) (NotesOnly IsNoRestart) (NotesOnly (NoteIsSteady plan past w name))
+        (output_notes_both (NoteIsSound plan past w name) IsNoRestart (NoteIsSteady plan past w name) (λ note h k. record { sound = h; no_restart = k }))
+        (step s input).outputs notes_are_sound (laws.steps.no_restart s input steady)
+
+  module _ (base : World) (now : ℕ) (N : List ℕ → Note → Type 0) (P Q : List unit.Unit → ℕ → SystemState → Type 0) where
+    -- a system takes a step that is asked nothing
+    pub step_keeps : (w : World) (place : ℕ) (s : SystemState) (input : Input) (before : ℕ) → SystemIsSound plan w.units before place s
+        → AsksNothing input → moment_after s input ≡ now → ComesSoundly w.units input
+        → ((other : ℕ) (t : SystemState) → other ≢ place → P w.units other t → Q (w.units ++ (step s input).units) other t)
+        → Q (w.units ++ (step s input).units) place (step s input).after → EachRests plan.limits.reuse (w.units ++ (step s input).units)
+        → AllByRecursion RepliesInOctets (step s input).units → AllByRecursion (NotesOnly (N s.configuration.name)) (step s input).outputs → IsSoundWith plan past base now P w
+        → Keeps (IsSoundWith plan past base now Q) (LineIs N) (takes_effect w place (step s input))
+    step_keeps w place s input before sound nothing at comes others here rest replies notes k =
+        let effect : Effect = step s input in
+        let later : List unit.Unit = w.units ++ effect.units in
+        let outputs = subst (λ (c : SystemConfiguration). AllByRecursion (OutputIsSound (N c.name) later) effect.outputs)
+        (sym (laws.steps.itself s input).configuration)
+        (step_gives_soundly w.units before place s sound input comes (N s.configuration.name) (comes_fairly w.units input nothing comes) notes) in
+        let kept = takes_effect_stands now (length plan.systems) N w.units (P w.units) (Q later) w place effect others here outputs k.stands in
+        record {
+          world = sound_with plan past base now Q later (takes_effect w place effect).world (units_after w.units before place s sound input comes nothing now at k.made rest replies)
+              (front-more base.units w.units effect.units k.front) kept.world;
+          lines = kept.lines;
+        }

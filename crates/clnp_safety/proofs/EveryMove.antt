@@ -4,13 +4,14 @@ use Rattle.std.proofs.Common.{◌≡◌, ℕ, refl, List, [], ◌∷◌, ◌+◌
 use Rattle.std.specs.Prelude.{slice_get, Option, None, Some}
 use Rattle.std.specs.List.{AllByRecursion, range_with_len}
 use Rattle.clnp_plan.specs.Journal.{Line}
+use Rattle.clnp_plan.specs.declared.ask.Ask.{Ask}
 use Rattle.clnp_plan.specs.declared.config.Limits.{Limits}
 use Rattle.scenario.specs.Scenario.{Plan, octets_of}
 use Rattle.scenario.specs.declared.event.Event.{Event}
-use Rattle.scenario.specs.declared.event.Event.TheVariants.{Send, Deliver, Settle, Lose, Tick, Restart}
+use Rattle.scenario.specs.declared.event.Event.TheVariants.{Send, Echo, Deliver, Settle, Lose, Tick, Restart}
 use Rattle.scenario.specs.declared.event.Move.{Move}
 use Rattle.scenario.specs.declared.event.Move.TheVariants.{One, SettleOne, LoseOne, TickOne}
-use Rattle.clnp_machine.specs.System.{SystemState, Input, AsksToSend, MomentComes, IsRestarted}
+use Rattle.clnp_machine.specs.System.{SystemState, Input, AsksToSend, AsksForEcho, MomentComes, IsRestarted}
 use Rattle.clnp_machine.specs.Step.{step}
 use Rattle.clnp_network.specs.World.{World, Copy, takes_effect, comes, frame_to, addressees_from, settle_copy, lose_copy, tick_each, event_happens, after}
 use Rattle.clnp_network.specs.Run.{Entry, entries_of, world_after}
@@ -19,18 +20,26 @@ use Rattle.clnp_safety.proofs.Steps.{Keeps, NotGivenIsFine, keeps-nothing, keeps
 -- what an event asks of a system is such as Comes says
 abbrev pub GivesOnly : (Input → Type 0) → Event → Type 0
 GivesOnly Comes (Send system from to body ask) = Comes (AsksToSend from to (octets_of body) ask)
+GivesOnly Comes (Echo system from to body) = Comes (AsksForEcho from to (octets_of body))
 GivesOnly Comes _ = Unit {0}
 
 -- whatever comes to a system
 abbrev pub AnyInput : Input → Type 0
 AnyInput input = Unit {0}
 
-any_event : (event : Event) → GivesOnly AnyInput event
-any_event (Send system from to body ask) = tt
-any_event _ = tt
+module _ (Comes : Input → Type 0) (asked : (from to octets : List ℕ) (ask : Ask) → Comes (AsksToSend from to octets ask))
+    (echo : (from to octets : List ℕ) → Comes (AsksForEcho from to octets)) where
+  asked_by : (event : Event) → GivesOnly Comes event
+  asked_by (Send system from to body ask) = asked from to (octets_of body) ask
+  asked_by (Echo system from to body) = echo from to (octets_of body)
+  asked_by _ = tt
+
+  -- whatever is asked is such as Comes says, and so all events ask only that
+  pub asked_by_all : (events : List Event) → AllByRecursion (GivesOnly Comes) events
+  asked_by_all events = AllByRecursion-any (GivesOnly Comes) asked_by events
 
 pub any_events : (events : List Event) → AllByRecursion (GivesOnly AnyInput) events
-any_events events = AllByRecursion-any (GivesOnly AnyInput) any_event events
+any_events events = asked_by_all AnyInput (λ from to octets ask. tt) (λ from to octets. tt) events
 
 -- K holds of the world after each step of a system of one of which it holds, and Q of the lines, where what comes is such
 -- as Comes says, as all is that asks nothing where K holds; K doesn't go by clock and cursor
@@ -63,6 +72,8 @@ module _ (Comes : Input → Type 0) (K : World → Type 0) (Q : Line → Type 0)
   keeps-event limits w (Some (Send system from to body ask)) may k =
       keeps-asks K Q w system (AsksToSend from to (octets_of body) ask) k
       (keeps-comes w system (AsksToSend from to (octets_of body) ask) (may (Send system from to body ask) refl) k)
+  keeps-event limits w (Some (Echo system from to body)) may k =
+      keeps-comes w system (AsksForEcho from to (octets_of body)) (may (Echo system from to body) refl) k
   keeps-event limits w (Some (Settle count)) may k = keeps-nothing K Q w k
   keeps-event limits w (Some (Lose count)) may k = keeps-nothing K Q w k
   keeps-event limits w (Some (Tick count)) may k = keeps-nothing K Q w k

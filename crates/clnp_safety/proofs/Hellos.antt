@@ -1,60 +1,82 @@
 -- What a system says and hears of others leaves it sound, and its notes are honest.
 use Rattle.clnp_base.proofs.Lists.{AllByRecursion-append}
-use Rattle.std.proofs.Common.{◌≡◌, ◌∙◌, ◌<◌, ◌≤◌, sym, ap, subst, ℕ, false, List, Some}
+use Rattle.std.proofs.Common.{◌≡◌, ◌∙◌, sym, ap, subst, ℕ, List, ◌++◌}
 use Rattle.std.specs.List.{AllByRecursion}
+use Rattle.std.proofs.lemmas.List.{append-nil}
 use Rattle.scenario.specs.Scenario.{Plan}
-use Rattle.clnp_plan.specs.Configuration.{SystemConfiguration}
-use Rattle.reassembly.specs.Buffer.{Buffer, held, is_whole}
-use Rattle.clnp_machine.specs.Identifiers.{Identifiers}
 use Rattle.clnp_machine.specs.Unit as unit
-use Rattle.clnp_machine.specs.Unit.{Packet}
 use Rattle.clnp_machine.specs.System.{SystemState, Effect, then_does}
 use Rattle.clnp_machine.specs.Local.{Deed}
 use Rattle.clnp_machine.specs.Step.{effect_of}
-use Rattle.clnp_machine.specs.Steps.{LeavesTheRest, NotesOnly, OnlyHellos}
-use Rattle.clnp_machine.specs.Told.{TellsOnly}
+use Rattle.clnp_machine.specs.Steps.{IsOfHellos, NotesOnly, OnlyHellos}
+use Rattle.clnp_network.specs.World.{World}
 use Rattle.clnp_network.specs.Run.{Entry}
-use Rattle.clnp_safety.specs.Invariant.{AreUsesUntil, BufferIsSound, IsInUses, NoteIsHonest, SystemIsSound}
+use Rattle.clnp_safety.specs.Invariant.{EachRests, SystemIsSound}
 use Rattle.clnp_safety.specs.StepLaws.{StepLaws}
+use Rattle.clnp_safety.proofs.Deeds.{DeedIsSound, IsHonest, MayDo, RepliesInOctets, like_is_sound, like_rest}
 use Rattle.clnp_safety.proofs.Lines.{quiet_is_honest}
 use Rattle.clnp_safety.proofs.Told.{hellos_note, outputs_note}
 
-module _ (plan : Plan) (past : List Entry) (units : List unit.Unit) (now place : ℕ) where
-  -- what it leaves is sound, and what it notes is honest
-  abbrev pub EffectIsSound : Effect → Type 0
-  EffectIsSound effect = SystemIsSound plan units now place effect.after × AllByRecursion (NotesOnly (NoteIsHonest plan past)) effect.outputs
+-- one exchange of hellos, and then the next
+pub hellos_then : (s : SystemState) (effect : Effect) (next : SystemState → Effect) → OnlyHellos s effect → OnlyHellos effect.after (next effect.after)
+    → OnlyHellos s (then_does effect next)
+hellos_then s effect next first second = record {
+  rest = record {
+    place = second.rest.place ∙ first.rest.place;
+    configuration = second.rest.configuration ∙ first.rest.configuration;
+    hold = second.rest.hold ∙ first.rest.hold;
+    moment = second.rest.moment ∙ first.rest.moment;
+    count = second.rest.count ∙ first.rest.count;
+    identifiers = second.rest.identifiers ∙ first.rest.identifiers;
+    buffers = second.rest.buffers ∙ first.rest.buffers;
+    pending = second.rest.pending ∙ first.rest.pending;
+  };
+  outputs = AllByRecursion-append IsOfHellos effect.outputs (next effect.after).outputs first.outputs second.outputs;
+  units = ap (λ us. us ++ (next effect.after).units) first.units ∙ second.units;
+}
 
-  pub rest_is_sound : (s t : SystemState) → LeavesTheRest s t → SystemIsSound plan units now place s → SystemIsSound plan units now place t
-  rest_is_sound s t rest sound = record {
-    stands_at = rest.place ∙ sound.stands_at;
-    declared = sound.declared ∙ ap Some (sym rest.configuration);
-    hold = rest.hold ∙ sound.hold;
-    moment = rest.moment ∙ sound.moment;
-    reuse = ap (λ (ids : Identifiers). ids.reuse) rest.identifiers ∙ sound.reuse;
-    uses = subst (λ (ids : Identifiers). AreUsesUntil now ids.uses) (sym rest.identifiers) sound.uses;
-    used = λ u there maker. subst (λ ids. IsInUses ids u) (sym rest.identifiers) (sound.used u there maker);
-    buffers = subst (AllByRecursion (BufferIsSound plan units)) (sym rest.buffers) sound.buffers;
-    not_due = subst (AllByRecursion (λ (b : Buffer Packet). now < b.deadline)) (sym rest.buffers) sound.not_due;
-    not_whole = subst (AllByRecursion (λ (b : Buffer Packet). is_whole b ≡ false)) (sym rest.buffers) sound.not_whole;
-    budget = subst (λ (buffers : List (Buffer Packet)). held buffers ≤ t.configuration.settings.budget) (sym rest.buffers)
-        (subst (λ (c : SystemConfiguration). held s.buffers ≤ c.settings.budget) (sym rest.configuration) sound.budget);
+module _ (plan : Plan) (past : List Entry) (w : World) (name : List ℕ) (units : List unit.Unit) (now place : ℕ) where
+  -- what it leaves is sound beside the units that are made in it, and what it notes is honest
+  pub record EffectIsSound (effect : Effect) : Type 0 where
+    pub after : SystemIsSound plan (units ++ effect.units) now place effect.after
+    pub rest : EachRests plan.limits.reuse (units ++ effect.units)
+    pub replies : AllByRecursion RepliesInOctets effect.units
+    pub notes : AllByRecursion (NotesOnly (IsHonest plan past w name)) effect.outputs
+
+  hellos_are_honest : (s : SystemState) (effect : Effect) → OnlyHellos s effect → AllByRecursion (NotesOnly (IsHonest plan past w name)) effect.outputs
+  hellos_are_honest s effect only = hellos_note (IsHonest plan past w name) (quiet_is_honest plan past w name) effect.outputs only.outputs
+
+  pub hellos_are_sound : (s : SystemState) (effect : Effect) → OnlyHellos s effect → MayDo plan units now place s → EffectIsSound effect
+  hellos_are_sound s effect only may =
+      let same : (units ++ effect.units) ≡ units = ap (λ us. units ++ us) only.units ∙ append-nil units in
+      record {
+        after = subst (λ us. SystemIsSound plan us now place effect.after) (sym same)
+            (like_is_sound plan units now place s effect.after (like_rest s effect.after only.rest) may.sound);
+        rest = subst (EachRests plan.limits.reuse) (sym same) may.rest;
+        replies = subst (AllByRecursion RepliesInOctets) (sym only.units) tt;
+        notes = hellos_are_honest s effect only;
+      }
+
+  -- an effect, and then what is said of it to others
+  pub then_hellos : (effect : Effect) (next : SystemState → Effect) → EffectIsSound effect → OnlyHellos effect.after (next effect.after)
+      → EffectIsSound (then_does effect next)
+  then_hellos effect next first only =
+      let later = next effect.after in
+      let same : (units ++ effect.units) ≡ units ++ (effect.units ++ later.units)
+      = ap (λ us. units ++ us) (sym (append-nil effect.units) ∙ ap (λ us. effect.units ++ us) (sym only.units)) in
+      record {
+        after = subst (λ us. SystemIsSound plan us now place later.after) same
+            (like_is_sound plan (units ++ effect.units) now place effect.after later.after (like_rest effect.after later.after only.rest) first.after);
+        rest = subst (EachRests plan.limits.reuse) same first.rest;
+        replies = AllByRecursion-append RepliesInOctets effect.units later.units first.replies (subst (AllByRecursion RepliesInOctets) (sym only.units) tt);
+        notes = AllByRecursion-append (NotesOnly (IsHonest plan past w name)) effect.outputs later.outputs first.notes
+            (hellos_are_honest effect.after later only);
+      }
+
+  pub deed_is_sound : StepLaws → (deed : Deed) → DeedIsSound plan past w name units now place deed → EffectIsSound (effect_of deed)
+  deed_is_sound laws deed h = record {
+    after = h.after;
+    rest = h.rest;
+    replies = h.replies;
+    notes = outputs_note laws (IsHonest plan past w name) (quiet_is_honest plan past w name) deed.after deed.actions h.tells;
   }
-
-  pub hellos_are_sound : (s : SystemState) (effect : Effect) → OnlyHellos s effect → SystemIsSound plan units now place s → EffectIsSound effect
-  hellos_are_sound s effect only sound = (
-    rest_is_sound s effect.after only.rest sound,
-    hellos_note (NoteIsHonest plan past) (quiet_is_honest plan past) effect.outputs only.outputs,
-  )
-
-  pub then_is_sound : (effect : Effect) (next : SystemState → Effect) → EffectIsSound effect
-      → (SystemIsSound plan units now place effect.after → EffectIsSound (next effect.after)) → EffectIsSound (then_does effect next)
-  then_is_sound effect next first later =
-      let second = later first.0 in (
-        second.0,
-        AllByRecursion-append (NotesOnly (NoteIsHonest plan past)) effect.outputs (next effect.after).outputs first.1 second.1,
-      )
-
-  pub deed_is_sound : StepLaws → (deed : Deed) → SystemIsSound plan units now place deed.after
-      → AllByRecursion (TellsOnly (NoteIsHonest plan past)) deed.actions → EffectIsSound (effect_of deed)
-  deed_is_sound laws deed sound honest =
-      (sound, outputs_note laws (NoteIsHonest plan past) (quiet_is_honest plan past) deed.after deed.actions honest)

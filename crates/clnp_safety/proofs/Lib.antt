@@ -4,7 +4,9 @@ pub mod Kept
 pub mod Told
 pub mod SendUnits
 pub mod SendAsked
+pub mod Deeds
 pub mod BufferUnits
+pub mod Founded
 pub mod BufferOffers
 pub mod Joining
 pub mod Hellos
@@ -15,7 +17,6 @@ pub mod Lines
 pub mod Steps
 pub mod EveryMove
 pub mod Bounds
-pub mod Frames
 pub mod Outputs
 pub mod Past
 pub mod Effects

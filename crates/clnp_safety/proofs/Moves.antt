@@ -1,54 +1,114 @@
 -- What each move keeps.
-use Rattle.std.proofs.Common.{ℕ, List, [], ◌∷◌, ◌++◌, refl, sym, subst, arith}
+use Rattle.clnp_base.proofs.Lists.{AllByRecursion-implies}
+use Rattle.std.proofs.Common.{◌≡◌, ◌⊎◌, ℕ, inl, inr, List, [], ◌∷◌, ◌++◌, length, refl, sym, subst, arith}
+use Rattle.std.specs.Prelude.{slice_get, Some}
+use Rattle.std.specs.List.{AllByRecursion}
+use Rattle.std.proofs.lemmas.List.{append-nil}
 use Rattle.scenario.specs.Scenario.{Plan}
 use Rattle.scenario.specs.declared.event.Move.{Move}
+use Rattle.clnp_machine.specs.Unit as unit
+use Rattle.clnp_machine.specs.System.{SystemState}
+use Rattle.clnp_machine.specs.Steps.{IsNoRestart}
 use Rattle.clnp_network.specs.World.{World, Step, nothing}
 use Rattle.clnp_network.specs.Run.{Entry}
-use Rattle.clnp_network.specs.Safe.{NoInterference, NoneIsAlien}
-use Rattle.clnp_safety.specs.Invariant.{NoteIsHonest, SystemIsSound, UnitsAreSound, SystemsAreSound, WorldIsSound}
-use Rattle.clnp_safety.proofs.Past.{units_later}
-use Rattle.clnp_safety.proofs.Lines.{LineIs, LinesAreHonest, lines_are_honest, lines_are_apart, lines_are_known}
+use Rattle.clnp_network.specs.Safe.{SaysNoRestart}
+use Rattle.clnp_safety.specs.Invariant.{CopyIsSound, IsPending, NoteIsSound, NoteIsSteady, SystemStands, UnitsAreSound, SystemsAreSound, WorldIsSound}
+use Rattle.clnp_safety.proofs.Past.{pending_later, units_later}
+use Rattle.clnp_safety.proofs.Lines.{LineIs, lines_are, lines_say_no_restart}
 use Rattle.clnp_safety.proofs.Steps.{Keeps}
+use Rattle.clnp_safety.proofs.Outputs.{Stands}
 use Rattle.clnp_safety.proofs.Effects.{IsSoundWith}
 
--- each system is sound at this clock, and so are units and copies
-abbrev pub IsSoundAt : Plan → List Entry → ℕ → World → Type 0
-IsSoundAt plan past now = IsSoundWith plan past now (λ units. SystemIsSound plan units now)
+-- each system is sound at this clock, and so are units and copies, since a world
+abbrev pub IsSoundAt : Plan → List Entry → World → ℕ → World → Type 0
+IsSoundAt plan past base now = IsSoundWith plan past base now (λ units. SystemStands plan past base.units units now)
 
-pub sound_at_clock : (plan : Plan) (past : List Entry) (w : World) → WorldIsSound plan past w → IsSoundAt plan past w.clock w
+pub sound_at_clock : (plan : Plan) (past : List Entry) (w : World) → WorldIsSound plan past w → IsSoundAt plan past w w.clock w
 sound_at_clock plan past w h = record {
   made = h.made;
+  front = ([], sym (append-nil w.units));
   stands = record { made = refl; clock = refl; copies = h.copies; number = h.systems.number; each = h.systems.each };
 }
 
-pub sound_from_clock : (plan : Plan) (past : List Entry) (now : ℕ) (w : World) → IsSoundAt plan past now w → WorldIsSound plan past w
-sound_from_clock plan past now w k = record {
-  made = subst (λ n. UnitsAreSound plan past n w.units) (sym k.stands.clock) k.made;
-  copies = k.stands.copies;
-  systems = subst (λ n. SystemsAreSound plan w.units n w.systems) (sym k.stands.clock) (record { number = k.stands.number; each = k.stands.each });
-}
-
--- the world after the move is sound beside the past with the move's entry, and its lines hand up only
--- what the past before it sent, and tell of no interference and of no alien frame
-pub record MoveIsSound (plan : Plan) (past : List Entry) (move : Move) (taken : Step) : Type 0 where
+-- the world after the move is sound beside the past with the move's entry, and its lines say only what is so
+pub record MoveIsSound (plan : Plan) (past : List Entry) (move : Move) (w : World) (taken : Step) : Type 0 where
   pub world : WorldIsSound plan (past ++ record { move = move; lines = taken.lines } ∷ []) taken.world
-  pub honest : LinesAreHonest plan past taken.lines
-  pub apart : NoInterference taken.lines
-  pub known : NoneIsAlien taken.lines
+  pub lines : AllByRecursion (LineIs (NoteIsSound plan past w)) taken.lines
 
--- a move that keeps a world sound beside the past
-pub kept_is_sound : (plan : Plan) (past : List Entry) (move : Move) (now : ℕ) (taken : Step)
-    → Keeps (IsSoundAt plan past now) (LineIs (NoteIsHonest plan past)) taken → MoveIsSound plan past move taken
-kept_is_sound plan past move now taken kept =
-    let entry : Entry = record { move = move; lines = taken.lines } in
+-- what stands beside sound units is a sound world
+pub stands_soundly : (plan : Plan) (past : List Entry) (units : List unit.Unit) (now : ℕ) (w : World) → UnitsAreSound plan past now units
+    → Stands units now (length plan.systems) (SystemStands plan past units units now) w → WorldIsSound plan past w
+stands_soundly plan past units now w made h =
+    let same = sym h.made in
+    let clock = sym h.clock in
     record {
-      world = sound_from_clock plan (past ++ entry ∷ []) now taken.world
-          (record { made = units_later plan past (entry ∷ []) now now taken.world.units (omega arith) kept.world.made; stands = kept.world.stands });
-      honest = lines_are_honest plan past taken.lines kept.lines;
-      apart = lines_are_apart plan past taken.lines kept.lines;
-      known = lines_are_known plan past taken.lines kept.lines;
+      made = subst (λ n. UnitsAreSound plan past n w.units) clock (subst (λ us. UnitsAreSound plan past now us) same made);
+      copies = subst (λ us. AllByRecursion (CopyIsSound us) w.copies) same h.copies;
+      systems = subst (λ n. SystemsAreSound plan past w.units n w.systems) clock
+          (subst (λ us. SystemsAreSound plan past us now w.systems) same (record { number = h.number; each = h.each }));
     }
 
-pub nothing_is_sound : (plan : Plan) (past : List Entry) (move : Move) (w : World) → WorldIsSound plan past w → MoveIsSound plan past move (nothing w)
+-- requests stay pending with an entry that says nothing of a restart
+pub stay_pending : (past : List Entry) (entry : Entry) (units more : List unit.Unit) (place : ℕ) (name : List ℕ) (requests : List unit.Unit)
+    → AllByRecursion (SaysNoRestart name) entry.lines → AllByRecursion (IsPending past units place name) requests
+    → AllByRecursion (IsPending (past ++ entry ∷ []) (units ++ more) place name) requests
+stay_pending past entry units more place name requests none h =
+    AllByRecursion-implies (IsPending past units place name) (IsPending (past ++ entry ∷ []) (units ++ more) place name)
+    (pending_later past entry units more place name none) requests h
+
+module _ (plan : Plan) (past : List Entry) (move : Move) (base : World) (now : ℕ) (taken : Step) where
+  abbrev entry : Entry
+  entry = record { move = move; lines = taken.lines }
+
+  -- a system has no requests, or no line says that it was restarted
+  abbrev pub IsPendingStill : SystemState → Type 0
+  IsPendingStill s = (s.pending ≡ []) ⊎ AllByRecursion (SaysNoRestart s.configuration.name) taken.lines
+
+  system_after : (units : List unit.Unit) (more : List unit.Unit) → units ≡ base.units ++ more → (place : ℕ) (s : SystemState)
+      → SystemStands plan past base.units units now place s → IsPendingStill s → SystemStands plan (past ++ entry ∷ []) units units now place s
+  system_after units more grown place s h still = record {
+    sound = h.sound;
+    pending = elim still [
+      | inl none ↦ subst (AllByRecursion (IsPending (past ++ entry ∷ []) units place s.configuration.name)) (sym none) tt
+      | inr quiet ↦
+          subst (λ us. AllByRecursion (IsPending (past ++ entry ∷ []) us place s.configuration.name) s.pending) (sym grown)
+          (stay_pending past entry base.units more place s.configuration.name s.pending quiet h.pending)
+    ];
+  }
+
+  -- a move that keeps a world sound beside the past, and of whose requests none is given up
+  pub moved_is_sound : Keeps (IsSoundAt plan past base now) (LineIs (NoteIsSound plan past base)) taken
+      → ((place : ℕ) (s : SystemState) → slice_get taken.world.systems place ≡ Some s → IsPendingStill s) → MoveIsSound plan past move base taken
+  moved_is_sound kept still =
+      let k = kept.world in
+      let later = past ++ entry ∷ [] in
+      let clock = sym k.stands.clock in
+      record {
+        world = record {
+          made = subst (λ n. UnitsAreSound plan later n taken.world.units) clock
+              (units_later plan past (entry ∷ []) now now taken.world.units (omega arith) k.made);
+          copies = k.stands.copies;
+          systems = subst (λ n. SystemsAreSound plan later taken.world.units n taken.world.systems) clock
+              (record {
+                number = k.stands.number;
+                each = λ place s there. system_after taken.world.units k.front.0 k.front.1 place s (k.stands.each place s there) (still place s there);
+              });
+        };
+        lines = kept.lines;
+      }
+
+  -- the same where no restart is noted
+  pub kept_is_sound : Keeps (IsSoundAt plan past base now) (LineIs (NoteIsSteady plan past base)) taken → MoveIsSound plan past move base taken
+  kept_is_sound kept =
+      moved_is_sound
+      (record {
+        world = kept.world;
+        lines = lines_are (NoteIsSteady plan past base) (NoteIsSound plan past base) (λ name note h. h.sound) taken.lines kept.lines;
+      })
+      (λ place s there.
+      inr (lines_say_no_restart s.configuration.name taken.lines
+      (lines_are (NoteIsSteady plan past base) (λ name. IsNoRestart) (λ name note h. h.no_restart) taken.lines kept.lines)))
+
+pub nothing_is_sound : (plan : Plan) (past : List Entry) (move : Move) (w : World) → WorldIsSound plan past w → MoveIsSound plan past move w (nothing w)
 nothing_is_sound plan past move w h =
-    kept_is_sound plan past move w.clock (nothing w) (record { world = sound_at_clock plan past w h; lines = tt })
+    kept_is_sound plan past move w w.clock (nothing w) (record { world = sound_at_clock plan past w h; lines = tt })

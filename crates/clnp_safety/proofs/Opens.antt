@@ -6,7 +6,7 @@ use Rattle.clnp_plan.specs.declared.config.Limits.{Limits}
 use Rattle.scenario.specs.Scenario.{Plan}
 use Rattle.clnp_machine.specs.System.{SystemState, first_state}
 use Rattle.clnp_network.specs.World.{states_from, first_world}
-use Rattle.clnp_safety.specs.Invariant.{SystemIsSound, WorldIsSound}
+use Rattle.clnp_safety.specs.Invariant.{SystemStands, WorldIsSound}
 
 length-states_from : (limits : Limits) (from : ℕ) (systems : List SystemConfiguration) → length (states_from limits from systems) ≡ length systems
 length-states_from limits from [] = refl
@@ -30,19 +30,22 @@ opened limits from (system ∷ systems) (suc place) at s e there =
     record { configuration = rest.configuration; declared = rest.declared; state = rest.state }
 
 first_is_sound : (plan : Plan) (place : ℕ) (configuration : SystemConfiguration) → slice_get plan.systems place ≡ Some configuration
-    → SystemIsSound plan [] 0 place (first_state place configuration plan.limits 0 0)
+    → SystemStands plan [] [] [] 0 place (first_state place configuration plan.limits 0 0)
 first_is_sound plan place configuration declared = record {
-  stands_at = refl;
-  declared = declared;
-  hold = refl;
-  moment = refl;
-  reuse = refl;
-  uses = record { until_now = tt; in_order = λ i j d below within. absurd (omega arith) };
-  used = λ u there. let none = there.1 in absurd (omega arith);
-  buffers = tt;
-  not_due = tt;
-  not_whole = tt;
-  budget = omega arith;
+  sound = record {
+    stands_at = refl;
+    declared = declared;
+    hold = refl;
+    moment = refl;
+    reuse = refl;
+    uses = record { until_now = tt; in_order = λ i j d below within. absurd (omega arith) };
+    used = λ u there. let none = there.1 in absurd (omega arith);
+    buffers = tt;
+    not_due = tt;
+    not_whole = tt;
+    budget = omega arith;
+  };
+  pending = tt;
 }
 
 pub first_world_is_sound : (plan : Plan) → WorldIsSound plan [] (first_world plan)
@@ -53,6 +56,6 @@ first_world_is_sound plan = record {
     number = length-states_from plan.limits 0 plan.systems;
     each = λ place s there.
         let here = opened plan.limits 0 plan.systems place place s (omega arith) there in
-        subst (SystemIsSound plan [] 0 place) here.state (first_is_sound plan place here.configuration here.declared);
+        subst (SystemStands plan [] [] [] 0 place) here.state (first_is_sound plan place here.configuration here.declared);
   };
 }

@@ -7,7 +7,7 @@ use Rattle.clnp_plan.specs.declared.config.PortConfig.{PortConfig}
 use Rattle.clnp_plan.specs.declared.note.Note.{Note}
 use Rattle.clnp_machine.specs.Unit as unit
 use Rattle.clnp_machine.specs.Unit.{Maker, DeclaredAt}
-use Rattle.clnp_machine.specs.Content.{Content, Labelled, Esis}
+use Rattle.clnp_machine.specs.Content.{Content, IsCarried, Labelled, Esis}
 use Rattle.clnp_machine.specs.System.{SystemState, Output, Transmits, SendsEsis, Notes, Effect}
 use Rattle.clnp_machine.specs.Steps.{IsRangeOf, NotesOnly}
 use Rattle.clnp_network.specs.World.{World, copy_from, sends_frame, put_out, with_effect, takes_effect}
@@ -27,20 +27,21 @@ pub record Stands (units : List unit.Unit) (now count : ℕ) (P : ℕ → System
   pub each : (place : ℕ) (s : SystemState) → slice_get w.systems place ≡ Some s → P place s
 
 copy_from_is_sound : (units : List unit.Unit) (found : Option PortConfig) (target : Target) (maker : Maker) (birth : ℕ) (content : Content)
-    → Carries (IsRangeOf units) content → IsBornWithUnit birth content → AllByRecursion (CopyIsSound units) (copy_from found target maker birth content)
-copy_from_is_sound units None target maker birth content carries born = tt
-copy_from_is_sound units (Some port) target maker birth content carries born = (record { carries = carries; birth = born }, tt)
+    → Carries (IsRangeOf units) content → IsCarried content → IsBornWithUnit birth content
+    → AllByRecursion (CopyIsSound units) (copy_from found target maker birth content)
+copy_from_is_sound units None target maker birth content carries carried born = tt
+copy_from_is_sound units (Some port) target maker birth content carries carried born = (record { carries = carries; carried = carried; birth = born }, tt)
 
-module _ (now count : ℕ) (N : Note → Type 0) where
+module _ (now count : ℕ) (N : List ℕ → Note → Type 0) where
   frame_stands : (units : List unit.Unit) (P : ℕ → SystemState → Type 0) (system : SystemState) (v : World) (port : ℕ) (target : Target) (maker : Maker)
-      (birth : ℕ) (content : Content) → Carries (IsRangeOf units) content → IsBornWithUnit birth content → Stands units now count P v
-      → Keeps (Stands units now count P) (LineIs N) (sends_frame system v port target maker birth content)
-  frame_stands units P system v port target maker birth content carries born k = record {
+      (birth : ℕ) (content : Content) → Carries (IsRangeOf units) content → IsCarried content → IsBornWithUnit birth content
+      → Stands units now count P v → Keeps (Stands units now count P) (LineIs N) (sends_frame system v port target maker birth content)
+  frame_stands units P system v port target maker birth content carries carried born k = record {
     world = record {
       made = k.made;
       clock = k.clock;
       copies = AllByRecursion-append (CopyIsSound units) v.copies (copy_from (slice_get system.configuration.ports port) target maker birth content) k.copies
-          (copy_from_is_sound units (slice_get system.configuration.ports port) target maker birth content carries born);
+          (copy_from_is_sound units (slice_get system.configuration.ports port) target maker birth content carries carried born);
       number = k.number;
       each = k.each;
     };
@@ -48,23 +49,23 @@ module _ (now count : ℕ) (N : Note → Type 0) where
   }
 
   put_out_stands : (units : List unit.Unit) (P : ℕ → SystemState → Type 0) (system : SystemState) (output : Output)
-      → OutputIsSound N units now output → (v : World) → Stands units now count P v
+      → OutputIsSound (N system.configuration.name) units output → (v : World) → Stands units now count P v
       → Keeps (Stands units now count P) (LineIs N) (put_out system v output)
   put_out_stands units P system (Notes note) h v k = record { world = k; lines = (h, tt) }
   put_out_stands units P system (Transmits port target packet) h v k =
-      frame_stands units P system v port target packet.unit.maker packet.unit.made (Labelled packet []) (h.0, refl) refl k
+      frame_stands units P system v port target packet.unit.maker packet.unit.made (Labelled packet []) (h.0, refl) h.1 refl k
   put_out_stands units P system (SendsEsis port target value) h v k =
-      frame_stands units P system v port target (DeclaredAt system.place) v.clock (Esis value []) refl tt k
+      frame_stands units P system v port target (DeclaredAt system.place) v.clock (Esis value []) refl h tt k
 
   -- a system that gives out only what is sound leaves a sound world
   pub takes_effect_stands : (units : List unit.Unit) (P Q : ℕ → SystemState → Type 0) (w : World) (place : ℕ) (effect : Effect)
       → ((other : ℕ) (s : SystemState) → other ≢ place → P other s → Q other s) → Q place effect.after
-      → AllByRecursion (OutputIsSound N (units ++ effect.units) now) effect.outputs
+      → AllByRecursion (OutputIsSound (N effect.after.configuration.name) (units ++ effect.units)) effect.outputs
       → Stands units now count P w → Keeps (Stands (units ++ effect.units) now count Q) (LineIs N) (takes_effect w place effect)
   takes_effect_stands units P Q w place effect others here outputs k =
       let later : List unit.Unit = units ++ effect.units in
       keeps-put_all_out (Stands later now count Q) (LineIs N) effect.after effect.outputs
-      (AllByRecursion-implies (OutputIsSound N later now) (λ output. (v : World) → Stands later now count Q v → Keeps (Stands later now count Q) (LineIs N) (put_out effect.after v output))
+      (AllByRecursion-implies (OutputIsSound (N effect.after.configuration.name) later) (λ output. (v : World) → Stands later now count Q v → Keeps (Stands later now count Q) (LineIs N) (put_out effect.after v output))
       (put_out_stands later Q effect.after) effect.outputs outputs)
       (with_effect w place effect)
       (record {
@@ -80,16 +81,16 @@ abbrev AnyWorld : World → Type 0
 AnyWorld w = Unit {0}
 
 put_out_notes : (Q : Note → Type 0) (system : SystemState) (output : Output) → NotesOnly Q output → (v : World) → AnyWorld v
-    → Keeps AnyWorld (LineIs Q) (put_out system v output)
+    → Keeps AnyWorld (LineIs (λ name. Q)) (put_out system v output)
 put_out_notes Q system (Notes note) h v k = record { world = tt; lines = (h, tt) }
 put_out_notes Q system (Transmits port target packet) h v k = record { world = tt; lines = (tt, tt) }
 put_out_notes Q system (SendsEsis port target value) h v k = record { world = tt; lines = (tt, tt) }
 
 -- a system that notes only what Q holds of writes only such lines
 pub takes_effect_notes : (Q : Note → Type 0) (w : World) (place : ℕ) (effect : Effect) → AllByRecursion (NotesOnly Q) effect.outputs
-    → AllByRecursion (LineIs Q) (takes_effect w place effect).lines
+    → AllByRecursion (LineIs (λ name. Q)) (takes_effect w place effect).lines
 takes_effect_notes Q w place effect h =
-    (keeps-put_all_out AnyWorld (LineIs Q) effect.after effect.outputs
-    (AllByRecursion-implies (NotesOnly Q) (λ output. (v : World) → AnyWorld v → Keeps AnyWorld (LineIs Q) (put_out effect.after v output))
+    (keeps-put_all_out AnyWorld (LineIs (λ name. Q)) effect.after effect.outputs
+    (AllByRecursion-implies (NotesOnly Q) (λ output. (v : World) → AnyWorld v → Keeps AnyWorld (LineIs (λ name. Q)) (put_out effect.after v output))
     (put_out_notes Q effect.after) effect.outputs h)
     (with_effect w place effect) tt).lines

@@ -1,12 +1,18 @@
--- What was sent stays sent, a last entry that sends counts, and units stay sound as time goes on.
-use Rattle.clnp_base.proofs.Lists.{AllByRecursion-implies}
-use Rattle.std.proofs.Common.{◌≤◌, ℕ, List, [], ◌∷◌, ◌++◌, inl, inr, subst, arith}
+-- What was sent stays sent, a last entry that sends counts, units stay sound as time goes on, and requests stay pending where
+-- nothing was restarted.
+use Rattle.clnp_base.proofs.Lists.{AllByRecursion-implies, AllByRecursion-push}
+use Rattle.std.proofs.Common.{◌≤◌, ℕ, List, [], ◌∷◌, ◌++◌, inl, inr, subst, arith, Contains}
+use Rattle.std.specs.List.{AllByRecursion}
 use Rattle.std.proofs.lemmas.List.{append-nil}
+use Rattle.std.proofs.lemmas.List.Elements.{Contains-append_left}
+use Rattle.pdu_header.specs.declared.kind.Kind.{Kind}
+use Rattle.pdu_header.specs.declared.kind.Kind.TheVariants.{Dt, Er, Erq, Erp}
+use Rattle.clnp_plan.specs.Journal.{Line}
 use Rattle.scenario.specs.Scenario.{Plan}
 use Rattle.clnp_machine.specs.Unit as unit
 use Rattle.clnp_network.specs.Run.{Entry}
-use Rattle.clnp_network.specs.Safe.{IsSend, NoRefusal, WasSent}
-use Rattle.clnp_safety.specs.Invariant.{UnitIsSound, UnitsAreSound}
+use Rattle.clnp_network.specs.Safe.{IsSend, NoRefusal, RequestedSinceRestart, SaysNoRestart, SaysRequested, WasSent}
+use Rattle.clnp_safety.specs.Invariant.{IsMadeOn, IsPending, UnitIsSound, UnitsAreSound}
 
 sent_before : (plan : Plan) (past more : List Entry) (from to octets : List ℕ) → WasSent plan past from to octets → WasSent plan (past ++ more) from to octets
 sent_before plan [] more from to octets h = absurd h
@@ -18,10 +24,17 @@ pub sent_last : (plan : Plan) (past : List Entry) (entry : Entry) (from to octet
 sent_last plan [] entry from to octets sends made = inl (sends, made)
 sent_last plan (first ∷ past) entry from to octets sends made = inr (sent_last plan past entry from to octets sends made)
 
-unit_later : (plan : Plan) (past more : List Entry) (before now : ℕ) → before ≤ now → (u : unit.Unit) → UnitIsSound plan past before u
-    → UnitIsSound plan (past ++ more) now u
-unit_later plan past more before now later u h = record {
-  sent = sent_before plan past more u.source u.destination u.octets h.sent;
+founded_before : (plan : Plan) (past more : List Entry) (units : List unit.Unit) (kind : Kind) (u : unit.Unit) → IsMadeOn plan past units kind u
+    → IsMadeOn plan (past ++ more) units kind u
+founded_before plan past more units Dt u h = sent_before plan past more u.source u.destination u.octets h
+founded_before plan past more units Er u h = h
+founded_before plan past more units Erq u h = h
+founded_before plan past more units Erp u h = h
+
+unit_later : (plan : Plan) (past more : List Entry) (units : List unit.Unit) (before now : ℕ) → before ≤ now → (u : unit.Unit)
+    → UnitIsSound plan past units before u → UnitIsSound plan (past ++ more) units now u
+unit_later plan past more units before now later u h = record {
+  founded = founded_before plan past more units u.kind u h.founded;
   place = h.place;
   maker = h.maker;
   owner = h.owner;
@@ -34,7 +47,8 @@ unit_later plan past more before now later u h = record {
 pub units_later : (plan : Plan) (past more : List Entry) (before now : ℕ) (units : List unit.Unit) → before ≤ now
     → UnitsAreSound plan past before units → UnitsAreSound plan (past ++ more) now units
 units_later plan past more before now units later h = record {
-  each = AllByRecursion-implies (UnitIsSound plan past before) (UnitIsSound plan (past ++ more) now) (unit_later plan past more before now later) units h.each;
+  each = AllByRecursion-implies (UnitIsSound plan past units before) (UnitIsSound plan (past ++ more) units now)
+      (unit_later plan past more units before now later) units h.each;
   rest = h.rest;
 }
 
@@ -43,3 +57,30 @@ pub units_stay : (plan : Plan) (past : List Entry) (before now : ℕ) (units : L
     → UnitsAreSound plan past now units
 units_stay plan past before now units later h =
     subst (λ entries. UnitsAreSound plan entries now units) (append-nil past) (units_later plan past [] before now units later h)
+
+-- Requests.
+
+module _ (name : List ℕ) (number : ℕ) (from to : List ℕ) where
+  still_requested : (past : List Entry) (entry : Entry) → AllByRecursion (SaysNoRestart name) entry.lines → RequestedSinceRestart past name number from to
+      → RequestedSinceRestart (past ++ entry ∷ []) name number from to
+  still_requested [] entry none h = absurd h
+  still_requested (first ∷ past) entry none h =
+      elim h [
+        | inl here ↦ inl (here.0, AllByRecursion-push (λ (other : Entry). AllByRecursion (SaysNoRestart name) other.lines) past entry here.1 none)
+        | inr later ↦ inr (still_requested past entry none later)
+      ]
+
+  pub requested_last : (past : List Entry) (entry : Entry) (line : Line) → Contains entry.lines line → SaysRequested name number from to line
+      → RequestedSinceRestart (past ++ entry ∷ []) name number from to
+  requested_last [] entry line there says = inl ((line, there, says), tt)
+  requested_last (first ∷ past) entry line there says = inr (requested_last past entry line there says)
+
+pub pending_later : (past : List Entry) (entry : Entry) (units more : List unit.Unit) (place : ℕ) (name : List ℕ)
+    → AllByRecursion (SaysNoRestart name) entry.lines → (request : unit.Unit) → IsPending past units place name request
+    → IsPending (past ++ entry ∷ []) (units ++ more) place name request
+pending_later past entry units more place name none request h = record {
+  made = Contains-append_left units more request h.made;
+  maker = h.maker;
+  kind = h.kind;
+  since = still_requested name request.number request.source request.destination past entry none h.since;
+}

@@ -1,15 +1,32 @@
--- A restarted system is sound: it is quiet as long as an identifier of its units may rest.
-use Rattle.std.proofs.Common.{ℕ, inr, List, [], arith}
+-- A restarted system is sound: it is quiet as long as an identifier of its units may rest, and waits for no answer.
+use Rattle.clnp_base.proofs.Lists.{AllByRecursion-implies, pair_at}
+use Rattle.std.proofs.Common.{◌≡◌, ◌≢◌, ◌⊎◌, ◌∙◌, ◌<◌, refl, sym, ap, subst, ℕ, inl, inr, List, [], ◌++◌, length, map, get_or, Option, None, Some, option_map, arith}
+use Rattle.std.specs.Prelude.{slice_get}
 use Rattle.std.specs.List.{Contains}
-use Rattle.scenario.specs.Scenario.{Plan}
+use Rattle.std.proofs.lemmas.Bool.{cases_eq, cases_order}
+use Rattle.std.proofs.lemmas.List.{append-nil}
+use Rattle.std.proofs.lemmas.Option.{get_or_from_slice_get, slice_get-map, slice_get_within}
+use Rattle.clnp_plan.specs.Configuration.{AreDistinct, SystemConfiguration}
+use Rattle.clnp_plan.specs.Journal.{Line, Noted}
+use Rattle.clnp_plan.specs.declared.note.Note.{Note}
+use Rattle.clnp_plan.specs.declared.note.Note.TheVariants as note
+use Rattle.scenario.specs.Scenario.{IsFit, Plan}
+use Rattle.scenario.specs.declared.event.Move.{Move}
 use Rattle.clnp_machine.specs.Identifiers as ids
 use Rattle.clnp_machine.specs.Identifiers.{Use}
 use Rattle.clnp_machine.specs.Unit as unit
-use Rattle.clnp_machine.specs.System.{SystemState}
-use Rattle.clnp_machine.specs.Step.{restart}
+use Rattle.clnp_machine.specs.System.{SystemState, IsRestarted}
+use Rattle.clnp_machine.specs.Step.{restart, step}
+use Rattle.clnp_network.specs.World.{World, comes_to, takes_effect}
 use Rattle.clnp_network.specs.Run.{Entry}
-use Rattle.clnp_safety.specs.Invariant.{AreUsesUntil, IsInUses, SystemIsSound, UnitsAreSound}
+use Rattle.clnp_network.specs.Safe.{SaysNoRestart}
+use Rattle.clnp_safety.specs.Invariant.{AreUsesUntil, IsInUses, NoteIsSound, SystemIsSound, SystemStands, UnitsAreSound, WorldIsSound}
+use Rattle.clnp_safety.specs.StepLaws.{StepLaws}
 use Rattle.clnp_safety.proofs.BufferOffers.{unit_sound}
+use Rattle.clnp_safety.proofs.Effects.{IsSoundWith, others_stand, pending_after, step_keeps}
+use Rattle.clnp_safety.proofs.Lines.{LineIs, lines_are}
+use Rattle.clnp_safety.proofs.Moves.{IsPendingStill, MoveIsSound, moved_is_sound, nothing_is_sound, sound_at_clock}
+use Rattle.clnp_safety.proofs.Steps.{Keeps}
 
 no_uses : (now : ℕ) → AreUsesUntil now []
 no_uses now = record { until_now = tt; in_order = λ i j d below within. absurd (omega arith) }
@@ -21,7 +38,7 @@ rests_in_quiet plan past units now place s made sound u within identifier is =
     let at = sound.moment in
     inr (omega arith)
 
-pub restart_is_sound : (plan : Plan) (past : List Entry) (units : List unit.Unit) (now place : ℕ) (s : SystemState)
+restart_is_sound : (plan : Plan) (past : List Entry) (units : List unit.Unit) (now place : ℕ) (s : SystemState)
     → UnitsAreSound plan past now units → SystemIsSound plan units now place s
     → SystemIsSound plan units now place (restart s).after
 restart_is_sound plan past units now place s made sound =
@@ -38,3 +55,107 @@ restart_is_sound plan past units now place s made sound =
       not_whole = tt;
       budget = omega arith;
     }
+
+-- A name belongs to one system.
+
+abbrev name_of : SystemConfiguration → List ℕ
+name_of system = system.name
+
+name_at : (systems : List SystemConfiguration) (place : ℕ) (system : SystemConfiguration) → slice_get systems place ≡ Some system
+    → get_or (map name_of systems) place system.name ≡ system.name
+name_at systems place system there =
+    get_or_from_slice_get (map name_of systems) place system.name system.name (slice_get-map name_of systems place ∙ ap (option_map name_of) there)
+
+within_names : (systems : List SystemConfiguration) (place : ℕ) (system : SystemConfiguration) → slice_get systems place ≡ Some system
+    → place < length (map name_of systems)
+within_names systems place system there =
+    slice_get_within (map name_of systems) place system.name (slice_get-map name_of systems place ∙ ap (option_map name_of) there)
+
+names_differ : (systems : List SystemConfiguration) (place other : ℕ) (first second : SystemConfiguration) → AreDistinct (map name_of systems)
+    → slice_get systems place ≡ Some first → slice_get systems other ≡ Some second → other ≢ place → first.name ≢ second.name
+names_differ systems place other first second distinct at there apart same =
+    elim (cases_order place other) [
+      | inl one ↦ apart (sym one)
+      | inr (inl before) ↦
+          pair_at (λ a b. a ≢ b) (map name_of systems) place other first.name second.name distinct before (within_names systems other second there)
+          (name_at systems place first at) (name_at systems other second there) same
+      | inr (inr later) ↦
+          pair_at (λ a b. a ≢ b) (map name_of systems) other place second.name first.name distinct (omega arith) (within_names systems place first at)
+          (name_at systems other second there) (name_at systems place first at) (sym same)
+    ]
+
+module _ (laws : StepLaws) (plan : Plan) (fit : IsFit plan) (past : List Entry) (move : Move) (w : World) (h : WorldIsSound plan past w) (place : ℕ) where
+  -- the system at the place waits for no answer
+  record IsQuietThere (units : List unit.Unit) (other : ℕ) (t : SystemState) : Type 0 where
+    stands : SystemStands plan past w.units units w.clock other t
+    none : other ≡ place → t.pending ≡ []
+
+  module _ (s : SystemState) (there : slice_get w.systems place ≡ Some s) where
+    -- a note is sound, and that of this system
+    record IsNoteOf (name : List ℕ) (note : Note) : Type 0 where
+      sound : NoteIsSound plan past w name note
+      named : name ≡ s.configuration.name
+
+    kept : Keeps (IsSoundWith plan past w w.clock IsQuietThere) (LineIs IsNoteOf) (takes_effect w place (step s IsRestarted))
+    kept =
+        let k = sound_at_clock plan past w h in
+        let it = k.stands.each place s there in
+        let same : (w.units ++ []) ≡ w.units = append-nil w.units in
+        step_keeps laws plan fit past w w.clock IsNoteOf (λ units. SystemStands plan past w.units units w.clock) IsQuietThere w place s IsRestarted w.clock it.sound tt
+        it.sound.moment tt
+        (λ other t apart stood. record {
+          stands = others_stand laws plan fit past w.units w.clock place s it.sound IsRestarted tt w.units w.clock other t apart stood;
+          none = λ here. absurd (apart here);
+        })
+        (record {
+          stands = record {
+            sound = subst (λ us. SystemIsSound plan us w.clock place (step s IsRestarted).after) (sym same) (restart_is_sound plan past w.units w.clock place s h.made it.sound);
+            pending = pending_after laws plan fit past w.units w.clock place s it.sound IsRestarted tt tt w.units it.pending;
+          };
+          none = λ here. laws.steps.forgotten s;
+        })
+        (subst (λ us. UnitsAreSound plan past w.clock us) (sym same) h.made).rest tt
+        (record { sound = record { honest = tt; no_rule = tt }; named = refl }, tt) k
+
+    -- no line says that another system was restarted
+    says_of_no_other : (name : List ℕ) → s.configuration.name ≢ name → (line : Line) → LineIs IsNoteOf line → SaysNoRestart name line
+    says_of_no_other name other (Noted now restarted note.Restart) is = λ e. other (sym is.named ∙ e)
+    says_of_no_other name other _ is = tt
+
+    soundly_after : MoveIsSound plan past move w (takes_effect w place (step s IsRestarted))
+    soundly_after =
+        let taken = takes_effect w place (step s IsRestarted) in
+        let k = kept.world in
+        moved_is_sound plan past move w w.clock taken
+        (record {
+          world = record {
+            made = k.made;
+            front = k.front;
+            stands = record {
+              made = k.stands.made;
+              clock = k.stands.clock;
+              copies = k.stands.copies;
+              number = k.stands.number;
+              each = λ other t at. (k.stands.each other t at).stands;
+            };
+          };
+          lines = lines_are IsNoteOf (NoteIsSound plan past w) (λ name note is. is.sound) taken.lines kept.lines;
+        })
+        (λ other t at. still other t (k.stands.each other t at) (cases_eq other place))
+      where
+        still : (other : ℕ) (t : SystemState) → IsQuietThere (takes_effect w place (step s IsRestarted)).world.units other t → (other ≡ place) ⊎ (other ≢ place)
+            → IsPendingStill plan past move w w.clock (takes_effect w place (step s IsRestarted)) t
+        still other t is (inl here) = inl (is.none here)
+        still other t is (inr apart) =
+            inr (AllByRecursion-implies (LineIs IsNoteOf) (SaysNoRestart t.configuration.name)
+            (says_of_no_other t.configuration.name
+            (names_differ plan.systems place other s.configuration t.configuration fit.system_names (h.systems.each place s there).sound.declared is.stands.sound.declared apart))
+            (takes_effect w place (step s IsRestarted)).lines kept.lines)
+
+  restarted_at : (found : Option SystemState) → slice_get w.systems place ≡ found → MoveIsSound plan past move w (comes_to w place IsRestarted found)
+  restarted_at None e = nothing_is_sound plan past move w h
+  restarted_at (Some s) e = soundly_after s e
+
+  -- a system is restarted
+  pub restarted_is_sound : MoveIsSound plan past move w (comes_to w place IsRestarted (slice_get w.systems place))
+  restarted_is_sound = restarted_at (slice_get w.systems place) refl

@@ -1,6 +1,5 @@
 -- The unit that is asked for, where it isn't refused.
-use Rattle.std.proofs.Common.{◌≡◌, ℕ, Bool, true, false, List, Option, None, Some, option_map, Contains, refl, ap, subst, ◌∙◌, sym, arith, bytes_eq}
-use Rattle.std.specs.List.{AllByRecursion}
+use Rattle.std.proofs.Common.{◌≡◌, ℕ, Bool, true, false, List, Option, None, Some, option_map, Contains, refl, ap, subst, ◌∙◌, sym, bytes_eq}
 use Rattle.std.proofs.lemmas.List.Folds.{Any-from_list_any}
 use Rattle.std.proofs.lemmas.Slice.Eq.{bytes_eq-Decides}
 use Rattle.pdu_header.specs.declared.kind.Kind.{Kind}
@@ -9,12 +8,8 @@ use Rattle.clnp_machine.specs.Identifiers.{NotDrawn, next, not_drawn}
 use Rattle.clnp_machine.specs.Unit as unit
 use Rattle.clnp_machine.specs.System.{SystemState}
 use Rattle.clnp_machine.specs.Local.{is_own, identifier_for, unit_of, not_drawn_note, identifier_refusal, refusal}
-use Rattle.clnp_machine.specs.Local.{made_in, unless_refused}
-use Rattle.clnp_machine.specs.Steps.{IsFresh}
 use Rattle.scenario.specs.Scenario.{Plan}
-use Rattle.clnp_network.specs.Run.{Entry}
-use Rattle.clnp_network.specs.Safe.{WasSent}
-use Rattle.clnp_safety.specs.Invariant.{UnitIsSound, SystemIsSound}
+use Rattle.clnp_safety.specs.Invariant.{SystemIsSound}
 use Rattle.clnp_safety.specs.StepLaws.{StepLaws}
 use Rattle.clnp_safety.proofs.SendUnits.{IsDrawn, IsNew}
 
@@ -39,14 +34,8 @@ drawn_of now s segment identifier moment none has =
     let idle = idle_of (not_drawn s.moment s.identifiers) (ap (identifier_refusal s) (sym has) ∙ none) in
     record { is_next = next_of s segment identifier has; idle = subst (λ n. not_drawn n s.identifiers ≡ None) moment idle }
 
--- it is the system's next one
-pub asked_is_fresh : StepLaws → (s : SystemState) (kind : Kind) (from to octets : List ℕ) (ask : Ask) → refusal s (unit_of s kind from to octets ask) ≡ None
-    → IsFresh s s.moment (unit_of s kind from to octets ask)
-asked_is_fresh laws s kind from to octets ask none =
-    let u = unit_of s kind from to octets ask in
-    (subst (λ refused. AllByRecursion (IsFresh s s.moment) (made_in (unless_refused refused s u).actions)) none (laws.deeds.make s kind from to octets ask).fresh).0
-
 module _ (laws : StepLaws) (plan : Plan) (units : List unit.Unit) (now place : ℕ) (s : SystemState) (kind : Kind) (from to octets : List ℕ) (ask : Ask) where
+  -- it is the system's next one
   pub asked_is_new : refusal s (unit_of s kind from to octets ask) ≡ None → SystemIsSound plan units now place s
       → IsNew plan now place s (unit_of s kind from to octets ask)
   asked_is_new none h =
@@ -56,19 +45,4 @@ module _ (laws : StepLaws) (plan : Plan) (units : List unit.Unit) (now place : �
         owner = record { system = s.configuration; there = h.declared; own = own_address s from able.own };
         made = h.moment;
         drawn = λ identifier has. drawn_of now s ask.segment identifier h.moment able.identifier has;
-      }
-
-  pub asked_is_sound : (past : List Entry) → refusal s (unit_of s kind from to octets ask) ≡ None → SystemIsSound plan units now place s
-      → WasSent plan past from to octets → UnitIsSound plan past now (unit_of s kind from to octets ask)
-  asked_is_sound past none h sent =
-      let new = asked_is_new none h in
-      let at : s.moment ≡ now = h.moment in
-      record {
-        sent = sent;
-        place = place;
-        maker = new.maker;
-        owner = new.owner;
-        first_position = refl;
-        total = (asked_is_fresh laws s kind from to octets ask none).total;
-        made = omega arith;
       }

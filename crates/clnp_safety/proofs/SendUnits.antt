@@ -1,6 +1,6 @@
 -- What stays sound of units and systems where a system makes one more unit.
 use Rattle.clnp_base.proofs.Lists.{AllByRecursion-implies}
-use Rattle.std.proofs.Common.{◌≡◌, ℕ, ◌≢◌, inl, inr, List, [], ◌∷◌, ◌++◌, get_or, Option, None, Some, Contains, refl, sym, ap, subst, ◌∙◌, arith}
+use Rattle.std.proofs.Common.{◌≡◌, ℕ, inl, inr, List, [], ◌∷◌, ◌++◌, get_or, Option, None, Some, Contains, refl, sym, ap, subst, ◌∙◌, arith}
 use Rattle.std.specs.List.{AllByRecursion}
 use Rattle.std.proofs.lemmas.List.Elements.{Contains-get_or, Contains-push_cases}
 use Rattle.std.proofs.lemmas.List.Quantifiers.{all_pairs_push}
@@ -10,9 +10,8 @@ use Rattle.clnp_machine.specs.Unit as unit
 use Rattle.clnp_machine.specs.Unit.{DeclaredAt}
 use Rattle.clnp_machine.specs.System.{SystemState}
 use Rattle.clnp_machine.specs.Local.{with_use, makes}
-use Rattle.clnp_network.specs.Run.{Entry}
 use Rattle.clnp_network.specs.Safe.{Rests}
-use Rattle.clnp_safety.specs.Invariant.{Owns, UnitsAreSound, EachRests, AreUsesUntil, IsInUses, BufferIsSound, SystemIsSound}
+use Rattle.clnp_safety.specs.Invariant.{Owns, EachRests, AreUsesUntil, IsInUses, BufferIsSound, SystemIsSound}
 use Rattle.clnp_safety.proofs.Units.{buffer_later}
 use Rattle.clnp_safety.proofs.Uses.{made_long_ago, uses_after, used_before, used_now}
 
@@ -53,9 +52,8 @@ new_is_used now s (Some identifier) u has made drawn =
 
 module _ (plan : Plan) (units : List unit.Unit) (now place : ℕ) (s : SystemState) (u : unit.Unit) (new : IsNew plan now place s u) where
   -- a unit of its maker with its identifier was made long before
-  rests_before : (past : List Entry) (v : unit.Unit) → UnitsAreSound plan past now units → SystemIsSound plan units now place s
-      → Contains units v → Rests plan.limits.reuse v u
-  rests_before past v made system has maker identifier id_v id_u =
+  rests_before : (v : unit.Unit) → SystemIsSound plan units now place s → Contains units v → Rests plan.limits.reuse v u
+  rests_before v system has maker identifier id_v id_u =
       let used = system.used v has (maker ∙ new.maker) in
       let drawn = new.drawn identifier id_u in
       let long_ago = made_long_ago now s.identifiers v system.uses used (id_v ∙ ap Some drawn.is_next) drawn.idle in
@@ -63,11 +61,10 @@ module _ (plan : Plan) (units : List unit.Unit) (now place : ℕ) (s : SystemSta
       let at : u.made ≡ now = new.made in
       omega arith
 
-  pub new_rests : (past : List Entry) → UnitsAreSound plan past now units → SystemIsSound plan units now place s
-      → EachRests plan.limits.reuse (units ++ u ∷ [])
-  new_rests past made system =
-      all_pairs_push (Rests plan.limits.reuse) units u made.rest
-      (λ k d within. rests_before past (get_or units k d) made system (Contains-get_or units k d within))
+  pub new_rests : EachRests plan.limits.reuse units → SystemIsSound plan units now place s → EachRests plan.limits.reuse (units ++ u ∷ [])
+  new_rests rest system =
+      all_pairs_push (Rests plan.limits.reuse) units u rest
+      (λ k d within. rests_before (get_or units k d) system (Contains-get_or units k d within))
 
   buffers_later : (s : SystemState) (at : ℕ) → SystemIsSound plan units now at s → AllByRecursion (BufferIsSound plan (units ++ u ∷ [])) s.buffers
   buffers_later s at h =
@@ -87,29 +84,6 @@ module _ (plan : Plan) (units : List unit.Unit) (now place : ℕ) (s : SystemSta
       | inr same ↦ subst (IsInUses (with_use s u.identifier)) same (new_is_used now s u.identifier u refl (new.made ∙ sym h.moment) new.drawn)
     ];
     buffers = buffers_later s place h;
-    not_due = h.not_due;
-    not_whole = h.not_whole;
-    budget = h.budget;
-  }
-
-  -- every other system
-  pub others_after : (other : ℕ) (t : SystemState) → other ≢ place → SystemIsSound plan units now other t
-      → SystemIsSound plan (units ++ u ∷ []) now other t
-  others_after other t apart h = record {
-    stands_at = h.stands_at;
-    declared = h.declared;
-    hold = h.hold;
-    moment = h.moment;
-    reuse = h.reuse;
-    uses = h.uses;
-    used = λ v has maker. elim (Contains-push_cases units u v has) [
-      | inl before ↦ h.used v before maker
-      | inr same ↦ (
-          let here : DeclaredAt place ≡ DeclaredAt other = sym new.maker ∙ ap (λ (w : unit.Unit). w.maker) same ∙ maker in
-          let one : other ≡ place = cc in
-          absurd (apart one))
-    ];
-    buffers = buffers_later t other h;
     not_due = h.not_due;
     not_whole = h.not_whole;
     budget = h.budget;

@@ -1,24 +1,28 @@
--- When a moment comes, the buffers that are due are taken out, and what is left is sound.
+-- When a moment comes, the buffers that are due are taken out, and what is left is sound; what is made is reports alone.
 use Rattle.clnp_base.proofs.Filters.{AllByRecursion-filter, filter-fewer}
 use Rattle.clnp_base.proofs.Lists.{AllByRecursion-implies, AllByRecursion-no_element}
 use Rattle.clnp_base.proofs.Sums.{sum_filter}
-use Rattle.std.proofs.Common.{◌≡◌, sym, ap, subst, refl, ℕ, zero, suc, ◌+◌, ◌<◌, ◌≤◌, true, false, not, List, ◌∷◌, ◌++◌, length, Option, None, Some, arith}
+use Rattle.std.proofs.Common.{◌≡◌, sym, ap, subst, refl, ℕ, zero, suc, ◌+◌, ◌<◌, ◌≤◌, true, false, not, List, [], ◌∷◌, ◌++◌, length, Option, None, Some, arith}
 use Rattle.std.specs.Prelude.{slice_get}
 use Rattle.std.specs.List.{AllByRecursion, Contains}
 use Rattle.std.proofs.lemmas.List.Elements.{recursion_from_All}
 use Rattle.scenario.specs.Scenario.{Plan}
 use Rattle.reassembly.specs.declared.segment.Key.{Key}
 use Rattle.reassembly.specs.Arrival.{same_key}
-use Rattle.reassembly.specs.Buffer.{Buffer, due, held, is_whole, size_of, without}
+use Rattle.reassembly.specs.Buffer.{Buffer, due, first_carried, held, is_whole, size_of, without}
 use Rattle.reassembly.proofs.Shared.{due_is, none_due}
 use Rattle.reassembly.proofs.Shared.{same_key-refl}
 use Rattle.clnp_machine.specs.Identifiers.{Use}
 use Rattle.clnp_machine.specs.Unit as unit
 use Rattle.clnp_machine.specs.Unit.{DeclaredAt, Packet}
+use Rattle.clnp_machine.specs.Content.{Labelled}
+use Rattle.clnp_options.specs.Reasons.{reason_code}
+use Rattle.clnp_options.specs.declared.reasons.Reason.TheVariants.{LifetimeExpiredInReassembly}
 use Rattle.clnp_machine.specs.System.{SystemState}
-use Rattle.clnp_machine.specs.Local.{at_moment, expire, give_up_due, tick}
+use Rattle.clnp_machine.specs.Local.{Action, Deed, Sends, Tells, at_moment, discard_first, expire, give_up_due, gives_up, made_in, tick}
 use Rattle.clnp_safety.specs.Invariant.{AreUsesUntil, BufferIsSound, IsInUses, SystemIsSound}
 use Rattle.clnp_safety.specs.StepLaws.{StepLaws}
+use Rattle.clnp_safety.proofs.Deeds.{IsReport, discard_reports}
 
 -- there are fewer without the due one
 without_fewer : (key : Key) (buffers before behind : List (Buffer Packet)) (ended : Buffer Packet) → buffers ≡ before ++ ended ∷ behind → ended.key ≡ key
@@ -57,8 +61,8 @@ module _ (laws : StepLaws) (plan : Plan) (units : List unit.Unit) (now place : �
     budget = is.budget;
   }
 
-  taken_out : (s : SystemState) (key : Key) → IsExpiring s → IsExpiring (record s { buffers = without key s.buffers })
-  taken_out s key is = record {
+  taken_out : (s : SystemState) (key : Key) (count : ℕ) → IsExpiring s → IsExpiring (record s { buffers = without key s.buffers; count = count })
+  taken_out s key count is = record {
     stands_at = is.stands_at;
     declared = is.declared;
     hold = is.hold;
@@ -80,9 +84,10 @@ module _ (laws : StepLaws) (plan : Plan) (units : List unit.Unit) (now place : �
   give_up_is_sound most s (Some ended) e few is rest =
       let there = due_is s.moment s.buffers ended e in
       let fewer = without_fewer ended.key s.buffers there.before there.behind ended there.stands_there refl in
-      let left : SystemState = record s { buffers = without ended.key s.buffers } in
+      let count : ℕ = (gives_up s ended).after.count in
+      let left : SystemState = record s { buffers = without ended.key s.buffers; count = count } in
       subst (λ (t : SystemState). SystemIsSound plan units now place (expire most t).after) (sym (laws.deeds.ended s ended))
-      (rest left (omega arith) (taken_out s ended.key is))
+      (rest left (omega arith) (taken_out s ended.key count is))
 
   expire_is_sound : (most : ℕ) (s : SystemState) → length s.buffers ≤ most → IsExpiring s → SystemIsSound plan units now place (expire most s).after
   expire_is_sound zero s few is = none_left s is (AllByRecursion-no_element (λ (b : Buffer Packet). now < b.deadline) s.buffers few)
@@ -113,3 +118,31 @@ pub tick_is_sound : StepLaws → (plan : Plan) (units : List unit.Unit) (before 
     → SystemIsSound plan units now place (tick s now).after
 tick_is_sound laws plan units before now place s sound later =
     expire_is_sound laws plan units now place (length s.buffers) (at_moment now s) (omega arith) (at_moment_is laws plan units before now place s later sound)
+
+-- Units that are made at a tick are reports.
+
+reports_both : (first later : List Action) → AllByRecursion IsReport (made_in first) → AllByRecursion IsReport (made_in later)
+    → AllByRecursion IsReport (made_in (first ++ later))
+reports_both [] later h k = k
+reports_both (Tells told ∷ first) later h k = reports_both first later h k
+reports_both (Sends u ∷ first) later h k = (h.0, reports_both first later h.1 k)
+
+first_reports : StepLaws → (s : SystemState) (first : Option Packet) → AllByRecursion IsReport (made_in (discard_first s first).actions)
+first_reports laws s None = tt
+first_reports laws s (Some p) = discard_reports laws s (Labelled p []) (reason_code LifetimeExpiredInReassembly) 0
+
+given_up_reports : StepLaws → (s : SystemState) (ended : Buffer Packet) → AllByRecursion IsReport (made_in (gives_up s ended).actions)
+given_up_reports laws s ended = first_reports laws (record s { buffers = without ended.key s.buffers }) (first_carried ended)
+
+found_reports : StepLaws → (s : SystemState) (found : Option (Buffer Packet)) (next : SystemState → Deed)
+    → ((t : SystemState) → AllByRecursion IsReport (made_in (next t).actions)) → AllByRecursion IsReport (made_in (give_up_due found s next).actions)
+found_reports laws s None next rest = tt
+found_reports laws s (Some ended) next rest =
+    reports_both (gives_up s ended).actions (next (gives_up s ended).after).actions (given_up_reports laws s ended) (rest (gives_up s ended).after)
+
+expired_report : StepLaws → (most : ℕ) (s : SystemState) → AllByRecursion IsReport (made_in (expire most s).actions)
+expired_report laws zero s = tt
+expired_report laws (suc most) s = found_reports laws s (due s.moment s.buffers) (expire most) (expired_report laws most)
+
+pub tick_reports : StepLaws → (s : SystemState) (now : ℕ) → AllByRecursion IsReport (made_in (tick s now).actions)
+tick_reports laws s now = expired_report laws (length s.buffers) (at_moment now s)

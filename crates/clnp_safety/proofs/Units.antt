@@ -1,20 +1,25 @@
 -- Units that were made: who made them, how long an identifier rests, and what stays sound while more are made.
 use Rattle.clnp_base.proofs.Lists.{pair_across, pair_cases, pairs_behind}
-use Rattle.clnp_base.proofs.Lists.{AllByRecursion-implies}
-use Rattle.std.proofs.Common.{◌≡◌, ℕ, zero, suc, ◌+◌, ◌≤◌, ◌≢◌, ◌⊎◌, inl, inr, List, [], ◌∷◌, ◌++◌, Some, slice_get, Contains, flat_map, refl, sym, ap, subst}
+use Rattle.clnp_base.proofs.Lists.{AllByRecursion-append, AllByRecursion-implies}
+use Rattle.std.proofs.Common.{◌≡◌, ℕ, zero, suc, ◌+◌, ◌≤◌, ◌≢◌, ◌⊎◌, inl, inr, List, [], ◌∷◌, ◌++◌, Some, slice_get, Contains, length, flat_map, refl, sym, ap, subst, ◌∙◌, arith}
+use Rattle.std.proofs.Math.Nat.{le-max_left}
 use Rattle.std.proofs.lemmas.List.Elements.{Contains-append_left, Contains-append_right}
 use Rattle.reassembly.specs.Arrival.{Arrival}
 use Rattle.reassembly.specs.Buffer.{Buffer}
 use Rattle.scenario.specs.Scenario.{Plan, IsFit}
 use Rattle.clnp_plan.specs.Configuration.{SystemConfiguration, AreDistinct}
+use Rattle.pdu_header.specs.declared.kind.Kind.{Kind}
+use Rattle.pdu_header.specs.declared.kind.Kind.TheVariants.{Dt, Er, Erq, Erp}
 use Rattle.clnp_machine.specs.Unit as unit
 use Rattle.clnp_machine.specs.Unit.{Packet}
 use Rattle.clnp_machine.specs.Content.{Content, Labelled, Esis, Unlabelled}
-use Rattle.clnp_machine.specs.Steps.{IsRangeOf}
+use Rattle.clnp_machine.specs.System.{SystemState}
+use Rattle.clnp_machine.specs.Steps.{GoesOnFrom, IsRangeOf}
 use Rattle.std.specs.List.{AllByRecursion}
 use Rattle.clnp_network.specs.World.{Copy}
 use Rattle.clnp_network.specs.Safe.{Rests}
-use Rattle.clnp_safety.specs.Invariant.{Owns, CopyIsSound, Carries, IsOfUnit, BufferIsSound, EachRests}
+use Rattle.clnp_network.specs.Run.{Entry}
+use Rattle.clnp_safety.specs.Invariant.{Owns, CopyIsSound, Carries, IsMadeOn, IsOfUnit, BufferIsSound, EachRests, UnitIsSound, UnitsAreSound}
 
 -- one of two units with a maker and an identifier rests behind the other
 pub same_unit : (reuse : ℕ) (units : List unit.Unit) (u v : unit.Unit) (i : ℕ) → EachRests reuse units → Contains units u → Contains units v
@@ -67,6 +72,35 @@ pub different_makers : (plan : Plan) (place other : ℕ) (address : List ℕ) �
 different_makers plan place other address fit own owns =
     one_owner plan.systems place other own.system owns.system address fit.addresses own.there own.own owns.there owns.own
 
+-- A packet that goes on is a range of the unit of that which came, and it was forwarded no more often than its lifetime allowed.
+
+pub lives_within : (s : SystemState) (port : ℕ) (came p : Packet) → GoesOnFrom s port came p → came.hops + came.lifetime ≤ came.unit.lifetime
+    → p.hops + p.lifetime ≤ p.unit.lifetime
+lives_within s port came p on h =
+    let hops = on.hops in
+    let lost = on.lifetime in
+    let most : p.unit.lifetime ≡ came.unit.lifetime = ap (λ (u : unit.Unit). u.lifetime) on.unit in
+    let loss = le-max_left 1 on.port.transit in
+    omega arith
+
+pub packet_goes_on : (units : List unit.Unit) (s : SystemState) (port : ℕ) (came p : Packet) → GoesOnFrom s port came p → IsRangeOf units came
+    → IsRangeOf units p
+packet_goes_on units s port came p on h = record {
+  unit = subst (Contains units) (sym on.unit) h.unit;
+  options = on.options ∙ h.options ∙ ap (λ (u : unit.Unit). u.options) (sym on.unit);
+  lifetime = lives_within s port came p on h.lifetime;
+  within =
+      let from = on.from in
+      let to = on.to in
+      let within = h.within in
+      let octets : length p.unit.octets ≡ length came.unit.octets = ap (λ (u : unit.Unit). length u.octets) on.unit in
+      omega arith;
+  whole = λ none.
+      let same = on.whole none in
+      let all = h.whole (ap (λ (u : unit.Unit). u.identifier) (sym on.unit) ∙ none) in
+      (same.0 ∙ all.0, same.1 ∙ all.1 ∙ ap (λ (u : unit.Unit). length u.octets) (sym on.unit));
+}
+
 -- What is sound stays so as more units are made.
 
 module _ (units more : List unit.Unit) where
@@ -94,10 +128,10 @@ module _ (units more : List unit.Unit) where
   content_later (Unlabelled octets) h = absurd h
 
   pub copy_later : (copy : Copy) → CopyIsSound units copy → CopyIsSound (units ++ more) copy
-  copy_later copy h = record { carries = content_later copy.content h.carries; birth = h.birth }
+  copy_later copy h = record { carries = content_later copy.content h.carries; carried = h.carried; birth = h.birth }
 
   segment_later : (u : unit.Unit) (arrival : Arrival Packet) → IsOfUnit units u arrival → IsOfUnit (units ++ more) u arrival
-  segment_later u arrival h = record { packet = packet_later arrival.carried h.packet; unit = h.unit; offered = h.offered }
+  segment_later u arrival h = record { packet = packet_later arrival.carried h.packet; carriable = h.carriable; unit = h.unit; offered = h.offered }
 
   pub buffer_later : (plan : Plan) (buffer : Buffer Packet) → BufferIsSound plan units buffer → BufferIsSound plan (units ++ more) buffer
   buffer_later plan buffer h = record {
@@ -110,6 +144,41 @@ module _ (units more : List unit.Unit) where
     opened = h.opened;
     deadline = h.deadline;
     kept = AllByRecursion-implies (IsOfUnit units h.unit) (IsOfUnit (units ++ more) h.unit) (segment_later h.unit) buffer.kept h.kept;
+  }
+
+-- units stay founded and sound as units are made
+module _ (plan : Plan) (past : List Entry) (units more : List unit.Unit) where
+  founded_later : (kind : Kind) (u : unit.Unit) → IsMadeOn plan past units kind u → IsMadeOn plan past (units ++ more) kind u
+  founded_later Dt u h = h
+  founded_later Er u h = record {
+    whole = h.whole;
+    packet = h.packet;
+    range = packet_later units more h.packet h.range;
+    destination = h.destination;
+    data_are = h.data_are;
+  }
+  founded_later Erq u h = h
+  founded_later Erp u h = h
+
+  unit_more : (now : ℕ) (u : unit.Unit) → UnitIsSound plan past units now u → UnitIsSound plan past (units ++ more) now u
+  unit_more now u h = record {
+    founded = founded_later u.kind u h.founded;
+    place = h.place;
+    maker = h.maker;
+    owner = h.owner;
+    first_position = h.first_position;
+    total = h.total;
+    made = h.made;
+  }
+
+  -- the units that were there, and those that are made
+  pub units_with : (now : ℕ) → UnitsAreSound plan past now units → EachRests plan.limits.reuse (units ++ more)
+      → AllByRecursion (UnitIsSound plan past units now) more → UnitsAreSound plan past now (units ++ more)
+  units_with now made rest new = record {
+    each = AllByRecursion-append (UnitIsSound plan past (units ++ more) now) units more
+        (AllByRecursion-implies (UnitIsSound plan past units now) (UnitIsSound plan past (units ++ more) now) (unit_more now) units made.each)
+        (AllByRecursion-implies (UnitIsSound plan past units now) (UnitIsSound plan past (units ++ more) now) (unit_more now) more new);
+    rest = rest;
   }
 
 -- copies stay sound as units are made

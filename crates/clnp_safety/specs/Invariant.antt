@@ -1,23 +1,28 @@
 -- What holds of each network of a run, beside the entries before it and the units that were made in them.
-use Rattle.std.specs.Prelude.{◌≡◌, ℕ, ◌+◌, ◌≤◌, ◌<◌, ◌⊎◌, false, List, [], length, slice_get, Some, AllPairs}
+use Rattle.std.specs.Prelude.{◌≡◌, ℕ, ◌+◌, ◌≤◌, ◌<◌, ◌⊎◌, false, List, [], length, slice_get, None, Some, AllPairs}
 use Rattle.std.specs.List.{AllByRecursion, Contains}
 use Rattle.scenario.specs.Scenario.{Plan}
 use Rattle.clnp_plan.specs.Configuration.{SystemConfiguration}
 use Rattle.clnp_plan.specs.declared.note.Note.{Note}
-use Rattle.clnp_plan.specs.declared.note.Note.TheVariants.{Got, Interference, Alien}
+use Rattle.clnp_plan.specs.declared.note.Note.TheVariants.{Got, Report, Echoed, Interference, Alien}
+use Rattle.hex.specs.Hex.{IsBytes}
+use Rattle.pdu_header.specs.declared.kind.Kind.{Kind}
+use Rattle.pdu_header.specs.declared.kind.Kind.TheVariants.{Dt, Er, Erq, Erp}
+use Rattle.pdu_header.specs.Rules.{header_of}
 use Rattle.pdu_header.specs.Spelling.{type_code}
 use Rattle.reassembly.specs.Arrival.{Arrival}
 use Rattle.reassembly.specs.Buffer.{Buffer, held, is_whole}
 use Rattle.clnp_machine.specs.Identifiers.{Identifiers, Use}
 use Rattle.clnp_machine.specs.Unit as unit
-use Rattle.clnp_machine.specs.Unit.{DeclaredAt, Packet}
-use Rattle.clnp_machine.specs.Content.{Content, Labelled, Esis, Unlabelled}
+use Rattle.clnp_machine.specs.Unit.{DeclaredAt, Packet, IsCarriable, wire}
+use Rattle.clnp_machine.specs.Content.{Content, IsCarried, Labelled, Esis, Unlabelled}
 use Rattle.clnp_machine.specs.System.{SystemState}
-use Rattle.clnp_machine.specs.Steps.{IsRangeOf}
+use Rattle.clnp_machine.specs.Steps.{IsNoRestart, IsRangeOf}
+use Rattle.clnp_machine.specs.Told.{NotesNoRule}
 use Rattle.clnp_machine.specs.Local.{header_size, offered}
 use Rattle.clnp_network.specs.World.{World, Copy}
 use Rattle.clnp_network.specs.Run.{Entry}
-use Rattle.clnp_network.specs.Safe.{Rests, WasSent}
+use Rattle.clnp_network.specs.Safe.{IsAnswered, IsHeaderOfOwn, RequestedSinceRestart, Rests, WasSent}
 
 -- the system declared at a place has an address
 pub record Owns (plan : Plan) (place : ℕ) (address : List ℕ) : Type 0 where
@@ -25,10 +30,27 @@ pub record Owns (plan : Plan) (place : ℕ) (address : List ℕ) : Type 0 where
   pub there : slice_get plan.systems place ≡ Some system
   pub own : Contains system.addresses address
 
--- What holds of a unit that was made: an event sent it, its maker has its source among its addresses, and its data are
--- all that its initial PDU carries.
-pub record UnitIsSound (plan : Plan) (past : List Entry) (now : ℕ) (u : unit.Unit) : Type 0 where
-  pub sent : WasSent plan past u.source u.destination u.octets
+-- A unit reports the discard of a packet of one of some units: it goes to that one's source, with the header of the packet's PDU
+-- for its data, in one piece.
+pub record IsReportIn (units : List unit.Unit) (u : unit.Unit) : Type 0 where
+  pub whole : u.identifier ≡ None
+  pub packet : Packet
+  pub range : IsRangeOf units packet
+  pub destination : packet.unit.source ≡ u.destination
+  pub data_are : u.octets ≡ header_of (wire packet)
+
+-- What a unit of a kind is founded on: an event sent a unit of data, a report is one of the discard of a packet, and the data of
+-- requests and replies are octets.
+abbrev pub IsMadeOn : Plan → List Entry → List unit.Unit → Kind → unit.Unit → Type 0
+IsMadeOn plan past units Dt u = WasSent plan past u.source u.destination u.octets
+IsMadeOn plan past units Er u = IsReportIn units u
+IsMadeOn plan past units Erq u = IsBytes u.octets
+IsMadeOn plan past units Erp u = IsBytes u.octets
+
+-- What holds of a unit that was made: it is founded as its kind asks for, its maker has its source among its addresses, and its
+-- data are all that its initial PDU carries.
+pub record UnitIsSound (plan : Plan) (past : List Entry) (units : List unit.Unit) (now : ℕ) (u : unit.Unit) : Type 0 where
+  pub founded : IsMadeOn plan past units u.kind u
   pub place : ℕ
   pub maker : u.maker ≡ DeclaredAt place
   pub owner : Owns plan place u.source
@@ -54,11 +76,13 @@ IsBornWithUnit birth (Unlabelled octets) = ⊥
 
 pub record CopyIsSound (units : List unit.Unit) (copy : Copy) : Type 0 where
   pub carries : Carries (IsRangeOf units) copy.content
+  pub carried : IsCarried copy.content
   pub birth : IsBornWithUnit copy.birth copy.content
 
--- a kept segment is a packet of the unit, as it was offered
+-- a kept segment is a packet of the unit, as it was offered, and a PDU can carry it
 pub record IsOfUnit (units : List unit.Unit) (u : unit.Unit) (arrival : Arrival Packet) : Type 0 where
   pub packet : IsRangeOf units arrival.carried
+  pub carriable : IsCarriable arrival.carried
   pub unit : arrival.carried.unit ≡ u
   pub offered : arrival ≡ offered arrival.carried []
 
@@ -100,25 +124,50 @@ pub record SystemIsSound (plan : Plan) (units : List unit.Unit) (now place : ℕ
   pub not_whole : AllByRecursion (λ (buffer : Buffer Packet). is_whole buffer ≡ false) s.buffers
   pub budget : held s.buffers ≤ s.configuration.settings.budget
 
+-- What holds of a request that the system at a place still waits to be answered: it made it, and was not restarted since.
+pub record IsPending (past : List Entry) (units : List unit.Unit) (place : ℕ) (name : List ℕ) (request : unit.Unit) : Type 0 where
+  pub made : Contains units request
+  pub maker : request.maker ≡ DeclaredAt place
+  pub kind : request.kind ≡ Erq
+  pub since : RequestedSinceRestart past name request.number request.source request.destination
+
+-- A system is sound at a moment, and its requests are pending since entries, among the units that were made in these.
+pub record SystemStands (plan : Plan) (past : List Entry) (before units : List unit.Unit) (now place : ℕ) (s : SystemState) : Type 0 where
+  pub sound : SystemIsSound plan units now place s
+  pub pending : AllByRecursion (IsPending past before place s.configuration.name) s.pending
+
 -- What holds of the units together.
 pub record UnitsAreSound (plan : Plan) (past : List Entry) (now : ℕ) (units : List unit.Unit) : Type 0 where
-  pub each : AllByRecursion (UnitIsSound plan past now) units
+  pub each : AllByRecursion (UnitIsSound plan past units now) units
   pub rest : EachRests plan.limits.reuse units
 
 -- the systems are those of the plan, and each is sound
-pub record SystemsAreSound (plan : Plan) (units : List unit.Unit) (now : ℕ) (systems : List SystemState) : Type 0 where
+pub record SystemsAreSound (plan : Plan) (past : List Entry) (units : List unit.Unit) (now : ℕ) (systems : List SystemState) : Type 0 where
   pub number : length systems ≡ length plan.systems
-  pub each : (place : ℕ) (s : SystemState) → slice_get systems place ≡ Some s → SystemIsSound plan units now place s
+  pub each : (place : ℕ) (s : SystemState) → slice_get systems place ≡ Some s → SystemStands plan past units units now place s
 
 -- What holds of a network beside the entries that led to it.
 pub record WorldIsSound (plan : Plan) (past : List Entry) (w : World) : Type 0 where
   pub made : UnitsAreSound plan past w.clock w.units
   pub copies : AllByRecursion (CopyIsSound w.units) w.copies
-  pub systems : SystemsAreSound plan w.units w.clock w.systems
+  pub systems : SystemsAreSound plan past w.units w.clock w.systems
 
--- A note says only what is so: what is handed up was sent before, nothing interferes, and each frame is of a protocol.
-abbrev pub NoteIsHonest : Plan → List Entry → Note → Type 0
-NoteIsHonest plan past (Got from to octets) = WasSent plan past from to octets
-NoteIsHonest plan past (Interference id) = ⊥
-NoteIsHonest plan past Alien = ⊥
-NoteIsHonest plan past _ = Unit {0}
+-- A note of the system with a name, in a move of a network, says only what is so: what is handed up was sent before, or is founded
+-- on what was made before; nothing interferes; and each frame is of a protocol.
+abbrev pub NoteIsHonest : Plan → List Entry → World → (name : List ℕ) → Note → Type 0
+NoteIsHonest plan past w name (Got from to octets) = WasSent plan past from to octets
+NoteIsHonest plan past w name (Report from to reason place octets) = IsHeaderOfOwn w name octets
+NoteIsHonest plan past w name (Echoed from to number) = IsAnswered w past name from to number
+NoteIsHonest plan past w name (Interference id) = ⊥
+NoteIsHonest plan past w name Alien = ⊥
+NoteIsHonest plan past w name _ = Unit {0}
+
+-- so is what it says besides: no frame breaks a rule
+pub record NoteIsSound (plan : Plan) (past : List Entry) (w : World) (name : List ℕ) (note : Note) : Type 0 where
+  pub honest : NoteIsHonest plan past w name note
+  pub no_rule : NotesNoRule note
+
+-- and no restart is noted
+pub record NoteIsSteady (plan : Plan) (past : List Entry) (w : World) (name : List ℕ) (note : Note) : Type 0 where
+  pub sound : NoteIsSound plan past w name note
+  pub no_restart : IsNoRestart note

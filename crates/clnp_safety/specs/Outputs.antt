@@ -1,12 +1,21 @@
--- What a system gives out in a run.
-use Rattle.std.specs.Prelude.{◌≡◌, ℕ, List}
+-- What comes to a system in a run, and what it gives out.
+use Rattle.std.specs.Prelude.{List}
 use Rattle.clnp_plan.specs.declared.note.Note.{Note}
+use Rattle.esis_pdus.specs.Grammar.{IsPdu}
 use Rattle.clnp_machine.specs.Unit as unit
-use Rattle.clnp_machine.specs.System.{Output, Transmits, SendsEsis, Notes}
+use Rattle.clnp_machine.specs.Unit.{IsCarriable}
+use Rattle.clnp_machine.specs.Content.{IsCarried}
+use Rattle.clnp_machine.specs.System.{Input, FrameComes, Output, Transmits, SendsEsis, Notes}
 use Rattle.clnp_machine.specs.Steps.{IsRangeOf}
+use Rattle.clnp_safety.specs.Invariant.{Carries}
 
--- it sends packets of units that are made now, and notes what Q holds of
-abbrev pub OutputIsSound : (Note → Type 0) → List unit.Unit → ℕ → Output → Type 0
-OutputIsSound Q units now (Transmits port target packet) = IsRangeOf units packet × (packet.unit.made ≡ now)
-OutputIsSound Q units now (SendsEsis port target value) = Unit {0}
-OutputIsSound Q units now (Notes note) = Q note
+-- a frame that comes carries a packet of one of some units, or an ES-IS value, as one may, and nothing behind it
+abbrev pub ComesSoundly : List unit.Unit → Input → Type 0
+ComesSoundly units (FrameComes port sender to_group content) = Carries (IsRangeOf units) content × IsCarried content
+ComesSoundly units _ = Unit {0}
+
+-- it sends packets of some units, which PDUs can carry, and notes what Q holds of
+abbrev pub OutputIsSound : (Note → Type 0) → List unit.Unit → Output → Type 0
+OutputIsSound Q units (Transmits port target packet) = IsRangeOf units packet × IsCarriable packet
+OutputIsSound Q units (SendsEsis port target value) = IsPdu value
+OutputIsSound Q units (Notes note) = Q note

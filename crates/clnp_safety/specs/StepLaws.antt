@@ -1,8 +1,9 @@
 -- What is so of each step of a system, as the machine's laws say.
-use Rattle.std.specs.Prelude.{◌≡◌, ◌↔◌, ℕ, ◌≤◌, Bool, false, List, [], ◌++◌, None, All}
+use Rattle.std.specs.Prelude.{◌≡◌, ◌↔◌, ℕ, ◌≤◌, Bool, false, IsTrue, List, [], ◌++◌, None, All}
 use Rattle.std.specs.List.{AllByRecursion, Contains, flat_map}
+use Rattle.hex.specs.Hex.{IsBytes}
 use Rattle.nsap.specs.Address.{IsAddress}
-use Rattle.pdu_header.specs.declared.kind.Kind.{Kind}
+use Rattle.echo.specs.Match.{Echoes, echoes}
 use Rattle.esis_pdus.specs.Grammar.{IsPdu}
 use Rattle.esis_pdus.specs.Spelling.{spelling}
 use Rattle.esis_pdus.specs.Value.{EsisValue}
@@ -12,23 +13,29 @@ use Rattle.reassembly.specs.Arrival.{Arrival}
 use Rattle.reassembly.specs.Buffer as buffer
 use Rattle.reassembly.specs.Buffer.{Buffer, buffer_of, clashes, held, without}
 use Rattle.clnp_plan.specs.Configuration.{IsSystem}
-use Rattle.clnp_plan.specs.declared.ask.Ask.{Ask}
 use Rattle.clnp_machine.specs.Unit as unit
 use Rattle.clnp_machine.specs.Unit.{IsCarriable, Packet, wire}
-use Rattle.clnp_machine.specs.System.{SystemState, Input}
-use Rattle.clnp_machine.specs.Local.{Action, gives_up, make, refusal, tick}
+use Rattle.clnp_machine.specs.Content.{Content, frame_of}
+use Rattle.clnp_machine.specs.System.{SystemState, Input, IsRestarted}
+use Rattle.clnp_machine.specs.Local.{Action, discard, gives_up, made_in, refusal, tick}
 use Rattle.clnp_machine.specs.Esis.{esis_comes, forgets, says_hello}
 use Rattle.clnp_machine.specs.Step.{outputs_of, responds, step}
-use Rattle.clnp_machine.specs.Steps.{AsksNothing, BreaksNoEsisRule, BreaksNoRule, IsDeed, IsFairlyAsked, IsForOwn, IsFresh, IsWithinBudget, NotesOnly, OnlyHellos, SendsCarriable, SendsEsisPdus, SendsRangesOf, StaysItself, moment_after}
+use Rattle.clnp_machine.specs.Steps.{BreaksNoEsisRule, BreaksNoRule, IsAtMostReportOf, IsFair, IsForOwn, IsFresh, IsMadeFor, IsNoRestart, IsWithinBudget, KeepsAsOffered, NotesOnly, OnlyHellos, ReportsOn, RestartsNothing, SendsCarriable, SendsEsisPdus, SendsRangesOrGoesOn, StaysItself, WasPendingOrMade, moment_after}
 use Rattle.clnp_machine.specs.Told.{IsAllowed, IsRefusal, IsToldBy, NoteIsQuiet, NotesNoRule, SpellsPdus, TellsNoInterference, TellsOnly, WasThereOrTakes}
 
 -- of a whole step
 pub record OfSteps : Type 0 where
   pub itself : (s : SystemState) (input : Input) → StaysItself s (step s input).after
   pub fresh : (s : SystemState) (input : Input) → AllByRecursion (IsFresh s (moment_after s input)) (step s input).units
-  pub asked : (s : SystemState) (input : Input) → AsksNothing input → (step s input).units ≡ []
-  pub ranges : (s : SystemState) (input : Input) → AllByRecursion (SendsRangesOf (step s input).units) (step s input).outputs
-  pub carriable : (s : SystemState) (input : Input) → IsSystem s.configuration → IsFairlyAsked input → AllByRecursion SendsCarriable (step s input).outputs
+  pub made_for : (s : SystemState) (input : Input) → AllByRecursion (IsMadeFor input) (step s input).units
+  pub reports : (s : SystemState) (input : Input) → IsFair input → SpellsPdus input → KeepsAsOffered s
+      → AllByRecursion (ReportsOn s input) (step s input).units
+  pub pending : (s : SystemState) (input : Input) → AllByRecursion (WasPendingOrMade s (step s input)) (step s input).after.pending
+  pub forgotten : (s : SystemState) → (step s IsRestarted).after.pending ≡ []
+  pub no_restart : (s : SystemState) (input : Input) → RestartsNothing input → AllByRecursion (NotesOnly IsNoRestart) (step s input).outputs
+  pub ranges : (s : SystemState) (input : Input) → AllByRecursion (SendsRangesOrGoesOn s input (step s input).units) (step s input).outputs
+  pub carriable : (s : SystemState) (input : Input) → IsSystem s.configuration → IsFair input → All IsAddress s.configuration.addresses
+      → KeepsAsOffered s → AllByRecursion SendsCarriable (step s input).outputs
   pub esis_pdus : (s : SystemState) (input : Input) → IsSystem s.configuration → All IsAddress s.configuration.addresses
       → AllByRecursion SendsEsisPdus (step s input).outputs
   pub no_rule : (s : SystemState) (input : Input) → SpellsPdus input → AllByRecursion (NotesOnly NotesNoRule) (step s input).outputs
@@ -37,12 +44,13 @@ pub record OfSteps : Type 0 where
 
 -- of what a system does at its own addresses
 pub record OfDeeds : Type 0 where
-  pub make : (s : SystemState) (kind : Kind) (from to octets : List ℕ) (ask : Ask) → IsDeed s (make s kind from to octets ask)
   pub allowed : (s : SystemState) (u : unit.Unit) → (refusal s u ≡ None) ↔ IsAllowed s u
   pub refused : (s : SystemState) (u : unit.Unit) → IsRefusal (refusal s u)
   pub told : (s : SystemState) (actions : List Action) → AllByRecursion (NotesOnly (IsToldBy actions)) (flat_map (outputs_of s) actions)
   pub tick : (s : SystemState) (now : ℕ) → AllByRecursion (TellsOnly NoteIsQuiet) (tick s now).actions
-  pub ended : (s : SystemState) (ended : Buffer Packet) → (gives_up s ended).after ≡ record s { buffers = without ended.key s.buffers }
+  pub ended : (s : SystemState) (ended : Buffer Packet)
+      → (gives_up s ended).after ≡ record s { buffers = without ended.key s.buffers; count = (gives_up s ended).after.count }
+  pub reported : (s : SystemState) (frame : Content) (reason place : ℕ) → IsAtMostReportOf (frame_of frame) (made_in (discard s frame reason place).actions)
 
 -- of what a system says and hears of others
 pub record OfHellos : Type 0 where
@@ -68,4 +76,5 @@ pub record StepLaws : Type 0 where
   pub hellos : OfHellos
   pub segments : OfSegments
   pub frames : (p : Packet) (following : List ℕ) → IsCarriable p → BreaksNoRule (wire p ++ following)
+  pub answers : (request_data reply_data : List ℕ) → IsBytes reply_data → IsTrue (echoes request_data reply_data) ↔ Echoes request_data reply_data
   pub esis_frames : (value : EsisValue) (following : List ℕ) → IsPdu value → BreaksNoEsisRule (spelling value ++ following)

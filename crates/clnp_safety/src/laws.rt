@@ -5,7 +5,7 @@ ghost use Rattle.scenario.specs.Scenario.{Plan, IsFit};
 ghost use Rattle.scenario.specs.declared.event.Move.{Move};
 ghost use Rattle.clnp_network.specs.World.{World, after, first_world};
 ghost use Rattle.clnp_network.specs.Run.{Entry, entries_of, full_weight, run, text_of, until_full, world_after};
-ghost use Rattle.clnp_network.specs.Safe.{CarriesRanges, EachWasSent, FramesAreUnbroken, HoldsUnitsApart, IdentifiersRest, IsHonest, IsSend, NoRefusal, IsWithinBudgets, IsWithinLifetimes, NoInterference, NoneIsAlien, TellsNoRule};
+ghost use Rattle.clnp_network.specs.Safe.{CarriesRanges, EachIsFounded, EachWasSent, FramesAreUnbroken, HoldsUnitsApart, IdentifiersRest, IsHonest, IsSend, NoRefusal, IsWithinBudgets, IsWithinLifetimes, NoInterference, NoneIsAlien, TellsNoRule};
 ghost use Rattle.clnp_safety.specs.Growth.{IsFront, IsFullAt, IsWithinCopies};
 ghost use Rattle.clnp_safety.specs.Owners.{IsByOwner};
 ghost use Rattle.clnp_safety.specs.Refusal.{LeavesNothing};
@@ -68,6 +68,15 @@ pub fn no_frame_is_alien()
 /// Each reassembly buffer of a run holds segments of one unit that was made.
 pub fn units_are_held_apart()
     ensures { (plan : Plan) → IsFit plan → (moves : List Move) → HoldsUnitsApart (world_after plan (first_world plan) moves) }
+{
+    laws_of_steps();
+}
+
+/// What a line of a run says of error reports and echo replies that came to a system is founded on what
+/// the system made: the data of a report are the header of a packet of a unit of its own, and an echo
+/// reply answers a request that it made since its last restart, and was made by an owner of its source.
+pub fn reports_and_echoes_are_of_its_own()
+    ensures { (plan : Plan) → IsFit plan → (moves : List Move) → EachIsFounded plan (first_world plan) [] moves }
 {
     laws_of_steps();
 }
@@ -137,7 +146,6 @@ fn laws_of_steps()
     ensures { StepLaws }
 {
     machine::a_system_stays_itself();
-    machine::deeds_are_of_their_moment();
     machine::new_units_are_fresh();
     machine::ranges_of_units_are_sent();
     machine::what_is_sent_is_carriable();
@@ -149,7 +157,12 @@ fn laws_of_steps()
     machine::units_are_made_where_allowed();
     machine::what_is_noted_was_told();
     machine::ended_buffers_are_taken_out();
+    machine::reports_make_no_storm();
+    machine::reports_are_of_packets();
+    machine::requests_are_kept();
+    machine::only_restarts_are_noted_as_such();
     machine::a_segment_is_kept_in_its_buffer();
     machine::carriable_packets_break_no_rule();
     machine::esis_pdus_break_no_rule();
+    echo::laws::the_test_is_the_rule();
 }

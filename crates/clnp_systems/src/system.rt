@@ -1,18 +1,22 @@
 //! A system of a network.
-ghost use Rattle.std.specs.Prelude.{◌≡◌, ◌≤◌, ◌<◌, ◌+◌, ◌^◌, ℕ, IfNone, IfOk, IfSome, OnOk, OnErr, IsErr, true, length};
+ghost use Rattle.std.specs.Prelude.{◌≡◌, ◌≤◌, ◌<◌, ◌+◌, ◌^◌, ℕ, Err, IfErr, IfNone, IfOk, IfSome, MatchResult, None, OnOk, OnErr, IsErr, true, length};
+ghost use Rattle.clnp_plan.specs.declared.ask.SendRefusal.TheVariants.{NoMemory as WantsMemory};
 ghost use Rattle.clnp_plan.specs.declared.config.Role.TheVariants as role;
 ghost use Rattle.clnp_machine.specs.Content.{Content, IsCarried, frame_of};
-ghost use Rattle.clnp_machine.specs.Given.{Appends};
+ghost use Rattle.clnp_machine.specs.Given.{Appends, AppendsFor};
+ghost use Rattle.clnp_machine.specs.Local.{refusal, request_unit};
 ghost use Rattle.clnp_machine.specs.Step.{step};
-ghost use Rattle.clnp_machine.specs.System.{SystemState, FrameComes, IsRestarted, MomentComes, first_state};
+ghost use Rattle.clnp_machine.specs.System.{SystemState, AsksForEcho, FrameComes, IsRestarted, MomentComes, first_state, next_number};
+ghost use Rattle.local_entity.specs.Local.{IsWhy};
+ghost use Rattle.system_entity.specs.Stands.{IsLeftBy};
 ghost use Rattle.clnp_systems.specs.declared.system.System.TheVariants as variant;
 ghost use Rattle.clnp_systems.specs.Stands.{Stands, configuration_of, entity_of};
 
 use clnp_base::NoMemory;
-use clnp_plan::{Limits, Output, Role, SystemConfig};
+use clnp_plan::{Limits, Output, Role, SendRefusal, SystemConfig};
 use clnp_views::Frame;
 use end_system::EndSystem;
-use nsap::Snpa;
+use nsap::{Address, Snpa};
 use router::Router;
 use std::alloc::Global;
 
@@ -93,7 +97,7 @@ impl System {
             → frame_of content ≡ frame.now → Stands self.new (step s (FrameComes port from group content)).after) }
         ensures outputs { OnOk result ((s : SystemState) (content : Content) → Stands self.old s → IsCarried content
             → frame_of content ≡ frame.now
-            → Appends (entity_of self.old).moment out.old.items out.new.items (step s (FrameComes port from group content)).outputs) }
+            → AppendsFor (entity_of self.old).moment content out.old.items out.new.items (step s (FrameComes port from group content)).outputs) }
         ensures none { OnErr result (out.new.items ≡ out.old.items) }
         ensures spent { OnErr result ((entity_of self.new).spent ≡ true) }
         ensures moment { (entity_of self.new).moment ≡ (entity_of self.old).moment }
@@ -102,6 +106,41 @@ impl System {
         match self {
             System::Host(host) => host.frame(alloc, port, from, group, frame, out),
             System::Router(router) => router.frame(alloc, port, from, group, frame, out),
+        }
+    }
+
+    /// Makes an echo request of some octets and sends it, cut for the MTU where it may be (RFC 1575); what the system gives out is
+    /// appended. Gives the request's number.
+    ///
+    /// # Errors
+    ///
+    /// The first of these that holds: `NotMine` exactly where the source isn't one of the system's addresses; `TooLong`
+    /// exactly where the body has more than 64,512 octets, or else its header would have more than 254; `Quiet` or
+    /// `IdsBusy` exactly where it may be segmented and no identifier can be drawn for it. Nothing changes then. At
+    /// `NoMemory` `out` is as it was, and the system is spent.
+    pub fn echo(
+        &mut self,
+        alloc: Global,
+        from: Address,
+        to: Address,
+        body: &[u8],
+        out: &mut Vec<Output>,
+    ) -> Result<u64, SendRefusal>
+        ensures answer { (s : SystemState) → Stands self.old s → MatchResult result
+            (λ unit. (refusal s (request_unit s from to body.now) ≡ None) × (unit ≡ next_number s))
+            (λ e. IsWhy e (refusal s (request_unit s from to body.now))) }
+        ensures stands { OnOk result ((s : SystemState) → Stands self.old s → Stands self.new (step s (AsksForEcho from to body.now)).after) }
+        ensures outputs { OnOk result ((s : SystemState) → Stands self.old s
+            → Appends (entity_of self.old).moment out.old.items out.new.items (step s (AsksForEcho from to body.now)).outputs) }
+        ensures none { OnErr result (out.new.items ≡ out.old.items) }
+        ensures left { IfErr result (λ e. IsLeftBy e (entity_of self.old) (entity_of self.new)) }
+        ensures refused { (entity_of self.old).spent ≡ true → result ≡ Err WantsMemory }
+        ensures moment { (entity_of self.new).moment ≡ (entity_of self.old).moment }
+        ensures config { configuration_of self.new ≡ configuration_of self.old }
+    {
+        match self {
+            System::Host(host) => host.echo(alloc, from, to, body, out),
+            System::Router(router) => router.echo(alloc, from, to, body, out),
         }
     }
 

@@ -13,13 +13,14 @@ use Rattle.clnp_network.specs.World as network
 use Rattle.clnp_network.specs.Run.{lines_text}
 use Rattle.clnp_world.specs.Seen.{frame_copy}
 use Rattle.clnp_world.specs.Parts.{Shows, Holds, IsRunning, Follows}
+use Rattle.clnp_world.specs.Stands.{IsBornWithUnit}
 use Rattle.clnp_world.specs.declared.network.Network.{Network}
 use Rattle.clnp_world.specs.declared.copy.FrameCopy.{FrameCopy}
 use Rattle.clnp_base.proofs.Lists.{AllByRecursion-slice_get, slice_get_some}
 use Rattle.clnp_world.proofs.ListSteps.{slice_get_read, slice_get_map}
 use Rattle.clnp_world.proofs.EachSteps.{each_length}
 use Rattle.clnp_world.proofs.ModelSteps.{configuration_of, configurations-give_each, copy-give_each, give_each-push, addressees_from-take}
-use Rattle.clnp_world.proofs.PutSteps.{puts_nothing, puts_line, puts_then, counted}
+use Rattle.clnp_world.proofs.PutSteps.{Born, puts_nothing, puts_line, puts_then, counted}
 
 -- a copy of the model, at its place
 pub copy_at : (code : Network) (model : network.World) (at : ℕ) (seen : FrameCopy) (copy : network.Copy) → Shows code model
@@ -33,6 +34,10 @@ copy_at code model at seen copy h within e there =
 pub carried_at : (copies : List network.Copy) (at : ℕ) (copy : network.Copy) → AllByRecursion (λ (c : network.Copy). IsCarried c.content) copies
     → slice_get copies at ≡ Some copy → IsCarried copy.content
 carried_at copies at copy h e = AllByRecursion-slice_get (λ (c : network.Copy). IsCarried c.content) copies at copy e h
+
+pub born_at : (copies : List network.Copy) (at : ℕ) (copy : network.Copy) → AllByRecursion Born copies → slice_get copies at ≡ Some copy
+    → IsBornWithUnit copy.birth copy.content
+born_at copies at copy h e = AllByRecursion-slice_get Born copies at copy e h
 
 -- the code's copy comes to a system as the model's does
 pub came : (copy : network.Copy) (system : SystemState) (seen : FrameCopy) (port : ℕ) (group : Bool)
@@ -231,6 +236,7 @@ moves_on code model h = record {
     copies = h.shows.copies;
     cursor = ap (λ (n : ℕ). n + 1) h.shows.cursor;
     carried = h.shows.carried;
+    born = h.shows.born;
     short = h.shows.short;
     weight = h.shows.weight;
   };

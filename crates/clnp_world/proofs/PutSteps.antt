@@ -1,5 +1,5 @@
 -- What a network of the code shows after a note was written or a frame put on a subnetwork.
-use Rattle.std.proofs.Common.{◌≡◌, ℕ, ◌+◌, ◌<◌, ◌≤◌, List, [], ◌∷◌, ◌++◌, length, map, get_or, Option, Some, None, refl, sym, ap, ◌∙◌, subst, append-nil, append_assoc, length-append, arith}
+use Rattle.std.proofs.Common.{◌≡◌, ℕ, ◌+◌, ◌<◌, ◌≤◌, inl, inr, cond, Bool, List, [], ◌∷◌, ◌++◌, length, map, get_or, Option, Some, None, refl, sym, ap, ◌∙◌, subst, append-nil, append_assoc, length-append, arith}
 use Rattle.std.specs.Prelude.{slice_get, sum}
 use Rattle.std.specs.List.{AllByRecursion}
 use Rattle.std.proofs.lemmas.List.{length-map, map-append}
@@ -18,15 +18,16 @@ use Rattle.clnp_plan.specs.declared.output.Output as output
 use Rattle.clnp_plan.specs.declared.output.Output.TheVariants.{Transmit, Note as Told}
 use Rattle.clnp_plan.specs.declared.output.Sending.{Sending}
 use Rattle.clnp_plan.specs.Journal.{Noted, Transmitted, Line, line_text}
+use Rattle.clnp_machine.specs.Unit as unit
 use Rattle.clnp_machine.specs.Unit.{DeclaredAt, Maker, Packet, value_of, wire, IsCarriable}
-use Rattle.clnp_machine.specs.Content.{Content, Esis, IsCarried, Labelled, frame_of}
+use Rattle.clnp_machine.specs.Content.{Content, Esis, IsCarried, Labelled, Unlabelled, frame_of}
 use Rattle.clnp_machine.specs.System.{SystemState, Output, Transmits, SendsEsis, Notes}
 use Rattle.clnp_network.specs.World as network
 use Rattle.clnp_network.specs.Run.{lines_text}
 use Rattle.clnp_systems.specs.declared.system.System.{System}
-use Rattle.clnp_machine.specs.Given.{GiveAll, Gives, frame_in}
+use Rattle.clnp_machine.specs.Given.{CarriesUnit, GiveAllFor, GivesFor, frame_in}
 use Rattle.clnp_world.specs.Seen.{frame_copy, frame_copies, frames_weight}
-use Rattle.clnp_world.specs.Stands.{StandEach}
+use Rattle.clnp_world.specs.Stands.{IsBornWithUnit, StandEach}
 use Rattle.clnp_world.specs.Parts.{Shows, Puts, PutsCopies}
 use Rattle.clnp_world.specs.declared.network.Network.{Network}
 use Rattle.clnp_world.specs.declared.copy.FrameCopy.{FrameCopy}
@@ -104,6 +105,14 @@ copy_carried : (port : Option PortConfig) (target : Target) (maker : Maker) (bir
 copy_carried None target maker birth content good = tt
 copy_carried (Some port) target maker birth content good = (good, tt)
 
+abbrev pub Born : network.Copy → Type 0
+Born copy = IsBornWithUnit copy.birth copy.content
+
+copy_born : (port : Option PortConfig) (target : Target) (maker : Maker) (birth : ℕ) (content : Content) → IsBornWithUnit birth content
+    → AllByRecursion Born (network.copy_from port target maker birth content)
+copy_born None target maker birth content born = tt
+copy_born (Some port) target maker birth content born = (born, tt)
+
 copy_short : (port : Option PortConfig) (target : Target) (birth : ℕ) (frame : List ℕ) → length frame ≤ 70000
     → AllByRecursion Short (frame_copies port target birth frame)
 copy_short None target birth frame short = tt
@@ -111,12 +120,12 @@ copy_short (Some port) target birth frame short = (short, tt)
 
 -- a frame that stands for what it carries
 puts_frame : (old code : Network) (before after : List ℕ) (port : ℕ) (target : Target) (maker : Maker) (birth : ℕ) (content : Content) (system : SystemState)
-    → (model : network.World) → Shows old model → IsCarried content → length (frame_of content) ≤ 70000
+    → (model : network.World) → Shows old model → IsCarried content → IsBornWithUnit birth content → length (frame_of content) ≤ 70000
     → after ≡ before ++ line_text (Transmitted model.clock system.configuration.name (length model.copies + 1) port target (frame_of content))
     → PutsCopies old code (frame_copies (slice_get system.configuration.ports port) target birth (frame_of content))
     → code ≡ record old { copies = code.copies; weight = code.weight }
     → Puts code before after (network.sends_frame system model port target maker birth content)
-puts_frame old code before after port target maker birth content system model h good few line put others =
+puts_frame old code before after port target maker birth content system model h good born few line put others =
     let at = slice_get system.configuration.ports port in
     let made = network.copy_from at target maker birth content in
     let seen : frame_copies at target birth (frame_of content) ≡ map frame_copy made = copy_seen at target maker birth content in
@@ -129,6 +138,7 @@ puts_frame old code before after port target maker birth content system model h 
             ∙ sym (map-append frame_copy model.copies made);
         cursor = ap (λ (w : Network). w.cursor) others ∙ h.cursor;
         carried = AllByRecursion-append Carried model.copies made h.carried (copy_carried at target maker birth content good);
+        born = AllByRecursion-append Born model.copies made h.born (copy_born at target maker birth content born);
         short = subst (λ (cs : List FrameCopy). AllByRecursion Short cs) (sym put.copies)
             (AllByRecursion-append Short old.copies.items (frame_copies at target birth (frame_of content)) h.short
             (copy_short at target birth (frame_of content) few));
@@ -141,131 +151,161 @@ puts_frame old code before after port target maker birth content system model h 
           (sym (append-nil (line_text (Transmitted model.clock system.configuration.name (length model.copies + 1) port target (frame_of content)))));
     }
 
--- the frame that a sending is stands for an output of the model
-sends : (old code : Network) (before after : List ℕ) (place : ℕ) (sending : Sending) (frame : List ℕ) (other : Output)
+-- the moment at which the copy of a frame was born, where what came was born at another
+abbrev pub birth_of : Sending → (came now : ℕ) → ℕ
+birth_of sending came now = cond sending.forwarded came now
+
+-- a frame that goes on is as old as the unit of the one that came
+as_old : (came : ℕ) (content : Content) (u : unit.Unit) → IsBornWithUnit came content → CarriesUnit content u → came ≡ u.made
+as_old came (Labelled packet following) u born same = born ∙ ap (λ (v : unit.Unit). v.made) same
+as_old came (Esis value following) u born same = absurd same
+as_old came (Unlabelled octets) u born same = absurd same
+
+-- the frame of a packet
+sends_packet : (old code : Network) (before after : List ℕ) (sending : Sending) (frame : List ℕ) (birth port : ℕ) (target : Target) (packet : Packet)
     → frame ≡ frame_in sending
     → (model : network.World) (system : SystemState) → Shows old model
     → after ≡ before ++ line_text (Transmitted model.clock system.configuration.name (length model.copies + 1) sending.port sending.to frame)
-    → PutsCopies old code (frame_copies (slice_get system.configuration.ports sending.port) sending.to old.clock frame)
+    → PutsCopies old code (frame_copies (slice_get system.configuration.ports sending.port) sending.to birth frame)
     → code ≡ record old { copies = code.copies; weight = code.weight }
-    → Gives old.clock (Transmit sending) other → Puts code before after (network.put_out system model other)
-sends old code before after place sending frame (Notes note) frame_is model system h line put others gives = absurd gives
-sends old code before after place sending frame (Transmits port target packet) frame_is model system h line put others gives =
-    let octets : frame ≡ wire packet ++ [] = frame_is ∙ gives.octets ∙ sym (append-nil (wire packet)) in
-    let port_is : sending.port ≡ port = gives.port_is in
-    let target_is : sending.to ≡ target = gives.target_is in
-    let made : old.clock ≡ packet.unit.made = sym gives.made in
-    let few : length (wire packet ++ []) ≤ 70000 = omega (arith, wire_short packet gives.carriable, ap length (append-nil (wire packet))) in
+    → sending.port ≡ port → sending.to ≡ target → frame_in sending ≡ wire packet → IsCarriable packet → birth ≡ packet.unit.made
+    → Puts code before after (network.put_out system model (Transmits port target packet))
+sends_packet old code before after sending frame birth port target packet frame_is model system h line put others port_is target_is spelled carriable made =
+    let octets : frame ≡ wire packet ++ [] = frame_is ∙ spelled ∙ sym (append-nil (wire packet)) in
+    let few : length (wire packet ++ []) ≤ 70000 = omega (arith, wire_short packet carriable, ap length (append-nil (wire packet))) in
     let line' = rw (port_is, target_is, octets) at line in
     let put' = subst (λ (moment : ℕ). PutsCopies old code (frame_copies (slice_get system.configuration.ports port) target moment (wire packet ++ []))) made
     (rw (port_is, target_is, octets) at put) in
-    puts_frame old code before after port target packet.unit.maker packet.unit.made (Labelled packet []) system model h gives.carriable few line' put' others
-sends old code before after place sending frame (SendsEsis port target value) frame_is model system h line put others gives =
+    puts_frame old code before after port target packet.unit.maker packet.unit.made (Labelled packet []) system model h carriable refl few line' put' others
+
+-- the frame that a sending is stands for an output of the model
+sends : (old code : Network) (before after : List ℕ) (came birth : ℕ) (content : Content) (sending : Sending) (frame : List ℕ) (other : Output)
+    → frame ≡ frame_in sending → birth ≡ birth_of sending came old.clock
+    → (model : network.World) (system : SystemState) → Shows old model
+    → after ≡ before ++ line_text (Transmitted model.clock system.configuration.name (length model.copies + 1) sending.port sending.to frame)
+    → PutsCopies old code (frame_copies (slice_get system.configuration.ports sending.port) sending.to birth frame)
+    → code ≡ record old { copies = code.copies; weight = code.weight } → IsBornWithUnit came content
+    → GivesFor old.clock content (Transmit sending) other → Puts code before after (network.put_out system model other)
+sends old code before after came birth content sending frame (Notes note) frame_is birth_is model system h line put others born gives = absurd gives
+sends old code before after came birth content sending frame (Transmits port target packet) frame_is birth_is model system h line put others born (inl first) =
+    let now = birth_is ∙ ap (λ (b : Bool). cond b came old.clock) first.first in
+    sends_packet old code before after sending frame birth port target packet frame_is model system h line put others
+    first.port_is first.target_is first.octets first.carriable (now ∙ sym first.made)
+sends old code before after came birth content sending frame (Transmits port target packet) frame_is birth_is model system h line put others born (inr on) =
+    let before_now = birth_is ∙ ap (λ (b : Bool). cond b came old.clock) on.forwarded in
+    sends_packet old code before after sending frame birth port target packet frame_is model system h line put others
+    on.port_is on.target_is on.octets on.carriable (before_now ∙ as_old came content packet.unit born on.unit)
+sends old code before after came birth content sending frame (SendsEsis port target value) frame_is birth_is model system h line put others born gives =
     let octets : frame ≡ spelling value ++ [] = frame_is ∙ gives.octets ∙ sym (append-nil (spelling value)) in
     let port_is : sending.port ≡ port = gives.port_is in
     let target_is : sending.to ≡ target = gives.target_is in
+    let now : birth ≡ model.clock = birth_is ∙ ap (λ (b : Bool). cond b came old.clock) gives.first ∙ h.clock in
     let few : length (spelling value ++ []) ≤ 70000 = omega (arith, esis_short value gives.pdu, ap length (append-nil (spelling value))) in
     let line' = rw (port_is, target_is, octets) at line in
-    let put' = subst (λ (moment : ℕ). PutsCopies old code (frame_copies (slice_get system.configuration.ports port) target moment (spelling value ++ []))) h.clock
+    let put' = subst (λ (moment : ℕ). PutsCopies old code (frame_copies (slice_get system.configuration.ports port) target moment (spelling value ++ []))) now
     (rw (port_is, target_is, octets) at put) in
-    puts_frame old code before after port target (DeclaredAt system.place) model.clock (Esis value []) system model h gives.pdu few line' put' others
+    puts_frame old code before after port target (DeclaredAt system.place) model.clock (Esis value []) system model h gives.pdu tt few line' put' others
 
 -- an output that is a frame stands for one of the model
-pub puts_transmission : (old code : Network) (before after : List ℕ) (place : ℕ) (sending : Sending) (frame : List ℕ) (out : output.Output)
-    → out ≡ Transmit sending → frame ≡ frame_in sending
+pub puts_transmission : (old code : Network) (before after : List ℕ) (place came birth : ℕ) (sending : Sending) (frame : List ℕ) (out : output.Output)
+    → out ≡ Transmit sending → frame ≡ frame_in sending → birth ≡ birth_of sending came old.clock
     → ((model : network.World) (system : SystemState) → Shows old model → slice_get model.systems place ≡ Some system
     → after ≡ before ++ line_text (Transmitted model.clock system.configuration.name (length model.copies + 1) sending.port sending.to frame))
     → ((model : network.World) (system : SystemState) → Shows old model → slice_get model.systems place ≡ Some system
-    → PutsCopies old code (frame_copies (slice_get system.configuration.ports sending.port) sending.to old.clock frame))
+    → PutsCopies old code (frame_copies (slice_get system.configuration.ports sending.port) sending.to birth frame))
     → code ≡ record old { copies = code.copies; weight = code.weight }
-    → (model : network.World) (system : SystemState) (other : Output) → Shows old model → slice_get model.systems place ≡ Some system
-    → Gives old.clock out other → Puts code before after (network.put_out system model other)
-puts_transmission old code before after place sending frame out is frame_is line copies others model system other h there gives =
-    sends old code before after place sending frame other frame_is model system h (line model system h there) (copies model system h there) others
-    (subst (λ (o : output.Output). Gives old.clock o other) is gives)
+    → (model : network.World) (system : SystemState) (content : Content) (other : Output) → Shows old model
+    → slice_get model.systems place ≡ Some system → IsBornWithUnit came content
+    → GivesFor old.clock content out other → Puts code before after (network.put_out system model other)
+puts_transmission old code before after place came birth sending frame out is frame_is birth_is line copies others model system content other h there born gives =
+    sends old code before after came birth content sending frame other frame_is birth_is model system h (line model system h there)
+    (copies model system h there) others born (subst (λ (o : output.Output). GivesFor old.clock content o other) is gives)
 
 -- an output that is a note stands for one of the model
-tells : (code : Network) (before after : List ℕ) (note : Note) (other : Output) (model : network.World) (system : SystemState) → Shows code model
+tells : (code : Network) (before after : List ℕ) (content : Content) (note : Note) (other : Output) (model : network.World) (system : SystemState) → Shows code model
     → after ≡ before ++ line_text (Noted model.clock system.configuration.name note)
-    → Gives code.clock (Told note) other → Puts code before after (network.put_out system model other)
-tells code before after note (Transmits port target packet) model system h line gives = absurd gives
-tells code before after note (SendsEsis port target value) model system h line gives = absurd gives
-tells code before after note (Notes told) model system h line gives =
+    → GivesFor code.clock content (Told note) other → Puts code before after (network.put_out system model other)
+tells code before after content note (Transmits port target packet) model system h line gives = absurd gives
+tells code before after content note (SendsEsis port target value) model system h line gives = absurd gives
+tells code before after content note (Notes told) model system h line gives =
     puts_line code before after model (Noted model.clock system.configuration.name told) h (rw gives at line)
 
-pub puts_note : (code : Network) (before after : List ℕ) (place : ℕ) (note : Note) (out : output.Output) → out ≡ Told note
+pub puts_note : (code : Network) (before after : List ℕ) (place came : ℕ) (note : Note) (out : output.Output) → out ≡ Told note
     → ((model : network.World) (system : SystemState) → Shows code model → slice_get model.systems place ≡ Some system
     → after ≡ before ++ line_text (Noted model.clock system.configuration.name note))
-    → (model : network.World) (system : SystemState) (other : Output) → Shows code model → slice_get model.systems place ≡ Some system
-    → Gives code.clock out other → Puts code before after (network.put_out system model other)
-puts_note code before after place note out is line model system other h there gives =
-    tells code before after note other model system h (line model system h there)
-    (subst (λ (o : output.Output). Gives code.clock o other) is gives)
+    → (model : network.World) (system : SystemState) (content : Content) (other : Output) → Shows code model
+    → slice_get model.systems place ≡ Some system → IsBornWithUnit came content
+    → GivesFor code.clock content out other → Puts code before after (network.put_out system model other)
+puts_note code before after place came note out is line model system content other h there born gives =
+    tells code before after content note other model system h (line model system h there)
+    (subst (λ (o : output.Output). GivesFor code.clock content o other) is gives)
 
 -- Many outputs.
 
 -- the last of the outputs that the code has
-split_last : (moment : ℕ) (xs : List output.Output) (x : output.Output) (others : List Output) → GiveAll moment (xs ++ x ∷ []) others
-    → (front : List Output) × (last : Output) × (others ≡ front ++ last ∷ []) × GiveAll moment xs front × Gives moment x last
-split_last moment [] x [] h = absurd h
-split_last moment [] x (other ∷ []) h = ([], other, refl, tt, h.0)
-split_last moment [] x (other ∷ (more ∷ others)) h = absurd h.1
-split_last moment (y ∷ ys) x [] h = absurd h
-split_last moment (y ∷ ys) x (other ∷ others) h =
-    let r = split_last moment ys x others h.1 in
+split_last : (moment : ℕ) (content : Content) (xs : List output.Output) (x : output.Output) (others : List Output) → GiveAllFor moment content (xs ++ x ∷ []) others
+    → (front : List Output) × (last : Output) × (others ≡ front ++ last ∷ []) × GiveAllFor moment content xs front × GivesFor moment content x last
+split_last moment content [] x [] h = absurd h
+split_last moment content [] x (other ∷ []) h = ([], other, refl, tt, h.0)
+split_last moment content [] x (other ∷ (more ∷ others)) h = absurd h.1
+split_last moment content (y ∷ ys) x [] h = absurd h
+split_last moment content (y ∷ ys) x (other ∷ others) h =
+    let r = split_last moment content ys x others h.1 in
     (other ∷ r.0, r.1, ap (λ (os : List Output). other ∷ os) r.2, (h.0, r.3), r.4)
 
-no_outputs : (moment : ℕ) (others : List Output) → GiveAll moment [] others → others ≡ []
-no_outputs moment [] h = refl
-no_outputs moment (other ∷ others) h = absurd h
+no_outputs : (moment : ℕ) (content : Content) (others : List Output) → GiveAllFor moment content [] others → others ≡ []
+no_outputs moment content [] h = refl
+no_outputs moment content (other ∷ others) h = absurd h
 
--- what the code has put out of a system's outputs is what the model has
-abbrev pub PutsOut : Network → Network → List ℕ → List ℕ → ℕ → List output.Output → Type 0
-PutsOut start code before after place outputs =
-    (model : network.World) (system : SystemState) (others : List Output) → Shows start model → slice_get model.systems place ≡ Some system
-    → GiveAll start.clock outputs others → Puts code before after (network.put_all_out system model others)
+-- what the code has put out of a system's outputs is what the model has, where the system was given what was born at a moment
+abbrev pub PutsOut : Network → Network → List ℕ → List ℕ → (place came : ℕ) → List output.Output → Type 0
+PutsOut start code before after place came outputs =
+    (model : network.World) (system : SystemState) (content : Content) (others : List Output) → Shows start model
+    → slice_get model.systems place ≡ Some system → IsBornWithUnit came content
+    → GiveAllFor start.clock content outputs others → Puts code before after (network.put_all_out system model others)
 
-pub puts_none : (code : Network) (lines : List ℕ) (place : ℕ) → PutsOut code code lines lines place []
-puts_none code lines place model system others h there gives =
-    subst (λ (os : List Output). Puts code lines lines (network.put_all_out system model os)) (sym (no_outputs code.clock others gives))
+pub puts_none : (code : Network) (lines : List ℕ) (place came : ℕ) → PutsOut code code lines lines place came []
+puts_none code lines place came model system content others h there born gives =
+    subst (λ (os : List Output). Puts code lines lines (network.put_all_out system model os)) (sym (no_outputs code.clock content others gives))
     (puts_nothing code model lines h)
 
-pub puts_more : (start mid code : Network) (before between after : List ℕ) (place : ℕ) (outputs : List output.Output) (out : output.Output)
-    → PutsOut start mid before between place outputs → mid.clock ≡ start.clock
-    → ((model : network.World) (system : SystemState) (other : Output) → Shows mid model → slice_get model.systems place ≡ Some system
-    → Gives mid.clock out other → Puts code between after (network.put_out system model other))
-    → PutsOut start code before after place (outputs ++ out ∷ [])
-puts_more start mid code before between after place outputs out so_far clock next model system others h there gives =
-    let r = split_last start.clock outputs out others gives in
-    let front = so_far model system r.0 h there r.3 in
+pub puts_more : (start mid code : Network) (before between after : List ℕ) (place came : ℕ) (outputs : List output.Output) (out : output.Output)
+    → PutsOut start mid before between place came outputs → mid.clock ≡ start.clock
+    → ((model : network.World) (system : SystemState) (content : Content) (other : Output) → Shows mid model
+    → slice_get model.systems place ≡ Some system → IsBornWithUnit came content
+    → GivesFor mid.clock content out other → Puts code between after (network.put_out system model other))
+    → PutsOut start code before after place came (outputs ++ out ∷ [])
+puts_more start mid code before between after place came outputs out so_far clock next model system content others h there born gives =
+    let r = split_last start.clock content outputs out others gives in
+    let front = so_far model system content r.0 h there born r.3 in
     let w = network.put_all_out system model r.0 in
     let there' : slice_get w.world.systems place ≡ Some system
     = subst (λ (ss : List SystemState). slice_get ss place ≡ Some system) (sym (systems-put_all_out system model r.0)) there in
-    let last = next w.world system r.1 front.shows there' (subst (λ (t : ℕ). Gives t out r.1) (sym clock) r.4) in
+    let last = next w.world system content r.1 front.shows there' born (subst (λ (t : ℕ). GivesFor t content out r.1) (sym clock) r.4) in
     subst (λ (s : network.Step). Puts code before after s)
     (sym (put_all_out-push system model r.0 r.1) ∙ ap (λ (os : List Output). network.put_all_out system model os) (sym r.2))
     (puts_then code before between after w (λ v. network.put_out system v r.1) front.lines last)
 
 -- The port of a copy is read, or there is none at its number.
 
-pub copies_past : (old : Network) (ports own : List PortConfig) (i port : ℕ) (target : Target) (frame : List ℕ)
-    → ports ≡ own → i ≡ port → length ports ≤ i → PutsCopies old old (frame_copies (slice_get own port) target old.clock frame)
-copies_past old ports own i port target frame e n past =
+pub copies_past : (old : Network) (ports own : List PortConfig) (i port : ℕ) (target : Target) (birth : ℕ) (frame : List ℕ)
+    → ports ≡ own → i ≡ port → length ports ≤ i → PutsCopies old old (frame_copies (slice_get own port) target birth frame)
+copies_past old ports own i port target birth frame e n past =
     let none : slice_get own port ≡ None
     = subst (λ (ps : List PortConfig). slice_get ps port ≡ None) e (subst (λ (k : ℕ). slice_get ports k ≡ None) n (slice_get_past ports i past)) in
-    subst (λ (p : Option PortConfig). PutsCopies old old (frame_copies p target old.clock frame)) (sym none)
+    subst (λ (p : Option PortConfig). PutsCopies old old (frame_copies p target birth frame)) (sym none)
     record { copies = sym (append-nil old.copies.items); weight = omega arith }
 
-pub copies_read : (old code : Network) (ports own : List PortConfig) (i port : ℕ) (at : PortConfig) (target : Target) (frame : List ℕ)
+pub copies_read : (old code : Network) (ports own : List PortConfig) (i port : ℕ) (at : PortConfig) (target : Target) (birth : ℕ) (frame : List ℕ)
     → ports ≡ own → i ≡ port → i < length ports → at ≡ get_or ports i at
-    → code.copies.items ≡ old.copies.items ++ record { subnet = at.subnet; sender = at.snpa; target = target; birth = old.clock; frame = frame } ∷ []
+    → code.copies.items ≡ old.copies.items ++ record { subnet = at.subnet; sender = at.snpa; target = target; birth = birth; frame = frame } ∷ []
     → code.weight ≡ old.weight + (length frame + 64)
-    → PutsCopies old code (frame_copies (slice_get own port) target old.clock frame)
-copies_read old code ports own i port at target frame e n within read copies weight =
+    → PutsCopies old code (frame_copies (slice_get own port) target birth frame)
+copies_read old code ports own i port at target birth frame e n within read copies weight =
     let one : slice_get own port ≡ Some at
     = subst (λ (ps : List PortConfig). slice_get ps port ≡ Some at) e
     (subst (λ (k : ℕ). slice_get ports k ≡ Some at) n (slice_get_read ports i at within read)) in
-    subst (λ (p : Option PortConfig). PutsCopies old code (frame_copies p target old.clock frame)) (sym one)
+    subst (λ (p : Option PortConfig). PutsCopies old code (frame_copies p target birth frame)) (sym one)
     record { copies = copies; weight = weight ∙ omega arith }
 
 -- A line of the code's words is the one of the model's.

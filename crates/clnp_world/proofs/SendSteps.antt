@@ -9,7 +9,7 @@ use Rattle.pdu_header.specs.declared.kind.Kind.TheVariants.{Dt}
 use Rattle.clnp_plan.specs.declared.ask.Ask.{Ask}
 use Rattle.clnp_plan.specs.declared.note.Note.{Note}
 use Rattle.clnp_plan.specs.declared.output.Output.TheVariants.{Note as Told}
-use Rattle.clnp_machine.specs.System.{SystemState, AsksToSend, Effect, Input}
+use Rattle.clnp_machine.specs.System.{SystemState, AsksForEcho, AsksToSend, Effect, Input}
 use Rattle.clnp_machine.specs.Local as local
 use Rattle.clnp_machine.specs.Step.{step, effect_of}
 use Rattle.clnp_systems.specs.declared.system.System.{System}
@@ -17,7 +17,7 @@ use Rattle.clnp_machine.specs.Given.{Appends}
 use Rattle.clnp_network.specs.World as network
 use Rattle.system_entity.specs.State.{SystemEntityState}
 use Rattle.system_entity.specs.Stands as entity
-use Rattle.clnp_systems.specs.Stands.{configuration_of}
+use Rattle.clnp_systems.specs.Stands.{configuration_of, entity_of}
 use Rattle.clnp_world.specs.Parts.{Follows, Holds}
 use Rattle.clnp_world.specs.Stands.{StandEach}
 use Rattle.clnp_world.specs.declared.network.Network.{Network}
@@ -45,6 +45,27 @@ pub refused_gives : (s : SystemState) (from to octets : List ℕ) (ask : Ask) (n
     → Appends moment [] (Told note ∷ []) (step s (AsksToSend from to octets ask)).outputs
 refused_gives s from to octets ask note moment e =
     subst (λ (effect : Effect). Appends moment [] (Told note ∷ []) effect.outputs) (sym (refuses s from to octets ask note e))
+    (gives_note moment note)
+
+-- so is the refusal of an echo request
+
+refuses_echo : (s : SystemState) (from to octets : List ℕ) (note : Note) → local.refusal s (local.request_unit s from to octets) ≡ Some note
+    → step s (AsksForEcho from to octets) ≡ effect_of (local.tells s note)
+refuses_echo s from to octets note e =
+    ap (λ (refused : Option Note). effect_of (local.unless_refused refused s (local.request_unit s from to octets))) e
+
+pub refused_echo_stands : (s : SystemState) (from to octets : List ℕ) (note : Note) (was now : System)
+    → local.refusal s (local.request_unit s from to octets) ≡ Some note → entity_of now ≡ entity_of was → entity.Stands (entity_of was) s
+    → entity.Stands (entity_of now) (step s (AsksForEcho from to octets)).after
+refused_echo_stands s from to octets note was now e same stands =
+    subst (λ (effect : Effect). entity.Stands (entity_of now) effect.after) (sym (refuses_echo s from to octets note e))
+    (subst (λ (e : SystemEntityState). entity.Stands e s) (sym same) stands)
+
+pub refused_echo_gives : (s : SystemState) (from to octets : List ℕ) (note : Note) (moment : ℕ)
+    → local.refusal s (local.request_unit s from to octets) ≡ Some note
+    → Appends moment [] (Told note ∷ []) (step s (AsksForEcho from to octets)).outputs
+refused_echo_gives s from to octets note moment e =
+    subst (λ (effect : Effect). Appends moment [] (Told note ∷ []) effect.outputs) (sym (refuses_echo s from to octets note e))
     (gives_note moment note)
 
 -- Hosts alone are asked.
@@ -97,6 +118,7 @@ written_back old lines place asked node here follows model h =
           copies = part.holds.shows.copies;
           cursor = part.holds.shows.cursor;
           carried = part.holds.shows.carried;
+          born = part.holds.shows.born;
           short = part.holds.shows.short;
           weight = part.holds.shows.weight;
         };

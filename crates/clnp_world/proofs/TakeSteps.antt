@@ -15,12 +15,15 @@ use Rattle.clnp_machine.specs.Step.{step}
 use Rattle.clnp_network.specs.World as network
 use Rattle.clnp_systems.specs.declared.system.System.{System}
 use Rattle.clnp_systems.specs.Stands as clnp_systems
-use Rattle.clnp_machine.specs.Given.{Appends, GiveAll}
+use Rattle.clnp_machine.specs.Content.{Content, Unlabelled}
+use Rattle.clnp_machine.specs.Given.{Appends, AppendsFor, GiveAllFor}
+use Rattle.clnp_machine.proofs.Given.{appends_for}
 use Rattle.system_entity.specs.State.{SystemEntityState}
 use Rattle.system_entity.specs.Stands.{IsLeftBy}
 use Rattle.local_entity.specs.Local.{IsWhy, refusal_note}
 use Rattle.clnp_systems.specs.Stands.{entity_of}
 use Rattle.clnp_world.specs.Parts.{Shows, Holds, Puts, Follows}
+use Rattle.clnp_world.specs.Stands.{IsBornWithUnit}
 use Rattle.clnp_world.specs.declared.network.Network.{Network}
 use Rattle.clnp_base.proofs.Lists.{AllByRecursion-slice_get, slice_get-set, slice_get_some}
 use Rattle.clnp_world.proofs.EachSteps.{each_length, each_at, each_set}
@@ -39,6 +42,7 @@ shows_with code place node model effect h stands = record {
   copies = h.copies;
   cursor = h.cursor;
   carried = h.carried;
+  born = h.born;
   short = h.short;
   weight = h.weight;
 }
@@ -57,63 +61,73 @@ is_there code model place node h here =
     let there = slice_get_some model.systems place (omega arith) in
     record { system = there.0; at = there.1; stands = each_at code.systems.items model.systems place node there.0 h.systems here there.1 }
 
+-- no frame came, so none goes on
+abbrev no_frame : Content
+no_frame = Unlabelled []
+
 -- a system takes a step, and what it gives out is put out
-pub takes : (old code : Network) (before after : List ℕ) (place : ℕ) (node : System) (outputs : List output.Output) (effect : Effect)
-    → place < length old.systems.items → clnp_systems.Stands node effect.after → Appends old.clock [] outputs effect.outputs
-    → PutsOut (with_node old place node) code before after place outputs
+pub takes : (old code : Network) (before after : List ℕ) (place came : ℕ) (content : Content) (node : System) (outputs : List output.Output) (effect : Effect)
+    → place < length old.systems.items → clnp_systems.Stands node effect.after → IsBornWithUnit came content
+    → AppendsFor old.clock content [] outputs effect.outputs
+    → PutsOut (with_node old place node) code before after place came outputs
     → (model : network.World) → Shows old model → Puts code before after (network.takes_effect model place effect)
-takes old code before after place node outputs effect within stands gives puts model h =
+takes old code before after place came content node outputs effect within stands born gives puts model h =
     let same = each_length old.systems.items model.systems h.systems in
-    puts (network.with_effect model place effect) effect.after effect.outputs
+    puts (network.with_effect model place effect) effect.after content effect.outputs
     (shows_with old place node model effect h stands)
-    (slice_get-set model.systems place effect.after (omega arith))
-    (subst (λ (os : List output.Output). GiveAll old.clock os effect.outputs) (sym gives.appended) gives.give_all)
+    (slice_get-set model.systems place effect.after (omega arith)) born
+    (subst (λ (os : List output.Output). GiveAllFor old.clock content os effect.outputs) (sym gives.appended) gives.give_all)
 
 -- the system at a place does something, whatever its moment
-pub does_put : (old code : Network) (before after : List ℕ) (place : ℕ) (input : Input) (node new : System) (outputs : List output.Output)
+pub does_put : (old code : Network) (before after : List ℕ) (place came : ℕ) (input : Input) (node new : System) (outputs : List output.Output)
     → slice_get old.systems.items place ≡ Some node
     → ((s : SystemState) → clnp_systems.Stands node s → clnp_systems.Stands new (step s input).after)
     → ((s : SystemState) → clnp_systems.Stands node s → Appends old.clock [] outputs (step s input).outputs)
-    → PutsOut (with_node old place new) code before after place outputs
+    → PutsOut (with_node old place new) code before after place came outputs
     → (model : network.World) → Shows old model → Puts code before after (network.comes model place input)
-does_put old code before after place input node new outputs here stands gives puts model h =
+does_put old code before after place came input node new outputs here stands gives puts model h =
     let there = is_there old model place node h here in
     subst (λ (s : Option SystemState). Puts code before after (network.comes_to model place input s)) (sym there.at)
-    (takes old code before after place new outputs (step there.system input) (within_get old.systems.items place node here)
-    (stands there.system there.stands) (gives there.system there.stands) puts model h)
+    (takes old code before after place came no_frame new outputs (step there.system input) (within_get old.systems.items place node here)
+    (stands there.system there.stands) tt
+    (appends_for old.clock no_frame [] outputs (step there.system input).outputs (gives there.system there.stands)) puts model h)
 
 -- the same at the clock's moment
-pub takes_now : (old code : Network) (before after : List ℕ) (place : ℕ) (node new : System) (outputs : List output.Output) (effect : Effect) (system : SystemState)
-    → slice_get old.systems.items place ≡ Some node → clnp_systems.Stands new effect.after → Appends (entity_of node).moment [] outputs effect.outputs
+pub takes_now : (old code : Network) (before after : List ℕ) (place came : ℕ) (content : Content) (node new : System) (outputs : List output.Output)
+    → (effect : Effect) (system : SystemState)
+    → slice_get old.systems.items place ≡ Some node → clnp_systems.Stands new effect.after → IsBornWithUnit came content
+    → AppendsFor (entity_of node).moment content [] outputs effect.outputs
     → effect.after.moment ≡ system.moment
-    → PutsOut (with_node old place new) code before after place outputs
+    → PutsOut (with_node old place new) code before after place came outputs
     → (model : network.World) → Holds old model → slice_get model.systems place ≡ Some system
     → Follows code before after (network.takes_effect model place effect)
-takes_now old code before after place node new outputs effect system here stands gives moment puts model h there =
+takes_now old code before after place came content node new outputs effect system here stands born gives moment puts model h there =
     let within = within_get old.systems.items place node here in
     let was = each_at old.systems.items model.systems place node system h.shows.systems here there in
     let now : system.moment ≡ model.clock = AllByRecursion-slice_get (λ (s : SystemState). s.moment ≡ model.clock) model.systems place system there h.current in
     let clock : (entity_of node).moment ≡ old.clock = was.parts.moment ∙ now ∙ sym h.shows.clock in
-    let part = takes old code before after place new outputs effect within stands
-    (subst (λ (t : ℕ). Appends t [] outputs effect.outputs) clock gives) puts model h.shows in
+    let part = takes old code before after place came content new outputs effect within stands born
+    (subst (λ (t : ℕ). AppendsFor t content [] outputs effect.outputs) clock gives) puts model h.shows in
     record {
       holds = record { shows = part.shows; current = current-takes_effect model place effect h.current (moment ∙ now) };
       lines = part.lines;
     }
 
 -- the system at a place does something
-pub does_follow : (old code : Network) (before after : List ℕ) (place : ℕ) (input : Input) (node new : System) (outputs : List output.Output)
+pub does_follow : (old code : Network) (before after : List ℕ) (place came : ℕ) (input : Input) (node new : System) (outputs : List output.Output)
     → slice_get old.systems.items place ≡ Some node
     → ((s : SystemState) → clnp_systems.Stands node s → clnp_systems.Stands new (step s input).after)
     → ((s : SystemState) → clnp_systems.Stands node s → Appends (entity_of node).moment [] outputs (step s input).outputs)
     → ((s : SystemState) → (step s input).after.moment ≡ s.moment)
-    → PutsOut (with_node old place new) code before after place outputs
+    → PutsOut (with_node old place new) code before after place came outputs
     → (model : network.World) → Holds old model → Follows code before after (network.comes model place input)
-does_follow old code before after place input node new outputs here stands gives moment puts model h =
+does_follow old code before after place came input node new outputs here stands gives moment puts model h =
     let there = is_there old model place node h.shows here in
     subst (λ (s : Option SystemState). Follows code before after (network.comes_to model place input s)) (sym there.at)
-    (takes_now old code before after place node new outputs (step there.system input) there.system here (stands there.system there.stands)
-    (gives there.system there.stands) (moment there.system) puts model h there.at)
+    (takes_now old code before after place came no_frame node new outputs (step there.system input) there.system here
+    (stands there.system there.stands) tt
+    (appends_for (entity_of node).moment no_frame [] outputs (step there.system input).outputs (gives there.system there.stands))
+    (moment there.system) puts model h there.at)
 
 -- there is no system at the place
 pub does_nothing : (code : Network) (lines : List ℕ) (place : ℕ) (input : Input) → length code.systems.items ≤ place
@@ -131,11 +145,11 @@ WritesNote code before after place note =
     (model : network.World) (system : SystemState) → Shows code model → slice_get model.systems place ≡ Some system
     → after ≡ before ++ line_text (Noted model.clock system.configuration.name note)
 
-pub note_alone : (code : Network) (before after : List ℕ) (place : ℕ) (note : Note) → WritesNote code before after place note
-    → PutsOut code code before after place (Told note ∷ [])
-note_alone code before after place note writes =
-    puts_more code code code before before after place [] (Told note) (puts_none code before place) refl
-    (puts_note code before after place note (Told note) refl writes)
+pub note_alone : (code : Network) (before after : List ℕ) (place came : ℕ) (note : Note) → WritesNote code before after place note
+    → PutsOut code code before after place came (Told note ∷ [])
+note_alone code before after place came note writes =
+    puts_more code code code before before after place came [] (Told note) (puts_none code before place came) refl
+    (puts_note code before after place came note (Told note) refl writes)
 
 -- a note that is given out
 pub gives_note : (moment : ℕ) (note : Note) → Appends moment [] (Told note ∷ []) (Notes note ∷ [])
@@ -160,3 +174,7 @@ leaves_same refusal.NoMemory note before after said left = absurd (cc)
 pub from_none : (moment : ℕ) (empty outputs : List output.Output) (others : List machine.Output) → empty ≡ [] → Appends moment empty outputs others
     → Appends moment [] outputs others
 from_none moment empty outputs others e h = subst (λ (os : List output.Output). Appends moment os outputs others) e h
+
+pub from_none_for : (moment : ℕ) (came : Content) (empty outputs : List output.Output) (others : List machine.Output) → empty ≡ []
+    → AppendsFor moment came empty outputs others → AppendsFor moment came [] outputs others
+from_none_for moment came empty outputs others e h = subst (λ (os : List output.Output). AppendsFor moment came os outputs others) e h

@@ -28,6 +28,7 @@ clock_goes_on code model h = record {
   copies = h.shows.copies;
   cursor = h.shows.cursor;
   carried = h.shows.carried;
+  born = h.shows.born;
   short = h.shows.short;
   weight = h.shows.weight;
 }

@@ -1,7 +1,7 @@
 -- What a simulated network of the code stands for.
 use Rattle.std.specs.Prelude.{◌≡◌, ◌≤◌, ℕ, List, [], ◌∷◌, true, false, length, map, slice_get, Some, Result, Ok, Err}
 use Rattle.std.specs.List.{AllByRecursion}
-use Rattle.clnp_machine.specs.Content.{IsCarried}
+use Rattle.clnp_machine.specs.Content.{Content, Labelled, Esis, Unlabelled, IsCarried}
 use Rattle.clnp_machine.specs.System.{SystemState}
 use Rattle.clnp_plan.specs.declared.config.Role.{Role}
 use Rattle.clnp_systems.specs.declared.system.System.{System}
@@ -26,6 +26,12 @@ pub record IsDeclared (model : network.World) (at : ℕ) (role : Role) : Type 0 
   pub there : slice_get model.systems at ≡ Some system
   pub role_is : system.configuration.role ≡ role
 
+-- of what was born at a moment: where it carries a packet, the packet's unit was made at this moment
+abbrev pub IsBornWithUnit : (birth : ℕ) → Content → Type 0
+IsBornWithUnit birth (Labelled packet following) = birth ≡ packet.unit.made
+IsBornWithUnit birth (Esis value following) = Unit {0}
+IsBornWithUnit birth (Unlabelled octets) = Unit {0}
+
 -- a network is one of the model, whatever the moments of its systems
 pub record Shows (code : NetworkState) (model : network.World) : Type 0 where
   pub clock : code.clock ≡ model.clock
@@ -33,6 +39,8 @@ pub record Shows (code : NetworkState) (model : network.World) : Type 0 where
   pub copies : code.copies ≡ map frame_copy model.copies
   pub cursor : code.cursor ≡ model.cursor
   pub carried : AllByRecursion (λ copy. IsCarried copy.content) model.copies
+  -- a copy of a packet is as old as its unit
+  pub born : AllByRecursion (λ (copy : network.Copy). IsBornWithUnit copy.birth copy.content) model.copies
   -- no frame is longer than a system takes
   pub short : AllByRecursion (λ (copy : FrameCopy). length copy.frame ≤ 70000) code.copies
   pub weight : code.weight ≡ network.weight model

@@ -9,11 +9,12 @@ use Rattle.clnp_plan.specs.declared.config.Role.TheVariants.{Host}
 use Rattle.clnp_plan.specs.declared.note.Note.TheVariants.{NotMine}
 use Rattle.clnp_machine.specs.Content.{Content, Labelled}
 use Rattle.clnp_machine.specs.Esis.{tells_of_itself}
-use Rattle.clnp_machine.specs.Local.{Deed, discard, is_own, receive, tells}
-use Rattle.clnp_machine.specs.Step.{content_comes, effect_of, is_asked_for, packet_comes, passes_by, responds}
+use Rattle.clnp_machine.specs.Local.{is_own, receive, tells}
+use Rattle.clnp_machine.specs.Step.{content_comes, discards, effect_of, is_asked_for, packet_comes, passes_by, responds}
 use Rattle.clnp_machine.specs.System.{Effect, Notes, SystemState, gives, idles, then_does}
 use Rattle.clnp_machine.specs.Unit.{Packet}
 use Rattle.system_entity.specs.Comes.{IsForOther}
+use Rattle.system_entity.specs.declared.passing.Passing.{Passing}
 
 -- nobody was asked for by a packet for another address
 asks_no_other : (group over own : Bool) → own ≡ false → (group && (not over && own)) ≡ false
@@ -29,26 +30,26 @@ is_quiet s place group p role other =
     (asks_no_other group (p.lifetime == 0) (is_own s p.unit.destination) other)
 
 is_noted : (s : SystemState) (p : Packet) (following : List ℕ) → s.configuration.role ≡ Host → (p.lifetime == 0) ≡ false
-    → is_own s p.unit.destination ≡ false → packet_comes s p following ≡ tells s (NotMine p.unit.destination)
+    → is_own s p.unit.destination ≡ false → packet_comes s p following ≡ effect_of (tells s (NotMine p.unit.destination))
 is_noted s p following role alive other =
-    ap (λ (b : Bool). if b then discard s (Labelled p following) (reason_code LifetimeExpiredInTransit) 0
-    else (if is_own s p.unit.destination then receive s p following else passes_by s.configuration.role s p following)) alive
-    ∙ ap (λ (b : Bool). if b then receive s p following else passes_by s.configuration.role s p following) other
+    ap (λ (b : Bool). if b then discards s p following (reason_code LifetimeExpiredInTransit)
+    else (if is_own s p.unit.destination then effect_of (receive s p following) else passes_by s.configuration.role s p following)) alive
+    ∙ ap (λ (b : Bool). if b then effect_of (receive s p following) else passes_by s.configuration.role s p following) other
     ∙ ap (λ (r : Role). passes_by r s p following) role
 
 passes : (s : SystemState) (place : Place) (group : Bool) (p : Packet) (following : List ℕ) → s.configuration.role ≡ Host
     → (p.lifetime == 0) ≡ false → is_own s p.unit.destination ≡ false
     → content_comes s place group (Labelled p following) ≡ gives s (Notes (NotMine p.unit.destination) ∷ [])
 passes s place group p following role alive other =
-    ap (λ (deed : Deed). then_does (effect_of deed) (λ t. responds t place group p)) (is_noted s p following role alive other)
+    ap (λ (effect : Effect). then_does effect (λ t. responds t place group p)) (is_noted s p following role alive other)
     ∙ ap (λ (effect : Effect). then_does (effect_of (tells s (NotMine p.unit.destination))) (λ t. effect))
     (is_quiet s place group p role other)
 
 -- it is noted, and nothing else is done
-pub passed : (s : SystemState) (place : Place) (group : Bool) (content : Content) (to : List ℕ) → IsForOther s content to
-    → s.configuration.role ≡ Host → content_comes s place group content ≡ gives s (Notes (NotMine to) ∷ [])
-passed s place group content to other role =
-    subst (λ (c : Content). content_comes s place group c ≡ gives s (Notes (NotMine to) ∷ [])) (sym other.content_is)
+pub passed : (s : SystemState) (place : Place) (group : Bool) (content : Content) (passing : Passing) → IsForOther s content passing
+    → s.configuration.role ≡ Host → content_comes s place group content ≡ gives s (Notes (NotMine passing.to) ∷ [])
+passed s place group content passing other role =
+    subst (λ (c : Content). content_comes s place group c ≡ gives s (Notes (NotMine passing.to) ∷ [])) (sym other.content_is)
     (subst (λ (t : List ℕ). content_comes s place group (Labelled other.packet other.following) ≡ gives s (Notes (NotMine t) ∷ []))
-    other.destination
+    other.has_value.destination
     (passes s place group other.packet other.following role other.alive other.not_own))

@@ -8,9 +8,9 @@ ghost use Rattle.clnp_plan.specs.declared.ask.SendRefusal.TheVariants.{NoMemory 
 ghost use Rattle.clnp_plan.specs.declared.config.Role.TheVariants.{Host};
 ghost use Rattle.clnp_machine.specs.Content.{Content, IsCarried, frame_of};
 ghost use Rattle.clnp_machine.specs.Given.{Appends};
-ghost use Rattle.clnp_machine.specs.Local.{refusal, unit_of};
+ghost use Rattle.clnp_machine.specs.Local.{refusal, request_unit, unit_of};
 ghost use Rattle.clnp_machine.specs.Step.{Hop, next_hop, step};
-ghost use Rattle.clnp_machine.specs.System.{SystemState, AsksToSend, FrameComes, IsRestarted, MomentComes, first_state, next_number};
+ghost use Rattle.clnp_machine.specs.System.{SystemState, AsksForEcho, AsksToSend, FrameComes, IsRestarted, MomentComes, first_state, next_number};
 ghost use Rattle.local_entity.specs.Local.{IsWhy};
 ghost use Rattle.end_system.specs.Stands.{IsLeftBy, Stands};
 
@@ -26,7 +26,7 @@ use system_entity::{Arrival, SystemEntity};
 
 /// A host. Its moment is that of its last `tick`, or of its start.
 ///
-/// Once memory was refused in `tick`, `frame` or `send` it is spent: from then on each of them answers `NoMemory`.
+/// Once memory was refused in `tick`, `frame`, `send` or `echo` it is spent: from then on each of them answers `NoMemory`.
 ///
 /// A contract says by `Stands` which states of a system it stands for.
 #[derive(Debug, Drop)]
@@ -120,7 +120,7 @@ impl EndSystem {
         let place = Place { port, snpa: from };
         match self.entity.frame(alloc, place, group, frame, out)? {
             Arrival::Done => Ok(()),
-            Arrival::Passes { to } => self.entity.note(Note::NotMine { to }, out),
+            Arrival::Passes(passing) => self.entity.note(Note::NotMine { to: passing.to }, out),
         }
     }
 
@@ -156,6 +156,38 @@ impl EndSystem {
         ensures config { self.new.entity.local.configuration ≡ self.old.entity.local.configuration }
     {
         self.entity.make(alloc, Kind::Dt, from, to, body, ask, out)
+    }
+
+    /// Makes an echo request of some octets and sends it, cut for the MTU where it may be (RFC 1575); what the host gives out is
+    /// appended. Gives the request's number.
+    ///
+    /// # Errors
+    ///
+    /// The first of these that holds: `NotMine` exactly where the source isn't one of the host's addresses; `TooLong`
+    /// exactly where the body has more than 64,512 octets, or else its header would have more than 254; `Quiet` or
+    /// `IdsBusy` exactly where it may be segmented and no identifier can be drawn for it. Nothing changes then. At
+    /// `NoMemory` `out` is as it was, and the host is spent.
+    pub fn echo(
+        &mut self,
+        alloc: Global,
+        from: Address,
+        to: Address,
+        body: &[u8],
+        out: &mut Vec<Output>,
+    ) -> Result<u64, SendRefusal>
+        ensures answer { (s : SystemState) → Stands self.old s → MatchResult result
+            (λ unit. (refusal s (request_unit s from to body.now) ≡ None) × (unit ≡ next_number s))
+            (λ e. IsWhy e (refusal s (request_unit s from to body.now))) }
+        ensures stands { OnOk result ((s : SystemState) → Stands self.old s → Stands self.new (step s (AsksForEcho from to body.now)).after) }
+        ensures outputs { OnOk result ((s : SystemState) → Stands self.old s
+            → Appends self.old.entity.moment out.old.items out.new.items (step s (AsksForEcho from to body.now)).outputs) }
+        ensures none { OnErr result (out.new.items ≡ out.old.items) }
+        ensures left { IfErr result (λ e. IsLeftBy e self.old self.new) }
+        ensures refused { self.old.entity.spent ≡ true → result ≡ Err WantsMemory }
+        ensures moment { self.new.entity.moment ≡ self.old.entity.moment }
+        ensures config { self.new.entity.local.configuration ≡ self.old.entity.local.configuration }
+    {
+        self.entity.echo(alloc, from, to, body, out)
     }
 
     /// Forgets all that it keeps and heard, and is quiet as long as an identifier rests; the count of its units goes

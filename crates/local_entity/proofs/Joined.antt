@@ -14,7 +14,7 @@ use Rattle.reassembly.specs.Mapped.{map_arrival, map_buffer}
 use Rattle.reassembly.proofs.Shared.{data_of-mapped}
 use Rattle.clnp_machine.specs.Unit.{Packet, value_of, wire, IsCarriable}
 use Rattle.clnp_machine.specs.Local.{octet_of, offered}
-use Rattle.local_entity.specs.Local.{IsAsOffered}
+use Rattle.clnp_machine.specs.Local.{IsAsOffered}
 
 -- the octet at a place of the unit's data, in a segment that carries its PDU's octets
 abbrev pub octet_at : Arrival (List ℕ) → ℕ → ℕ

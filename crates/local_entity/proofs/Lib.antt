@@ -6,9 +6,14 @@ pub mod Parts
 pub mod Refusals
 pub mod Making
 pub mod Shown
+pub mod Appending
+pub mod Requests
+pub mod Echoing
+pub mod Reporting
 pub mod Offers
 pub mod Joined
 pub mod Completed
+pub mod Undone
 pub mod Offering
 pub mod Receiving
 pub mod Expiry

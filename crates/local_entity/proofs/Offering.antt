@@ -1,7 +1,7 @@
 -- What comes of a segment that is offered to an entity: it stands for what the model's system is then.
-use Rattle.std.proofs.Common.{◌≡◌, ℕ, ◌≤◌, false, List, [], ◌∷◌, ◌++◌, Option, Some, None, map, refl, sym, ap, ◌∙◌, subst}
+use Rattle.std.proofs.Common.{◌≡◌, ℕ, ◌≤◌, false, List, Option, Some, None, length, map, refl, sym, ap, ◌∙◌, subst}
 use Rattle.std.specs.Prelude.{option_map}
-use Rattle.std.specs.List.{AllByRecursion}
+use Rattle.std.specs.List.{AllByRecursion, find}
 use Rattle.clnp_views.specs.Extent.{Extent, seen}
 use Rattle.reassembly.specs.declared.segment.Key.{Key}
 use Rattle.reassembly.specs.declared.segment.Segment.{Segment}
@@ -16,20 +16,24 @@ use Rattle.reassembly.specs.Mapped.{map_buffer}
 use Rattle.reassembly.specs.State as table
 use Rattle.reassembly.specs.State.{IsReady, TableState, said, was_kept}
 use Rattle.reassembly.proofs.Shared.{none_due-after, none_due-without, none_whole-after, none_whole-released}
-use Rattle.clnp_plan.specs.declared.note.Note.TheVariants.{Got}
+use Rattle.clnp_options.specs.Parameter.{Parameter}
+use Rattle.pdu_header.specs.declared.kind.Kind.{Kind}
+use Rattle.pdu_header.specs.declared.kind.Kind.TheVariants.{Dt, Er, Erq, Erp}
+use Rattle.clnp_plan.specs.declared.note.Note.{Note}
+use Rattle.clnp_machine.specs.Unit as unit
 use Rattle.clnp_machine.specs.Unit.{Packet, wire}
 use Rattle.clnp_machine.specs.Content.{Content}
 use Rattle.clnp_machine.specs.System.{SystemState, table_limits}
 use Rattle.clnp_machine.specs.Local as machine
-use Rattle.clnp_machine.specs.Local.{data_in, octet_of, offer, takes_in}
+use Rattle.clnp_machine.specs.Local.{data_in, echo_ask, hand_up, is_answer, octet_of, offer, refusal, takes_in, takes_reply, unit_of, unless_refused}
 use Rattle.local_entity.specs.declared.action.Action.{Action}
-use Rattle.local_entity.specs.declared.action.Action.TheVariants.{Note as Noted}
 use Rattle.local_entity.specs.State.{EntityState}
-use Rattle.local_entity.specs.Local.{Appends, IsAsOffered, Stands}
-use Rattle.local_entity.specs.Receipt.{IsShown}
+use Rattle.clnp_machine.specs.Local.{IsAsOffered}
+use Rattle.local_entity.specs.Local.{Appends, Stands}
+use Rattle.local_entity.specs.Receipt.{IsShown, with_answer}
 use Rattle.local_entity.proofs.Joined.{data_shown}
 use Rattle.local_entity.proofs.Offers.{AllKept, all_after, all_found, all_without}
-use Rattle.local_entity.proofs.Shown.{Show, after_shown, answer_shown, buffer_of_shown, held_shown, without_shown}
+use Rattle.local_entity.proofs.Shown.{Show, after_shown, answer_shown, buffer_of_shown, without_shown}
 
 -- the entity with another table stands for the system with other buffers
 pub stands_with : (local : EntityState) (later : TableState) (s : SystemState) → Stands local s → later.limits ≡ local.table.limits
@@ -44,7 +48,30 @@ stands_with local later s stands limits buffers others table_stands shown all = 
   table = table_stands;
   shown = shown;
   packets = all;
+  pending = stands.pending;
 }
+
+-- a deed where the system's buffers are others in the end
+abbrev pub with_buffers : List (Buffer Packet) → machine.Deed → machine.Deed
+with_buffers buffers deed = record { after = record deed.after { buffers = buffers }; actions = deed.actions }
+
+-- what is handed up changes no buffer, and depends on none
+pub hand_up-apart : (s : SystemState) (buffers : List (Buffer Packet)) (kind : Kind) (from to octets : List ℕ) (options : List Parameter)
+    → hand_up (record s { buffers = buffers }) kind from to octets options ≡ with_buffers buffers (hand_up s kind from to octets options)
+hand_up-apart s buffers Dt from to octets options = refl
+hand_up-apart s buffers Er from to octets options = refl
+hand_up-apart s buffers Erq from to octets options =
+    by (refusal s (unit_of s Erp to from octets (echo_ask s to from (length octets) false)))
+  where
+    by : (refused : Option Note) → unless_refused refused (record s { buffers = buffers }) (unit_of s Erp to from octets (echo_ask s to from (length octets) false))
+        ≡ with_buffers buffers (unless_refused refused s (unit_of s Erp to from octets (echo_ask s to from (length octets) false)))
+    by None = refl
+    by (Some refused) = refl
+hand_up-apart s buffers Erp from to octets options = by (find (is_answer from to octets) s.pending)
+  where
+    by : (found : Option unit.Unit) → takes_reply (record s { buffers = buffers }) from to octets found ≡ with_buffers buffers (takes_reply s from to octets found)
+    by None = refl
+    by (Some request) = refl
 
 module _ (local : EntityState) (now : ℕ) (segment : Segment) (s : SystemState) (frame : Content) (arrival : Arrival Packet)
     (stands : Stands local s) (moment : s.moment ≡ now) (shows : IsShown segment arrival) where
@@ -80,15 +107,14 @@ module _ (local : EntityState) (now : ℕ) (segment : Segment) (s : SystemState)
   -- the entity where the unit isn't whole
   pub told_stands : (told : Accept) (table_later : TableState) → said told ≡ answer local.table.limits now (arrival_of segment) stands.buffers
       → ((said told ≡ buffer.Whole) → ⊥) → (was_kept told ≡ false → table_later ≡ local.table) → table_later.limits ≡ local.table.limits
-      → table.Stands table_later later → Stands (record local { table = table_later }) (offer s frame arrival).after
-  told_stands told table_later e not_whole same limits table_stands =
-      subst (λ (deed : machine.Deed). Stands (record local { table = table_later }) deed.after) (sym (offer_is (said told) e)) (by told not_whole same)
+      → table.Stands table_later later → Stands (record local { table = table_later }) (with_answer s others (said told))
+  told_stands told table_later e not_whole same limits table_stands = by told not_whole same
     where
       unchanged : table_later ≡ local.table → Stands (record local { table = table_later }) s
       unchanged same = subst (λ (t : TableState). Stands (record local { table = t }) s) (sym same) stands
 
       by : (told : Accept) → ((said told ≡ buffer.Whole) → ⊥) → (was_kept told ≡ false → table_later ≡ local.table)
-          → Stands (record local { table = table_later }) (takes_in s frame arrival others (said told)).after
+          → Stands (record local { table = table_later }) (with_answer s others (said told))
       by accept.Held not_whole same = stands_with local table_later s stands limits later others table_stands later_shown all_others
       by (accept.Whole slot) not_whole same = absurd (not_whole refl)
       by accept.Repeat not_whole same = unchanged (same refl)
@@ -97,28 +123,10 @@ module _ (local : EntityState) (now : ℕ) (segment : Segment) (s : SystemState)
       by (accept.Crowded held size) not_whole same = unchanged (same refl)
       by (accept.Many kept) not_whole same = unchanged (same refl)
 
-  -- what is noted where the unit isn't whole
-  pub told_appends : (told : Accept) (held : ℕ) (table_later : TableState) (before behind : List Action)
-      → said told ≡ answer local.table.limits now (arrival_of segment) stands.buffers
-      → ((buffers : List (Buffer Extent)) → table.Stands table_later buffers → held ≡ buffer.held buffers)
-      → table.Stands table_later later
-      → ((s : SystemState) (frame : Content) (arrival : Arrival Packet) (kept : List (Buffer Packet)) → arrival.key.id ≡ segment.key.id → arrival.offset ≡ segment.offset
-      → buffer.held kept ≡ held → Appends before behind (takes_in s frame arrival kept (said told)).actions)
-      → Appends before behind (offer s frame arrival).actions
-  told_appends told held table_later before behind e held_is table_stands appends =
-      subst (λ (deed : machine.Deed). Appends before behind deed.actions) (sym (offer_is (said told) e))
-      (appends s frame arrival others (ap (λ (k : Key). k.id) (sym same_key)) (ap (λ (a : Arrival (List ℕ)). a.offset) (sym shows.shown))
-      (sym (held_is later table_stands ∙ held_shown later others later_shown)))
-
-  -- the entity where the unit is whole
-  pub whole_stands : (table_later : TableState) → buffer.Whole ≡ answer local.table.limits now (arrival_of segment) stands.buffers
-      → table_later.limits ≡ local.table.limits → table.Stands table_later (without segment.key later)
-      → Stands (record local { table = table_later }) (offer s frame arrival).after
-  whole_stands table_later e limits table_stands =
-      subst (λ (deed : machine.Deed). Stands (record local { table = table_later }) deed.after) (sym (offer_is buffer.Whole e))
-      (stands_with local table_later s stands limits (without segment.key later) (without arrival.key others) table_stands
-      (without_shown later others later_shown segment.key ∙ ap (λ (k : Key). map (map_buffer wire) (without k others)) same_key)
-      (all_without IsAsOffered arrival.key others all_others))
+  -- the entity where the unit is whole, before its buffer is taken out
+  pub kept_stands : (table_later : TableState) → table_later.limits ≡ local.table.limits → table.Stands table_later later
+      → Stands (record local { table = table_later }) (record s { buffers = others })
+  kept_stands table_later limits table_stands = stands_with local table_later s stands limits later others table_stands later_shown all_others
 
   -- the data that are handed up
   data_by : (found : Option (Buffer Packet)) (whole : Buffer Extent) → option_map (map_buffer seen) (Some whole) ≡ option_map (map_buffer wire) found
@@ -133,15 +141,42 @@ module _ (local : EntityState) (now : ℕ) (segment : Segment) (s : SystemState)
       ∙ ap (λ (k : Key). option_map (map_buffer wire) (buffer_of k others)) same_key)
       (λ other there. all_found IsAsOffered arrival.key others other there all_others)
 
-  pub whole_appends : (octets : List ℕ) (whole : Buffer Extent) (before behind : List Action) → buffer.Whole ≡ answer local.table.limits now (arrival_of segment) stands.buffers
-      → buffer_of segment.key later ≡ Some whole → octets ≡ data_of octet_in whole → behind ≡ before ++ Noted (Got segment.key.from segment.key.to octets) ∷ []
+  -- it is handed up as if its buffer were taken out behind that
+  pub whole_is : (octets : List ℕ) (whole : Buffer Extent) → buffer_of segment.key later ≡ Some whole → octets ≡ data_of octet_in whole
+      → takes_in s frame arrival others buffer.Whole
+      ≡ with_buffers (without arrival.key others)
+      (hand_up (record s { buffers = others }) arrival.carried.unit.kind segment.key.from segment.key.to octets arrival.carried.options)
+  whole_is octets whole found octets_are =
+      hand_up-apart (record s { buffers = others }) (without arrival.key others) arrival.carried.unit.kind arrival.key.from arrival.key.to
+      (data_in (buffer_of arrival.key others)) arrival.carried.options
+      ∙ ap (λ (k : Key). with_buffers (without arrival.key others)
+      (hand_up (record s { buffers = others }) arrival.carried.unit.kind k.from k.to (data_in (buffer_of arrival.key others)) arrival.carried.options))
+      (sym same_key)
+      ∙ ap (λ (handed : List ℕ). with_buffers (without arrival.key others)
+      (hand_up (record s { buffers = others }) arrival.carried.unit.kind segment.key.from segment.key.to handed arrival.carried.options))
+      (sym (octets_are ∙ whole_data whole found))
+
+  -- the entity that handed the unit up, once its buffer is taken out
+  pub whole_stands : (handed : EntityState) (table_later : TableState) (octets : List ℕ) (whole : Buffer Extent)
+      → buffer.Whole ≡ answer local.table.limits now (arrival_of segment) stands.buffers → buffer_of segment.key later ≡ Some whole
+      → octets ≡ data_of octet_in whole
+      → Stands handed (hand_up (record s { buffers = others }) arrival.carried.unit.kind segment.key.from segment.key.to octets arrival.carried.options).after
+      → table_later.limits ≡ handed.table.limits → table.Stands table_later (without segment.key later)
+      → Stands (record handed { table = table_later }) (offer s frame arrival).after
+  whole_stands handed table_later octets whole e found octets_are handed_stands limits table_stands =
+      subst (λ (deed : machine.Deed). Stands (record handed { table = table_later }) deed.after)
+      (sym (offer_is buffer.Whole e ∙ whole_is octets whole found octets_are))
+      (stands_with handed table_later _ handed_stands limits (without segment.key later) (without arrival.key others) table_stands
+      (without_shown later others later_shown segment.key ∙ ap (λ (k : Key). map (map_buffer wire) (without k others)) same_key)
+      (all_without IsAsOffered arrival.key others all_others))
+
+  pub whole_appends : (octets : List ℕ) (whole : Buffer Extent) (before behind : List Action)
+      → buffer.Whole ≡ answer local.table.limits now (arrival_of segment) stands.buffers → buffer_of segment.key later ≡ Some whole → octets ≡ data_of octet_in whole
+      → Appends before behind (hand_up (record s { buffers = others }) arrival.carried.unit.kind segment.key.from segment.key.to octets arrival.carried.options).actions
       → Appends before behind (offer s frame arrival).actions
-  whole_appends octets whole before behind e found octets_are appended =
-      let from = ap (λ (k : Key). k.from) same_key in
-      let to = ap (λ (k : Key). k.to) same_key in
-      let data_are = octets_are ∙ whole_data whole found in
-      subst (λ (deed : machine.Deed). Appends before behind deed.actions) (sym (offer_is buffer.Whole e))
-      (record { actions = Noted (Got segment.key.from segment.key.to octets) ∷ []; appended = appended; do_all = (cc, tt) })
+  whole_appends octets whole before behind e found octets_are appends =
+      subst (λ (deed : machine.Deed). Appends before behind deed.actions)
+      (sym (offer_is buffer.Whole e ∙ whole_is octets whole found octets_are)) appends
 
 -- no buffer is due or whole afterwards
 pub told_ready : (table_before table_later : TableState) (now : ℕ) (segment : Segment) (ready : IsReady now table_before) → 1 ≤ table_before.limits.hold → 1 ≤ segment.life

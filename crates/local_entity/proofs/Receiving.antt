@@ -3,6 +3,7 @@ use Rattle.std.proofs.Common.{◌≡◌, ℕ, zero, suc, ◌+◌, ◌-◌, ◌<�
 use Rattle.std.specs.Prelude.{◌==◌, is_none, nat_lt, option_map}
 use Rattle.std.proofs.lemmas.Bool.{cases_Bool, ltb-false, ltb-true}
 use Rattle.std.proofs.lemmas.List.{length-take-le, take_at}
+use Rattle.clnp_options.specs.Parameter.{parameters}
 use Rattle.clnp_views.specs.Extent.{seen}
 use Rattle.pdu_header.specs.declared.pdu.Pdu.{Pdu}
 use Rattle.pdu_header.specs.declared.pdu.SegPart.{SegPart}
@@ -14,12 +15,11 @@ use Rattle.pdu_header.proofs.Written.{length-header}
 use Rattle.reassembly.specs.Arrival.{arrival_of}
 use Rattle.reassembly.specs.Mapped.{map_arrival}
 use Rattle.reassembly.specs.Offered.{MayCome}
-use Rattle.clnp_plan.specs.declared.note.Note.TheVariants.{Got}
 use Rattle.clnp_machine.specs.Unit.{Packet, IsCarriable, value_of, wire}
 use Rattle.clnp_machine.specs.Steps.{CarriesOnePacket}
 use Rattle.clnp_machine.specs.Content.{Labelled}
 use Rattle.clnp_machine.specs.System.{SystemState}
-use Rattle.clnp_machine.specs.Local.{identifier_in, is_all, offer, offered, receive, tells}
+use Rattle.clnp_machine.specs.Local.{hand_up, identifier_in, is_all, offer, offered, receive}
 use Rattle.local_entity.specs.Receipt.{IsShown, segment_in, segment_part}
 
 -- the PDU at the front of a frame is that of the packet with whose octets the frame begins
@@ -54,17 +54,17 @@ is_all_by pdu p e =
 
 -- a whole unit is handed up
 pub receives_whole : (pdu : Pdu) (s : SystemState) (p : Packet) (following : List ℕ) → pdu_value pdu ≡ value_of p → segment_part pdu.seg pdu.more ≡ None
-    → receive s p following ≡ tells s (Got pdu.from pdu.to pdu.body.now)
+    → receive s p following ≡ hand_up s pdu.kind pdu.from pdu.to pdu.body.now (parameters pdu.options.now)
 receives_whole pdu s p following e none =
-    ap (λ (b : Bool). cond b (tells s (Got p.unit.source p.unit.destination (value_of p).body)) (offer s (Labelled p following) (offered p following)))
+    ap (λ (b : Bool). cond b (hand_up s p.unit.kind p.unit.source p.unit.destination (value_of p).body p.options) (offer s (Labelled p following) (offered p following)))
     (is_all_by pdu p e ∙ ap is_none none)
-    ∙ ap (λ (v : PduValue). tells s (Got v.source v.destination v.body)) (sym e)
+    ∙ ap (λ (v : PduValue). hand_up s v.kind v.source v.destination v.body v.options) (sym e)
 
 -- a segment is offered
 pub receives_segment : (pdu : Pdu) (seg : SegPart) (s : SystemState) (p : Packet) (following : List ℕ) → pdu_value pdu ≡ value_of p
     → segment_part pdu.seg pdu.more ≡ Some seg → receive s p following ≡ offer s (Labelled p following) (offered p following)
 receives_segment pdu seg s p following e some =
-    ap (λ (b : Bool). cond b (tells s (Got p.unit.source p.unit.destination (value_of p).body)) (offer s (Labelled p following) (offered p following)))
+    ap (λ (b : Bool). cond b (hand_up s p.unit.kind p.unit.source p.unit.destination (value_of p).body p.options) (offer s (Labelled p following) (offered p following)))
     (is_all_by pdu p e ∙ ap is_none some)
 
 -- ---- the segment that it is

@@ -1,5 +1,5 @@
 -- What is given out for a unit: its pieces, as the model cuts them.
-use Rattle.std.proofs.Common.{◌≡◌, ◌∙◌, refl, sym, ap, subst, ℕ, ◌+◌, ◌-◌, ◌≤◌, ◌<◌, inl, inr, true, Option, None, Some, Ok, Err, false, List, [], ◌∷◌, ◌++◌, map, length, take, drop, arith}
+use Rattle.std.proofs.Common.{◌≡◌, ◌∙◌, refl, sym, ap, subst, ℕ, ◌+◌, ◌-◌, ◌≤◌, ◌<◌, inl, inr, Bool, true, Option, None, Some, Ok, Err, false, List, [], ◌∷◌, ◌++◌, map, length, take, drop, arith}
 use Rattle.std.specs.Prelude.{MatchOption, Result}
 use Rattle.std.specs.Prelude.{nat_lt, slice_get, slice_index_or}
 use Rattle.std.proofs.lemmas.Bool.Decides.{nat_tests}
@@ -20,32 +20,38 @@ use Rattle.clnp_plan.specs.declared.config.PortConfig.{PortConfig}
 use Rattle.clnp_plan.specs.declared.note.Note.TheVariants.{Discard}
 use Rattle.clnp_plan.specs.declared.output.Output.{Output}
 use Rattle.clnp_plan.specs.declared.output.Output.TheVariants.{Note as Noted}
-use Rattle.clnp_machine.specs.Unit.{IsCarriable, Packet, Unit as DataUnit, cut, value_of, whole_packet}
+use Rattle.clnp_machine.specs.Unit.{IsCarriable, Packet, Unit as DataUnit, cut, value_of, whole_packet, wire}
 use Rattle.clnp_machine.specs.System.{SystemState, Transmits}
 use Rattle.clnp_options.specs.Reasons.{reason_code}
 use Rattle.clnp_options.specs.declared.reasons.Reason.TheVariants.{SegmentationNotPermitted}
 use Rattle.clnp_machine.specs.Step.{first_sent, no_way, sent_on, transmissions}
-use Rattle.clnp_machine.specs.Given.{Appends, GiveAll, IsSentFor}
+use Rattle.clnp_machine.specs.Given.{Appends, GiveAll, IsSentFor, frame_in}
 use Rattle.local_entity.specs.declared.sending.Hop.{Hop}
-use Rattle.local_entity.specs.Sending.{hop_option, machine_hop, transmission}
+use Rattle.local_entity.specs.Sending.{hop_option, machine_hop, piece_frame, transmission}
 use Rattle.clnp_machine.proofs.Pieces.{AreBoth, AreThese, IsThis, cut_both}
 
 seen_of_part : (body : Extent) (from len : ℕ) → from + len ≤ body.len → seen (part from len body) ≡ take len (drop from (seen body))
 seen_of_part body from len within = sym (part_of_part body.frame body.from body.len from len within)
 
-piece_is_sent : (p : Packet) (piece : Piece) (packet : Packet) (body : Extent) (moment : ℕ) (hop : Hop) → IsThis p piece packet
-    → seen body ≡ (value_of p).body → length (seen body) ≡ body.len → p.unit.made ≡ moment
-    → IsSentFor moment (record { port = hop.port; to = hop.target; head = header piece.value; body = Some (part piece.range.from piece.range.len body); forwarded = false }) hop.port hop.target packet
-piece_is_sent p piece packet body moment hop this shown whole made =
+-- the frame of a piece has the octets of the packet that it is
+pub piece_octets : (p : Packet) (piece : Piece) (packet : Packet) (body : Extent) (forwarded : Bool) (hop : Hop) → IsThis p piece packet
+    → seen body ≡ (value_of p).body → length (seen body) ≡ body.len → frame_in (piece_frame forwarded hop body (given piece)) ≡ wire packet
+piece_octets p piece packet body forwarded hop this shown whole =
     let room : body.len ≡ length (value_of p).body = sym whole ∙ ap length shown in
     let within = this.within in
     let octets : seen (part piece.range.from piece.range.len body) ≡ piece.value.body =
     seen_of_part body piece.range.from piece.range.len (omega arith)
     ∙ ap (λ (b : List ℕ). take piece.range.len (drop piece.range.from b)) shown ∙ sym this.body in
+    ap (λ (b : List ℕ). header piece.value ++ b) octets ∙ ap (λ (v : PduValue). spelling v) (sym this.value)
+
+piece_is_sent : (p : Packet) (piece : Piece) (packet : Packet) (body : Extent) (moment : ℕ) (hop : Hop) → IsThis p piece packet
+    → seen body ≡ (value_of p).body → length (seen body) ≡ body.len → p.unit.made ≡ moment
+    → IsSentFor moment (piece_frame false hop body (given piece)) hop.port hop.target packet
+piece_is_sent p piece packet body moment hop this shown whole made =
     record {
       port_is = refl;
       target_is = refl;
-      octets = ap (λ (b : List ℕ). header piece.value ++ b) octets ∙ ap (λ (v : PduValue). spelling v) (sym this.value);
+      octets = piece_octets p piece packet body false hop this shown whole;
       first = refl;
       carriable = this.carriable;
       made = ap (λ (u : DataUnit). u.made) this.unit_is ∙ made;
@@ -53,7 +59,7 @@ piece_is_sent p piece packet body moment hop this shown whole made =
 
 pieces_are_sent : (p : Packet) (pieces : List Piece) (packets : List Packet) (body : Extent) (moment : ℕ) (hop : Hop) → AreThese p pieces packets
     → seen body ≡ (value_of p).body → length (seen body) ≡ body.len → p.unit.made ≡ moment
-    → GiveAll moment (map (transmission hop body) (map given pieces)) (map (λ packet. Transmits hop.port hop.target packet) packets)
+    → GiveAll moment (map (transmission false hop body) (map given pieces)) (map (λ packet. Transmits hop.port hop.target packet) packets)
 pieces_are_sent p [] [] body moment hop these shown whole made = tt
 pieces_are_sent p (piece ∷ others) (packet ∷ packets) body moment hop these shown whole made =
     (piece_is_sent p piece packet body moment hop these.0 shown whole made, pieces_are_sent p others packets body moment hop these.1 shown whole made)
@@ -67,11 +73,11 @@ IsAnswer octets pieces result = MatchOption pieces (result ≡ Err (record { oct
 cuts_are_sent : (p : Packet) (pieces : Option (List Piece)) (packets : Option (List Packet)) (body : Extent) (moment : ℕ) (hop : Hop) (octets : ℕ)
     (result : Result (List Cut) NotPermitted) (cuts : List Cut) → AreBoth p pieces packets → IsAnswer octets pieces result → result ≡ Ok cuts
     → seen body ≡ (value_of p).body → length (seen body) ≡ body.len → p.unit.made ≡ moment
-    → GiveAll moment (map (transmission hop body) cuts) (transmissions (machine_hop hop) packets)
+    → GiveAll moment (map (transmission false hop body) cuts) (transmissions (machine_hop hop) packets)
 cuts_are_sent p None None body moment hop octets result cuts both answer ok shown whole made = absurd (cc)
 cuts_are_sent p (Some pieces) (Some packets) body moment hop octets result cuts both answer ok shown whole made =
     let same : map given pieces ≡ cuts = cc in
-    subst (λ (cs : List Cut). GiveAll moment (map (transmission hop body) cs) (transmissions (machine_hop hop) (Some packets))) same
+    subst (λ (cs : List Cut). GiveAll moment (map (transmission false hop body) cs) (transmissions (machine_hop hop) (Some packets))) same
     (pieces_are_sent p pieces packets body moment hop both shown whole made)
 cuts_are_sent p None (Some packets) body moment hop octets result cuts both answer ok shown whole made = absurd both
 cuts_are_sent p (Some pieces) None body moment hop octets result cuts both answer ok shown whole made = absurd both
@@ -110,13 +116,13 @@ unit_length u body shown len e = ap length (whole_body u) ∙ ap length (sym sho
 -- the pieces of a unit are given out
 pub unit_is_sent : (u : DataUnit) (hop : Hop) (port : PortConfig) (head : List ℕ) (body : Extent) (len : ℕ) (result : Result (List Cut) NotPermitted)
     (cuts : List Cut) (before after : List Output) → IsMadeOf u head body → len ≡ length (seen body) → CutsSay head len port.mtu result → result ≡ Ok cuts
-    → 512 ≤ port.mtu → u.first_position ≡ 0 → after ≡ before ++ map (transmission hop body) cuts
+    → 512 ≤ port.mtu → u.first_position ≡ 0 → after ≡ before ++ map (transmission false hop body) cuts
     → Appends u.made before after (sent_on (machine_hop hop) (Some port) u)
 unit_is_sent u hop port head body len result cuts before after made e say ok least first written =
     let p : Packet = whole_packet u in
     let h : IsCarriable p = whole_carriable u made.spells.pdu first in
     record {
-      outputs = map (transmission hop body) cuts;
+      outputs = map (transmission false hop body) cuts;
       appended = written;
       give_all = cuts_are_sent p (segmenter.cut (value_of p) port.mtu) (cut p port.mtu) body u.made hop (segment_length (value_of p)) result cuts
           (cut_both p port.mtu h least) (say (value_of p) made.spells (unit_length u body made.shown len e)) ok

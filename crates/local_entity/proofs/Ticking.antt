@@ -1,5 +1,5 @@
 -- One buffer after another is taken out until none is due.
-use Rattle.std.proofs.Common.{◌≡◌, ℕ, ◌+◌, ◌<◌, ◌≤◌, true, false, not, List, [], ◌∷◌, ◌++◌, Option, Some, None, length, refl, sym, ap, ◌∙◌, subst, arith, append_assoc, add-one, append-nil}
+use Rattle.std.proofs.Common.{◌≡◌, ℕ, ◌+◌, ◌<◌, ◌≤◌, true, false, not, List, [], ◌∷◌, Option, Some, None, length, refl, sym, ap, ◌∙◌, subst, arith, add-one, append-nil}
 use Rattle.std.specs.Prelude.{is_some}
 use Rattle.std.specs.List.{AllByRecursion}
 use Rattle.clnp_base.proofs.Filters.{filter-fewer}
@@ -10,26 +10,13 @@ use Rattle.reassembly.specs.State as table
 use Rattle.reassembly.specs.State.{IsReady, TableState}
 use Rattle.reassembly.proofs.Shared.{due_is, none_whole-without_due, same_key-like}
 use Rattle.clnp_machine.specs.System.{SystemState}
-use Rattle.clnp_machine.specs.Local as machine
-use Rattle.clnp_machine.specs.Local.{Deed, and_then, at_moment, expire, tick}
+use Rattle.clnp_machine.specs.Local.{Deed, at_moment, expire, tick}
 use Rattle.local_entity.specs.declared.action.Action.{Action}
 use Rattle.local_entity.specs.State.{EntityState}
-use Rattle.local_entity.specs.Local.{Appends, DoAll, Stands}
+use Rattle.local_entity.specs.Local.{Appends, Stands}
+use Rattle.local_entity.proofs.Appending.{appends-more}
 use Rattle.local_entity.proofs.Expiry.{expire-ended, expire-moment, expire-more, none_due}
 use Rattle.local_entity.proofs.Shown.{length_shown}
-
-do_all-append : (actions more : List Action) (others rest : List machine.Action) → DoAll actions others → DoAll more rest → DoAll (actions ++ more) (others ++ rest)
-do_all-append [] more [] rest here there = there
-do_all-append [] more (other ∷ others) rest here there = absurd here
-do_all-append (action ∷ actions) more [] rest here there = absurd here
-do_all-append (action ∷ actions) more (other ∷ others) rest here there = (here.0, do_all-append actions more others rest here.1 there)
-
-appends-more : (old mid new : List Action) (others rest : List machine.Action) → Appends old mid others → Appends mid new rest → Appends old new (others ++ rest)
-appends-more old mid new others rest here there = record {
-  actions = here.actions ++ there.actions;
-  appended = there.appended ∙ ap (λ (l : List Action). l ++ there.actions) here.appended ∙ append_assoc old here.actions there.actions;
-  do_all = do_all-append here.actions there.actions others rest here.do_all there.do_all;
-}
 
 -- at another moment it stands for the same
 at_that_moment : (local : EntityState) (s : SystemState) (now : ℕ) → Stands local s → Stands local (at_moment now s)
@@ -42,6 +29,7 @@ at_that_moment local s now stands = record {
   table = stands.table;
   shown = stands.shown;
   packets = stands.packets;
+  pending = stands.pending;
 }
 
 -- what so many steps come to

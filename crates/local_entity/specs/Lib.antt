@@ -3,5 +3,7 @@ pub mod Pool
 pub mod Apart
 pub mod Local
 pub mod Receipt
+pub mod Pending
+pub mod Reporting
 pub mod Seen
 pub mod Sending

@@ -12,20 +12,31 @@ use Rattle.clnp_plan.specs.declared.ask.SendRefusal.TheVariants as refusal
 use Rattle.clnp_plan.specs.declared.note.Note.{Note}
 use Rattle.clnp_plan.specs.declared.note.Note.TheVariants.{Refused}
 use Rattle.clnp_plan.specs.declared.note.Why.TheVariants as why
-use Rattle.clnp_machine.specs.Unit.{Packet, wire, value_of, whole_packet, IsCarriable}
+use Rattle.clnp_machine.specs.Unit as unit
+use Rattle.clnp_machine.specs.Unit.{Packet, wire, value_of, whole_packet}
 use Rattle.clnp_machine.specs.System.{SystemState, table_limits}
 use Rattle.clnp_machine.specs.Local as machine
-use Rattle.clnp_machine.specs.Local.{offered}
+use Rattle.clnp_machine.specs.Local.{IsAsOffered}
 use Rattle.local_entity.specs.Pool as pool
 use Rattle.local_entity.specs.declared.action.Action.{Action}
 use Rattle.local_entity.specs.declared.action.Action.TheVariants.{Send, Note as Noted}
+use Rattle.local_entity.specs.declared.action.Draft.{Draft}
+use Rattle.local_entity.specs.declared.pending.Request.{Request}
 use Rattle.local_entity.specs.State.{EntityState}
 
--- a kept segment is as it was offered, and a PDU can carry it
-pub record IsAsOffered (arrival : Arrival Packet) : Type 0 where
-  pub following : List ℕ
-  pub is_offered : arrival ≡ offered arrival.carried following
-  pub carriable : IsCarriable arrival.carried
+-- a noted request is one that the system made
+pub record IsRequest (request : Request) (u : unit.Unit) : Type 0 where
+  pub number : request.unit ≡ u.number
+  pub source : request.from ≡ u.source
+  pub destination : request.to ≡ u.destination
+  pub shown : seen request.body ≡ u.octets
+
+-- the noted requests are these, one by one
+abbrev pub AreRequests : List Request → List unit.Unit → Type 0
+AreRequests [] [] = Unit {0}
+AreRequests (request ∷ requests) (u ∷ units) = IsRequest request u × AreRequests requests units
+AreRequests [] (u ∷ units) = ⊥
+AreRequests (request ∷ requests) [] = ⊥
 
 -- An entity stands for the state of a system, whatever its place and its moment.
 pub record Stands (entity : EntityState) (s : SystemState) : Type 0 where
@@ -38,6 +49,16 @@ pub record Stands (entity : EntityState) (s : SystemState) : Type 0 where
   pub table : table.Stands entity.table buffers
   pub shown : map_buffers seen buffers ≡ map_buffers wire s.buffers
   pub packets : AllByRecursion (λ (buffer : Buffer Packet). AllByRecursion IsAsOffered buffer.kept) s.buffers
+  pub pending : AreRequests entity.pending s.pending
+
+-- what the code is about to make is a unit
+pub record IsDraft (draft : Draft) (u : unit.Unit) : Type 0 where
+  pub kind : draft.kind ≡ u.kind
+  pub identifier : draft.id ≡ u.identifier
+  pub source : draft.from ≡ u.source
+  pub destination : draft.to ≡ u.destination
+  pub spells : SpellsHeader (value_of (whole_packet u)) draft.head
+  pub shown : seen draft.body ≡ u.octets
 
 -- an action of the code is one of the model
 abbrev pub Does : Action → machine.Action → Type 0

@@ -1,14 +1,29 @@
--- PDUs that come: whether one is all of its unit, the segment of the code that it is, and the arrival of the model.
+-- PDUs that come: what their units are for, whether one is all of its unit, the segment of the code that it is, and the arrival of the model.
 use Rattle.std.specs.Prelude.{◌≡◌, ℕ, ◌+◌, ◌==◌, ◌&&◌, not, if◌then◌else◌, Bool, List, length, Option, None, Some}
 use Rattle.clnp_views.specs.Extent.{part, seen, whole}
 use Rattle.pdu_header.specs.declared.pdu.Pdu.{Pdu}
 use Rattle.pdu_header.specs.declared.pdu.SegPart.{SegPart}
+use Rattle.pdu_header.specs.declared.kind.Kind.{Kind}
+use Rattle.pdu_header.specs.declared.kind.Kind.TheVariants.{Dt, Er, Erq, Erp}
 use Rattle.pdu_header.specs.Spelling.{type_code}
+use Rattle.clnp_options.specs.Parameter.{Parameter}
+use Rattle.error_reports.specs.Told.{cause_in, place_in}
 use Rattle.reassembly.specs.declared.segment.Segment.{Segment}
 use Rattle.reassembly.specs.Arrival.{Arrival, arrival_of}
+use Rattle.reassembly.specs.Buffer.{Answer, Buffer, Held, Whole, Interference, Repeat, NoSlot, Crowded, Many}
 use Rattle.reassembly.specs.Mapped.{map_arrival}
 use Rattle.clnp_machine.specs.Unit.{Packet, wire}
-use Rattle.local_entity.specs.Local.{IsAsOffered}
+use Rattle.clnp_machine.specs.Local.{IsAsOffered}
+use Rattle.clnp_machine.specs.System.{SystemState}
+use Rattle.local_entity.specs.declared.purpose.Purpose.{Purpose}
+use Rattle.local_entity.specs.declared.purpose.Purpose.TheVariants.{Data, Report, Request, Reply}
+
+-- what a unit of a kind is for, where the PDU that makes it whole has these options
+abbrev pub purpose_of : Kind → List Parameter → Purpose
+purpose_of Dt options = Data
+purpose_of Er options = Report (cause_in options) (place_in options)
+purpose_of Erq options = Request
+purpose_of Erp options = Reply
 
 -- the segmentation part of a PDU that isn't all of its unit
 abbrev pub segment_part : Option SegPart → Bool → Option SegPart
@@ -30,3 +45,13 @@ segment_in frame pdu seg =
 pub record IsShown (segment : Segment) (arrival : Arrival Packet) : Type 0 where
   pub as_offered : IsAsOffered arrival
   pub shown : map_arrival seen (arrival_of segment) ≡ map_arrival wire arrival
+
+-- a system whose buffers are these once it kept a segment, by the answer to that
+abbrev pub with_answer : SystemState → List (Buffer Packet) → Answer → SystemState
+with_answer s kept Held = record s { buffers = kept }
+with_answer s kept Whole = record s { buffers = kept }
+with_answer s kept (Interference there offered) = s
+with_answer s kept Repeat = s
+with_answer s kept (NoSlot live) = s
+with_answer s kept (Crowded held size) = s
+with_answer s kept (Many segments) = s

@@ -2,6 +2,7 @@
 use Rattle.std.specs.Prelude.{ℕ, List}
 use Rattle.reassembly.specs.State.{TableState}
 use Rattle.clnp_plan.specs.Configuration.{SystemConfiguration}
+use Rattle.local_entity.specs.declared.pending.Request.{Request}
 
 pub record PoolState : Type 0 where
   pub reuse : ℕ
@@ -18,3 +19,5 @@ pub record EntityState : Type 0 where
   pub table : TableState
   -- the number of the last unit that it made
   pub count : ℕ
+  -- its echo requests that are still to be answered, the oldest first
+  pub pending : List Request

@@ -2,7 +2,7 @@
 use clnp_plan::Note;
 use clnp_views::View;
 use nsap::Address;
-use pdu_header::Header;
+use pdu_header::{Header, Kind};
 
 /// A data unit that was made: its number among the system's units, its destination, the header of its initial PDU, and its
 /// data.
@@ -21,4 +21,16 @@ pub enum Action {
     Send(Made),
     /// Something is noted.
     Note(Note),
+}
+
+/// A unit that is about to be made: its kind, its identifier where it has one, its source and its destination, the header of
+/// its initial PDU, and its data.
+#[derive(Debug, Drop)]
+pub struct Draft {
+    pub kind: Kind,
+    pub id: Option<u16>,
+    pub from: Address,
+    pub to: Address,
+    pub head: Header,
+    pub body: View,
 }

@@ -5,10 +5,12 @@
 mod action;
 pub mod laws;
 mod local;
+mod pending;
 mod pool;
+mod purpose;
 mod sending;
 
 pub use action::{Action, Made};
 pub use local::Local;
 pub use pool::{DrawRefusal, IdPool};
-pub use sending::{Hop, send_unit};
+pub use sending::{Hop, give_pieces, send_unit};

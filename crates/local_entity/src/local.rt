@@ -1,6 +1,6 @@
 //! What a system does at its own addresses: it makes units, and receives what is for it (ISO/IEC 8473, sections 6.1, 6.2,
 //! 6.8 and 6.9).
-ghost use Rattle.std.specs.Prelude.{◌≡◌, ◌≤◌, ◌<◌, ◌+◌, ◌^◌, ℕ, IfOk, OnOk, OnErr, List, MatchResult, None, Some, if◌then◌else◌, length};
+ghost use Rattle.std.specs.Prelude.{◌≡◌, ◌≤◌, ◌<◌, ◌+◌, ◌-◌, ◌^◌, ◌∷◌, [], ℕ, min, IfOk, OnOk, OnErr, List, MatchResult, None, Some, if◌then◌else◌, length, vec_capacity, vec_len};
 ghost use Rattle.clnp_options.specs.Grammar.{FitsKind};
 ghost use Rattle.clnp_options.specs.Parameter.{parameters, spelled};
 ghost use Rattle.clnp_views.specs.Extent.{seen};
@@ -12,12 +12,14 @@ ghost use Rattle.reassembly.specs.Buffer.{held};
 ghost use Rattle.reassembly.specs.State.{IsReady};
 ghost use Rattle.clnp_machine.specs.System.{SystemState, first_state, next_number};
 ghost use Rattle.clnp_machine.specs.Local as machine;
-ghost use Rattle.clnp_machine.specs.Local.{has_address};
+ghost use Rattle.clnp_machine.specs.Local.{Sends, Tells, has_address, sent_note};
+ghost use Rattle.clnp_machine.specs.Unit as unit;
 ghost use Rattle.clnp_machine.specs.Unit.{value_of, whole_packet};
-ghost use Rattle.local_entity.specs.Local.{Appends, IsWhy, Stands};
+ghost use Rattle.local_entity.specs.Local.{Appends, IsDraft, IsWhy, Stands};
 ghost use Rattle.local_entity.specs.Pool.{Stands as StandsFor};
 
-use crate::action::{Action, Made};
+use crate::action::{Action, Draft, Made};
+use crate::pending::{Pending, Request};
 use crate::pool::{DrawRefusal, IdPool};
 use clnp_base::NoMemory;
 use clnp_plan::{Ask, Limits, Note, SendRefusal, SystemConfig};
@@ -28,7 +30,9 @@ use reassembly::{Table, TableLimits};
 use std::alloc::Global;
 use std::marker::Model;
 
+mod echoing;
 mod receipt;
+mod reporting;
 
 /// The most octets that a unit may have.
 const MOST_OCTETS: usize = 64_512;
@@ -43,6 +47,7 @@ pub struct Local {
     table: Table,
     /// The number of the last unit that it made.
     units: u64,
+    pending: Pending,
 }
 
 impl Model for Local {
@@ -57,7 +62,7 @@ impl Model for Local {
 
 impl Local {
     /// The entity of a system at its start, which makes no unit with an identifier before the moment `quiet`. It reserves
-    /// all the room that its identifiers and buffers will need.
+    /// all the room that its identifiers, its buffers and its echo requests will need.
     ///
     /// # Errors
     ///
@@ -83,15 +88,18 @@ impl Local {
         let config = config.copy(alloc)?;
         let pool = IdPool::new(alloc, limits.reuse, quiet)?;
         let table = Table::new(alloc, table_limits)?;
+        let pending = Pending::new(alloc)?;
         Ok(Local {
             config,
             pool,
             table,
             units: 0,
+            pending,
         })
     }
 
-    /// Makes a unit of some octets, and appends its note and then the unit itself.
+    /// Makes a unit of some octets, and appends its note and then the unit itself. An echo request is still to be answered
+    /// then, in place of the oldest of those that are where they are eight.
     ///
     /// # Errors
     ///
@@ -129,28 +137,55 @@ impl Local {
         let Ok(body) = body.share() else {
             return Err(SendRefusal::NoMemory);
         };
+        let unit = self.units.saturating_add(1);
+        let Ok(request) = Request::of(kind, unit, from, to, &body) else {
+            return Err(SendRefusal::NoMemory);
+        };
         let Ok(()) = out.try_reserve(2) else {
             return Err(SendRefusal::NoMemory);
         };
         let id = drawn(&mut self.pool, now, ask.segment);
-        let unit = self.units.saturating_add(1);
-        self.units = unit;
-        let sent = Note::Sent {
+        self.pending.note(request);
+        let draft = Draft {
             kind,
-            unit,
             id,
             from,
             to,
-            len: len as u32,
+            head,
+            body,
+        };
+        Ok(self.send(draft, out))
+    }
+
+    /// Gives a unit the next number, and appends its note and then the unit itself, for which there is room.
+    fn send(&mut self, draft: Draft, out: &mut Vec<Action>) -> u64
+        requires few { draft.body.len ≤ 64512 }
+        requires room { vec_len out.old + 2 ≤ vec_capacity out.old }
+        ensures number { result ≡ min (self.old.count + 1) (2 ^ 64 - 1) }
+        ensures counted { self.new ≡ record self.old { count = result } }
+        ensures actions { (u : unit.Unit) → IsDraft draft u → result ≡ u.number
+            → Appends out.old.items out.new.items (Tells (sent_note u) ∷ Sends u ∷ []) }
+        ensures len { vec_len out.new ≤ vec_len out.old + 2 }
+        ensures capacity { vec_capacity out.old ≤ vec_capacity out.new }
+    {
+        let unit = self.units.saturating_add(1);
+        self.units = unit;
+        let sent = Note::Sent {
+            kind: draft.kind,
+            unit,
+            id: draft.id,
+            from: draft.from,
+            to: draft.to,
+            len: draft.body.bytes().len() as u32,
         };
         out.push_reserved(Action::Note(sent));
         out.push_reserved(Action::Send(Made {
             unit,
-            to,
-            head,
-            body,
+            to: draft.to,
+            head: draft.head,
+            body: draft.body,
         }));
-        Ok(unit)
+        unit
     }
 
     /// The header of the next unit's initial PDU, unless the unit is refused.
@@ -262,8 +297,8 @@ impl Local {
         self.config.addresses().iter().any(|own| own == address)
     }
 
-    /// Forgets the identifiers that were used and all segments, and is quiet as long as an identifier rests. The count of
-    /// units goes on.
+    /// Forgets the identifiers that were used, all segments and all echo requests, and is quiet as long as an identifier
+    /// rests. The count of units goes on.
     pub fn restart(&mut self, now: u64)
         requires { now < 2 ^ 62 }
         ensures stands { (s : SystemState) → Stands self.old s → s.moment ≡ now → Stands self.new (machine.restarted s) }
@@ -273,6 +308,7 @@ impl Local {
     {
         self.pool.restart(now);
         self.table.clear();
+        self.pending.clear();
     }
 
     /// How many octets are held for reassembly: of the whole frames in which kept segments came.

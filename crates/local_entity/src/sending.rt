@@ -1,4 +1,5 @@
-//! The first transmission of a unit: its pieces, cut for the MTU of the port by which it goes out (ISO/IEC 8473, section 6.7).
+//! PDUs that go out in pieces, cut for the MTU of a port (ISO/IEC 8473, section 6.7): a unit that was made here, or a PDU that
+//! is forwarded.
 ghost use Rattle.std.specs.Prelude.{◌≡◌, ◌≤◌, ◌+◌, ◌++◌, [], ◌∷◌, IfOk, OnOk, Some, map};
 ghost use Rattle.std.specs.List.{AllByRecursion};
 ghost use Rattle.clnp_machine.specs.Given.{Appends};
@@ -63,33 +64,43 @@ fn send_on(made: &Made, hop: Hop, port: &PortConfig, out: &mut Vec<Output>) -> R
 {
     let octets = made.body.bytes().len();
     match Cuts::new(made.head, octets, port.mtu) {
-        Ok(cuts) => give_pieces(cuts, hop, &made.body, out),
+        Ok(cuts) => give_pieces(cuts, hop, &made.body, false, out),
         Err(NotPermitted { .. }) => note(Reason::SegmentationNotPermitted, out),
     }
 }
 
-/// Gives out the pieces of a unit with these data.
-fn give_pieces(cuts: Cuts, hop: Hop, body: &View, out: &mut Vec<Output>) -> Result<(), NoMemory>
+/// Gives out the pieces of a PDU with these data, which is forwarded or was made here. No octet of the data is copied.
+///
+/// # Errors
+///
+/// `NoMemory`; some of the pieces may have been appended.
+pub fn give_pieces(
+    cuts: Cuts,
+    hop: Hop,
+    body: &View,
+    forwarded: bool,
+    out: &mut Vec<Output>,
+) -> Result<(), NoMemory>
     requires { AllByRecursion (IsCutOf body.now.len) cuts }
-    ensures { OnOk result (out.new.items ≡ out.old.items ++ map (transmission hop body.now) cuts) }
+    ensures { OnOk result (out.new.items ≡ out.old.items ++ map (transmission forwarded hop body.now) cuts) }
 {
     for cut in cuts {
-        out.push(Output::Transmit(sending(&cut, hop, body)?))?;
+        out.push(Output::Transmit(sending(&cut, hop, body, forwarded)?))?;
     }
     Ok(())
 }
 
-/// The frame of a piece of a unit with these data.
-fn sending(cut: &Cut, hop: Hop, body: &View) -> Result<Sending, NoMemory>
+/// The frame of a piece of a PDU with these data.
+fn sending(cut: &Cut, hop: Hop, body: &View, forwarded: bool) -> Result<Sending, NoMemory>
     requires { cut.now.from + cut.now.len ≤ body.now.len }
-    ensures { IfOk result (λ sending. Transmit sending ≡ transmission hop body.now cut.now) }
+    ensures { IfOk result (λ sending. Transmit sending ≡ transmission forwarded hop body.now cut.now) }
 {
     Ok(Sending {
         port: hop.port,
         to: hop.target,
         head: cut.head.head(),
         body: Some(body.part(cut.from, cut.len)?),
-        forwarded: false,
+        forwarded,
     })
 }
 

@@ -2,12 +2,12 @@ use clnp_base::lines;
 use clnp_plan::{Output, journal_text};
 use clnp_systems::System;
 use clnp_views::Frame;
-use local_entity::Hop;
 use nsap::{Address, Snpa, Target};
 use scenario::{Scenario, read};
 use std::alloc::Global;
 use std::process::Abort;
 use std::test::Fail;
+use system_entity::Way;
 
 /// A host and a router that say hello; the router wishes for a hello every 30 seconds.
 const SYSTEMS: &[u8] = b"clnp-sim 1
@@ -30,7 +30,11 @@ const ISH: &[u8] = b"\x82\x12\x01\x00\x04\x00\x78\x5b\x39\x04\x47\x00\x27\xff\xc
 /// A redirect for 47002701.
 const RD: &[u8] = b"\x82\x11\x01\x00\x06\x00\x78\xad\xc8\x04\x47\x00\x27\x01\x01\x02\x00";
 
-/// A PDU for 47002701, and one for a.
+/// The header of the report that r makes of the discard of a PDU for 47002701.
+const REPORT: &[u8] =
+    b"\x81\x17\x01\x40\x01\x00\x2a\x56\x78\x04\x47\x00\x27\x02\x04\x47\x00\x27\xff\xc1\x02\x81\x00";
+
+/// A PDU of data for 47002701, and an echo reply for a.
 const FOR_ANOTHER: &[u8] =
     b"\x81\x13\x01\x0a\x3c\x00\x15\xce\x58\x04\x47\x00\x27\x01\x04\x47\x00\x27\x02hi";
 
@@ -120,21 +124,25 @@ fn systems_hear_each_other(rt: HostRuntime) -> Result<(), Fail> {
     let mut expected = Vec::new(alloc);
     expected.extend_from_slice(b"1 r hear es 47002702 new\n")?;
     expected.extend_from_slice(ISH)?;
-    expected.extend_from_slice(b"1 r ignored ish\n1 r drop 81 00\n1 a hear is 470027ff new\n")?;
+    expected.extend_from_slice(b"1 r ignored ish\n1 r drop 81 00\n")?;
+    expected.extend_from_slice(b"1 r sent er 1 - 470027ff 47002702 19\n")?;
+    expected.extend_from_slice(REPORT)?;
+    expected.extend_from_slice(b"1 a hear is 470027ff new\n")?;
     expected.extend_from_slice(ESH)?;
     expected.extend_from_slice(b"1 a ignored rd\n1 a badesis E1 00\n1 a alien\n")?;
-    expected.extend_from_slice(b"1 a got 47002701 47002702 6869\n")?;
+    expected.extend_from_slice(b"1 a stray 47002701 47002702\n")?;
     // The period is 30 seconds by now, so the holding time is a minute.
     expected.extend_from_slice(b"\x82\x0f\x01\x00\x02\x00\x3c\xaa\x0f\x01\x04\x47\x00\x27\x02")?;
     assert_eq!(rt; text.as_slice(), expected.as_slice());
-    let hop = Hop {
+    let way = Way {
         port: 0,
-        target: Target::System(at_a),
+        snpa: at_a,
+        title: None,
     };
     assert!(rt;
         router
             .as_router()
-            .is_some_and(|router| router.next_hop(&a) == Some(hop))
+            .is_some_and(|router| router.next_hop(&a) == Some(way))
     );
     assert!(rt;
         host.as_host()

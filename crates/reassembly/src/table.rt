@@ -1,5 +1,5 @@
 //! The table of reassembly buffers.
-ghost use Rattle.std.specs.Prelude.{◌≡◌, ◌≢◌, ◌+◌, ◌<◌, ◌≤◌, ◌^◌, ◌&&◌, ℕ, List, [], length, map, min, nat_le, false, true, if◌then◌else◌, IfNone, IfOk, IfSome, MatchOption, None, Some, is_none, option_map, slice_get};
+ghost use Rattle.std.specs.Prelude.{◌≡◌, ◌≢◌, ◌+◌, ◌<◌, ◌≤◌, ◌^◌, ◌&&◌, ◌∷◌, ◌++◌, ℕ, List, [], length, map, min, nat_le, false, true, if◌then◌else◌, IfNone, IfOk, IfSome, MatchOption, None, Some, is_none, option_map, slice_get};
 ghost use Rattle.std.specs.List.{AllByRecursion};
 ghost use Rattle.clnp_views.specs.Extent.{Extent};
 ghost use Rattle.reassembly.specs.Arrival.{are_covered, arrival_of, octet_in, same_shape};
@@ -159,6 +159,7 @@ impl Table {
         ensures completed { (slot : SlotNo) → result ≡ Accept.Whole slot → IsCompleted self.new slot.0 }
         ensures none_whole { ((slot : SlotNo) → result ≢ Accept.Whole slot) → HasNoWhole self.new }
         ensures same { was_kept result ≡ false → self.new ≡ self.old }
+        ensures segments { was_kept result ≡ true → self.new.segments ≡ self.old.segments ++ segment ∷ [] }
         ensures limits { self.new.limits ≡ self.old.limits }
     {
         match self.refusal(&segment) {
@@ -243,6 +244,7 @@ impl Table {
             → Stands self.new (buffer.with_kept self.old.limits now (arrival_of segment) buffers) }
         ensures slot { (slot : SlotNo) → result ≡ Accept.Whole slot → Names self.new slot.0 segment.key }
         ensures kept { was_kept result ≡ true }
+        ensures segments { self.new.segments ≡ self.old.segments ++ segment ∷ [] }
         ensures limits { self.new.limits ≡ self.old.limits }
     {
         let slot = self.slot_for(now, &segment);

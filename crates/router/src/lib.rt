@@ -1,6 +1,7 @@
 //! Routers: intermediate systems (ISO/IEC 8473; ISO 9542).
 #![tactic(auto)]
 
+mod onward;
 mod router;
 
 pub use router::Router;

@@ -1,28 +1,38 @@
 //! The steps of a router.
-ghost use Rattle.std.specs.Prelude.{◌≡◌, ◌≤◌, ◌<◌, ◌+◌, ◌^◌, ℕ, IfErr, IfOk, OnOk, OnErr, IsErr, MatchResult, None, Some, Err, true, length};
+ghost use Rattle.std.specs.Prelude.{◌≡◌, ◌≤◌, ◌<◌, ◌+◌, ◌++◌, ◌^◌, ℕ, IfErr, IfOk, List, OnOk, OnErr, IsErr, MatchResult, None, Some, Err, true, length};
+ghost use Rattle.std.specs.List.{AllByRecursion};
 ghost use Rattle.reassembly.specs.Buffer.{held};
+ghost use Rattle.clnp_plan.specs.declared.ask.SendRefusal.TheVariants.{NoMemory as WantsMemory};
 ghost use Rattle.clnp_plan.specs.declared.config.Role.TheVariants.{Router as IsRouter};
-ghost use Rattle.clnp_machine.specs.Content.{Content, IsCarried, frame_of};
-ghost use Rattle.clnp_machine.specs.Given.{Appends};
-ghost use Rattle.clnp_machine.specs.Step.{next_hop, step};
-ghost use Rattle.clnp_machine.specs.System.{SystemState, FrameComes, IsRestarted, MomentComes, first_state};
-ghost use Rattle.local_entity.specs.Sending.{hop_option};
-ghost use Rattle.router.specs.Stands.{Stands};
+ghost use Rattle.clnp_machine.specs.Content.{Content, IsCarried, Labelled, frame_of};
+ghost use Rattle.clnp_machine.specs.Given.{Appends, AppendsFor};
+ghost use Rattle.clnp_machine.specs.Local.{refusal, request_unit};
+ghost use Rattle.clnp_machine.specs.Step.{goes_on, next_hop, step, way_of};
+ghost use Rattle.clnp_machine.specs.System.{SystemState, AsksForEcho, FrameComes, IsRestarted, MomentComes, first_state, next_number};
+ghost use Rattle.clnp_machine.specs.Unit.{IsCarriable, Packet, value_of, wire};
+ghost use Rattle.pdu_header.specs.Value.{PduValue};
+ghost use Rattle.segmenter.specs.Left.{IsCutOf};
+ghost use Rattle.local_entity.specs.Local.{IsWhy};
+ghost use Rattle.system_entity.specs.Comes.{HasValue, IsAtFront};
+ghost use Rattle.system_entity.specs.Ways.{way_option};
+ghost use Rattle.router.specs.Onward.{ComesTo};
+ghost use Rattle.router.specs.Stands.{IsLeftBy, Stands};
 
+use crate::onward::{Onward, by_port};
 use clnp_base::NoMemory;
+use clnp_machine::laws;
 use clnp_options::Reason;
-use clnp_plan::{Limits, Output, SystemConfig};
+use clnp_plan::{Limits, Output, SendRefusal, SystemConfig};
 use clnp_views::Frame;
 use esis_tables::Place;
-use local_entity::Hop;
 use nsap::{Address, Snpa};
 use std::alloc::Global;
 use std::marker::Model;
-use system_entity::{Arrival, SystemEntity};
+use system_entity::{Arrival, Passing, SystemEntity, Way};
 
 /// A router. Its moment is that of its last `tick`, or of its start.
 ///
-/// Once memory was refused in `tick` or `frame` it is spent: from then on each of them answers `NoMemory`.
+/// Once memory was refused in `tick`, `frame` or `echo` it is spent: from then on each of them answers `NoMemory`.
 ///
 /// A contract says by `Stands` which states of a system it stands for.
 #[derive(Debug, Drop)]
@@ -106,21 +116,101 @@ impl Router {
             → frame_of content ≡ frame.now → Stands self.new (step s (FrameComes port from group content)).after) }
         ensures outputs { OnOk result ((s : SystemState) (content : Content) → Stands self.old s → IsCarried content
             → frame_of content ≡ frame.now
-            → Appends self.old.entity.moment out.old.items out.new.items (step s (FrameComes port from group content)).outputs) }
+            → AppendsFor self.old.entity.moment content out.old.items out.new.items (step s (FrameComes port from group content)).outputs) }
         ensures none { OnErr result (out.new.items ≡ out.old.items) }
         ensures spent { OnErr result (self.new.entity.spent ≡ true) }
         ensures refused { self.old.entity.spent ≡ true → IsErr result }
         ensures moment { self.new.entity.moment ≡ self.old.entity.moment }
         ensures config { self.new.entity.local.configuration ≡ self.old.entity.local.configuration }
     {
+        laws::deeds_are_of_their_moment();
         let place = Place { port, snpa: from };
         match self.entity.frame(alloc, place, group, frame, out)? {
             Arrival::Done => Ok(()),
-            Arrival::Passes { .. } => {
-                let reason = Reason::DestinationUnknown.code();
-                self.entity.discard(alloc, frame, reason, 0, out)
-            }
+            Arrival::Passes(passing) => self.forward(alloc, &passing, frame, out),
         }
+    }
+
+    /// Makes an echo request of some octets and sends it, cut for the MTU where it may be (RFC 1575); what the router gives out is
+    /// appended. Gives the request's number.
+    ///
+    /// # Errors
+    ///
+    /// The first of these that holds: `NotMine` exactly where the source isn't one of the router's addresses; `TooLong`
+    /// exactly where the body has more than 64,512 octets, or else its header would have more than 254; `Quiet` or
+    /// `IdsBusy` exactly where it may be segmented and no identifier can be drawn for it. Nothing changes then. At
+    /// `NoMemory` `out` is as it was, and the router is spent.
+    pub fn echo(
+        &mut self,
+        alloc: Global,
+        from: Address,
+        to: Address,
+        body: &[u8],
+        out: &mut Vec<Output>,
+    ) -> Result<u64, SendRefusal>
+        ensures answer { (s : SystemState) → Stands self.old s → MatchResult result
+            (λ unit. (refusal s (request_unit s from to body.now) ≡ None) × (unit ≡ next_number s))
+            (λ e. IsWhy e (refusal s (request_unit s from to body.now))) }
+        ensures stands { OnOk result ((s : SystemState) → Stands self.old s → Stands self.new (step s (AsksForEcho from to body.now)).after) }
+        ensures outputs { OnOk result ((s : SystemState) → Stands self.old s
+            → Appends self.old.entity.moment out.old.items out.new.items (step s (AsksForEcho from to body.now)).outputs) }
+        ensures none { OnErr result (out.new.items ≡ out.old.items) }
+        ensures left { IfErr result (λ e. IsLeftBy e self.old self.new) }
+        ensures refused { self.old.entity.spent ≡ true → result ≡ Err WantsMemory }
+        ensures moment { self.new.entity.moment ≡ self.old.entity.moment }
+        ensures config { self.new.entity.local.configuration ≡ self.old.entity.local.configuration }
+    {
+        self.entity.echo(alloc, from, to, body, out)
+    }
+
+    /// A PDU for another address goes on, or is discarded (ISO/IEC 8473, sections 6.4 to 6.7).
+    fn forward(
+        &mut self,
+        alloc: Global,
+        passing: &Passing,
+        frame: &Frame,
+        out: &mut Vec<Output>,
+    ) -> Result<(), NoMemory>
+        requires few { length frame.now ≤ 70000 }
+        requires pdu { IsAtFront passing.now frame.now }
+        ensures stands { OnOk result ((s : SystemState) (p : Packet) (following : List ℕ) → Stands self.old s → IsCarriable p
+            → HasValue passing.now (value_of p) → frame.now ≡ wire p ++ following
+            → Stands self.new (goes_on s p following (next_hop s p.unit.destination)).after) }
+        ensures outputs { OnOk result ((s : SystemState) (p : Packet) (following : List ℕ) → Stands self.old s → IsCarriable p
+            → HasValue passing.now (value_of p) → frame.now ≡ wire p ++ following
+            → AppendsFor s.moment (Labelled p following) out.old.items out.new.items (goes_on s p following (next_hop s p.unit.destination)).outputs) }
+        ensures none { OnErr result (out.new.items ≡ out.old.items) }
+        ensures spent { OnErr result (self.new.entity.spent ≡ true) }
+        ensures refused { self.old.entity.spent ≡ true → IsErr result }
+        ensures moment { self.new.entity.moment ≡ self.old.entity.moment }
+        ensures config { self.new.entity.local.configuration ≡ self.old.entity.local.configuration }
+    {
+        match self.onward(passing) {
+            Ok(Onward { hop, cuts }) => {
+                let from = passing.head.as_bytes().len();
+                self.entity
+                    .pass_on(alloc, frame, from, passing.len, cuts, hop, out)
+            }
+            Err(reason) => self.entity.discard(alloc, frame, reason.code(), 0, out),
+        }
+    }
+
+    /// How a PDU for another address goes on, or for which reason it is discarded.
+    fn onward(&self, passing: &Passing) -> Result<Onward, Reason>
+        requires { (v : PduValue) × HasValue passing.now v }
+        ensures goes { (s : SystemState) (p : Packet) (following : List ℕ) → Stands self.now s → IsCarriable p
+            → HasValue passing.now (value_of p) → ComesTo result s p following (goes_on s p following (next_hop s p.unit.destination)) }
+        ensures each { IfOk result (λ onward. AllByRecursion (IsCutOf passing.now.len) onward.cuts) }
+    {
+        let Some(hop) = self.entity.next_hop(&passing.to) else {
+            return Err(Reason::DestinationUnknown);
+        };
+        let config = self.entity.config();
+        config.is_system();
+        let Some(port) = config.ports().get(usize::from(hop.port)) else {
+            return Err(Reason::DestinationUnknown);
+        };
+        by_port(passing, hop, port)
     }
 
     /// Forgets all that it keeps and heard, and is quiet as long as an identifier rests; the count of its units goes
@@ -141,11 +231,12 @@ impl Router {
         self.entity.held()
     }
 
-    /// Where it sends a PDU for an address: to the end system of this address, if it heard of it.
-    pub fn next_hop(&self, to: &Address) -> Option<Hop>
-        ensures { (s : SystemState) → Stands self.now s → hop_option result ≡ next_hop s to.now }
+    /// The way to an address: to the end system of this address, where it heard of it, else by the route with the most
+    /// digits among those that cover the address (ISO/IEC 8473, section 6.5).
+    pub fn next_hop(&self, to: &Address) -> Option<Way>
+        ensures { (s : SystemState) → Stands self.now s → way_option result ≡ way_of s to.now }
     {
-        self.entity.next_hop(to)
+        self.entity.way(to)
     }
 
     /// What the scenario says of it.

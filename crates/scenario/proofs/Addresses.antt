@@ -6,9 +6,10 @@ use Rattle.std.proofs.lemmas.List.Elements.{All-from_recursion}
 use Rattle.clnp_base.proofs.Lists.{AllByRecursion-mapped, AllByRecursion-push}
 use Rattle.clnp_base.specs.Text.{decimal_of, words_of}
 use Rattle.nsap.specs.Address.{IsAddress}
+use Rattle.forwarding.specs.declared.route.Route.{Route}
 use Rattle.clnp_plan.specs.Configuration.{SystemConfiguration}
-use Rattle.scenario.specs.Words.{wanted, name_word, declared_word, number_within, number_word, address_word, is_digits, is_taken, is_one_at_most, is_skipped, each_once, two_words, three_words, first_two, first_four}
-use Rattle.scenario.specs.Declarations.{Declarations, DeclaredSystem, NumberedPort, nothing_declared, subnet_names, system_names, with_address, with_port, is_among, has_port, snpas_on, mtu_at, takes_address, takes_port, limits_line, subnet_line, role_word, setting_words, key_of, settings_of, system_line, address_line, transit_word, port_line, declaration_line, is_complete, configuration_of}
+use Rattle.scenario.specs.Words.{wanted, name_word, declared_word, number_within, number_word, address_word, prefix_word, is_digits, is_taken, is_one_at_most, is_skipped, each_once, two_words, three_words, five_words, first_two, first_four}
+use Rattle.scenario.specs.Declarations.{Declarations, DeclaredSystem, NumberedPort, nothing_declared, subnet_names, system_names, with_address, with_port, is_among, has_port, snpas_on, mtu_at, takes_address, takes_port, limits_line, subnet_line, role_word, setting_words, key_of, settings_of, system_line, address_line, transit_word, port_line, router_word, port_word, has_route, takes_route, with_route, route_line, declaration_line, is_complete, configuration_of}
 use Rattle.scenario.specs.Grammar.{ReadTo, is_line_of, declarations_from}
 use Rattle.scenario.specs.declared.code.Code.TheVariants as bad
 use Rattle.scenario.proofs.Behind.{behind_result, behind_line, behind_found, behind_wanted, behind_such, behind_line_such, either_way}
@@ -52,7 +53,7 @@ system_has_none d words h =
     behind_result (setting_words w.2) _ AreAddressed (λ settings _.
     behind_wanted (not (is_taken (system_names d) name) && each_once key_of settings) _ _ AreAddressed (λ _.
     behind_wanted (nat_lt (length d.systems) 64) _ _ AreAddressed (λ _.
-    let system : DeclaredSystem = record { name = name; role = role; settings = settings_of settings; addresses = []; ports = [] } in
+    let system : DeclaredSystem = record { name = name; role = role; settings = settings_of settings; addresses = []; ports = []; routes = [] } in
     AllByRecursion-push HasAddresses d.systems system h tt))))))
 
 address_is_one : Laws → (d : Declarations) (words : List (List ℕ)) → AreAddressed d → IfOk (address_line d words) AreAddressed
@@ -81,6 +82,20 @@ port_keeps d words h =
     let numbered : NumberedPort = record { number = number; port = record { subnet = subnet; snpa = snpa; transit = transit; mtu = mtu_at (slice_get d.subnets subnet) } } in
     changed HasAddresses (with_port numbered) place d.systems h (λ system _ its. its)))))))))))
 
+route_keeps : (d : Declarations) (words : List (List ℕ)) → AreAddressed d → IfOk (route_line d words) AreAddressed
+unfolding route_line
+route_keeps d words h =
+    behind_found (five_words words) _ _ AreAddressed (λ w _.
+    behind_result (router_word d w.0) _ AreAddressed (λ place _.
+    behind_result (prefix_word w.1) _ AreAddressed (λ prefix _.
+    behind_result (port_word (slice_get d.systems place) w.2) _ AreAddressed (λ port _.
+    behind_result (address_word w.3) _ AreAddressed (λ snpa _.
+    behind_result (address_word w.4) _ AreAddressed (λ title _.
+    behind_wanted (not (has_route prefix (slice_get d.systems place))) _ _ AreAddressed (λ _.
+    behind_wanted (takes_route (slice_get d.systems place)) _ _ AreAddressed (λ _.
+    let route : Route = record { prefix = prefix; port = port; snpa = snpa; title = title } in
+    changed HasAddresses (with_route route) place d.systems h (λ system _ its. its)))))))))
+
 line_keeps : Laws → (d : Declarations) (words : List (List ℕ)) → AreAddressed d → IfOk (declaration_line d words) AreAddressed
 unfolding declaration_line
 line_keeps laws d [] h = tt
@@ -89,7 +104,8 @@ line_keeps laws d (keyword ∷ words) h =
     (either_way (bytes_eq keyword (codes "subnet")) _ _ AreAddressed (subnet_keeps d words h)
     (either_way (bytes_eq keyword (codes "system")) _ _ AreAddressed (system_has_none d words h)
     (either_way (bytes_eq keyword (codes "address")) _ _ AreAddressed (address_is_one laws d words h)
-    (either_way (bytes_eq keyword (codes "port")) _ _ AreAddressed (port_keeps d words h) tt))))
+    (either_way (bytes_eq keyword (codes "port")) _ _ AreAddressed (port_keeps d words h)
+    (either_way (bytes_eq keyword (codes "route")) _ _ AreAddressed (route_keeps d words h) tt)))))
 
 -- so is each up to `events`
 abbrev pub ReadAddressed : ReadTo Declarations → Type 0

@@ -8,8 +8,8 @@ use Rattle.clnp_options.specs.Parameter.{parameters, parameters_after}
 use Rattle.clnp_options.specs.Rules.{Accepts, refusal}
 use Rattle.clnp_plan.specs.Configuration.{SystemConfiguration}
 use Rattle.scenario.specs.Scenario.{AsksFairly}
-use Rattle.scenario.specs.Words.{literal, has_prefix, declared_word, address_word, data_word, number_word, life_word, octets_behind, options_read, options_word, one_word, two_words, first_four, each_once}
-use Rattle.scenario.specs.Events.{wish_word, wish_words, wish_key, options_in, host_word, send_line, deliver_line, count_line, tick_line, restart_line, event_line}
+use Rattle.scenario.specs.Words.{literal, has_prefix, declared_word, address_word, data_word, number_word, life_word, octets_behind, options_read, options_word, one_word, two_words, four_words, first_four, each_once}
+use Rattle.scenario.specs.Events.{wish_word, wish_words, wish_key, options_in, host_word, send_line, deliver_line, count_line, tick_line, restart_line, echo_line, event_line}
 use Rattle.scenario.specs.declared.code.Code.TheVariants as bad
 use Rattle.scenario.specs.declared.event.Event.TheVariants.{Settle, Lose, Tick}
 use Rattle.scenario.specs.declared.wish.Wish.{Wish}
@@ -87,6 +87,15 @@ restart_fair names words =
     behind_found (one_word words) _ _ AsksFairly (λ word _.
     behind_result (declared_word names word) _ AsksFairly (λ system _. tt))
 
+echo_fair : (names : List (List ℕ)) (words : List (List ℕ)) → IfOk (echo_line names words) AsksFairly
+unfolding echo_line
+echo_fair names words =
+    behind_found (four_words words) _ _ AsksFairly (λ w _.
+    behind_result (declared_word names w.0) _ AsksFairly (λ system _.
+    behind_result (address_word w.1) _ AsksFairly (λ from _.
+    behind_result (address_word w.2) _ AsksFairly (λ to _.
+    behind_result (data_word w.3) _ AsksFairly (λ body _. tt)))))
+
 pub event_fair : SpellsWhatItAccepts → (names : List (List ℕ)) (systems : List SystemConfiguration) (words : List (List ℕ)) → IfOk (event_line names systems words) AsksFairly
 unfolding event_line
 event_fair law names systems [] = tt
@@ -96,4 +105,5 @@ event_fair law names systems (keyword ∷ words) =
     (either_way (bytes_eq keyword (codes "settle")) _ _ AsksFairly (behind_result (count_line words) (λ count. Ok (Settle count)) AsksFairly (λ count _. tt))
     (either_way (bytes_eq keyword (codes "lose")) _ _ AsksFairly (behind_result (count_line words) (λ count. Ok (Lose count)) AsksFairly (λ count _. tt))
     (either_way (bytes_eq keyword (codes "tick")) _ _ AsksFairly (behind_result (tick_line words) (λ count. Ok (Tick count)) AsksFairly (λ count _. tt))
-    (either_way (bytes_eq keyword (codes "restart")) _ _ AsksFairly (restart_fair names words) tt)))))
+    (either_way (bytes_eq keyword (codes "restart")) _ _ AsksFairly (restart_fair names words)
+    (either_way (bytes_eq keyword (codes "echo")) _ _ AsksFairly (echo_fair names words) tt))))))

@@ -1,21 +1,24 @@
 -- Each scenario that the grammar accepts is fit: what its lines declare stays fit, line by line.
-use Rattle.std.proofs.Common.{◌≡◌, ℕ, zero, suc, ◌+◌, ◌<◌, ◌≤◌, ◌==◌, ◌&&◌, Bool, true, false, not, nat_le, nat_lt, List, [], ◌∷◌, map, length, slice_get, codes, Option, Some, is_some, Ok, IfOk, refl, subst, arith, length-append}
-use Rattle.std.specs.List.{AllByRecursion, flat_map, list_all}
+use Rattle.std.proofs.Common.{◌≡◌, ℕ, zero, suc, ◌+◌, ◌<◌, ◌≤◌, ◌==◌, ◌&&◌, Bool, true, false, not, nat_le, nat_lt, List, [], ◌∷◌, ◌++◌, map, length, slice_get, codes, Option, Some, is_some, Ok, IfOk, refl, sym, subst, arith, length-append}
+use Rattle.std.specs.List.{AllByRecursion, flat_map, list_all, list_any}
 use Rattle.std.specs.Str.{bytes_eq}
-use Rattle.std.proofs.lemmas.Bool.{leb-true, ltb-true, eqb-true, and_parts, not-true}
+use Rattle.std.proofs.lemmas.Bool.{leb-true, ltb-true, eqb-true, and_parts, not-true, true≢false}
 use Rattle.std.proofs.lemmas.List.{length-map, map-append}
 use Rattle.std.proofs.lemmas.List.Edits.{length-insert}
 use Rattle.std.proofs.lemmas.List.Sums.{count_by-le-length}
 use Rattle.clnp_base.proofs.Lists.{AllByRecursion-push}
 use Rattle.clnp_base.specs.Text.{decimal_of, words_of}
-use Rattle.clnp_plan.specs.Configuration.{IsWithin, HasItsAddresses, HasItsPorts, IsPort, IsSystem, AreSettings, AreLimits}
+use Rattle.forwarding.specs.Distinct as prefixes
+use Rattle.forwarding.specs.declared.route.Route.{Route}
+use Rattle.forwarding.proofs.Prefixes.{AreDistinct-push}
+use Rattle.clnp_plan.specs.Configuration.{IsWithin, HasItsAddresses, HasItsPorts, HasItsRoutes, IsPort, IsSystem, AreSettings, AreLimits}
 use Rattle.clnp_plan.specs.declared.config.PortConfig.{PortConfig}
 use Rattle.clnp_plan.specs.declared.config.Role.{Role}
 use Rattle.clnp_plan.specs.declared.config.Role.TheVariants.{Host, Router}
 use Rattle.clnp_plan.specs.declared.config.Settings.{Settings}
 use Rattle.scenario.specs.Scenario.{Subnetwork, IsOn}
-use Rattle.scenario.specs.Words.{◌>>=◌, wanted, found, name_word, declared_word, number_within, number_word, number_behind, has_prefix, address_word, is_digits, is_taken, is_one_at_most, is_skipped, each_once, two_words, three_words, first_two, first_four}
-use Rattle.scenario.specs.Declarations.{Declarations, DeclaredSystem, NumberedPort, nothing_declared, subnet_names, system_names, changed_at, with_address, with_port, is_among, most_addresses, most_ports, takes_address, takes_port, count_below, has_port, snpas_on, mtu_at, limits_of, limits_line, subnet_line, checksum_word, room_word, setting_word, setting_words, key_of, with_setting, settings_of, role_word, system_line, address_line, transit_word, port_line, declaration_line, is_complete, have_no_gap, configuration_of}
+use Rattle.scenario.specs.Words.{◌>>=◌, wanted, found, name_word, declared_word, number_within, number_word, number_behind, has_prefix, address_word, prefix_word, is_digits, is_taken, is_one_at_most, is_skipped, each_once, two_words, three_words, five_words, first_two, first_four}
+use Rattle.scenario.specs.Declarations.{Declarations, DeclaredSystem, NumberedPort, nothing_declared, subnet_names, system_names, changed_at, with_address, with_port, is_among, most_addresses, most_ports, takes_address, takes_port, count_below, has_port, snpas_on, mtu_at, limits_of, limits_line, subnet_line, checksum_word, room_word, setting_word, setting_words, key_of, with_setting, settings_of, role_word, system_line, address_line, transit_word, port_line, is_router, is_router_at, router_word, has_number, has_numbered, port_word, has_route, takes_route, with_route, route_line, declaration_line, is_complete, have_no_gap, configuration_of}
 use Rattle.scenario.specs.Grammar.{ReadTo, is_line_of, declarations_from}
 use Rattle.scenario.specs.declared.code.Code.TheVariants as bad
 use Rattle.scenario.specs.declared.setting.Setting.{Setting}
@@ -23,12 +26,16 @@ use Rattle.scenario.specs.declared.setting.Setting.TheVariants.{Hello, Suggest, 
 use Rattle.scenario.proofs.Behind.{behind_result, behind_line, behind_found, behind_wanted, behind_such, behind_line_such, wanted_holds, either_way, found_is_within, number_is_within, number_behind_is_within, declared_is_within}
 use Rattle.scenario.proofs.Apart.{addresses_of, AreApart, new_of, add_address, port_leaves, system_leaves, distinct_of, front_apart, back_apart}
 use Rattle.scenario.proofs.Kept.{map_leaves, all_leaves, length_leaves, empty_leaves, one_gets, one_more_name, AreOn, all_stay, mtu_is, port_gets, port_elsewhere, all_among}
+use Rattle.scenario.proofs.Numbers.{LeadOut, lead_on, lead_below}
 
 -- what the lines so far say of a system is within bounds
 pub record IsDeclared (system : DeclaredSystem) : Type 0 where
   pub addresses : length system.addresses ≤ most_addresses system.role
   pub few_ports : length system.ports ≤ most_ports system.role
   pub ports : AllByRecursion (λ (numbered : NumberedPort). IsPort numbered.port) system.ports
+  pub routes : HasItsRoutes system.role system.routes
+  pub distinct_routes : prefixes.AreDistinct system.routes
+  pub each_route : LeadOut system.ports system.routes
   pub settings : AreSettings system.settings
 
 -- what the lines so far declare is within bounds, and no address belongs to two systems
@@ -185,6 +192,10 @@ none_yet : (role : Role) → (0 ≤ most_addresses role) × (0 ≤ most_ports ro
 none_yet Host = (omega arith, omega arith)
 none_yet Router = (omega arith, omega arith)
 
+no_routes_yet : (role : Role) → HasItsRoutes role []
+no_routes_yet Host = refl
+no_routes_yet Router = omega arith
+
 pub system_fit : (d : Declarations) (words : List (List ℕ)) → AreFit d → IfOk (system_line d words) AreFit
 unfolding system_line
 system_fit d words h =
@@ -194,7 +205,7 @@ system_fit d words h =
     behind_such (setting_words w.2) _ (λ settings. AllByRecursion SaysWithin settings) AreFit (words_fit w.2) (λ settings fits.
     behind_wanted (not (is_taken (system_names d) name) && each_once key_of settings) _ _ AreFit (λ once.
     behind_wanted (nat_lt (length d.systems) 64) _ _ AreFit (λ few.
-    let system : DeclaredSystem = record { name = name; role = role; settings = settings_of settings; addresses = []; ports = [] } in
+    let system : DeclaredSystem = record { name = name; role = role; settings = settings_of settings; addresses = []; ports = []; routes = [] } in
     record {
       limits = h.limits;
       subnets = h.subnets;
@@ -202,6 +213,9 @@ system_fit d words h =
         addresses = (none_yet role).0;
         few_ports = (none_yet role).1;
         ports = tt;
+        routes = no_routes_yet role;
+        distinct_routes = tt;
+        each_route = tt;
         settings = settings_fit settings fits;
       });
       addresses = rw (system_leaves d.systems system refl) h.addresses;
@@ -238,6 +252,9 @@ address_fit d words h =
         addresses = rw length-append (omega (arith, address_room (slice_get d.systems place) system is room));
         few_ports = fits.few_ports;
         ports = fits.ports;
+        routes = fits.routes;
+        distinct_routes = fits.distinct_routes;
+        each_route = fits.each_route;
         settings = fits.settings;
       });
       addresses = add_address address place d.systems (not-true (is_among address (addresses_of d.systems)) new) h.addresses;
@@ -299,6 +316,9 @@ port_fit d words h =
         few_ports = one_port_more numbered system (port_room (slice_get d.systems place) system is room);
         ports = all_among (λ (numbered : NumberedPort). IsPort numbered.port) numbered (count_below number system.ports) system.ports
             (record { transit = transit_in; mtu = mtu_fit d.subnets subnet h.subnets there }) fits.ports;
+        routes = fits.routes;
+        distinct_routes = fits.distinct_routes;
+        each_route = lead_on numbered (count_below number system.ports) system.ports system.routes fits.each_route;
         settings = fits.settings;
       });
       addresses = rw (port_leaves numbered place d.systems) h.addresses;
@@ -312,6 +332,77 @@ port_fit d words h =
           (mtu_is d.subnets subnet there) on);
     }))))))))))
 
+-- what a route line finds
+
+is_the_router : (o : Option DeclaredSystem) (system : DeclaredSystem) → o ≡ Some system → is_router_at o ≡ true → is_router system.role ≡ true
+is_the_router o system e h = rw e at h
+
+router_is_router : (d : Declarations) (word : List ℕ) → IfOk (router_word d word) (λ place. is_router_at (slice_get d.systems place) ≡ true)
+router_is_router d word =
+    behind_result (declared_word (system_names d) word) _ (λ place. is_router_at (slice_get d.systems place) ≡ true) (λ place _.
+    behind_wanted (is_router_at (slice_get d.systems place)) bad.UnknownName (λ _. Ok place) (λ place. is_router_at (slice_get d.systems place) ≡ true) (λ is. is))
+
+port_is_there : (o : Option DeclaredSystem) (word : List ℕ) → IfOk (port_word o word) (λ number. has_numbered number o ≡ true)
+port_is_there o word =
+    behind_result (number_word 0 7 word) _ (λ number. has_numbered number o ≡ true) (λ number _.
+    behind_wanted (has_numbered number o) bad.UnknownName (λ _. Ok number) (λ number. has_numbered number o ≡ true) (λ there. there))
+
+its_port : (o : Option DeclaredSystem) (system : DeclaredSystem) (number : ℕ) → o ≡ Some system → has_numbered number o ≡ true
+    → has_number system.ports number ≡ true
+its_port o system number e h = rw e at h
+
+its_prefix : (o : Option DeclaredSystem) (system : DeclaredSystem) (prefix : List ℕ) → o ≡ Some system → has_route prefix o ≡ false
+    → list_any (prefixes.has_prefix prefix) system.routes ≡ false
+its_prefix o system prefix e h = rw e at h
+
+route_room : (o : Option DeclaredSystem) (system : DeclaredSystem) → o ≡ Some system → takes_route o ≡ true → length system.routes < 256
+route_room o system e h = ltb-true (length system.routes) 256 (rw e at h)
+
+one_route_more : (role : Role) (routes : List Route) (route : Route) → is_router role ≡ true → length routes < 256 → HasItsRoutes role (routes ++ route ∷ [])
+one_route_more Host routes route is room = absurd (true≢false (sym is))
+one_route_more Router routes route is room = rw length-append (omega (arith, room))
+
+route_fits : (route : Route) (o : Option DeclaredSystem) → is_router_at o ≡ true → has_numbered route.port o ≡ true → has_route route.prefix o ≡ false
+    → takes_route o ≡ true → (system : DeclaredSystem) → o ≡ Some system → IsDeclared system → IsDeclared (with_route route system)
+route_fits route o is there other room system e fits =
+    record {
+      addresses = fits.addresses;
+      few_ports = fits.few_ports;
+      ports = fits.ports;
+      routes = one_route_more system.role system.routes route (is_the_router o system e is) (route_room o system e room);
+      distinct_routes = AreDistinct-push system.routes route fits.distinct_routes (its_prefix o system route.prefix e other);
+      each_route = AllByRecursion-push (λ (route : Route). has_number system.ports route.port ≡ true) system.routes route fits.each_route
+          (its_port o system route.port e there);
+      settings = fits.settings;
+    }
+
+pub route_fit : (d : Declarations) (words : List (List ℕ)) → AreFit d → IfOk (route_line d words) AreFit
+unfolding route_line
+route_fit d words h =
+    behind_found (five_words words) _ _ AreFit (λ w _.
+    behind_such (router_word d w.0) _ (λ place. is_router_at (slice_get d.systems place) ≡ true) AreFit (router_is_router d w.0) (λ place is.
+    behind_result (prefix_word w.1) _ AreFit (λ prefix _.
+    behind_such (port_word (slice_get d.systems place) w.2) _ (λ number. has_numbered number (slice_get d.systems place) ≡ true) AreFit
+    (port_is_there (slice_get d.systems place) w.2) (λ port there.
+    behind_result (address_word w.3) _ AreFit (λ snpa _.
+    behind_result (address_word w.4) _ AreFit (λ title _.
+    behind_wanted (not (has_route prefix (slice_get d.systems place))) _ _ AreFit (λ other.
+    behind_wanted (takes_route (slice_get d.systems place)) _ _ AreFit (λ room.
+    let route : Route = record { prefix = prefix; port = port; snpa = snpa; title = title } in
+    record {
+      limits = h.limits;
+      subnets = h.subnets;
+      systems = changed IsDeclared (with_route route) place d.systems h.systems
+          (route_fits route (slice_get d.systems place) is there (not-true (has_route prefix (slice_get d.systems place)) other) room);
+      addresses = rw (all_leaves (λ (system : DeclaredSystem). system.addresses) (with_route route) (λ system. refl) place d.systems) h.addresses;
+      subnet_names = h.subnet_names;
+      system_names = rw (map_leaves (λ (system : DeclaredSystem). system.name) (with_route route) (λ system. refl) place d.systems) h.system_names;
+      few_subnets = h.few_subnets;
+      few_systems = rw (length_leaves (with_route route) place d.systems) h.few_systems;
+      snpas = λ q. rw (all_leaves (snpas_on q) (with_route route) (λ system. refl) place d.systems) (h.snpas q);
+      on = changed (λ (system : DeclaredSystem). AreOn d.subnets system.ports) (with_route route) place d.systems h.on (λ system _ there. there);
+    }))))))))
+
 line_fit : (d : Declarations) (words : List (List ℕ)) → AreFit d → IfOk (declaration_line d words) AreFit
 unfolding declaration_line
 line_fit d [] h = tt
@@ -320,7 +411,8 @@ line_fit d (keyword ∷ words) h =
     (either_way (bytes_eq keyword (codes "subnet")) _ _ AreFit (subnet_fit d words h)
     (either_way (bytes_eq keyword (codes "system")) _ _ AreFit (system_fit d words h)
     (either_way (bytes_eq keyword (codes "address")) _ _ AreFit (address_fit d words h)
-    (either_way (bytes_eq keyword (codes "port")) _ _ AreFit (port_fit d words h) tt))))
+    (either_way (bytes_eq keyword (codes "port")) _ _ AreFit (port_fit d words h)
+    (either_way (bytes_eq keyword (codes "route")) _ _ AreFit (route_fit d words h) tt)))))
 
 -- what is declared up to `events` is fit, and each system is complete
 pub record AreDeclared (r : ReadTo Declarations) : Type 0 where
@@ -384,6 +476,9 @@ systems_fit (system ∷ systems) h apart complete =
         ports = its_ports system.role (map (λ (numbered : NumberedPort). numbered.port) system.ports)
             (rw same (leb-true 1 (length system.ports) port.0)) (rw same h.0.few_ports);
         each_port = ports_fit system.ports h.0.ports;
+        routes = h.0.routes;
+        distinct_routes = h.0.distinct_routes;
+        each_route = lead_below system.ports system.routes port.1 h.0.each_route;
         settings = h.0.settings;
       },
       systems_fit systems h.1 (back_apart system.addresses (addresses_of systems) apart) both.1,

@@ -1,9 +1,12 @@
 -- What a `send` asks for is formed as it should be: between addresses, with a lifetime of an octet and options in their form.
-use Rattle.std.proofs.Common.{◌≡◌, ℕ, ◌<◌, ◌&&◌, false, not, nat_le, List, [], ◌∷◌, length, codes, Option, None, Some, is_some, slice_get, Result, Ok, Err, IfOk, refl, arith}
-use Rattle.std.specs.List.{AllByRecursion}
+use Rattle.std.proofs.Common.{◌≡◌, ℕ, zero, suc, ◌+◌, ◌/◌, ◌%◌, ◌<◌, ◌&&◌, false, not, nat_le, List, [], ◌∷◌, length, map, codes, Option, None, Some, is_some, slice_get, Result, Ok, Err, IfOk, refl, arith}
+use Rattle.std.specs.List.{AllByRecursion, range_with_len}
 use Rattle.std.specs.Str.{bytes_eq}
 use Rattle.std.proofs.lemmas.Bool.{and_parts, not-true}
 use Rattle.clnp_base.proofs.Lists.{AllByRecursion-slice_get}
+use Rattle.hex.specs.Hex.{IsBytes, decode_of}
+use Rattle.hex.specs.declared.error.FromHexError.{FromHexError}
+use Rattle.hex.proofs.HexLemmas.{decode_of-ok}
 use Rattle.nsap.specs.Address.{IsAddress}
 use Rattle.nsap.specs.Text as nsap
 use Rattle.nsap.specs.declared.fault.NsapFault.{NsapFault}
@@ -11,10 +14,12 @@ use Rattle.clnp_options.specs.Grammar.{AreFormed}
 use Rattle.clnp_options.specs.Parameter.{parameters, parameters_after}
 use Rattle.clnp_options.specs.Rules.{Accepts, refusal}
 use Rattle.clnp_plan.specs.Configuration.{IsSystem, IsWithin, SystemConfiguration}
-use Rattle.scenario.specs.Scenario.{AsksInForm}
-use Rattle.scenario.specs.Words.{literal, has_prefix, declared_word, address_read, address_word, data_word, number_word, life_word, octets_behind, options_read, options_word, one_word, two_words, first_four, each_once}
-use Rattle.scenario.specs.Events.{wish_word, wish_words, wish_key, life_in, own_life, options_in, host_word, send_line, deliver_line, count_line, tick_line, restart_line, event_line}
+use Rattle.scenario.specs.Scenario.{AsksInForm, octets_of}
+use Rattle.scenario.specs.Words.{literal, has_prefix, after_prefix, digits_read, pattern_word, two_fields, declared_word, address_read, address_word, data_word, number_word, life_word, octets_behind, options_read, options_word, one_word, two_words, four_words, first_four, each_once}
+use Rattle.scenario.specs.Events.{wish_word, wish_words, wish_key, life_in, own_life, options_in, host_word, send_line, deliver_line, count_line, tick_line, restart_line, echo_line, event_line}
 use Rattle.scenario.specs.declared.code.Code.TheVariants as bad
+use Rattle.scenario.specs.declared.event.Body.{Body}
+use Rattle.scenario.specs.declared.event.Body.TheVariants.{Hex, Pattern}
 use Rattle.scenario.specs.declared.event.Event.TheVariants.{Settle, Lose, Tick}
 use Rattle.scenario.specs.declared.wish.Wish.{Wish}
 use Rattle.scenario.specs.declared.wish.Wish.TheVariants.{Lasting, NoReport, Whole, Options}
@@ -38,6 +43,39 @@ is_read (Err fault) h = tt
 
 pub address_formed : Laws → (word : List ℕ) → IfOk (address_word word) IsAddress
 address_formed laws word = is_read (nsap.octets_of word) (laws.addresses word)
+
+-- Data.
+
+abbrev HasOctets : Body → Type 0
+HasOctets body = IsBytes (octets_of body)
+
+mapped_octets : (f : ℕ → ℕ) → ((q : ℕ) → f q < 256) → (places : List ℕ) → IsBytes (map f places)
+mapped_octets f below [] i = omega arith
+mapped_octets f below (q ∷ places) zero = below q
+mapped_octets f below (q ∷ places) (suc i) = mapped_octets f below places i
+
+pattern_octets : (len start : ℕ) → HasOctets (Pattern len start)
+pattern_octets len start = mapped_octets (λ q. (q + q / 256 + start) % 256) (λ q. omega arith) (range_with_len 0 len)
+
+pattern_read : (word : List ℕ) → IfOk (pattern_word word) HasOctets
+pattern_read word =
+    behind_result (after_prefix (codes "pat:") word) _ HasOctets (λ text _.
+    behind_found (two_fields text) _ _ HasOctets (λ fields _.
+    behind_result (number_word 0 70000 fields.0) _ HasOctets (λ len _.
+    behind_result (number_word 0 255 fields.1) _ HasOctets (λ start _. pattern_octets len start))))
+
+digits_octets : (read : Result (List ℕ) FromHexError) → ((octets : List ℕ) → read ≡ Ok octets → IsBytes octets) → IfOk (digits_read read) IsBytes
+digits_octets (Ok octets) h = h octets refl
+digits_octets (Err e) h = tt
+
+hex_octets : (word : List ℕ) → IfOk (octets_behind (codes "hex:") word) IsBytes
+hex_octets word =
+    behind_result (after_prefix (codes "hex:") word) _ IsBytes (λ digits _. digits_octets (decode_of digits) (λ octets is. (decode_of-ok digits octets is).3))
+
+data_octets : (word : List ℕ) → IfOk (data_word word) HasOctets
+data_octets word =
+    either_way (has_prefix (codes "pat:") word) _ _ HasOctets (pattern_read word)
+    (behind_such (octets_behind (codes "hex:") word) (λ octets. Ok (Hex octets)) IsBytes HasOctets (hex_octets word) (λ octets are. are))
 
 -- Options and lifetimes.
 
@@ -133,6 +171,15 @@ restart_formed names words =
     behind_found (one_word words) _ _ AsksInForm (λ word _.
     behind_result (declared_word names word) _ AsksInForm (λ system _. tt))
 
+echo_formed : Laws → (names : List (List ℕ)) (words : List (List ℕ)) → IfOk (echo_line names words) AsksInForm
+unfolding echo_line
+echo_formed laws names words =
+    behind_found (four_words words) _ _ AsksInForm (λ w _.
+    behind_result (declared_word names w.0) _ AsksInForm (λ system _.
+    behind_such (address_word w.1) _ IsAddress AsksInForm (address_formed laws w.1) (λ from from_is.
+    behind_such (address_word w.2) _ IsAddress AsksInForm (address_formed laws w.2) (λ to to_is.
+    behind_such (data_word w.3) _ HasOctets AsksInForm (data_octets w.3) (λ body octets. (from_is, to_is, octets))))))
+
 pub event_formed : Laws → (names : List (List ℕ)) (systems : List SystemConfiguration) (words : List (List ℕ)) → AllByRecursion IsSystem systems
     → IfOk (event_line names systems words) AsksInForm
 unfolding event_line
@@ -143,4 +190,5 @@ event_formed laws names systems (keyword ∷ words) are =
     (either_way (bytes_eq keyword (codes "settle")) _ _ AsksInForm (behind_result (count_line words) (λ count. Ok (Settle count)) AsksInForm (λ count _. tt))
     (either_way (bytes_eq keyword (codes "lose")) _ _ AsksInForm (behind_result (count_line words) (λ count. Ok (Lose count)) AsksInForm (λ count _. tt))
     (either_way (bytes_eq keyword (codes "tick")) _ _ AsksInForm (behind_result (tick_line words) (λ count. Ok (Tick count)) AsksInForm (λ count _. tt))
-    (either_way (bytes_eq keyword (codes "restart")) _ _ AsksInForm (restart_formed names words) tt)))))
+    (either_way (bytes_eq keyword (codes "restart")) _ _ AsksInForm (restart_formed names words)
+    (either_way (bytes_eq keyword (codes "echo")) _ _ AsksInForm (echo_formed laws names words) tt))))))

@@ -9,8 +9,8 @@ use Rattle.clnp_plan.specs.Configuration.{SystemConfiguration}
 use Rattle.clnp_plan.specs.declared.config.Role.{Role}
 use Rattle.clnp_plan.specs.declared.config.Role.TheVariants.{Host, Router}
 use Rattle.scenario.specs.Scenario.{IsFromHost}
-use Rattle.scenario.specs.Words.{declared_word, address_word, data_word, number_word, one_word, two_words, first_four, each_once, is_skipped}
-use Rattle.scenario.specs.Events.{wish_words, wish_key, is_host, is_host_at, host_word, send_line, deliver_line, count_line, tick_line, restart_line, event_line, counted, are_few}
+use Rattle.scenario.specs.Words.{declared_word, address_word, data_word, number_word, one_word, two_words, four_words, first_four, each_once, is_skipped}
+use Rattle.scenario.specs.Events.{wish_words, wish_key, is_host, is_host_at, host_word, send_line, deliver_line, count_line, tick_line, restart_line, echo_line, event_line, counted, are_few}
 use Rattle.scenario.specs.Grammar.{is_line_of, nothing_after, counted_event, events_from}
 use Rattle.scenario.specs.declared.code.Code.TheVariants as bad
 use Rattle.scenario.specs.declared.counts.Counts.{Counts}
@@ -57,6 +57,15 @@ restart_from_host names systems words =
     behind_found (one_word words) _ _ (IsFromHost systems) (λ word _.
     behind_result (declared_word names word) _ (IsFromHost systems) (λ system _. tt))
 
+echo_from_host : (names : List (List ℕ)) (systems : List SystemConfiguration) (words : List (List ℕ)) → IfOk (echo_line names words) (IsFromHost systems)
+unfolding echo_line
+echo_from_host names systems words =
+    behind_found (four_words words) _ _ (IsFromHost systems) (λ w _.
+    behind_result (declared_word names w.0) _ (IsFromHost systems) (λ system _.
+    behind_result (address_word w.1) _ (IsFromHost systems) (λ from _.
+    behind_result (address_word w.2) _ (IsFromHost systems) (λ to _.
+    behind_result (data_word w.3) _ (IsFromHost systems) (λ body _. tt)))))
+
 event_from_host : (names : List (List ℕ)) (systems : List SystemConfiguration) (words : List (List ℕ)) → IfOk (event_line names systems words) (IsFromHost systems)
 unfolding event_line
 event_from_host names systems [] = tt
@@ -66,7 +75,8 @@ event_from_host names systems (keyword ∷ words) =
     (either_way (bytes_eq keyword (codes "settle")) _ _ (IsFromHost systems) (behind_result (count_line words) (λ count. Ok (Settle count)) (IsFromHost systems) (λ count _. tt))
     (either_way (bytes_eq keyword (codes "lose")) _ _ (IsFromHost systems) (behind_result (count_line words) (λ count. Ok (Lose count)) (IsFromHost systems) (λ count _. tt))
     (either_way (bytes_eq keyword (codes "tick")) _ _ (IsFromHost systems) (behind_result (tick_line words) (λ count. Ok (Tick count)) (IsFromHost systems) (λ count _. tt))
-    (either_way (bytes_eq keyword (codes "restart")) _ _ (IsFromHost systems) (restart_from_host names systems words) tt)))))
+    (either_way (bytes_eq keyword (codes "restart")) _ _ (IsFromHost systems) (restart_from_host names systems words)
+    (either_way (bytes_eq keyword (codes "echo")) _ _ (IsFromHost systems) (echo_from_host names systems words) tt))))))
 
 counted_from_host : (names : List (List ℕ)) (systems : List SystemConfiguration) (counts : Counts) (words : List (List ℕ))
     → IfOk (counted_event names systems counts words) (IsFromHost systems)

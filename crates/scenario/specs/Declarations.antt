@@ -1,4 +1,4 @@
--- The declarations of a scenario text: limits, subnetworks, systems, their addresses and their ports.
+-- The declarations of a scenario text: limits, subnetworks, systems, their addresses, their ports and their routes.
 use Rattle.std.specs.Prelude.{ℕ, ◌+◌, ◌==◌, ◌&&◌, ◌||◌, not, nat_le, nat_lt, nat_eq, Bool, true, false, if◌then◌else◌, List, [], ◌∷◌, ◌++◌, map, filter, length, slice_get, zero, suc, codes, Option, None, Some, is_some, Result, Ok, Err}
 use Rattle.std.specs.List.{list_any, list_all, flat_map, insert, count_by, range_with_len}
 use Rattle.std.specs.Str.{bytes_eq}
@@ -10,8 +10,10 @@ use Rattle.clnp_plan.specs.declared.config.PortConfig.{PortConfig}
 use Rattle.clnp_plan.specs.declared.config.Settings.{Settings}
 use Rattle.clnp_plan.specs.declared.config.Role.{Role}
 use Rattle.clnp_plan.specs.declared.config.Role.TheVariants.{Host, Router}
+use Rattle.forwarding.specs.Distinct as prefixes
+use Rattle.forwarding.specs.declared.route.Route.{Route}
 use Rattle.scenario.specs.Scenario.{Subnetwork}
-use Rattle.scenario.specs.Words.{◌>>=◌, wanted, found, name_word, declared_word, number_within, number_word, number_behind, is_digits, address_word, life_word, has_prefix, two_words, three_words, first_two, first_four, is_one_at_most, is_taken, each_once}
+use Rattle.scenario.specs.Words.{◌>>=◌, wanted, found, name_word, declared_word, number_within, number_word, number_behind, is_digits, address_word, prefix_word, life_word, has_prefix, two_words, three_words, five_words, first_two, first_four, is_one_at_most, is_taken, each_once}
 use Rattle.scenario.specs.declared.code.Code.{Code}
 use Rattle.scenario.specs.declared.code.Code.TheVariants as bad
 use Rattle.scenario.specs.declared.setting.Setting.{Setting}
@@ -30,6 +32,8 @@ pub record DeclaredSystem : Type 0 where
   pub addresses : List (List ℕ)
   -- in the order of their numbers
   pub ports : List NumberedPort
+  -- in the order of their lines
+  pub routes : List Route
 
 -- what the lines so far declare
 pub record Declarations : Type 0 where
@@ -181,7 +185,7 @@ system_line d words = do
   settings ← setting_words w.2
   _ ← wanted (not (is_taken (system_names d) name) && each_once key_of settings) bad.DupName
   _ ← wanted (nat_lt (length d.systems) 64) bad.Count
-  Ok (record d { systems = d.systems ++ record { name = name; role = role; settings = settings_of settings; addresses = []; ports = [] } ∷ [] })
+  Ok (record d { systems = d.systems ++ record { name = name; role = role; settings = settings_of settings; addresses = []; ports = []; routes = [] } ∷ [] })
 
 -- the most addresses that a system of a role has
 abbrev pub most_addresses : Role → ℕ
@@ -258,6 +262,65 @@ port_line d words = do
   _ ← wanted (takes_port (slice_get d.systems place)) bad.Count
   Ok (record d { systems = changed_at (with_port (record { number = number; port = record { subnet = subnet; snpa = snpa; transit = transit; mtu = mtu_at (slice_get d.subnets subnet) } })) place d.systems })
 
+abbrev pub is_router : Role → Bool
+is_router Host = false
+is_router Router = true
+
+-- whether a system is a router
+abbrev pub is_router_at : Option DeclaredSystem → Bool
+is_router_at None = false
+is_router_at (Some system) = is_router system.role
+
+-- the place of the router that a word names
+abbrev pub router_word : Declarations → List ℕ → Result ℕ Code
+router_word d word = do
+  place ← declared_word (system_names d) word
+  _ ← wanted (is_router_at (slice_get d.systems place)) bad.UnknownName
+  Ok place
+
+-- whether one of some ports has this number
+abbrev pub has_number : List NumberedPort → ℕ → Bool
+has_number ports number = list_any (λ numbered. numbered.number == number) ports
+
+-- whether a system has a port with this number
+abbrev pub has_numbered : ℕ → Option DeclaredSystem → Bool
+has_numbered number None = false
+has_numbered number (Some system) = has_number system.ports number
+
+-- the number of a port that a system has so far
+abbrev pub port_word : Option DeclaredSystem → List ℕ → Result ℕ Code
+port_word system word = do
+  number ← number_word 0 7 word
+  _ ← wanted (has_numbered number system) bad.UnknownName
+  Ok number
+
+-- whether a system has a route of this prefix
+abbrev pub has_route : List ℕ → Option DeclaredSystem → Bool
+has_route prefix None = false
+has_route prefix (Some system) = list_any (prefixes.has_prefix prefix) system.routes
+
+-- whether a router may have a route more
+abbrev pub takes_route : Option DeclaredSystem → Bool
+takes_route None = false
+takes_route (Some system) = nat_lt (length system.routes) 256
+
+-- a route stands behind those of earlier lines
+abbrev pub with_route : Route → DeclaredSystem → DeclaredSystem
+with_route route system = record system { routes = system.routes ++ route ∷ [] }
+
+-- `NAME PREFIX PORT SNPA TITLE`, behind `route`: a router has routes, and each leads out of a port of its own
+unfoldable pub route_line : Declarations → List (List ℕ) → Result Declarations Code
+route_line d words = do
+  w ← found (five_words words) bad.Syntax
+  place ← router_word d w.0
+  prefix ← prefix_word w.1
+  port ← port_word (slice_get d.systems place) w.2
+  snpa ← address_word w.3
+  title ← address_word w.4
+  _ ← wanted (not (has_route prefix (slice_get d.systems place))) bad.DupAddress
+  _ ← wanted (takes_route (slice_get d.systems place)) bad.Count
+  Ok (record d { systems = changed_at (with_route (record { prefix = prefix; port = port; snpa = snpa; title = title })) place d.systems })
+
 -- a line that declares something
 unfoldable pub declaration_line : Declarations → List (List ℕ) → Result Declarations Code
 declaration_line d [] = Err bad.Syntax
@@ -267,10 +330,8 @@ declaration_line d (keyword ∷ words) =
     else if bytes_eq keyword (codes "system") then system_line d words
     else if bytes_eq keyword (codes "address") then address_line d words
     else if bytes_eq keyword (codes "port") then port_line d words
+    else if bytes_eq keyword (codes "route") then route_line d words
     else Err bad.Syntax
-
-abbrev pub has_number : List NumberedPort → ℕ → Bool
-has_number ports number = list_any (λ numbered. numbered.number == number) ports
 
 -- whether ports are numbered from 0 without a gap
 abbrev pub have_no_gap : List NumberedPort → Bool
@@ -288,5 +349,6 @@ configuration_of system =
       role = system.role;
       addresses = system.addresses;
       ports = map (λ numbered. numbered.port) system.ports;
+      routes = system.routes;
       settings = system.settings;
     }

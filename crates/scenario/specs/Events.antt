@@ -7,12 +7,12 @@ use Rattle.clnp_plan.specs.declared.ask.Ask.{Ask}
 use Rattle.clnp_plan.specs.declared.config.Role.{Role}
 use Rattle.clnp_plan.specs.declared.config.Role.TheVariants.{Host, Router}
 use Rattle.scenario.specs.Scenario.{ticks_of}
-use Rattle.scenario.specs.Words.{◌>>=◌, wanted, found, literal, declared_word, number_word, address_word, data_word, life_word, options_word, has_prefix, one_word, two_words, first_four, each_once}
+use Rattle.scenario.specs.Words.{◌>>=◌, wanted, found, literal, declared_word, number_word, address_word, data_word, life_word, options_word, has_prefix, one_word, two_words, four_words, first_four, each_once}
 use Rattle.scenario.specs.declared.code.Code.{Code}
 use Rattle.scenario.specs.declared.code.Code.TheVariants as bad
 use Rattle.scenario.specs.declared.counts.Counts.{Counts}
 use Rattle.scenario.specs.declared.event.Event.{Event}
-use Rattle.scenario.specs.declared.event.Event.TheVariants.{Send, Deliver, Settle, Lose, Tick, Restart}
+use Rattle.scenario.specs.declared.event.Event.TheVariants.{Send, Deliver, Settle, Lose, Tick, Restart, Echo}
 use Rattle.scenario.specs.declared.wish.Wish.{Wish}
 use Rattle.scenario.specs.declared.wish.Wish.TheVariants.{Lasting, NoReport, Whole, Options}
 
@@ -120,6 +120,16 @@ restart_line names words = do
   system ← declared_word names word
   Ok (Restart system)
 
+-- `NAME FROM TO DATA`, behind `echo`: any system asks for an echo
+unfoldable pub echo_line : List (List ℕ) → List (List ℕ) → Result Event Code
+echo_line names words = do
+  w ← found (four_words words) bad.Syntax
+  system ← declared_word names w.0
+  from ← address_word w.1
+  to ← address_word w.2
+  body ← data_word w.3
+  Ok (Echo system from to body)
+
 -- `N`, behind `settle` and `lose`
 unfoldable pub count_line : List (List ℕ) → Result ℕ Code
 count_line words = found (one_word words) bad.Syntax >>= number_word 1 100000
@@ -133,6 +143,7 @@ event_line names systems (keyword ∷ words) =
     else if bytes_eq keyword (codes "lose") then (count_line words >>= λ count. Ok (Lose count))
     else if bytes_eq keyword (codes "tick") then (tick_line words >>= λ count. Ok (Tick count))
     else if bytes_eq keyword (codes "restart") then restart_line names words
+    else if bytes_eq keyword (codes "echo") then echo_line names words
     else Err bad.Syntax
 
 -- the copies that an event settles or loses

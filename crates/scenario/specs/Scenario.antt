@@ -1,6 +1,7 @@
 -- What a scenario text says: how long things last, the subnetworks and systems that it declares, and its events.
 use Rattle.std.specs.Prelude.{◌≡◌, ℕ, false, ◌+◌, ◌/◌, ◌%◌, ◌==◌, ◌<◌, ◌≤◌, List, [], ◌∷◌, ◌++◌, map, filter, length, slice_get, replicate, sum, Some, option_map, All}
 use Rattle.std.specs.List.{AllByRecursion, flat_map, range_with_len}
+use Rattle.hex.specs.Hex.{IsBytes}
 use Rattle.nsap.specs.Address.{IsAddress}
 use Rattle.clnp_options.specs.Grammar.{FitsKind}
 use Rattle.clnp_options.specs.Parameter.{parameters}
@@ -12,7 +13,7 @@ use Rattle.clnp_plan.specs.declared.config.Role.TheVariants.{Host}
 use Rattle.scenario.specs.declared.event.Body.{Body}
 use Rattle.scenario.specs.declared.event.Body.TheVariants.{Hex, Pattern}
 use Rattle.scenario.specs.declared.event.Event.{Event}
-use Rattle.scenario.specs.declared.event.Event.TheVariants.{Send, Deliver, Settle, Lose, Tick, Restart}
+use Rattle.scenario.specs.declared.event.Event.TheVariants.{Send, Deliver, Settle, Lose, Tick, Restart, Echo}
 use Rattle.scenario.specs.declared.event.Move.{Move}
 use Rattle.scenario.specs.declared.event.Move.TheVariants.{One, SettleOne, LoseOne, TickOne}
 
@@ -41,6 +42,7 @@ moves_of place (Tick count) = replicate count TickOne
 moves_of place (Send system from to body ask) = One place ∷ []
 moves_of place (Deliver copy system) = One place ∷ []
 moves_of place (Restart system) = One place ∷ []
+moves_of place (Echo system from to body) = One place ∷ []
 
 -- the moves of events, the first of them at a place
 abbrev pub moves_from : ℕ → List Event → List Move
@@ -57,9 +59,11 @@ abbrev pub AsksFairly : Event → Type 0
 AsksFairly (Send system from to body ask) = FitsKind false (parameters ask.options)
 AsksFairly _ = Unit {0}
 
--- an event that asks for a data unit asks for one that is formed as it should be
+-- An event that asks for a data unit asks for one that is formed as it should be; one that asks for an echo asks it between
+-- addresses, with data that are octets.
 abbrev pub AsksInForm : Event → Type 0
 AsksInForm (Send system from to body ask) = IsFormedAsk from to ask
+AsksInForm (Echo system from to body) = IsAddress from × IsAddress to × IsBytes (octets_of body)
 AsksInForm _ = Unit {0}
 
 -- each system that an event names is one of so many
@@ -67,6 +71,7 @@ abbrev pub IsPlaced : ℕ → Event → Type 0
 IsPlaced systems (Send system from to body ask) = system < systems
 IsPlaced systems (Deliver copy system) = system < systems
 IsPlaced systems (Restart system) = system < systems
+IsPlaced systems (Echo system from to body) = system < systems
 IsPlaced systems _ = Unit {0}
 
 -- the system of an event that asks for a data unit is a host

@@ -6,6 +6,7 @@ use Rattle.hex.specs.Hex.{decode_of}
 use Rattle.hex.specs.declared.error.FromHexError.{FromHexError}
 use Rattle.clnp_base.specs.Text.{decimal_of, is_digit}
 use Rattle.clnp_options.specs.Rules.{refusal}
+use Rattle.nsap.specs.Prefix.{prefix_of}
 use Rattle.nsap.specs.Text.{octets_of}
 use Rattle.nsap.specs.declared.fault.NsapFault.{NsapFault}
 use Rattle.scenario.specs.declared.code.Code.{Code}
@@ -72,6 +73,10 @@ address_read (Err fault) = Err bad.Address
 -- an NSAP address, or the address of a port on its subnetwork
 abbrev pub address_word : List ℕ → Result (List ℕ) Code
 address_word word = address_read (octets_of word)
+
+-- a prefix of NSAP addresses
+abbrev pub prefix_word : List ℕ → Result (List ℕ) Code
+prefix_word word = address_read (prefix_of word)
 
 -- what follows a prefix that ends in `:` or `=`
 abbrev pub after_prefix : List ℕ → List ℕ → Result (List ℕ) Code
@@ -148,6 +153,16 @@ two_words [] = None
 abbrev pub three_words : List (List ℕ) → Option (List ℕ × List ℕ × List ℕ)
 three_words (a ∷ words) = option_map (λ w. (a, w.0, w.1)) (two_words words)
 three_words [] = None
+
+-- exactly four words
+abbrev pub four_words : List (List ℕ) → Option (List ℕ × List ℕ × List ℕ × List ℕ)
+four_words (a ∷ words) = option_map (λ w. (a, w.0, w.1, w.2)) (three_words words)
+four_words [] = None
+
+-- exactly five words
+abbrev pub five_words : List (List ℕ) → Option (List ℕ × List ℕ × List ℕ × List ℕ × List ℕ)
+five_words (a ∷ words) = option_map (λ w. (a, w.0, w.1, w.2, w.3)) (four_words words)
+five_words [] = None
 
 -- no word or one
 abbrev pub is_one_at_most : List (List ℕ) → Bool

@@ -13,22 +13,24 @@ pub enum Code {
     Syntax = 2,
     /// A word that isn't decimal, or a number out of its range.
     Number = 3,
-    /// An address or hexadecimal text that isn't one.
+    /// An address, a prefix or hexadecimal text that isn't one.
     Address = 4,
-    /// A system or subnetwork that isn't declared, or a router where a host is needed.
+    /// A system, a subnetwork or a port that isn't declared, a router where a host is needed, or a
+    /// host where a router is.
     UnknownName = 5,
     /// A name that is declared already, a word or a line that may stand once and stands twice, or
     /// a second port of a system with the same number or on the same subnetwork.
     DupName = 6,
-    /// An address that a system has already, or an SNPA that stands already on its subnetwork.
+    /// An address that a system has already, an SNPA that stands already on its subnetwork, or a
+    /// prefix of which a router has a route already.
     DupAddress = 7,
     /// An identifier would rest for less than the time that a copy may be given and a buffer is
     /// kept.
     Limits = 8,
     /// An MTU that is decimal and out of its range.
     Mtu = 9,
-    /// Too many subnetworks, systems, addresses, ports, events, copies settled and lost, or ticks;
-    /// or a system that lacks an address or a port, or whose ports' numbers, from 0, have a gap.
+    /// Too many subnetworks, systems, addresses, ports, routes, events, copies settled and lost, or
+    /// ticks; or a system that lacks an address or a port, or whose ports' numbers, from 0, have a gap.
     Count = 10,
 }
 

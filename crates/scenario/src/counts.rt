@@ -51,8 +51,11 @@ fn passed_by(event: &Event) -> u32
 {
     match event {
         Event::Settle { count } | Event::Lose { count } => *count,
-        Event::Send { .. } | Event::Deliver { .. } | Event::Tick { .. } | Event::Restart { .. } =>
-            0,
+        Event::Send { .. }
+        | Event::Deliver { .. }
+        | Event::Tick { .. }
+        | Event::Restart { .. }
+        | Event::Echo { .. } => 0,
     }
 }
 
@@ -66,6 +69,7 @@ fn ticks_of(event: &Event) -> u32
         | Event::Deliver { .. }
         | Event::Settle { .. }
         | Event::Lose { .. }
-        | Event::Restart { .. } => 0,
+        | Event::Restart { .. }
+        | Event::Echo { .. } => 0,
     }
 }

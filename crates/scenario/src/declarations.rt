@@ -4,7 +4,7 @@ ghost use Rattle.std.specs.Cmp.Lexicographic.{pointwise};
 ghost use Rattle.std.specs.List.{position, list_any, list_all, flat_map};
 ghost use Rattle.std.specs.Str.{bytes_eq};
 ghost use Rattle.clnp_base.specs.Text.{words_of};
-ghost use Rattle.scenario.specs.Declarations.{nothing_declared, subnet_names, system_names, changed_at, is_among, has_port, snpas_on, takes_address, takes_port, mtu_at, with_address, with_port, settings_of, limits_line, limits_of, subnet_line, system_line, address_line, transit_word, port_line, declaration_line, is_complete};
+ghost use Rattle.scenario.specs.Declarations.{nothing_declared, subnet_names, system_names, changed_at, is_among, has_port, snpas_on, takes_address, takes_port, mtu_at, with_address, with_port, is_router_at, router_word, has_numbered, port_word, has_route, takes_route, with_route, settings_of, limits_line, limits_of, subnet_line, system_line, address_line, transit_word, port_line, route_line, declaration_line, is_complete};
 ghost use Rattle.scenario.specs.Words.{is_taken, declared_word};
 ghost use Rattle.scenario.specs.Refusal.{Faults};
 
@@ -14,12 +14,13 @@ use crate::plan::Subnet;
 use crate::setting::{each_once, setting_words, settings_of};
 use crate::system::{PortAt, System, role_word};
 use crate::word::{
-    address_word, declared, first_four, first_two, is_digits, is_name, is_one_at_most, mtu_word,
-    name_word, number_word, same, snpa_word, three_words, two_words, wanted,
+    address_word, declared, first_four, first_two, five_words, is_digits, is_name, is_one_at_most,
+    mtu_word, name_word, number_word, prefix_word, same, snpa_word, three_words, two_words, wanted,
 };
 use clnp_base::next_word;
 use clnp_plan::{Limits, PortConfig, Role, Settings};
-use nsap::{Address, Snpa};
+use forwarding::Route;
+use nsap::{Address, Prefix, Snpa};
 use std::alloc::Global;
 use std::marker::Model;
 
@@ -58,6 +59,15 @@ fn add_port(systems: &mut [System], place: usize, port: PortAt) -> Result<(), Li
 {
     let system = &mut systems[place];
     system.add_port(port)
+}
+
+/// Gives the system at a place a route.
+fn add_route(systems: &mut [System], place: usize, route: Route) -> Result<(), LineFault>
+    requires { place < length systems.old }
+    ensures { MatchResult result (λ _. systems.new ≡ changed_at (with_route route) place systems.old) (λ fault. fault ≡ LineFault.NoMemory) }
+{
+    let system = &mut systems[place];
+    system.add_route(route)
 }
 
 /// Whether one of the systems has this address.
@@ -226,7 +236,7 @@ impl Declared {
         line: &'a [u8],
     ) -> Result<(&'a [u8], Role, Settings), LineFault>
         ensures reading { MatchResult result
-            (λ r. system_line self.now (words_of line.now) ≡ Ok (record self.now { systems = self.now.systems ++ record { name = r.0.now; role = r.1; settings = r.2; addresses = []; ports = [] } ∷ [] }))
+            (λ r. system_line self.now (words_of line.now) ≡ Ok (record self.now { systems = self.now.systems ++ record { name = r.0.now; role = r.1; settings = r.2; addresses = []; ports = []; routes = [] } ∷ [] }))
             (λ fault. Faults fault (system_line self.now (words_of line.now))) }
         ensures room { IfOk result (λ _. length self.now.systems < 64) }
     {
@@ -394,6 +404,105 @@ impl Declared {
         add_port(&mut self.systems, place, port)
     }
 
+    /// Whether the system at a place is a router.
+    fn is_router_at(&self, place: usize) -> bool
+        ensures { result ≡ is_router_at (slice_get self.now.systems place) }
+    {
+        match self.systems.get(place) {
+            Some(system) => system.is_router(),
+            None => false,
+        }
+    }
+
+    /// The place of the router that a word names.
+    fn router_word(&self, word: &[u8]) -> Result<usize, Code>
+        ensures place { result ≡ router_word self.now word.now }
+        ensures within { IfOk result (λ place. place < length self.now.systems) }
+    {
+        let place = self.system_word(word)?;
+        wanted(self.is_router_at(place), Code::UnknownName)?;
+        Ok(place)
+    }
+
+    /// Whether the system at a place has a port with this number.
+    fn has_numbered(&self, place: usize, number: u8) -> bool
+        ensures { result ≡ has_numbered number (slice_get self.now.systems place) }
+    {
+        match self.systems.get(place) {
+            Some(system) => system.has_number(number),
+            None => false,
+        }
+    }
+
+    /// The number of a port that the system at a place has so far.
+    fn port_word(&self, place: usize, word: &[u8]) -> Result<u8, Code>
+        ensures { result ≡ port_word (slice_get self.now.systems place) word.now }
+    {
+        let number = number_word(0, 7, word)? as u8;
+        wanted(self.has_numbered(place, number), Code::UnknownName)?;
+        Ok(number)
+    }
+
+    /// Whether the system at a place has a route of this prefix.
+    fn has_route(&self, place: usize, prefix: &Prefix) -> bool
+        ensures { result ≡ has_route prefix.now (slice_get self.now.systems place) }
+    {
+        match self.systems.get(place) {
+            Some(system) => system.has_route(prefix),
+            None => false,
+        }
+    }
+
+    /// Whether the system at a place may have a route more.
+    fn takes_route(&self, place: usize) -> bool
+        ensures { result ≡ takes_route (slice_get self.now.systems place) }
+    {
+        match self.systems.get(place) {
+            Some(system) => system.takes_route(),
+            None => false,
+        }
+    }
+
+    /// The place of the router and the route that `NAME PREFIX PORT SNPA TITLE` gives it (ISO/IEC 8473,
+    /// section 6.5).
+    #[tactic(auto, unfolding(crate::specs::Declarations::route_line))]
+    fn route_of(&self, line: &[u8]) -> Result<(usize, Route), Code>
+        ensures reading { MatchResult result
+            (λ r. route_line self.now (words_of line.now) ≡ Ok (record self.now { systems = changed_at (with_route r.1) r.0 self.now.systems }))
+            (λ code. route_line self.now (words_of line.now) ≡ Err code) }
+        ensures within { IfOk result (λ r. r.0 < length self.now.systems) }
+    {
+        let Some((name, prefix, port, snpa, title)) = five_words(line) else {
+            return Err(Code::Syntax);
+        };
+        let place = self.router_word(name)?;
+        let prefix = prefix_word(prefix)?;
+        let port = self.port_word(place, port)?;
+        let snpa = snpa_word(snpa)?;
+        let title = address_word(title)?;
+        wanted(!self.has_route(place, &prefix), Code::DupAddress)?;
+        wanted(self.takes_route(place), Code::Count)?;
+        let route = Route {
+            prefix,
+            port,
+            snpa,
+            title,
+        };
+        Ok((place, route))
+    }
+
+    /// `NAME PREFIX PORT SNPA TITLE`, behind `route`.
+    pub(crate) fn route_line(&mut self, line: &[u8]) -> Result<(), LineFault>
+        ensures { let reading = route_line self.old (words_of line.now) in
+            MatchResult result (λ _. reading ≡ Ok self.new) (λ fault. Faults fault reading) }
+    {
+        let (place, route) = match self.route_of(line) {
+            Ok((place, route)) => (place, route),
+            Err(code) => return Err(LineFault::Broken(code)),
+        };
+        add_route(&mut self.systems, place, route)
+    }
+
     /// A line that declares something.
     #[tactic(auto, unfolding(crate::specs::Declarations::declaration_line))]
     pub(crate) fn declare(&mut self, alloc: Global, line: &[u8]) -> Result<(), LineFault>
@@ -417,6 +526,9 @@ impl Declared {
         }
         if same(keyword, b"port") {
             return self.port_line(words);
+        }
+        if same(keyword, b"route") {
+            return self.route_line(words);
         }
         Err(LineFault::Broken(Code::Syntax))
     }

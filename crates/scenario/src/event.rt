@@ -43,6 +43,13 @@ pub enum Event {
     Restart {
         system: u8,
     },
+    /// A system is asked to send an echo request (RFC 1575).
+    Echo {
+        system: u8,
+        from: Address,
+        to: Address,
+        body: Body,
+    },
 }
 
 /// One move of the simulated network.

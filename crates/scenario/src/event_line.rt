@@ -3,7 +3,7 @@ ghost use Rattle.std.specs.Prelude.{◌≡◌, ◌<◌, ◌≤◌, map, length, 
 ghost use Rattle.std.specs.List.{position};
 ghost use Rattle.std.specs.Str.{bytes_eq};
 ghost use Rattle.clnp_base.specs.Text.{words_of};
-ghost use Rattle.scenario.specs.Events.{own_life, is_host, is_host_at, host_word, send_line, deliver_line, count_line, tick_line, restart_line, event_line};
+ghost use Rattle.scenario.specs.Events.{own_life, is_host, is_host_at, host_word, send_line, deliver_line, count_line, tick_line, restart_line, echo_line, event_line};
 ghost use Rattle.scenario.specs.Words.{declared_word};
 ghost use Rattle.scenario.specs.Refusal.{Faults};
 
@@ -12,7 +12,8 @@ use crate::event::Event;
 use crate::fault::LineFault;
 use crate::wish::{ask_of, each_once, wish_words};
 use crate::word::{
-    address_word, data_word, first_four, is_name, number_word, one_word, same, two_words, wanted,
+    address_word, data_word, first_four, four_words, is_name, number_word, one_word, same,
+    two_words, wanted,
 };
 use clnp_base::next_word;
 use clnp_plan::{Role, SystemConfig};
@@ -160,6 +161,28 @@ fn restart_line(systems: &[SystemConfig], line: &[u8]) -> Result<Event, Code>
     Ok(Event::Restart { system })
 }
 
+/// `NAME FROM TO DATA`, behind `echo`.
+#[tactic(auto, unfolding(crate::specs::Events::echo_line))]
+fn echo_line(alloc: Global, systems: &[SystemConfig], line: &[u8]) -> Result<Event, LineFault>
+    requires { length systems.now ≤ 64 }
+    ensures { let reading = echo_line (map (λ system. system.name) systems.now) (words_of line.now) in
+        MatchResult result (λ event. reading ≡ Ok event) (λ fault. Faults fault reading) }
+{
+    let Some((name, from, to, body)) = four_words(line) else {
+        return Err(LineFault::Broken(Code::Syntax));
+    };
+    let system = system_word(systems, name)?;
+    let from = address_word(from)?;
+    let to = address_word(to)?;
+    let body = data_word(alloc, body)?;
+    Ok(Event::Echo {
+        system,
+        from,
+        to,
+        body,
+    })
+}
+
 /// The event of a line.
 #[tactic(auto, unfolding(crate::specs::Events::event_line))]
 pub(crate) fn event_line(
@@ -200,6 +223,9 @@ pub(crate) fn event_line(
             Ok(event) => Ok(event),
             Err(code) => Err(LineFault::Broken(code)),
         };
+    }
+    if same(keyword, b"echo") {
+        return echo_line(alloc, systems, line);
     }
     Err(LineFault::Broken(Code::Syntax))
 }

@@ -32,8 +32,8 @@ impl Subnet {
 
 /// What a text declares, and its events. A contract knows of each that it is fit to be run: its limits, settings
 /// and numbers are in their ranges, each system has what its role calls for, no name, address or SNPA on a
-/// subnetwork stands twice, each port is on a declared subnetwork and has its MTU, events name declared systems,
-/// and hosts alone are asked to send.
+/// subnetwork stands twice, and no prefix at a router, each port is on a declared subnetwork and has its MTU, each
+/// route leads out of a port that is there, events name declared systems, and hosts alone are asked to send.
 #[derive(Debug, Drop)]
 pub struct Scenario {
     pub(crate) limits: Limits,

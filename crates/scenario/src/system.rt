@@ -3,13 +3,15 @@ ghost use Rattle.std.specs.Prelude.{◌≡◌, ◌≤◌, ◌==◌, ◌&&◌, �
 ghost use Rattle.std.specs.List.{list_any};
 ghost use Rattle.std.specs.Cmp.Lexicographic.{pointwise};
 ghost use Rattle.clnp_plan.specs.Configuration.{IsSystem};
-ghost use Rattle.scenario.specs.Declarations.{is_among, role_word, most_addresses, most_ports, takes_address, takes_port, count_below, with_address, with_port, has_number, have_no_gap, is_complete, configuration_of};
+ghost use Rattle.forwarding.specs.Distinct as prefixes;
+ghost use Rattle.scenario.specs.Declarations.{is_among, role_word, most_addresses, most_ports, is_router, takes_address, takes_port, takes_route, count_below, with_address, with_port, with_route, has_number, have_no_gap, is_complete, configuration_of};
 
 use crate::code::Code;
 use crate::fault::LineFault;
 use crate::word::same;
 use clnp_plan::{PortConfig, Role, Settings, SystemConfig};
-use nsap::{Address, Snpa};
+use forwarding::Route;
+use nsap::{Address, Prefix, Snpa};
 use std::alloc::{AllocError, Global};
 use std::marker::Model;
 
@@ -77,6 +79,19 @@ fn most_ports(role: Role) -> usize
     }
 }
 
+fn is_router(role: Role) -> bool
+    ensures { result ≡ is_router role }
+{
+    matches!(role, Role::Router)
+}
+
+/// Whether a route has this prefix.
+fn has_prefix(route: &Route, prefix: &Prefix) -> bool
+    ensures { result ≡ prefixes.has_prefix prefix.now route.now }
+{
+    route.prefix == *prefix
+}
+
 /// How many of some ports have a lower number.
 fn count_below(number: u8, ports: &[PortAt]) -> usize
     ensures below { result ≡ count_below number ports.now }
@@ -85,7 +100,7 @@ fn count_below(number: u8, ports: &[PortAt]) -> usize
     ports.iter().filter(|port| port.number < number).count()
 }
 
-/// What is declared of a system, its ports in the order of their numbers.
+/// What is declared of a system, its ports in the order of their numbers, its routes in that of their lines.
 #[derive(Drop)]
 pub(crate) struct System {
     name: Vec<u8>,
@@ -93,6 +108,7 @@ pub(crate) struct System {
     settings: Settings,
     addresses: Vec<Address>,
     ports: Vec<PortAt>,
+    routes: Vec<Route>,
 }
 
 impl Model for System {
@@ -106,13 +122,14 @@ impl Model for System {
       settings = s.settings;
       addresses = s.addresses.items;
       ports = s.ports.items;
+      routes = s.routes.items;
     } };
 }
 
 impl System {
-    /// A system with neither an address nor a port.
+    /// A system with neither an address nor a port nor a route.
     pub(crate) fn new(alloc: Global, name: Vec<u8>, role: Role, settings: Settings) -> System
-        ensures { result ≡ record { name = name.items; role = role; settings = settings; addresses = []; ports = [] } }
+        ensures { result ≡ record { name = name.items; role = role; settings = settings; addresses = []; ports = []; routes = [] } }
     {
         System {
             name,
@@ -120,6 +137,7 @@ impl System {
             settings,
             addresses: Vec::new(alloc),
             ports: Vec::new(alloc),
+            routes: Vec::new(alloc),
         }
     }
 
@@ -141,6 +159,34 @@ impl System {
         ensures { result ≡ takes_port (Some self.now) }
     {
         self.ports.len() < most_ports(self.role)
+    }
+
+    /// Whether it is a router.
+    pub(crate) fn is_router(&self) -> bool
+        ensures { result ≡ is_router self.now.role }
+    {
+        is_router(self.role)
+    }
+
+    /// Whether it may have a route more.
+    pub(crate) fn takes_route(&self) -> bool
+        ensures { result ≡ takes_route (Some self.now) }
+    {
+        self.routes.len() < 256
+    }
+
+    /// Whether it has a route of this prefix.
+    pub(crate) fn has_route(&self, prefix: &Prefix) -> bool
+        ensures { result ≡ list_any (prefixes.has_prefix prefix.now) self.now.routes }
+    {
+        self.routes.iter().any(|route| has_prefix(route, prefix))
+    }
+
+    /// Whether it has a port with this number.
+    pub(crate) fn has_number(&self, number: u8) -> bool
+        ensures { result ≡ has_number self.now.ports number }
+    {
+        has_number(&self.ports, usize::from(number))
     }
 
     /// Whether it has this address.
@@ -179,6 +225,13 @@ impl System {
         Ok(())
     }
 
+    pub(crate) fn add_route(&mut self, route: Route) -> Result<(), LineFault>
+        ensures { MatchResult result (λ _. self.new ≡ with_route route self.old) (λ fault. fault ≡ LineFault.NoMemory) }
+    {
+        self.routes.push(route)?;
+        Ok(())
+    }
+
     /// Whether it has all that it must: an address and a port at least, and its ports numbered from 0
     /// without a gap.
     pub(crate) fn is_complete(&self) -> bool
@@ -199,8 +252,9 @@ impl System {
             settings,
             addresses,
             ports: _,
+            routes,
         } = self;
-        Ok(SystemConfig::new(name, role, addresses, ports, settings))
+        Ok(SystemConfig::new(name, role, addresses, ports, routes, settings))
     }
 }
 

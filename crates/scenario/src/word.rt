@@ -4,7 +4,7 @@ ghost use Rattle.std.specs.Str.{bytes_eq};
 ghost use Rattle.std.specs.List.{list_all, list_any, position};
 ghost use Rattle.clnp_base.specs.Text.{words_of, is_digit, decimal_of};
 ghost use Rattle.scenario.specs.Grammar.{is_line_of};
-ghost use Rattle.scenario.specs.Words.{one_word, two_words, three_words, first_two, first_four, is_one_at_most, wanted, found, literal, is_letter_or_digit, begins_with_letter, is_name, is_digits, is_skipped, number_within, name_word, number_word, address_word, has_prefix, after_prefix, octets_behind, number_behind, is_colon, two_fields, pattern_word, data_word, life_word, options_read, options_word};
+ghost use Rattle.scenario.specs.Words.{one_word, two_words, three_words, four_words, five_words, first_two, first_four, is_one_at_most, wanted, found, literal, is_letter_or_digit, begins_with_letter, is_name, is_digits, is_skipped, number_within, name_word, number_word, address_word, prefix_word, has_prefix, after_prefix, octets_behind, number_behind, is_colon, two_fields, pattern_word, data_word, life_word, options_read, options_word};
 ghost use Rattle.scenario.specs.Refusal.{Faults};
 ghost use Rattle.scenario.specs.declared.code.Code.TheVariants as bad;
 
@@ -13,7 +13,7 @@ use crate::event::Body;
 use crate::fault::LineFault;
 use clnp_base::{Octets, decimal, next_word};
 use clnp_options::OptionList;
-use nsap::{Address, Snpa};
+use nsap::{Address, Prefix, Snpa};
 use std::alloc::Global;
 
 /// The word of a line that has one word.
@@ -45,6 +45,26 @@ pub(crate) fn three_words(line: &[u8]) -> Option<(&[u8], &[u8], &[u8])>
     let (a, line) = next_word(line)?;
     let (b, c) = two_words(line)?;
     Some((a, b, c))
+}
+
+/// The words of a line that has four words.
+pub(crate) fn four_words(line: &[u8]) -> Option<(&[u8], &[u8], &[u8], &[u8])>
+    ensures { MatchOption result (four_words (words_of line.now) ≡ None)
+        (λ words. four_words (words_of line.now) ≡ Some (words.0.now, words.1.now, words.2.now, words.3.now)) }
+{
+    let (a, line) = next_word(line)?;
+    let (b, c, d) = three_words(line)?;
+    Some((a, b, c, d))
+}
+
+/// The words of a line that has five words.
+pub(crate) fn five_words(line: &[u8]) -> Option<(&[u8], &[u8], &[u8], &[u8], &[u8])>
+    ensures { MatchOption result (five_words (words_of line.now) ≡ None)
+        (λ words. five_words (words_of line.now) ≡ Some (words.0.now, words.1.now, words.2.now, words.3.now, words.4.now)) }
+{
+    let (a, line) = next_word(line)?;
+    let (b, c, d, e) = four_words(line)?;
+    Some((a, b, c, d, e))
 }
 
 /// Whether a line has no word or one.
@@ -241,6 +261,16 @@ pub(crate) fn snpa_word(word: &[u8]) -> Result<Snpa, Code>
 {
     match Snpa::from_text(word) {
         Ok(snpa) => Ok(snpa),
+        Err(_) => Err(Code::Address),
+    }
+}
+
+/// A prefix of NSAP addresses.
+pub(crate) fn prefix_word(word: &[u8]) -> Result<Prefix, Code>
+    ensures { result ≡ prefix_word word.now }
+{
+    match Prefix::from_text(word) {
+        Ok(prefix) => Ok(prefix),
         Err(_) => Err(Code::Address),
     }
 }

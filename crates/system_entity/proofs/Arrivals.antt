@@ -1,5 +1,5 @@
 -- What the decoders say of a frame determines what comes of it.
-use Rattle.std.proofs.Common.{◌≡◌, ◌≢◌, ◌∙◌, refl, sym, ap, subst, ℕ, Bool, true, false, Option, Some, None, List, ◌++◌, cond, option_map, arith}
+use Rattle.std.proofs.Common.{◌≡◌, ◌≢◌, ◌∙◌, refl, sym, ap, subst, ℕ, Bool, true, false, Option, Some, None, List, ◌++◌, length, cond, option_map, arith}
 use Rattle.std.specs.Prelude.{◌==◌}
 use Rattle.std.proofs.lemmas.Bool.{ne_eqb}
 use Rattle.clnp_options.specs.declared.judge.OptionRefusal.{OptionRefusal}
@@ -9,7 +9,10 @@ use Rattle.pdu_header.specs.declared.pdu.Refusal.TheVariants as refused
 use Rattle.pdu_header.specs.Value.{PduValue}
 use Rattle.pdu_header.specs.Grammar.{BeginsWith}
 use Rattle.pdu_header.specs.Rules.{octet, refusal}
-use Rattle.pdu_header.specs.View.{told, why_refused}
+use Rattle.pdu_header.specs.View.{pdu_value, told, why_refused}
+use Rattle.pdu_header.specs.Headers.{SpellsHeader}
+use Rattle.pdu_header.specs.declared.pdu.Pdu.{Pdu}
+use Rattle.system_entity.specs.Comes.{HasValue}
 use Rattle.esis_pdus.specs.declared.pdu.EsisRefusal.{EsisRefusal}
 use Rattle.esis_pdus.specs.Grammar as esis
 use Rattle.esis_pdus.specs.Rules as esis_rules
@@ -33,17 +36,27 @@ BeginsAsClnp = (p : Packet) (following : List ℕ) → IsCarriable p → octet (
 -- the PDU at the front of a frame is the packet's that it carries
 pub packet_found : CarriesOnePacket → BeginsAsEsis → (P : Content → Type 0) (frame : List ℕ) (v : PduValue) (rest : List ℕ) → BeginsWith frame v rest
     → octet frame 1 ≡ 0x81 → (content : Content) → IsCarried content → frame_of content ≡ frame
-    → ((p : Packet) (following : List ℕ) → IsCarriable p → frame ≡ wire p ++ following → p.lifetime ≡ v.lifetime → p.unit.destination ≡ v.destination
-    → P (Labelled p following))
+    → ((p : Packet) (following : List ℕ) → IsCarriable p → frame ≡ wire p ++ following → v ≡ value_of p → P (Labelled p following))
     → P content
 packet_found one begun P frame v rest begins at (Labelled p following) carriable e for_packet =
     let same : v ≡ value_of p = (one p following v rest carriable (subst (λ (f : List ℕ). BeginsWith f v rest) (sym e) begins)).0 in
-    for_packet p following carriable (sym e) (ap (λ (w : PduValue). w.lifetime) (sym same)) (ap (λ (w : PduValue). w.destination) (sym same))
+    for_packet p following carriable (sym e) same
 packet_found one begun P frame v rest begins at (Esis value following) pdu e for_packet =
     let other : octet frame 1 ≡ 0x82 = ap (λ (f : List ℕ). octet f 1) (sym e) ∙ begun value following pdu in
     absurd (omega arith)
 packet_found one begun P frame v rest begins at (Unlabelled octets) none e for_packet =
     absurd (none.clnp v rest (record { octets = begins.octets; spells = begins.spells; split = e ∙ begins.split }))
+
+-- what is needed of a PDU that was read has its value
+pub of_value : (pdu : Pdu) (head : List ℕ) (len : ℕ) → SpellsHeader (pdu_value pdu) pdu.head.now → head ≡ pdu.head.now
+    → len ≡ length pdu.body.now → HasValue (record { to = pdu.to; life = pdu.life; head = head; len = len }) (pdu_value pdu)
+of_value pdu head len spells of count =
+    record {
+      destination = refl;
+      lifetime = refl;
+      header = subst (λ (octets : List ℕ). SpellsHeader (pdu_value pdu) octets) (sym of) spells;
+      len = sym count;
+    }
 
 -- the reason and the place that a refusal tells
 abbrev reason_in : Refusal → ℕ

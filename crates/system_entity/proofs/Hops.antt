@@ -1,12 +1,21 @@
 -- Where a system sends, by its role.
-use Rattle.std.proofs.Common.{◌≡◌, ◌∙◌, sym, ap, ℕ, List, Option, Some, option_map}
+use Rattle.std.proofs.Common.{◌≡◌, ◌∙◌, sym, ap, ℕ, Bool, true, false, List, Option, None, Some, option_map}
+use Rattle.std.specs.Option.{option_or}
+use Rattle.std.specs.Prelude.{if◌then◌else◌}
 use Rattle.esis_tables.specs.declared.fact.Place.{Place}
 use Rattle.esis_tables.specs.declared.fact.TableKind.TheVariants.{Es}
 use Rattle.esis_tables.specs.NextHop as heard
 use Rattle.clnp_plan.specs.declared.config.Role.{Role}
 use Rattle.clnp_plan.specs.declared.config.Role.TheVariants.{Host, Router}
-use Rattle.clnp_machine.specs.Step.{hop_of, hop_to, host_hop, next_hop}
+use Rattle.clnp_machine.specs.Local.{is_own}
+use Rattle.clnp_machine.specs.Step as machine
+use Rattle.clnp_machine.specs.Step.{Hop, by_route, hop_by, hop_of, host_hop, is_to_itself, next_hop, to_neighbour, unit_hop, way_of}
 use Rattle.clnp_machine.specs.System.{SystemState}
+use Rattle.clnp_machine.specs.Unit.{Unit as DataUnit}
+use Rattle.forwarding.specs.Longest.{longest}
+use Rattle.forwarding.specs.declared.route.Route.{Route}
+use Rattle.system_entity.specs.Ways.{way_option}
+use Rattle.system_entity.specs.declared.way.Way.{Way}
 
 -- a host's hop follows from what it heard
 pub of_host : (s : SystemState) (now : ℕ) (to : List ℕ) (place : Option Place) → s.configuration.role ≡ Host → now ≡ s.moment
@@ -15,9 +24,40 @@ of_host s now to place role same is =
     ap (λ (p : Option Place). Some (host_hop p)) (is ∙ ap (λ (m : ℕ). heard.next_hop m to s.facts) same)
     ∙ ap (λ (r : Role). hop_of r s to) (sym role)
 
--- a router's is its neighbour
-pub of_router : (s : SystemState) (now : ℕ) (to : List ℕ) (place : Option Place) → s.configuration.role ≡ Router → now ≡ s.moment
-    → place ≡ heard.current_place now Es to s.facts → option_map hop_to place ≡ next_hop s to
-of_router s now to place role same is =
-    ap (λ (p : Option Place). option_map hop_to p) (is ∙ ap (λ (m : ℕ). heard.current_place m Es to s.facts) same)
-    ∙ ap (λ (r : Role). hop_of r s to) (sym role)
+-- a router's is on its way
+pub of_router : (s : SystemState) (to : List ℕ) (way : Option Way) → s.configuration.role ≡ Router → way_option way ≡ way_of s to
+    → option_map hop_by (way_option way) ≡ next_hop s to
+of_router s to way role is =
+    ap (λ (w : Option machine.Way). option_map hop_by w) is ∙ ap (λ (r : Role). hop_of r s to) (sym role)
+
+-- a system that was heard of is on the way
+pub way_heard : (s : SystemState) (now : ℕ) (to : List ℕ) (place : Place) → now ≡ s.moment
+    → Some place ≡ heard.current_place now Es to s.facts → Some (to_neighbour place) ≡ way_of s to
+way_heard s now to place same is =
+    let there : Some place ≡ heard.current_place s.moment Es to s.facts = is ∙ ap (λ (m : ℕ). heard.current_place m Es to s.facts) same in
+    ap (λ (p : Option Place). option_or (option_map to_neighbour p) (option_map by_route (longest to s.configuration.routes))) there
+
+-- else the longest route is
+pub way_routed : (s : SystemState) (now : ℕ) (to : List ℕ) (route : Option Route) → now ≡ s.moment
+    → (let none : Option Place = None in none) ≡ heard.current_place now Es to s.facts → route ≡ longest to s.configuration.routes
+    → option_map by_route route ≡ way_of s to
+way_routed s now to route same none is =
+    let there = none ∙ ap (λ (m : ℕ). heard.current_place m Es to s.facts) same in
+    ap (λ (r : Option Route). option_map by_route r) is
+    ∙ ap (λ (p : Option Place). option_or (option_map to_neighbour p) (option_map by_route (longest to s.configuration.routes))) there
+
+-- ---- units of its own
+
+-- a router has no way for a unit that is for itself
+pub to_itself : (s : SystemState) (u : DataUnit) → s.configuration.role ≡ Router → is_own s u.destination ≡ true
+    → (let none : Option Hop = None in none) ≡ unit_hop s u
+to_itself s u role own =
+    ap (λ (b : Bool). if b then None else next_hop s u.destination) (sym own)
+    ∙ ap (λ (r : Role). if is_to_itself r s u then None else next_hop s u.destination) (sym role)
+
+-- another goes by the next hop
+pub to_another : (s : SystemState) (u : DataUnit) (role : Role) → s.configuration.role ≡ role → is_to_itself role s u ≡ false
+    → next_hop s u.destination ≡ unit_hop s u
+to_another s u role is other =
+    ap (λ (b : Bool). if b then None else next_hop s u.destination) (sym other)
+    ∙ ap (λ (r : Role). if is_to_itself r s u then None else next_hop s u.destination) (sym is)

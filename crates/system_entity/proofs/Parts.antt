@@ -5,12 +5,12 @@ use Rattle.reassembly.specs.Buffer.{Buffer}
 use Rattle.reassembly.specs.Mapped.{map_buffers}
 use Rattle.clnp_plan.specs.Configuration.{SystemConfiguration}
 use Rattle.clnp_machine.specs.Identifiers.{Identifiers}
-use Rattle.clnp_machine.specs.Local.{Deed, Sends, Tells, made_in}
+use Rattle.clnp_machine.specs.Local.{Deed, IsAsOffered, Sends, Tells, made_in}
 use Rattle.clnp_machine.specs.Local as machine
 use Rattle.clnp_machine.specs.Steps as steps
 use Rattle.clnp_machine.specs.Steps.{IsDeed, LeavesTheRest, OnlyHellos}
 use Rattle.clnp_machine.specs.System.{SystemState, Effect, table_limits}
-use Rattle.clnp_machine.specs.Unit.{Packet, wire}
+use Rattle.clnp_machine.specs.Unit.{Packet, Unit, wire}
 use Rattle.clnp_machine.specs.Esis.{esis_limits}
 use Rattle.esis_entity.specs.State.{EsisState}
 use Rattle.esis_entity.specs.Stands as esis_entity
@@ -30,6 +30,7 @@ pub record KeepsLocal (s t : SystemState) : Type 0 where
   pub count : t.count ≡ s.count
   pub identifiers : t.identifiers ≡ s.identifiers
   pub buffers : t.buffers ≡ s.buffers
+  pub pending : t.pending ≡ s.pending
 
 pub local_same : (here : EntityState) (s t : SystemState) → KeepsLocal s t → local_entity.Stands here s → local_entity.Stands here t
 local_same here s t k h =
@@ -44,17 +45,18 @@ local_same here s t k h =
       buffers = h.buffers;
       table = h.table;
       shown = h.shown ∙ ap (λ (buffers : List (Buffer Packet)). map_buffers wire buffers) (sym k.buffers);
-      packets = subst (λ (buffers : List (Buffer Packet)). AllByRecursion (λ (buffer : Buffer Packet). AllByRecursion local_entity.IsAsOffered buffer.kept) buffers)
+      packets = subst (λ (buffers : List (Buffer Packet)). AllByRecursion (λ (buffer : Buffer Packet). AllByRecursion IsAsOffered buffer.kept) buffers)
           (sym k.buffers) h.packets;
+      pending = subst (λ (requests : List Unit). local_entity.AreRequests here.pending requests) (sym k.pending) h.pending;
     }
 
 pub keeps_rest : (s t : SystemState) → LeavesTheRest s t → KeepsLocal s t
 keeps_rest s t h =
-    record { configuration = h.configuration; hold = h.hold; count = h.count; identifiers = h.identifiers; buffers = h.buffers }
+    record { configuration = h.configuration; hold = h.hold; count = h.count; identifiers = h.identifiers; buffers = h.buffers; pending = h.pending }
 
 -- an entity's state has no moment of its own
 pub keeps_moment : (s : SystemState) (now : ℕ) → KeepsLocal s (machine.at_moment now s)
-keeps_moment s now = record { configuration = refl; hold = refl; count = refl; identifiers = refl; buffers = refl }
+keeps_moment s now = record { configuration = refl; hold = refl; count = refl; identifiers = refl; buffers = refl; pending = refl }
 
 -- what it heard and says keeps
 pub esis_same : (before : ℕ) (here : EsisState) (s t : SystemState) → t.configuration ≡ s.configuration → t.facts ≡ s.facts → t.hello ≡ s.hello

@@ -1,5 +1,8 @@
 -- What came of a frame.
-use Rattle.std.specs.Prelude.{◌≡◌, ◌==◌, ℕ, Bool, false, List}
+use Rattle.std.specs.Prelude.{◌≡◌, ◌==◌, ℕ, Bool, false, List, length}
+use Rattle.pdu_header.specs.Grammar.{BeginsWith}
+use Rattle.pdu_header.specs.Headers.{SpellsHeader}
+use Rattle.pdu_header.specs.Value.{PduValue}
 use Rattle.esis_tables.specs.declared.fact.Place.{Place}
 use Rattle.clnp_plan.specs.declared.output.Output.{Output}
 use Rattle.clnp_machine.specs.Content.{Content, Labelled}
@@ -7,11 +10,12 @@ use Rattle.clnp_machine.specs.Given.{Appends}
 use Rattle.clnp_machine.specs.Local.{is_own}
 use Rattle.clnp_machine.specs.Step.{content_comes}
 use Rattle.clnp_machine.specs.System.{SystemState}
-use Rattle.clnp_machine.specs.Unit.{Packet, IsCarriable}
+use Rattle.clnp_machine.specs.Unit.{Packet, IsCarriable, value_of}
 use Rattle.system_entity.specs.State.{SystemEntityState}
 use Rattle.system_entity.specs.Stands.{PartsStand}
 use Rattle.system_entity.specs.declared.entity.Arrival.{Arrival}
 use Rattle.system_entity.specs.declared.entity.Arrival.TheVariants.{Done, Passes}
+use Rattle.system_entity.specs.declared.passing.Passing.{Passing}
 
 -- all was done that the system does, and given out
 pub record IsDone (s : SystemState) (place : Place) (group : Bool) (content : Content) (entity : SystemEntityState)
@@ -19,21 +23,40 @@ pub record IsDone (s : SystemState) (place : Place) (group : Bool) (content : Co
   pub parts : PartsStand entity (content_comes s place group content).after
   pub outputs : Appends s.moment before after (content_comes s place group content).outputs
 
+-- a PDU that passes by has this value
+pub record HasValue (passing : Passing) (v : PduValue) : Type 0 where
+  pub destination : v.destination ≡ passing.to
+  pub lifetime : v.lifetime ≡ passing.life
+  pub header : SpellsHeader v passing.head
+  pub len : length v.body ≡ passing.len
+
+-- it stands at the front of the frame: the header, the data, and what follows them
+pub record IsAtFront (passing : Passing) (frame : List ℕ) : Type 0 where
+  pub value : PduValue
+  pub following : List ℕ
+  pub has_value : HasValue passing value
+  pub begins : BeginsWith frame value following
+
 -- it carries a packet with a lifetime, for an address that isn't the system's
-pub record IsForOther (s : SystemState) (content : Content) (to : List ℕ) : Type 0 where
+pub record IsForOther (s : SystemState) (content : Content) (passing : Passing) : Type 0 where
   pub packet : Packet
   pub following : List ℕ
   pub content_is : content ≡ Labelled packet following
   pub carriable : IsCarriable packet
   pub alive : (packet.lifetime == 0) ≡ false
-  pub destination : packet.unit.destination ≡ to
+  pub has_value : HasValue passing (value_of packet)
   pub not_own : is_own s packet.unit.destination ≡ false
 
 abbrev pub ComesOf : Arrival → SystemState → Place → Bool → Content → SystemEntityState → (before after : List Output) → Type 0
 ComesOf Done s place group content entity before after = IsDone s place group content entity before after
-ComesOf (Passes to) s place group content entity before after = IsForOther s content to
+ComesOf (Passes passing) s place group content entity before after = IsForOther s content passing
 
 -- where it is for another, nothing was done yet
 abbrev pub LeavesAsItWas : Arrival → (old new : SystemEntityState) → (before after : List Output) → Type 0
 LeavesAsItWas Done old new before after = Unit {0}
-LeavesAsItWas (Passes to) old new before after = (new ≡ old) × (after ≡ before)
+LeavesAsItWas (Passes passing) old new before after = (new ≡ old) × (after ≡ before)
+
+-- and its PDU is told
+abbrev pub TellsPdu : Arrival → (frame : List ℕ) → Type 0
+TellsPdu Done frame = Unit {0}
+TellsPdu (Passes passing) frame = IsAtFront passing frame

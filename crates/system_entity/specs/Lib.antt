@@ -1,4 +1,5 @@
 pub mod State
 pub mod Stands
+pub mod Ways
 pub mod Comes
 pub mod Deeds

@@ -5,6 +5,8 @@ use Rattle.clnp_plan.specs.declared.ask.SendRefusal.{SendRefusal}
 use Rattle.clnp_plan.specs.declared.ask.SendRefusal.TheVariants.{NoMemory}
 use Rattle.clnp_machine.specs.System.{SystemState}
 use Rattle.esis_entity.specs.Stands as esis_entity
+use Rattle.forwarding.specs.Stands as routing
+use Rattle.forwarding.specs.declared.routes.Routes.{Routes}
 use Rattle.local_entity.specs.Local as local_entity
 use Rattle.system_entity.specs.State.{SystemEntityState}
 
@@ -30,9 +32,11 @@ pub record IsReadyFor (entity : SystemEntityState) : Type 0 where
   pub stands : Stands entity state
   pub ready : IsReady entity.moment entity.local.table
 
-pub record IsSound (entity : SystemEntityState) : Type 0 where
+-- and that the routes that it keeps are those of its configuration
+pub record IsSound (entity : SystemEntityState) (kept : Routes) : Type 0 where
   pub moment : entity.moment < 2 ^ 62
   pub hold : 1 ≤ entity.local.table.limits.hold
+  pub routes : routing.Stands kept entity.local.configuration.routes
   pub ready : entity.spent ≡ false → IsReadyFor entity
 
 -- a refused entity is as before, but spent where memory was refused

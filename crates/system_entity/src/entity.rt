@@ -1,5 +1,7 @@
 //! The entity of a system, be it a host or a router.
-ghost use Rattle.std.specs.Prelude.{◌≡◌, ◌≤◌, ◌<◌, ◌+◌, ◌^◌, ℕ, List, IfErr, IfOk, OnOk, OnErr, IsErr, MatchResult, None, Err, true, false, [], ◌∷◌, ◌++◌, length};
+ghost use Rattle.std.specs.Prelude.{◌≡◌, ◌≤◌, ◌<◌, ◌+◌, ◌^◌, ℕ, List, IfErr, IfOk, OnOk, OnErr, IsErr, MatchResult, None, Err, true, false, [], ◌∷◌, ◌++◌, length, map};
+ghost use Rattle.std.specs.List.{AllByRecursion};
+ghost use Rattle.clnp_views.specs.Extent.{part, whole};
 ghost use Rattle.clnp_options.specs.Grammar.{FitsKind};
 ghost use Rattle.clnp_options.specs.Parameter.{parameters};
 ghost use Rattle.pdu_header.specs.Grammar.{is_report};
@@ -10,27 +12,33 @@ ghost use Rattle.clnp_machine.specs.Content.{Content, IsCarried, frame_of};
 ghost use Rattle.clnp_machine.specs.Given.{Appends};
 ghost use Rattle.clnp_machine.specs.Local as machine;
 ghost use Rattle.clnp_machine.specs.Local.{has_address, restarted};
-ghost use Rattle.clnp_machine.specs.Step.{effect_of, hop_to, host_hop, moment_comes, next_hop};
+ghost use Rattle.clnp_machine.specs.Step.{effect_of, moment_comes, next_hop, way_of};
 ghost use Rattle.clnp_machine.specs.System.{SystemState, first_state, next_number};
 ghost use Rattle.local_entity.specs.Local.{IsWhy};
-ghost use Rattle.local_entity.specs.Sending.{hop_option, machine_hop};
-ghost use Rattle.system_entity.specs.Comes.{ComesOf, LeavesAsItWas};
+ghost use Rattle.local_entity.specs.Sending.{hop_option, transmission};
+ghost use Rattle.segmenter.specs.Left.{IsCutOf};
+ghost use Rattle.system_entity.specs.Comes.{ComesOf, LeavesAsItWas, TellsPdu};
 ghost use Rattle.system_entity.specs.Stands.{IsLeftBy, PartsStandSince, Stands};
+ghost use Rattle.system_entity.specs.Ways.{way_option};
 
+use crate::passing::Passing;
+use crate::way::{Way, by_route, hop_by, host_hop, to_neighbour};
 use clnp_base::NoMemory;
 use clnp_plan::{Ask, Limits, Note, Output, Role, SendRefusal, SystemConfig};
 use clnp_views::Frame;
 use esis_entity::EsisEntity;
 use esis_tables::Place;
+use forwarding::Routes;
 use local_entity::{Hop, Local};
-use nsap::{Address, Target};
+use nsap::Address;
 use pdu_header::Kind;
+use segmenter::Cuts;
 use std::alloc::Global;
 use std::marker::Model;
 
 mod steps;
 
-use steps::has_content;
+use steps::{has_content, pass_pieces, routes_of};
 
 /// What came of a frame.
 #[derive(Clone, Copy, Debug, PartialEq, Eq)]
@@ -38,12 +46,12 @@ pub enum Arrival {
     /// All was done that is to be done.
     Done,
     /// It carries a PDU with a lifetime left for an address that isn't the system's, and nothing was done yet.
-    Passes { to: Address },
+    Passes(Passing),
 }
 
 /// What a system does whatever its role. Its moment is that of its last `tick`, or of its start.
 ///
-/// Once memory was refused in `tick`, `frame`, `discard`, `note` or `make` it is spent: from then on each of them answers
+/// Once memory was refused in `tick`, `frame`, `pass_on`, `discard`, `note` or `make` it is spent: from then on each of them answers
 /// `NoMemory`.
 ///
 /// A contract says by `Stands` which states of a system it stands for.
@@ -51,6 +59,7 @@ pub enum Arrival {
 pub struct SystemEntity {
     local: Local,
     esis: EsisEntity,
+    routes: Routes,
     moment: u64,
     spent: bool,
 }
@@ -63,7 +72,7 @@ impl Model for SystemEntity {
 
     ghost view = { λ e. record { local = e.local; esis = e.esis; moment = e.moment; spent = e.spent } };
 
-    ghost invariant = { λ e. IsSound (record { local = e.local; esis = e.esis; moment = e.moment; spent = e.spent }) };
+    ghost invariant = { λ e. IsSound (record { local = e.local; esis = e.esis; moment = e.moment; spent = e.spent }) e.routes };
 }
 
 impl SystemEntity {
@@ -87,9 +96,11 @@ impl SystemEntity {
     {
         let local = Local::new(alloc, config, limits, quiet)?;
         let esis = EsisEntity::new(alloc, config, now)?;
+        let routes = routes_of(alloc, config)?;
         Ok(SystemEntity {
             local,
             esis,
+            routes,
             moment: now,
             spent: false,
         })
@@ -139,6 +150,7 @@ impl SystemEntity {
         ensures comes { IfOk result (λ arrival. (s : SystemState) (content : Content) → Stands self.old s → IsCarried content
             → frame_of content ≡ frame.now → ComesOf arrival s place group content self.new out.old.items out.new.items) }
         ensures left { IfOk result (λ arrival. LeavesAsItWas arrival self.old self.new out.old.items out.new.items) }
+        ensures pdu { IfOk result (λ arrival. TellsPdu arrival frame.now) }
         ensures not_spent { OnOk result (self.new.spent ≡ false) }
         ensures none { OnErr result (out.new.items ≡ out.old.items) }
         ensures spent { OnErr result (self.new.spent ≡ true) }
@@ -190,6 +202,43 @@ impl SystemEntity {
         self.drop_frame(alloc, frame, reason, place, out)?;
         self.spent = false;
         Ok(())
+    }
+
+    /// The PDU whose data are `len` octets of a frame that came, from place `from` on, goes on in pieces to where it goes next.
+    ///
+    /// # Errors
+    ///
+    /// `NoMemory`: `out` is then as it was, and the entity is spent.
+    pub fn pass_on(
+        &mut self,
+        alloc: Global,
+        frame: &Frame,
+        from: usize,
+        len: usize,
+        cuts: Cuts,
+        hop: Hop,
+        out: &mut Vec<Output>,
+    ) -> Result<(), NoMemory>
+        requires within { from + len ≤ length frame.now }
+        requires cuts { AllByRecursion (IsCutOf len) cuts }
+        ensures given { OnOk result (out.new.items ≡ out.old.items ++ map (transmission true hop (part from len (whole frame.now))) cuts) }
+        ensures same { OnOk result (self.new ≡ self.old) }
+        ensures none { OnErr result (out.new.items ≡ out.old.items) }
+        ensures spent { OnErr result (self.new.spent ≡ true) }
+        ensures refused { self.old.spent ≡ true → IsErr result }
+        ensures moment { self.new.moment ≡ self.old.moment }
+        ensures config { self.new.local.configuration ≡ self.old.local.configuration }
+    {
+        if self.spent {
+            return Err(NoMemory);
+        }
+        match pass_pieces(alloc, frame, from, len, cuts, hop, out) {
+            Ok(()) => Ok(()),
+            Err(_) => {
+                self.spent = true;
+                Err(NoMemory)
+            }
+        }
     }
 
     /// Something is noted.
@@ -268,6 +317,37 @@ impl SystemEntity {
         }
     }
 
+    /// Makes an echo request of some octets and sends it, cut for the MTU where it may be (RFC 1575); what the system gives
+    /// out is appended. Gives the request's number.
+    ///
+    /// # Errors
+    ///
+    /// Those of `make`.
+    pub fn echo(
+        &mut self,
+        alloc: Global,
+        from: Address,
+        to: Address,
+        body: &[u8],
+        out: &mut Vec<Output>,
+    ) -> Result<u64, SendRefusal>
+        ensures answer { (s : SystemState) → Stands self.old s → MatchResult result
+            (λ unit. (machine.refusal s (machine.request_unit s from to body.now) ≡ None) × (unit ≡ next_number s))
+            (λ e. IsWhy e (machine.refusal s (machine.request_unit s from to body.now))) }
+        ensures stands { OnOk result ((s : SystemState) → Stands self.old s
+            → Stands self.new (machine.requests_echo s from to body.now).after) }
+        ensures outputs { OnOk result ((s : SystemState) → Stands self.old s
+            → Appends s.moment out.old.items out.new.items (effect_of (machine.requests_echo s from to body.now)).outputs) }
+        ensures none { OnErr result (out.new.items ≡ out.old.items) }
+        ensures left { IfErr result (λ e. IsLeftBy e self.old self.new) }
+        ensures refused { self.old.spent ≡ true → result ≡ Err WantsMemory }
+        ensures moment { self.new.moment ≡ self.old.moment }
+        ensures config { self.new.local.configuration ≡ self.old.local.configuration }
+    {
+        let ask = self.local.echo_ask(&from, &to, body.len(), true);
+        self.make(alloc, Kind::Erq, from, to, body, &ask, out)
+    }
+
     /// Forgets all that it keeps and heard, and is quiet as long as an identifier rests; the count of its units goes on.
     pub fn restart(&mut self)
         ensures stands { (s : SystemState) → Stands self.old s → Stands self.new (restarted s) }
@@ -286,13 +366,32 @@ impl SystemEntity {
         self.local.held()
     }
 
+    /// The way of a router to an address: to the end system of this address, where it heard of it, else by the route with
+    /// the most digits among those that cover the address (ISO/IEC 8473, section 6.5).
+    pub fn way(&self, to: &Address) -> Option<Way>
+        ensures { (s : SystemState) (before : ℕ) → PartsStandSince before self.now s → way_option result ≡ way_of s to.now }
+    {
+        if let Some(place) = self.esis.neighbour(self.moment, to) {
+            return Some(to_neighbour(place));
+        }
+        let Some(route) = self.routes.longest(to) else {
+            return None;
+        };
+        Some(by_route(route))
+    }
+
     /// Where it sends a PDU for an address, if it knows a way (ISO 9542, section 6.5).
     pub fn next_hop(&self, to: &Address) -> Option<Hop>
         ensures { (s : SystemState) (before : ℕ) → PartsStandSince before self.now s → hop_option result ≡ next_hop s to.now }
     {
         match self.local.config().role() {
             Role::Host => Some(host_hop(self.esis.next_hop(self.moment, to))),
-            Role::Router => Some(hop_to(self.esis.neighbour(self.moment, to)?)),
+            Role::Router => {
+                let Some(way) = self.way(to) else {
+                    return None;
+                };
+                Some(hop_by(&way))
+            }
         }
     }
 
@@ -301,28 +400,5 @@ impl SystemEntity {
         ensures { result.now ≡ self.now.local.configuration }
     {
         self.local.config()
-    }
-}
-
-/// Where a host sends what is for a place, or else for a system that it knows no place of.
-fn host_hop(place: Option<Place>) -> Hop
-    ensures { machine_hop result ≡ host_hop place }
-{
-    match place {
-        Some(place) => hop_to(place),
-        None => Hop {
-            port: 0,
-            target: Target::EndSystems,
-        },
-    }
-}
-
-/// The hop to a place that was heard of.
-fn hop_to(place: Place) -> Hop
-    ensures { machine_hop result ≡ hop_to place }
-{
-    Hop {
-        port: place.port,
-        target: Target::System(place.snpa),
     }
 }

@@ -3,5 +3,9 @@
 #![tactic(auto)]
 
 mod entity;
+mod passing;
+mod way;
 
 pub use entity::{Arrival, SystemEntity};
+pub use passing::Passing;
+pub use way::Way;

@@ -159,10 +159,11 @@ impl Network {
     {
         let port = self.port_for(at, place);
         let copy = &self.copies[at];
+        let birth = copy.birth;
         let group = is_to_group(copy);
         let mut outputs = Vec::new(alloc);
         self.systems[place].frame(alloc, port, copy.sender, group, &copy.frame, &mut outputs)?;
-        self.put_all_out(alloc, place, outputs, lines)
+        self.put_all_out(alloc, place, birth, outputs, lines)
     }
 
     /// Appends the line of a copy that isn't there for the system at a place.

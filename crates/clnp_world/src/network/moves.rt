@@ -104,6 +104,12 @@ impl Network {
                 body,
                 ask,
             } => self.send(alloc, usize::from(*system), *from, *to, body, ask, lines),
+            Event::Echo {
+                system,
+                from,
+                to,
+                body,
+            } => self.echo(alloc, usize::from(*system), *from, *to, body, lines),
             Event::Deliver { copy, system } => {
                 self.deliver(alloc, limits, *copy, usize::from(*system), lines)
             }
@@ -176,6 +182,6 @@ impl Network {
     {
         let mut outputs = Vec::new(alloc);
         self.systems[place].tick(alloc, self.clock, &mut outputs)?;
-        self.put_all_out(alloc, place, outputs, lines)
+        self.put_all_out(alloc, place, self.clock, outputs, lines)
     }
 }

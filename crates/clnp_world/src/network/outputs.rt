@@ -1,12 +1,14 @@
 //! What systems give out: frames become copies on a subnetwork, and notes lines.
-ghost use Rattle.std.specs.Prelude.{◌≡◌, ◌+◌, ◌<◌, ◌≤◌, ◌++◌, List, IfOk, IfSome, OnOk, Some, length, slice_get, vec_len};
-ghost use Rattle.clnp_machine.specs.Given.{GiveAll, Gives, body_of, frame_in};
+ghost use Rattle.std.specs.Prelude.{◌≡◌, ◌+◌, ◌<◌, ◌≤◌, ◌++◌, if◌then◌else◌, List, IfOk, IfSome, OnOk, Some, length, slice_get, vec_len};
+ghost use Rattle.clnp_machine.specs.Content.{Content};
+ghost use Rattle.clnp_machine.specs.Given.{GiveAllFor, GivesFor, body_of, frame_in};
 ghost use Rattle.clnp_machine.specs.System as machine;
 ghost use Rattle.clnp_machine.specs.System.{SystemState};
 ghost use Rattle.clnp_network.specs.World as network;
 ghost use Rattle.clnp_plan.specs.Journal.{Noted, Transmitted, line_text};
 ghost use Rattle.clnp_world.specs.Parts.{Puts, PutsCopies, Shows};
 ghost use Rattle.clnp_world.specs.Seen.{frame_copies};
+ghost use Rattle.clnp_world.specs.Stands.{IsBornWithUnit};
 
 use super::Network;
 use crate::copy::FrameCopy;
@@ -20,40 +22,45 @@ use std::alloc::Global;
 const COPY_WEIGHT: u64 = 64;
 
 impl Network {
-    /// Puts the outputs of the system at a place on the network, in their order.
+    /// Puts the outputs of the system at a place on the network, in their order. The frame that the system was given was
+    /// born at `came`; where none was, nothing goes on, and any moment serves.
     pub(super) fn put_all_out(
         &mut self,
         alloc: Global,
         place: usize,
+        came: u64,
         outputs: Vec<Output>,
         lines: &mut Vec<u8>,
     ) -> Result<(), NoMemory>
         requires { place < vec_len self.old.systems }
-        ensures puts { OnOk result ((model : network.World) (system : SystemState) (others : List machine.Output) → Shows self.old model
-            → slice_get model.systems place ≡ Some system → GiveAll self.old.clock outputs.items others
+        ensures puts { OnOk result ((model : network.World) (system : SystemState) (content : Content) (others : List machine.Output)
+            → Shows self.old model → slice_get model.systems place ≡ Some system → IsBornWithUnit came content
+            → GiveAllFor self.old.clock content outputs.items others
             → Puts self.new lines.old.items lines.new.items (network.put_all_out system model others)) }
         ensures systems { self.new.systems ≡ self.old.systems }
         ensures clock { self.new.clock ≡ self.old.clock }
         ensures copies { vec_len self.old.copies ≤ vec_len self.new.copies }
     {
         for output in outputs {
-            self.put_out(alloc, place, output, lines)?;
+            self.put_out(alloc, place, came, output, lines)?;
         }
         Ok(())
     }
 
     /// Puts an output of the system at a place on the network: its note is written, or its frame put on
-    /// the port's subnetwork.
+    /// the port's subnetwork. The frame that the system was given was born at `came`.
     fn put_out(
         &mut self,
         alloc: Global,
         place: usize,
+        came: u64,
         output: Output,
         lines: &mut Vec<u8>,
     ) -> Result<(), NoMemory>
         requires { place < vec_len self.old.systems }
-        ensures puts { OnOk result ((model : network.World) (system : SystemState) (other : machine.Output) → Shows self.old model
-            → slice_get model.systems place ≡ Some system → Gives self.old.clock output other
+        ensures puts { OnOk result ((model : network.World) (system : SystemState) (content : Content) (other : machine.Output)
+            → Shows self.old model → slice_get model.systems place ≡ Some system → IsBornWithUnit came content
+            → GivesFor self.old.clock content output other
             → Puts self.new lines.old.items lines.new.items (network.put_out system model other)) }
         ensures systems { self.new.systems ≡ self.old.systems }
         ensures clock { self.new.clock ≡ self.old.clock }
@@ -64,7 +71,8 @@ impl Network {
             Output::Transmit(sending) => {
                 let frame = frame_of(alloc, &sending)?;
                 self.write_transmission(alloc, place, sending.port, sending.to, &frame, lines)?;
-                self.put_copy(place, sending.port, sending.to, frame)
+                let birth = self.birth_of(&sending, came);
+                self.put_copy(place, sending.port, sending.to, birth, frame)
             }
         }
     }
@@ -115,19 +123,29 @@ impl Network {
         )
     }
 
-    /// Puts a frame of the system at a place on the subnetwork of its port, where it has that port. What it carries was
-    /// made at this moment, since no system carries on a frame that came.
+    /// The moment at which the copy of a frame that a system sends was born, where that of the frame that it was given
+    /// was born at `came`.
+    fn birth_of(&self, sending: &Sending, came: u64) -> u64
+        ensures { result ≡ (if sending.now.forwarded then came else self.now.clock) }
+    {
+        // A unit ages on its whole way: the frame that goes on is as old as the one that came, whenever it is sent.
+        if sending.forwarded { came } else { self.clock }
+    }
+
+    /// Puts a frame of the system at a place, which was born at a moment, on the subnetwork of its port, where it has
+    /// that port.
     fn put_copy(
         &mut self,
         place: usize,
         port: u8,
         target: Target,
+        birth: u64,
         frame: Frame,
     ) -> Result<(), NoMemory>
         requires { place < vec_len self.old.systems }
         ensures puts { OnOk result ((model : network.World) (system : SystemState) → Shows self.old model
             → slice_get model.systems place ≡ Some system
-            → PutsCopies self.old self.new (frame_copies (slice_get system.configuration.ports port) target self.old.clock frame)) }
+            → PutsCopies self.old self.new (frame_copies (slice_get system.configuration.ports port) target birth frame)) }
         ensures others { self.new ≡ record self.old { copies = self.new.copies; weight = self.new.weight } }
         ensures more { vec_len self.old.copies ≤ vec_len self.new.copies }
     {
@@ -144,7 +162,7 @@ impl Network {
             subnet: at.subnet,
             sender: at.snpa,
             target,
-            birth: self.clock,
+            birth,
             frame,
         };
         self.copies.push(copy)?;

@@ -1,6 +1,6 @@
 //! Data units that a host is asked to send.
 ghost use Rattle.std.specs.Prelude.{◌≡◌, ◌+◌, ◌/◌, ◌%◌, IfOk, OnOk, Some, false};
-ghost use Rattle.clnp_machine.specs.System.{AsksToSend};
+ghost use Rattle.clnp_machine.specs.System.{AsksForEcho, AsksToSend};
 ghost use Rattle.clnp_network.specs.World as network;
 ghost use Rattle.clnp_options.specs.Grammar.{FitsKind};
 ghost use Rattle.clnp_options.specs.Parameter.{parameters};
@@ -73,12 +73,62 @@ impl Network {
             System::Host(host) => {
                 host.config();
                 match host.send(alloc, from, to, body, ask, &mut outputs) {
-                    Ok(_unit) => self.put_all_out(alloc, place, outputs, lines),
+                    Ok(_unit) => self.put_all_out(alloc, place, self.clock, outputs, lines),
                     Err(refusal) => {
                         let note = refusal_note(refusal)?;
                         self.write_note(alloc, place, &note, lines)
                     }
                 }
+            }
+        }
+    }
+
+    /// Asks the system at a place, a host or a router, for an echo request.
+    pub(super) fn echo(
+        &mut self,
+        alloc: Global,
+        place: usize,
+        from: Address,
+        to: Address,
+        body: &Body,
+        lines: &mut Vec<u8>,
+    ) -> Result<(), NoMemory>
+        ensures { OnOk result ((model : network.World) → Holds self.old model
+            → Follows self.new lines.old.items lines.new.items
+            (network.comes model place (AsksForEcho from to (octets_of body.now)))) }
+    {
+        match body {
+            Body::Hex(octets) => self.echo_octets(alloc, place, from, to, octets.as_bytes(), lines),
+            Body::Pattern { len, start } => {
+                let octets = pattern(alloc, *len, *start)?;
+                self.echo_octets(alloc, place, from, to, &octets, lines)
+            }
+        }
+    }
+
+    /// Asks the system at a place for an echo request with these octets.
+    fn echo_octets(
+        &mut self,
+        alloc: Global,
+        place: usize,
+        from: Address,
+        to: Address,
+        body: &[u8],
+        lines: &mut Vec<u8>,
+    ) -> Result<(), NoMemory>
+        ensures { OnOk result ((model : network.World) → Holds self.old model
+            → Follows self.new lines.old.items lines.new.items
+            (network.comes model place (AsksForEcho from to body.now))) }
+    {
+        if place >= self.systems.len() {
+            return Ok(());
+        }
+        let mut outputs = Vec::new(alloc);
+        match self.systems[place].echo(alloc, from, to, body, &mut outputs) {
+            Ok(_unit) => self.put_all_out(alloc, place, self.clock, outputs, lines),
+            Err(refusal) => {
+                let note = refusal_note(refusal)?;
+                self.write_note(alloc, place, &note, lines)
             }
         }
     }

@@ -1,20 +1,20 @@
 //! Receipt: PDUs for the system's own addresses, and reassembly buffers whose time has ended.
 ghost use Rattle.std.specs.Prelude.{◌≡◌, ◌≤◌, ◌<◌, ◌+◌, ◌^◌, ◌++◌, ◌∷◌, [], ℕ, List, IfOk, OnOk, OnErr, length};
+ghost use Rattle.clnp_options.specs.Parameter.{Parameter};
+ghost use Rattle.pdu_header.specs.declared.kind.Kind.{Kind as KindOf};
 ghost use Rattle.pdu_header.specs.Grammar.{BeginsWith};
 ghost use Rattle.pdu_header.specs.Spelling.{type_code};
 ghost use Rattle.pdu_header.specs.Value.{PduValue};
 ghost use Rattle.reassembly.specs.State.{IsReady};
-ghost use Rattle.clnp_plan.specs.declared.note.Note.TheVariants.{Got};
 ghost use Rattle.clnp_machine.specs.Unit.{Packet, IsCarriable, wire};
-ghost use Rattle.clnp_machine.specs.Content.{Content, IsCarried, frame_of};
 ghost use Rattle.clnp_machine.specs.System.{SystemState};
 ghost use Rattle.clnp_machine.specs.Local as machine;
-ghost use Rattle.local_entity.specs.declared.action.Action.TheVariants.{Note as Noted};
 ghost use Rattle.local_entity.specs.Local.{Appends, Stands};
-ghost use Rattle.local_entity.specs.Receipt.{segment_in, segment_part};
+ghost use Rattle.local_entity.specs.Receipt.{purpose_of, segment_in, segment_part};
 
 use super::Local;
 use crate::action::Action;
+use crate::purpose::{Purpose, purpose_in};
 use clnp_base::{NoMemory, Octets};
 use clnp_machine::laws as machine_laws;
 use clnp_plan::Note;
@@ -29,8 +29,8 @@ mod noting;
 mod offering;
 
 impl Local {
-    /// Receives a PDU for one of the system's addresses, and appends what is noted: a whole unit is handed up, a segment is
-    /// offered to the buffers.
+    /// Receives a PDU for one of the system's addresses, and appends what is noted and sent: a whole unit is handed up,
+    /// a segment is offered to the buffers.
     ///
     /// # Errors
     ///
@@ -63,44 +63,60 @@ impl Local {
         let Ok(pdu) = decode(frame.bytes()) else {
             unreachable!()
         };
+        let purpose = purpose_in(&pdu);
         let Some(part) = segment_part(pdu.seg, pdu.more) else {
-            return hand_up(alloc, pdu.from, pdu.to, pdu.body, out);
+            let octets = Octets::copy(alloc, pdu.body)?;
+            return self.hand_up(alloc, now, purpose, pdu.from, pdu.to, octets, out);
         };
         let segment = segment_in(frame, &pdu, part)?;
-        self.offer(alloc, now, segment, out)
+        self.offer(alloc, now, segment, purpose, frame, out)
     }
-}
 
-impl Local {
-    /// Discards a PDU that came in a frame, for a reason and with the place of the octet at fault, and appends what is noted
-    /// (ISO/IEC 8473, section 6.9).
+    /// Hands the data of a whole unit up: an error report tells its reason and place, an echo request is answered, and an echo
+    /// reply is taken for the request that it answers.
     ///
     /// # Errors
     ///
     /// `NoMemory`: nothing changes then.
-    pub fn discard(
+    fn hand_up(
         &mut self,
         alloc: Global,
         now: u64,
-        frame: &Frame,
-        reason: u8,
-        place: u8,
+        purpose: Purpose,
+        from: Address,
+        to: Address,
+        octets: Octets,
         out: &mut Vec<Action>,
     ) -> Result<(), NoMemory>
         requires moment { now < 2 ^ 62 }
-        requires few { length frame.now ≤ 70000 }
-        ensures stands { OnOk result ((s : SystemState) (content : Content) → Stands self.old s → s.moment ≡ now
-            → IsCarried content → frame_of content ≡ frame.now → Stands self.new (machine.discard s content reason place).after) }
-        ensures actions { OnOk result ((s : SystemState) (content : Content) → Stands self.old s → s.moment ≡ now
-            → IsCarried content → frame_of content ≡ frame.now
-            → Appends out.old.items out.new.items (machine.discard s content reason place).actions) }
+        ensures stands { OnOk result ((s : SystemState) (kind : KindOf) (options : List Parameter) → Stands self.old s
+            → s.moment ≡ now → purpose ≡ purpose_of kind options → Stands self.new (machine.hand_up s kind from to octets options).after) }
+        ensures actions { OnOk result ((s : SystemState) (kind : KindOf) (options : List Parameter) → Stands self.old s
+            → s.moment ≡ now → purpose ≡ purpose_of kind options
+            → Appends out.old.items out.new.items (machine.hand_up s kind from to octets options).actions) }
         ensures same { OnErr result (self.new ≡ self.old) }
         ensures none { OnErr result (out.new.items ≡ out.old.items) }
         ensures config { self.new.configuration ≡ self.old.configuration }
         ensures table { self.new.table ≡ self.old.table }
     {
-        out.push(Action::Note(Note::Discard { reason, place }))?;
-        Ok(())
+        match purpose {
+            Purpose::Data => {
+                out.push(Action::Note(Note::Got { from, to, octets }))?;
+                Ok(())
+            }
+            Purpose::Report { reason, place } => {
+                out.push(Action::Note(Note::Report {
+                    from,
+                    to,
+                    reason,
+                    place,
+                    octets,
+                }))?;
+                Ok(())
+            }
+            Purpose::Request => self.reply(alloc, now, from, to, octets.as_bytes(), out),
+            Purpose::Reply => self.take_reply(from, to, octets.as_bytes(), out),
+        }
     }
 }
 
@@ -139,22 +155,6 @@ fn segment_in(frame: &Frame, pdu: &Pdu<'_>, part: SegPart) -> Result<Segment, No
         life: pdu.life,
         pdu: frame.view()?.narrow(0, octets),
     })
-}
-
-/// Notes that a whole unit is handed up.
-fn hand_up(
-    alloc: Global,
-    from: Address,
-    to: Address,
-    body: &[u8],
-    out: &mut Vec<Action>,
-) -> Result<(), NoMemory>
-    ensures got { OnOk result (out.new.items ≡ out.old.items ++ Noted (Got from to body.now) ∷ []) }
-    ensures none { OnErr result (out.new.items ≡ out.old.items) }
-{
-    let octets = Octets::copy(alloc, body)?;
-    out.push(Action::Note(Note::Got { from, to, octets }))?;
-    Ok(())
 }
 
 /// The type of a PDU of this kind, as its octet says (ISO/IEC 8473, section 7.2.7; RFC 1575, section 4).

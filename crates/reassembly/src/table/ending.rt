@@ -35,6 +35,7 @@ impl Table {
             → Stands self.new (buffer.undone key buffers) }
         ensures none_whole { IsCompleted self.old slot.0 → HasNoWhole self.new }
         ensures limits { self.new.limits ≡ self.old.limits }
+        ensures segments { (key : Key) → Names self.old slot.0 key → self.new.segments ≡ without_last key self.old.segments }
     {
         let key = self.openings[slot.0].key;
         drop_last(&mut self.segments, &key);

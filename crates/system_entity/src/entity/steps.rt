@@ -1,5 +1,5 @@
 //! The steps of a system while it takes them: all that is given out is appended, or nothing.
-ghost use Rattle.std.specs.Prelude.{◌≡◌, ◌≢◌, ◌==◌, ◌≤◌, ◌<◌, ◌^◌, ◌++◌, ℕ, Bool, true, false, List, IfErr, IfOk, OnOk, OnErr, MatchResult, None, Some, length};
+ghost use Rattle.std.specs.Prelude.{◌≡◌, ◌≢◌, ◌==◌, ◌≤◌, ◌<◌, ◌^◌, ◌+◌, ◌++◌, ℕ, Bool, true, false, List, IfErr, IfOk, OnOk, OnErr, MatchResult, None, Some, length, map};
 ghost use Rattle.std.specs.List.{AllByRecursion, flat_map};
 ghost use Rattle.clnp_options.specs.Grammar.{FitsKind};
 ghost use Rattle.clnp_options.specs.Parameter.{parameters};
@@ -11,25 +11,32 @@ ghost use Rattle.clnp_machine.specs.Content.{Content, IsCarried, Labelled, frame
 ghost use Rattle.clnp_machine.specs.Given.{Appends};
 ghost use Rattle.clnp_machine.specs.Local as machine;
 ghost use Rattle.clnp_machine.specs.Local.{is_own};
-ghost use Rattle.clnp_machine.specs.Step.{content_comes, effect_of, moment_comes, outputs_of, responds, unheard_note};
+ghost use Rattle.clnp_machine.specs.Step.{content_comes, effect_of, moment_comes, outputs_of, responds, unheard_note, unit_hop};
 ghost use Rattle.clnp_machine.specs.System.{SystemState, next_number};
-ghost use Rattle.clnp_machine.specs.Unit.{IsCarriable, Packet, wire};
+ghost use Rattle.clnp_machine.specs.Unit.{IsCarriable, Packet, Unit, value_of, wire};
+ghost use Rattle.clnp_views.specs.Extent.{part, whole};
+ghost use Rattle.forwarding.specs.Stands as routing;
 ghost use Rattle.local_entity.specs.Local.{DoAll, Does, IsWhy};
-ghost use Rattle.system_entity.specs.Comes.{ComesOf, LeavesAsItWas};
+ghost use Rattle.local_entity.specs.Sending.{hop_option, transmission};
+ghost use Rattle.segmenter.specs.Left.{IsCutOf};
+ghost use Rattle.system_entity.specs.Comes.{ComesOf, HasValue, IsAtFront, LeavesAsItWas, TellsPdu};
 ghost use Rattle.system_entity.specs.Deeds.{IsAtWork, IsFresh, LeavesParts};
 ghost use Rattle.system_entity.specs.Stands.{PartsStand, PartsStandSince};
 
 use super::{Arrival, SystemEntity};
+use crate::passing::Passing;
 use clnp_base::NoMemory;
 use clnp_machine::laws;
 use clnp_options::Reason;
-use clnp_plan::{Ask, Note, Output, Role, SendRefusal};
+use clnp_plan::{Ask, Note, Output, Role, SendRefusal, SystemConfig};
 use clnp_views::Frame;
 use esis_pdus::EsisRefusal;
 use esis_tables::Place;
-use local_entity::{Action, send_unit};
+use forwarding::{RouteRefusal, Routes};
+use local_entity::{Action, Hop, give_pieces, send_unit};
 use nsap::Address;
 use pdu_header::{Kind, Refusal, decode};
+use segmenter::Cuts;
 use std::alloc::Global;
 
 impl SystemEntity {
@@ -78,6 +85,7 @@ impl SystemEntity {
         ensures comes { IfOk result (λ arrival. (s : SystemState) (content : Content) → PartsStand self.old s → IsCarried content
             → frame_of content ≡ frame.now → ComesOf arrival s place group content self.new out.old.items out.new.items) }
         ensures left { IfOk result (λ arrival. LeavesAsItWas arrival self.old self.new out.old.items out.new.items) }
+        ensures pdu { IfOk result (λ arrival. TellsPdu arrival frame.now) }
         ensures ready { OnOk result (IsReady self.new.moment self.new.local.table) }
         ensures none { OnErr result (out.new.items ≡ out.old.items) }
         ensures moment { self.new.moment ≡ self.old.moment }
@@ -87,7 +95,7 @@ impl SystemEntity {
         laws::a_frame_carries_one_packet();
         laws::no_frame_is_of_both_protocols();
         match decode(frame.bytes()) {
-            Ok(pdu) => self.pdu_comes(alloc, pdu.life, pdu.to, place, group, frame, out),
+            Ok(pdu) => self.pdu_comes(alloc, Passing::of(&pdu), place, group, frame, out),
             Err(Refusal::Broken(broken)) => {
                 self.drop_frame(alloc, frame, broken.reason, broken.place, out)?;
                 Ok(Arrival::Done)
@@ -104,8 +112,7 @@ impl SystemEntity {
     fn pdu_comes(
         &mut self,
         alloc: Global,
-        life: u8,
-        to: Address,
+        pdu: Passing,
         place: Place,
         group: bool,
         frame: &Frame,
@@ -113,24 +120,25 @@ impl SystemEntity {
     ) -> Result<Arrival, NoMemory>
         requires at_work { IsAtWork self.old }
         requires few { length frame.now ≤ 70000 }
-        requires pdu { (v : PduValue) × (rest : List ℕ) × BeginsWith frame.now v rest × (v.lifetime ≡ life) }
+        requires pdu { IsAtFront pdu frame.now }
         ensures comes { IfOk result (λ arrival. (s : SystemState) (p : Packet) (following : List ℕ) → PartsStand self.old s → IsCarriable p
-            → frame.now ≡ wire p ++ following → p.lifetime ≡ life → p.unit.destination ≡ to
+            → frame.now ≡ wire p ++ following → HasValue pdu (value_of p)
             → ComesOf arrival s place group (Labelled p following) self.new out.old.items out.new.items) }
         ensures left { IfOk result (λ arrival. LeavesAsItWas arrival self.old self.new out.old.items out.new.items) }
+        ensures pdu { IfOk result (λ arrival. TellsPdu arrival frame.now) }
         ensures ready { OnOk result (IsReady self.new.moment self.new.local.table) }
         ensures none { OnErr result (out.new.items ≡ out.old.items) }
         ensures moment { self.new.moment ≡ self.old.moment }
         ensures spent { self.new.spent ≡ self.old.spent }
         ensures config { self.new.local.configuration ≡ self.old.local.configuration }
     {
-        if life == 0 {
+        if pdu.life == 0 {
             let reason = Reason::LifetimeExpiredInTransit.code();
             self.drop_frame(alloc, frame, reason, 0, out)?;
             return Ok(Arrival::Done);
         }
-        if !self.local.is_own(&to) {
-            return Ok(Arrival::Passes { to });
+        if !self.local.is_own(&pdu.to) {
+            return Ok(Arrival::Passes(pdu));
         }
         self.receive(alloc, place, group, frame, out)?;
         Ok(Arrival::Done)
@@ -330,10 +338,61 @@ impl SystemEntity {
                 Ok(())
             }
             Action::Send(made) => {
-                send_unit(&made, self.next_hop(&made.to), self.local.config(), out)
+                send_unit(&made, self.unit_hop(&made.to), self.local.config(), out)
             }
         }
     }
+
+    /// Where a unit goes that the system made for an address: a router sends nothing to itself.
+    fn unit_hop(&self, to: &Address) -> Option<Hop>
+        ensures { (s : SystemState) (before : ℕ) (u : Unit) → PartsStandSince before self.now s → u.destination ≡ to.now
+            → hop_option result ≡ unit_hop s u }
+    {
+        match self.local.config().role() {
+            Role::Host => self.next_hop(to),
+            Role::Router => {
+                if self.local.is_own(to) {
+                    return None;
+                }
+                self.next_hop(to)
+            }
+        }
+    }
+}
+
+/// The routes of a configuration.
+pub(super) fn routes_of(alloc: Global, config: &SystemConfig) -> Result<Routes, NoMemory>
+    ensures { IfOk result (λ routes. routing.Stands routes config.now.routes) }
+{
+    forwarding::laws::one_place_is_twice();
+    config.is_system();
+    match Routes::from_list(alloc, config.routes()) {
+        Ok(routes) => Ok(routes),
+        Err(RouteRefusal::NoMemory) => Err(NoMemory),
+        Err(RouteRefusal::Twice { .. }) => unreachable!(),
+    }
+}
+
+/// Gives out all pieces of the PDU whose data are `len` octets of a frame, from place `from` on, or nothing.
+pub(super) fn pass_pieces(
+    alloc: Global,
+    frame: &Frame,
+    from: usize,
+    len: usize,
+    cuts: Cuts,
+    hop: Hop,
+    out: &mut Vec<Output>,
+) -> Result<(), NoMemory>
+    requires within { from + len ≤ length frame.now }
+    requires cuts { AllByRecursion (IsCutOf len) cuts }
+    ensures given { OnOk result (out.new.items ≡ out.old.items ++ map (transmission true hop (part from len (whole frame.now))) cuts) }
+    ensures none { OnErr result (out.new.items ≡ out.old.items) }
+{
+    let body = frame.view()?.narrow(from, len);
+    let mut outputs = Vec::new(alloc);
+    give_pieces(cuts, hop, &body, true, &mut outputs)?;
+    out.append(&mut outputs)?;
+    Ok(())
 }
 
 /// What is noted of a frame that no protocol accepts: the rule of ES-IS PDUs that it breaks, or that it is alien.

@@ -1,9 +1,9 @@
-use Rattle.std.proofs.Common.{List}
+use Rattle.std.proofs.Common.{List, []}
 use Rattle.std.specs.List.{AllByRecursion}
 use Rattle.scenario.specs.declared.event.Move.{Move}
 use Rattle.clnp_network.specs.World.{first_world}
 use Rattle.clnp_network.specs.Run.{moves_made, run, world_after}
-use Rattle.clnp_network.specs.Safe.{CarriesRanges, FramesAreUnbroken, HoldsUnitsApart, IdentifiersRest, IsHonest, IsWithinBudgets, IsWithinLifetimes, NoInterference, NoneIsAlien, TellsNoRule}
+use Rattle.clnp_network.specs.Safe.{CarriesRanges, EachIsFounded, FramesAreUnbroken, HoldsUnitsApart, IdentifiersRest, IsHonest, IsWithinBudgets, IsWithinLifetimes, NoInterference, NoneIsAlien, TellsNoRule}
 use Rattle.clnp_commands.proofs.Fit.{of_fit}
 use Rattle.clnp_commands.proofs.top.every_run_is_safe.Goals as goal
 
@@ -54,3 +54,8 @@ pub returns-clause-lifetimes : goal.returns-clause-lifetimes
 returns-clause-lifetimes c =
     of_fit (λ plan. (moves : List Move) → IsWithinLifetimes (world_after plan (first_world plan) moves)) c.accepted_is_fit.ensures
     (λ plan fit. c.hops_are_within_lifetimes.ensures plan)
+
+pub returns-clause-founded : goal.returns-clause-founded
+returns-clause-founded c =
+    of_fit (λ plan. (moves : List Move) → EachIsFounded plan (first_world plan) [] moves) c.accepted_is_fit.ensures
+    c.reports_and_echoes_are_of_its_own.ensures

@@ -1,4 +1,4 @@
-use Rattle.clnp_machine.proofs.Sendable.{carriable_unbroken}
+use Rattle.clnp_machine.proofs.Unbroken.{carriable_unbroken}
 use Rattle.clnp_machine.proofs.laws.carriable_packets_break_no_rule.Goals as goal
 
 pub returns : goal.returns

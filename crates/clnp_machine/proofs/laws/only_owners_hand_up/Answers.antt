@@ -1,4 +1,4 @@
-use Rattle.clnp_machine.proofs.Own.{step_is_own}
+use Rattle.clnp_machine.proofs.Noted.{step_is_own}
 use Rattle.clnp_machine.proofs.laws.only_owners_hand_up.Goals as goal
 
 pub returns : goal.returns

@@ -1,5 +1,5 @@
 use Rattle.clnp_machine.proofs.Making.{allowed, allowing}
-use Rattle.clnp_machine.proofs.Own.{refusal_refuses}
+use Rattle.clnp_machine.proofs.Noted.{refusal_refuses}
 use Rattle.clnp_machine.proofs.laws.units_are_made_where_allowed.Goals as goal
 
 pub returns-clause-allowed : goal.returns-clause-allowed

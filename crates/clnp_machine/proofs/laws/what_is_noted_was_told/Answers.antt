@@ -1,4 +1,4 @@
-use Rattle.clnp_machine.proofs.Own.{notes_are_told, tick_is_quiet}
+use Rattle.clnp_machine.proofs.Noted.{notes_are_told, tick_is_quiet}
 use Rattle.clnp_machine.proofs.laws.what_is_noted_was_told.Goals as goal
 
 pub returns-clause-told : goal.returns-clause-told

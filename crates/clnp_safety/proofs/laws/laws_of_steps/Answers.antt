@@ -5,21 +5,25 @@ returns c = record {
   steps = record {
     itself = c.a_system_stays_itself.ensures.itself;
     fresh = c.new_units_are_fresh.ensures.fresh;
-    asked = c.new_units_are_fresh.ensures.asked;
+    made_for = c.new_units_are_fresh.ensures.asked;
+    reports = c.reports_are_of_packets.ensures;
+    pending = c.requests_are_kept.ensures.made;
+    forgotten = c.requests_are_kept.ensures.forgotten;
+    no_restart = c.only_restarts_are_noted_as_such.ensures;
     ranges = c.ranges_of_units_are_sent.ensures;
-    carriable = c.what_is_sent_is_carriable.ensures;
+    carriable = c.what_is_sent_is_carriable.ensures.sent;
     esis_pdus = c.hellos_are_pdus.ensures.pdus;
     no_rule = c.rules_are_noted_of_octets_alone.ensures;
     own = c.only_owners_hand_up.ensures;
     budget = c.budgets_are_kept.ensures;
   };
   deeds = record {
-    make = c.deeds_are_of_their_moment.ensures.make;
     allowed = c.units_are_made_where_allowed.ensures.allowed;
     refused = c.units_are_made_where_allowed.ensures.refused;
     told = c.what_is_noted_was_told.ensures.told;
     tick = c.what_is_noted_was_told.ensures.tick;
     ended = c.ended_buffers_are_taken_out.ensures;
+    reported = c.reports_make_no_storm.ensures.one;
   };
   hellos = record {
     comes = c.hellos_leave_the_rest.ensures.comes;
@@ -34,5 +38,6 @@ returns c = record {
     apart = c.a_segment_is_kept_in_its_buffer.ensures.apart;
   };
   frames = c.carriable_packets_break_no_rule.ensures;
+  answers = c.the_test_is_the_rule.ensures.reply;
   esis_frames = c.esis_pdus_break_no_rule.ensures;
 }

@@ -7,6 +7,6 @@ use Rattle.local_entity.proofs.sending.give_pieces.Given as goal
 abbrev pub invariant-loop-cut : goal.invariant-loop-cut
 invariant-loop-cut l = record {
   left : AllByRecursion (IsCutOf l.body.len) l.cut-iterator;
-  given : l.out.items ≡ l.initial.out.items ++ map (transmission l.hop l.body) l.yielded;
+  given : l.out.items ≡ l.initial.out.items ++ map (transmission l.forwarded l.hop l.body) l.yielded;
   all : l.initial.cut-iterator ≡ l.yielded ++ l.cut-iterator;
 }

@@ -1,28 +1,27 @@
 //! Reassembly buffers whose time has ended (ISO/IEC 8473, section 6.9).
-ghost use Rattle.std.specs.Prelude.{◌≡◌, ◌<◌, ◌≤◌, ◌+◌, ◌^◌, ◌++◌, ◌∷◌, [], if◌then◌else◌, ℕ, List, OnOk, OnErr, is_some, vec_capacity, vec_len};
-ghost use Rattle.clnp_views.specs.Extent.{Extent};
+ghost use Rattle.std.specs.Prelude.{◌≡◌, ◌<◌, ◌≤◌, ◌+◌, ◌^◌, ◌++◌, ◌∷◌, ℕ, List, Option, OnOk, OnErr, is_some, option_map, vec_capacity, vec_len};
+ghost use Rattle.clnp_views.specs.Extent.{Extent, seen};
 ghost use Rattle.reassembly.specs.Buffer as buffer;
 ghost use Rattle.reassembly.specs.Buffer.{Buffer};
 ghost use Rattle.reassembly.specs.State as table;
 ghost use Rattle.reassembly.specs.State.{IsReady};
-ghost use Rattle.clnp_options.specs.Reasons.{reason_code};
-ghost use Rattle.clnp_options.specs.declared.reasons.Reason.TheVariants.{LifetimeExpiredInReassembly};
-ghost use Rattle.clnp_plan.specs.declared.note.Note.TheVariants.{Discard, Expired};
+ghost use Rattle.clnp_plan.specs.declared.note.Note.TheVariants.{Expired};
+ghost use Rattle.clnp_machine.specs.Unit.{Packet, wire};
 ghost use Rattle.clnp_machine.specs.System.{SystemState};
 ghost use Rattle.clnp_machine.specs.Local as machine;
-ghost use Rattle.local_entity.specs.declared.action.Action.TheVariants.{Note as Noted};
 ghost use Rattle.local_entity.specs.Local.{Appends, Stands};
 
 use super::super::Local;
-use super::noting::{discard, note};
+use super::noting::note;
 use crate::action::Action;
 use clnp_base::NoMemory;
 use clnp_options::Reason;
 use clnp_plan::Note;
+use clnp_views::View;
 use std::alloc::Global;
 
 impl Local {
-    /// Takes out the buffers whose time has ended by a moment, and appends what is noted.
+    /// Takes out the buffers whose time has ended by a moment, and appends what is noted and sent.
     ///
     /// # Errors
     ///
@@ -40,8 +39,8 @@ impl Local {
         ensures ready { OnOk result (IsReady now self.new.table) }
     {
         let live = usize::from(self.table.live());
-        // A buffer's end is noted, and perhaps a discard.
-        let Ok(()) = out.reserve(2 * live) else {
+        // A buffer's end is noted, and perhaps a discard and its report, which is noted and sent.
+        let Ok(()) = out.reserve(4 * live) else {
             return Err(NoMemory);
         };
         for _ in 0..live {
@@ -54,14 +53,14 @@ impl Local {
 
     /// Takes out the buffer whose time ended first by a moment, and appends what is noted. Says whether there is one.
     fn give_up(&mut self, now: u64, out: &mut Vec<Action>) -> bool
-        requires { vec_len out.old + 2 ≤ vec_capacity out.old }
+        requires { vec_len out.old + 4 ≤ vec_capacity out.old }
         ensures stands { (s : SystemState) → Stands self.old s → s.moment ≡ now → Stands self.new (machine.expire 1 s).after }
         ensures actions { (s : SystemState) → Stands self.old s → s.moment ≡ now
             → Appends out.old.items out.new.items (machine.expire 1 s).actions }
         ensures given { (buffers : List (Buffer Extent)) → table.Stands self.old.table buffers
             → (result ≡ is_some (buffer.due now buffers))
             × table.Stands self.new.table (buffer.without_due (buffer.due now buffers) buffers) }
-        ensures len { vec_len out.new ≤ vec_len out.old + 2 }
+        ensures len { vec_len out.new ≤ vec_len out.old + 4 }
         ensures capacity { vec_capacity out.old ≤ vec_capacity out.new }
         ensures config { self.new.configuration ≡ self.old.configuration }
         ensures limits { self.new.table.limits ≡ self.old.table.limits }
@@ -69,21 +68,30 @@ impl Local {
         let Some(ended) = self.table.expire(now) else {
             return false;
         };
-        tell(ended.key.id, self.table.held(), ended.first.is_some(), out);
+        self.end(ended.key.id, ended.first, out);
         true
     }
-}
 
-/// Appends what is noted of a buffer whose time has ended, where so many octets are held after it: the PDU at the
-/// beginning of the unit, if it came, is discarded.
-fn tell(id: u16, held: u32, began: bool, out: &mut Vec<Action>)
-    requires { vec_len out.old + 2 ≤ vec_capacity out.old }
-    ensures told { out.new.items ≡ out.old.items ++ Noted (Expired id held) ∷ (if began then Noted (Discard (reason_code LifetimeExpiredInReassembly) 0) ∷ [] else []) }
-    ensures len { vec_len out.new ≤ vec_len out.old + 2 }
-    ensures capacity { vec_capacity out.old ≤ vec_capacity out.new }
-{
-    note(out, Note::Expired { id, held });
-    if began {
-        discard(out, Reason::LifetimeExpiredInReassembly);
+    /// Appends what is noted of a buffer whose time has ended, once it is taken out: the PDU at the beginning of the unit, if
+    /// it came, is discarded.
+    fn end(&mut self, id: u16, first: Option<View>, out: &mut Vec<Action>)
+        requires { vec_len out.old + 4 ≤ vec_capacity out.old }
+        ensures stands { (s : SystemState) (other : Option Packet) → Stands self.old s
+            → option_map seen first ≡ option_map wire other → Stands self.new (machine.discard_first s other).after }
+        ensures actions { (s : SystemState) (other : Option Packet) → Stands self.old s
+            → option_map seen first ≡ option_map wire other → Appends out.old.items out.new.items
+            (machine.Tells (Expired id (buffer.held s.buffers)) ∷ (machine.discard_first s other).actions) }
+        ensures config { self.new.configuration ≡ self.old.configuration }
+        ensures table { self.new.table ≡ self.old.table }
+        ensures len { vec_len out.new ≤ vec_len out.old + 4 }
+        ensures capacity { vec_capacity out.old ≤ vec_capacity out.new }
+    {
+        let held = self.held();
+        note(out, Note::Expired { id, held });
+        let Some(first) = first else {
+            return;
+        };
+        let reason = Reason::LifetimeExpiredInReassembly.code();
+        self.discard_with_room(first, reason, 0, out);
     }
 }

@@ -1,7 +1,7 @@
 -- The copy's frame comes to the system, and what it gives out is put out.
 use Rattle.std.proofs.Common.{sym, ap, subst, arith}
 use Rattle.std.proofs.lemmas.Result.{on_ok_weaker}
-use Rattle.clnp_machine.specs.Given.{Appends}
+use Rattle.clnp_machine.specs.Given.{AppendsFor}
 use Rattle.clnp_machine.specs.System.{Input}
 use Rattle.clnp_machine.specs.Step.{step}
 use Rattle.clnp_machine.proofs.Deeds.{step_moment}
@@ -10,9 +10,10 @@ use Rattle.clnp_systems.specs.Stands as clnp_systems
 use Rattle.clnp_systems.specs.Stands.{entity_of}
 use Rattle.clnp_world.specs.declared.copy.FrameCopy.{FrameCopy}
 use Rattle.clnp_world.proofs.EachSteps.{each_at}
-use Rattle.clnp_world.proofs.GiveSteps.{came, copy_at, carried_at}
+use Rattle.clnp_world.specs.Stands.{IsBornWithUnit}
+use Rattle.clnp_world.proofs.GiveSteps.{born_at, came, copy_at, carried_at}
 use Rattle.clnp_world.proofs.ListSteps.{slice_get_read}
-use Rattle.clnp_world.proofs.TakeSteps.{takes_now, from_none}
+use Rattle.clnp_world.proofs.TakeSteps.{takes_now, from_none_for}
 use Rattle.clnp_world.proofs.network.Network.hand.Goals as goal
 
 pub returns-clause-follows : goal.returns-clause-follows
@@ -26,15 +27,16 @@ returns-clause-follows c =
     let effect = step system input in
     let same = copy_at old model c.args.at seen copy h.shows (omega (arith, old.copies.ok.0)) c.index-copy.ensures at in
     let carried = carried_at model.copies c.args.at copy h.shows.carried at in
+    let born = subst (λ (f : FrameCopy). IsBornWithUnit f.birth copy.content) (sym same) (born_at model.copies c.args.at copy h.shows.born at) in
     let comes = came copy system seen c.port_for-port.result c.is_to_group-group.result (c.port_for-port.ensures model copy system h.shows at there)
     same c.is_to_group-group.ensures in
     let octets = ap (λ (f : FrameCopy). f.frame) (sym same) in
     let stands = each_at old.systems.items model.systems c.args.place node system h.shows.systems here there in
-    takes_now old c.put_all_out.new.self c.args.lines.now.items c.put_all_out.new.lines.items c.args.place node c.frame.new.self c.frame.new.out.items
+    takes_now old c.put_all_out.new.self c.args.lines.now.items c.put_all_out.new.lines.items c.args.place seen.birth copy.content node c.frame.new.self c.frame.new.out.items
     effect system here (subst (λ (i : Input). clnp_systems.Stands c.frame.new.self (step system i).after) comes
-    (c.in_ok-frame.ensures.stands system copy.content stands carried octets))
-    (from_none (entity_of node).moment c.new-outputs.result.items c.frame.new.out.items effect.outputs c.new-outputs.ensures.items
-    (subst (λ (i : Input). Appends (entity_of node).moment c.new-outputs.result.items c.frame.new.out.items (step system i).outputs) comes
+    (c.in_ok-frame.ensures.stands system copy.content stands carried octets)) born
+    (from_none_for (entity_of node).moment copy.content c.new-outputs.result.items c.frame.new.out.items effect.outputs c.new-outputs.ensures.items
+    (subst (λ (i : Input). AppendsFor (entity_of node).moment copy.content c.new-outputs.result.items c.frame.new.out.items (step system i).outputs) comes
     (c.in_ok-frame.ensures.outputs system copy.content stands carried octets)))
     (step_moment system input) puts model h there)
     c.put_all_out.ensures.puts

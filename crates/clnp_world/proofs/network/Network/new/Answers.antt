@@ -13,6 +13,7 @@ returns c = record {
     copies = c.new.ensures.items;
     cursor = refl;
     carried = tt;
+    born = tt;
     short = subst (λ (copies : List FrameCopy). AllByRecursion (λ (copy : FrameCopy). length copy.frame ≤ 70000) copies) (sym c.new.ensures.items) tt;
     weight = refl;
   };

@@ -4,13 +4,13 @@ use Rattle.std.proofs.lemmas.List.{map-id}
 use Rattle.std.proofs.lemmas.Iterator.Adapters.{YieldsList-from_vec}
 use Rattle.std.proofs.lemmas.Iterator.Consumers.{YieldsList-end}
 use Rattle.clnp_plan.specs.declared.output.Output.{Output}
-use Rattle.clnp_machine.specs.Given.{GiveAll}
+use Rattle.clnp_machine.specs.Given.{GiveAllFor}
 use Rattle.clnp_world.proofs.PutSteps.{puts_none, puts_more}
 use Rattle.clnp_world.proofs.network.Network.put_all_out.Goals as goal
 
 pub loop-output-init : goal.loop-output-init
 loop-output-init c = record {
-  puts = puts_none c.args.self.now c.args.lines.now.items c.args.place;
+  puts = puts_none c.args.self.now c.args.lines.now.items c.args.place c.args.came;
   systems = refl;
   clock = refl;
   copies = omega arith;
@@ -19,7 +19,7 @@ loop-output-init c = record {
 pub loop-output-preserved : goal.loop-output-preserved
 loop-output-preserved c = record {
   puts = puts_more c.args.self.now c.loop-output.self c.put_out.new.self c.args.lines.now.items c.loop-output.lines.items
-      c.put_out.new.lines.items c.args.place c.loop-output.yielded c.in-Some.output c.loop-output.invariant.puts
+      c.put_out.new.lines.items c.args.place c.args.came c.loop-output.yielded c.in-Some.output c.loop-output.invariant.puts
       c.loop-output.invariant.clock c.in_ok-put_out.ensures.puts;
   systems = c.in_ok-put_out.ensures.systems ∙ c.loop-output.invariant.systems;
   clock = c.in_ok-put_out.ensures.clock ∙ c.loop-output.invariant.clock;
@@ -32,5 +32,5 @@ returns-clause-puts c =
     let ended = YieldsList-end (YieldsList-from_vec {s = c.into_iter-output-iterator.result} c.args.outputs.items b.0 (b.1 ∙ c.args.outputs.ok.0))
     c.loop-output.yielded c.loop-output.output-iterator c.loop-output.yielded_by c.next.result c.next.new.self c.in-None.is
     c.next.ensures.steps in
-    λ model system others h there gives. c.loop-output.invariant.puts model system others h there
-    (subst (λ (outputs : List Output). GiveAll c.args.self.now.clock outputs others) (sym (sym (map-id c.loop-output.yielded) ∙ ended.0)) gives)
+    λ model system content others h there born gives. c.loop-output.invariant.puts model system content others h there born
+    (subst (λ (outputs : List Output). GiveAllFor c.args.self.now.clock content outputs others) (sym (sym (map-id c.loop-output.yielded) ∙ ended.0)) gives)

@@ -6,12 +6,12 @@ use Rattle.clnp_world.proofs.network.Network.put_copy.Goals as goal
 
 pub returns-then-number-ports-clause-puts : goal.returns-then-number-ports-clause-puts
 returns-then-number-ports-clause-puts c = λ model system h there.
-    copies_past c.args.self.now c.ports-ports.result.now system.configuration.ports c.from-number.result c.args.port c.args.target c.args.frame
+    copies_past c.args.self.now c.ports-ports.result.now system.configuration.ports c.from-number.result c.args.port c.args.target c.args.birth c.args.frame
     (c.ports-ports.ensures ∙ ap (λ (s : SystemConfiguration). s.ports) (c.config_at.ensures model system h there)) (omega arith) (omega arith)
 
 pub returns-clause-puts : goal.returns-clause-puts
 returns-clause-puts c = λ model system h there.
     copies_read c.args.self.now (record c.args.self.now { copies = c.push.new.self; weight = c.in-Some.weight }) c.ports-ports.result.now
-    system.configuration.ports c.from-number.result c.args.port c.index-ports-number.result c.args.target c.args.frame
+    system.configuration.ports c.from-number.result c.args.port c.index-ports-number.result c.args.target c.args.birth c.args.frame
     (c.ports-ports.ensures ∙ ap (λ (s : SystemConfiguration). s.ports) (c.config_at.ensures model system h there)) (omega arith) (omega arith)
     c.index-ports-number.is c.in_ok-push.ensures.items c.in-Some.ensures

@@ -17,9 +17,9 @@ returns c =
     let old = c.args.self.now in
     let mid = with_node old c.args.place c.restart.new.self in
     on_ok_weaker c.write_note.result (λ writes.
-    does_follow old mid c.args.lines.now.items c.write_note.new.lines.items c.args.place IsRestarted c.index_mut.result.now c.restart.new.self
+    does_follow old mid c.args.lines.now.items c.write_note.new.lines.items c.args.place old.clock IsRestarted c.index_mut.result.now c.restart.new.self
     (Told Restart ∷ [])
     (slice_get_read old.systems.items c.args.place c.index_mut.result.now (omega (arith, old.systems.ok.0)) c.index_mut.ensures.value)
     c.restart.ensures.stands (λ s _. gives_note (entity_of c.index_mut.result.now).moment Restart) (λ s. refl)
-    (note_alone mid c.args.lines.now.items c.write_note.new.lines.items c.args.place Restart writes))
+    (note_alone mid c.args.lines.now.items c.write_note.new.lines.items c.args.place old.clock Restart writes))
     c.write_note.ensures

@@ -42,7 +42,7 @@ returns-in-Ok c =
     on_ok_weaker c.put_all_out.result (λ puts.
     asks_host old c.put_all_out.new.self c.args.lines.now.items c.put_all_out.new.lines.items c.args.place input node here
     (ap (λ (system : SystemConfiguration). system.role) (sym c.config-in-Host.ensures.config) ∙ c.config-in-Host.ensures.role)
-    (does_follow old c.put_all_out.new.self c.args.lines.now.items c.put_all_out.new.lines.items c.args.place input node
+    (does_follow old c.put_all_out.new.self c.args.lines.now.items c.put_all_out.new.lines.items c.args.place old.clock input node
     (variant.Host c.send.new.self) c.send.new.out.items here c.in-Ok.ensures.stands
     (λ s stands. from_none host.entity.moment c.new-outputs.result.items c.send.new.out.items (step s input).outputs c.new-outputs.ensures.items
     (c.in-Ok.ensures.outputs s stands))
@@ -65,11 +65,11 @@ returns-in_ok-note-in-Err c =
     asks_host old mid c.args.lines.now.items c.write_note.new.lines.items c.args.place
     (AsksToSend c.args.from c.args.to c.args.body.now c.args.ask.now) node here
     (ap (λ (system : SystemConfiguration). system.role) (sym c.config-in-Host.ensures.config) ∙ c.config-in-Host.ensures.role)
-    (does_follow old mid c.args.lines.now.items c.write_note.new.lines.items c.args.place
+    (does_follow old mid c.args.lines.now.items c.write_note.new.lines.items c.args.place old.clock
     (AsksToSend c.args.from c.args.to c.args.body.now c.args.ask.now) node (variant.Host c.send.new.self) (Told note ∷ []) here
     (λ s stands. refused_stands s c.args.from c.args.to c.args.body.now c.args.ask.now note host.entity c.send.new.self.entity (why s stands)
     (leaves_same c.in-Err.refusal note host.entity c.send.new.self.entity said c.in-Err.ensures.left) stands)
     (λ s stands. refused_gives s c.args.from c.args.to c.args.body.now c.args.ask.now note host.entity.moment (why s stands))
     (λ s. step_moment s (AsksToSend c.args.from c.args.to c.args.body.now c.args.ask.now))
-    (note_alone mid c.args.lines.now.items c.write_note.new.lines.items c.args.place note writes)))
+    (note_alone mid c.args.lines.now.items c.write_note.new.lines.items c.args.place old.clock note writes)))
     c.write_note.ensures

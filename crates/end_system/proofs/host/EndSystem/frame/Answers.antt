@@ -45,7 +45,7 @@ returns-in-Passes-clause-stands c =
     let role = ap (λ (system : SystemConfiguration). system.role) (sym stands.parts.local.configuration) ∙ c.self.invariant in
     let other = subst (λ (arrival : Arrival). ComesOf arrival s place c.args.group content
     c.frame.new.self c.args.out.now.items c.frame.new.out.items) c.in-Passes.is (c.in_ok-frame.ensures.comes s content stands carried frame) in
-    subst (λ (effect : Effect). entity.Stands c.note.new.self effect.after) (sym (passed s place c.args.group content c.in-Passes.to other role))
+    subst (λ (effect : Effect). entity.Stands c.note.new.self effect.after) (sym (passed s place c.args.group content c.in-Passes.passing other role))
     (subst (λ (e : SystemEntityState). entity.Stands e s) (sym (same ∙ left.0)) stands))
     c.note.ensures.same
 
@@ -60,8 +60,8 @@ returns-in-Passes-clause-outputs c =
     let role = ap (λ (system : SystemConfiguration). system.role) (sym stands.parts.local.configuration) ∙ c.self.invariant in
     let other = subst (λ (arrival : Arrival). ComesOf arrival s place c.args.group content
     c.frame.new.self c.args.out.now.items c.frame.new.out.items) c.in-Passes.is (c.in_ok-frame.ensures.comes s content stands carried frame) in
-    let written = noted ∙ ap (λ (outputs : List Output). outputs ++ Note (NotMine c.in-Passes.to) ∷ []) left.1 in
+    let written = noted ∙ ap (λ (outputs : List Output). outputs ++ Note (NotMine c.in-Passes.passing.to) ∷ []) left.1 in
     subst (λ (effect : Effect). Appends moment c.args.out.now.items c.note.new.out.items effect.outputs)
-    (sym (passed s place c.args.group content c.in-Passes.to other role))
-    (appends_note moment c.args.out.now.items c.note.new.out.items (NotMine c.in-Passes.to) (NotMine c.in-Passes.to) written refl))
+    (sym (passed s place c.args.group content c.in-Passes.passing other role))
+    (appends_note moment c.args.out.now.items c.note.new.out.items (NotMine c.in-Passes.passing.to) (NotMine c.in-Passes.passing.to) written refl))
     c.note.ensures.noted

@@ -1,9 +1,9 @@
-use Rattle.std.proofs.Common.{◌∙◌, ◌+◌, ◌^◌, ◌-◌, refl, ℕ, List, length, min, ap, sym, subst}
+use Rattle.std.proofs.Common.{◌∙◌, ◌+◌, ◌^◌, ◌-◌, refl, ℕ, List, [], ◌∷◌, length, min, ap, sym, subst}
 use Rattle.std.proofs.lemmas.Result.{err_from_is_err_and}
 use Rattle.clnp_views.specs.Extent.{Extent, seen}
-use Rattle.clnp_plan.specs.declared.note.Note.TheVariants.{Sent}
-use Rattle.clnp_machine.specs.Local.{refusal, unit_of}
-use Rattle.local_entity.specs.Local.{Stands}
+use Rattle.clnp_machine.specs.Local.{Sends, Tells, refusal, sent_note, unit_of, unless_refused}
+use Rattle.local_entity.specs.declared.action.Action.{Action}
+use Rattle.local_entity.specs.Local.{Appends, Stands}
 use Rattle.local_entity.specs.State.{EntityState}
 use Rattle.local_entity.specs.Seen.{state_of}
 use Rattle.local_entity.proofs.Making.{stands_making, appends_making}
@@ -20,7 +20,7 @@ returns-clause-answer c = λ s stands moment.
     let here = subst (λ (e : EntityState). Stands e s) (sym c.self.view_is) stands in
     let size = sym (ap (λ (l : List ℕ). length l) c.bytes-len.ensures.octets) in (
       (c.in_ok-head.ensures.answer s (seen c.args.body.now) stands moment size).0,
-      c.saturating_add-unit.ensures ∙ ap (λ (n : ℕ). min (n + 1) (2 ^ 64 - 1)) here.count,
+      c.send.ensures.number ∙ ap (λ (n : ℕ). min (n + 1) (2 ^ 64 - 1)) here.count,
     )
 
 pub returns-clause-stands : goal.returns-clause-stands
@@ -28,10 +28,16 @@ returns-clause-stands c = λ s stands moment.
     let here = subst (λ (e : EntityState). Stands e s) (sym c.self.view_is) stands in
     let size = sym (ap (λ (l : List ℕ). length l) c.bytes-len.ensures.octets) in
     let u = unit_of s c.args.kind c.args.from c.args.to (seen c.args.body.now) c.args.ask.now in
-    stands_making (state_of c.self.inside) c.drawn-id.new.pool c.saturating_add-unit.result s u (refusal s u)
+    let counted = ap (λ (n : ℕ). min (n + 1) (2 ^ 64 - 1)) here.count in
+    let body = ap (λ (e : Extent). seen e) c.in-Ok.ensures in
+    let pending = c.note.ensures c.args.kind s.pending u
+    (record { unit = c.saturating_add-unit.result; from = c.args.from; to = c.args.to; body = c.in-Ok.body })
+    here.pending c.in-Ok-of.ensures
+    (record { number = c.saturating_add-unit.ensures ∙ counted; source = refl; destination = refl; shown = body }) in
+    subst (λ (e : EntityState). Stands e (unless_refused (refusal s u) s u).after) (sym c.send.ensures.counted)
+    (stands_making (state_of c.self.inside) c.drawn-id.new.pool c.send.result c.note.new.self s u (refusal s u)
     (c.in_ok-head.ensures.answer s (seen c.args.body.now) stands moment size).0
-    here (c.drawn-id.ensures.stands s here.identifiers moment)
-    (c.saturating_add-unit.ensures ∙ ap (λ (n : ℕ). min (n + 1) (2 ^ 64 - 1)) here.count)
+    here (c.drawn-id.ensures.stands s here.identifiers moment) (c.send.ensures.number ∙ counted) pending)
 
 pub returns-clause-actions : goal.returns-clause-actions
 returns-clause-actions c = λ s stands moment.
@@ -39,13 +45,10 @@ returns-clause-actions c = λ s stands moment.
     let size = sym (ap (λ (l : List ℕ). length l) c.bytes-len.ensures.octets) in
     let answer = c.in_ok-head.ensures.answer s (seen c.args.body.now) stands moment size in
     let u = unit_of s c.args.kind c.args.from c.args.to (seen c.args.body.now) c.args.ask.now in
-    let number = c.saturating_add-unit.ensures ∙ ap (λ (n : ℕ). min (n + 1) (2 ^ 64 - 1)) here.count in
+    let number = c.send.ensures.number ∙ ap (λ (n : ℕ). min (n + 1) (2 ^ 64 - 1)) here.count in
     let id = c.drawn-id.ensures.id s here.identifiers in
     let body = ap (λ (e : Extent). seen e) c.in-Ok.ensures in
-    let before = c.try_reserve.ensures.items in
-    appends_making c.args.out.now.items c.push_reserved-2.new.self.items
-    (Sent c.args.kind c.saturating_add-unit.result c.drawn-id.result c.args.from c.args.to (length c.bytes-len.result.now))
-    (record { unit = c.saturating_add-unit.result; to = c.args.to; head = c.in_ok-head.head; body = c.in-Ok.body })
-    s u (refusal s u) answer.0
-    (c.push_reserved-2.ensures.items ∙ rw (c.push_reserved.ensures.items, before) refl)
-    (rw (number, id, size) refl) number refl answer.1 body
+    appends_making c.args.out.now.items c.send.new.out.items s u (refusal s u) answer.0
+    (subst (λ (l : List Action). Appends l c.send.new.out.items (Tells (sent_note u) ∷ Sends u ∷ [])) c.try_reserve.ensures.items
+    (c.send.ensures.actions u
+    (record { kind = refl; identifier = id; source = refl; destination = refl; spells = answer.1; shown = body }) number))

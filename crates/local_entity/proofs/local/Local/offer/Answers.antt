@@ -1,17 +1,19 @@
 -- By what comes of the segment.
-use Rattle.std.proofs.Common.{◌≤◌, List, ◌∷◌, ◌++◌, [], ap, sym, ◌∙◌, subst, vec_capacity}
-use Rattle.reassembly.specs.Arrival.{arrival_of}
+use Rattle.std.proofs.Common.{◌≡◌, ◌≤◌, ℕ, List, ap, refl, sym, ◌∙◌, subst, vec_capacity}
+use Rattle.std.proofs.Math.Seq.{take-length}
+use Rattle.clnp_views.specs.Extent.{seen}
+use Rattle.reassembly.specs.Arrival.{Arrival, arrival_of}
 use Rattle.reassembly.specs.Buffer.{after}
-use Rattle.reassembly.specs.State.{IsReady, Names}
-use Rattle.clnp_plan.specs.declared.note.Note.TheVariants.{Got}
-use Rattle.clnp_machine.specs.Local.{offer}
+use Rattle.reassembly.specs.Ending.{without_last}
+use Rattle.reassembly.specs.State.{IsReady, IsWholeSlot, Names, Stands as StandsFor, TableState, said}
+use Rattle.clnp_machine.specs.Local.{Deed, hand_up, takes_in}
 use Rattle.local_entity.specs.declared.action.Action.{Action}
-use Rattle.local_entity.specs.declared.action.Action.TheVariants.{Note as Noted}
 use Rattle.local_entity.specs.Local.{Appends, Stands}
 use Rattle.local_entity.specs.State.{EntityState}
 use Rattle.local_entity.specs.Seen.{state_of}
 use Rattle.local_entity.proofs.Completed.{completed, completed_slot}
-use Rattle.local_entity.proofs.Offering.{said_not_whole, told_appends, told_ready, told_stands, whole_appends, whole_ready, whole_stands}
+use Rattle.local_entity.proofs.Undone.{undone_same}
+use Rattle.local_entity.proofs.Offering.{kept_stands, offer_is, others, said_not_whole, told_ready, told_stands, whole_appends, whole_ready, whole_stands}
 use Rattle.local_entity.proofs.local.Local.offer.Goals as goal
 
 pub joined-octets-requires-clause-whole : goal.joined-octets-requires-clause-whole
@@ -22,58 +24,126 @@ joined-octets-requires-clause-whole c =
     (c.in-Whole.ensures.stands ready.buffers ready.stands) (c.accept.ensures.slot c.in-Whole.slot c.in-Whole.is) done in
     (slot.0, subst (λ n. n ≤ vec_capacity c.in_ok-room.room) (sym slot.1) c.in_ok-room.ensures.room)
 
+pub undo-requires : goal.undo-requires
+undo-requires c =
+    subst (λ (t : TableState). IsWholeSlot t c.in-Whole.slot.0) (sym (ap (λ (e : EntityState). e.table) c.self-in-Whole.view_is ∙ c.hand_up.ensures.table))
+    (c.accept.ensures.whole c.in-Whole.slot c.in-Whole.is)
+
 pub release-requires : goal.release-requires
-release-requires c = c.accept.ensures.whole c.in-Whole.slot c.in-Whole.is
+release-requires c =
+    subst (λ (t : TableState). IsWholeSlot t c.in-Whole.slot.0) (sym (ap (λ (e : EntityState). e.table) c.self-in-Whole.view_is ∙ c.hand_up.ensures.table))
+    (c.accept.ensures.whole c.in-Whole.slot c.in-Whole.is)
 
-pub returns-in-Whole-clause-stands : goal.returns-in-Whole-clause-stands
-returns-in-Whole-clause-stands c s frame arrival stands moment shows =
-    let here = subst (λ (e : EntityState). Stands e s) (sym c.self.view_is) stands in
-    whole_stands (state_of c.self.inside) c.args.now c.args.segment s frame arrival here moment shows c.release.new.self
-    (c.in-Whole.ensures.answered here.buffers here.table) (c.release.ensures.limits ∙ c.accept.ensures.limits)
-    (c.release.ensures.stands (after c.self.inside.table.limits c.args.now (arrival_of c.args.segment) here.buffers) c.args.segment.key
-    (c.in-Whole.ensures.stands here.buffers here.table) (c.accept.ensures.slot c.in-Whole.slot c.in-Whole.is))
+-- where it isn't handed up, the table is as before the segment came
+undone : (c : goal.After-drop-frame-inside-in_default-hand_up) → c.undo.new.self ≡ c.self.inside.table
+undone c =
+    let ready = subst (λ (e : EntityState). IsReady c.args.now e.table) (sym c.self.view_is) c.requires.ready in
+    let table_is : c.self-in-Whole.inside.table ≡ c.accept.new.self = ap (λ (e : EntityState). e.table) c.self-in-Whole.view_is ∙ c.hand_up.ensures.table in
+    let later = after c.self.inside.table.limits c.args.now (arrival_of c.args.segment) ready.buffers in
+    let names = subst (λ (t : TableState). Names t c.in-Whole.slot.0 c.args.segment.key) (sym table_is) (c.accept.ensures.slot c.in-Whole.slot c.in-Whole.is) in
+    undone_same c.self.inside.table c.accept.new.self c.undo.new.self c.args.now c.args.segment ready.buffers ready.stands c.requires.offered.is_part
+    (sym (c.in-Whole.ensures.answered ready.buffers ready.stands))
+    (c.undo.ensures.limits ∙ ap (λ (t : TableState). t.limits) table_is ∙ c.accept.ensures.limits)
+    (c.undo.ensures.stands later c.args.segment.key
+    (subst (λ (t : TableState). StandsFor t later) (sym table_is) (c.in-Whole.ensures.stands ready.buffers ready.stands)) names)
+    (c.in-Whole.ensures.segments refl)
+    (c.undo.ensures.segments c.args.segment.key names ∙ ap (λ (t : TableState). without_last c.args.segment.key t.segments) table_is)
 
-pub returns-in-Whole-clause-actions : goal.returns-in-Whole-clause-actions
-returns-in-Whole-clause-actions c s frame arrival stands moment shows =
+pub returns-in_default-hand_up-clause-same : goal.returns-in_default-hand_up-clause-same
+returns-in_default-hand_up-clause-same c =
+    ap (λ (e : EntityState). record e { table = c.undo.new.self }) (c.self-in-Whole.view_is ∙ c.in_default-hand_up.ensures.same)
+    ∙ ap (λ (t : TableState). record (state_of c.self.inside) { table = t }) (undone c)
+    ∙ c.self.view_is
+
+pub returns-in_default-hand_up-clause-ready : goal.returns-in_default-hand_up-clause-ready
+returns-in_default-hand_up-clause-ready c hold =
+    subst (λ (t : TableState). IsReady c.args.now t) (sym (undone c))
+    (subst (λ (e : EntityState). IsReady c.args.now e.table) (sym c.self.view_is) c.requires.ready)
+
+pub returns-in-Ok-hand_up-clause-stands : goal.returns-in-Ok-hand_up-clause-stands
+returns-in-Ok-hand_up-clause-stands c s content arrival stands moment shows same purpose =
     let here = subst (λ (e : EntityState). Stands e s) (sym c.self.view_is) stands in
     let told = c.in-Whole.ensures.answered here.buffers here.table in
     let done = completed c.self.inside.table.limits c.args.now (arrival_of c.args.segment) here.buffers (sym told) in
-    whole_appends (state_of c.self.inside) c.args.now c.args.segment s frame arrival here moment shows c.joined-octets.result done.buffer c.args.out.now.items c.note.new.out.items
-    told done.found
-    (c.joined-octets.ensures (after c.self.inside.table.limits c.args.now (arrival_of c.args.segment) here.buffers) done.buffer
-    (c.in-Whole.ensures.stands here.buffers here.table) done.found_by_key
-    (subst (Names c.accept.new.self c.in-Whole.slot.0) (sym done.key) (c.accept.ensures.slot c.in-Whole.slot c.in-Whole.is)))
-    (c.note.ensures.noted
-    ∙ ap (λ (actions : List Action). actions ++ Noted (Got c.args.segment.key.from c.args.segment.key.to c.joined-octets.result) ∷ []) c.reserve.ensures.items)
+    let later = after c.self.inside.table.limits c.args.now (arrival_of c.args.segment) here.buffers in
+    let table_is : c.self-in-Whole.inside.table ≡ c.accept.new.self = ap (λ (e : EntityState). e.table) c.self-in-Whole.view_is ∙ c.hand_up.ensures.table in
+    let kept = c.in-Whole.ensures.stands here.buffers here.table in
+    let named = c.accept.ensures.slot c.in-Whole.slot c.in-Whole.is in
+    let buffers = others (state_of c.self.inside) c.args.now c.args.segment s content arrival here moment shows in
+    whole_stands (state_of c.self.inside) c.args.now c.args.segment s content arrival here moment shows (state_of c.self-in-Whole.inside) c.release.new.self
+    c.joined-octets.result done.buffer told done.found
+    (c.joined-octets.ensures later done.buffer kept done.found_by_key (subst (Names c.accept.new.self c.in-Whole.slot.0) (sym done.key) named))
+    (subst (λ (e : EntityState). Stands e (hand_up (record s { buffers = buffers }) arrival.carried.unit.kind c.args.segment.key.from c.args.segment.key.to
+    c.joined-octets.result arrival.carried.options).after) (sym c.self-in-Whole.view_is)
+    (c.in-Ok-hand_up.ensures.stands (record s { buffers = buffers }) arrival.carried.unit.kind arrival.carried.options
+    (kept_stands (state_of c.self.inside) c.args.now c.args.segment s content arrival here moment shows c.accept.new.self c.accept.ensures.limits kept)
+    moment purpose))
+    c.release.ensures.limits
+    (c.release.ensures.stands later c.args.segment.key (subst (λ (t : TableState). StandsFor t later) (sym table_is) kept)
+    (subst (λ (t : TableState). Names t c.in-Whole.slot.0 c.args.segment.key) (sym table_is) named))
 
-pub returns-in-Whole-clause-ready : goal.returns-in-Whole-clause-ready
-returns-in-Whole-clause-ready c hold =
+pub returns-in-Ok-hand_up-clause-actions : goal.returns-in-Ok-hand_up-clause-actions
+returns-in-Ok-hand_up-clause-actions c s content arrival stands moment shows same purpose =
+    let here = subst (λ (e : EntityState). Stands e s) (sym c.self.view_is) stands in
+    let told = c.in-Whole.ensures.answered here.buffers here.table in
+    let done = completed c.self.inside.table.limits c.args.now (arrival_of c.args.segment) here.buffers (sym told) in
+    let later = after c.self.inside.table.limits c.args.now (arrival_of c.args.segment) here.buffers in
+    let kept = c.in-Whole.ensures.stands here.buffers here.table in
+    let named = c.accept.ensures.slot c.in-Whole.slot c.in-Whole.is in
+    let buffers = others (state_of c.self.inside) c.args.now c.args.segment s content arrival here moment shows in
+    whole_appends (state_of c.self.inside) c.args.now c.args.segment s content arrival here moment shows c.joined-octets.result done.buffer
+    c.args.out.now.items c.hand_up.new.out.items told done.found
+    (c.joined-octets.ensures later done.buffer kept done.found_by_key (subst (Names c.accept.new.self c.in-Whole.slot.0) (sym done.key) named))
+    (subst (λ (before : List Action). Appends before c.hand_up.new.out.items (hand_up (record s { buffers = buffers }) arrival.carried.unit.kind
+    c.args.segment.key.from c.args.segment.key.to c.joined-octets.result arrival.carried.options).actions) c.reserve.ensures.items
+    (c.in-Ok-hand_up.ensures.actions (record s { buffers = buffers }) arrival.carried.unit.kind arrival.carried.options
+    (kept_stands (state_of c.self.inside) c.args.now c.args.segment s content arrival here moment shows c.accept.new.self c.accept.ensures.limits kept)
+    moment purpose))
+
+pub returns-in-Ok-hand_up-clause-ready : goal.returns-in-Ok-hand_up-clause-ready
+returns-in-Ok-hand_up-clause-ready c hold =
     let held = subst (λ (e : EntityState). 1 ≤ e.table.limits.hold) (sym c.self.view_is) hold in
     let ready = subst (λ (e : EntityState). IsReady c.args.now e.table) (sym c.self.view_is) c.requires.ready in
+    let table_is : c.self-in-Whole.inside.table ≡ c.accept.new.self = ap (λ (e : EntityState). e.table) c.self-in-Whole.view_is ∙ c.hand_up.ensures.table in
+    let later = after c.self.inside.table.limits c.args.now (arrival_of c.args.segment) ready.buffers in
     whole_ready c.self.inside.table c.release.new.self c.args.now c.args.segment ready held c.requires.offered.alive
     (sym (c.in-Whole.ensures.answered ready.buffers ready.stands))
-    (c.release.ensures.stands (after c.self.inside.table.limits c.args.now (arrival_of c.args.segment) ready.buffers) c.args.segment.key
-    (c.in-Whole.ensures.stands ready.buffers ready.stands) (c.accept.ensures.slot c.in-Whole.slot c.in-Whole.is))
+    (c.release.ensures.stands later c.args.segment.key
+    (subst (λ (t : TableState). StandsFor t later) (sym table_is) (c.in-Whole.ensures.stands ready.buffers ready.stands))
+    (subst (λ (t : TableState). Names t c.in-Whole.slot.0 c.args.segment.key) (sym table_is) (c.accept.ensures.slot c.in-Whole.slot c.in-Whole.is)))
 
 pub returns-in_default-accept-clause-stands : goal.returns-in_default-accept-clause-stands
-returns-in_default-accept-clause-stands c s frame arrival stands moment shows =
+returns-in_default-accept-clause-stands c s content arrival stands moment shows same purpose =
     let here = subst (λ (e : EntityState). Stands e s) (sym c.self.view_is) stands in
-    told_stands (state_of c.self.inside) c.args.now c.args.segment s frame arrival here moment shows c.accept.result c.accept.new.self
+    subst (λ (deed : Deed). Stands c.tell.new.self deed.after)
+    (sym (offer_is (state_of c.self.inside) c.args.now c.args.segment s content arrival here moment shows (said c.accept.result)
+    (c.accept.ensures.answered here.buffers here.table)))
+    (c.tell.ensures.stands s content arrival (others (state_of c.self.inside) c.args.now c.args.segment s content arrival here moment shows)
+    (told_stands (state_of c.self.inside) c.args.now c.args.segment s content arrival here moment shows c.accept.result c.accept.new.self
     (c.accept.ensures.answered here.buffers here.table) (said_not_whole c.accept.result c.in_default-accept.not-Whole) c.accept.ensures.same
-    c.accept.ensures.limits (c.accept.ensures.stands here.buffers here.table)
+    c.accept.ensures.limits (c.accept.ensures.stands here.buffers here.table))
+    (same ∙ sym (ap seen c.in_ok-frame.ensures ∙ take-length c.args.frame.now)))
 
 pub returns-in_default-accept-clause-actions : goal.returns-in_default-accept-clause-actions
-returns-in_default-accept-clause-actions c s frame arrival stands moment shows =
+returns-in_default-accept-clause-actions c s content arrival stands moment shows same purpose =
     let here = subst (λ (e : EntityState). Stands e s) (sym c.self.view_is) stands in
-    subst (λ (before : List Action). Appends before c.tell.new.out.items (offer s frame arrival).actions) c.reserve.ensures.items
-    (told_appends (state_of c.self.inside) c.args.now c.args.segment s frame arrival here moment shows c.accept.result c.held.result c.accept.new.self
-    c.reserve.new.self.items c.tell.new.out.items (c.accept.ensures.answered here.buffers here.table) c.held.ensures.held
-    (c.accept.ensures.stands here.buffers here.table) c.tell.ensures)
+    subst (λ (deed : Deed). Appends c.args.out.now.items c.tell.new.out.items deed.actions)
+    (sym (offer_is (state_of c.self.inside) c.args.now c.args.segment s content arrival here moment shows (said c.accept.result)
+    (c.accept.ensures.answered here.buffers here.table)))
+    (subst (λ (before : List Action). Appends before c.tell.new.out.items (takes_in s content arrival
+    (others (state_of c.self.inside) c.args.now c.args.segment s content arrival here moment shows) (said c.accept.result)).actions) c.reserve.ensures.items
+    (c.tell.ensures.actions s content arrival (others (state_of c.self.inside) c.args.now c.args.segment s content arrival here moment shows)
+    (told_stands (state_of c.self.inside) c.args.now c.args.segment s content arrival here moment shows c.accept.result c.accept.new.self
+    (c.accept.ensures.answered here.buffers here.table) (said_not_whole c.accept.result c.in_default-accept.not-Whole) c.accept.ensures.same
+    c.accept.ensures.limits (c.accept.ensures.stands here.buffers here.table))
+    (same ∙ sym (ap seen c.in_ok-frame.ensures ∙ take-length c.args.frame.now))
+    (ap (λ (a : Arrival (List ℕ)). a.key.id) (sym shows.shown)) (ap (λ (a : Arrival (List ℕ)). a.offset) (sym shows.shown))))
 
 pub returns-in_default-accept-clause-ready : goal.returns-in_default-accept-clause-ready
 returns-in_default-accept-clause-ready c hold =
     let held = subst (λ (e : EntityState). 1 ≤ e.table.limits.hold) (sym c.self.view_is) hold in
     let ready = subst (λ (e : EntityState). IsReady c.args.now e.table) (sym c.self.view_is) c.requires.ready in
-    told_ready c.self.inside.table c.accept.new.self c.args.now c.args.segment ready held c.requires.offered.alive
+    subst (λ (t : TableState). IsReady c.args.now t) (sym c.tell.ensures.table)
+    (told_ready c.self.inside.table c.accept.new.self c.args.now c.args.segment ready held c.requires.offered.alive
     (λ whole. said_not_whole c.accept.result c.in_default-accept.not-Whole (c.accept.ensures.answered ready.buffers ready.stands ∙ whole))
-    (c.accept.ensures.stands ready.buffers ready.stands)
+    (c.accept.ensures.stands ready.buffers ready.stands))

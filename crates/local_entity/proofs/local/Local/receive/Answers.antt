@@ -1,18 +1,17 @@
 -- By what the frame begins with.
-use Rattle.std.proofs.Common.{◌≤◌, ◌∷◌, [], ℕ, List, length, ap, sym, ◌∙◌, subst, arith, refl}
+use Rattle.std.proofs.Common.{◌≤◌, ℕ, List, length, ap, sym, ◌∙◌, subst, arith}
 use Rattle.std.proofs.lemmas.Result.{on_ok_weaker}
+use Rattle.clnp_options.specs.Parameter.{parameters}
 use Rattle.pdu_header.specs.Grammar.{BeginsWith}
 use Rattle.pdu_header.specs.Value.{PduValue}
 use Rattle.pdu_header.specs.View.{pdu_value}
 use Rattle.pdu_header.proofs.Written.{length-header}
 use Rattle.reassembly.specs.declared.segment.Segment.{Segment}
 use Rattle.reassembly.specs.Offered.{MayCome}
-use Rattle.clnp_plan.specs.declared.note.Note.TheVariants.{Got}
 use Rattle.clnp_machine.specs.Content.{Labelled}
-use Rattle.clnp_machine.specs.Local.{Deed, offered}
-use Rattle.local_entity.specs.declared.action.Action.TheVariants.{Note as Noted}
+use Rattle.clnp_machine.specs.Local.{Deed, hand_up, offered}
 use Rattle.local_entity.specs.Local.{Appends, Stands}
-use Rattle.local_entity.specs.Receipt.{IsShown}
+use Rattle.local_entity.specs.Receipt.{IsShown, purpose_of}
 use Rattle.local_entity.proofs.Receiving.{is_shown, may_come, receives_segment, receives_whole, value_is}
 use Rattle.local_entity.proofs.local.Local.receive.Goals as goal
 
@@ -25,22 +24,27 @@ pub returns-in_default-segment_part-clause-stands :
     goal.returns-in_default-segment_part-clause-stands
 returns-in_default-segment_part-clause-stands c =
     on_ok_weaker c.hand_up.result
-    (λ got s p following stands moment carriable split.
-    let e = value_is c.a_frame_carries_one_packet.ensures c.bytes.result.now (pdu_value c.in-Ok.pdu) c.in-Ok.pdu.rest.now c.in-Ok.ensures.found p following carriable (c.bytes.ensures ∙ split) in
-    subst (λ (deed : Deed). Stands c.args.self.now deed.after)
-    (sym (receives_whole c.in-Ok.pdu s p following e (sym c.segment_part.ensures ∙ c.in_default-segment_part.is))) stands)
-    c.hand_up.ensures.got
+    (λ handed s p following stands moment carriable split.
+    let pdu = c.in-Ok.pdu in
+    let e = value_is c.a_frame_carries_one_packet.ensures c.bytes.result.now (pdu_value pdu) pdu.rest.now c.in-Ok.ensures.found p following carriable (c.bytes.ensures ∙ split) in
+    subst (λ (deed : Deed). Stands c.hand_up.new.self deed.after)
+    (ap (λ (octets : List ℕ). hand_up s pdu.kind pdu.from pdu.to octets (parameters pdu.options.now)) c.in_ok-octets.ensures
+    ∙ sym (receives_whole pdu s p following e (sym c.segment_part.ensures ∙ c.in_default-segment_part.is)))
+    (handed s pdu.kind (parameters pdu.options.now) stands moment c.purpose_in-purpose.ensures))
+    c.hand_up.ensures.stands
 
 pub returns-in_default-segment_part-clause-actions :
     goal.returns-in_default-segment_part-clause-actions
 returns-in_default-segment_part-clause-actions c =
     on_ok_weaker c.hand_up.result
-    (λ got s p following stands moment carriable split.
-    let e = value_is c.a_frame_carries_one_packet.ensures c.bytes.result.now (pdu_value c.in-Ok.pdu) c.in-Ok.pdu.rest.now c.in-Ok.ensures.found p following carriable (c.bytes.ensures ∙ split) in
+    (λ handed s p following stands moment carriable split.
+    let pdu = c.in-Ok.pdu in
+    let e = value_is c.a_frame_carries_one_packet.ensures c.bytes.result.now (pdu_value pdu) pdu.rest.now c.in-Ok.ensures.found p following carriable (c.bytes.ensures ∙ split) in
     subst (λ (deed : Deed). Appends c.args.out.now.items c.hand_up.new.out.items deed.actions)
-    (sym (receives_whole c.in-Ok.pdu s p following e (sym c.segment_part.ensures ∙ c.in_default-segment_part.is)))
-    (record { actions = Noted (Got c.in-Ok.pdu.from c.in-Ok.pdu.to c.in-Ok.pdu.body.now) ∷ []; appended = got; do_all = (refl, tt) }))
-    c.hand_up.ensures.got
+    (ap (λ (octets : List ℕ). hand_up s pdu.kind pdu.from pdu.to octets (parameters pdu.options.now)) c.in_ok-octets.ensures
+    ∙ sym (receives_whole pdu s p following e (sym c.segment_part.ensures ∙ c.in_default-segment_part.is)))
+    (handed s pdu.kind (parameters pdu.options.now) stands moment c.purpose_in-purpose.ensures))
+    c.hand_up.ensures.actions
 
 pub segment_in-requires-clause-head : goal.segment_in-requires-clause-head
 segment_in-requires-clause-head c =
@@ -67,7 +71,8 @@ returns-clause-stands c =
     let shows = subst (λ (segment : Segment). IsShown segment (offered p following)) (sym c.in_ok-segment.ensures)
     (is_shown c.args.frame.now pdu c.in-Some.part c.in-Ok.ensures.header some p following carriable split e) in
     subst (λ (deed : Deed). Stands c.offer.new.self deed.after) (sym (receives_segment pdu c.in-Some.part s p following e some))
-    (offers s (Labelled p following) (offered p following) stands moment shows))
+    (offers s (Labelled p following) (offered p following) stands moment shows (sym split)
+    (c.purpose_in-purpose.ensures ∙ ap (λ (v : PduValue). purpose_of v.kind v.options) e)))
     c.offer.ensures.stands
 
 pub returns-clause-actions : goal.returns-clause-actions
@@ -80,5 +85,6 @@ returns-clause-actions c =
     let shows = subst (λ (segment : Segment). IsShown segment (offered p following)) (sym c.in_ok-segment.ensures)
     (is_shown c.args.frame.now pdu c.in-Some.part c.in-Ok.ensures.header some p following carriable split e) in
     subst (λ (deed : Deed). Appends c.args.out.now.items c.offer.new.out.items deed.actions) (sym (receives_segment pdu c.in-Some.part s p following e some))
-    (offers s (Labelled p following) (offered p following) stands moment shows))
+    (offers s (Labelled p following) (offered p following) stands moment shows (sym split)
+    (c.purpose_in-purpose.ensures ∙ ap (λ (v : PduValue). purpose_of v.kind v.options) e)))
     c.offer.ensures.actions

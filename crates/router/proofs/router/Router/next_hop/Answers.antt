@@ -7,4 +7,4 @@ use Rattle.router.proofs.router.Router.next_hop.Goals as goal
 pub returns : goal.returns
 returns c = λ s h.
     let stands = subst (λ (router : RouterState). entity.Stands router.entity s) (sym c.self.view_is) h in
-    c.next_hop.ensures s s.moment stands.parts
+    c.way.ensures s s.moment stands.parts

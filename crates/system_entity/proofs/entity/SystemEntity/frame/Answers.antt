@@ -19,14 +19,14 @@ comes_again : (arrival : Arrival) (s : SystemState) (place : Place) (group : Boo
     → ComesOf arrival s place group content (record here { spent = spent }) before after
 comes_again Done s place group content here spent before after h =
     record { parts = while_spent here spent _ h.parts; outputs = h.outputs }
-comes_again (Passes to) s place group content here spent before after h = h
+comes_again (Passes passing) s place group content here spent before after h = h
 
 -- there is a state for which it stands
 some_state : (arrival : Arrival) (s : SystemState) (place : Place) (group : Bool) (content : Content) (old here : SystemEntityState)
     (before after : List Output) → ComesOf arrival s place group content here before after → LeavesAsItWas arrival old here before after
     → PartsStand old s → (t : SystemState) × PartsStand here t
 some_state Done s place group content old here before after h left stands = (_, h.parts)
-some_state (Passes to) s place group content old here before after h left stands =
+some_state (Passes passing) s place group content old here before after h left stands =
     (s, subst (λ (e : SystemEntityState). PartsStand e s) (sym left.0) stands)
 
 pub returns-clause-comes : goal.returns-clause-comes
@@ -46,6 +46,7 @@ invariant_of-self-2 c =
     record {
       moment = c.self-2.invariant.moment;
       hold = c.self-2.invariant.hold;
+      routes = c.self-2.invariant.routes;
       ready = λ free. record {
         state = some.0;
         stands = record {

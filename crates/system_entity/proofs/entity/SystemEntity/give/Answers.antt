@@ -1,11 +1,11 @@
 -- A unit goes by the hop towards its destination.
-use Rattle.std.proofs.Common.{◌≡◌, ◌∙◌, sym, ap, subst, ℕ, List, Option}
+use Rattle.std.proofs.Common.{◌≡◌, ◌∙◌, sym, subst, ℕ, List, Option}
 use Rattle.std.proofs.lemmas.Result.{on_ok_weaker}
 use Rattle.clnp_plan.specs.declared.output.Output.{Output}
 use Rattle.clnp_machine.specs.Given.{Appends}
 use Rattle.clnp_machine.specs.Local as machine
 use Rattle.clnp_machine.specs.Local.{Sends, Tells}
-use Rattle.clnp_machine.specs.Step.{Hop, first_sent, next_hop, outputs_of}
+use Rattle.clnp_machine.specs.Step.{Hop, first_sent, outputs_of, unit_hop}
 use Rattle.clnp_machine.specs.System.{SystemState}
 use Rattle.clnp_machine.specs.Unit.{Unit as DataUnit}
 use Rattle.local_entity.specs.Local.{Does}
@@ -20,12 +20,12 @@ use Rattle.system_entity.specs.Stands.{PartsStandSince}
 use Rattle.system_entity.proofs.entity.SystemEntity.give.Goals as goal
 
 unit_given : (s : SystemState) (before after : List Output) (action : Action) (made : Made) (hop : Option local.Hop) → action ≡ Send made
-    → hop_option hop ≡ next_hop s made.to
+    → ((u : DataUnit) → u.destination ≡ made.to → hop_option hop ≡ unit_hop s u)
     → ((u : DataUnit) → Does (Send made) (Sends u) → u.first_position ≡ 0 → Appends u.made before after (first_sent s u (hop_option hop)))
     → (other : machine.Action) → Does action other → IsFresh s.moment other → Appends s.moment before after (outputs_of s other)
 unit_given s before after action made hop is way given (Sends u) does fresh =
     let here = subst (λ (one : Action). Does one (Sends u)) is does in
-    let same : hop_option hop ≡ next_hop s u.destination = way ∙ ap (λ (to : List ℕ). next_hop s to) here.1 in
+    let same : hop_option hop ≡ unit_hop s u = way u (sym here.1) in
     subst (λ (m : ℕ). Appends m before after (outputs_of s (Sends u))) fresh.0
     (subst (λ (h : Option Hop). Appends u.made before after (first_sent s u h)) same (given u here fresh.1))
 unit_given s before after action made hop is way given (Tells note) does fresh =
@@ -36,6 +36,6 @@ returns-in-Send c =
     on_ok_weaker c.send_unit.result
     (λ given s before other h does fresh.
     let p = subst (λ (e : SystemEntityState). PartsStandSince before e s) (sym c.self.view_is) h in
-    unit_given s c.args.out.now.items c.send_unit.new.out.items c.args.action c.in-Send.made c.next_hop.result c.in-Send.is
-    (c.next_hop.ensures s before h) (λ u does_it first. given s u (c.config.ensures ∙ p.local.configuration) does_it first) other does fresh)
+    unit_given s c.args.out.now.items c.send_unit.new.out.items c.args.action c.in-Send.made c.unit_hop.result c.in-Send.is
+    (λ u to. c.unit_hop.ensures s before u h to) (λ u does_it first. given s u (c.config.ensures ∙ p.local.configuration) does_it first) other does fresh)
     c.send_unit.ensures

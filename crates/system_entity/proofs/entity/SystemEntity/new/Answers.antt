@@ -1,5 +1,7 @@
 -- The parts stand for the first state.
-use Rattle.std.proofs.Common.{refl, arith}
+use Rattle.std.proofs.Common.{refl, sym, subst, arith}
+use Rattle.forwarding.specs.Stands as routing
+use Rattle.clnp_plan.specs.Configuration.{SystemConfiguration}
 use Rattle.clnp_machine.specs.System.{first_state}
 use Rattle.system_entity.proofs.entity.SystemEntity.new.Goals as goal
 
@@ -18,6 +20,8 @@ pub invariant_of-result : goal.invariant_of-result
 invariant_of-result c = record {
   moment = c.requires.moment;
   hold = rw c.in_ok-local.ensures.hold c.requires.hold;
+  routes = subst (λ (x : SystemConfiguration). routing.Stands c.in_ok-routes.routes x.routes)
+      (sym (c.in_ok-local.ensures.stands 0 c.args.now).configuration) c.in_ok-routes.ensures;
   ready = λ free. record {
     state = first_state 0 c.args.config.now c.args.limits.now c.args.now c.args.quiet;
     stands = returns-clause-stands c 0;

@@ -13,12 +13,13 @@ use Rattle.system_entity.specs.Stands.{PartsStand}
 use Rattle.system_entity.proofs.Receipt.{expired_after, expired_outputs}
 use Rattle.system_entity.proofs.entity.SystemEntity.pdu_comes.Goals as goal
 
-pub returns-then-life-eq0-clause-comes : goal.returns-then-life-eq0-clause-comes
-returns-then-life-eq0-clause-comes c = λ s p following h carriable frame life to.
-    let over : (p.lifetime == 0) ≡ true = eq-eqb p.lifetime 0 (life ∙ c.if-life-eq0.true) in
+pub returns-then-pdu-eq0-clause-comes : goal.returns-then-pdu-eq0-clause-comes
+returns-then-pdu-eq0-clause-comes c = λ s p following h carriable frame is.
+    let over : (p.lifetime == 0) ≡ true = eq-eqb p.lifetime 0 (is.lifetime ∙ c.if-pdu-eq0.true) in
     record {
       parts = subst (λ (t : SystemState). PartsStand c.drop_frame.new.self t) (sym (expired_after s p following c.args.place c.args.group over))
-          (c.in_ok-drop_frame.ensures.stands s (Labelled p following) h carriable (sym frame));
+          (subst (λ (reason : ℕ). PartsStand c.drop_frame.new.self (discard s (Labelled p following) reason 0).after)
+          c.code-reason.ensures (c.in_ok-drop_frame.ensures.stands s (Labelled p following) h carriable (sym frame)));
       outputs = subst (λ (outputs : List Output). Appends s.moment c.args.out.now.items c.drop_frame.new.out.items outputs)
           (sym (expired_outputs s p following c.args.place c.args.group over))
           (subst (λ (reason : ℕ). Appends s.moment c.args.out.now.items c.drop_frame.new.out.items (effect_of (discard s (Labelled p following) reason 0)).outputs)
@@ -26,12 +27,12 @@ returns-then-life-eq0-clause-comes c = λ s p following h carriable frame life t
     }
 
 pub returns-clause-comes : goal.returns-clause-comes
-returns-clause-comes c = λ s p following h carriable frame life to.
+returns-clause-comes c = λ s p following h carriable frame is.
     let parts = subst (λ (e : SystemEntityState). PartsStand e s) (sym c.self.view_is) h in
-    let alive : (p.lifetime == 0) ≡ false = ne_eqb p.lifetime 0 (λ none. c.if-life-eq0.false (sym life ∙ none)) in
+    let alive : (p.lifetime == 0) ≡ false = ne_eqb p.lifetime 0 (λ none. c.if-pdu-eq0.false (sym is.lifetime ∙ none)) in
     let own : is_own s p.unit.destination ≡ true =
-    ap (λ (a : List ℕ). has_address s.configuration a) to
-    ∙ ap (λ (x : SystemConfiguration). has_address x c.args.to) (sym parts.local.configuration) ∙ sym c.if-not-is_own.ensures in
+    ap (λ (a : List ℕ). has_address s.configuration a) is.destination
+    ∙ ap (λ (x : SystemConfiguration). has_address x c.args.pdu.to) (sym parts.local.configuration) ∙ sym c.if-not-is_own.ensures in
     record {
       parts = c.in_ok-receive.ensures.stands s p following h carriable frame alive own;
       outputs = c.in_ok-receive.ensures.outputs s p following h carriable frame alive own;

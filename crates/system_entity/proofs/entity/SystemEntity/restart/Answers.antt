@@ -1,5 +1,7 @@
 -- Both parts stand for the state after a restart.
 use Rattle.std.proofs.Common.{◌≡◌, ◌∙◌, sym, subst, arith}
+use Rattle.forwarding.specs.Stands as routing
+use Rattle.clnp_plan.specs.Configuration.{SystemConfiguration}
 use Rattle.clnp_machine.specs.Local.{restarted}
 use Rattle.clnp_machine.specs.System.{SystemState}
 use Rattle.system_entity.specs.State.{SystemEntityState}
@@ -33,6 +35,7 @@ pub invariant_of-self : goal.invariant_of-self
 invariant_of-self c = record {
   moment = c.self.invariant.moment;
   hold = rw c.restart.ensures.limits c.self.invariant.hold;
+  routes = subst (λ (x : SystemConfiguration). routing.Stands c.self.inside.routes x.routes) (sym c.restart.ensures.config) c.self.invariant.routes;
   ready = λ free.
       let r = c.self.invariant.ready free in
       record { state = restarted r.state; stands = again c r.state r.stands; ready = c.restart.ensures.ready c.self.inside.moment };

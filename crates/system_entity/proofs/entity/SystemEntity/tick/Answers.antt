@@ -13,6 +13,7 @@ invariant_of-self-2 c =
     record {
       moment = c.self-2.invariant.moment;
       hold = c.self-2.invariant.hold;
+      routes = c.self-2.invariant.routes;
       ready = λ free. record {
         state = (moment_comes old.state c.args.now).after;
         stands = record {

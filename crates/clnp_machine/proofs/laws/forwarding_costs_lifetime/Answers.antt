@@ -1,0 +1,5 @@
+use Rattle.clnp_machine.proofs.Sent.{passing_sends}
+use Rattle.clnp_machine.proofs.laws.forwarding_costs_lifetime.Goals as goal
+
+pub returns : goal.returns
+returns c = passing_sends

@@ -1,0 +1,232 @@
+-- What deeds of a system leave, the units counted in that are made in them: reports, which have no identifier, and what is asked for.
+use Rattle.clnp_base.proofs.Lists.{AllByRecursion-contains, AllByRecursion-implies}
+use Rattle.std.proofs.Common.{◌≡◌, ◌∙◌, ◌<◌, ◌≤◌, refl, sym, ap, subst, ℕ, inl, inr, false, List, [], ◌∷◌, ◌++◌, slice_get, Option, None, Some, append_assoc}
+use Rattle.std.specs.List.{AllByRecursion}
+use Rattle.std.proofs.lemmas.Bool.{cases_Bool}
+use Rattle.std.proofs.lemmas.List.{append-nil}
+use Rattle.std.proofs.lemmas.List.Elements.{Contains-append_cases}
+use Rattle.std.proofs.lemmas.List.Quantifiers.{all_pairs_push}
+use Rattle.std.proofs.lemmas.Option.{none-some}
+use Rattle.hex.specs.Hex.{IsBytes}
+use Rattle.pdu_header.specs.declared.kind.Kind.{Kind}
+use Rattle.pdu_header.specs.declared.kind.Kind.TheVariants.{Er, Erp}
+use Rattle.pdu_header.specs.Rules.{is_reportable}
+use Rattle.clnp_plan.specs.Configuration.{SystemConfiguration}
+use Rattle.clnp_plan.specs.declared.ask.Ask.{Ask}
+use Rattle.clnp_plan.specs.declared.note.Note.{Note}
+use Rattle.clnp_plan.specs.declared.note.Note.TheVariants.{Refused}
+use Rattle.reassembly.specs.Buffer.{Buffer, held, is_whole}
+use Rattle.scenario.specs.Scenario.{Plan}
+use Rattle.clnp_machine.specs.Identifiers.{Identifiers}
+use Rattle.clnp_machine.specs.Unit as unit
+use Rattle.clnp_machine.specs.Unit.{DeclaredAt, Packet}
+use Rattle.clnp_machine.specs.Content.{Content, frame_of}
+use Rattle.clnp_machine.specs.System.{SystemState}
+use Rattle.clnp_machine.specs.Local.{Action, Sends, Tells, Deed, and_then, discard, made_in, make, makes, refusal, reports_from, tells, unit_of, unless_refused}
+use Rattle.clnp_machine.specs.Steps.{IsAtMostReportOf, LeavesTheRest}
+use Rattle.clnp_machine.specs.Told.{IsRefusal, NoteIsQuiet, TellsOnly}
+use Rattle.clnp_network.specs.World.{World}
+use Rattle.clnp_network.specs.Run.{Entry}
+use Rattle.clnp_network.specs.Safe.{Rests}
+use Rattle.clnp_safety.specs.Invariant.{AreUsesUntil, BufferIsSound, EachRests, IsInUses, NoteIsHonest, SystemIsSound}
+use Rattle.clnp_safety.specs.StepLaws.{StepLaws}
+use Rattle.clnp_safety.proofs.Lines.{quiet_is_honest}
+use Rattle.clnp_safety.proofs.SendAsked.{asked_is_new}
+use Rattle.clnp_safety.proofs.SendUnits.{IsNew, maker_after, new_rests}
+use Rattle.clnp_safety.proofs.Units.{buffer_later}
+
+-- what the soundness of a system goes by is as before
+pub record IsLike (s t : SystemState) : Type 0 where
+  pub place : t.place ≡ s.place
+  pub configuration : t.configuration ≡ s.configuration
+  pub hold : t.hold ≡ s.hold
+  pub moment : t.moment ≡ s.moment
+  pub identifiers : t.identifiers ≡ s.identifiers
+  pub buffers : t.buffers ≡ s.buffers
+
+pub like_rest : (s t : SystemState) → LeavesTheRest s t → IsLike s t
+like_rest s t rest = record {
+  place = rest.place;
+  configuration = rest.configuration;
+  hold = rest.hold;
+  moment = rest.moment;
+  identifiers = rest.identifiers;
+  buffers = rest.buffers;
+}
+
+pub like_is_sound : (plan : Plan) (units : List unit.Unit) (now place : ℕ) (s t : SystemState) → IsLike s t → SystemIsSound plan units now place s
+    → SystemIsSound plan units now place t
+like_is_sound plan units now place s t like sound = record {
+  stands_at = like.place ∙ sound.stands_at;
+  declared = sound.declared ∙ ap Some (sym like.configuration);
+  hold = like.hold ∙ sound.hold;
+  moment = like.moment ∙ sound.moment;
+  reuse = ap (λ (ids : Identifiers). ids.reuse) like.identifiers ∙ sound.reuse;
+  uses = subst (λ (ids : Identifiers). AreUsesUntil now ids.uses) (sym like.identifiers) sound.uses;
+  used = λ u there maker. subst (λ ids. IsInUses ids u) (sym like.identifiers) (sound.used u there maker);
+  buffers = subst (AllByRecursion (BufferIsSound plan units)) (sym like.buffers) sound.buffers;
+  not_due = subst (AllByRecursion (λ (b : Buffer Packet). now < b.deadline)) (sym like.buffers) sound.not_due;
+  not_whole = subst (AllByRecursion (λ (b : Buffer Packet). is_whole b ≡ false)) (sym like.buffers) sound.not_whole;
+  budget = subst (λ (buffers : List (Buffer Packet)). held buffers ≤ t.configuration.settings.budget) (sym like.buffers)
+      (subst (λ (c : SystemConfiguration). held s.buffers ≤ c.settings.budget) (sym like.configuration) sound.budget);
+}
+
+-- Reports are whole units, and no replies.
+
+pub record IsReport (u : unit.Unit) : Type 0 where
+  pub kind : u.kind ≡ Er
+  pub whole : u.identifier ≡ None
+
+-- the data of an echo reply are octets
+abbrev pub RepliesInOctets : unit.Unit → Type 0
+RepliesInOctets u = u.kind ≡ Erp → IsBytes u.octets
+
+no_reply : (u : unit.Unit) → IsReport u → RepliesInOctets u
+no_reply u is erp = let same : Er ≡ Erp = sym is.kind ∙ erp in absurd (cc)
+
+pub reports_reply_nothing : (made : List unit.Unit) → AllByRecursion IsReport made → AllByRecursion RepliesInOctets made
+reports_reply_nothing made are = AllByRecursion-implies IsReport RepliesInOctets no_reply made are
+
+pub reports_are_sound : (plan : Plan) (units made : List unit.Unit) (now place : ℕ) (s : SystemState) → AllByRecursion IsReport made
+    → SystemIsSound plan units now place s → SystemIsSound plan (units ++ made) now place s
+reports_are_sound plan units made now place s are h = record {
+  stands_at = h.stands_at;
+  declared = h.declared;
+  hold = h.hold;
+  moment = h.moment;
+  reuse = h.reuse;
+  uses = h.uses;
+  used = λ u has maker. elim (Contains-append_cases units made u has) [
+    | inl before ↦ h.used u before maker
+    | inr new ↦ (λ identifier identified. absurd (none-some identifier (sym (AllByRecursion-contains IsReport made u new are).whole ∙ identified)))
+  ];
+  buffers = AllByRecursion-implies (BufferIsSound plan units) (BufferIsSound plan (units ++ made)) (buffer_later units made plan) s.buffers h.buffers;
+  not_due = h.not_due;
+  not_whole = h.not_whole;
+  budget = h.budget;
+}
+
+pub reports_rest : (reuse : ℕ) (units made : List unit.Unit) → AllByRecursion IsReport made → EachRests reuse units → EachRests reuse (units ++ made)
+reports_rest reuse units [] are rest = subst (EachRests reuse) (sym (append-nil units)) rest
+reports_rest reuse units (u ∷ made) are rest =
+    subst (EachRests reuse) (append_assoc units (u ∷ []) made)
+    (reports_rest reuse (units ++ u ∷ []) made are.1
+    (all_pairs_push (Rests reuse) units u rest
+    (λ k d within maker identifier first second. absurd (none-some identifier (sym are.0.whole ∙ second)))))
+
+pub at_most_report : (frame : List ℕ) (made : List unit.Unit) → IsAtMostReportOf frame made → AllByRecursion IsReport made
+at_most_report frame made most =
+    elim most [
+      | inl none ↦ subst (AllByRecursion IsReport) (sym none) tt
+      | inr one ↦ subst (AllByRecursion IsReport) (sym one.1) (record { kind = one.2.kind; whole = one.2.whole }, tt)
+    ]
+
+-- Reports.
+
+-- what the report of a discard leaves
+record Reports (s : SystemState) (deed : Deed) : Type 0 where
+  like : IsLike s deed.after
+  tells : AllByRecursion (TellsOnly NoteIsQuiet) deed.actions
+
+reports_quietly : (s : SystemState) (frame : List ℕ) (reason place : ℕ) (own : Option (List ℕ)) → Reports s (reports_from own s frame reason place)
+reports_quietly s frame reason place None = record {
+  like = record { place = refl; configuration = refl; hold = refl; moment = refl; identifiers = refl; buffers = refl };
+  tells = tt;
+}
+reports_quietly s frame reason place (Some own) =
+    elim (cases_Bool (is_reportable frame)) [
+      | inl wanted ↦ rw wanted (record {
+        like = record { place = refl; configuration = refl; hold = refl; moment = refl; identifiers = refl; buffers = refl };
+        tells = (tt, (tt, tt));
+      })
+      | inr unwanted ↦ rw unwanted (record {
+        like = record { place = refl; configuration = refl; hold = refl; moment = refl; identifiers = refl; buffers = refl };
+        tells = tt;
+      })
+    ]
+
+-- whatever a discard of a frame leaves, a system is as it was, and tells nothing
+pub discard_is_like : (s : SystemState) (frame : Content) (reason place : ℕ) → IsLike s (discard s frame reason place).after
+discard_is_like s frame reason place = (reports_quietly s (frame_of frame) reason place (slice_get s.configuration.addresses 0)).like
+
+pub discard_reports : StepLaws → (s : SystemState) (frame : Content) (reason place : ℕ) → AllByRecursion IsReport (made_in (discard s frame reason place).actions)
+discard_reports laws s frame reason place =
+    at_most_report (frame_of frame) (made_in (discard s frame reason place).actions) (laws.deeds.reported s frame reason place)
+
+-- a system before a deed, and the units
+pub record MayDo (plan : Plan) (units : List unit.Unit) (now place : ℕ) (s : SystemState) : Type 0 where
+  pub sound : SystemIsSound plan units now place s
+  pub rest : EachRests plan.limits.reuse units
+
+module _ (plan : Plan) (past : List Entry) (w : World) (name : List ℕ) where
+  -- what a system of this name tells is honest
+  abbrev pub IsHonest : Note → Type 0
+  IsHonest = NoteIsHonest plan past w name
+
+  pub quiet_action : (action : Action) → TellsOnly NoteIsQuiet action → TellsOnly IsHonest action
+  quiet_action (Tells told) h = quiet_is_honest plan past w name told h
+  quiet_action (Sends u) h = tt
+
+  pub refusal_is_honest : (note : Note) → IsRefusal (Some note) → IsHonest note
+  refusal_is_honest (Refused why value) h = tt
+  refusal_is_honest _ h = absurd h
+
+  module _ (units : List unit.Unit) (now place : ℕ) where
+    -- what a deed leaves is sound beside the units that are made in it, and what it tells is honest
+    pub record DeedIsSound (deed : Deed) : Type 0 where
+      pub after : SystemIsSound plan (units ++ made_in deed.actions) now place deed.after
+      pub rest : EachRests plan.limits.reuse (units ++ made_in deed.actions)
+      pub replies : AllByRecursion RepliesInOctets (made_in deed.actions)
+      pub tells : AllByRecursion (TellsOnly IsHonest) deed.actions
+
+    pub tells_soundly : (s : SystemState) (note : Note) → MayDo plan units now place s → IsHonest note → DeedIsSound (tells s note)
+    tells_soundly s note may honest = record {
+      after = subst (λ us. SystemIsSound plan us now place s) (sym (append-nil units)) may.sound;
+      rest = subst (EachRests plan.limits.reuse) (sym (append-nil units)) may.rest;
+      replies = tt;
+      tells = (honest, tt);
+    }
+
+    pub told_and_done : (s : SystemState) (note : Note) (next : SystemState → Deed) → IsHonest note → DeedIsSound (next s)
+        → DeedIsSound (and_then (tells s note) next)
+    told_and_done s note next honest h = record { after = h.after; rest = h.rest; replies = h.replies; tells = (honest, h.tells) }
+
+    pub discards_soundly : StepLaws → (s : SystemState) (frame : Content) (reason at : ℕ) → MayDo plan units now place s → DeedIsSound (discard s frame reason at)
+    discards_soundly laws s frame reason at may =
+        let deed = discard s frame reason at in
+        let are = discard_reports laws s frame reason at in
+        record {
+          after = reports_are_sound plan units (made_in deed.actions) now place deed.after are
+              (like_is_sound plan units now place s deed.after (discard_is_like s frame reason at) may.sound);
+          rest = reports_rest plan.limits.reuse units (made_in deed.actions) are may.rest;
+          replies = reports_reply_nothing (made_in deed.actions) are;
+          tells = (
+            tt,
+            AllByRecursion-implies (TellsOnly NoteIsQuiet) (TellsOnly IsHonest) quiet_action
+                (reports_from (slice_get s.configuration.addresses 0) s (frame_of frame) reason at).actions
+                (reports_quietly s (frame_of frame) reason at (slice_get s.configuration.addresses 0)).tells,
+          );
+        }
+
+    pub makes_soundly : (s : SystemState) (u : unit.Unit) → MayDo plan units now place s → IsNew plan now place s u → RepliesInOctets u
+        → DeedIsSound (makes s u)
+    makes_soundly s u may new in_octets = record {
+      after = maker_after plan units now place s u new may.sound;
+      rest = new_rests plan units now place s u new may.rest may.sound;
+      replies = (in_octets, tt);
+      tells = (tt, (tt, tt));
+    }
+
+    module _ (laws : StepLaws) (s : SystemState) (kind : Kind) (from to octets : List ℕ) (ask : Ask) (may : MayDo plan units now place s)
+        (in_octets : kind ≡ Erp → IsBytes octets) where
+      unless_refused_soundly : (refused : Option Note) → IsRefusal refused → refusal s (unit_of s kind from to octets ask) ≡ refused
+          → DeedIsSound (unless_refused refused s (unit_of s kind from to octets ask))
+      unless_refused_soundly None refuses none =
+          makes_soundly s (unit_of s kind from to octets ask) may (asked_is_new laws plan units now place s kind from to octets ask none may.sound)
+          in_octets
+      unless_refused_soundly (Some note) refuses some = tells_soundly s note may (refusal_is_honest note refuses)
+
+      -- a unit that is asked for
+      pub make_soundly : DeedIsSound (make s kind from to octets ask)
+      make_soundly =
+          unless_refused_soundly (refusal s (unit_of s kind from to octets ask)) (laws.deeds.refused s (unit_of s kind from to octets ask)) refl

@@ -1,0 +1,107 @@
+-- What is handed up of error reports and echo replies is founded on what was made before.
+use Rattle.clnp_base.proofs.Lists.{slice_get_some}
+use Rattle.std.proofs.Common.{◌≡◌, ◌∙◌, refl, sym, ap, subst, ℕ, true, List, slice_get, Some, Contains, bytes_eq, arith}
+use Rattle.std.specs.Prelude.{◌&&◌}
+use Rattle.std.proofs.lemmas.Bool.{and_parts}
+use Rattle.std.proofs.lemmas.List.Folds.{list_any-from_Any}
+use Rattle.std.proofs.lemmas.Option.{same_Some, slice_get_within}
+use Rattle.std.proofs.lemmas.Slice.Eq.{bytes_eq-Decides}
+use Rattle.pdu_header.specs.declared.kind.Kind.TheVariants.{Er, Erp}
+use Rattle.echo.specs.Match.{echoes}
+use Rattle.scenario.specs.Scenario.{IsFit, Plan}
+use Rattle.clnp_plan.specs.Configuration.{SystemConfiguration}
+use Rattle.clnp_machine.specs.Unit as unit
+use Rattle.clnp_machine.specs.Unit.{DeclaredAt, Packet}
+use Rattle.clnp_machine.specs.System.{SystemState}
+use Rattle.clnp_machine.specs.Local.{is_answer, is_own}
+use Rattle.clnp_network.specs.World.{World}
+use Rattle.clnp_network.specs.Run.{Entry}
+use Rattle.clnp_network.specs.Safe.{IsAnswered, IsHeaderOfOwn, RequestedSinceRestart}
+use Rattle.clnp_safety.specs.Invariant.{IsMadeOn, IsPending, IsReportIn, Owns, UnitIsSound, WorldIsSound}
+use Rattle.clnp_safety.specs.StepLaws.{StepLaws}
+use Rattle.clnp_safety.proofs.BufferOffers.{unit_sound}
+use Rattle.clnp_safety.proofs.SendAsked.{own_address}
+use Rattle.clnp_safety.proofs.Units.{different_makers}
+
+same_octets : (a b : List ℕ) → bytes_eq a b ≡ true → a ≡ b
+same_octets a b e = (bytes_eq-Decides a b).0 e
+
+-- an address of a declaration is one of the system's own
+pub owned : (s : SystemState) (address : List ℕ) → Contains s.configuration.addresses address → is_own s address ≡ true
+owned s address there =
+    list_any-from_Any (λ other. bytes_eq other address) s.configuration.addresses
+    (there.0, address, there.1, there.2, (bytes_eq-Decides address address).1 refl)
+
+module _ (laws : StepLaws) (plan : Plan) (fit : IsFit plan) (past : List Entry) (w : World) (h : WorldIsSound plan past w) where
+  -- the system at a place of a world, as it is declared
+  record IsDeclared (place : ℕ) (configuration : SystemConfiguration) : Type 0 where
+    system : SystemState
+    there : slice_get w.systems place ≡ Some system
+    same : system.configuration ≡ configuration
+
+  declared_at : (place : ℕ) (configuration : SystemConfiguration) → slice_get plan.systems place ≡ Some configuration → IsDeclared place configuration
+  declared_at place configuration declared =
+      let within = slice_get_within plan.systems place configuration declared in
+      let number = h.systems.number in
+      let found = slice_get_some w.systems place (omega arith) in
+      record {
+        system = found.0;
+        there = found.1;
+        same = same_Some found.0.configuration configuration (sym (h.systems.each place found.0 found.1).sound.declared ∙ declared);
+      }
+
+  module _ (u : unit.Unit) (made : Contains w.units u) where
+    it : UnitIsSound plan past w.units w.clock u
+    it = unit_sound plan past w.clock w.units u h.made made
+
+    module _ (place : ℕ) (s : SystemState) (declared : slice_get plan.systems place ≡ Some s.configuration) where
+      pub report_is_founded : u.kind ≡ Er → is_own s u.destination ≡ true → IsHeaderOfOwn w s.configuration.name u.octets
+      report_is_founded er own =
+          let report : IsReportIn w.units u = subst (λ kind. IsMadeOn plan past w.units kind u) er it.founded in
+          let of = unit_sound plan past w.clock w.units report.packet.unit h.made report.range.unit in
+          let owns : Owns plan place u.destination = record { system = s.configuration; there = declared; own = own_address s u.destination own } in
+          let one : of.place ≡ place
+          = different_makers plan of.place place u.destination fit (subst (Owns plan of.place) report.destination of.owner) owns in
+          let at = declared_at place s.configuration declared in
+          record {
+            place = place;
+            system = at.system;
+            packet = report.packet;
+            made = record { made = report.range.unit; maker = of.maker ∙ ap DeclaredAt one; there = at.there };
+            named = ap (λ (c : SystemConfiguration). c.name) at.same;
+            range = report.range;
+            header = report.data_are;
+          }
+
+      module _ (request : unit.Unit) (pending : IsPending past w.units place s.configuration.name request) where
+        pub reply_is_founded : u.kind ≡ Erp → is_answer u.source u.destination u.octets request ≡ true
+            → IsAnswered w past s.configuration.name u.source u.destination request.number
+        reply_is_founded erp answers =
+            let parts = and_parts (bytes_eq request.destination u.source) (bytes_eq request.source u.destination && echoes request.octets u.octets) answers in
+            let rest = and_parts (bytes_eq request.source u.destination) (echoes request.octets u.octets) parts.1 in
+            let to : request.destination ≡ u.source = same_octets request.destination u.source parts.0 in
+            let from : request.source ≡ u.destination = same_octets request.source u.destination rest.0 in
+            let at = declared_at place s.configuration declared in
+            let owner = declared_at it.place it.owner.system it.owner.there in
+            record {
+              since = subst (λ destination. RequestedSinceRestart past s.configuration.name request.number u.destination destination) to
+                  (subst (λ source. RequestedSinceRestart past s.configuration.name request.number source request.destination) from pending.since);
+              place = place;
+              system = at.system;
+              request = request;
+              requested = record { made = pending.made; maker = pending.maker; there = at.there };
+              named = ap (λ (c : SystemConfiguration). c.name) at.same;
+              request_kind = pending.kind;
+              request_number = refl;
+              request_source = from;
+              request_destination = to;
+              owner_place = it.place;
+              owner = owner.system;
+              reply = u;
+              replied = record { made = made; maker = it.maker; there = owner.there };
+              owns = owned owner.system u.source (subst (λ (c : SystemConfiguration). Contains c.addresses u.source) (sym owner.same) it.owner.own);
+              reply_kind = erp;
+              reply_source = refl;
+              reply_destination = refl;
+              answers = (laws.answers request.octets u.octets (subst (λ kind. IsMadeOn plan past w.units kind u) erp it.founded)).0 rest.1;
+            }

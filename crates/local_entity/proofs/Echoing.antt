@@ -1,0 +1,70 @@
+-- Echo requests answered, and replies taken for answers.
+use Rattle.std.proofs.Common.{◌≡◌, ◌∙◌, sym, ap, refl, subst, ℕ, false, List, [], Option, Some, None, length, arith}
+use Rattle.std.specs.List.{find}
+use Rattle.clnp_options.specs.Grammar.{FitsKind}
+use Rattle.clnp_options.specs.Parameter as options
+use Rattle.clnp_options.specs.Parameter.{parameters}
+use Rattle.clnp_plan.specs.declared.ask.Ask.{Ask}
+use Rattle.clnp_plan.specs.declared.ask.SendRefusal.{SendRefusal}
+use Rattle.clnp_plan.specs.declared.ask.SendRefusal.TheVariants as send
+use Rattle.clnp_plan.specs.declared.note.Note.{Note}
+use Rattle.pdu_header.specs.declared.kind.Kind.TheVariants.{Erp}
+use Rattle.clnp_machine.specs.Unit as unit
+use Rattle.clnp_machine.specs.System.{SystemState}
+use Rattle.clnp_machine.specs.Local.{echo_ask, is_answer, is_replied, make, refusal, replies, takes_reply, tells, unit_of, unless_refused, without_answered}
+use Rattle.local_entity.specs.declared.pending.Request.{Request}
+use Rattle.local_entity.specs.State.{EntityState}
+use Rattle.local_entity.specs.Local.{AreRequests, IsWhy, Stands, refusal_note}
+use Rattle.local_entity.proofs.Requests.{none_left}
+
+-- an entity with other requests stands for a system with other requests
+stands_pending : (local : EntityState) (noted : List Request) (s : SystemState) (pending : List unit.Unit) → Stands local s → AreRequests noted pending
+    → Stands (record local { pending = noted }) (record s { pending = pending })
+stands_pending local noted s pending stands are = record {
+  configuration = stands.configuration;
+  limits = stands.limits;
+  count = stands.count;
+  identifiers = stands.identifiers;
+  buffers = stands.buffers;
+  table = stands.table;
+  shown = stands.shown;
+  packets = stands.packets;
+  pending = are;
+}
+
+-- the entity from whose requests the answered one is taken out
+pub stands_replied : (local : EntityState) (noted : List Request) (s : SystemState) (source destination octets : List ℕ) → Stands local s
+    → AreRequests noted (without_answered (is_answer source destination octets) s.pending)
+    → Stands (record local { pending = noted }) (is_replied s source destination octets).after
+stands_replied local noted s source destination octets stands are = by (find (is_answer source destination octets) s.pending) refl
+  where
+    by : (found : Option unit.Unit) → find (is_answer source destination octets) s.pending ≡ found
+        → Stands (record local { pending = noted }) (takes_reply s source destination octets found).after
+    by None none = stands_pending local noted s s.pending stands (subst (AreRequests noted) (none_left (is_answer source destination octets) s.pending none) are)
+    by (Some request) some = stands_pending local noted s (without_answered (is_answer source destination octets) s.pending) stands are
+
+-- no options are such as each PDU but a report may have
+pub none_fit : FitsKind false (parameters [])
+unfolding options.parameters_after
+none_fit = (λ is. absurd (cc), λ any. absurd (let within = any.2 in omega arith))
+
+-- what is made is the reply
+pub reply_is : (s : SystemState) (source destination octets shown : List ℕ) (ask : Ask) → shown ≡ octets
+    → ask ≡ echo_ask s destination source (length octets) false → make s Erp destination source shown ask ≡ replies s source destination octets
+reply_is s source destination octets shown ask same asked =
+    ap (λ (l : List ℕ). make s Erp destination source l ask) same ∙ ap (make s Erp destination source octets) asked
+
+says_why : (e : SendRefusal) (note : Note) (answer : Option Note) → refusal_note e ≡ Some note → IsWhy e answer → answer ≡ Some note
+says_why send.NotMine note answer said why = why ∙ said
+says_why (send.TooLong octets) note answer said why = why ∙ said
+says_why (send.IdsBusy used) note answer said why = why ∙ said
+says_why (send.Quiet until) note answer said why = why ∙ said
+says_why send.NoMemory note answer said why = absurd (cc)
+
+-- a reply that is refused leaves its note
+pub refused_reply : (s : SystemState) (source destination octets shown : List ℕ) (ask : Ask) (e : SendRefusal) (note : Note) → shown ≡ octets
+    → ask ≡ echo_ask s destination source (length octets) false → refusal_note e ≡ Some note
+    → IsWhy e (refusal s (unit_of s Erp destination source shown ask)) → tells s note ≡ replies s source destination octets
+refused_reply s source destination octets shown ask e note same asked said why =
+    sym (ap (λ (r : Option Note). unless_refused r s (unit_of s Erp destination source shown ask)) (says_why e note _ said why))
+    ∙ reply_is s source destination octets shown ask same asked

@@ -1,0 +1,19 @@
+use Rattle.std.proofs.Common.{◌∙◌, List, sym, ap, subst}
+use Rattle.std.proofs.Math.Seq.{take-length}
+use Rattle.clnp_views.specs.Extent.{Extent, seen}
+use Rattle.clnp_machine.specs.Local.{discard}
+use Rattle.local_entity.specs.declared.action.Action.{Action}
+use Rattle.local_entity.specs.Local.{Appends}
+use Rattle.local_entity.proofs.local.Local.discard.Goals as goal
+
+pub returns-clause-stands : goal.returns-clause-stands
+returns-clause-stands c s content stands moment carried same =
+    c.discard_with_room.ensures.stands s content stands
+    (same ∙ sym (ap (λ (e : Extent). seen e) c.in_ok-frame.ensures ∙ take-length c.args.frame.now))
+
+pub returns-clause-actions : goal.returns-clause-actions
+returns-clause-actions c s content stands moment carried same =
+    subst (λ (before : List Action). Appends before c.discard_with_room.new.out.items (discard s content c.args.reason c.args.place).actions)
+    c.try_reserve.ensures.items
+    (c.discard_with_room.ensures.actions s content stands
+    (same ∙ sym (ap (λ (e : Extent). seen e) c.in_ok-frame.ensures ∙ take-length c.args.frame.now)))

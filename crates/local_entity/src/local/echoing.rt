@@ -1,0 +1,122 @@
+//! Echo requests answered, and replies taken for answers (RFC 1575).
+ghost use Rattle.std.specs.Prelude.{◌≡◌, ◌<◌, ◌^◌, ℕ, false, IfOk, OnOk, OnErr, Some};
+ghost use Rattle.clnp_options.specs.Grammar.{FitsKind};
+ghost use Rattle.clnp_options.specs.Parameter.{parameters};
+ghost use Rattle.clnp_machine.specs.Local as machine;
+ghost use Rattle.clnp_machine.specs.System.{SystemState};
+ghost use Rattle.local_entity.specs.Local as entity;
+ghost use Rattle.local_entity.specs.Local.{Appends, Stands};
+
+use super::Local;
+use crate::action::Action;
+use clnp_base::NoMemory;
+use clnp_options::OptionList;
+use clnp_plan::{Ask, Note, SendRefusal, Why};
+use clnp_views::Frame;
+use echo::needs_id;
+use nsap::Address;
+use pdu_header::Kind;
+use std::alloc::Global;
+
+impl Local {
+    /// How an echo request or reply with so many octets of data is sent: with the system's own lifetime, without options,
+    /// and such that it may be segmented where not every subnetwork takes it in one piece.
+    pub fn echo_ask(&self, from: &Address, to: &Address, len: usize, report: bool) -> Ask
+        ensures value { (s : SystemState) → Stands self.now s → result ≡ machine.echo_ask s from.now to.now len report }
+        ensures options { FitsKind false (parameters result.options) }
+    {
+        Ask {
+            life: self.config.settings().life,
+            report,
+            segment: needs_id(from, to, len),
+            options: OptionList::new(),
+        }
+    }
+
+    /// Answers an echo request with its data, or appends why it can't.
+    ///
+    /// # Errors
+    ///
+    /// `NoMemory`: nothing changes then.
+    pub(super) fn reply(
+        &mut self,
+        alloc: Global,
+        now: u64,
+        from: Address,
+        to: Address,
+        octets: &[u8],
+        out: &mut Vec<Action>,
+    ) -> Result<(), NoMemory>
+        requires moment { now < 2 ^ 62 }
+        ensures stands { OnOk result ((s : SystemState) → Stands self.old s → s.moment ≡ now
+            → Stands self.new (machine.replies s from to octets.now).after) }
+        ensures actions { OnOk result ((s : SystemState) → Stands self.old s → s.moment ≡ now
+            → Appends out.old.items out.new.items (machine.replies s from to octets.now).actions) }
+        ensures same { OnErr result (self.new ≡ self.old) }
+        ensures none { OnErr result (out.new.items ≡ out.old.items) }
+        ensures config { self.new.configuration ≡ self.old.configuration }
+        ensures table { self.new.table ≡ self.old.table }
+    {
+        let body = Frame::copy(alloc, octets)?.into_view();
+        let ask = self.echo_ask(&to, &from, octets.len(), false);
+        match self.make(alloc, now, Kind::Erp, to, from, &body, &ask, out) {
+            Ok(_) => Ok(()),
+            Err(refusal) => {
+                let note = refusal_note(refusal)?;
+                out.push(Action::Note(note))?;
+                Ok(())
+            }
+        }
+    }
+
+    /// Takes an echo reply for the oldest request that it answers, if there is one, and appends what is noted.
+    ///
+    /// # Errors
+    ///
+    /// `NoMemory`: nothing changes then.
+    pub(super) fn take_reply(
+        &mut self,
+        from: Address,
+        to: Address,
+        octets: &[u8],
+        out: &mut Vec<Action>,
+    ) -> Result<(), NoMemory>
+        ensures stands { OnOk result ((s : SystemState) → Stands self.old s
+            → Stands self.new (machine.is_replied s from to octets.now).after) }
+        ensures actions { OnOk result ((s : SystemState) → Stands self.old s
+            → Appends out.old.items out.new.items (machine.is_replied s from to octets.now).actions) }
+        ensures same { OnErr result (self.new ≡ self.old) }
+        ensures none { OnErr result (out.new.items ≡ out.old.items) }
+        ensures config { self.new.configuration ≡ self.old.configuration }
+        ensures table { self.new.table ≡ self.old.table }
+    {
+        let Ok(()) = out.try_reserve(1) else {
+            return Err(NoMemory);
+        };
+        let note = match self.pending.take(&from, &to, octets) {
+            Some(unit) => Note::Echoed { from, to, unit },
+            None => Note::Stray { from, to },
+        };
+        out.push_reserved(Action::Note(note));
+        Ok(())
+    }
+}
+
+/// What is noted of a unit that isn't made.
+///
+/// # Errors
+///
+/// `NoMemory` exactly where this is why.
+fn refusal_note(refusal: SendRefusal) -> Result<Note, NoMemory>
+    ensures note { IfOk result (λ note. entity.refusal_note refusal ≡ Some note) }
+    ensures memory { OnErr result (refusal ≡ SendRefusal.NoMemory) }
+{
+    let (why, value) = match refusal {
+        SendRefusal::NotMine => (Why::NotMine, 0),
+        SendRefusal::TooLong { octets } => (Why::TooLong, octets as u64),
+        SendRefusal::IdsBusy { used } => (Why::IdsBusy, used),
+        SendRefusal::Quiet { until } => (Why::Quiet, until),
+        SendRefusal::NoMemory => return Err(NoMemory),
+    };
+    Ok(Note::Refused { why, value })
+}

@@ -1,0 +1,26 @@
+-- A request is a unit that is made as its definition asks.
+use Rattle.std.proofs.Common.{◌≡◌, None, MatchResult, sym, subst}
+use Rattle.std.proofs.lemmas.Result.{on_ok_weaker}
+use Rattle.pdu_header.specs.declared.kind.Kind.TheVariants.{Erq}
+use Rattle.clnp_plan.specs.declared.ask.Ask.{Ask}
+use Rattle.clnp_machine.specs.Local as machine
+use Rattle.clnp_machine.specs.System.{next_number}
+use Rattle.local_entity.specs.Local.{IsWhy}
+use Rattle.system_entity.specs.State.{SystemEntityState}
+use Rattle.system_entity.specs.Stands.{Stands}
+use Rattle.system_entity.proofs.entity.SystemEntity.echo.Goals as goal
+
+pub returns-clause-answer : goal.returns-clause-answer
+returns-clause-answer c = λ s h.
+    let here = subst (λ (e : SystemEntityState). Stands e s) (sym c.self.view_is) h in
+    subst (λ (ask : Ask). MatchResult c.make.result
+    (λ unit. (machine.refusal s (machine.unit_of s Erq c.args.from c.args.to c.args.body.now ask) ≡ None) × (unit ≡ next_number s))
+    (λ e. IsWhy e (machine.refusal s (machine.unit_of s Erq c.args.from c.args.to c.args.body.now ask))))
+    (c.echo_ask-ask.ensures.value s here.parts.local) (c.make.ensures.answer s h)
+
+pub returns-clause-stands : goal.returns-clause-stands
+returns-clause-stands c =
+    on_ok_weaker c.make.result (λ stands s h.
+    let here = subst (λ (e : SystemEntityState). Stands e s) (sym c.self.view_is) h in
+    subst (λ (ask : Ask). Stands c.make.new.self (machine.make s Erq c.args.from c.args.to c.args.body.now ask).after)
+    (c.echo_ask-ask.ensures.value s here.parts.local) (stands s h)) c.make.ensures.stands

@@ -1,0 +1,38 @@
+//! PDUs that are for another address.
+ghost use Rattle.pdu_header.specs.Headers.{SpellsHeader};
+ghost use Rattle.pdu_header.specs.View.{pdu_value};
+ghost use Rattle.system_entity.specs.Comes.{HasValue};
+
+use nsap::Address;
+use pdu_header::{Header, Pdu};
+
+/// A PDU with a lifetime left for an address that isn't the system's: all that is needed so that it goes on.
+#[derive(Clone, Copy, Debug, PartialEq, Eq)]
+pub struct Passing {
+    /// The destination.
+    pub to: Address,
+    /// The lifetime that remains, in ticks of 500 ms (ISO/IEC 8473, section 7.2.5).
+    pub life: u8,
+    /// The header, which stands at the front of the frame.
+    pub head: Header,
+    /// How many octets of data follow it.
+    pub len: usize,
+}
+
+impl Passing {
+    /// What is needed of a PDU at the front of a frame.
+    #[tactic(auto, using(crate::proofs::Arrivals::of_value))]
+    pub(crate) fn of(pdu: &Pdu<'_>) -> Passing
+        requires { SpellsHeader (pdu_value pdu.now) pdu.now.head.now }
+        ensures { HasValue result (pdu_value pdu.now) }
+    {
+        let head = Header::of(pdu);
+        let len = pdu.body.len();
+        Passing {
+            to: pdu.to,
+            life: pdu.life,
+            head,
+            len,
+        }
+    }
+}

@@ -1,0 +1,67 @@
+//! Where a system sends.
+ghost use Rattle.std.specs.Prelude.{◌≡◌, Some};
+ghost use Rattle.clnp_machine.specs.Step as machine;
+ghost use Rattle.local_entity.specs.Sending.{machine_hop};
+ghost use Rattle.system_entity.specs.Ways.{machine_way};
+
+use esis_tables::Place;
+use forwarding::Route;
+use local_entity::Hop;
+use nsap::{Address, Snpa, Target};
+
+/// The next system on a router's way to an address: one's port to its subnetwork, its address there, and its title where it is
+/// reached by a route.
+#[derive(Clone, Copy, Debug, PartialEq, Eq)]
+pub struct Way {
+    pub port: u8,
+    pub snpa: Snpa,
+    pub title: Option<Address>,
+}
+
+/// The way to an end system that was heard of.
+pub(crate) fn to_neighbour(place: Place) -> Way
+    ensures { machine_way result ≡ machine.to_neighbour place }
+{
+    Way {
+        port: place.port,
+        snpa: place.snpa,
+        title: None,
+    }
+}
+
+/// The way by a route.
+pub(crate) fn by_route(route: &Route) -> Way
+    ensures { machine_way result ≡ machine.by_route route.now }
+{
+    Way {
+        port: route.port,
+        snpa: route.snpa,
+        title: Some(route.title),
+    }
+}
+
+/// The hop on a way.
+pub(crate) fn hop_by(way: &Way) -> Hop
+    ensures { machine_hop result ≡ machine.hop_by (machine_way way.now) }
+{
+    Hop {
+        port: way.port,
+        target: Target::System(way.snpa),
+    }
+}
+
+/// Where a host sends what is for a place, or else for a system that it knows no place of (ISO 9542, section 6.5).
+pub(crate) fn host_hop(place: Option<Place>) -> Hop
+    ensures { machine_hop result ≡ machine.host_hop place }
+{
+    match place {
+        Some(place) => Hop {
+            port: place.port,
+            target: Target::System(place.snpa),
+        },
+        None => Hop {
+            port: 0,
+            target: Target::EndSystems,
+        },
+    }
+}

@@ -1,0 +1,387 @@
+"""A plain model of the network: what hosts and routers do in a scenario, and the journal of it."""
+import collections
+
+from scenario_model import is_options
+
+MOST_WEIGHT = 268_435_456
+
+# whom a copy is for that is for a group
+GROUPS = {b"host": "es", b"router": "is"}
+
+TYPES = {"dt": 28, "er": 1, "erq": 30, "erp": 31}
+
+
+def sealed(header):
+    length, octets = len(header), list(header[:7] + bytes(2) + header[9:])
+    first = sum(octets) % 255
+    second = sum((length - at) * octet for at, octet in enumerate(octets)) % 255
+    octets[7] = ((length - 8) * first - second) % 255 or 255
+    octets[8] = (second - (length - 7) * first) % 255 or 255
+    return bytes(octets)
+
+
+def pdu(unit, life, offset, octets):
+    """A PDU of a unit, with these octets of its data from an offset."""
+    part = bytes([len(unit["to"])]) + unit["to"] + bytes([len(unit["from"])]) + unit["from"]
+    more = offset + len(octets) < len(unit["octets"])
+    flags = (0x20 if unit["report"] else 0) | (0x40 if more else 0) | TYPES[unit["kind"]]
+    if unit["id"] is not None:
+        flags |= 0x80
+        part += b"".join(value.to_bytes(2, "big") for value in (unit["id"], offset, unit["total"]))
+    part += unit["options"]
+    length = 9 + len(part)
+    header = bytes([0x81, length, 1, life, flags]) + (length + len(octets)).to_bytes(2, "big") + bytes(2) + part
+    return (sealed(header) if unit["sealed"] else header) + octets
+
+
+def pieces(unit, offset, octets, mtu):
+    """Offsets and octets of the PDUs in which a subnetwork takes these octets of a unit, where they may be cut."""
+    length = unit["total"] - len(unit["octets"])
+    if length + len(octets) <= mtu:
+        return [(offset, octets)]
+    room = (mtu - length) // 8 * 8
+    cut = [(offset + at, octets[at:at + room]) for at in range(0, len(octets), room)]
+    return None if unit["id"] is None else cut
+
+
+def request_of(octets):
+    """The data of the echo request that these octets are, where they are one and nothing follows it."""
+    if len(octets) < 9 or not 9 <= octets[1] <= min(254, len(octets)) or octets[0] != 0x81 or octets[2] != 1:
+        return None
+    header, octets, is_cut, more = octets[:octets[1]], octets[octets[1]:], octets[4] & 0x80, octets[4] & 0x40
+    if header[4] & 31 != TYPES["erq"] or header[7:9] not in (bytes(2), sealed(header)[7:9]) or more and not is_cut:
+        return None
+    at = 9
+    for _ in range(2):
+        if at >= len(header) or not 1 <= header[at] <= 20:
+            return None
+        at += 1 + header[at]
+    if at > len(header) or int.from_bytes(header[5:7], "big") != len(header) + len(octets):
+        return None
+    if is_cut:
+        offset, total = (int.from_bytes(header[at + start:at + start + 2], "big") for start in (2, 4))
+        end, at = len(header) + offset + len(octets), at + 6
+        if at > len(header) or end > total or (end == total) == bool(more):
+            return None
+    return octets if is_options(header[at:]) else None
+
+
+def needs_identifier(source, destination, octets):
+    """Whether an echo of these octets might be too long for a subnetwork."""
+    return 11 + len(source) + len(destination) + len(octets) > 512
+
+
+def hello(system):
+    """A system's hello: of its addresses, or of its title with the period that it asks hosts for."""
+    holding = min(65535, 2 * system.period).to_bytes(2, "big")
+    if system.role == b"host":
+        kind, part = 2, bytes([len(system.addresses)])
+        part += b"".join(bytes([len(octets)]) + octets for octets in system.addresses)
+    else:
+        kind, part = 4, bytes([len(system.addresses[0])]) + system.addresses[0]
+        if system.settings[b"suggest"] > 0:
+            part += b"\xc6\x02" + system.settings[b"suggest"].to_bytes(2, "big")
+    header = bytes([0x82, 9 + len(part), 1, 0, kind]) + holding + bytes(2) + part
+    return sealed(header) if system.sealed else header
+
+
+class Network:
+    """The network of a text: it plays the text's events."""
+
+    def __init__(self, text):
+        self.text, self.clock, self.copies, self.cursor, self.lines, self.weight = text, 0, [], 0, [], 0
+        self.met = collections.Counter()
+        self.age, self.hold, self.reuse = text.limits or (256, 60, 320)
+
+    def note(self, system, words):
+        self.lines.append(f"{self.clock} {system.name.decode()} {words}")
+
+    def puts(self, system, hop, frame, birth, **carried):
+        """A frame goes out on a port, to an address there or to a group."""
+        port, target = hop
+        subnet, snpa = system.ports[port]
+        copy = dict(subnet=subnet, sender=snpa, target=target, birth=birth, size=len(frame), **carried)
+        self.copies.append(copy)
+        self.weight += len(frame) + 64
+        shown = target if isinstance(target, str) else target.hex()
+        self.note(system, f"tx {len(self.copies)} {port} {shown} {frame.hex()}")
+
+    def entries(self, copy, system):
+        """The ports by which a copy comes to a system."""
+        def takes(snpa):
+            if copy["target"] in ("es", "is"):
+                return copy["target"] == GROUPS[system.role] and snpa != copy["sender"]
+            return copy["target"] == snpa
+
+        there = [(port, snpa) for port, (subnet, snpa) in sorted(system.ports.items()) if subnet == copy["subnet"]]
+        return [port for port, snpa in there if takes(snpa)]
+
+    def give(self, number_of_copy, system):
+        copy = self.copies[number_of_copy - 1]
+        port = self.entries(copy, system)[0]
+        if self.clock > copy["birth"] + self.age:
+            self.note(system, f"late {number_of_copy}")
+        elif "hello" in copy:
+            self.hears(system, (port, copy["sender"]), **copy["hello"])
+        elif copy["unit"]["to"] in system.addresses:
+            self.receive(system, copy)
+            if copy["target"] == "es":
+                self.tells_of_itself(system, (port, copy["sender"]))
+        elif system.role == b"host":
+            self.note(system, f"notmine {copy['unit']['to'].hex()}")
+        else:
+            self.forwards(system, copy)
+
+    # hellos
+
+    def says(self, system, hop):
+        suggest = system.settings[b"suggest"] if system.role == b"router" else 0
+        told = dict(role=system.role, addresses=system.addresses, holding=2 * system.period, suggest=suggest)
+        self.puts(system, hop, hello(system), self.clock, hello=told)
+
+    def tells_of_itself(self, system, hop):
+        if system.period > 0:
+            self.says(system, hop)
+
+    def hears(self, system, source, role, addresses, holding, suggest):
+        if system.role == b"router" and role == b"router":
+            return self.note(system, "ignored ish")
+        table = "es" if role == b"host" else "is"
+        answers = [self.keeps_in_mind(system, table, key, source, holding) for key in addresses]
+        if "new" in answers and (system.role, role) != (b"host", b"host"):
+            self.tells_of_itself(system, source)
+        if suggest > 0 and system.period > 0:
+            system.period = suggest
+            system.due = min(system.due, self.clock + 2 * suggest)
+
+    def keeps_in_mind(self, system, table, key, source, holding):
+        entries = system.heard[table]
+        limit = system.settings[{"es": b"neighbours", "is": b"routers"}[table]]
+        if key not in entries and len(entries) >= limit:
+            answer = f"full {len(entries)}"
+        else:
+            answer = "again" if key in entries else "new"
+            entries.pop(key, None)
+            entries[key] = dict(place=source, until=self.clock + 2 * holding)
+        self.note(system, f"hear {table} {key.hex()} {answer}")
+        return answer
+
+    def forgets(self, system):
+        for table, entries in system.heard.items():
+            for key in sorted(key for key, entry in entries.items() if entry["until"] <= self.clock):
+                del entries[key]
+                self.note(system, f"gone {table} {key.hex()}")
+
+    def says_hello(self, system):
+        if system.period > 0 and system.due <= self.clock:
+            system.due = self.clock + 2 * system.period
+            for port in sorted(system.ports):
+                self.says(system, (port, "is" if system.role == b"host" else "es"))
+
+    # units
+
+    def forwards(self, router, copy):
+        """A PDU for another address goes on, as what was cut of its unit and with what is left of its lifetime."""
+        hop = router.next_hop(copy["unit"]["to"], self.clock)
+        if hop is None:
+            return self.discards(router, copy, "81")
+        life = copy["life"] - router.transits[hop[0]]
+        if life <= 0:
+            return self.discards(router, copy, "a0")
+        if not self.goes_on(router, hop, copy["unit"], life, copy["birth"], copy["offset"], copy["octets"]):
+            self.discards(router, copy, "05")
+
+    def goes_on(self, system, hop, unit, life, birth, offset, octets):
+        """Octets of a unit go out on a port, in PDUs that its subnetwork takes, unless they may not be cut."""
+        cut = pieces(unit, offset, octets, self.text.subnets[system.ports[hop[0]][0]][1])
+        if cut is None:
+            return False
+        is_on_its_way, is_segment = life < unit["life"], len(octets) < len(unit["octets"])
+        self.met["forwarded"] += is_on_its_way
+        self.met["cut-again" if is_segment else "cut-on-the-way" if is_on_its_way else "cut"] += len(cut) > 1
+        for start, part in cut:
+            frame = pdu(unit, life, start, part)
+            header = frame[:len(frame) - len(part)]
+            self.puts(system, hop, frame, birth, unit=unit, life=life, offset=start, octets=part, header=header)
+        return True
+
+    def discards(self, system, copy, reason):
+        """A PDU is dropped, and its header goes back in an error report where one is wanted."""
+        self.note(system, f"drop {reason} 00")
+        if copy["unit"]["report"]:
+            option = b"\xc1\x02" + bytes.fromhex(reason) + b"\x00"
+            self.makes(system, "er", system.addresses[0], copy["unit"]["from"], copy["header"], options=option)
+
+    def receive(self, system, copy):
+        self.met["came-over-a-router"] += copy["life"] < copy["unit"]["life"]
+        if len(copy["octets"]) == len(copy["unit"]["octets"]):
+            self.is_whole(system, copy["unit"])
+        else:
+            self.offer(system, copy)
+
+    def is_whole(self, system, unit):
+        ends, octets = f"{unit['from'].hex()} {unit['to'].hex()}", unit["octets"]
+        if unit["kind"] == "dt":
+            self.note(system, f"got {ends} {octets.hex() or '-'}")
+        elif unit["kind"] == "er":
+            self.note(system, f"report {ends} {unit['options'][2]:02x} {unit['options'][3]:02x} {octets.hex() or '-'}")
+        elif unit["kind"] == "erq":
+            segment = needs_identifier(unit["to"], unit["from"], octets)
+            self.makes(system, "erp", unit["to"], unit["from"], octets, segment=segment)
+        else:
+            self.note(system, self.answered(system, unit, ends))
+
+    def answered(self, system, reply, ends):
+        """What is noted of an echo reply. Of the requests that it may answer the oldest isn't pending any more."""
+        for at, request in enumerate(system.pending):
+            is_back = (request["from"], request["to"]) == (reply["to"], reply["from"])
+            if is_back and request["octets"] in (reply["octets"], request_of(reply["octets"])):
+                self.met["answered-by-a-pdu"] += request["octets"] != reply["octets"]
+                return f"echoed {ends} {system.pending.pop(at)['number']}"
+        return f"stray {ends}"
+
+    def offer(self, system, copy):
+        unit, size, settings = copy["unit"], copy["size"], system.settings
+        key = (unit["from"], unit["to"], unit["id"])
+        identifier = f"{unit['id']:04x}"
+        there = [buffer for buffer in system.buffers if buffer["key"] == key]
+        covered = there[0]["octets"] if there else {}
+        places = range(copy["offset"], copy["offset"] + len(copy["octets"]))
+        shape = (unit["kind"], unit["total"], len(copy["header"]))
+        if there and there[0]["shape"] != shape:
+            self.note(system, f"interference {identifier}")
+            self.discards(system, copy, "c0")
+        elif all(at in covered for at in places):
+            self.note(system, f"repeat {identifier} {copy['offset']}")
+        elif not there and len(system.buffers) >= settings[b"slots"]:
+            self.note(system, f"noslot {len(system.buffers)}")
+            self.discards(system, copy, "03")
+        elif system.held() + size > settings[b"budget"]:
+            self.note(system, f"crowded {system.held()} {size}")
+            self.discards(system, copy, "03")
+        elif system.kept() >= settings[b"segments"]:
+            self.note(system, f"many {system.kept()}")
+            self.discards(system, copy, "03")
+        else:
+            if not there:
+                deadline = self.clock + min(self.hold, copy["life"])
+                there = [dict(key=key, shape=shape, deadline=deadline, kept=[], octets={})]
+                system.buffers.append(there[0])
+            buffer = there[0]
+            buffer["kept"].append(copy)
+            for at, octet in zip(places, copy["octets"]):
+                buffer["octets"].setdefault(at, octet)
+            if len(buffer["octets"]) == len(unit["octets"]):
+                system.buffers.remove(buffer)
+                octets = bytes(buffer["octets"][at] for at in range(len(unit["octets"])))
+                self.is_whole(system, dict(unit, octets=octets))
+            else:
+                self.note(system, f"held {identifier} {copy['offset']} {system.held()}")
+
+    def send(self, host, source, destination, octets, life, report, segment, options):
+        if source not in host.addresses:
+            return self.note(host, "refused not-mine 0")
+        if len(octets) > 64512:
+            return self.note(host, f"refused too-long {len(octets)}")
+        length = 11 + len(destination) + len(source) + len(options) + (6 if segment else 0)
+        if length > 254:
+            return self.note(host, f"refused too-long {length}")
+        self.makes(host, "dt", source, destination, octets, life, report, segment, options)
+
+    def echo(self, system, source, destination, octets):
+        if source not in system.addresses:
+            return self.note(system, "refused not-mine 0")
+        if len(octets) > 64512:
+            return self.note(system, f"refused too-long {len(octets)}")
+        segment = needs_identifier(source, destination, octets)
+        self.makes(system, "erq", source, destination, octets, report=True, segment=segment)
+
+    def draws(self, system):
+        """The next identifier, or why there is none."""
+        identifier = len(system.uses) % 65536
+        used = [moment for other, moment in system.uses if other == identifier]
+        if self.clock < system.quiet:
+            return None, f"refused quiet {system.quiet}"
+        if used and used[-1] + self.reuse > self.clock:
+            return None, f"refused ids-busy {used[-1]}"
+        system.uses.append((identifier, self.clock))
+        return identifier, f"{identifier:04x}"
+
+    def makes(self, system, kind, source, destination, octets, life=None, report=False, segment=False, options=b""):
+        """A unit is made and goes out, if it gets the identifier that it needs."""
+        identifier, shown = self.draws(system) if segment else (None, "-")
+        if segment and identifier is None:
+            return self.note(system, shown)
+        system.units += 1
+        total = 11 + len(destination) + len(source) + len(options) + (6 if segment else 0) + len(octets)
+        unit = {
+            "kind": kind, "number": system.units, "id": identifier, "total": total, "sealed": system.sealed,
+            "from": source, "to": destination, "octets": octets, "report": report, "options": options,
+            "life": system.settings[b"life"] if life is None else life,
+        }
+        if kind == "erq":
+            self.met["forgot-a-request"] += len(system.pending) == 8
+            system.pending = (system.pending + [unit])[-8:]
+        self.note(system, f"sent {kind} {system.units} {shown} {source.hex()} {destination.hex()} {len(octets)}")
+        is_to_itself = system.role == b"router" and destination in system.addresses
+        hop = None if is_to_itself else system.next_hop(destination, self.clock)
+        if hop is None:
+            self.note(system, "drop 81 00")
+        elif not self.goes_on(system, hop, unit, unit["life"], self.clock, 0, octets):
+            self.note(system, "drop 05 00")
+
+    # moves
+
+    def tick(self):
+        self.clock += 1
+        for system in self.text.systems:
+            self.expire(system)
+            self.forgets(system)
+            self.says_hello(system)
+
+    def expire(self, system):
+        while due := [buffer for buffer in system.buffers if buffer["deadline"] <= self.clock]:
+            buffer = min(due, key=lambda ended: ended["deadline"])
+            system.buffers.remove(buffer)
+            self.note(system, f"expired {buffer['key'][2]:04x} {system.held()}")
+            for first in [segment for segment in buffer["kept"] if segment["offset"] == 0][:1]:
+                self.discards(system, first, "a1")
+
+    def deliver(self, number_of_copy, system):
+        if number_of_copy <= len(self.copies) and self.entries(self.copies[number_of_copy - 1], system):
+            self.give(number_of_copy, system)
+        else:
+            self.note(system, f"void {number_of_copy}")
+
+    def pass_on(self, settles):
+        if self.cursor < len(self.copies):
+            self.cursor += 1
+            for system in self.text.systems if settles else []:
+                if self.entries(self.copies[self.cursor - 1], system):
+                    self.give(self.cursor, system)
+
+    def restart(self, system):
+        system.starts(self.clock, self.clock + self.reuse)
+        self.note(system, "restart")
+
+    def moves(self, event):
+        if event[0] in ("settle", "lose"):
+            return event[1] * [lambda: self.pass_on(event[0] == "settle")]
+        if event[0] == "tick":
+            return event[1] * [self.tick]
+        if event[0] == "deliver":
+            return [lambda: self.deliver(event[1], self.text.systems[event[2]])]
+        if event[0] == "restart":
+            return [lambda: self.restart(self.text.systems[event[1]])]
+        asked = self.send if event[0] == "send" else self.echo
+        return [lambda: asked(self.text.systems[event[1]], *event[2:])]
+
+    def journal(self):
+        """The journal, and the weight at which the run stops, where it does."""
+        for event in self.text.events:
+            for move in self.moves(event):
+                if self.weight >= MOST_WEIGHT:
+                    return "".join(line + "\n" for line in self.lines), self.weight
+                move()
+        self.lines.append(f"end {self.clock} {len(self.copies)}")
+        return "".join(line + "\n" for line in self.lines), None
