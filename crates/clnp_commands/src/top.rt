@@ -4,9 +4,9 @@ ghost use Rattle.std.specs.List.{AllByRecursion};
 ghost use Rattle.std.specs.Io.KnownBytes.{Consumes, Keeps};
 ghost use Rattle.clnp_base.specs.Streams.{Rose};
 ghost use Rattle.scenario.specs.Grammar.{plan_of};
-ghost use Rattle.clnp_network.specs.World.{first_world};
+ghost use Rattle.clnp_network.specs.World.{World, first_world};
 ghost use Rattle.clnp_network.specs.Run.{run, world_after};
-ghost use Rattle.clnp_network.specs.Safe.{CarriesRanges, EachIsFounded, FramesAreUnbroken, HoldsUnitsApart, IdentifiersRest, IsHonest, IsWithinBudgets, IsWithinLifetimes, NoInterference, NoneIsAlien, TellsNoRule};
+ghost use Rattle.clnp_network.specs.Safe.{CarriesRanges, EachIsFounded, FramesAreUnbroken, HoldsUnitsApart, IdentifiersRest, IsHonest, IsWithinBudgets, IsWithinLifetimes, NoInterference, NoneIsAlien, RedirectsChangeOneNextHop, TellsNoRule};
 ghost use Rattle.clnp_commands.specs.Words.{command_of, called, called_by, AppendsOutput, AppendsOutputFront, AppendsOutputParts, Excuses};
 ghost use Rattle.clnp_commands.specs.Sim.{most_input, ReadsWhole};
 ghost use Rattle.clnp_commands.specs.Play.{ComesTo};
@@ -131,6 +131,10 @@ pub fn clnp_main<S: Source, K: Sink>(
     ensures founded { (text : List ℕ) → IfOk (plan_of text) (λ plan. (moves : List Move)
         → EachIsFounded plan (first_world plan) [] moves) }
 
+    // Wherever a copy that carries a redirect is given to a system, its next hop towards each address
+    // but the redirect's destination is as before, and each other system is as it was.
+    ensures redirects { (text : List ℕ) → IfOk (plan_of text) (λ plan. (w : World) → RedirectsChangeOneNextHop plan.limits w) }
+
     // No line of a run notes a frame of no protocol.
     ensures known { (text : List ℕ) → IfOk (plan_of text) (λ plan. AllByRecursion (λ entry. NoneIsAlien entry.lines) (run plan)) }
 
@@ -171,6 +175,7 @@ fn every_run_is_safe()
         AllByRecursion (λ entry. AllByRecursion TellsNoRule entry.lines) (run plan)) }
     ensures founded { (text : List ℕ) → IfOk (plan_of text) (λ plan. (moves : List Move)
         → EachIsFounded plan (first_world plan) [] moves) }
+    ensures redirects { (text : List ℕ) → IfOk (plan_of text) (λ plan. (w : World) → RedirectsChangeOneNextHop plan.limits w) }
     ensures known { (text : List ℕ) → IfOk (plan_of text) (λ plan. AllByRecursion (λ entry. NoneIsAlien entry.lines) (run plan)) }
     ensures lifetimes { (text : List ℕ) → IfOk (plan_of text) (λ plan. (moves : List Move)
         → IsWithinLifetimes (world_after plan (first_world plan) moves)) }
@@ -185,6 +190,7 @@ fn every_run_is_safe()
     laws::no_frame_breaks_a_rule();
     laws::no_frame_is_refused();
     laws::reports_and_echoes_are_of_its_own();
+    laws::a_redirect_changes_one_next_hop();
     laws::no_frame_is_alien();
     laws::hops_are_within_lifetimes();
 }

@@ -4,7 +4,8 @@ use Rattle.std.specs.List.{list_any, range_with_len}
 use Rattle.nsap.specs.declared.target.Target.{Target}
 use Rattle.nsap.specs.declared.target.Target.TheVariants.{System, EndSystems, Routers}
 use Rattle.esis_pdus.specs.declared.pdu.EsisBody.{EsisBody}
-use Rattle.esis_pdus.specs.declared.pdu.EsisBody.TheVariants.{Esh, Ish, Rd}
+use Rattle.esis_pdus.specs.declared.pdu.EsisBody.TheVariants as body
+use Rattle.esis_pdus.specs.declared.pdu.EsisBody.TheVariants.{Esh, Ish}
 use Rattle.esis_pdus.specs.Making.{value, timer_options}
 use Rattle.esis_pdus.specs.Value.{EsisValue, suggested}
 use Rattle.esis_tables.specs.declared.fact.EsisLimits.{EsisLimits}
@@ -12,9 +13,10 @@ use Rattle.esis_tables.specs.declared.fact.Gone.{Gone}
 use Rattle.esis_tables.specs.declared.fact.Heard.TheVariants.{New}
 use Rattle.esis_tables.specs.declared.fact.Place.{Place}
 use Rattle.esis_tables.specs.declared.fact.TableKind.{TableKind}
-use Rattle.esis_tables.specs.declared.fact.TableKind.TheVariants.{Es, Is}
+use Rattle.esis_tables.specs.declared.fact.TableKind.TheVariants.{Es, Is, Rd}
 use Rattle.esis_tables.specs.Fact as facts
 use Rattle.esis_tables.specs.Gone.{gone}
+use Rattle.esis_tables.specs.NextHop.{is_router}
 use Rattle.clnp_plan.specs.declared.config.Role.{Role}
 use Rattle.clnp_plan.specs.declared.config.Role.TheVariants.{Host, Router}
 use Rattle.clnp_plan.specs.declared.note.Note.TheVariants as note
@@ -84,6 +86,14 @@ says_hello s =
     then gives (record s { next_hello = s.moment + 2 * s.hello }) (hello_everywhere s)
     else idles s
 
+-- Redirects.
+
+-- A redirect tells of the better way to an address: where the next system on it is, and its title where that isn't the system
+-- of the address itself (section 6.8).
+abbrev pub redirect : SystemState → (to via : List ℕ) → (title : Option (List ℕ)) → EsisValue
+redirect s to via title =
+    value s.configuration.settings.rhold s.configuration.settings.sealed (body.Rd to via title) []
+
 -- Hearing.
 
 -- the most entries of each kind that a system keeps in mind
@@ -140,11 +150,19 @@ intermediate_system_heard Host s place holding title timer =
     then_does (answers_new (hears s Is title place holding) place) (λ t. idles (follows t timer))
 intermediate_system_heard Router s place holding title timer = gives s (Notes (note.Ignored false) ∷ [])
 
--- an ES-IS PDU comes from a place; redirects aren't heard yet
+-- A redirect comes: an end system hears it from a router that it knows, and keeps in mind where the better hop to that address
+-- is (section 6.9); routers hear none.
+abbrev pub redirect_heard : Role → SystemState → Place → (holding : ℕ) → (to via : List ℕ) → Effect
+redirect_heard Host s place holding to via =
+    if is_router s.moment place.snpa s.facts then hears s Rd to (record { port = place.port; snpa = via }) holding
+    else gives s (Notes (note.Ignored true) ∷ [])
+redirect_heard Router s place holding to via = gives s (Notes (note.Ignored true) ∷ [])
+
+-- an ES-IS PDU comes from a place
 abbrev pub esis_heard : Role → SystemState → Place → (holding : ℕ) → EsisBody → (timer : Option ℕ) → Effect
 esis_heard role s place holding (Esh addresses) timer = end_system_heard role s place holding addresses
 esis_heard role s place holding (Ish title) timer = intermediate_system_heard role s place holding title timer
-esis_heard role s place holding (Rd to via title) timer = gives s (Notes (note.Ignored true) ∷ [])
+esis_heard role s place holding (body.Rd to via title) timer = redirect_heard role s place holding to via
 
 abbrev pub esis_comes : SystemState → Place → EsisValue → Effect
 esis_comes s place v = esis_heard s.configuration.role s place v.holding v.body (suggested v.body v.options)

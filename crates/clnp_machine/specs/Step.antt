@@ -1,8 +1,9 @@
 -- One step of a system, whatever comes to it: hosts and routers differ in where they send, in what they do with a packet for
 -- another address (ISO 8473, section 6), and in what they say and hear of each other (ISO 9542, section 6).
-use Rattle.std.specs.Prelude.{ℕ, ◌+◌, ◌-◌, ◌==◌, ◌&&◌, max, nat_le, not, Bool, false, if◌then◌else◌, List, [], ◌∷◌, map, slice_get, Option, None, Some, option_map}
+use Rattle.std.specs.Prelude.{ℕ, ◌+◌, ◌-◌, ◌==◌, ◌&&◌, max, nat_le, not, Bool, true, false, if◌then◌else◌, List, [], ◌∷◌, ◌++◌, map, slice_get, Option, None, Some, option_map}
 use Rattle.std.specs.List.{flat_map}
 use Rattle.std.specs.Option.{option_or}
+use Rattle.std.specs.Str.{bytes_eq}
 use Rattle.nsap.specs.declared.target.Target.{Target}
 use Rattle.nsap.specs.declared.target.Target.TheVariants.{System, EndSystems}
 use Rattle.esis_pdus.specs.declared.pdu.EsisRefusal.{EsisRefusal}
@@ -23,10 +24,11 @@ use Rattle.clnp_plan.specs.declared.config.Role.{Role}
 use Rattle.clnp_plan.specs.declared.config.Role.TheVariants.{Host, Router}
 use Rattle.clnp_plan.specs.declared.note.Note.{Note}
 use Rattle.clnp_plan.specs.declared.note.Note.TheVariants.{BadEsis, Discard, NotMine, Alien, Restart}
-use Rattle.clnp_machine.specs.Unit.{Unit, Packet, whole_packet, cut}
+use Rattle.pdu_header.specs.Value.{SegmentationPart}
+use Rattle.clnp_machine.specs.Unit.{Unit, Packet, segmentation_of, whole_packet, cut}
 use Rattle.clnp_machine.specs.Content.{Content, Labelled, Esis, Unlabelled}
-use Rattle.clnp_machine.specs.System.{SystemState, Input, AsksToSend, AsksForEcho, FrameComes, MomentComes, IsRestarted, Output, Transmits, Notes, Effect, idles, gives, then_does}
-use Rattle.clnp_machine.specs.Esis.{esis_comes, forgets, says_hello, tells_of_itself}
+use Rattle.clnp_machine.specs.System.{SystemState, Input, AsksToSend, AsksForEcho, FrameComes, MomentComes, IsRestarted, Output, Transmits, SendsEsis, Notes, Effect, idles, gives, then_does}
+use Rattle.clnp_machine.specs.Esis.{esis_comes, forgets, redirect, says_hello, tells_of_itself}
 use Rattle.clnp_machine.specs.Local.{Action, Sends, Tells, Deed, tells, made_in, is_own, make, discard, receive, requests_echo, tick, restarted}
 
 -- Where a system sends.
@@ -126,34 +128,61 @@ forwarded p loss = record p { lifetime = p.lifetime - loss; hops = p.hops + 1 }
 abbrev pub discards : SystemState → Packet → (following : List ℕ) → (reason : ℕ) → Effect
 discards s p following reason = effect_of (discard s (Labelled p following) reason 0)
 
--- the pieces of a packet go on; one that may not be cut is discarded (section 6.9)
-abbrev pub pieces_go_on : SystemState → Packet → (following : List ℕ) → Hop → Option (List Packet) → Effect
-pieces_go_on s p following hop None = discards s p following (reason_code SegmentationNotPermitted)
-pieces_go_on s p following hop (Some pieces) = gives s (map (λ piece. Transmits hop.port hop.target piece) pieces)
+-- whether something is at a place, as far as is known
+abbrev pub is_at : Place → Option Place → Bool
+is_at place None = false
+is_at place (Some known) = (known.port == place.port) && bytes_eq known.snpa place.snpa
+
+-- whether a PDU begins its unit, as one does that can't be segmented
+abbrev pub begins_unit : Option SegmentationPart → Bool
+begins_unit None = true
+begins_unit (Some part) = part.offset == 0
+
+-- Whether its source is told of a better way where a packet goes on: the packet begins its unit, it goes on by the port by
+-- which it came, and its source is an end system that is known to be at the place from which it came. A router that wants its
+-- redirects held for no time sends none (ISO 9542, section 6.8).
+abbrev pub is_redirected : SystemState → (came : Place) → Packet → Way → Bool
+is_redirected s came p way =
+    not (s.configuration.settings.rhold == 0)
+    && (way.place.port == came.port
+    && (begins_unit (segmentation_of p) && is_at came (heard.current_place s.moment Es p.unit.source s.facts)))
+
+-- the redirect that follows a packet that goes on, if any does
+abbrev pub redirects : SystemState → (came : Place) → Packet → Way → List Output
+redirects s came p way =
+    if is_redirected s came p way
+    then SendsEsis came.port (System came.snpa) (redirect s p.unit.destination way.place.snpa way.title) ∷ []
+    else []
+
+-- the pieces of a packet go on, and a redirect may follow them; a packet that may not be cut is discarded (section 6.9)
+abbrev pub pieces_go_on : SystemState → (came : Place) → Packet → (following : List ℕ) → Way → Option (List Packet) → Effect
+pieces_go_on s came p following way None = discards s p following (reason_code SegmentationNotPermitted)
+pieces_go_on s came p following way (Some pieces) =
+    gives s (transmissions (hop_by way) (Some pieces) ++ redirects s came p way)
 
 -- A packet goes on by a port, in frames that its subnetwork takes, unless its lifetime ends on the way there (section 6.4).
-abbrev pub goes_on_by : SystemState → Packet → (following : List ℕ) → Hop → Option PortConfig → Effect
-goes_on_by s p following hop None = discards s p following (reason_code DestinationUnknown)
-goes_on_by s p following hop (Some port) =
+abbrev pub goes_on_by : SystemState → (came : Place) → Packet → (following : List ℕ) → Way → Option PortConfig → Effect
+goes_on_by s came p following way None = discards s p following (reason_code DestinationUnknown)
+goes_on_by s came p following way (Some port) =
     if nat_le p.lifetime (loss_at port) then discards s p following (reason_code LifetimeExpiredInTransit)
-    else pieces_go_on s p following hop (cut (forwarded p (loss_at port)) port.mtu)
+    else pieces_go_on s came p following way (cut (forwarded p (loss_at port)) port.mtu)
 
--- a packet goes on to where it goes next; without a way its destination is unknown
-abbrev pub goes_on : SystemState → Packet → (following : List ℕ) → Option Hop → Effect
-goes_on s p following None = discards s p following (reason_code DestinationUnknown)
-goes_on s p following (Some hop) = goes_on_by s p following hop (slice_get s.configuration.ports hop.port)
+-- a packet goes on by its way; without one its destination is unknown
+abbrev pub goes_on : SystemState → (came : Place) → Packet → (following : List ℕ) → Option Way → Effect
+goes_on s came p following None = discards s p following (reason_code DestinationUnknown)
+goes_on s came p following (Some way) = goes_on_by s came p following way (slice_get s.configuration.ports way.place.port)
 
 -- a packet for another address: no host is asked to carry it on, a router forwards it (section 6.5)
-abbrev pub passes_by : Role → SystemState → Packet → (following : List ℕ) → Effect
-passes_by Host s p following = effect_of (tells s (NotMine p.unit.destination))
-passes_by Router s p following = goes_on s p following (next_hop s p.unit.destination)
+abbrev pub passes_by : Role → SystemState → (came : Place) → Packet → (following : List ℕ) → Effect
+passes_by Host s came p following = effect_of (tells s (NotMine p.unit.destination))
+passes_by Router s came p following = goes_on s came p following (way_of s p.unit.destination)
 
--- A packet comes: its lifetime is over (section 6.4), or it is for the system (section 6.2), or for another address.
-abbrev pub packet_comes : SystemState → Packet → (following : List ℕ) → Effect
-packet_comes s p following =
+-- A packet comes from a place: its lifetime is over (section 6.4), or it is for the system (section 6.2), or for another address.
+abbrev pub packet_comes : SystemState → (came : Place) → Packet → (following : List ℕ) → Effect
+packet_comes s came p following =
     if p.lifetime == 0 then discards s p following (reason_code LifetimeExpiredInTransit)
     else if is_own s p.unit.destination then effect_of (receive s p following)
-    else passes_by s.configuration.role s p following
+    else passes_by s.configuration.role s came p following
 
 -- octets that break a rule of PDUs are discarded with its reason and place
 abbrev pub discard_refused : SystemState → List ℕ → Option OptionRefusal → Deed
@@ -186,7 +215,7 @@ responds s place to_group p =
 -- a frame comes from a place, to a group of systems or to this one alone
 abbrev pub content_comes : SystemState → Place → (to_group : Bool) → Content → Effect
 content_comes s place to_group (Labelled packet following) =
-    then_does (packet_comes s packet following) (λ t. responds t place to_group packet)
+    then_does (packet_comes s place packet following) (λ t. responds t place to_group packet)
 content_comes s place to_group (Esis value following) = esis_comes s place value
 content_comes s place to_group (Unlabelled octets) = effect_of (octets_come s octets)
 

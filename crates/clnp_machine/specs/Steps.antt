@@ -13,7 +13,10 @@ use Rattle.esis_pdus.specs.Rules as esis_rules
 use Rattle.esis_pdus.specs.Grammar.{IsPdu}
 use Rattle.esis_pdus.specs.Spelling.{spelling}
 use Rattle.esis_pdus.specs.Value.{EsisValue}
+use Rattle.esis_pdus.specs.declared.pdu.EsisBody.TheVariants.{Rd}
 use Rattle.esis_tables.specs.declared.fact.Place.{Place}
+use Rattle.esis_tables.specs.Fact.{Fact}
+use Rattle.clnp_plan.specs.declared.config.Role.TheVariants.{Router}
 use Rattle.nsap.specs.Address.{IsAddress}
 use Rattle.nsap.specs.declared.target.Target.TheVariants.{System}
 use Rattle.reassembly.specs.Arrival.{Arrival}
@@ -26,9 +29,9 @@ use Rattle.clnp_machine.specs.Unit as unit
 use Rattle.clnp_machine.specs.Unit.{DeclaredAt, Packet, IsCarriable, value_of, wire}
 use Rattle.clnp_machine.specs.Content.{Content, IsCarried, Labelled, Esis, Unlabelled}
 use Rattle.clnp_machine.specs.System.{SystemState, number_behind, Input, AsksToSend, AsksForEcho, FrameComes, MomentComes, IsRestarted, Output, Transmits, SendsEsis, Notes, Effect}
-use Rattle.clnp_machine.specs.Esis.{own_hello}
+use Rattle.clnp_machine.specs.Esis.{own_hello, redirect}
 use Rattle.clnp_machine.specs.Local.{Deed, IsAsOffered, made_in, is_own, header_size, offered}
-use Rattle.clnp_machine.specs.Step.{loss_at}
+use Rattle.clnp_machine.specs.Step.{loss_at, next_hop}
 
 -- it is still the same system, at its place, of the same configuration
 pub record StaysItself (before after : SystemState) : Type 0 where
@@ -52,11 +55,11 @@ AsksNothing (AsksForEcho from to octets) = ⊥
 AsksNothing _ = Unit {0}
 
 -- What comes to a system is fair: a unit that is asked for is formed as it should be, with options that a data unit may have;
--- an echo is asked for between addresses; and what a frame carries is what one may carry.
+-- an echo is asked for between addresses; and a frame comes from an address, and carries what one may carry.
 abbrev pub IsFair : Input → Type 0
 IsFair (AsksToSend from to octets ask) = IsFormedAsk from to ask × FitsKind false (parameters ask.options)
 IsFair (AsksForEcho from to octets) = IsAddress from × IsAddress to
-IsFair (FrameComes port sender to_group content) = IsCarried content
+IsFair (FrameComes port sender to_group content) = IsAddress sender × IsCarried content
 IsFair _ = Unit {0}
 
 -- a unit that a system makes at a moment: of a source that is its own, and all that its initial PDU carries
@@ -197,10 +200,24 @@ IsAtMostItsHello s place sent = (sent ≡ []) ⊎ (sent ≡ SendsEsis place.port
 abbrev pub IsItsHello : SystemState → EsisValue → Type 0
 IsItsHello s value = (seconds : ℕ) × (value ≡ own_hello (record s { hello = seconds }))
 
--- each ES-IS value that is sent is the system's own hello
-abbrev pub SendsItsHellos : SystemState → Output → Type 0
-SendsItsHellos s (SendsEsis port target value) = IsItsHello s value
-SendsItsHellos s _ = Unit {0}
+-- a redirect of its, which routers alone send
+abbrev pub IsItsRedirect : SystemState → EsisValue → Type 0
+IsItsRedirect s value =
+    (s.configuration.role ≡ Router) × ((to via : List ℕ) (title : Option (List ℕ)) × (value ≡ redirect s to via title))
+
+abbrev pub IsItsOwn : SystemState → EsisValue → Type 0
+IsItsOwn s value = IsItsHello s value ⊎ IsItsRedirect s value
+
+-- what is sent is at most the system's own hello or one redirect of its, to one place
+abbrev pub IsAtMostOneTo : SystemState → Place → List Output → Type 0
+IsAtMostOneTo s place sent =
+    IsAtMostItsHello s place sent
+    ⊎ ((value : EsisValue) × IsItsRedirect s value × (sent ≡ SendsEsis place.port (System place.snpa) value ∷ []))
+
+-- each ES-IS value that is sent is the system's own hello, or a redirect of its
+abbrev pub SendsItsOwn : SystemState → Output → Type 0
+SendsItsOwn s (SendsEsis port target value) = IsItsOwn s value
+SendsItsOwn s _ = Unit {0}
 
 -- each ES-IS value that is sent is one that a PDU can carry
 abbrev pub SendsEsisPdus : Output → Type 0
@@ -228,6 +245,22 @@ segments_in buffers = flat_map (λ buffer. buffer.kept) buffers
 -- the segments that a system keeps are as they were offered, and PDUs can carry them
 abbrev pub KeepsAsOffered : SystemState → Type 0
 KeepsAsOffered s = AllByRecursion IsAsOffered (segments_in s.buffers)
+
+-- each system that it heard of is at an address of its subnetwork
+abbrev pub KnowsAddresses : SystemState → Type 0
+KnowsAddresses s = AllByRecursion (λ (fact : Fact). IsAddress fact.place.snpa) s.facts
+
+-- Redirects.
+
+-- a redirect for a destination
+abbrev pub IsRedirectFor : List ℕ → Content → Type 0
+IsRedirectFor destination (Esis value following) = (via : List ℕ) (title : Option (List ℕ)) × (value.body ≡ Rd destination via title)
+IsRedirectFor destination _ = ⊥
+
+-- a system sends as before to each address but one
+abbrev pub KeepsNextHops : (destination : List ℕ) → (before after : SystemState) → Type 0
+KeepsNextHops destination before after =
+    (address : List ℕ) → (address ≡ destination → ⊥) → next_hop after address ≡ next_hop before address
 
 -- Reports and echoes.
 

@@ -19,7 +19,7 @@ ghost use Rattle.reassembly.specs.declared.table.TableLimits.{TableLimits};
 ghost use Rattle.reassembly.specs.Arrival.{Arrival};
 ghost use Rattle.reassembly.specs.Buffer as buffer;
 ghost use Rattle.reassembly.specs.Buffer.{Buffer, buffer_of, clashes, held, without};
-ghost use Rattle.clnp_plan.specs.Configuration.{IsSystem};
+ghost use Rattle.clnp_plan.specs.Configuration.{IsAddressed, IsSystem};
 ghost use Rattle.esis_tables.specs.declared.fact.Place.{Place};
 ghost use Rattle.clnp_plan.specs.declared.ask.Ask.{Ask};
 ghost use Rattle.clnp_machine.specs.Unit.{Unit, Packet, IsCarriable, cut, value_of, whole_packet, wire};
@@ -28,7 +28,7 @@ ghost use Rattle.clnp_machine.specs.Esis.{esis_comes, forgets, own_hello, says_h
 ghost use Rattle.clnp_machine.specs.Local.{Action, at_moment, discard, echo_ask, gives_up, made_in, make, receive, refusal, report_unit, tick, unit_of};
 ghost use Rattle.clnp_machine.specs.System.{SystemState, Input, FrameComes, IsRestarted};
 ghost use Rattle.clnp_machine.specs.Step.{octets_come, outputs_of, packet_comes, passes_by, responds, step};
-ghost use Rattle.clnp_machine.specs.Steps.{AreCarriable, AreNumbered, IsAtMostReportOf, IsMadeFor, IsNoRestart, KeepsAsOffered, ReportsOn, RestartsNothing, WasPendingOrMade, BreaksNoEsisRule, BreaksNoRule, CarriesOneEsisValue, CarriesOnePacket, IsAtMostItsHello, IsDeed, IsEffect, IsFair, IsForOwn, GoesOnOrIsReported, IsFresh, IsWithinBudget, NotesOnly, OnlyHellos, SendsCarriable, SendsEsisPdus, SendsItsHellos, SendsRangesOrGoesOn, StaysItself, WasKeptOrComes, moment_after, segments_in, sends_esis, sends_frame};
+ghost use Rattle.clnp_machine.specs.Steps.{AreCarriable, AreNumbered, IsAtMostReportOf, IsMadeFor, IsNoRestart, IsRedirectFor, KeepsAsOffered, KeepsNextHops, KnowsAddresses, ReportsOn, RestartsNothing, WasPendingOrMade, BreaksNoEsisRule, BreaksNoRule, CarriesOneEsisValue, CarriesOnePacket, IsAtMostItsHello, IsAtMostOneTo, IsDeed, IsEffect, IsFair, IsForOwn, GoesOnOrIsReported, IsFresh, IsWithinBudget, NotesOnly, OnlyHellos, SendsCarriable, SendsEsisPdus, SendsItsOwn, SendsRangesOrGoesOn, StaysItself, WasKeptOrComes, moment_after, segments_in, sends_esis, sends_frame};
 ghost use Rattle.clnp_machine.specs.Told.{IsAllowed, IsRefusal, IsToldBy, NoteIsQuiet, NotesNoRule, SpellsPdus, TellsNoInterference, TellsOnly, WasThereOrTakes};
 
 /// A step leaves a system at its place with its configuration, at the moment that came last.
@@ -43,7 +43,7 @@ pub fn deeds_are_of_their_moment()
     ensures make { (s : SystemState) (kind : Kind) (from to octets : List ℕ) (ask : Ask) → IsDeed s (make s kind from to octets ask) }
     ensures receive { (s : SystemState) (p : Packet) (following : List ℕ) → IsDeed s (receive s p following) }
     ensures discard { (s : SystemState) (content : Content) (reason place : ℕ) → IsDeed s (discard s content reason place) }
-    ensures packet { (s : SystemState) (p : Packet) (following : List ℕ) → IsEffect s (packet_comes s p following) }
+    ensures packet { (s : SystemState) (came : Place) (p : Packet) (following : List ℕ) → IsEffect s (packet_comes s came p following) }
     ensures octets { (s : SystemState) (octets : List ℕ) → IsDeed s (octets_come s octets) }
     ensures tick { (s : SystemState) (now : ℕ) → IsDeed (at_moment now s) (tick s now) }
 {}
@@ -78,8 +78,8 @@ pub fn ranges_of_units_are_sent()
 /// lower by the transit of the port by which it goes on, at least by one; or the one that came doesn't
 /// go on, and what is sent is at most the report of its discard.
 pub fn forwarding_costs_lifetime()
-    ensures { (s : SystemState) (p : Packet) (following : List ℕ)
-        → GoesOnOrIsReported s p (wire p ++ following) (passes_by s.configuration.role s p following) }
+    ensures { (s : SystemState) (came : Place) (p : Packet) (following : List ℕ)
+        → GoesOnOrIsReported s p (wire p ++ following) (passes_by s.configuration.role s came p following) }
 {}
 
 /// PDUs can carry each packet that is sent in a step of a system of sound configuration with addresses,
@@ -90,17 +90,29 @@ pub fn what_is_sent_is_carriable()
     ensures kept { (s : SystemState) (input : Input) → IsFair input → KeepsAsOffered s → KeepsAsOffered (step s input).after }
 {}
 
-/// A system sends no ES-IS PDU but its own hello. Where it is configured as a system with addresses,
-/// each is one that a PDU can carry: all addresses of a host fit one header.
+/// A system sends no ES-IS PDU but its own hello and, as a router, redirects. Where it is configured as
+/// a system with addresses, what comes is fair, and what it heard of is at addresses, each is one that
+/// a PDU can carry; and what it heard of then is at addresses again.
 pub fn hellos_are_pdus()
-    ensures own { (s : SystemState) (input : Input) → AllByRecursion (SendsItsHellos s) (step s input).outputs }
+    ensures own { (s : SystemState) (input : Input) → AllByRecursion (SendsItsOwn s) (step s input).outputs }
     ensures hello { (s : SystemState) → IsSystem s.configuration → All IsAddress s.configuration.addresses → IsPdu (own_hello s) }
-    ensures pdus { (s : SystemState) (input : Input) → IsSystem s.configuration → All IsAddress s.configuration.addresses
-        → AllByRecursion SendsEsisPdus (step s input).outputs }
+    ensures pdus { (s : SystemState) (input : Input) → IsSystem s.configuration → IsAddressed s.configuration → IsFair input
+        → KnowsAddresses s → AllByRecursion SendsEsisPdus (step s input).outputs }
+    ensures known { (s : SystemState) (input : Input) → IsFair input → KnowsAddresses s → KnowsAddresses (step s input).after }
 {}
 
+/// A redirect that comes to a system changes where it sends towards the redirect's destination alone.
+pub fn a_redirect_changes_one_next_hop()
+    ensures { (s : SystemState) (port : ℕ) (sender : List ℕ) (to_group : Bool) (content : Content) (destination : List ℕ)
+        → IsRedirectFor destination content
+        → KeepsNextHops destination s (step s (FrameComes port sender to_group content)).after }
+{
+    esis_tables::laws::a_redirect_changes_its_destination_alone();
+}
+
 /// An ES-IS PDU that comes makes a system send at most its own hello, to where the PDU came from, and
-/// no packet. So does a packet, beside the packets that are sent then. Octets that spell no PDU are
+/// no packet. A packet makes it send at most its own hello or one redirect, to where the packet came
+/// from, beside the packets that are sent then. Octets that spell no PDU are
 /// answered by no ES-IS PDU, and by nothing at all but the report of their discard, where they are
 /// reportable.
 pub fn a_hello_causes_at_most_one()
@@ -108,7 +120,7 @@ pub fn a_hello_causes_at_most_one()
         → IsAtMostItsHello s (record { port = port; snpa = sender })
         (filter sends_frame (step s (FrameComes port sender to_group (Esis value following))).outputs) }
     ensures packet { (s : SystemState) (port : ℕ) (sender : List ℕ) (to_group : Bool) (p : Packet) (following : List ℕ)
-        → IsAtMostItsHello s (record { port = port; snpa = sender })
+        → IsAtMostOneTo s (record { port = port; snpa = sender })
         (filter sends_esis (step s (FrameComes port sender to_group (Labelled p following))).outputs) }
     ensures octets { (s : SystemState) (port : ℕ) (sender : List ℕ) (to_group : Bool) (octets : List ℕ)
         → filter sends_esis (step s (FrameComes port sender to_group (Unlabelled octets))).outputs ≡ [] }

@@ -1,6 +1,7 @@
 -- What a safe run is: each data unit handed up is one that was sent before, and no system holds more octets for
 -- reassembly than it may.
 use Rattle.std.specs.Prelude.{true, ◌≡◌, ◌≢◌, ℕ, ◌+◌, ◌≤◌, ◌⊎◌, List, [], ◌∷◌, ◌++◌, slice_get, Option, Some, AllPairs}
+use Rattle.clnp_plan.specs.declared.config.Limits.{Limits}
 use Rattle.clnp_plan.specs.Journal.{Line, Noted}
 use Rattle.clnp_plan.specs.declared.note.Note.TheVariants.{Sent, Refused, Got, Report, Echoed, Interference, Alien, Restart}
 use Rattle.scenario.specs.Scenario.{Plan, octets_of}
@@ -17,10 +18,10 @@ use Rattle.clnp_machine.specs.Unit as unit
 use Rattle.clnp_machine.specs.Unit.{DeclaredAt, Packet, wire}
 use Rattle.clnp_machine.specs.Local.{is_own}
 use Rattle.clnp_machine.specs.System.{SystemState}
-use Rattle.clnp_machine.specs.Steps.{BreaksNoEsisRule, BreaksNoRule, IsRangeOf}
+use Rattle.clnp_machine.specs.Steps.{BreaksNoEsisRule, BreaksNoRule, IsRangeOf, IsRedirectFor, KeepsNextHops}
 use Rattle.clnp_machine.specs.Told.{NotesNoRule}
 use Rattle.reassembly.specs.Arrival.{Arrival}
-use Rattle.clnp_network.specs.World.{World, after}
+use Rattle.clnp_network.specs.World.{Numbered, World, after, give}
 use Rattle.clnp_network.specs.Run.{Entry}
 use Rattle.reassembly.specs.Buffer.{Buffer, held}
 use Rattle.std.specs.List.{AllByRecursion, Contains}
@@ -138,6 +139,22 @@ NoneIsAlien (_ ∷ lines) = NoneIsAlien lines
 abbrev pub TellsNoRule : Line → Type 0
 TellsNoRule (Noted now name note) = NotesNoRule note
 TellsNoRule _ = Unit {0}
+
+-- Redirects.
+
+-- Of the systems of a network only the one at a place is another one afterwards, and that one sends as before to each address but
+-- one.
+pub record ChangesOneNextHop (destination : List ℕ) (place : ℕ) (before after : World) : Type 0 where
+  pub others : (other : ℕ) → (other ≡ place → ⊥) → slice_get after.systems other ≡ slice_get before.systems other
+  pub there : (s : SystemState) → slice_get before.systems place ≡ Some s
+      → (t : SystemState) × (slice_get after.systems place ≡ Some t) × KeepsNextHops destination s t
+
+-- Where a copy that carries a redirect is given to a system of a network, it changes the next hop towards the redirect's
+-- destination alone, and no other system (ISO 9542, section 6.9).
+abbrev pub RedirectsChangeOneNextHop : Limits → World → Type 0
+RedirectsChangeOneNextHop limits w =
+    (given : Numbered) (place : ℕ) (destination : List ℕ) → IsRedirectFor destination given.copy.content
+    → ChangesOneNextHop destination place w (give limits given w place).world
 
 -- Error reports and echoes.
 

@@ -1,6 +1,7 @@
 -- What a scenario says of one system, and how long things last in a network.
-use Rattle.std.specs.Prelude.{◌≡◌, ◌≢◌, ℕ, ◌+◌, ◌<◌, ◌≤◌, List, [], length, AllPairs}
+use Rattle.std.specs.Prelude.{◌≡◌, ◌≢◌, ℕ, ◌+◌, ◌<◌, ◌≤◌, List, [], length, All, AllPairs}
 use Rattle.std.specs.List.{AllByRecursion}
+use Rattle.nsap.specs.Address.{IsAddress}
 use Rattle.forwarding.specs.declared.route.Route.{Route}
 use Rattle.forwarding.specs.Distinct as prefixes
 use Rattle.clnp_plan.specs.declared.config.Limits.{Limits}
@@ -54,6 +55,17 @@ pub record AreSettings (settings : Settings) : Type 0 where
   pub routers : IsWithin 1 64 settings.routers
   pub redirects : IsWithin 1 1024 settings.redirects
   pub life : IsWithin 1 255 settings.life
+
+-- the addresses of a route's next system are addresses
+pub record IsAddressedRoute (route : Route) : Type 0 where
+  pub snpa : IsAddress route.snpa
+  pub title : IsAddress route.title
+
+-- so are all that a configuration has: a system's own, those of its ports, and those of the next systems on its routes
+pub record IsAddressed (system : SystemConfiguration) : Type 0 where
+  pub own : All IsAddress system.addresses
+  pub ports : AllByRecursion (λ (port : PortConfig). IsAddress port.snpa) system.ports
+  pub routes : AllByRecursion IsAddressedRoute system.routes
 
 -- no two of some addresses are the same
 abbrev pub AreDistinct : List (List ℕ) → Type 0

@@ -6,6 +6,7 @@ use Rattle.clnp_plan.specs.Configuration.{SystemConfiguration}
 use Rattle.clnp_plan.specs.declared.note.Note.{Note}
 use Rattle.clnp_plan.specs.declared.note.Note.TheVariants.{Got, Report, Echoed, Interference, Alien}
 use Rattle.hex.specs.Hex.{IsBytes}
+use Rattle.nsap.specs.Address.{IsAddress}
 use Rattle.pdu_header.specs.declared.kind.Kind.{Kind}
 use Rattle.pdu_header.specs.declared.kind.Kind.TheVariants.{Dt, Er, Erq, Erp}
 use Rattle.pdu_header.specs.Rules.{header_of}
@@ -17,7 +18,7 @@ use Rattle.clnp_machine.specs.Unit as unit
 use Rattle.clnp_machine.specs.Unit.{DeclaredAt, Packet, IsCarriable, wire}
 use Rattle.clnp_machine.specs.Content.{Content, IsCarried, Labelled, Esis, Unlabelled}
 use Rattle.clnp_machine.specs.System.{SystemState}
-use Rattle.clnp_machine.specs.Steps.{IsNoRestart, IsRangeOf}
+use Rattle.clnp_machine.specs.Steps.{IsNoRestart, IsRangeOf, KnowsAddresses}
 use Rattle.clnp_machine.specs.Told.{NotesNoRule}
 use Rattle.clnp_machine.specs.Local.{header_size, offered}
 use Rattle.clnp_network.specs.World.{World, Copy}
@@ -75,6 +76,7 @@ IsBornWithUnit birth (Esis value following) = Unit {0}
 IsBornWithUnit birth (Unlabelled octets) = ⊥
 
 pub record CopyIsSound (units : List unit.Unit) (copy : Copy) : Type 0 where
+  pub sender : IsAddress copy.sender
   pub carries : Carries (IsRangeOf units) copy.content
   pub carried : IsCarried copy.content
   pub birth : IsBornWithUnit copy.birth copy.content
@@ -123,6 +125,7 @@ pub record SystemIsSound (plan : Plan) (units : List unit.Unit) (now place : ℕ
   pub not_due : AllByRecursion (λ (buffer : Buffer Packet). now < buffer.deadline) s.buffers
   pub not_whole : AllByRecursion (λ (buffer : Buffer Packet). is_whole buffer ≡ false) s.buffers
   pub budget : held s.buffers ≤ s.configuration.settings.budget
+  pub known : KnowsAddresses s
 
 -- What holds of a request that the system at a place still waits to be answered: it made it, and was not restarted since.
 pub record IsPending (past : List Entry) (units : List unit.Unit) (place : ℕ) (name : List ℕ) (request : unit.Unit) : Type 0 where

@@ -12,7 +12,7 @@ use Rattle.reassembly.specs.declared.table.TableLimits.{TableLimits}
 use Rattle.reassembly.specs.Arrival.{Arrival}
 use Rattle.reassembly.specs.Buffer as buffer
 use Rattle.reassembly.specs.Buffer.{Buffer, buffer_of, clashes, held, without}
-use Rattle.clnp_plan.specs.Configuration.{IsSystem}
+use Rattle.clnp_plan.specs.Configuration.{IsAddressed, IsSystem}
 use Rattle.clnp_machine.specs.Unit as unit
 use Rattle.clnp_machine.specs.Unit.{IsCarriable, Packet, wire}
 use Rattle.clnp_machine.specs.Content.{Content, frame_of}
@@ -20,7 +20,7 @@ use Rattle.clnp_machine.specs.System.{SystemState, Input, IsRestarted}
 use Rattle.clnp_machine.specs.Local.{Action, discard, gives_up, made_in, refusal, tick}
 use Rattle.clnp_machine.specs.Esis.{esis_comes, forgets, says_hello}
 use Rattle.clnp_machine.specs.Step.{outputs_of, responds, step}
-use Rattle.clnp_machine.specs.Steps.{BreaksNoEsisRule, BreaksNoRule, IsAtMostReportOf, IsFair, IsForOwn, IsFresh, IsMadeFor, IsNoRestart, IsWithinBudget, KeepsAsOffered, NotesOnly, OnlyHellos, ReportsOn, RestartsNothing, SendsCarriable, SendsEsisPdus, SendsRangesOrGoesOn, StaysItself, WasPendingOrMade, moment_after}
+use Rattle.clnp_machine.specs.Steps.{BreaksNoEsisRule, BreaksNoRule, IsAtMostReportOf, IsFair, IsForOwn, IsFresh, IsMadeFor, IsNoRestart, IsWithinBudget, KeepsAsOffered, KnowsAddresses, NotesOnly, OnlyHellos, ReportsOn, RestartsNothing, SendsCarriable, SendsEsisPdus, SendsRangesOrGoesOn, StaysItself, WasPendingOrMade, moment_after}
 use Rattle.clnp_machine.specs.Told.{IsAllowed, IsRefusal, IsToldBy, NoteIsQuiet, NotesNoRule, SpellsPdus, TellsNoInterference, TellsOnly, WasThereOrTakes}
 
 -- of a whole step
@@ -36,8 +36,9 @@ pub record OfSteps : Type 0 where
   pub ranges : (s : SystemState) (input : Input) → AllByRecursion (SendsRangesOrGoesOn s input (step s input).units) (step s input).outputs
   pub carriable : (s : SystemState) (input : Input) → IsSystem s.configuration → IsFair input → All IsAddress s.configuration.addresses
       → KeepsAsOffered s → AllByRecursion SendsCarriable (step s input).outputs
-  pub esis_pdus : (s : SystemState) (input : Input) → IsSystem s.configuration → All IsAddress s.configuration.addresses
-      → AllByRecursion SendsEsisPdus (step s input).outputs
+  pub esis_pdus : (s : SystemState) (input : Input) → IsSystem s.configuration → IsAddressed s.configuration → IsFair input
+      → KnowsAddresses s → AllByRecursion SendsEsisPdus (step s input).outputs
+  pub known : (s : SystemState) (input : Input) → IsFair input → KnowsAddresses s → KnowsAddresses (step s input).after
   pub no_rule : (s : SystemState) (input : Input) → SpellsPdus input → AllByRecursion (NotesOnly NotesNoRule) (step s input).outputs
   pub own : (s : SystemState) (input : Input) → AllByRecursion (NotesOnly (IsForOwn s)) (step s input).outputs
   pub budget : (s : SystemState) (input : Input) → IsWithinBudget s → IsWithinBudget (step s input).after

@@ -1,11 +1,12 @@
 //! Laws of runs: each holds for every scenario, and its function does nothing.
 ghost use Rattle.std.specs.Prelude.{◌≡◌, ℕ, List, [], None, Some};
 ghost use Rattle.std.specs.List.{AllByRecursion};
+ghost use Rattle.clnp_plan.specs.declared.config.Limits.{Limits};
 ghost use Rattle.scenario.specs.Scenario.{Plan, IsFit};
 ghost use Rattle.scenario.specs.declared.event.Move.{Move};
 ghost use Rattle.clnp_network.specs.World.{World, after, first_world};
 ghost use Rattle.clnp_network.specs.Run.{Entry, entries_of, full_weight, run, text_of, until_full, world_after};
-ghost use Rattle.clnp_network.specs.Safe.{CarriesRanges, EachIsFounded, EachWasSent, FramesAreUnbroken, HoldsUnitsApart, IdentifiersRest, IsHonest, IsSend, NoRefusal, IsWithinBudgets, IsWithinLifetimes, NoInterference, NoneIsAlien, TellsNoRule};
+ghost use Rattle.clnp_network.specs.Safe.{CarriesRanges, EachIsFounded, EachWasSent, FramesAreUnbroken, HoldsUnitsApart, IdentifiersRest, IsHonest, IsSend, NoRefusal, IsWithinBudgets, IsWithinLifetimes, NoInterference, NoneIsAlien, RedirectsChangeOneNextHop, TellsNoRule};
 ghost use Rattle.clnp_safety.specs.Growth.{IsFront, IsFullAt, IsWithinCopies};
 ghost use Rattle.clnp_safety.specs.Owners.{IsByOwner};
 ghost use Rattle.clnp_safety.specs.Refusal.{LeavesNothing};
@@ -79,6 +80,15 @@ pub fn reports_and_echoes_are_of_its_own()
     ensures { (plan : Plan) → IsFit plan → (moves : List Move) → EachIsFounded plan (first_world plan) [] moves }
 {
     laws_of_steps();
+}
+
+/// Where a copy that carries a redirect is given to a system, its next hop towards each address but the
+/// redirect's destination is as before, and each other system is as it was: whatever the network, and
+/// whatever the copy.
+pub fn a_redirect_changes_one_next_hop()
+    ensures { (limits : Limits) (w : World) → RedirectsChangeOneNextHop limits w }
+{
+    machine::a_redirect_changes_one_next_hop();
 }
 
 /// Two units that one system made with one identifier were made at least so long apart as an

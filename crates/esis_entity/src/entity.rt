@@ -25,7 +25,7 @@ use telling::forget;
 
 mod hearing;
 mod hellos;
-mod output;
+pub(crate) mod output;
 mod telling;
 
 /// What a system heard of its neighbours, and when it tells them of itself. Moments are in ticks of 500 ms.

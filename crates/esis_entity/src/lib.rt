@@ -2,5 +2,7 @@
 #![tactic(auto)]
 
 mod entity;
+mod redirecting;
 
 pub use entity::EsisEntity;
+pub use redirecting::send_redirect;

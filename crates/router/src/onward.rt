@@ -5,7 +5,8 @@ ghost use Rattle.clnp_plan.specs.Configuration.{IsPort};
 ghost use Rattle.clnp_machine.specs.Step.{goes_on_by};
 ghost use Rattle.clnp_machine.specs.System.{SystemState};
 ghost use Rattle.clnp_machine.specs.Unit.{IsCarriable, Packet, value_of};
-ghost use Rattle.local_entity.specs.Sending.{machine_hop};
+ghost use Rattle.system_entity.specs.Ways.{machine_way};
+ghost use Rattle.esis_tables.specs.declared.fact.Place.{Place};
 ghost use Rattle.pdu_header.specs.Value.{PduValue};
 ghost use Rattle.segmenter.specs.Left.{IsCutOf};
 ghost use Rattle.system_entity.specs.Comes.{HasValue};
@@ -13,24 +14,24 @@ ghost use Rattle.router.specs.Onward.{ComesTo, life_left};
 
 use clnp_options::Reason;
 use clnp_plan::PortConfig;
-use local_entity::Hop;
 use segmenter::{Cuts, NotPermitted};
-use system_entity::Passing;
+use system_entity::{Passing, Way};
 
-/// The pieces of a PDU, and where they go.
+/// The pieces of a PDU, and the way that they go.
 #[derive(Drop)]
 pub(crate) struct Onward {
-    pub hop: Hop,
+    pub way: Way,
     pub cuts: Cuts,
 }
 
-/// How a PDU goes on by the port of a hop, or for which reason it is discarded there.
+/// How a PDU goes on by a way and its port, or for which reason it is discarded there.
 #[tactic(auto, using(crate::proofs::Going::ends))]
-pub(crate) fn by_port(passing: &Passing, hop: Hop, port: &PortConfig) -> Result<Onward, Reason>
+pub(crate) fn by_port(passing: &Passing, way: Way, port: &PortConfig) -> Result<Onward, Reason>
     requires port { IsPort port.now }
     requires pdu { (v : PduValue) × HasValue passing.now v }
-    ensures goes { (s : SystemState) (p : Packet) (following : List ℕ) → IsCarriable p → HasValue passing.now (value_of p)
-        → ComesTo result s p following (goes_on_by s p following (machine_hop hop) (Some port.now)) }
+    ensures goes { (s : SystemState) (came : Place) (p : Packet) (following : List ℕ) → IsCarriable p
+        → HasValue passing.now (value_of p)
+        → ComesTo result s came p following (goes_on_by s came p following (machine_way way) (Some port.now)) }
     ensures each { IfOk result (λ onward. AllByRecursion (IsCutOf passing.now.len) onward.cuts) }
 {
     let Some(life) = life_left(passing.life, port) else {
@@ -39,7 +40,7 @@ pub(crate) fn by_port(passing: &Passing, hop: Hop, port: &PortConfig) -> Result<
     let mut head = passing.head;
     head.set_life(life);
     match Cuts::new(head, passing.len, port.mtu) {
-        Ok(cuts) => Ok(Onward { hop, cuts }),
+        Ok(cuts) => Ok(Onward { way, cuts }),
         Err(NotPermitted { .. }) => Err(Reason::SegmentationNotPermitted),
     }
 }

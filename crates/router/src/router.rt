@@ -7,14 +7,14 @@ ghost use Rattle.clnp_plan.specs.declared.config.Role.TheVariants.{Router as IsR
 ghost use Rattle.clnp_machine.specs.Content.{Content, IsCarried, Labelled, frame_of};
 ghost use Rattle.clnp_machine.specs.Given.{Appends, AppendsFor};
 ghost use Rattle.clnp_machine.specs.Local.{refusal, request_unit};
-ghost use Rattle.clnp_machine.specs.Step.{goes_on, next_hop, step, way_of};
+ghost use Rattle.clnp_machine.specs.Step.{goes_on, is_redirected, redirects, step, way_of};
 ghost use Rattle.clnp_machine.specs.System.{SystemState, AsksForEcho, FrameComes, IsRestarted, MomentComes, first_state, next_number};
 ghost use Rattle.clnp_machine.specs.Unit.{IsCarriable, Packet, value_of, wire};
 ghost use Rattle.pdu_header.specs.Value.{PduValue};
 ghost use Rattle.segmenter.specs.Left.{IsCutOf};
 ghost use Rattle.local_entity.specs.Local.{IsWhy};
 ghost use Rattle.system_entity.specs.Comes.{HasValue, IsAtFront};
-ghost use Rattle.system_entity.specs.Ways.{way_option};
+ghost use Rattle.system_entity.specs.Ways.{machine_way, way_option};
 ghost use Rattle.router.specs.Onward.{ComesTo};
 ghost use Rattle.router.specs.Stands.{IsLeftBy, Stands};
 
@@ -127,7 +127,7 @@ impl Router {
         let place = Place { port, snpa: from };
         match self.entity.frame(alloc, place, group, frame, out)? {
             Arrival::Done => Ok(()),
-            Arrival::Passes(passing) => self.forward(alloc, &passing, frame, out),
+            Arrival::Passes(passing) => self.forward(alloc, place, &passing, frame, out),
         }
     }
 
@@ -163,10 +163,12 @@ impl Router {
         self.entity.echo(alloc, from, to, body, out)
     }
 
-    /// A PDU for another address goes on, or is discarded (ISO/IEC 8473, sections 6.4 to 6.7).
+    /// A PDU for another address that came from a place goes on, and its source may be told of a better way; or it is discarded
+    /// (ISO/IEC 8473, sections 6.4 to 6.7; ISO 9542, section 6.8).
     fn forward(
         &mut self,
         alloc: Global,
+        came: Place,
         passing: &Passing,
         frame: &Frame,
         out: &mut Vec<Output>,
@@ -175,10 +177,11 @@ impl Router {
         requires pdu { IsAtFront passing.now frame.now }
         ensures stands { OnOk result ((s : SystemState) (p : Packet) (following : List ℕ) → Stands self.old s → IsCarriable p
             → HasValue passing.now (value_of p) → frame.now ≡ wire p ++ following
-            → Stands self.new (goes_on s p following (next_hop s p.unit.destination)).after) }
+            → Stands self.new (goes_on s came p following (way_of s p.unit.destination)).after) }
         ensures outputs { OnOk result ((s : SystemState) (p : Packet) (following : List ℕ) → Stands self.old s → IsCarriable p
             → HasValue passing.now (value_of p) → frame.now ≡ wire p ++ following
-            → AppendsFor s.moment (Labelled p following) out.old.items out.new.items (goes_on s p following (next_hop s p.unit.destination)).outputs) }
+            → AppendsFor s.moment (Labelled p following) out.old.items out.new.items
+            (goes_on s came p following (way_of s p.unit.destination)).outputs) }
         ensures none { OnErr result (out.new.items ≡ out.old.items) }
         ensures spent { OnErr result (self.new.entity.spent ≡ true) }
         ensures refused { self.old.entity.spent ≡ true → IsErr result }
@@ -186,10 +189,16 @@ impl Router {
         ensures config { self.new.entity.local.configuration ≡ self.old.entity.local.configuration }
     {
         match self.onward(passing) {
-            Ok(Onward { hop, cuts }) => {
+            Ok(Onward { way, cuts }) => {
                 let from = passing.head.as_bytes().len();
+                let before = out.len();
                 self.entity
-                    .pass_on(alloc, frame, from, passing.len, cuts, hop, out)
+                    .pass_on(alloc, frame, from, passing.len, cuts, way.hop(), out)?;
+                if let Err(refused) = self.redirect(came, passing, &way, out) {
+                    out.truncate(before);
+                    return Err(refused);
+                }
+                Ok(())
             }
             Err(reason) => self.entity.discard(alloc, frame, reason.code(), 0, out),
         }
@@ -198,19 +207,58 @@ impl Router {
     /// How a PDU for another address goes on, or for which reason it is discarded.
     fn onward(&self, passing: &Passing) -> Result<Onward, Reason>
         requires { (v : PduValue) × HasValue passing.now v }
-        ensures goes { (s : SystemState) (p : Packet) (following : List ℕ) → Stands self.now s → IsCarriable p
-            → HasValue passing.now (value_of p) → ComesTo result s p following (goes_on s p following (next_hop s p.unit.destination)) }
+        ensures goes { (s : SystemState) (came : Place) (p : Packet) (following : List ℕ) → Stands self.now s → IsCarriable p
+            → HasValue passing.now (value_of p)
+            → ComesTo result s came p following (goes_on s came p following (way_of s p.unit.destination)) }
         ensures each { IfOk result (λ onward. AllByRecursion (IsCutOf passing.now.len) onward.cuts) }
     {
-        let Some(hop) = self.entity.next_hop(&passing.to) else {
+        let Some(way) = self.entity.way(&passing.to) else {
             return Err(Reason::DestinationUnknown);
         };
         let config = self.entity.config();
         config.is_system();
-        let Some(port) = config.ports().get(usize::from(hop.port)) else {
+        let Some(port) = config.ports().get(usize::from(way.port)) else {
             return Err(Reason::DestinationUnknown);
         };
-        by_port(passing, hop, port)
+        by_port(passing, way, port)
+    }
+
+    /// Tells the source of a PDU that goes on of a better way, where there is one: the PDU goes back to the subnetwork from which
+    /// it came, where its source is known to be (ISO 9542, section 6.8).
+    fn redirect(
+        &mut self,
+        came: Place,
+        passing: &Passing,
+        way: &Way,
+        out: &mut Vec<Output>,
+    ) -> Result<(), NoMemory>
+        ensures outputs { OnOk result ((s : SystemState) (p : Packet) → Stands self.old s → HasValue passing.now (value_of p)
+            → Appends s.moment out.old.items out.new.items (redirects s came p (machine_way way.now))) }
+        ensures same { OnOk result (self.new ≡ self.old) }
+        ensures none { OnErr result (out.new.items ≡ out.old.items) }
+        ensures spent { OnErr result (self.new.entity.spent ≡ true) }
+        ensures moment { self.new.entity.moment ≡ self.old.entity.moment }
+        ensures config { self.new.entity.local.configuration ≡ self.old.entity.local.configuration }
+    {
+        if self.is_redirected(came, passing, way) {
+            return self.entity.redirect(came, &passing.to, way, out);
+        }
+        Ok(())
+    }
+
+    /// Whether the source of a PDU that goes on is told of the way: the PDU begins its unit, it goes on by the port by which it
+    /// came, and its source is known to be at the place from which it came.
+    fn is_redirected(&self, came: Place, passing: &Passing, way: &Way) -> bool
+        ensures { (s : SystemState) (p : Packet) → Stands self.now s → HasValue passing.now (value_of p)
+            → result ≡ is_redirected s came p (machine_way way.now) }
+    {
+        if self.entity.config().settings().rhold == 0 || way.port != came.port || !passing.first {
+            return false;
+        }
+        match self.entity.neighbour(&passing.from) {
+            Some(known) => known.port == came.port && known.snpa == came.snpa,
+            None => false,
+        }
     }
 
     /// Forgets all that it keeps and heard, and is quiet as long as an identifier rests; the count of its units goes

@@ -1,12 +1,12 @@
 -- What a scenario text says: how long things last, the subnetworks and systems that it declares, and its events.
-use Rattle.std.specs.Prelude.{◌≡◌, ℕ, false, ◌+◌, ◌/◌, ◌%◌, ◌==◌, ◌<◌, ◌≤◌, List, [], ◌∷◌, ◌++◌, map, filter, length, slice_get, replicate, sum, Some, option_map, All}
+use Rattle.std.specs.Prelude.{◌≡◌, ℕ, false, ◌+◌, ◌/◌, ◌%◌, ◌==◌, ◌<◌, ◌≤◌, List, [], ◌∷◌, ◌++◌, map, filter, length, slice_get, replicate, sum, Some, option_map}
 use Rattle.std.specs.List.{AllByRecursion, flat_map, range_with_len}
 use Rattle.hex.specs.Hex.{IsBytes}
 use Rattle.nsap.specs.Address.{IsAddress}
 use Rattle.clnp_options.specs.Grammar.{FitsKind}
 use Rattle.clnp_options.specs.Parameter.{parameters}
 use Rattle.clnp_plan.specs.Asking.{IsFormedAsk}
-use Rattle.clnp_plan.specs.Configuration.{SystemConfiguration, AreDistinct, AreLimits, IsSystem, IsWithin}
+use Rattle.clnp_plan.specs.Configuration.{AreDistinct, AreLimits, IsAddressed, IsSystem, IsWithin, SystemConfiguration}
 use Rattle.clnp_plan.specs.declared.config.Limits.{Limits}
 use Rattle.clnp_plan.specs.declared.config.PortConfig.{PortConfig}
 use Rattle.clnp_plan.specs.declared.config.Role.TheVariants.{Host}
@@ -102,7 +102,7 @@ pub record IsFit (plan : Plan) : Type 0 where
   pub ports : AllByRecursion (λ (system : SystemConfiguration). AllByRecursion (IsOn plan.subnets) system.ports) plan.systems
   -- an address belongs to one system
   pub addresses : AreDistinct (flat_map (λ system. system.addresses) plan.systems)
-  pub each_address : AllByRecursion (λ (system : SystemConfiguration). All IsAddress system.addresses) plan.systems
+  pub each_address : AllByRecursion IsAddressed plan.systems
   pub ticks : sum (map ticks_of plan.events) ≤ 1000000
   pub asks : AllByRecursion AsksFairly plan.events
   pub formed : AllByRecursion AsksInForm plan.events

@@ -8,7 +8,7 @@ use Rattle.clnp_plan.specs.declared.output.Output.{Output}
 use Rattle.clnp_machine.specs.Content.{Content, Labelled}
 use Rattle.clnp_machine.specs.Given.{Appends}
 use Rattle.clnp_machine.specs.Local.{is_own}
-use Rattle.clnp_machine.specs.Step.{content_comes}
+use Rattle.clnp_machine.specs.Step.{begins_unit, content_comes}
 use Rattle.clnp_machine.specs.System.{SystemState}
 use Rattle.clnp_machine.specs.Unit.{Packet, IsCarriable, value_of}
 use Rattle.system_entity.specs.State.{SystemEntityState}
@@ -26,6 +26,8 @@ pub record IsDone (s : SystemState) (place : Place) (group : Bool) (content : Co
 -- a PDU that passes by has this value
 pub record HasValue (passing : Passing) (v : PduValue) : Type 0 where
   pub destination : v.destination ≡ passing.to
+  pub source : v.source ≡ passing.from
+  pub first : begins_unit v.segmentation ≡ passing.first
   pub lifetime : v.lifetime ≡ passing.life
   pub header : SpellsHeader v passing.head
   pub len : length v.body ≡ passing.len

@@ -13,7 +13,11 @@ ghost use Rattle.clnp_machine.specs.Given.{Appends};
 ghost use Rattle.clnp_machine.specs.Local as machine;
 ghost use Rattle.clnp_machine.specs.Local.{has_address, restarted};
 ghost use Rattle.clnp_machine.specs.Step.{effect_of, moment_comes, next_hop, way_of};
-ghost use Rattle.clnp_machine.specs.System.{SystemState, first_state, next_number};
+ghost use Rattle.clnp_machine.specs.Esis.{redirect};
+ghost use Rattle.clnp_machine.specs.System.{SystemState, SendsEsis, first_state, next_number};
+ghost use Rattle.esis_tables.specs.declared.fact.TableKind.TheVariants.{Es};
+ghost use Rattle.esis_tables.specs.NextHop.{current_place};
+ghost use Rattle.nsap.specs.declared.target.Target.TheVariants.{System};
 ghost use Rattle.local_entity.specs.Local.{IsWhy};
 ghost use Rattle.local_entity.specs.Sending.{hop_option, transmission};
 ghost use Rattle.segmenter.specs.Left.{IsCutOf};
@@ -22,11 +26,11 @@ ghost use Rattle.system_entity.specs.Stands.{IsLeftBy, PartsStandSince, Stands};
 ghost use Rattle.system_entity.specs.Ways.{way_option};
 
 use crate::passing::Passing;
-use crate::way::{Way, by_route, hop_by, host_hop, to_neighbour};
+use crate::way::{Way, by_route, host_hop, to_neighbour};
 use clnp_base::NoMemory;
 use clnp_plan::{Ask, Limits, Note, Output, Role, SendRefusal, SystemConfig};
 use clnp_views::Frame;
-use esis_entity::EsisEntity;
+use esis_entity::{EsisEntity, send_redirect};
 use esis_tables::Place;
 use forwarding::Routes;
 use local_entity::{Hop, Local};
@@ -241,6 +245,42 @@ impl SystemEntity {
         }
     }
 
+    /// Tells a system, at a place of its own, of the way to an address (ISO 9542, section 6.8).
+    ///
+    /// # Errors
+    ///
+    /// `NoMemory`: `out` is then as it was, and the entity is spent.
+    pub fn redirect(
+        &mut self,
+        place: Place,
+        to: &Address,
+        way: &Way,
+        out: &mut Vec<Output>,
+    ) -> Result<(), NoMemory>
+        ensures given { OnOk result ((s : SystemState) (moment : ℕ) → s.configuration ≡ self.old.local.configuration
+            → Appends moment out.old.items out.new.items
+            (SendsEsis place.port (System place.snpa) (redirect s to.now way.now.snpa way.now.title) ∷ [])) }
+        ensures same { OnOk result (self.new ≡ self.old) }
+        ensures none { OnErr result (out.new.items ≡ out.old.items) }
+        ensures spent { OnErr result (self.new.spent ≡ true) }
+        ensures refused { self.old.spent ≡ true → IsErr result }
+        ensures moment { self.new.moment ≡ self.old.moment }
+        ensures config { self.new.local.configuration ≡ self.old.local.configuration }
+    {
+        if self.spent {
+            return Err(NoMemory);
+        }
+        let before = out.len();
+        match send_redirect(self.local.config(), place, to, &way.snpa, way.title.as_ref(), out) {
+            Ok(()) => Ok(()),
+            Err(_) => {
+                out.truncate(before);
+                self.spent = true;
+                Err(NoMemory)
+            }
+        }
+    }
+
     /// Something is noted.
     ///
     /// # Errors
@@ -380,6 +420,14 @@ impl SystemEntity {
         Some(by_route(route))
     }
 
+    /// Where the end system of an address is, if it is known.
+    pub fn neighbour(&self, of: &Address) -> Option<Place>
+        ensures { (s : SystemState) (before : ℕ) → PartsStandSince before self.now s
+            → result ≡ current_place s.moment Es of.now s.facts }
+    {
+        self.esis.neighbour(self.moment, of)
+    }
+
     /// Where it sends a PDU for an address, if it knows a way (ISO 9542, section 6.5).
     pub fn next_hop(&self, to: &Address) -> Option<Hop>
         ensures { (s : SystemState) (before : ℕ) → PartsStandSince before self.now s → hop_option result ≡ next_hop s to.now }
@@ -390,7 +438,7 @@ impl SystemEntity {
                 let Some(way) = self.way(to) else {
                     return None;
                 };
-                Some(hop_by(&way))
+                Some(way.hop())
             }
         }
     }

@@ -1,16 +1,22 @@
 //! PDUs that are for another address.
 ghost use Rattle.pdu_header.specs.Headers.{SpellsHeader};
-ghost use Rattle.pdu_header.specs.View.{pdu_value};
+ghost use Rattle.std.specs.Prelude.{◌≡◌, option_map};
+ghost use Rattle.clnp_machine.specs.Step.{begins_unit};
+ghost use Rattle.pdu_header.specs.View.{part_value, pdu_value};
 ghost use Rattle.system_entity.specs.Comes.{HasValue};
 
 use nsap::Address;
-use pdu_header::{Header, Pdu};
+use pdu_header::{Header, Pdu, SegPart};
 
 /// A PDU with a lifetime left for an address that isn't the system's: all that is needed so that it goes on.
 #[derive(Clone, Copy, Debug, PartialEq, Eq)]
 pub struct Passing {
     /// The destination.
     pub to: Address,
+    /// The source.
+    pub from: Address,
+    /// It begins its unit, as one does that can't be segmented.
+    pub first: bool,
     /// The lifetime that remains, in ticks of 500 ms (ISO/IEC 8473, section 7.2.5).
     pub life: u8,
     /// The header, which stands at the front of the frame.
@@ -30,9 +36,21 @@ impl Passing {
         let len = pdu.body.len();
         Passing {
             to: pdu.to,
+            from: pdu.from,
+            first: begins_unit(pdu.seg),
             life: pdu.life,
             head,
             len,
         }
+    }
+}
+
+/// Whether a PDU with a segmentation part, or with none, begins its unit (section 6.7).
+fn begins_unit(part: Option<SegPart>) -> bool
+    ensures { result ≡ begins_unit (option_map part_value part) }
+{
+    match part {
+        Some(part) => part.offset == 0,
+        None => true,
     }
 }

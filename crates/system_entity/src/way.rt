@@ -18,6 +18,18 @@ pub struct Way {
     pub title: Option<Address>,
 }
 
+impl Way {
+    /// The hop to the next system.
+    pub fn hop(&self) -> Hop
+        ensures { machine_hop result ≡ machine.hop_by (machine_way self.now) }
+    {
+        Hop {
+            port: self.port,
+            target: Target::System(self.snpa),
+        }
+    }
+}
+
 /// The way to an end system that was heard of.
 pub(crate) fn to_neighbour(place: Place) -> Way
     ensures { machine_way result ≡ machine.to_neighbour place }
@@ -37,16 +49,6 @@ pub(crate) fn by_route(route: &Route) -> Way
         port: route.port,
         snpa: route.snpa,
         title: Some(route.title),
-    }
-}
-
-/// The hop on a way.
-pub(crate) fn hop_by(way: &Way) -> Hop
-    ensures { machine_hop result ≡ machine.hop_by (machine_way way.now) }
-{
-    Hop {
-        port: way.port,
-        target: Target::System(way.snpa),
     }
 }
 

@@ -1,6 +1,6 @@
-//! What a system hears of others (ISO 9542, sections 6.3, 6.4 and 6.7).
+//! What a system hears of others (ISO 9542, sections 6.3, 6.4, 6.7 and 6.9).
 ghost use Rattle.std.specs.Prelude.{◌≡◌, ◌<◌, ◌^◌, ℕ, if◌then◌else◌, IfOk, OnOk};
-ghost use Rattle.clnp_machine.specs.Esis.{answers_new, esis_heard, follows, hears, hears_each, tells_of_itself};
+ghost use Rattle.clnp_machine.specs.Esis.{answers_new, esis_heard, follows, hears, hears_each, redirect_heard, tells_of_itself};
 ghost use Rattle.clnp_machine.specs.Given.{Appends};
 ghost use Rattle.clnp_machine.specs.System.{SystemState, idles};
 ghost use Rattle.clnp_plan.specs.declared.config.Role.TheVariants.{Host, Router};
@@ -14,7 +14,7 @@ use clnp_base::NoMemory;
 use clnp_plan::{Note, Output, SystemConfig};
 use esis_pdus::{AddressList, EsisBody, EsisPdu};
 use esis_tables::{Heard, Place, TableKind};
-use nsap::Address;
+use nsap::{Address, Snpa};
 
 impl EsisEntity {
     /// Hears a PDU as an end system, which answers an intermediate system that is new, and then follows its wish.
@@ -47,7 +47,7 @@ impl EsisEntity {
                 self.follow(now, suggested);
                 Ok(())
             }
-            EsisBody::Rd { .. } => give_note(Note::Ignored { rd: true }, out),
+            EsisBody::Rd { to, via, .. } => self.hear_redirect(now, &place, hold, to, via, out),
         }
     }
 
@@ -94,6 +94,31 @@ impl EsisEntity {
     {
         let new = self.hear_key(now, TableKind::Is, title, place, hold, out)?;
         self.answer(config, place, new, out)
+    }
+
+    /// Hears a redirect from an intermediate system that is known to be there, and ignores one from elsewhere (section 6.9).
+    fn hear_redirect(
+        &mut self,
+        now: u64,
+        place: &Place,
+        hold: u16,
+        to: Address,
+        via: Snpa,
+        out: &mut Vec<Output>,
+    ) -> Result<(), NoMemory>
+        requires { now < 2 ^ 62 }
+        ensures { OnOk result ((s : SystemState) → Stands self.old s → s.moment ≡ now
+            → Does now self.new out.old.items out.new.items (redirect_heard Host s place.now hold to via)) }
+    {
+        if !self.tables.is_router(now, &place.snpa) {
+            return give_note(Note::Ignored { rd: true }, out);
+        }
+        let better = Place {
+            port: place.port,
+            snpa: via,
+        };
+        self.hear_key(now, TableKind::Rd, to, &better, hold, out)?;
+        Ok(())
     }
 
     /// Hears of an end system, and answers it once where an address is new.
