@@ -271,7 +271,14 @@ impl SystemEntity {
             return Err(NoMemory);
         }
         let before = out.len();
-        match send_redirect(self.local.config(), place, to, &way.snpa, way.title.as_ref(), out) {
+        match send_redirect(
+            self.local.config(),
+            place,
+            to,
+            &way.snpa,
+            way.title.as_ref(),
+            out,
+        ) {
             Ok(()) => Ok(()),
             Err(_) => {
                 out.truncate(before);
