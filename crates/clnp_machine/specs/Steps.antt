@@ -203,7 +203,8 @@ IsItsHello s value = (seconds : ℕ) × (value ≡ own_hello (record s { hello =
 -- a redirect of its, which routers alone send
 abbrev pub IsItsRedirect : SystemState → EsisValue → Type 0
 IsItsRedirect s value =
-    (s.configuration.role ≡ Router) × ((to via : List ℕ) (title : Option (List ℕ)) × (value ≡ redirect s to via title))
+    (s.configuration.role ≡ Router)
+    × ((to : List ℕ) × (via : List ℕ) × (title : Option (List ℕ)) × (value ≡ redirect s to via title))
 
 abbrev pub IsItsOwn : SystemState → EsisValue → Type 0
 IsItsOwn s value = IsItsHello s value ⊎ IsItsRedirect s value
@@ -254,7 +255,8 @@ KnowsAddresses s = AllByRecursion (λ (fact : Fact). IsAddress fact.place.snpa) 
 
 -- a redirect for a destination
 abbrev pub IsRedirectFor : List ℕ → Content → Type 0
-IsRedirectFor destination (Esis value following) = (via : List ℕ) (title : Option (List ℕ)) × (value.body ≡ Rd destination via title)
+IsRedirectFor destination (Esis value following) =
+    (via : List ℕ) × (title : Option (List ℕ)) × (value.body ≡ Rd destination via title)
 IsRedirectFor destination _ = ⊥
 
 -- a system sends as before to each address but one
