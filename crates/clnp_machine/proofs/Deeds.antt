@@ -335,12 +335,14 @@ module _ (W : unit.Unit → Type 0) where
   taken : (s : SystemState) (deed : Deed) → Does W s deed → Takes W s (effect_of deed)
   taken s deed h = record { leads = by_deed s deed h; heard = h.heard }
 
-  pub takes_packet : (s : SystemState) (p : Packet) (following : List ℕ) → CausesSuch W s p following → Takes W s (packet_comes s p following)
-  takes_packet s p following such =
-      packet_does (Takes W s) s p following
+  pub takes_packet : (s : SystemState) (came : Place) (p : Packet) (following : List ℕ) → CausesSuch W s p following
+      → Takes W s (packet_comes s came p following)
+  takes_packet s came p following such =
+      packet_does (Takes W s) s came p following
       (λ reason of_none. taken s (discard s (Labelled p following) reason 0)
       (does_discard W s s (goes-nowhere s) (Labelled p following) reason 0 (such.reported reason of_none)))
-      (λ hop port pieces there alive gives. record { leads = record { goes = goes-nowhere s; makes = makes_none W s s refl refl }; heard = hears-nothing s })
+      (λ router way port pieces there alive gives known.
+      record { leads = record { goes = goes-nowhere s; makes = makes_none W s s refl refl }; heard = hears-nothing s })
       (taken s (tells s _) (does_tell W s _)) (λ own. taken s (receive s p following) (does_receive W s p following such s (goes-nowhere s)))
 
   -- what is said and heard between systems
@@ -381,9 +383,9 @@ module _ (W : unit.Unit → Type 0) where
       → AllSuch s (FrameComes port sender to_group content) → Leads W s (content_comes s (record { port = port; snpa = sender }) to_group content)
   leads_content s port sender to_group (Labelled p following) such =
       let place : Place = record { port = port; snpa = sender } in
-      leads-on s (packet_comes s p following) (λ t. responds t place to_group p) (takes_packet s p following such).leads
-      (by_hellos (packet_comes s p following).after (responds (packet_comes s p following).after place to_group p)
-      (only_responds (packet_comes s p following).after place to_group p))
+      let come = packet_comes s place p following in
+      leads-on s come (λ t. responds t place to_group p) (takes_packet s place p following such).leads
+      (by_hellos come.after (responds come.after place to_group p) (only_responds come.after place to_group p))
   leads_content s port sender to_group (Esis value following) such =
       let place : Place = record { port = port; snpa = sender } in by_hellos s (esis_comes s place value) (only_comes s place value)
   leads_content s port sender to_group (Unlabelled octets) such =
@@ -516,9 +518,9 @@ discard_is s content reason place =
     is_deed s (discard s content reason place)
     (does_discard (IsFresh s s.moment) s s (goes-nowhere s) content reason place (report_fresh s (frame_of content) reason place))
 
-pub packet_is : (s : SystemState) (p : Packet) (following : List ℕ) → IsEffect s (packet_comes s p following)
-packet_is s p following =
-    let took = takes_packet (IsFresh s s.moment) s p following (causes_fresh s p following) in
+pub packet_is : (s : SystemState) (came : Place) (p : Packet) (following : List ℕ) → IsEffect s (packet_comes s came p following)
+packet_is s came p following =
+    let took = takes_packet (IsFresh s s.moment) s came p following (causes_fresh s p following) in
     record { itself = took.leads.goes.itself; moment = took.leads.goes.moment; heard = took.heard; fresh = took.leads.makes.such }
 
 pub octets_are : (s : SystemState) (octets : List ℕ) → IsDeed s (octets_come s octets)

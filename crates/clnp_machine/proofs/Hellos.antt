@@ -4,19 +4,21 @@ use Rattle.std.specs.Prelude.{◌==◌, ◌&&◌, ◌||◌, not, nat_le, min, sl
 use Rattle.std.specs.List.{AllByRecursion, list_any, range_with_len}
 use Rattle.clnp_base.proofs.Lists.{AllByRecursion-append, AllByRecursion-map_any}
 use Rattle.esis_pdus.specs.declared.pdu.EsisBody.{EsisBody}
-use Rattle.esis_pdus.specs.declared.pdu.EsisBody.TheVariants.{Esh, Ish, Rd}
+use Rattle.esis_pdus.specs.declared.pdu.EsisBody.TheVariants as body
+use Rattle.esis_pdus.specs.declared.pdu.EsisBody.TheVariants.{Esh, Ish}
 use Rattle.esis_pdus.specs.Value.{EsisValue, suggested}
 use Rattle.esis_tables.specs.declared.fact.Place.{Place}
 use Rattle.esis_tables.specs.declared.fact.TableKind.{TableKind}
-use Rattle.esis_tables.specs.declared.fact.TableKind.TheVariants.{Es, Is}
+use Rattle.esis_tables.specs.declared.fact.TableKind.TheVariants.{Es, Is, Rd}
 use Rattle.esis_tables.specs.Gone.{gone}
+use Rattle.esis_tables.specs.NextHop.{is_router}
 use Rattle.esis_pdus.specs.Making.{timer_options, value}
 use Rattle.clnp_plan.specs.Configuration.{SystemConfiguration}
 use Rattle.clnp_plan.specs.declared.config.Role.{Role}
 use Rattle.clnp_plan.specs.declared.config.Role.TheVariants.{Host, Router}
 use Rattle.clnp_machine.specs.Unit.{Packet}
 use Rattle.clnp_machine.specs.System.{SystemState, Output, SendsEsis, Effect, idles, gives, then_does}
-use Rattle.clnp_machine.specs.Esis.{tells_of_itself, is_silent, own_hello, hearers, hello_everywhere, says_hello, hears, hears_each, tells_new, answers_new, follows, end_system_heard, intermediate_system_heard, esis_heard, esis_comes, gone_note, forgets, first_of, hello_of, holding_time, wish}
+use Rattle.clnp_machine.specs.Esis.{tells_of_itself, is_silent, own_hello, hearers, hello_everywhere, says_hello, hears, hears_each, tells_new, answers_new, follows, redirect_heard, end_system_heard, intermediate_system_heard, esis_heard, esis_comes, gone_note, forgets, first_of, hello_of, holding_time, wish}
 use Rattle.clnp_machine.specs.Step.{is_asked_for, responds}
 use Rattle.clnp_machine.specs.Steps.{IsOfHellos, LeavesTheRest, OnlyHellos}
 
@@ -114,11 +116,17 @@ only_intermediate_system Host s place holding title timer =
     (record { rest = rest_follows heard.after timer; outputs = tt; units = refl })
 only_intermediate_system Router s place holding title timer = only_gives s s _ (rest-itself s) (tt, tt)
 
+only_redirect : (role : Role) (s : SystemState) (place : Place) (holding : ℕ) (to via : List ℕ) → OnlyHellos s (redirect_heard role s place holding to via)
+only_redirect Host s place holding to via =
+    only_one_of s (is_router s.moment place.snpa s.facts) _ _ (only_hears s Rd to (record { port = place.port; snpa = via }) holding)
+    (only_gives s s _ (rest-itself s) (tt, tt))
+only_redirect Router s place holding to via = only_gives s s _ (rest-itself s) (tt, tt)
+
 pub only_heard : (role : Role) (s : SystemState) (place : Place) (holding : ℕ) (body : EsisBody) (timer : Option ℕ)
     → OnlyHellos s (esis_heard role s place holding body timer)
 only_heard role s place holding (Esh addresses) timer = only_end_system role s place holding addresses
 only_heard role s place holding (Ish title) timer = only_intermediate_system role s place holding title timer
-only_heard role s place holding (Rd to via title) timer = only_gives s s _ (rest-itself s) (tt, tt)
+only_heard role s place holding (body.Rd to via title) timer = only_redirect role s place holding to via
 
 pub only_comes : (s : SystemState) (place : Place) (v : EsisValue) → OnlyHellos s (esis_comes s place v)
 only_comes s place v = only_heard s.configuration.role s place v.holding v.body (suggested v.body v.options)
