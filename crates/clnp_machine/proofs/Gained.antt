@@ -98,11 +98,11 @@ module _ (P : Arrival Packet → Type 0) where
       (all_after (table_limits s) s.moment arrival (λ (b : Buffer Packet). AllByRecursion P b.kept)
       (record { new = (comes, tt); more = λ b all same. AllByRecursion-push P b.kept arrival all comes }) s.buffers h)
 
-  keeps_with_packet : (s : SystemState) (p : Packet) (following : List ℕ) → KeepsOnly s.buffers → P (offered p following)
-      → KeepsOnly (packet_comes s p following).after.buffers
-  keeps_with_packet s p following h comes =
-      packet_does (λ effect. KeepsOnly effect.after.buffers) s p following (λ reason of_none. keeps_discard s (Labelled p following) reason 0 h)
-      (λ hop port pieces there alive gives. h) h
+  keeps_with_packet : (s : SystemState) (came : Place) (p : Packet) (following : List ℕ) → KeepsOnly s.buffers → P (offered p following)
+      → KeepsOnly (packet_comes s came p following).after.buffers
+  keeps_with_packet s came p following h comes =
+      packet_does (λ effect. KeepsOnly effect.after.buffers) s came p following (λ reason of_none. keeps_discard s (Labelled p following) reason 0 h)
+      (λ router way port pieces there alive gives known. h) h
       (λ own. keeps_one_of (is_all p) (hand_up s p.unit.kind p.unit.source p.unit.destination (value_of p).body p.options)
       (offer s (Labelled p following) (offered p following)) (keeps_hand_up s p.unit.kind p.unit.source p.unit.destination (value_of p).body p.options h)
       (keeps_offer s (Labelled p following) (offered p following) h comes))
@@ -123,9 +123,9 @@ module _ (P : Arrival Packet → Type 0) where
   keeps_with_content : (s : SystemState) (place : Place) (to_group : Bool) (content : Content) → KeepsOnly s.buffers
       → ((arrival : Arrival Packet) → CarriesSegment content arrival → P arrival) → KeepsOnly (content_comes s place to_group content).after.buffers
   keeps_with_content s place to_group (Labelled p following) h comes =
-      let come = (packet_comes s p following).after in
+      let come = (packet_comes s place p following).after in
       keeps_by_hellos come (responds come place to_group p) (only_responds come place to_group p)
-      (keeps_with_packet s p following h (comes (offered p following) refl))
+      (keeps_with_packet s place p following h (comes (offered p following) refl))
   keeps_with_content s place to_group (Esis value following) h comes = keeps_by_hellos s (esis_comes s place value) (only_comes s place value) h
   keeps_with_content s place to_group (Unlabelled octets) h comes = keeps_with_octets s octets h
 

@@ -29,12 +29,12 @@ use Rattle.clnp_machine.specs.Content.{Content, Labelled, Esis, Unlabelled, fram
 use Rattle.clnp_machine.specs.System.{SystemState, Input, AsksToSend, AsksForEcho, FrameComes, MomentComes, IsRestarted, Output, Transmits, SendsEsis, Notes, Effect, then_does, table_limits}
 use Rattle.clnp_machine.specs.Local.{Action, Sends, Tells, Deed, at_moment, data_in, discard, discard_first, echo_ask, expire, give_up_due, gives_up, hand_up, header_size, identifier_refusal, is_all, is_answer, is_own, make, makes, most_octets, not_drawn_note, offer, offered, receive, refusal, report_unit, reports_from, requests_echo, rests, sent_note, takes_in, takes_reply, tick, unit_of, unless_refused}
 use Rattle.clnp_machine.specs.Esis.{esis_comes, forgets, says_hello}
-use Rattle.clnp_machine.specs.Step.{Hop, unit_hop, transmissions, sent_on, first_sent, outputs_of, effect_of, packet_comes, discard_refused, unheard_note, octets_come, responds, content_comes, step}
+use Rattle.clnp_machine.specs.Step.{Hop, unit_hop, transmissions, sent_on, first_sent, outputs_of, effect_of, packet_comes, discard_refused, unheard_note, octets_come, responds, content_comes, step, hop_by, redirects}
 use Rattle.clnp_machine.specs.Steps.{IsForOwn, IsNoRestart, IsOfHellos, NotesOnly, OnlyHellos, RestartsNothing}
 use Rattle.clnp_machine.specs.Told.{IsOfNoRule, IsRefusal, IsToldBy, NoteIsQuiet, NotesNoRule, SpellsPdus, TellsOnly}
 use Rattle.clnp_machine.proofs.Hellos.{only_comes, only_forgets, only_responds, only_says_hello, only_then}
 use Rattle.clnp_machine.proofs.Kept.{all_contained}
-use Rattle.clnp_machine.proofs.Passing.{packet_does}
+use Rattle.clnp_machine.proofs.Passing.{packet_does, redirects_are}
 use Rattle.clnp_machine.proofs.Reasons.{congestion, expired, interference, segmentation, unknown}
 
 -- Why a unit isn't made.
@@ -290,11 +290,14 @@ module _ (s : SystemState) (input : Input) where
   then_notes effect next h k =
       AllByRecursion-append (NotesOnly (IsNoted s input)) effect.outputs (next effect.after).outputs h (by_hellos effect.after (next effect.after) k)
 
-  packet_notes : (p : Packet) (following : List ℕ) → NoteAll (packet_comes s p following)
-  packet_notes p following =
-      packet_does NoteAll s p following
+  packet_notes : (came : Place) (p : Packet) (following : List ℕ) → NoteAll (packet_comes s came p following)
+  packet_notes came p following =
+      packet_does NoteAll s came p following
       (λ reason of_none. by_deed (discard s (Labelled p following) reason 0) (drops_tell s (Labelled p following) reason 0 of_none))
-      (λ hop port pieces there alive gives. pieces_end (IsNoted s input) hop pieces) (tt, tt)
+      (λ router way port pieces there alive gives known.
+      AllByRecursion-append (NotesOnly (IsNoted s input)) (transmissions (hop_by way) (Some pieces)) (redirects s came p way)
+      (pieces_end (IsNoted s input) (hop_by way) pieces) (redirects_are (NotesOnly (IsNoted s input)) s came p way tt))
+      (tt, tt)
       (λ own. by_deed (receive s p following) (receive_tells s p following own))
 
 content_notes : (s : SystemState) (port : ℕ) (sender : List ℕ) (to_group : Bool) (content : Content)
@@ -302,8 +305,8 @@ content_notes : (s : SystemState) (port : ℕ) (sender : List ℕ) (to_group : B
 content_notes s port sender to_group (Labelled p following) =
     let place : Place = record { port = port; snpa = sender } in
     let input : Input = FrameComes port sender to_group (Labelled p following) in
-    then_notes s input (packet_comes s p following) (λ t. responds t place to_group p) (packet_notes s input p following)
-    (only_responds (packet_comes s p following).after place to_group p)
+    then_notes s input (packet_comes s place p following) (λ t. responds t place to_group p) (packet_notes s input place p following)
+    (only_responds (packet_comes s place p following).after place to_group p)
 content_notes s port sender to_group (Esis value following) =
     let place : Place = record { port = port; snpa = sender } in
     by_hellos s (FrameComes port sender to_group (Esis value following)) s (esis_comes s place value) (only_comes s place value)

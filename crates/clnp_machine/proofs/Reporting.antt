@@ -80,9 +80,9 @@ all_of_packets s (FrameComes port sender to_group (Labelled p following)) fair s
   reported = λ reason of_none t at own first reportable er. (
     p,
     inl refl,
-    of_packet p following fair _
+    of_packet p following fair.1 _
         (record { kind = refl; unreported = refl; whole = refl; destination = refl; data_are = refl }),
-    sym (same_source p following fair) ∙ source_is p following fair,
+    sym (same_source p following fair.1) ∙ source_is p following fair.1,
   );
   replied = λ octets request t at none er. absurd (cc);
 }

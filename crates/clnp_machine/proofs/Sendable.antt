@@ -37,13 +37,13 @@ use Rattle.clnp_machine.specs.Content.{Content, Esis, IsCarried, Labelled, Unlab
 use Rattle.clnp_machine.specs.System.{SystemState, Input, AsksToSend, AsksForEcho, FrameComes, MomentComes, IsRestarted, Output, Transmits, SendsEsis, Notes, Effect, then_does}
 use Rattle.clnp_machine.specs.Esis.{esis_comes, forgets, says_hello}
 use Rattle.clnp_machine.specs.Local.{Action, Deed, IsAsOffered, Sends, Tells, at_moment, discard, echo_ask, header_size, identifier_for, made_in, make, most_octets, receive, refusal, report_unit, tick, unit_of}
-use Rattle.clnp_machine.specs.Step.{Hop, content_comes, effect_of, first_sent, forwarded, loss_at, moment_comes, octets_come, outputs_of, packet_comes, responds, sent_on, step, transmissions, unit_hop}
+use Rattle.clnp_machine.specs.Step.{Hop, content_comes, effect_of, first_sent, forwarded, loss_at, moment_comes, octets_come, outputs_of, packet_comes, responds, sent_on, step, transmissions, unit_hop, hop_by, redirects}
 use Rattle.clnp_machine.specs.Steps.{AreCarriable, ComesWith, IsFair, IsOfHellos, KeepsAsOffered, OnlyHellos, SendsCarriable}
 use Rattle.clnp_machine.proofs.Deeds.{AllSuch, CausesSuch, Does, Replied, Reported, does_discard, does_make, does_receive, does_tick, does_with_octets, goes-nowhere}
 use Rattle.clnp_machine.proofs.Gained.{all_segments, each_kept, keeps_step}
 use Rattle.clnp_machine.proofs.Hellos.{only_comes, only_forgets, only_responds, only_says_hello, only_then}
 use Rattle.clnp_machine.proofs.Making.{allowed, total_is, total_with}
-use Rattle.clnp_machine.proofs.Passing.{Onward, packet_does}
+use Rattle.clnp_machine.proofs.Passing.{Onward, packet_does, redirects_are}
 use Rattle.clnp_machine.proofs.Pieces.{cut_carriable}
 use Rattle.clnp_machine.proofs.Reporting.{header_in, kept_carriable, source_is}
 
@@ -251,10 +251,10 @@ all_sendable s (AsksToSend from to octets ask) system fair each keeps = asked_is
 all_sendable s (AsksForEcho from to octets) system fair each keeps =
     asked_is_sendable s Erq from to octets (echo_ask s from to (length octets) true)
     (echo_formed s system from to (length octets) true fair.0 fair.1) no_reason
-all_sendable s (FrameComes port sender to_group (Labelled p following)) system fair each keeps = causes_sendable s system each p following fair
+all_sendable s (FrameComes port sender to_group (Labelled p following)) system fair each keeps = causes_sendable s system each p following fair.1
 all_sendable s (FrameComes port sender to_group (Esis value following)) system fair each keeps = tt
 all_sendable s (FrameComes port sender to_group (Unlabelled octets)) system fair each keeps =
-    λ reason place. report_sendable s system each octets reason place (readable_octets octets fair.bytes)
+    λ reason place. report_sendable s system each octets reason place (readable_octets octets fair.1.bytes)
 all_sendable s (MomentComes now) system fair each keeps =
     λ p there. report_sendable (at_moment now s) system each (wire p ++ []) (reason_code LifetimeExpiredInReassembly) 0
     (λ is. readable_packet p [] (kept_carriable s keeps p there))
@@ -305,13 +305,15 @@ forwarded_carriable p loss h =
 found_carriable : (found : Option (List Packet)) (given : List Packet) → found ≡ Some given → AreCarriable found → AllByRecursion IsCarriable given
 found_carriable found given same h = subst AreCarriable same h
 
-onward_carriable : (s : SystemState) (p : Packet) → AllByRecursion IsPort s.configuration.ports → IsCarriable p
-    → Onward (λ effect. AllByRecursion SendsCarriable effect.outputs) s p
-onward_carriable s p each h hop port given there alive gives =
-    let wide : 512 ≤ port.mtu = (AllByRecursion-slice_get IsPort s.configuration.ports hop.port port there each).mtu.least in
-    each_sent hop given
+onward_carriable : (s : SystemState) (came : Place) (p : Packet) → AllByRecursion IsPort s.configuration.ports → IsCarriable p
+    → Onward (λ effect. AllByRecursion SendsCarriable effect.outputs) s came p
+onward_carriable s came p each h way port given there alive gives known =
+    let wide : 512 ≤ port.mtu = (AllByRecursion-slice_get IsPort s.configuration.ports way.place.port port there each).mtu.least in
+    AllByRecursion-append SendsCarriable (transmissions (hop_by way) (Some given)) (redirects s came p way)
+    (each_sent (hop_by way) given
     (found_carriable (cut (forwarded p (loss_at port)) port.mtu) given gives
-    (cut_carriable (forwarded p (loss_at port)) port.mtu (forwarded_carriable p (loss_at port) h) wide))
+    (cut_carriable (forwarded p (loss_at port)) port.mtu (forwarded_carriable p (loss_at port) h) wide)))
+    (redirects_are SendsCarriable s came p way tt)
 
 hello_carriable : (output : Output) → IsOfHellos output → SendsCarriable output
 hello_carriable (Transmits port target packet) h = absurd h
@@ -321,13 +323,13 @@ hello_carriable (Notes note) h = tt
 hellos_carriable : (s : SystemState) (effect : Effect) → OnlyHellos s effect → AllByRecursion SendsCarriable effect.outputs
 hellos_carriable s effect h = AllByRecursion-implies IsOfHellos SendsCarriable hello_carriable effect.outputs h.outputs
 
-packet_carriable : (s : SystemState) (p : Packet) (following : List ℕ) → IsSystem s.configuration → IsCarriable p → CausesSuch IsSendable s p following
-    → AllByRecursion SendsCarriable (packet_comes s p following).outputs
-packet_carriable s p following system h such =
-    packet_does (λ effect. AllByRecursion SendsCarriable effect.outputs) s p following
+packet_carriable : (s : SystemState) (came : Place) (p : Packet) (following : List ℕ) → IsSystem s.configuration → IsCarriable p → CausesSuch IsSendable s p following
+    → AllByRecursion SendsCarriable (packet_comes s came p following).outputs
+packet_carriable s came p following system h such =
+    packet_does (λ effect. AllByRecursion SendsCarriable effect.outputs) s came p following
     (λ reason of_none. deed_carriable s (discard s (Labelled p following) reason 0) system
     (does_discard IsSendable s s (goes-nowhere s) (Labelled p following) reason 0 (such.reported reason of_none)))
-    (onward_carriable s p system.each_port h) (tt, tt)
+    (λ router. onward_carriable s came p system.each_port h) (tt, tt)
     (λ own. deed_carriable s (receive s p following) system (does_receive IsSendable s p following such s (goes-nowhere s)))
 
 content_carriable : (s : SystemState) (port : ℕ) (sender : List ℕ) (to_group : Bool) (content : Content) → IsSystem s.configuration → IsCarried content
@@ -335,8 +337,8 @@ content_carriable : (s : SystemState) (port : ℕ) (sender : List ℕ) (to_group
     → AllByRecursion SendsCarriable (content_comes s (record { port = port; snpa = sender }) to_group content).outputs
 content_carriable s port sender to_group (Labelled p following) system h such =
     let place : Place = record { port = port; snpa = sender } in
-    let come = packet_comes s p following in
-    AllByRecursion-append SendsCarriable come.outputs (responds come.after place to_group p).outputs (packet_carriable s p following system h such)
+    let come = packet_comes s place p following in
+    AllByRecursion-append SendsCarriable come.outputs (responds come.after place to_group p).outputs (packet_carriable s place p following system h such)
     (hellos_carriable come.after (responds come.after place to_group p) (only_responds come.after place to_group p))
 content_carriable s port sender to_group (Esis value following) system h such =
     let place : Place = record { port = port; snpa = sender } in hellos_carriable s (esis_comes s place value) (only_comes s place value)
@@ -360,7 +362,7 @@ carriable_where s (AsksToSend from to octets ask) system fair such =
 carriable_where s (AsksForEcho from to octets) system fair such =
     let ask = echo_ask s from to (length octets) true in
     deed_carriable s (make s Erq from to octets ask) system (does_make IsSendable s Erq from to octets ask such)
-carriable_where s (FrameComes port sender to_group content) system fair such = content_carriable s port sender to_group content system fair such
+carriable_where s (FrameComes port sender to_group content) system fair such = content_carriable s port sender to_group content system fair.1 such
 carriable_where s (MomentComes now) system fair such = moment_carriable s now system such
 carriable_where s IsRestarted system fair such = (tt, tt)
 
@@ -372,7 +374,7 @@ step_carriable s input system fair each keeps = carriable_where s input system f
 
 comes_offered : (input : Input) → IsFair input → (arrival : Arrival Packet) → ComesWith input arrival → IsAsOffered arrival
 comes_offered (FrameComes port sender to_group (Labelled p following)) fair arrival comes =
-    subst IsAsOffered (sym comes) (record { following = following; is_offered = refl; carriable = fair })
+    subst IsAsOffered (sym comes) (record { following = following; is_offered = refl; carriable = fair.1 })
 comes_offered (FrameComes port sender to_group (Esis value following)) fair arrival comes = absurd comes
 comes_offered (FrameComes port sender to_group (Unlabelled octets)) fair arrival comes = absurd comes
 comes_offered (AsksToSend from to octets ask) fair arrival comes = absurd comes

@@ -16,11 +16,11 @@ use Rattle.clnp_machine.specs.Content.{Labelled, Esis, Unlabelled}
 use Rattle.clnp_machine.specs.System.{SystemState, Input, AsksToSend, AsksForEcho, FrameComes, MomentComes, IsRestarted, Output, Transmits, SendsEsis, Notes, Effect, then_does}
 use Rattle.clnp_machine.specs.Esis.{esis_comes, forgets, says_hello}
 use Rattle.clnp_machine.specs.Local.{Action, Sends, Tells, Deed, discard, made_in, make, receive, requests_echo, tick}
-use Rattle.clnp_machine.specs.Step.{Hop, effect_of, first_sent, forwarded, loss_at, octets_come, outputs_of, packet_comes, passes_by, responds, sent_on, step, transmissions, unit_hop}
+use Rattle.clnp_machine.specs.Step.{Hop, effect_of, first_sent, forwarded, loss_at, octets_come, outputs_of, packet_comes, passes_by, responds, sent_on, step, transmissions, unit_hop, Way, hop_by, redirects}
 use Rattle.clnp_machine.specs.Steps.{GoesOnFrom, GoesOnOrIsReported, IsOfHellos, IsRangeOf, OnlyHellos, SendsOn, SendsRangesOf, SendsRangesOrGoesOn}
 use Rattle.clnp_machine.proofs.Asked.{discard_makes}
 use Rattle.clnp_machine.proofs.Hellos.{only_comes, only_forgets, only_responds, only_says_hello, only_then}
-use Rattle.clnp_machine.proofs.Passing.{packet_does, passing_does}
+use Rattle.clnp_machine.proofs.Passing.{going, packet_does, passing_does, redirects_are}
 
 -- a range of so many places
 abbrev Within : ℕ → Range → Type 0
@@ -177,20 +177,24 @@ module _ (s : SystemState) (p : Packet) where
         whole = λ none. h.whole (ap (λ (u : unit.Unit). u.identifier) (sym same) ∙ none);
       }
 
-  onward : (hop : Hop) (port : PortConfig) (given : List Packet) → slice_get s.configuration.ports hop.port ≡ Some port → loss_at port < p.lifetime
-      → cut (forwarded p (loss_at port)) port.mtu ≡ Some given → AllByRecursion (SendsOn s p) (map (λ piece. Transmits hop.port hop.target piece) given)
-  onward hop port given there alive gives =
-      AllByRecursion-mapped (IsPartOf (forwarded p (loss_at port))) (SendsOn s p) (λ piece. Transmits hop.port hop.target piece) given
-      (part_goes_on hop.port port there alive) (cut_is_parts (forwarded p (loss_at port)) port.mtu given gives)
+  onward : (came : Place) (way : Way) (port : PortConfig) (given : List Packet) → slice_get s.configuration.ports way.place.port ≡ Some port
+      → loss_at port < p.lifetime → cut (forwarded p (loss_at port)) port.mtu ≡ Some given → AllByRecursion (SendsOn s p) (going s came p way given)
+  onward came way port given there alive gives =
+      let hop = hop_by way in
+      AllByRecursion-append (SendsOn s p) (map (λ piece. Transmits hop.port hop.target piece) given) (redirects s came p way)
+      (AllByRecursion-mapped (IsPartOf (forwarded p (loss_at port))) (SendsOn s p) (λ piece. Transmits hop.port hop.target piece) given
+      (part_goes_on hop.port port there alive) (cut_is_parts (forwarded p (loss_at port)) port.mtu given gives))
+      (redirects_are (SendsOn s p) s came p way tt)
 
   -- what comes of a packet for another address goes on, or its discard is reported
-  pub passing_sends : (following : List ℕ) → GoesOnOrIsReported s p (wire p ++ following) (passes_by s.configuration.role s p following)
-  passing_sends following =
-      passing_does (GoesOnOrIsReported s p (wire p ++ following)) s p following
+  pub passing_sends : (came : Place) (following : List ℕ) → GoesOnOrIsReported s p (wire p ++ following) (passes_by s.configuration.role s came p following)
+  passing_sends came following =
+      passing_does (GoesOnOrIsReported s p (wire p ++ following)) s came p following
       (λ reason of_none.
       let deed = discard s (Labelled p following) reason 0 in
       inr (sends_ranges deed.after deed.actions, discard_makes s (Labelled p following) reason 0))
-      (λ hop port given there alive gives. inl (onward hop port given there alive gives, refl)) (inl ((tt, tt), refl)) s.configuration.role
+      (λ router way port given there alive gives known. inl (onward came way port given there alive gives, refl)) (inl ((tt, tt), refl))
+      s.configuration.role refl
 
 -- All that is sent in a step.
 
@@ -240,12 +244,14 @@ on_such s at sender to_group p following (SendsEsis port target value) h = tt
 on_such s at sender to_group p following (Notes note) h = tt
 
 packet_such : (s : SystemState) (at : ℕ) (sender : List ℕ) (to_group : Bool) (p : Packet) (following : List ℕ)
-    → SendsSuchOf s (FrameComes at sender to_group (Labelled p following)) (packet_comes s p following)
+    → SendsSuchOf s (FrameComes at sender to_group (Labelled p following)) (packet_comes s (record { port = at; snpa = sender }) p following)
 packet_such s at sender to_group p following =
     let input : Input = FrameComes at sender to_group (Labelled p following) in
-    packet_does (SendsSuchOf s input) s p following (λ reason of_none. deed_such s input (discard s (Labelled p following) reason 0))
-    (λ hop port given there alive gives. AllByRecursion-implies (SendsOn s p) (SendsRangesOrGoesOn s input []) (on_such s at sender to_group p following)
-    (map (λ piece. Transmits hop.port hop.target piece) given) (onward s p hop port given there alive gives))
+    let came : Place = record { port = at; snpa = sender } in
+    packet_does (SendsSuchOf s input) s came p following (λ reason of_none. deed_such s input (discard s (Labelled p following) reason 0))
+    (λ router way port given there alive gives known.
+    AllByRecursion-implies (SendsOn s p) (SendsRangesOrGoesOn s input []) (on_such s at sender to_group p following)
+    (going s came p way given) (onward s p came way port given there alive gives))
     (tt, tt) (λ own. deed_such s input (receive s p following))
 
 pub step_sends : (s : SystemState) (input : Input) → AllByRecursion (SendsRangesOrGoesOn s input (step s input).units) (step s input).outputs
@@ -253,8 +259,8 @@ step_sends s (AsksToSend from to octets ask) = deed_such s (AsksToSend from to o
 step_sends s (AsksForEcho from to octets) = deed_such s (AsksForEcho from to octets) (requests_echo s from to octets)
 step_sends s (FrameComes port sender to_group (Labelled p following)) =
     let place : Place = record { port = port; snpa = sender } in
-    then_such s (FrameComes port sender to_group (Labelled p following)) (packet_comes s p following) (λ t. responds t place to_group p)
-    (packet_such s port sender to_group p following) (only_responds (packet_comes s p following).after place to_group p)
+    then_such s (FrameComes port sender to_group (Labelled p following)) (packet_comes s place p following) (λ t. responds t place to_group p)
+    (packet_such s port sender to_group p following) (only_responds (packet_comes s place p following).after place to_group p)
 step_sends s (FrameComes port sender to_group (Esis value following)) =
     let place : Place = record { port = port; snpa = sender } in
     hellos_such s (FrameComes port sender to_group (Esis value following)) s (esis_comes s place value).units (esis_comes s place value)
