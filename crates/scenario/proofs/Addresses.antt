@@ -1,5 +1,5 @@
--- Each address that lines declare for a system is one.
-use Rattle.std.proofs.Common.{ℕ, ◌+◌, ◌&&◌, not, nat_le, nat_lt, List, [], ◌∷◌, map, length, slice_get, codes, is_some, IfOk, All}
+-- Each address that lines declare for a system is one: its own, those of its ports, and those of the next systems on its routes.
+use Rattle.std.proofs.Common.{ℕ, ◌+◌, ◌&&◌, not, nat_le, nat_lt, List, [], ◌∷◌, map, length, slice_get, codes, is_some, IfOk}
 use Rattle.std.specs.List.{AllByRecursion, flat_map, list_all}
 use Rattle.std.specs.Str.{bytes_eq}
 use Rattle.std.proofs.lemmas.List.Elements.{All-from_recursion}
@@ -7,20 +7,29 @@ use Rattle.clnp_base.proofs.Lists.{AllByRecursion-mapped, AllByRecursion-push}
 use Rattle.clnp_base.specs.Text.{decimal_of, words_of}
 use Rattle.nsap.specs.Address.{IsAddress}
 use Rattle.forwarding.specs.declared.route.Route.{Route}
-use Rattle.clnp_plan.specs.Configuration.{SystemConfiguration}
+use Rattle.clnp_plan.specs.Configuration.{IsAddressed, IsAddressedRoute}
+use Rattle.clnp_plan.specs.declared.config.PortConfig.{PortConfig}
 use Rattle.scenario.specs.Words.{wanted, name_word, declared_word, number_within, number_word, address_word, prefix_word, is_digits, is_taken, is_one_at_most, is_skipped, each_once, two_words, three_words, five_words, first_two, first_four}
-use Rattle.scenario.specs.Declarations.{Declarations, DeclaredSystem, NumberedPort, nothing_declared, subnet_names, system_names, with_address, with_port, is_among, has_port, snpas_on, mtu_at, takes_address, takes_port, limits_line, subnet_line, role_word, setting_words, key_of, settings_of, system_line, address_line, transit_word, port_line, router_word, port_word, has_route, takes_route, with_route, route_line, declaration_line, is_complete, configuration_of}
+use Rattle.scenario.specs.Declarations.{Declarations, DeclaredSystem, NumberedPort, nothing_declared, subnet_names, system_names, with_address, with_port, count_below, is_among, has_port, snpas_on, mtu_at, takes_address, takes_port, limits_line, subnet_line, role_word, setting_words, key_of, settings_of, system_line, address_line, transit_word, port_line, router_word, port_word, has_route, takes_route, with_route, route_line, declaration_line, is_complete, configuration_of}
 use Rattle.scenario.specs.Grammar.{ReadTo, is_line_of, declarations_from}
 use Rattle.scenario.specs.declared.code.Code.TheVariants as bad
 use Rattle.scenario.proofs.Behind.{behind_result, behind_line, behind_found, behind_wanted, behind_such, behind_line_such, either_way}
 use Rattle.scenario.proofs.Apart.{addresses_of}
 use Rattle.scenario.proofs.Fit.{changed}
 use Rattle.scenario.proofs.Forms.{Laws, address_formed}
+use Rattle.scenario.proofs.Kept.{all_among}
 
-abbrev pub HasAddresses : DeclaredSystem → Type 0
-HasAddresses system = AllByRecursion IsAddress system.addresses
+-- the address of a declared port is one
+abbrev pub IsAddressedPort : NumberedPort → Type 0
+IsAddressedPort numbered = IsAddress numbered.port.snpa
 
--- each address of each system that was declared so far is one
+-- so are all that a system has so far
+pub record HasAddresses (system : DeclaredSystem) : Type 0 where
+  pub own : AllByRecursion IsAddress system.addresses
+  pub ports : AllByRecursion IsAddressedPort system.ports
+  pub routes : AllByRecursion IsAddressedRoute system.routes
+
+-- and all that each system has that was declared so far
 abbrev pub AreAddressed : Declarations → Type 0
 AreAddressed d = AllByRecursion HasAddresses d.systems
 
@@ -54,7 +63,7 @@ system_has_none d words h =
     behind_wanted (not (is_taken (system_names d) name) && each_once key_of settings) _ _ AreAddressed (λ _.
     behind_wanted (nat_lt (length d.systems) 64) _ _ AreAddressed (λ _.
     let system : DeclaredSystem = record { name = name; role = role; settings = settings_of settings; addresses = []; ports = []; routes = [] } in
-    AllByRecursion-push HasAddresses d.systems system h tt))))))
+    AllByRecursion-push HasAddresses d.systems system h (record { own = tt; ports = tt; routes = tt })))))))
 
 address_is_one : Laws → (d : Declarations) (words : List (List ℕ)) → AreAddressed d → IfOk (address_line d words) AreAddressed
 unfolding address_line
@@ -64,37 +73,40 @@ address_is_one laws d words h =
     behind_such (address_word w.1) _ IsAddress AreAddressed (address_formed laws w.1) (λ address is.
     behind_wanted (not (is_among address (addresses_of d.systems))) _ _ AreAddressed (λ _.
     behind_wanted (takes_address (slice_get d.systems place)) _ _ AreAddressed (λ _.
-    changed HasAddresses (with_address address) place d.systems h (λ system _ its. AllByRecursion-push IsAddress system.addresses address its is))))))
+    changed HasAddresses (with_address address) place d.systems h (λ system _ its.
+    record { own = AllByRecursion-push IsAddress system.addresses address its.own is; ports = its.ports; routes = its.routes }))))))
 
-port_keeps : (d : Declarations) (words : List (List ℕ)) → AreAddressed d → IfOk (port_line d words) AreAddressed
+port_has_one : Laws → (d : Declarations) (words : List (List ℕ)) → AreAddressed d → IfOk (port_line d words) AreAddressed
 unfolding port_line
-port_keeps d words h =
+port_has_one laws d words h =
     behind_found (first_four words) _ _ AreAddressed (λ w _.
     behind_wanted (is_one_at_most w.4) _ _ AreAddressed (λ _.
     behind_result (declared_word (system_names d) w.0) _ AreAddressed (λ place _.
     behind_result (number_word 0 7 w.1) _ AreAddressed (λ number _.
     behind_result (declared_word (subnet_names d) w.2) _ AreAddressed (λ subnet _.
-    behind_result (address_word w.3) _ AreAddressed (λ snpa _.
+    behind_such (address_word w.3) _ IsAddress AreAddressed (address_formed laws w.3) (λ snpa is.
     behind_result (transit_word w.4) _ AreAddressed (λ transit _.
     behind_wanted (not (has_port number subnet (slice_get d.systems place))) _ _ AreAddressed (λ _.
     behind_wanted (not (is_among snpa (flat_map (snpas_on subnet) d.systems))) _ _ AreAddressed (λ _.
     behind_wanted (takes_port (slice_get d.systems place)) _ _ AreAddressed (λ _.
     let numbered : NumberedPort = record { number = number; port = record { subnet = subnet; snpa = snpa; transit = transit; mtu = mtu_at (slice_get d.subnets subnet) } } in
-    changed HasAddresses (with_port numbered) place d.systems h (λ system _ its. its)))))))))))
+    changed HasAddresses (with_port numbered) place d.systems h (λ system _ its.
+    record { own = its.own; ports = all_among IsAddressedPort numbered (count_below number system.ports) system.ports is its.ports; routes = its.routes })))))))))))
 
-route_keeps : (d : Declarations) (words : List (List ℕ)) → AreAddressed d → IfOk (route_line d words) AreAddressed
+route_has_two : Laws → (d : Declarations) (words : List (List ℕ)) → AreAddressed d → IfOk (route_line d words) AreAddressed
 unfolding route_line
-route_keeps d words h =
+route_has_two laws d words h =
     behind_found (five_words words) _ _ AreAddressed (λ w _.
     behind_result (router_word d w.0) _ AreAddressed (λ place _.
     behind_result (prefix_word w.1) _ AreAddressed (λ prefix _.
     behind_result (port_word (slice_get d.systems place) w.2) _ AreAddressed (λ port _.
-    behind_result (address_word w.3) _ AreAddressed (λ snpa _.
-    behind_result (address_word w.4) _ AreAddressed (λ title _.
+    behind_such (address_word w.3) _ IsAddress AreAddressed (address_formed laws w.3) (λ snpa first.
+    behind_such (address_word w.4) _ IsAddress AreAddressed (address_formed laws w.4) (λ title second.
     behind_wanted (not (has_route prefix (slice_get d.systems place))) _ _ AreAddressed (λ _.
     behind_wanted (takes_route (slice_get d.systems place)) _ _ AreAddressed (λ _.
     let route : Route = record { prefix = prefix; port = port; snpa = snpa; title = title } in
-    changed HasAddresses (with_route route) place d.systems h (λ system _ its. its)))))))))
+    changed HasAddresses (with_route route) place d.systems h (λ system _ its.
+    record { own = its.own; ports = its.ports; routes = AllByRecursion-push IsAddressedRoute system.routes route its.routes (record { snpa = first; title = second }) })))))))))
 
 line_keeps : Laws → (d : Declarations) (words : List (List ℕ)) → AreAddressed d → IfOk (declaration_line d words) AreAddressed
 unfolding declaration_line
@@ -104,8 +116,8 @@ line_keeps laws d (keyword ∷ words) h =
     (either_way (bytes_eq keyword (codes "subnet")) _ _ AreAddressed (subnet_keeps d words h)
     (either_way (bytes_eq keyword (codes "system")) _ _ AreAddressed (system_has_none d words h)
     (either_way (bytes_eq keyword (codes "address")) _ _ AreAddressed (address_is_one laws d words h)
-    (either_way (bytes_eq keyword (codes "port")) _ _ AreAddressed (port_keeps d words h)
-    (either_way (bytes_eq keyword (codes "route")) _ _ AreAddressed (route_keeps d words h) tt)))))
+    (either_way (bytes_eq keyword (codes "port")) _ _ AreAddressed (port_has_one laws d words h)
+    (either_way (bytes_eq keyword (codes "route")) _ _ AreAddressed (route_has_two laws d words h) tt)))))
 
 -- so is each up to `events`
 abbrev pub ReadAddressed : ReadTo Declarations → Type 0
@@ -123,9 +135,15 @@ declarations_keep laws n d (line ∷ lines) h =
 pub declared_addresses : Laws → (n : ℕ) (lines : List (List ℕ)) → IfOk (declarations_from n nothing_declared lines) ReadAddressed
 declared_addresses laws n lines = declarations_keep laws n nothing_declared lines tt
 
--- and so is each of the systems
-pub configured_addresses : (systems : List DeclaredSystem) → AllByRecursion HasAddresses systems
-    → AllByRecursion (λ (system : SystemConfiguration). All IsAddress system.addresses) (map configuration_of systems)
-configured_addresses systems h =
-    AllByRecursion-mapped HasAddresses (λ (system : SystemConfiguration). All IsAddress system.addresses) configuration_of systems
-    (λ system its. All-from_recursion IsAddress system.addresses its) h
+-- so is each as it is configured
+system_addressed : (system : DeclaredSystem) → HasAddresses system → IsAddressed (configuration_of system)
+system_addressed system its =
+    record {
+      own = All-from_recursion IsAddress system.addresses its.own;
+      ports = AllByRecursion-mapped IsAddressedPort (λ (port : PortConfig). IsAddress port.snpa) (λ (numbered : NumberedPort). numbered.port) system.ports
+          (λ numbered is. is) its.ports;
+      routes = its.routes;
+    }
+
+pub configured_addresses : (systems : List DeclaredSystem) → AllByRecursion HasAddresses systems → AllByRecursion IsAddressed (map configuration_of systems)
+configured_addresses systems h = AllByRecursion-mapped HasAddresses IsAddressed configuration_of systems system_addressed h
