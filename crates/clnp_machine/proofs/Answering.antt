@@ -1,5 +1,5 @@
 -- What a system sends in answer to what comes in a frame.
-use Rattle.std.proofs.Common.{◌≡◌, ◌∙◌, refl, sym, ap, subst, ℕ, ◌+◌, ◌*◌, inl, inr, Bool, true, false, List, [], ◌∷◌, ◌++◌, append-nil, map, Option, None, Some}
+use Rattle.std.proofs.Common.{◌≡◌, ◌∙◌, refl, sym, ap, subst, ℕ, ◌+◌, ◌*◌, ◌⊎◌, inl, inr, Bool, true, false, List, [], ◌∷◌, ◌++◌, append-nil, map, Option, None, Some}
 use Rattle.std.specs.Prelude.{◌==◌, ◌||◌, min, if◌then◌else◌, slice_get}
 use Rattle.std.specs.List.{AllByRecursion, filter, flat_map, list_any}
 use Rattle.std.proofs.lemmas.List.Elements.{filter-append}
@@ -7,16 +7,18 @@ use Rattle.std.proofs.lemmas.List.Folds.{list_any-append}
 use Rattle.clnp_base.proofs.Lists.{AllByRecursion-append}
 use Rattle.clnp_options.specs.declared.judge.OptionRefusal.{OptionRefusal}
 use Rattle.esis_pdus.specs.declared.pdu.EsisBody.{EsisBody}
-use Rattle.esis_pdus.specs.declared.pdu.EsisBody.TheVariants.{Esh, Ish, Rd}
+use Rattle.esis_pdus.specs.declared.pdu.EsisBody.TheVariants as body
+use Rattle.esis_pdus.specs.declared.pdu.EsisBody.TheVariants.{Esh, Ish}
 use Rattle.esis_pdus.specs.Value.{EsisValue, suggested}
 use Rattle.esis_tables.specs.declared.fact.Place.{Place}
-use Rattle.esis_tables.specs.declared.fact.TableKind.TheVariants.{Es, Is}
+use Rattle.esis_tables.specs.declared.fact.TableKind.TheVariants.{Es, Is, Rd}
 use Rattle.esis_tables.specs.Fact.{answer}
+use Rattle.esis_tables.specs.NextHop.{is_router}
 use Rattle.nsap.specs.declared.target.Target.TheVariants.{System}
 use Rattle.pdu_header.specs.Rules.{is_reportable, octet, refusal as rule_broken}
 use Rattle.esis_pdus.specs.Rules.{why_refused}
 use Rattle.clnp_plan.specs.declared.note.Note.{Note}
-use Rattle.clnp_plan.specs.declared.note.Note.TheVariants.{Discard}
+use Rattle.clnp_plan.specs.declared.note.Note.TheVariants.{Discard, Ignored}
 use Rattle.clnp_plan.specs.Configuration.{SystemConfiguration}
 use Rattle.clnp_plan.specs.declared.config.PortConfig.{PortConfig}
 use Rattle.clnp_plan.specs.declared.config.Role.{Role}
@@ -24,15 +26,15 @@ use Rattle.clnp_plan.specs.declared.config.Role.TheVariants.{Host, Router}
 use Rattle.clnp_machine.specs.Unit as unit
 use Rattle.clnp_machine.specs.Unit.{Packet, whole_packet, cut}
 use Rattle.clnp_machine.specs.Content.{Labelled, Unlabelled}
-use Rattle.clnp_machine.specs.System.{SystemState, Output, Transmits, SendsEsis, Effect, idles, gives, then_does}
-use Rattle.clnp_machine.specs.Esis.{answers_new, end_system_heard, esis_comes, esis_heard, esis_limits, follows, heard_now, hears, hears_each, intermediate_system_heard, is_silent, own_hello, tells_new, tells_of_itself}
+use Rattle.clnp_machine.specs.System.{SystemState, Output, Transmits, SendsEsis, Notes, Effect, idles, gives, then_does}
+use Rattle.clnp_machine.specs.Esis.{answers_new, end_system_heard, esis_comes, esis_heard, esis_limits, follows, heard_now, hears, hears_each, intermediate_system_heard, is_silent, own_hello, redirect, redirect_heard, tells_new, tells_of_itself}
 use Rattle.clnp_machine.specs.Local.{Action, Sends, Tells, Deed, and_then, discard, made_in, receive, tells}
-use Rattle.clnp_machine.specs.Step.{Hop, discard_refused, first_sent, is_asked_for, octets_come, outputs_of, packet_comes, responds, sent_on, transmissions, unheard_note, unit_hop}
-use Rattle.clnp_machine.specs.Steps.{IsAtMostItsHello, IsAtMostReportOf, sends_esis, sends_frame}
+use Rattle.clnp_machine.specs.Step.{Hop, Way, discard_refused, first_sent, hop_by, is_asked_for, is_redirected, octets_come, outputs_of, packet_comes, responds, sent_on, transmissions, unheard_note, unit_hop}
+use Rattle.clnp_machine.specs.Steps.{IsAtMostItsHello, IsAtMostOneTo, IsAtMostReportOf, IsItsRedirect, sends_esis, sends_frame}
 use Rattle.clnp_machine.proofs.Asked.{discard_makes, not_reported}
 use Rattle.clnp_machine.proofs.Deeds.{packet_is}
 use Rattle.clnp_machine.proofs.Hellos.{only_comes, only_hears_each, same_hello}
-use Rattle.clnp_machine.proofs.Passing.{packet_does}
+use Rattle.clnp_machine.proofs.Passing.{going, packet_does}
 use Rattle.clnp_machine.proofs.Known.{IsKnown, all_known, becomes_known, none_new, not_new, told_old}
 
 -- where no output passes a test, none is left by it
@@ -119,11 +121,22 @@ intermediate_system_at Host s place holding title timer =
     (answers_at s place (hears s Is title place holding) (refl, tt) refl refl)
 intermediate_system_at Router s place holding title timer = inl refl
 
+pub redirect_notes : (role : Role) (s : SystemState) (place : Place) (holding : ℕ) (to via : List ℕ)
+    → NonePasses sends_frame (redirect_heard role s place holding to via).outputs
+redirect_notes Host s place holding to via = go (is_router s.moment place.snpa s.facts)
+  where
+    go : (test : Bool)
+        → NonePasses sends_frame
+        (if test then hears s Rd to (record { port = place.port; snpa = via }) holding else gives s (Notes (Ignored true) ∷ [])).outputs
+    go true = (refl, tt)
+    go false = (refl, tt)
+redirect_notes Router s place holding to via = (refl, tt)
+
 heard_at : (role : Role) (s : SystemState) (place : Place) (holding : ℕ) (body : EsisBody) (timer : Option ℕ)
     → At sends_frame s place (esis_heard role s place holding body timer)
 heard_at role s place holding (Esh addresses) timer = end_system_at role s place holding addresses
 heard_at role s place holding (Ish title) timer = intermediate_system_at role s place holding title timer
-heard_at role s place holding (Rd to via title) timer = inl refl
+heard_at role s place holding (body.Rd to via title) timer = inl (none_left sends_frame _ (redirect_notes role s place holding to via))
 
 pub hello_causes : (s : SystemState) (place : Place) (v : EsisValue) → At sends_frame s place (esis_comes s place v)
 hello_causes s place v = heard_at s.configuration.role s place v.holding v.body (suggested v.body v.options)
@@ -153,23 +166,74 @@ deeds_silent s (Sends u ∷ actions) =
     AllByRecursion-append (λ output. sends_esis output ≡ false) (first_sent s u (unit_hop s u)) (flat_map (outputs_of s) actions)
     (first_silent s u (unit_hop s u)) (deeds_silent s actions)
 
-pub packet_silent : (s : SystemState) (p : Packet) (following : List ℕ) → NonePasses sends_esis (packet_comes s p following).outputs
-packet_silent s p following =
-    packet_does (λ effect. NonePasses sends_esis effect.outputs) s p following
-    (λ reason of_none. deeds_silent (discard s (Labelled p following) reason 0).after (discard s (Labelled p following) reason 0).actions)
-    (λ hop port pieces there alive gives. pieces_silent hop pieces) (refl, tt)
-    (λ own. deeds_silent (receive s p following).after (receive s p following).actions)
+-- A packet makes it send at most one redirect by itself, as a router.
+
+abbrev pub SilentOrRedirects : SystemState → Place → List Output → Type 0
+SilentOrRedirects s place outputs =
+    NonePasses sends_esis outputs
+    ⊎ ((value : EsisValue) × IsItsRedirect s value × (filter sends_esis outputs ≡ SendsEsis place.port (System place.snpa) value ∷ []))
+
+going_sends : (s : SystemState) (came : Place) (p : Packet) (way : Way) (pieces : List Packet) → s.configuration.role ≡ Router
+    → SilentOrRedirects s came (going s came p way pieces)
+going_sends s came p way pieces router = go (is_redirected s came p way)
+  where
+    front : List Output
+    front = transmissions (hop_by way) (Some pieces)
+
+    value : EsisValue
+    value = redirect s p.unit.destination way.place.snpa way.title
+
+    go : (test : Bool)
+        → SilentOrRedirects s came (front ++ (if test then SendsEsis came.port (System came.snpa) value ∷ [] else []))
+    go true =
+        inr (
+          value,
+          (router, (p.unit.destination, way.place.snpa, way.title, refl)),
+          none_before sends_esis front (SendsEsis came.port (System came.snpa) value ∷ []) (pieces_silent (hop_by way) pieces),
+        )
+    go false = inl (AllByRecursion-append (λ output. sends_esis output ≡ false) front [] (pieces_silent (hop_by way) pieces) tt)
+
+pub packet_sends : (s : SystemState) (came : Place) (p : Packet) (following : List ℕ) → SilentOrRedirects s came (packet_comes s came p following).outputs
+packet_sends s came p following =
+    packet_does (λ effect. SilentOrRedirects s came effect.outputs) s came p following
+    (λ reason of_none. inl (deeds_silent (discard s (Labelled p following) reason 0).after (discard s (Labelled p following) reason 0).actions))
+    (λ router way port pieces there alive gives known. going_sends s came p way pieces router) (inl (refl, tt))
+    (λ own. inl (deeds_silent (receive s p following).after (receive s p following).actions))
+
+-- a router doesn't tell of itself then
+router_tells_nothing : (t : SystemState) (place : Place) (to_group : Bool) (p : Packet) → t.configuration.role ≡ Router
+    → (responds t place to_group p).outputs ≡ []
+router_tells_nothing t place to_group p router =
+    ap (λ (role : Role). (if is_asked_for role t to_group p then tells_of_itself t place.port place.snpa else idles t).outputs) router
 
 pub packet_causes : (s : SystemState) (place : Place) (to_group : Bool) (p : Packet) (following : List ℕ)
-    → IsAtMostItsHello s place (filter sends_esis ((packet_comes s p following).outputs ++ (responds (packet_comes s p following).after place to_group p).outputs))
-packet_causes s place to_group p following =
-    let come = packet_comes s p following in
-    let t = come.after in
-    let is = packet_is s p following in
-    subst (IsAtMostItsHello s place)
-    (sym (none_before sends_esis come.outputs (responds t place to_group p).outputs (packet_silent s p following)))
-    (at_same s t place (filter sends_esis (responds t place to_group p).outputs) is.itself.configuration is.heard.hello
-    (at_one_of sends_esis t place (is_asked_for t.configuration.role t to_group p) _ _ (told_esis t place) (inl refl)))
+    → IsAtMostOneTo s place
+    (filter sends_esis ((packet_comes s place p following).outputs ++ (responds (packet_comes s place p following).after place to_group p).outputs))
+packet_causes s place to_group p following = go (packet_sends s place p following)
+  where
+    come : Effect
+    come = packet_comes s place p following
+
+    answer : Effect
+    answer = responds come.after place to_group p
+
+    itself : come.after.configuration ≡ s.configuration
+    itself = (packet_is s place p following).itself.configuration
+
+    go : SilentOrRedirects s place come.outputs → IsAtMostOneTo s place (filter sends_esis (come.outputs ++ answer.outputs))
+    go (inl silent) =
+        inl (subst (IsAtMostItsHello s place)
+        (sym (none_before sends_esis come.outputs answer.outputs silent))
+        (at_same s come.after place (filter sends_esis answer.outputs) itself (packet_is s place p following).heard.hello
+        (at_one_of sends_esis come.after place (is_asked_for come.after.configuration.role come.after to_group p) _ _ (told_esis come.after place) (inl refl))))
+    go (inr one) =
+        let role : come.after.configuration.role ≡ Router = ap (λ (c : SystemConfiguration). c.role) itself ∙ one.1.0 in
+        inr (
+          one.0,
+          one.1,
+          ap (λ (more : List Output). filter sends_esis (come.outputs ++ more)) (router_tells_nothing come.after place to_group p role)
+              ∙ ap (filter sends_esis) (append-nil come.outputs) ∙ one.2,
+        )
 
 -- Octets that are no PDU are answered by nothing but the report of their discard.
 
@@ -243,7 +307,7 @@ old_heard : (role : Role) (s : SystemState) (place : Place) (holding : ℕ) (bod
     → filter sends_frame (esis_heard role s place holding body timer).outputs ≡ []
 old_heard role s place holding (Esh addresses) timer old = old_end_system role s place holding addresses old
 old_heard role s place holding (Ish title) timer old = old_intermediate_system role s place holding title timer old
-old_heard role s place holding (Rd to via title) timer old = refl
+old_heard role s place holding (body.Rd to via title) timer old = none_left sends_frame _ (redirect_notes role s place holding to via)
 
 pub old_unanswered : (s : SystemState) (place : Place) (v : EsisValue) → list_any tells_new (esis_comes s place v).outputs ≡ false
     → filter sends_frame (esis_comes s place v).outputs ≡ []
@@ -310,7 +374,8 @@ again_heard : (role : Role) (s : SystemState) (place : Place) (holding : ℕ) (b
     → filter sends_frame (esis_heard role (esis_heard role s place holding body timer).after place holding body timer).outputs ≡ []
 again_heard role s place holding (Esh addresses) timer = again_end_system role s place holding addresses
 again_heard role s place holding (Ish title) timer = again_intermediate_system role s place holding title timer
-again_heard role s place holding (Rd to via title) timer = refl
+again_heard role s place holding (body.Rd to via title) timer =
+    none_left sends_frame _ (redirect_notes role (redirect_heard role s place holding to via).after place holding to via)
 
 pub again_unanswered : (s : SystemState) (place : Place) (v : EsisValue) → filter sends_frame (esis_comes (esis_comes s place v).after place v).outputs ≡ []
 again_unanswered s place v =

@@ -1,60 +1,85 @@
--- A system sends no ES-IS PDU but its own hello, which a PDU can carry.
-use Rattle.std.proofs.Common.{◌≡◌, refl, sym, subst, ℕ, ◌+◌, ◌*◌, ◌≤◌, Bool, true, false, List, [], ◌∷◌, length, length-append, Option, All, arith}
-use Rattle.std.specs.Prelude.{◌&&◌, not, nat_le, if◌then◌else◌, slice_get}
+-- A system sends no ES-IS PDU but its own hello and redirects, which PDUs can carry.
+use Rattle.std.proofs.Common.{◌≡◌, ◌∙◌, refl, sym, subst, ℕ, ◌+◌, ◌*◌, ◌≤◌, inl, inr, Bool, true, false, List, [], ◌∷◌, ◌++◌, length, length-append, Option, None, Some, All, arith}
+use Rattle.std.specs.Prelude.{◌==◌, ◌&&◌, ◌||◌, not, min, nat_le, if◌then◌else◌, slice_get, option_map}
+use Rattle.std.specs.Option.{option_or}
 use Rattle.std.specs.List.{AllByRecursion, flat_map, list_any, range_with_len}
 use Rattle.std.proofs.lemmas.List.Elements.{recursion_from_All}
-use Rattle.clnp_base.proofs.Lists.{AllByRecursion-append, AllByRecursion-implies, AllByRecursion-map_any}
+use Rattle.clnp_base.proofs.Lists.{AllByRecursion-append, AllByRecursion-contains, AllByRecursion-implies, AllByRecursion-map_any}
 use Rattle.nsap.specs.Address.{IsAddress}
 use Rattle.clnp_options.specs.Grammar.{joined}
 use Rattle.esis_pdus.specs.declared.pdu.EsisBody.{EsisBody}
-use Rattle.esis_pdus.specs.declared.pdu.EsisBody.TheVariants.{Esh, Ish, Rd}
-use Rattle.esis_pdus.specs.Grammar.{IsPdu}
-use Rattle.esis_pdus.specs.Value.{suggested}
-use Rattle.esis_pdus.proofs.Made.{esh_pdu, esh_size, ish_pdu}
+use Rattle.esis_pdus.specs.declared.pdu.EsisBody.TheVariants as body
+use Rattle.esis_pdus.specs.declared.pdu.EsisBody.TheVariants.{Esh, Ish}
+use Rattle.esis_pdus.specs.Grammar.{HasAddresses, IsPdu, IsTitleOrNone}
+use Rattle.esis_pdus.specs.Value.{EsisValue, suggested}
+use Rattle.esis_pdus.proofs.Made.{esh_pdu, esh_size, ish_pdu, rd_pdu}
+use Rattle.forwarding.specs.declared.route.Route.{Route}
+use Rattle.forwarding.specs.Longest.{IsLongest, longest}
 use Rattle.esis_tables.specs.declared.fact.Place.{Place}
-use Rattle.esis_tables.specs.declared.fact.TableKind.TheVariants.{Is}
+use Rattle.esis_tables.specs.declared.fact.TableKind.{TableKind}
+use Rattle.esis_tables.specs.declared.fact.TableKind.TheVariants.{Es, Is, Rd}
+use Rattle.esis_tables.specs.Fact.{Fact, answer, is_about, is_held, is_noted, last_of, while_held}
 use Rattle.esis_tables.specs.Gone.{gone}
-use Rattle.pdu_header.specs.declared.kind.Kind.TheVariants.{Dt}
-use Rattle.clnp_plan.specs.Configuration.{HasItsAddresses, IsSystem, SystemConfiguration}
+use Rattle.esis_tables.specs.NextHop.{current_place, is_router, place_of}
+use Rattle.nsap.specs.declared.target.Target.TheVariants.{System}
+use Rattle.pdu_header.specs.declared.kind.Kind.TheVariants.{Dt, Erq}
+use Rattle.clnp_plan.specs.Configuration.{HasItsAddresses, IsAddressed, IsAddressedRoute, IsSystem, SystemConfiguration}
+use Rattle.clnp_plan.specs.declared.note.Note.TheVariants.{Ignored}
 use Rattle.clnp_plan.specs.declared.config.Role.{Role}
 use Rattle.clnp_plan.specs.declared.config.Role.TheVariants.{Host, Router}
-use Rattle.clnp_machine.specs.Content.{Content, Esis, Labelled, Unlabelled}
-use Rattle.clnp_machine.specs.System.{SystemState, Input, AsksToSend, AsksForEcho, FrameComes, MomentComes, IsRestarted, Output, Transmits, SendsEsis, Notes, Effect, idles, then_does}
-use Rattle.clnp_machine.specs.Esis.{answers_new, end_system_heard, esis_heard, first_of, forgets, gone_note, hearers, hears, hears_each, holding_time, intermediate_system_heard, is_silent, own_hello, says_hello, tells_new, tells_of_itself, wish}
-use Rattle.clnp_machine.specs.Local.{Action, make, requests_echo, tick}
-use Rattle.clnp_machine.specs.Step.{content_comes, is_asked_for, octets_come, outputs_of, packet_comes, responds, step}
-use Rattle.clnp_machine.specs.Steps.{IsItsHello, SendsEsisPdus, SendsItsHellos, sends_esis, sends_frame}
-use Rattle.clnp_machine.proofs.Answering.{deeds_silent, hears_notes, packet_silent}
-use Rattle.clnp_machine.proofs.Deeds.{packet_is, tick_is}
+use Rattle.clnp_machine.specs.Unit.{Packet}
+use Rattle.clnp_machine.specs.Content.{Content, Esis, IsCarried, Labelled, Unlabelled}
+use Rattle.clnp_machine.specs.System.{SystemState, Input, AsksToSend, AsksForEcho, FrameComes, MomentComes, IsRestarted, Output, Transmits, SendsEsis, Notes, Effect, gives, idles, then_does}
+use Rattle.clnp_machine.specs.Esis.{answers_new, end_system_heard, esis_heard, esis_limits, first_of, follows, forgets, gone_note, heard_now, hearers, hears, hears_each, hello_everywhere, holding_time, intermediate_system_heard, is_silent, own_hello, redirect, redirect_heard, says_hello, tells_new, tells_of_itself, wish}
+use Rattle.clnp_machine.specs.Local.{Action, discard, echo_ask, make, receive, requests_echo, tick}
+use Rattle.clnp_machine.specs.Step.{Way, by_route, content_comes, hop_by, is_asked_for, octets_come, outputs_of, packet_comes, redirects, responds, step, to_neighbour, transmissions, way_of}
+use Rattle.clnp_machine.specs.Steps.{IsFair, IsItsOwn, KnowsAddresses, SendsEsisPdus, SendsItsOwn, sends_esis, sends_frame}
+use Rattle.clnp_machine.proofs.Answering.{deeds_silent, hears_notes, redirect_notes}
+use Rattle.clnp_machine.proofs.Deeds.{make_is, octets_are, packet_is, tick_is}
+use Rattle.clnp_machine.proofs.Passing.{packet_does, redirects_are}
 use Rattle.clnp_machine.proofs.Hellos.{only_hears_each, hello_is, said, same_hello}
 
--- What is sent is the system's own hello.
+-- What holds of a system's own hello, and of the redirect that may follow a packet, holds of each ES-IS value that is sent.
 
-module _ (s : SystemState) where
+abbrev pub SendsSuch : (EsisValue → Type 0) → Output → Type 0
+SendsSuch Q (SendsEsis port target value) = Q value
+SendsSuch Q _ = Unit {0}
+
+-- the redirect that may follow a packet that comes is such
+abbrev pub RedirectsSuch : (EsisValue → Type 0) → SystemState → Content → Type 0
+RedirectsSuch Q s (Labelled p following) =
+    (way : Way) → s.configuration.role ≡ Router → way_of s p.unit.destination ≡ Some way → Q (redirect s p.unit.destination way.place.snpa way.title)
+RedirectsSuch Q s _ = Unit {0}
+
+abbrev pub ComesSuch : (EsisValue → Type 0) → SystemState → Input → Type 0
+ComesSuch Q s (FrameComes port sender to_group content) = RedirectsSuch Q s content
+ComesSuch Q s _ = Unit {0}
+
+module _ (Q : EsisValue → Type 0) (s : SystemState) (own : (seconds : ℕ) → Q (own_hello (record s { hello = seconds }))) where
   abbrev SendsIts : List Output → Type 0
-  SendsIts outputs = AllByRecursion (SendsItsHellos s) outputs
+  SendsIts outputs = AllByRecursion (SendsSuch Q) outputs
 
-  silent_its : (output : Output) → sends_esis output ≡ false → SendsItsHellos s output
+  silent_its : (output : Output) → sends_esis output ≡ false → SendsSuch Q output
   silent_its (Transmits port target packet) silent = tt
   silent_its (SendsEsis port target value) silent = absurd (cc)
   silent_its (Notes note) silent = tt
 
-  noted_its : (output : Output) → sends_frame output ≡ false → SendsItsHellos s output
+  noted_its : (output : Output) → sends_frame output ≡ false → SendsSuch Q output
   noted_its (Transmits port target packet) silent = tt
   noted_its (SendsEsis port target value) silent = absurd (cc)
   noted_its (Notes note) silent = tt
 
   deeds_its : (t : SystemState) (actions : List Action) → SendsIts (flat_map (outputs_of t) actions)
   deeds_its t actions =
-      AllByRecursion-implies (λ output. sends_esis output ≡ false) (SendsItsHellos s) silent_its (flat_map (outputs_of t) actions) (deeds_silent t actions)
+      AllByRecursion-implies (λ output. sends_esis output ≡ false) (SendsSuch Q) silent_its (flat_map (outputs_of t) actions) (deeds_silent t actions)
 
   hears_its : (t : SystemState) (addresses : List (List ℕ)) (place : Place) (holding : ℕ) → SendsIts (hears_each t addresses place holding).outputs
   hears_its t addresses place holding =
-      AllByRecursion-implies (λ output. sends_frame output ≡ false) (SendsItsHellos s) noted_its (hears_each t addresses place holding).outputs
+      AllByRecursion-implies (λ output. sends_frame output ≡ false) (SendsSuch Q) noted_its (hears_each t addresses place holding).outputs
       (hears_notes t addresses place holding)
 
-  its_hello : (t : SystemState) → t.configuration ≡ s.configuration → IsItsHello s (own_hello t)
-  its_hello t same = (t.hello, same_hello (record s { hello = t.hello }) t same refl)
+  its_hello : (t : SystemState) → t.configuration ≡ s.configuration → Q (own_hello t)
+  its_hello t same = subst Q (sym (same_hello (record s { hello = t.hello }) t same refl)) (own t.hello)
 
   one_its : (test : Bool) (first second : Effect) → SendsIts first.outputs → SendsIts second.outputs → SendsIts (if test then first else second).outputs
   one_its true first second h k = h
@@ -66,14 +91,14 @@ module _ (s : SystemState) where
   says_its : (t : SystemState) → t.configuration ≡ s.configuration → SendsIts (says_hello t).outputs
   says_its t same =
       one_its (not (is_silent t) && nat_le t.next_hello t.moment) _ (idles t)
-      (AllByRecursion-map_any (SendsItsHellos s) (λ port. SendsEsis port (hearers t.configuration.role) (own_hello t))
+      (AllByRecursion-map_any (SendsSuch Q) (λ port. SendsEsis port (hearers t.configuration.role) (own_hello t))
       (range_with_len 0 (length t.configuration.ports)) (λ port. its_hello t same))
       tt
 
   answers_its : (heard : Effect) (place : Place) → heard.after.configuration ≡ s.configuration → SendsIts heard.outputs → SendsIts (answers_new heard place).outputs
   answers_its heard place same h =
       let t = heard.after in
-      AllByRecursion-append (SendsItsHellos s) heard.outputs (if list_any tells_new heard.outputs then tells_of_itself t place.port place.snpa else idles t).outputs h
+      AllByRecursion-append (SendsSuch Q) heard.outputs (if list_any tells_new heard.outputs then tells_of_itself t place.port place.snpa else idles t).outputs h
       (one_its (list_any tells_new heard.outputs) _ _ (told_its t place.port place.snpa same) tt)
 
   end_system_its : (role : Role) (place : Place) (holding : ℕ) (addresses : List (List ℕ)) → SendsIts (end_system_heard role s place holding addresses).outputs
@@ -85,38 +110,49 @@ module _ (s : SystemState) where
       → SendsIts (intermediate_system_heard role s place holding title timer).outputs
   intermediate_system_its Host place holding title timer =
       let heard = hears s Is title place holding in
-      AllByRecursion-append (SendsItsHellos s) (answers_new heard place).outputs [] (answers_its heard place refl (tt, tt)) tt
+      AllByRecursion-append (SendsSuch Q) (answers_new heard place).outputs [] (answers_its heard place refl (tt, tt)) tt
   intermediate_system_its Router place holding title timer = (tt, tt)
 
   heard_its : (role : Role) (place : Place) (holding : ℕ) (body : EsisBody) (timer : Option ℕ) → SendsIts (esis_heard role s place holding body timer).outputs
   heard_its role place holding (Esh addresses) timer = end_system_its role place holding addresses
   heard_its role place holding (Ish title) timer = intermediate_system_its role place holding title timer
-  heard_its role place holding (Rd to via title) timer = (tt, tt)
+  heard_its role place holding (body.Rd to via title) timer =
+      AllByRecursion-implies (λ output. sends_frame output ≡ false) (SendsSuch Q) noted_its (redirect_heard role s place holding to via).outputs
+      (redirect_notes role s place holding to via)
 
-  content_its : (place : Place) (to_group : Bool) (content : Content) → SendsIts (content_comes s place to_group content).outputs
-  content_its place to_group (Labelled p following) =
-      let come = packet_comes s p following in
+  packet_its : (came : Place) (p : Packet) (following : List ℕ) → RedirectsSuch Q s (Labelled p following) → SendsIts (packet_comes s came p following).outputs
+  packet_its came p following such =
+      packet_does (λ effect. SendsIts effect.outputs) s came p following
+      (λ reason of_none. deeds_its (discard s (Labelled p following) reason 0).after (discard s (Labelled p following) reason 0).actions)
+      (λ router way port pieces there alive gives known.
+      AllByRecursion-append (SendsSuch Q) (transmissions (hop_by way) (Some pieces)) (redirects s came p way)
+      (AllByRecursion-map_any (SendsSuch Q) (λ piece. Transmits way.place.port (System way.place.snpa) piece) pieces (λ piece. tt))
+      (redirects_are (SendsSuch Q) s came p way (such way router known)))
+      (tt, tt) (λ mine. deeds_its (receive s p following).after (receive s p following).actions)
+
+  content_its : (place : Place) (to_group : Bool) (content : Content) → RedirectsSuch Q s content → SendsIts (content_comes s place to_group content).outputs
+  content_its place to_group (Labelled p following) such =
+      let come = packet_comes s place p following in
       let t = come.after in
-      AllByRecursion-append (SendsItsHellos s) come.outputs (responds t place to_group p).outputs
-      (AllByRecursion-implies (λ output. sends_esis output ≡ false) (SendsItsHellos s) silent_its come.outputs (packet_silent s p following))
-      (one_its (is_asked_for t.configuration.role t to_group p) _ _ (told_its t place.port place.snpa (packet_is s p following).itself.configuration) tt)
-  content_its place to_group (Esis value following) =
+      AllByRecursion-append (SendsSuch Q) come.outputs (responds t place to_group p).outputs (packet_its place p following such)
+      (one_its (is_asked_for t.configuration.role t to_group p) _ _ (told_its t place.port place.snpa (packet_is s place p following).itself.configuration) tt)
+  content_its place to_group (Esis value following) such =
       heard_its s.configuration.role place value.holding value.body (suggested value.body value.options)
-  content_its place to_group (Unlabelled octets) = deeds_its (octets_come s octets).after (octets_come s octets).actions
+  content_its place to_group (Unlabelled octets) such = deeds_its (octets_come s octets).after (octets_come s octets).actions
 
-  pub step_its : (input : Input) → SendsIts (step s input).outputs
-  step_its (AsksToSend from to octets ask) = deeds_its (make s Dt from to octets ask).after (make s Dt from to octets ask).actions
-  step_its (AsksForEcho from to octets) = deeds_its (requests_echo s from to octets).after (requests_echo s from to octets).actions
-  step_its (FrameComes port sender to_group content) = content_its (record { port = port; snpa = sender }) to_group content
-  step_its (MomentComes now) =
+  pub step_its : (input : Input) → ComesSuch Q s input → SendsIts (step s input).outputs
+  step_its (AsksToSend from to octets ask) such = deeds_its (make s Dt from to octets ask).after (make s Dt from to octets ask).actions
+  step_its (AsksForEcho from to octets) such = deeds_its (requests_echo s from to octets).after (requests_echo s from to octets).actions
+  step_its (FrameComes port sender to_group content) such = content_its (record { port = port; snpa = sender }) to_group content such
+  step_its (MomentComes now) such =
       let deed = tick s now in
       let t = deed.after in
       let u = (forgets s.moment t).after in
-      AllByRecursion-append (SendsItsHellos s) (flat_map (outputs_of t) deed.actions) (then_does (forgets s.moment t) says_hello).outputs (deeds_its t deed.actions)
-      (AllByRecursion-append (SendsItsHellos s) (forgets s.moment t).outputs (says_hello u).outputs
-      (AllByRecursion-map_any (SendsItsHellos s) gone_note (gone s.moment t.moment t.facts) (λ key. tt))
+      AllByRecursion-append (SendsSuch Q) (flat_map (outputs_of t) deed.actions) (then_does (forgets s.moment t) says_hello).outputs (deeds_its t deed.actions)
+      (AllByRecursion-append (SendsSuch Q) (forgets s.moment t).outputs (says_hello u).outputs
+      (AllByRecursion-map_any (SendsSuch Q) gone_note (gone s.moment t.moment t.facts) (λ key. tt))
       (says_its u (tick_is s now).itself.configuration))
-  step_its IsRestarted = (tt, tt)
+  step_its IsRestarted such = (tt, tt)
 
 -- Its own hello is one that a PDU can carry.
 
@@ -150,12 +186,201 @@ said_pdu Router c seconds one each =
 pub hello_pdu : (s : SystemState) → IsSystem s.configuration → All IsAddress s.configuration.addresses → IsPdu (own_hello s)
 hello_pdu s is each = subst IsPdu (sym (hello_is s)) (said_pdu s.configuration.role s.configuration s.hello is.addresses each)
 
-pdu_sent : (s : SystemState) → IsSystem s.configuration → All IsAddress s.configuration.addresses → (output : Output) → SendsItsHellos s output → SendsEsisPdus output
-pdu_sent s is each (Transmits port target packet) its = tt
-pdu_sent s is each (SendsEsis port target value) its = subst IsPdu (sym its.1) (hello_pdu (record s { hello = its.0 }) is each)
-pdu_sent s is each (Notes note) its = tt
+-- Each is the system's own hello, or a redirect of its.
 
-pub step_pdus : (s : SystemState) (input : Input) → IsSystem s.configuration → All IsAddress s.configuration.addresses
-    → AllByRecursion SendsEsisPdus (step s input).outputs
-step_pdus s input is each =
-    AllByRecursion-implies (SendsItsHellos s) SendsEsisPdus (pdu_sent s is each) (step s input).outputs (step_its s input)
+redirects_its : (s : SystemState) (content : Content) → RedirectsSuch (IsItsOwn s) s content
+redirects_its s (Labelled p following) = λ way router known. inr (router, (p.unit.destination, way.place.snpa, way.title, refl))
+redirects_its s (Esis value following) = tt
+redirects_its s (Unlabelled octets) = tt
+
+comes_its : (s : SystemState) (input : Input) → ComesSuch (IsItsOwn s) s input
+comes_its s (AsksToSend from to octets ask) = tt
+comes_its s (AsksForEcho from to octets) = tt
+comes_its s (FrameComes port sender to_group content) = redirects_its s content
+comes_its s (MomentComes now) = tt
+comes_its s IsRestarted = tt
+
+sends_own : (s : SystemState) (output : Output) → SendsSuch (IsItsOwn s) output → SendsItsOwn s output
+sends_own s (Transmits port target packet) h = tt
+sends_own s (SendsEsis port target value) h = h
+sends_own s (Notes note) h = tt
+
+pub step_own : (s : SystemState) (input : Input) → AllByRecursion (SendsItsOwn s) (step s input).outputs
+step_own s input =
+    AllByRecursion-implies (SendsSuch (IsItsOwn s)) (SendsItsOwn s) (sends_own s) (step s input).outputs
+    (step_its (IsItsOwn s) s (λ seconds. inl (seconds, refl)) input (comes_its s input))
+
+-- Each is one that a PDU can carry: the next system on each way has an address, and a title that is one.
+
+abbrev LongestIsThere : Type 0
+LongestIsThere = (address : List ℕ) (routes : List Route) (route : Route) → longest address routes ≡ Some route → IsLongest address routes route
+
+-- of a fact and what was found behind it
+last_one : (P : Fact → Type 0) (fact found : Fact) (test : Bool) (behind : Option Fact) → P fact → (behind ≡ Some found → P found)
+    → option_or behind (if test then Some fact else None) ≡ Some found → P found
+last_one P fact found true None h later e = let same : fact ≡ found = cc in subst P same h
+last_one P fact found false None h later e = absurd (cc)
+last_one P fact found test (Some other) h later e = later e
+
+last_is : (P : Fact → Type 0) (table : TableKind) (key : List ℕ) (facts : List Fact) → AllByRecursion P facts → (found : Fact)
+    → last_of table key facts ≡ Some found → P found
+last_is P table key [] all found e = absurd (cc)
+last_is P table key (fact ∷ later) all found e =
+    last_one P fact found (is_about table key fact) (last_of table key later) all.0 (last_is P table key later all.1 found) e
+
+current_is : (P : Fact → Type 0) (now : ℕ) (found : Option Fact) → ((fact : Fact) → found ≡ Some fact → P fact) → (place : Place)
+    → option_map place_of (while_held now found) ≡ Some place → (fact : Fact) × P fact × (place_of fact ≡ place)
+current_is P now None each place e = absurd (cc)
+current_is P now (Some fact) each place e = go (is_held now fact) e
+  where
+    go : (test : Bool) → option_map place_of (if test then Some fact else None) ≡ Some place → (fact : Fact) × P fact × (place_of fact ≡ place)
+    go true h = (fact, each fact refl, cc)
+    go false h = absurd (cc)
+
+module _ (s : SystemState) (is : IsAddressed s.configuration) (knows : KnowsAddresses s) (law : LongestIsThere) where
+  neighbour_addressed : (to : List ℕ) (place : Place) → current_place s.moment Es to s.facts ≡ Some place → IsAddress place.snpa
+  neighbour_addressed to place e =
+      let found = current_is (λ (fact : Fact). IsAddress fact.place.snpa) s.moment (last_of Es to s.facts)
+      (λ fact there. last_is (λ (fact : Fact). IsAddress fact.place.snpa) Es to s.facts knows fact there) place e in
+      subst (λ (p : Place). IsAddress p.snpa) found.2 found.1
+
+  route_addressed : (to : List ℕ) (route : Route) → longest to s.configuration.routes ≡ Some route → IsAddressedRoute route
+  route_addressed to route e = AllByRecursion-contains IsAddressedRoute s.configuration.routes route (law to s.configuration.routes route e).within is.routes
+
+  pub way_addressed : (to : List ℕ) (way : Way) → way_of s to ≡ Some way → IsAddress way.place.snpa × IsTitleOrNone way.title
+  way_addressed to way e = go (current_place s.moment Es to s.facts) refl (longest to s.configuration.routes) refl e
+    where
+      go : (near : Option Place) → current_place s.moment Es to s.facts ≡ near → (far : Option Route) → longest to s.configuration.routes ≡ far
+          → option_or (option_map to_neighbour near) (option_map by_route far) ≡ Some way → IsAddress way.place.snpa × IsTitleOrNone way.title
+      go (Some place) there far found h =
+          let same : to_neighbour place ≡ way = cc in
+          subst (λ (w : Way). IsAddress w.place.snpa × IsTitleOrNone w.title) same (neighbour_addressed to place there, tt)
+      go None there (Some route) found h =
+          let both = route_addressed to route found in
+          let same : by_route route ≡ way = cc in
+          subst (λ (w : Way). IsAddress w.place.snpa × IsTitleOrNone w.title) same (both.snpa, both.title)
+      go None there None found h = absurd (cc)
+
+  module _ (system : IsSystem s.configuration) where
+    redirect_is_pdu : (to : List ℕ) (way : Way) → IsAddress to → way_of s to ≡ Some way → IsPdu (redirect s to way.place.snpa way.title)
+    redirect_is_pdu to way address known =
+        let both = way_addressed to way known in
+        let most : s.configuration.settings.rhold ≤ 65535 = system.settings.rhold.most in
+        rd_pdu s.configuration.settings.rhold s.configuration.settings.sealed to way.place.snpa way.title (omega arith) address both.0 both.1
+
+    redirects_pdus : (content : Content) → IsCarried content → RedirectsSuch IsPdu s content
+    redirects_pdus (Labelled p following) carried = λ way router known. redirect_is_pdu p.unit.destination way carried.pdu.destination known
+    redirects_pdus (Esis value following) carried = tt
+    redirects_pdus (Unlabelled octets) carried = tt
+
+    comes_pdus : (input : Input) → IsFair input → ComesSuch IsPdu s input
+    comes_pdus (AsksToSend from to octets ask) fair = tt
+    comes_pdus (AsksForEcho from to octets) fair = tt
+    comes_pdus (FrameComes port sender to_group content) fair = redirects_pdus content fair.1
+    comes_pdus (MomentComes now) fair = tt
+    comes_pdus IsRestarted fair = tt
+
+    such_pdus : (output : Output) → SendsSuch IsPdu output → SendsEsisPdus output
+    such_pdus (Transmits port target packet) h = tt
+    such_pdus (SendsEsis port target value) h = h
+    such_pdus (Notes note) h = tt
+
+    pub step_pdus : (input : Input) → IsFair input → AllByRecursion SendsEsisPdus (step s input).outputs
+    step_pdus input fair =
+        AllByRecursion-implies (SendsSuch IsPdu) SendsEsisPdus such_pdus (step s input).outputs
+        (step_its IsPdu s (λ seconds. hello_pdu (record s { hello = seconds }) system is.own) input (comes_pdus input fair))
+
+-- What a system heard of stays at addresses.
+
+abbrev AtAddresses : List Fact → Type 0
+AtAddresses facts = AllByRecursion (λ (fact : Fact). IsAddress fact.place.snpa) facts
+
+one_known : (test : Bool) (facts : List Fact) (fact : Fact) → AtAddresses facts → IsAddress fact.place.snpa
+    → AtAddresses (if test then facts ++ fact ∷ [] else facts)
+one_known true facts fact knows address = AllByRecursion-append (λ (fact : Fact). IsAddress fact.place.snpa) facts (fact ∷ []) knows (address, tt)
+one_known false facts fact knows address = knows
+
+hears_known : (s : SystemState) (table : TableKind) (key : List ℕ) (place : Place) (holding : ℕ) → KnowsAddresses s → IsAddress place.snpa
+    → KnowsAddresses (hears s table key place holding).after
+hears_known s table key place holding knows address =
+    let fact = heard_now s table key place holding in
+    one_known (is_noted (answer (esis_limits s) fact s.facts)) s.facts fact knows address
+
+hears_each_known : (s : SystemState) (addresses : List (List ℕ)) (place : Place) (holding : ℕ) → KnowsAddresses s → IsAddress place.snpa
+    → KnowsAddresses (hears_each s addresses place holding).after
+hears_each_known s [] place holding knows address = knows
+hears_each_known s (first ∷ others) place holding knows address =
+    hears_each_known (hears s Es first place holding).after others place holding (hears_known s Es first place holding knows address) address
+
+told_known : (t : SystemState) (test : Bool) (port : ℕ) (snpa : List ℕ) → KnowsAddresses t
+    → KnowsAddresses (if test then tells_of_itself t port snpa else idles t).after
+told_known t true port snpa knows = go (is_silent t)
+  where
+    go : (silent : Bool) → KnowsAddresses (if silent then idles t else gives t (SendsEsis port (System snpa) (own_hello t) ∷ [])).after
+    go true = knows
+    go false = knows
+told_known t false port snpa knows = knows
+
+follows_known : (s : SystemState) (timer : Option ℕ) → KnowsAddresses s → KnowsAddresses (follows s timer)
+follows_known s None knows = knows
+follows_known s (Some seconds) knows = go (seconds == 0 || is_silent s)
+  where
+    go : (test : Bool)
+        → KnowsAddresses (if test then s else record s { hello = seconds; next_hello = min s.next_hello (s.moment + 2 * seconds) })
+    go true = knows
+    go false = knows
+
+redirect_known : (role : Role) (s : SystemState) (place : Place) (holding : ℕ) (to via : List ℕ) → KnowsAddresses s → IsAddress via
+    → KnowsAddresses (redirect_heard role s place holding to via).after
+redirect_known Host s place holding to via knows address = go (is_router s.moment place.snpa s.facts)
+  where
+    better : Place
+    better = record { port = place.port; snpa = via }
+
+    go : (test : Bool) → KnowsAddresses (if test then hears s Rd to better holding else gives s (Notes (Ignored true) ∷ [])).after
+    go true = hears_known s Rd to better holding knows address
+    go false = knows
+redirect_known Router s place holding to via knows address = knows
+
+heard_known : (role : Role) (s : SystemState) (place : Place) (holding : ℕ) (told : EsisBody) (timer : Option ℕ) → KnowsAddresses s
+    → IsAddress place.snpa → HasAddresses told → KnowsAddresses (esis_heard role s place holding told timer).after
+heard_known Host s place holding (Esh addresses) timer knows address has = hears_each_known s addresses place holding knows address
+heard_known Router s place holding (Esh addresses) timer knows address has =
+    let heard = hears_each s addresses place holding in
+    told_known heard.after (list_any tells_new heard.outputs) place.port place.snpa (hears_each_known s addresses place holding knows address)
+heard_known Host s place holding (Ish title) timer knows address has =
+    let heard = hears s Is title place holding in
+    let answered = answers_new heard place in
+    follows_known answered.after timer
+    (told_known heard.after (list_any tells_new heard.outputs) place.port place.snpa (hears_known s Is title place holding knows address))
+heard_known Router s place holding (Ish title) timer knows address has = knows
+heard_known role s place holding (body.Rd to via title) timer knows address has = redirect_known role s place holding to via knows has.1
+
+content_known : (s : SystemState) (place : Place) (to_group : Bool) (content : Content) → IsAddress place.snpa → IsCarried content → KnowsAddresses s
+    → KnowsAddresses (content_comes s place to_group content).after
+content_known s place to_group (Labelled p following) address carried knows =
+    let come = packet_comes s place p following in
+    told_known come.after (is_asked_for come.after.configuration.role come.after to_group p) place.port place.snpa
+    (subst AtAddresses (sym (packet_is s place p following).heard.facts) knows)
+content_known s place to_group (Esis value following) address carried knows =
+    heard_known s.configuration.role s place value.holding value.body (suggested value.body value.options) knows address carried.addresses
+content_known s place to_group (Unlabelled octets) address carried knows = subst AtAddresses (sym (octets_are s octets).heard.facts) knows
+
+says_known : (s : SystemState) → KnowsAddresses s → KnowsAddresses (says_hello s).after
+says_known s knows = go (not (is_silent s) && nat_le s.next_hello s.moment)
+  where
+    go : (test : Bool)
+        → KnowsAddresses (if test then gives (record s { next_hello = s.moment + 2 * s.hello }) (hello_everywhere s) else idles s).after
+    go true = knows
+    go false = knows
+
+pub step_known : (s : SystemState) (input : Input) → IsFair input → KnowsAddresses s → KnowsAddresses (step s input).after
+step_known s (AsksToSend from to octets ask) fair knows = subst AtAddresses (sym (make_is s Dt from to octets ask).heard.facts) knows
+step_known s (AsksForEcho from to octets) fair knows =
+    subst AtAddresses (sym (make_is s Erq from to octets (echo_ask s from to (length octets) true)).heard.facts) knows
+step_known s (FrameComes port sender to_group content) fair knows =
+    content_known s (record { port = port; snpa = sender }) to_group content fair.0 fair.1 knows
+step_known s (MomentComes now) fair knows =
+    let t = (tick s now).after in
+    says_known (forgets s.moment t).after (subst AtAddresses (sym (tick_is s now).heard.facts) knows)
+step_known s IsRestarted fair knows = tt

@@ -99,7 +99,9 @@ pub fn hellos_are_pdus()
     ensures pdus { (s : SystemState) (input : Input) → IsSystem s.configuration → IsAddressed s.configuration → IsFair input
         → KnowsAddresses s → AllByRecursion SendsEsisPdus (step s input).outputs }
     ensures known { (s : SystemState) (input : Input) → IsFair input → KnowsAddresses s → KnowsAddresses (step s input).after }
-{}
+{
+    forwarding::laws::what_is_longest_covers();
+}
 
 /// A redirect that comes to a system changes where it sends towards the redirect's destination alone.
 pub fn a_redirect_changes_one_next_hop()

@@ -1,0 +1,61 @@
+-- A redirect that comes changes the next hop of its destination alone.
+use Rattle.std.proofs.Common.{◌≡◌, ◌∙◌, refl, sym, ap, subst, ℕ, Bool, true, false, List, [], ◌∷◌, Option, None, Some}
+use Rattle.std.specs.Prelude.{if◌then◌else◌, option_map}
+use Rattle.esis_pdus.specs.declared.pdu.EsisBody.{EsisBody}
+use Rattle.esis_pdus.specs.declared.pdu.EsisBody.TheVariants as body
+use Rattle.esis_pdus.specs.Value.{EsisValue, suggested}
+use Rattle.esis_tables.specs.declared.fact.EsisLimits.{EsisLimits}
+use Rattle.esis_tables.specs.declared.fact.Place.{Place}
+use Rattle.esis_tables.specs.declared.fact.TableKind.TheVariants.{Rd}
+use Rattle.esis_tables.specs.Fact as facts
+use Rattle.esis_tables.specs.Fact.{Fact}
+use Rattle.esis_tables.specs.NextHop as heard
+use Rattle.clnp_plan.specs.declared.config.Role.{Role}
+use Rattle.clnp_plan.specs.declared.config.Role.TheVariants.{Host, Router}
+use Rattle.clnp_plan.specs.declared.note.Note.TheVariants.{Ignored}
+use Rattle.clnp_machine.specs.Content.{Content, Labelled, Esis, Unlabelled}
+use Rattle.clnp_machine.specs.System.{SystemState, Notes, Effect, FrameComes, gives}
+use Rattle.clnp_machine.specs.Esis.{esis_comes, esis_heard, esis_limits, heard_now, hears, redirect_heard}
+use Rattle.clnp_machine.specs.Step.{host_hop, hop_of, next_hop, step}
+use Rattle.clnp_machine.specs.Steps.{IsRedirectFor, KeepsNextHops}
+
+-- what the tables say of a redirect that is heard
+abbrev KeepsOthers : Type 0
+KeepsOthers =
+    (limits : EsisLimits) (fact : Fact) (list : List Fact) (now : ℕ) (destination : List ℕ) → fact.table ≡ Rd → (fact.key ≡ destination → ⊥)
+    → heard.next_hop now destination (facts.after limits fact list) ≡ heard.next_hop now destination list
+
+module _ (law : KeepsOthers) (s : SystemState) (place : Place) (holding : ℕ) (destination via : List ℕ) where
+  -- a host, whatever its configuration says that it is
+  host_keeps : (address : List ℕ) → (address ≡ destination → ⊥) → s.configuration.role ≡ Host
+      → next_hop (redirect_heard Host s place holding destination via).after address ≡ next_hop s address
+  host_keeps address other role = go (heard.is_router s.moment place.snpa s.facts)
+    where
+      better : Place
+      better = record { port = place.port; snpa = via }
+
+      by_role : (t : SystemState) → t.configuration.role ≡ Host → heard.next_hop t.moment address t.facts ≡ heard.next_hop s.moment address s.facts
+          → next_hop t address ≡ next_hop s address
+      by_role t same kept =
+          ap (λ (r : Role). hop_of r t address) same ∙ ap (λ (o : Option Place). Some (host_hop o)) kept ∙ ap (λ (r : Role). hop_of r s address) (sym role)
+
+      go : (test : Bool)
+          → next_hop (if test then hears s Rd destination better holding else gives s (Notes (Ignored true) ∷ [])).after address ≡ next_hop s address
+      go true =
+          by_role (hears s Rd destination better holding).after role
+          (law (esis_limits s) (heard_now s Rd destination better holding) s.facts s.moment address refl (λ same. other (sym same)))
+      go false = refl
+
+  redirect_keeps : (role : Role) → s.configuration.role ≡ role → KeepsNextHops destination s (redirect_heard role s place holding destination via).after
+  redirect_keeps Host is = λ address other. host_keeps address other is
+  redirect_keeps Router is = λ address other. refl
+
+pub content_keeps : KeepsOthers → (s : SystemState) (port : ℕ) (sender : List ℕ) (to_group : Bool) (content : Content) (destination : List ℕ)
+    → IsRedirectFor destination content → KeepsNextHops destination s (step s (FrameComes port sender to_group content)).after
+content_keeps law s port sender to_group (Labelled p following) destination is = absurd is
+content_keeps law s port sender to_group (Unlabelled octets) destination is = absurd is
+content_keeps law s port sender to_group (Esis value following) destination is =
+    let place : Place = record { port = port; snpa = sender } in
+    subst (λ (told : EsisBody). KeepsNextHops destination s (esis_heard s.configuration.role s place value.holding told (suggested value.body value.options)).after)
+    (sym is.2)
+    (redirect_keeps law s place value.holding destination is.0 s.configuration.role refl)
