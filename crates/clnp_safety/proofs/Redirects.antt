@@ -9,7 +9,7 @@ use Rattle.clnp_machine.specs.Content.{Content}
 use Rattle.clnp_machine.specs.System.{SystemState, FrameComes, Output, Transmits, SendsEsis, Notes, Effect}
 use Rattle.clnp_machine.specs.Step.{next_hop, step}
 use Rattle.clnp_machine.specs.Steps.{IsRedirectFor, KeepsNextHops}
-use Rattle.clnp_network.specs.World.{Numbered, World, frame_to, give, give_to, is_late, put_all_out, put_out, takes_effect, with_effect}
+use Rattle.clnp_network.specs.World.{Numbered, World, frame_to, give_to, is_late, put_out, takes_effect, with_effect}
 use Rattle.clnp_network.specs.Safe.{ChangesOneNextHop, RedirectsChangeOneNextHop}
 use Rattle.clnp_safety.proofs.Lines.{AnyLine}
 use Rattle.clnp_safety.proofs.Steps.{Keeps, keeps-put_all_out}
@@ -49,7 +49,7 @@ step_changes destination w place s effect here keeps = record {
     ap (λ systems. slice_get systems place) (systems_after w place effect)
         ∙ slice_get-set w.systems place effect.after (slice_get_within w.systems place s here),
     let one : s ≡ t = let same : Some s ≡ Some t = sym here ∙ at in cc in
-    λ address apart. keeps address apart ∙ ap (λ (u : SystemState). next_hop u address) one,
+        λ address apart. keeps address apart ∙ ap (λ (u : SystemState). next_hop u address) one,
   );
 }
 
