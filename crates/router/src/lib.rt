@@ -2,6 +2,7 @@
 #![tactic(auto)]
 
 mod onward;
+mod redirecting;
 mod router;
 
 pub use router::Router;

@@ -19,6 +19,7 @@ ghost use Rattle.router.specs.Onward.{ComesTo};
 ghost use Rattle.router.specs.Stands.{IsLeftBy, Stands};
 
 use crate::onward::{Onward, by_port};
+use crate::redirecting::{is_at, may_be_redirected};
 use clnp_base::NoMemory;
 use clnp_machine::laws;
 use clnp_options::Reason;
@@ -254,13 +255,11 @@ impl Router {
         ensures { (s : SystemState) (p : Packet) → Stands self.now s → HasValue passing.now (value_of p)
             → result ≡ is_redirected s came.now p (machine_way way.now) }
     {
-        if self.entity.config().settings().rhold == 0 || way.port != came.port || !passing.first {
+        let holding = self.entity.config().settings().rhold;
+        if !may_be_redirected(holding, came, passing, way) {
             return false;
         }
-        match self.entity.neighbour(&passing.from) {
-            Some(known) => known.port == came.port && known.snpa == came.snpa,
-            None => false,
-        }
+        is_at(came, self.entity.neighbour(&passing.from))
     }
 
     /// Forgets all that it keeps and heard, and is quiet as long as an identifier rests; the count of its units goes
