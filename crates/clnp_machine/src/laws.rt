@@ -5,7 +5,7 @@ ghost use Rattle.std.specs.List.{AllByRecursion, Contains, filter, flat_map, lis
 ghost use Rattle.hex.specs.Hex.{IsBytes};
 ghost use Rattle.pdu_header.specs.declared.kind.Kind.{Kind};
 ghost use Rattle.pdu_header.specs.declared.kind.Kind.TheVariants.{Er, Erp};
-ghost use Rattle.pdu_header.specs.Spelling.{type_code};
+ghost use Rattle.pdu_header.specs.Spelling.{header_length, type_code};
 ghost use Rattle.pdu_header.specs.Value.{PduValue};
 ghost use Rattle.error_reports.specs.Report.{report_of};
 ghost use Rattle.echo.specs.Reply.{reply_of};
@@ -25,10 +25,10 @@ ghost use Rattle.clnp_plan.specs.declared.ask.Ask.{Ask};
 ghost use Rattle.clnp_machine.specs.Unit.{Unit, Packet, IsCarriable, cut, value_of, whole_packet, wire};
 ghost use Rattle.clnp_machine.specs.Content.{Content, Esis, IsCarried, Labelled, Unlabelled, content_of, frame_of};
 ghost use Rattle.clnp_machine.specs.Esis.{esis_comes, forgets, own_hello, says_hello, tells_new, tells_of_itself};
-ghost use Rattle.clnp_machine.specs.Local.{Action, at_moment, discard, echo_ask, gives_up, made_in, make, receive, refusal, report_unit, tick, unit_of};
+ghost use Rattle.clnp_machine.specs.Local.{Action, at_moment, discard, echo_ask, gives_up, header_size, made_in, make, receive, refusal, report_unit, tick, unit_of};
 ghost use Rattle.clnp_machine.specs.System.{SystemState, Input, FrameComes, IsRestarted};
 ghost use Rattle.clnp_machine.specs.Step.{octets_come, outputs_of, packet_comes, passes_by, responds, step};
-ghost use Rattle.clnp_machine.specs.Steps.{AreCarriable, AreNumbered, IsAtMostReportOf, IsMadeFor, IsNoRestart, IsRedirectFor, KeepsAsOffered, KeepsNextHops, KnowsAddresses, ReportsOn, RestartsNothing, WasPendingOrMade, BreaksNoEsisRule, BreaksNoRule, CarriesOneEsisValue, CarriesOnePacket, IsAtMostItsHello, IsAtMostOneTo, IsDeed, IsEffect, IsFair, IsForOwn, GoesOnOrIsReported, IsFresh, IsWithinBudget, NotesOnly, OnlyHellos, SendsCarriable, SendsEsisPdus, SendsItsOwn, SendsRangesOrGoesOn, StaysItself, WasKeptOrComes, moment_after, segments_in, sends_esis, sends_frame};
+ghost use Rattle.clnp_machine.specs.Steps.{AreCarriable, AreNumbered, IsAtMostReportOf, IsMadeFor, IsNoRestart, IsRedirectFor, KeepsAsOffered, KeepsNextHops, KnowsAddresses, ReportsOn, RestartsNothing, WasPendingOrMade, BreaksNoEsisRule, BreaksNoRule, CarriesOneEsisValue, CarriesOnePacket, IsAtMostItsHello, IsAtMostOneTo, IsDeed, IsEffect, IsFair, IsForOwn, GoesOnOrIsReported, IsFresh, IsRangeOf, IsWithinBudget, NotesOnly, OnlyHellos, SendsCarriable, SendsEsisPdus, SendsItsOwn, SendsRangesOrGoesOn, StaysItself, WasKeptOrComes, moment_after, segments_in, sends_esis, sends_frame};
 ghost use Rattle.clnp_machine.specs.Told.{IsAllowed, IsRefusal, IsToldBy, NoteIsQuiet, NotesNoRule, SpellsPdus, TellsNoInterference, TellsOnly, WasThereOrTakes};
 
 /// A step leaves a system at its place with its configuration, at the moment that came last.
@@ -80,6 +80,12 @@ pub fn ranges_of_units_are_sent()
 pub fn forwarding_costs_lifetime()
     ensures { (s : SystemState) (came : Place) (p : Packet) (following : List ℕ)
         → GoesOnOrIsReported s p (wire p ++ following) (passes_by s.configuration.role s came p following) }
+{}
+
+/// The header of a packet is as long as that of its unit's initial PDU, however often it was forwarded: a
+/// router changes the values of options, and never their lengths.
+pub fn headers_keep_their_length()
+    ensures { (units : List Unit) (p : Packet) → IsRangeOf units p → header_length (value_of p) ≡ header_size p.unit }
 {}
 
 /// PDUs can carry each packet that is sent in a step of a system of sound configuration with addresses,

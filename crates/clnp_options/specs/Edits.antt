@@ -1,5 +1,5 @@
 -- What a router reads and changes in the options of a PDU that it forwards.
-use Rattle.std.specs.Prelude.{ℕ, ◌+◌, ◌-◌, ◌==◌, nat_le, if◌then◌else◌, List, [], ◌∷◌, ◌++◌, map, length, take, drop, slice_index, slice_set, bit_or, Option, Some, None, option_and_then}
+use Rattle.std.specs.Prelude.{◌≡◌, ℕ, ◌+◌, ◌-◌, ◌==◌, nat_le, Bool, false, if◌then◌else◌, List, [], ◌∷◌, ◌++◌, map, length, take, drop, slice_index, slice_set, bit_or, Option, Some, None, option_and_then}
 use Rattle.clnp_options.specs.Parameter.{Parameter, source_route}
 
 -- the options with the value of each one of this code changed
@@ -30,6 +30,21 @@ title_at value =
 -- the title to which a source route leads next, if there is one
 unfoldable pub target_of : List Parameter → Option (List ℕ)
 target_of options = option_and_then title_at (value_of source_route options)
+
+-- whether a source route is complete: the PDU goes through the systems that it names, and through no others
+abbrev pub kind_is_complete : Option (List ℕ) → Bool
+kind_is_complete None = false
+kind_is_complete (Some value) = slice_index value 0 == 1
+
+abbrev pub is_complete : List Parameter → Bool
+is_complete options = kind_is_complete (value_of source_route options)
+
+-- options of the same codes, with values of the same lengths
+abbrev pub HaveOneForm : List Parameter → List Parameter → Type 0
+HaveOneForm [] [] = Unit {0}
+HaveOneForm (a ∷ others) (b ∷ more) = (a.code ≡ b.code) × (length a.value ≡ length b.value) × HaveOneForm others more
+HaveOneForm [] (b ∷ more) = ⊥
+HaveOneForm (a ∷ others) [] = ⊥
 
 -- a source route with its pointer moved past the title there and its length octet
 unfoldable pub advanced : List ℕ → List ℕ
