@@ -125,4 +125,8 @@ pub enum Note {
     },
     /// The system was restarted.
     Restart,
+    /// A router was said to be congested, or else to be congested no longer (ISO 8473, section 7.5.6).
+    Congest {
+        on: bool,
+    },
 }
