@@ -174,7 +174,7 @@ SilentOrRedirects s place outputs =
     ⊎ ((value : EsisValue) × IsItsRedirect s value × (filter sends_esis outputs ≡ SendsEsis place.port (System place.snpa) value ∷ []))
 
 going_sends : (s : SystemState) (came : Place) (p : Packet) (way : Way) (pieces : List Packet) → s.configuration.role ≡ Router
-    → SilentOrRedirects s came (going s came p way pieces)
+    → SilentOrRedirects s came (going s came p options way pieces)
 going_sends s came p way pieces router = go (is_redirected s came p way)
   where
     front : List Output

@@ -64,10 +64,15 @@ goes-on s t u h k = record {
 
 -- it hears nothing
 pub hears-nothing : (s : SystemState) → HearsNothing s s
-hears-nothing s = record { facts = refl; hello = refl; next_hello = refl }
+hears-nothing s = record { facts = refl; hello = refl; next_hello = refl; congested = refl }
 
 hears-on : (s t u : SystemState) → HearsNothing s t → HearsNothing t u → HearsNothing s u
-hears-on s t u h k = record { facts = k.facts ∙ h.facts; hello = k.hello ∙ h.hello; next_hello = k.next_hello ∙ h.next_hello }
+hears-on s t u h k = record {
+  facts = k.facts ∙ h.facts;
+  hello = k.hello ∙ h.hello;
+  next_hello = k.next_hello ∙ h.next_hello;
+  congested = k.congested ∙ h.congested;
+}
 
 -- what a deed leaves, and the units that it makes, where W says of each what it is
 pub record Does (W : unit.Unit → Type 0) (s : SystemState) (deed : Deed) : Type 0 where
@@ -133,7 +138,7 @@ module _ (W : unit.Unit → Type 0) where
   does_make_unit : (s : SystemState) (u : unit.Unit) → u.number ≡ next_number s → W u → Does W s (makes s u)
   does_make_unit s u number is = record {
     goes = record { itself = record { place = refl; configuration = refl; hold = refl; reuse = reuse_kept s u.identifier }; moment = refl; budget = λ h. h };
-    heard = record { facts = refl; hello = refl; next_hello = refl };
+    heard = record { facts = refl; hello = refl; next_hello = refl; congested = refl };
     makes = makes_one W s u number is;
   }
 
@@ -178,7 +183,7 @@ module _ (W : unit.Unit → Type 0) where
     does_take_reply t source destination octets None = does_tell t _
     does_take_reply t source destination octets (Some request) = record {
       goes = record { itself = record { place = refl; configuration = refl; hold = refl; reuse = refl }; moment = refl; budget = λ h. h };
-      heard = record { facts = refl; hello = refl; next_hello = refl };
+      heard = record { facts = refl; hello = refl; next_hello = refl; congested = refl };
       makes = makes_answered W t (is_answer source destination octets);
     }
 
@@ -209,7 +214,7 @@ module _ (W : unit.Unit → Type 0) where
           → (IsWithinBudget t → held kept ≤ t.configuration.settings.budget) → Does W t (takes_in t (Labelled p following) (offered p following) kept answer)
       does_take_in t at kept buffer.Held within =
           does_from t (record t { buffers = kept }) (tells (record t { buffers = kept }) _) (with_buffers t kept within)
-          (record { facts = refl; hello = refl; next_hello = refl }) refl refl (does_tell (record t { buffers = kept }) _)
+          (record { facts = refl; hello = refl; next_hello = refl; congested = refl }) refl refl (does_tell (record t { buffers = kept }) _)
       does_take_in t at kept buffer.Whole within =
           let arrival = offered p following in
           let rest : List (Buffer Packet) = buffer.without arrival.key kept in
@@ -221,7 +226,7 @@ module _ (W : unit.Unit → Type 0) where
           let most = within h in
           omega arith) in
           does_from t v (hand_up v p.unit.kind p.unit.source p.unit.destination octets p.options) goes
-          (record { facts = refl; hello = refl; next_hello = refl }) refl refl
+          (record { facts = refl; hello = refl; next_hello = refl; congested = refl }) refl refl
           (does_hand_up v (goes-on o t v at goes) p.unit.kind p.unit.source p.unit.destination octets p.options (such.replied octets))
       does_take_in t at kept (buffer.Interference there other) within = does_drop t at _ _ interference
       does_take_in t at kept buffer.Repeat within = does_tell t _
@@ -283,7 +288,7 @@ module _ (W : unit.Unit → Type 0) where
         (λ h.
         let less = sum_filter size_of (λ (b : Buffer Packet). not (same_key b.key ended.key)) t.buffers in
         omega arith) in
-        does_from t v (gives_up t ended) goes (record { facts = refl; hello = refl; next_hello = refl }) refl refl
+        does_from t v (gives_up t ended) goes (record { facts = refl; hello = refl; next_hello = refl; congested = refl }) refl refl
         (does_tell_and v (note.Expired ended.key.id (held rest)) (λ x. discard_first x (buffer.first_carried ended))
         (does_discard_first v (goes-on o t v at goes) ended.kept each))
 

@@ -295,7 +295,7 @@ module _ (s : SystemState) (input : Input) where
       packet_does NoteAll s came p following
       (λ reason of_none. by_deed (discard s (Labelled p following) reason 0) (drops_tell s (Labelled p following) reason 0 of_none))
       (λ router way port pieces there alive gives known.
-      AllByRecursion-append (NotesOnly (IsNoted s input)) (transmissions (hop_by way) (Some pieces)) (redirects s came p way)
+      AllByRecursion-append (NotesOnly (IsNoted s input)) (transmissions (hop_by way) (Some pieces)) (redirects s came p options way)
       (pieces_end (IsNoted s input) (hop_by way) pieces) (redirects_are (NotesOnly (IsNoted s input)) s came p way tt))
       (tt, tt)
       (λ own. by_deed (receive s p following) (receive_tells s p following own))

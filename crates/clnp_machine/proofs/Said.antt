@@ -125,7 +125,7 @@ module _ (Q : EsisValue → Type 0) (s : SystemState) (own : (seconds : ℕ) →
       packet_does (λ effect. SendsIts effect.outputs) s came p following
       (λ reason of_none. deeds_its (discard s (Labelled p following) reason 0).after (discard s (Labelled p following) reason 0).actions)
       (λ router way port pieces there alive gives known.
-      AllByRecursion-append (SendsSuch Q) (transmissions (hop_by way) (Some pieces)) (redirects s came p way)
+      AllByRecursion-append (SendsSuch Q) (transmissions (hop_by way) (Some pieces)) (redirects s came p options way)
       (AllByRecursion-map_any (SendsSuch Q) (λ piece. Transmits way.place.port (System way.place.snpa) piece) pieces (λ piece. tt))
       (redirects_are (SendsSuch Q) s came p way (such way router known)))
       (tt, tt) (λ mine. deeds_its (receive s p following).after (receive s p following).actions)

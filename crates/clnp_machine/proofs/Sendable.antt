@@ -309,7 +309,7 @@ onward_carriable : (s : SystemState) (came : Place) (p : Packet) → AllByRecurs
     → Onward (λ effect. AllByRecursion SendsCarriable effect.outputs) s came p
 onward_carriable s came p each h way port given there alive gives known =
     let wide : 512 ≤ port.mtu = (AllByRecursion-slice_get IsPort s.configuration.ports way.place.port port there each).mtu.least in
-    AllByRecursion-append SendsCarriable (transmissions (hop_by way) (Some given)) (redirects s came p way)
+    AllByRecursion-append SendsCarriable (transmissions (hop_by way) (Some given)) (redirects s came p options way)
     (each_sent (hop_by way) given
     (found_carriable (cut (forwarded p (loss_at port)) port.mtu) given gives
     (cut_carriable (forwarded p (loss_at port)) port.mtu (forwarded_carriable p (loss_at port) h) wide)))

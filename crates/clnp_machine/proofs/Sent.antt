@@ -178,10 +178,10 @@ module _ (s : SystemState) (p : Packet) where
       }
 
   onward : (came : Place) (way : Way) (port : PortConfig) (given : List Packet) → slice_get s.configuration.ports way.place.port ≡ Some port
-      → loss_at port < p.lifetime → cut (forwarded p (loss_at port)) port.mtu ≡ Some given → AllByRecursion (SendsOn s p) (going s came p way given)
+      → loss_at port < p.lifetime → cut (forwarded p (loss_at port)) port.mtu ≡ Some given → AllByRecursion (SendsOn s p) (going s came p options way given)
   onward came way port given there alive gives =
       let hop = hop_by way in
-      AllByRecursion-append (SendsOn s p) (map (λ piece. Transmits hop.port hop.target piece) given) (redirects s came p way)
+      AllByRecursion-append (SendsOn s p) (map (λ piece. Transmits hop.port hop.target piece) given) (redirects s came p options way)
       (AllByRecursion-mapped (IsPartOf (forwarded p (loss_at port))) (SendsOn s p) (λ piece. Transmits hop.port hop.target piece) given
       (part_goes_on hop.port port there alive) (cut_is_parts (forwarded p (loss_at port)) port.mtu given gives))
       (redirects_are (SendsOn s p) s came p way tt)
@@ -251,7 +251,7 @@ packet_such s at sender to_group p following =
     packet_does (SendsSuchOf s input) s came p following (λ reason of_none. deed_such s input (discard s (Labelled p following) reason 0))
     (λ router way port given there alive gives known.
     AllByRecursion-implies (SendsOn s p) (SendsRangesOrGoesOn s input []) (on_such s at sender to_group p following)
-    (going s came p way given) (onward s p came way port given there alive gives))
+    (going s came p options way given) (onward s p came way port given there alive gives))
     (tt, tt) (λ own. deed_such s input (receive s p following))
 
 pub step_sends : (s : SystemState) (input : Input) → AllByRecursion (SendsRangesOrGoesOn s input (step s input).units) (step s input).outputs

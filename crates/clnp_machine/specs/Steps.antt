@@ -143,12 +143,12 @@ pub record IsRangeOf (units : List unit.Unit) (p : Packet) : Type 0 where
 
 -- What holds of a packet that goes on by a port, of one that came: it is a range of that one's, and all of it where its unit may
 -- not be segmented; it was forwarded once more, and its lifetime is lower by the port's transit, by 1 at least, and not over; its
--- options have the form of that one's.
+-- options have the form of that one's, where a PDU can carry that one.
 pub record GoesOnFrom (s : SystemState) (number : ℕ) (came p : Packet) : Type 0 where
   pub port : PortConfig
   pub there : slice_get s.configuration.ports number ≡ Some port
   pub unit : p.unit ≡ came.unit
-  pub options : HaveOneForm p.options came.options
+  pub options : IsCarriable came → HaveOneForm p.options came.options
   pub hops : p.hops ≡ came.hops + 1
   pub lifetime : p.lifetime + loss_at port ≡ came.lifetime
   pub alive : 1 ≤ p.lifetime
