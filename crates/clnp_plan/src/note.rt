@@ -125,7 +125,7 @@ pub enum Note {
     },
     /// The system was restarted.
     Restart,
-    /// A router was said to be congested, or else to be congested no longer (ISO 8473, section 7.5.6).
+    /// The router was said to be congested, or else to be so no longer.
     Congest {
         on: bool,
     },

@@ -16,7 +16,7 @@ use Rattle.clnp_options.specs.Rules.{Accepts, refusal}
 use Rattle.clnp_plan.specs.Configuration.{IsSystem, IsWithin, SystemConfiguration}
 use Rattle.scenario.specs.Scenario.{AsksInForm, octets_of}
 use Rattle.scenario.specs.Words.{literal, has_prefix, after_prefix, digits_read, pattern_word, two_fields, declared_word, address_read, address_word, data_word, number_word, life_word, octets_behind, options_read, options_word, one_word, two_words, four_words, first_four, each_once}
-use Rattle.scenario.specs.Events.{wish_word, wish_words, wish_key, life_in, own_life, options_in, host_word, send_line, deliver_line, count_line, tick_line, restart_line, echo_line, event_line}
+use Rattle.scenario.specs.Events.{wish_word, wish_words, wish_key, life_in, own_life, options_in, host_word, send_line, deliver_line, count_line, tick_line, restart_line, echo_line, router_word, on_word, congest_line, event_line}
 use Rattle.scenario.specs.declared.code.Code.TheVariants as bad
 use Rattle.scenario.specs.declared.event.Body.{Body}
 use Rattle.scenario.specs.declared.event.Body.TheVariants.{Hex, Pattern}
@@ -180,6 +180,13 @@ echo_formed laws names words =
     behind_such (address_word w.2) _ IsAddress AsksInForm (address_formed laws w.2) (λ to to_is.
     behind_such (data_word w.3) _ HasOctets AsksInForm (data_octets w.3) (λ body octets. (from_is, to_is, octets))))))
 
+congest_formed : (names : List (List ℕ)) (systems : List SystemConfiguration) (words : List (List ℕ)) → IfOk (congest_line names systems words) AsksInForm
+unfolding congest_line
+congest_formed names systems words =
+    behind_found (two_words words) _ _ AsksInForm (λ w _.
+    behind_result (router_word names systems w.0) _ AsksInForm (λ system _.
+    behind_result (on_word w.1) _ AsksInForm (λ on _. tt)))
+
 pub event_formed : Laws → (names : List (List ℕ)) (systems : List SystemConfiguration) (words : List (List ℕ)) → AllByRecursion IsSystem systems
     → IfOk (event_line names systems words) AsksInForm
 unfolding event_line
@@ -191,4 +198,5 @@ event_formed laws names systems (keyword ∷ words) are =
     (either_way (bytes_eq keyword (codes "lose")) _ _ AsksInForm (behind_result (count_line words) (λ count. Ok (Lose count)) AsksInForm (λ count _. tt))
     (either_way (bytes_eq keyword (codes "tick")) _ _ AsksInForm (behind_result (tick_line words) (λ count. Ok (Tick count)) AsksInForm (λ count _. tt))
     (either_way (bytes_eq keyword (codes "restart")) _ _ AsksInForm (restart_formed names words)
-    (either_way (bytes_eq keyword (codes "echo")) _ _ AsksInForm (echo_formed laws names words) tt))))))
+    (either_way (bytes_eq keyword (codes "echo")) _ _ AsksInForm (echo_formed laws names words)
+    (either_way (bytes_eq keyword (codes "congest")) _ _ AsksInForm (congest_formed names systems words) tt)))))))

@@ -6,7 +6,7 @@ pub mod Apart
 pub mod Kept
 pub mod Numbers
 pub mod Placed
-pub mod Senders
+pub mod Roles
 pub mod Fit
 pub mod Asks
 pub mod Forms
