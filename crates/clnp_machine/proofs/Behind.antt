@@ -23,7 +23,7 @@ use Rattle.clnp_machine.specs.Local.{header_size}
 one_passed : (P : List Parameter → Type 0) (s : SystemState) (options deeper : List Parameter) (title : Option (List ℕ)) → P options
     → (IsSome title → P deeper) → P (if is_named s title then deeper else options)
 one_passed P s options deeper None h k = h
-one_passed P s options deeper (Some title) h k = go (bytes_eq title (title_of s)) (k tt)
+one_passed P s options deeper (Some title) h k = go (bytes_eq title (title_of s)) (k refl)
   where
     go : (named : Bool) → P deeper → P (if named then deeper else options)
     go true is = is
@@ -127,7 +127,7 @@ module _ (laws : EditLaws) (s : SystemState) where
       let few : p.lifetime - loss < 256 = omega arith in
       record {
         pdu = subst IsPdu (sym (behind_value p loss h))
-        (behind_pdu (with_lifetime (p.lifetime - loss) (value_of p)) title (lowered_pdu (value_of p) (p.lifetime - loss) few h.pdu));
+            (behind_pdu (with_lifetime (p.lifetime - loss) (value_of p)) title (lowered_pdu (value_of p) (p.lifetime - loss) few h.pdu));
         from = h.from;
         to = h.to;
       }
