@@ -1,12 +1,13 @@
 -- What comes of a frame that carries a sound packet.
 use Rattle.clnp_base.proofs.Filters.{AllByRecursion-filter}
-use Rattle.clnp_base.proofs.Lists.{AllByRecursion-both, AllByRecursion-find, AllByRecursion-implies}
+use Rattle.clnp_base.proofs.Lists.{AllByRecursion-append, AllByRecursion-both, AllByRecursion-find, AllByRecursion-implies}
 use Rattle.clnp_base.proofs.Sums.{sum_filter}
 use Rattle.std.proofs.Common.{◌≡◌, ◌∙◌, sym, ap, subst, refl, ℕ, ◌+◌, ◌<◌, ◌≤◌, inl, inr, Bool, true, false, not, List, [], ◌∷◌, length, map, slice_get, Option, None, Some, arith}
 use Rattle.std.specs.Prelude.{◌==◌, ◌&&◌, ◌||◌, is_none, nat_le}
 use Rattle.std.specs.List.{AllByRecursion, find}
 use Rattle.std.proofs.lemmas.Bool.{cases_Bool, eqb-false, true≢false}
 use Rattle.std.proofs.lemmas.List.{append-nil}
+use Rattle.nsap.specs.Address.{IsAddress}
 use Rattle.clnp_options.specs.Parameter.{Parameter}
 use Rattle.clnp_options.specs.Reasons.{reason_code}
 use Rattle.clnp_options.specs.declared.reasons.Reason.TheVariants.{Congestion}
@@ -23,11 +24,11 @@ use Rattle.clnp_machine.specs.Unit as unit
 use Rattle.clnp_machine.specs.Unit.{IsCarriable, Packet, cut, value_of}
 use Rattle.clnp_machine.specs.Content.{Content, IsCarried, Labelled, Esis, Unlabelled}
 use Rattle.esis_tables.specs.declared.fact.Place.{Place}
-use Rattle.clnp_machine.specs.Esis.{esis_comes}
-use Rattle.clnp_machine.specs.System.{SystemState, Effect, Transmits, table_limits}
+use Rattle.clnp_machine.specs.Esis.{esis_comes, is_silent, tells_of_itself}
+use Rattle.clnp_machine.specs.System.{SystemState, Effect, FrameComes, Transmits, table_limits}
 use Rattle.clnp_machine.specs.Local.{Deed, and_then, data_in, discard, echo_ask, hand_up, is_all, is_answer, is_own, octet_of, offer, offered, receive, takes_in, takes_reply, tells}
-use Rattle.clnp_machine.specs.Step.{Hop, content_comes, discards, forwarded, goes_on, goes_on_by, loss_at, next_hop, packet_comes, passes_by, pieces_go_on, responds}
-use Rattle.clnp_machine.specs.Steps.{IsRangeOf, NotesOnly}
+use Rattle.clnp_machine.specs.Step.{Hop, Way, content_comes, discards, forwarded, goes_on, goes_on_by, hop_by, is_asked_for, is_redirected, loss_at, packet_comes, passes_by, pieces_go_on, redirects, responds, transmissions, way_of}
+use Rattle.clnp_machine.specs.Steps.{IsRangeOf, KnowsAddresses, NotesOnly}
 use Rattle.clnp_machine.specs.Told.{TellsNoInterference}
 use Rattle.clnp_plan.specs.declared.config.PortConfig.{PortConfig}
 use Rattle.clnp_plan.specs.declared.config.Role.{Role}
@@ -95,6 +96,7 @@ module _ (laws : StepLaws) (plan : Plan) (fit : IsFit plan) (past : List Entry) 
     not_due = AllByRecursion-implies (IsLive plan units w.clock) (λ (b : Buffer Packet). w.clock < b.deadline) (λ b h. h.lasts) buffers live;
     not_whole = not_whole;
     budget = within;
+    known = sound.known;
   }
 
   module _ (p : Packet) (range : IsRangeOf w.units p) (carriable : IsCarriable p) where
@@ -125,7 +127,7 @@ module _ (laws : StepLaws) (plan : Plan) (fit : IsFit plan) (past : List Entry) 
           tells_soundly plan past w s.configuration.name units w.clock place taken.after (note.Echoed p.unit.source p.unit.destination request.number)
           (record {
             sound = like_is_sound plan units w.clock place then taken.after
-                (record { place = refl; configuration = refl; hold = refl; moment = refl; identifiers = refl; buffers = refl }) left;
+                (record { place = refl; configuration = refl; hold = refl; moment = refl; identifiers = refl; buffers = refl; known = λ known. known }) left;
             rest = made.rest;
           })
           (reply_is_founded laws plan fit past w h p.unit range.unit place s sound.declared request it.0 erp it.1)
@@ -249,34 +251,38 @@ module _ (laws : StepLaws) (plan : Plan) (fit : IsFit plan) (past : List Entry) 
     pieces_note_nothing hop [] = tt
     pieces_note_nothing hop (piece ∷ pieces) = (tt, pieces_note_nothing hop pieces)
 
-    pieces_soundly : (hop : Hop) (pieces : Option (List Packet)) → Gives (pieces_go_on s p [] hop pieces)
-    pieces_soundly hop None = is_discarded _
-    pieces_soundly hop (Some pieces) = record {
+    redirects_note_nothing : (came : Place) (way : Way) → AllByRecursion (NotesOnly (IsHonest plan past w s.configuration.name)) (redirects s came p way)
+    redirects_note_nothing came way = elim (cases_Bool (is_redirected s came p way)) [ inl wanted ↦ rw wanted (tt, tt) | inr none ↦ rw none tt ]
+
+    pieces_soundly : (came : Place) (way : Way) (pieces : Option (List Packet)) → Gives (pieces_go_on s came p [] way pieces)
+    pieces_soundly came way None = is_discarded _
+    pieces_soundly came way (Some pieces) = record {
       after = subst (λ us. SystemIsSound plan us w.clock place s) (sym (append-nil units)) sound;
       rest = (subst (λ us. MayDo plan us w.clock place s) (sym (append-nil units)) may).rest;
       replies = tt;
-      notes = pieces_note_nothing hop pieces;
+      notes = AllByRecursion-append (NotesOnly (IsHonest plan past w s.configuration.name)) (transmissions (hop_by way) (Some pieces)) (redirects s came p way)
+          (pieces_note_nothing (hop_by way) pieces) (redirects_note_nothing came way);
     }
 
-    goes_on_by_soundly : (hop : Hop) (port : Option PortConfig) → Gives (goes_on_by s p [] hop port)
-    goes_on_by_soundly hop None = is_discarded _
-    goes_on_by_soundly hop (Some port) =
+    goes_on_by_soundly : (came : Place) (way : Way) (port : Option PortConfig) → Gives (goes_on_by s came p [] way port)
+    goes_on_by_soundly came way None = is_discarded _
+    goes_on_by_soundly came way (Some port) =
         elim (cases_Bool (nat_le p.lifetime (loss_at port))) [
           | inl over ↦ rw over (is_discarded _)
-          | inr lives ↦ rw lives (pieces_soundly hop (cut (forwarded p (loss_at port)) port.mtu))
+          | inr lives ↦ rw lives (pieces_soundly came way (cut (forwarded p (loss_at port)) port.mtu))
         ]
 
-    goes_on_soundly : (hop : Option Hop) → Gives (goes_on s p [] hop)
-    goes_on_soundly None = is_discarded _
-    goes_on_soundly (Some hop) = goes_on_by_soundly hop (slice_get s.configuration.ports hop.port)
+    goes_on_soundly : (came : Place) (way : Option Way) → Gives (goes_on s came p [] way)
+    goes_on_soundly came None = is_discarded _
+    goes_on_soundly came (Some way) = goes_on_by_soundly came way (slice_get s.configuration.ports way.place.port)
 
-    passes_soundly : (role : Role) → Gives (passes_by role s p [])
-    passes_soundly Host =
+    passes_soundly : (role : Role) (came : Place) → Gives (passes_by role s came p [])
+    passes_soundly Host came =
         deed_is_sound plan past w s.configuration.name units w.clock place laws _ (tells_soundly plan past w s.configuration.name units w.clock place s (note.NotMine p.unit.destination) may tt)
-    passes_soundly Router = goes_on_soundly (next_hop s p.unit.destination)
+    passes_soundly Router came = goes_on_soundly came (way_of s p.unit.destination)
 
-    packet_is_sound : w.clock ≤ p.unit.made + plan.limits.age → Gives (packet_comes s p [])
-    packet_is_sound young =
+    packet_is_sound : (came : Place) → w.clock ≤ p.unit.made + plan.limits.age → Gives (packet_comes s came p [])
+    packet_is_sound came young =
         elim (cases_Bool (p.lifetime == 0)) [
           | inl over ↦ rw over (is_discarded _)
           | inr lives ↦
@@ -286,17 +292,29 @@ module _ (laws : StepLaws) (plan : Plan) (fit : IsFit plan) (past : List Entry) 
                     rw own
                     (deed_is_sound plan past w s.configuration.name units w.clock place laws (receive s p [])
                     (receive_is_sound young (let some = eqb-false p.lifetime 0 lives in omega arith) own))
-                | inr other ↦ rw other (passes_soundly s.configuration.role)
+                | inr other ↦ rw other (passes_soundly s.configuration.role came)
               ])
         ]
 
-  pub arrival_is_sound : (from : Place) (to_group : Bool) (content : Content) → Carries (IsRangeOf w.units) content → IsCarried content
-      → ComesYoung plan.limits.age w.clock content → Gives (content_comes s from to_group content)
-  arrival_is_sound from to_group (Labelled p following) carries carried young =
-      let comes = packet_comes s p following in
+  -- a hello to who asked for the system leaves what was heard
+  told_knows : (t : SystemState) (port : ℕ) (snpa : List ℕ) → KnowsAddresses t → KnowsAddresses (tells_of_itself t port snpa).after
+  told_knows t port snpa known = elim (cases_Bool (is_silent t)) [ inl silent ↦ rw silent known | inr says ↦ rw says known ]
+
+  response_knows : (t : SystemState) (from : Place) (to_group : Bool) (p : Packet) → KnowsAddresses t → KnowsAddresses (responds t from to_group p).after
+  response_knows t from to_group p known =
+      elim (cases_Bool (is_asked_for t.configuration.role t to_group p)) [
+        | inl asked ↦ rw asked (told_knows t from.port from.snpa known)
+        | inr other ↦ rw other known
+      ]
+
+  pub arrival_is_sound : (from : Place) (to_group : Bool) (content : Content) → IsAddress from.snpa → Carries (IsRangeOf w.units) content
+      → IsCarried content → ComesYoung plan.limits.age w.clock content → Gives (content_comes s from to_group content)
+  arrival_is_sound from to_group (Labelled p following) sender carries carried young =
+      let comes = packet_comes s from p following in
       then_hellos plan past w s.configuration.name units w.clock place comes (λ t. responds t from to_group p)
-      (subst (λ rest. Gives (packet_comes s p rest)) (sym carries.1) (packet_is_sound p carries.0 carried young))
-      (laws.hellos.answers comes.after from to_group p)
-  arrival_is_sound from to_group (Esis value following) carries carried young =
-      hellos_are_sound plan past w s.configuration.name units w.clock place s (esis_comes s from value) (laws.hellos.comes s from value) may
-  arrival_is_sound from to_group (Unlabelled octets) carries carried young = absurd carries
+      (subst (λ rest. Gives (packet_comes s from p rest)) (sym carries.1) (packet_is_sound p carries.0 carried from young))
+      (laws.hellos.answers comes.after from to_group p) (response_knows comes.after from to_group p)
+  arrival_is_sound from to_group (Esis value following) sender carries carried young =
+      hellos_are_sound plan past w s.configuration.name units w.clock place s (esis_comes s from value) (laws.hellos.comes s from value)
+      (laws.steps.known s (FrameComes from.port from.snpa to_group (Esis value following)) (sender, carried)) may
+  arrival_is_sound from to_group (Unlabelled octets) sender carries carried young = absurd carries

@@ -36,7 +36,7 @@ use Rattle.clnp_safety.proofs.Lines.{LineIs, lines_are, lines_say_no_restart, qu
 use Rattle.clnp_safety.proofs.Outputs.{takes_effect_notes, takes_effect_stands}
 use Rattle.clnp_safety.proofs.Told.{outputs_note}
 use Rattle.clnp_safety.proofs.Units.{units_with}
-use Rattle.clnp_safety.proofs.Effects.{fresh_is_sound, notes_are_steady, others_stand, step_gives_soundly}
+use Rattle.clnp_safety.proofs.Effects.{fresh_is_sound, notes_are_steady, others_stand, ports_after, step_gives_soundly}
 use Rattle.clnp_safety.proofs.Moves.{MoveIsSound, nothing_is_sound, stands_soundly, stay_pending}
 
 -- the step by which a unit is sent
@@ -164,6 +164,7 @@ module _ (laws : StepLaws) (plan : Plan) (fit : IsFit plan) (past : List Entry) 
           let kept = takes_effect_stands w.clock (length plan.systems) (NoteIsSteady plan past w) w.units
           (λ other. SystemStands plan past w.units w.units w.clock other) (λ other. SystemStands plan then later later w.clock other) w place effect others
           (record { sound = done.after; pending = pending })
+          (ports_after laws plan fit past w.units w.clock place s it.sound input comes)
           (step_gives_soundly laws plan fit past w.units w.clock place s it.sound input comes (NoteIsSteady plan past w effect.after.configuration.name) fair notes)
           (record { made = refl; clock = refl; copies = h.copies; number = h.systems.number; each = h.systems.each }) in
           record {

@@ -23,7 +23,7 @@ use Rattle.clnp_machine.specs.Unit.{DeclaredAt, Packet}
 use Rattle.clnp_machine.specs.Content.{Content, frame_of}
 use Rattle.clnp_machine.specs.System.{SystemState}
 use Rattle.clnp_machine.specs.Local.{Action, Sends, Tells, Deed, and_then, discard, made_in, make, makes, refusal, reports_from, tells, unit_of, unless_refused}
-use Rattle.clnp_machine.specs.Steps.{IsAtMostReportOf, LeavesTheRest}
+use Rattle.clnp_machine.specs.Steps.{IsAtMostReportOf, KnowsAddresses, LeavesTheRest}
 use Rattle.clnp_machine.specs.Told.{IsRefusal, NoteIsQuiet, TellsOnly}
 use Rattle.clnp_network.specs.World.{World}
 use Rattle.clnp_network.specs.Run.{Entry}
@@ -35,7 +35,7 @@ use Rattle.clnp_safety.proofs.SendAsked.{asked_is_new}
 use Rattle.clnp_safety.proofs.SendUnits.{IsNew, maker_after, new_rests}
 use Rattle.clnp_safety.proofs.Units.{buffer_later}
 
--- what the soundness of a system goes by is as before
+-- what the soundness of a system goes by is as before, and what it heard of is still at addresses
 pub record IsLike (s t : SystemState) : Type 0 where
   pub place : t.place ≡ s.place
   pub configuration : t.configuration ≡ s.configuration
@@ -43,15 +43,17 @@ pub record IsLike (s t : SystemState) : Type 0 where
   pub moment : t.moment ≡ s.moment
   pub identifiers : t.identifiers ≡ s.identifiers
   pub buffers : t.buffers ≡ s.buffers
+  pub known : KnowsAddresses s → KnowsAddresses t
 
-pub like_rest : (s t : SystemState) → LeavesTheRest s t → IsLike s t
-like_rest s t rest = record {
+pub like_rest : (s t : SystemState) → LeavesTheRest s t → (KnowsAddresses s → KnowsAddresses t) → IsLike s t
+like_rest s t rest known = record {
   place = rest.place;
   configuration = rest.configuration;
   hold = rest.hold;
   moment = rest.moment;
   identifiers = rest.identifiers;
   buffers = rest.buffers;
+  known = known;
 }
 
 pub like_is_sound : (plan : Plan) (units : List unit.Unit) (now place : ℕ) (s t : SystemState) → IsLike s t → SystemIsSound plan units now place s
@@ -69,6 +71,7 @@ like_is_sound plan units now place s t like sound = record {
   not_whole = subst (AllByRecursion (λ (b : Buffer Packet). is_whole b ≡ false)) (sym like.buffers) sound.not_whole;
   budget = subst (λ (buffers : List (Buffer Packet)). held buffers ≤ t.configuration.settings.budget) (sym like.buffers)
       (subst (λ (c : SystemConfiguration). held s.buffers ≤ c.settings.budget) (sym like.configuration) sound.budget);
+  known = like.known sound.known;
 }
 
 -- Reports are whole units, and no replies.
@@ -104,6 +107,7 @@ reports_are_sound plan units made now place s are h = record {
   not_due = h.not_due;
   not_whole = h.not_whole;
   budget = h.budget;
+  known = h.known;
 }
 
 pub reports_rest : (reuse : ℕ) (units made : List unit.Unit) → AllByRecursion IsReport made → EachRests reuse units → EachRests reuse (units ++ made)
@@ -130,17 +134,17 @@ record Reports (s : SystemState) (deed : Deed) : Type 0 where
 
 reports_quietly : (s : SystemState) (frame : List ℕ) (reason place : ℕ) (own : Option (List ℕ)) → Reports s (reports_from own s frame reason place)
 reports_quietly s frame reason place None = record {
-  like = record { place = refl; configuration = refl; hold = refl; moment = refl; identifiers = refl; buffers = refl };
+  like = record { place = refl; configuration = refl; hold = refl; moment = refl; identifiers = refl; buffers = refl; known = λ known. known };
   tells = tt;
 }
 reports_quietly s frame reason place (Some own) =
     elim (cases_Bool (is_reportable frame)) [
       | inl wanted ↦ rw wanted (record {
-        like = record { place = refl; configuration = refl; hold = refl; moment = refl; identifiers = refl; buffers = refl };
+        like = record { place = refl; configuration = refl; hold = refl; moment = refl; identifiers = refl; buffers = refl; known = λ known. known };
         tells = (tt, (tt, tt));
       })
       | inr unwanted ↦ rw unwanted (record {
-        like = record { place = refl; configuration = refl; hold = refl; moment = refl; identifiers = refl; buffers = refl };
+        like = record { place = refl; configuration = refl; hold = refl; moment = refl; identifiers = refl; buffers = refl; known = λ known. known };
         tells = tt;
       })
     ]

@@ -1,14 +1,15 @@
 -- A step of a system that is asked nothing keeps a world sound: what it makes is founded on what came, and what it sends and notes
 -- is as it should be.
 use Rattle.clnp_base.proofs.Lists.{AllByRecursion-append, AllByRecursion-both, AllByRecursion-contains, AllByRecursion-implies, AllByRecursion-mapped, AllByRecursion-slice_get}
-use Rattle.std.proofs.Common.{◌≡◌, ◌≢◌, ◌⊎◌, ◌∙◌, sym, ap, subst, All, ℕ, inl, inr, List, [], ◌∷◌, ◌++◌, length, map, slice_get, Some, arith}
+use Rattle.std.proofs.Common.{◌≡◌, ◌≢◌, ◌⊎◌, ◌∙◌, sym, ap, subst, ℕ, inl, inr, List, [], ◌∷◌, ◌++◌, length, map, slice_get, Some, arith}
 use Rattle.std.specs.List.{AllByRecursion}
 use Rattle.std.proofs.lemmas.List.Elements.{Contains-append_cases}
 use Rattle.nsap.specs.Address.{IsAddress}
 use Rattle.pdu_header.specs.declared.kind.Kind.{Kind}
 use Rattle.pdu_header.specs.declared.kind.Kind.TheVariants.{Er, Erq, Erp}
 use Rattle.scenario.specs.Scenario.{IsFit, Plan}
-use Rattle.clnp_plan.specs.Configuration.{IsSystem, SystemConfiguration}
+use Rattle.clnp_plan.specs.Configuration.{IsAddressed, IsSystem, SystemConfiguration}
+use Rattle.clnp_plan.specs.declared.config.PortConfig.{PortConfig}
 use Rattle.clnp_plan.specs.declared.note.Note.{Note}
 use Rattle.reassembly.specs.Arrival.{Arrival}
 use Rattle.reassembly.specs.Buffer.{Buffer}
@@ -29,7 +30,7 @@ use Rattle.clnp_safety.specs.StepLaws.{StepLaws}
 use Rattle.clnp_safety.proofs.Deeds.{RepliesInOctets}
 use Rattle.clnp_safety.proofs.Grows.{front-more}
 use Rattle.clnp_safety.proofs.Lines.{LineIs}
-use Rattle.clnp_safety.proofs.Outputs.{Stands, takes_effect_stands}
+use Rattle.clnp_safety.proofs.Outputs.{PortsAreAddressed, Stands, takes_effect_stands}
 use Rattle.clnp_safety.proofs.SendAsked.{own_address}
 use Rattle.clnp_safety.proofs.Steps.{Keeps}
 use Rattle.clnp_safety.proofs.Units.{buffer_later, packet_goes_on, packet_later, packet_of_more, units_with}
@@ -39,7 +40,7 @@ use Rattle.clnp_safety.proofs.Units.{buffer_later, packet_goes_on, packet_later,
 
 range_goes_on : (units : List unit.Unit) (s : SystemState) (port : ℕ) (input : Input) (p : Packet) → ComesSoundly units input → GoesOnOf s port input p
     → IsRangeOf units p
-range_goes_on units s port (FrameComes at sender to_group (Labelled came following)) p comes on = packet_goes_on units s port came p on comes.0.0
+range_goes_on units s port (FrameComes at sender to_group (Labelled came following)) p comes on = packet_goes_on units s port came p on comes.1.0
 range_goes_on units s port _ p comes on = absurd on
 
 module _ (Q : Note → Type 0) (units made : List unit.Unit) (s : SystemState) (input : Input) (comes : ComesSoundly units input) where
@@ -89,7 +90,7 @@ at_hand_is_range : (units : List unit.Unit) (s : SystemState) (input : Input) (p
     → AllByRecursion (IsRangeOf units) (map (λ (arrival : Arrival Packet). arrival.carried) (segments_in s.buffers)) → IsAtHand s input p → IsRangeOf units p
 at_hand_is_range units s (FrameComes port sender to_group (Labelled came following)) p comes kept at =
     elim at [
-      | inl same ↦ subst (IsRangeOf units) (sym same) comes.0.0
+      | inl same ↦ subst (IsRangeOf units) (sym same) comes.1.0
       | inr was ↦ AllByRecursion-contains (IsRangeOf units) (map (λ (arrival : Arrival Packet). arrival.carried) (segments_in s.buffers)) p was kept
     ]
 at_hand_is_range units s _ p comes kept at =
@@ -98,13 +99,13 @@ at_hand_is_range units s _ p comes kept at =
 comes_fairly : (units : List unit.Unit) (input : Input) → AsksNothing input → ComesSoundly units input → IsFair input
 comes_fairly units (AsksToSend from to octets ask) nothing comes = absurd nothing
 comes_fairly units (AsksForEcho from to octets) nothing comes = absurd nothing
-comes_fairly units (FrameComes port sender to_group content) nothing comes = comes.1
+comes_fairly units (FrameComes port sender to_group content) nothing comes = (comes.0, comes.2)
 comes_fairly units _ nothing comes = tt
 
 spells_pdus : (units : List unit.Unit) (input : Input) → ComesSoundly units input → SpellsPdus input
 spells_pdus units (FrameComes port sender to_group (Labelled packet following)) comes = tt
 spells_pdus units (FrameComes port sender to_group (Esis value following)) comes = tt
-spells_pdus units (FrameComes port sender to_group (Unlabelled octets)) comes = absurd comes.0
+spells_pdus units (FrameComes port sender to_group (Unlabelled octets)) comes = absurd comes.1
 spells_pdus units _ comes = tt
 
 -- who isn't asked makes reports and replies
@@ -148,10 +149,10 @@ module _ (plan : Plan) (past : List Entry) (base : World) (now : ℕ) where
 module _ (laws : StepLaws) (plan : Plan) (fit : IsFit plan) (past : List Entry) where
   -- a system of the plan is configured as it must be
   pub configured : (place : ℕ) (configuration : SystemConfiguration) → slice_get plan.systems place ≡ Some configuration
-      → IsSystem configuration × All IsAddress configuration.addresses
+      → IsSystem configuration × IsAddressed configuration
   configured place configuration declared = (
     AllByRecursion-slice_get IsSystem plan.systems place configuration declared fit.systems,
-    AllByRecursion-slice_get (λ (system : SystemConfiguration). All IsAddress system.addresses) plan.systems place configuration declared fit.each_address,
+    AllByRecursion-slice_get IsAddressed plan.systems place configuration declared fit.each_address,
   )
 
   module _ (units : List unit.Unit) (before place : ℕ) (s : SystemState) (sound : SystemIsSound plan units before place s) (input : Input)
@@ -161,7 +162,14 @@ module _ (laws : StepLaws) (plan : Plan) (fit : IsFit plan) (past : List Entry) 
     step_gives_soundly Q fair notes =
         let is = configured place s.configuration sound.declared in
         outputs_are_sound Q units (step s input).units s input comes (step s input).outputs (laws.steps.ranges s input)
-        (laws.steps.carriable s input is.0 fair is.1 (kept_as_offered plan units s sound.buffers)) (laws.steps.esis_pdus s input is.0 is.1) notes
+        (laws.steps.carriable s input is.0 fair is.1.own (kept_as_offered plan units s sound.buffers))
+        (laws.steps.esis_pdus s input is.0 is.1 fair sound.known) notes
+
+    -- its ports are still at addresses
+    pub ports_after : PortsAreAddressed (step s input).after
+    ports_after =
+        subst (λ (c : SystemConfiguration). AllByRecursion (λ (port : PortConfig). IsAddress port.snpa) c.ports) (sym (laws.steps.itself s input).configuration)
+        (configured place s.configuration sound.declared).1.ports
 
     -- other systems stay as they are where the system makes units
     pub others_stand : (before_move : List unit.Unit) (now other : ℕ) (t : SystemState) → other ≢ place
@@ -188,6 +196,7 @@ module _ (laws : StepLaws) (plan : Plan) (fit : IsFit plan) (past : List Entry) 
             not_due = h.sound.not_due;
             not_whole = h.sound.not_whole;
             budget = h.sound.budget;
+            known = h.sound.known;
           };
           pending = h.pending;
         }
@@ -278,7 +287,8 @@ module _ (laws : StepLaws) (plan : Plan) (fit : IsFit plan) (past : List Entry) 
         let outputs = subst (λ (c : SystemConfiguration). AllByRecursion (OutputIsSound (N c.name) later) effect.outputs)
         (sym (laws.steps.itself s input).configuration)
         (step_gives_soundly w.units before place s sound input comes (N s.configuration.name) (comes_fairly w.units input nothing comes) notes) in
-        let kept = takes_effect_stands now (length plan.systems) N w.units (P w.units) (Q later) w place effect others here outputs k.stands in
+        let kept = takes_effect_stands now (length plan.systems) N w.units (P w.units) (Q later) w place effect others here
+        (ports_after w.units before place s sound input comes) outputs k.stands in
         record {
           world = sound_with plan past base now Q later (takes_effect w place effect).world (units_after w.units before place s sound input comes nothing now at k.made rest replies)
               (front-more base.units w.units effect.units k.front) kept.world;

@@ -8,7 +8,7 @@ use Rattle.clnp_machine.specs.Unit as unit
 use Rattle.clnp_machine.specs.System.{SystemState, Effect, then_does}
 use Rattle.clnp_machine.specs.Local.{Deed}
 use Rattle.clnp_machine.specs.Step.{effect_of}
-use Rattle.clnp_machine.specs.Steps.{IsOfHellos, NotesOnly, OnlyHellos}
+use Rattle.clnp_machine.specs.Steps.{IsOfHellos, KnowsAddresses, NotesOnly, OnlyHellos}
 use Rattle.clnp_network.specs.World.{World}
 use Rattle.clnp_network.specs.Run.{Entry}
 use Rattle.clnp_safety.specs.Invariant.{EachRests, SystemIsSound}
@@ -46,12 +46,13 @@ module _ (plan : Plan) (past : List Entry) (w : World) (name : List ℕ) (units 
   hellos_are_honest : (s : SystemState) (effect : Effect) → OnlyHellos s effect → AllByRecursion (NotesOnly (IsHonest plan past w name)) effect.outputs
   hellos_are_honest s effect only = hellos_note (IsHonest plan past w name) (quiet_is_honest plan past w name) effect.outputs only.outputs
 
-  pub hellos_are_sound : (s : SystemState) (effect : Effect) → OnlyHellos s effect → MayDo plan units now place s → EffectIsSound effect
-  hellos_are_sound s effect only may =
+  pub hellos_are_sound : (s : SystemState) (effect : Effect) → OnlyHellos s effect → (KnowsAddresses s → KnowsAddresses effect.after)
+      → MayDo plan units now place s → EffectIsSound effect
+  hellos_are_sound s effect only known may =
       let same : (units ++ effect.units) ≡ units = ap (λ us. units ++ us) only.units ∙ append-nil units in
       record {
         after = subst (λ us. SystemIsSound plan us now place effect.after) (sym same)
-            (like_is_sound plan units now place s effect.after (like_rest s effect.after only.rest) may.sound);
+            (like_is_sound plan units now place s effect.after (like_rest s effect.after only.rest known) may.sound);
         rest = subst (EachRests plan.limits.reuse) (sym same) may.rest;
         replies = subst (AllByRecursion RepliesInOctets) (sym only.units) tt;
         notes = hellos_are_honest s effect only;
@@ -59,14 +60,14 @@ module _ (plan : Plan) (past : List Entry) (w : World) (name : List ℕ) (units 
 
   -- an effect, and then what is said of it to others
   pub then_hellos : (effect : Effect) (next : SystemState → Effect) → EffectIsSound effect → OnlyHellos effect.after (next effect.after)
-      → EffectIsSound (then_does effect next)
-  then_hellos effect next first only =
+      → (KnowsAddresses effect.after → KnowsAddresses (next effect.after).after) → EffectIsSound (then_does effect next)
+  then_hellos effect next first only known =
       let later = next effect.after in
       let same : (units ++ effect.units) ≡ units ++ (effect.units ++ later.units)
       = ap (λ us. units ++ us) (sym (append-nil effect.units) ∙ ap (λ us. effect.units ++ us) (sym only.units)) in
       record {
         after = subst (λ us. SystemIsSound plan us now place later.after) same
-            (like_is_sound plan (units ++ effect.units) now place effect.after later.after (like_rest effect.after later.after only.rest) first.after);
+            (like_is_sound plan (units ++ effect.units) now place effect.after later.after (like_rest effect.after later.after only.rest known) first.after);
         rest = subst (EachRests plan.limits.reuse) same first.rest;
         replies = AllByRecursion-append RepliesInOctets effect.units later.units first.replies (subst (AllByRecursion RepliesInOctets) (sym only.units) tt);
         notes = AllByRecursion-append (NotesOnly (IsHonest plan past w name)) effect.outputs later.outputs first.notes

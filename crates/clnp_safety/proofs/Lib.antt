@@ -29,4 +29,5 @@ pub mod Runs
 pub mod Grows
 pub mod Refusals
 pub mod Owned
+pub mod Redirects
 pub mod Stops

@@ -44,6 +44,7 @@ first_is_sound plan place configuration declared = record {
     not_due = tt;
     not_whole = tt;
     budget = omega arith;
+    known = tt;
   };
   pending = tt;
 }

@@ -1,7 +1,8 @@
 -- What the outputs of a system leave of a world, and what their lines are.
-use Rattle.clnp_base.proofs.Lists.{AllByRecursion-append, AllByRecursion-implies, set_each}
+use Rattle.clnp_base.proofs.Lists.{AllByRecursion-append, AllByRecursion-implies, AllByRecursion-slice_get, set_each}
 use Rattle.std.proofs.Common.{◌≡◌, ◌≢◌, ℕ, List, [], ◌++◌, length, refl, ap, ◌∙◌, length-set}
 use Rattle.std.specs.Prelude.{slice_get, Option, None, Some}
+use Rattle.nsap.specs.Address.{IsAddress}
 use Rattle.nsap.specs.declared.target.Target.{Target}
 use Rattle.clnp_plan.specs.declared.config.PortConfig.{PortConfig}
 use Rattle.clnp_plan.specs.declared.note.Note.{Note}
@@ -26,47 +27,54 @@ pub record Stands (units : List unit.Unit) (now count : ℕ) (P : ℕ → System
   pub number : length w.systems ≡ count
   pub each : (place : ℕ) (s : SystemState) → slice_get w.systems place ≡ Some s → P place s
 
+-- each port of a system is at an address
+abbrev pub PortsAreAddressed : SystemState → Type 0
+PortsAreAddressed system = AllByRecursion (λ (port : PortConfig). IsAddress port.snpa) system.configuration.ports
+
 copy_from_is_sound : (units : List unit.Unit) (found : Option PortConfig) (target : Target) (maker : Maker) (birth : ℕ) (content : Content)
-    → Carries (IsRangeOf units) content → IsCarried content → IsBornWithUnit birth content
+    → ((port : PortConfig) → found ≡ Some port → IsAddress port.snpa) → Carries (IsRangeOf units) content → IsCarried content → IsBornWithUnit birth content
     → AllByRecursion (CopyIsSound units) (copy_from found target maker birth content)
-copy_from_is_sound units None target maker birth content carries carried born = tt
-copy_from_is_sound units (Some port) target maker birth content carries carried born = (record { carries = carries; carried = carried; birth = born }, tt)
+copy_from_is_sound units None target maker birth content addressed carries carried born = tt
+copy_from_is_sound units (Some port) target maker birth content addressed carries carried born =
+    (record { sender = addressed port refl; carries = carries; carried = carried; birth = born }, tt)
 
 module _ (now count : ℕ) (N : List ℕ → Note → Type 0) where
   frame_stands : (units : List unit.Unit) (P : ℕ → SystemState → Type 0) (system : SystemState) (v : World) (port : ℕ) (target : Target) (maker : Maker)
-      (birth : ℕ) (content : Content) → Carries (IsRangeOf units) content → IsCarried content → IsBornWithUnit birth content
+      (birth : ℕ) (content : Content) → PortsAreAddressed system → Carries (IsRangeOf units) content → IsCarried content → IsBornWithUnit birth content
       → Stands units now count P v → Keeps (Stands units now count P) (LineIs N) (sends_frame system v port target maker birth content)
-  frame_stands units P system v port target maker birth content carries carried born k = record {
+  frame_stands units P system v port target maker birth content addressed carries carried born k = record {
     world = record {
       made = k.made;
       clock = k.clock;
       copies = AllByRecursion-append (CopyIsSound units) v.copies (copy_from (slice_get system.configuration.ports port) target maker birth content) k.copies
-          (copy_from_is_sound units (slice_get system.configuration.ports port) target maker birth content carries carried born);
+          (copy_from_is_sound units (slice_get system.configuration.ports port) target maker birth content
+          (λ config there. AllByRecursion-slice_get (λ (port : PortConfig). IsAddress port.snpa) system.configuration.ports port config there addressed)
+          carries carried born);
       number = k.number;
       each = k.each;
     };
     lines = (tt, tt);
   }
 
-  put_out_stands : (units : List unit.Unit) (P : ℕ → SystemState → Type 0) (system : SystemState) (output : Output)
+  put_out_stands : (units : List unit.Unit) (P : ℕ → SystemState → Type 0) (system : SystemState) → PortsAreAddressed system → (output : Output)
       → OutputIsSound (N system.configuration.name) units output → (v : World) → Stands units now count P v
       → Keeps (Stands units now count P) (LineIs N) (put_out system v output)
-  put_out_stands units P system (Notes note) h v k = record { world = k; lines = (h, tt) }
-  put_out_stands units P system (Transmits port target packet) h v k =
-      frame_stands units P system v port target packet.unit.maker packet.unit.made (Labelled packet []) (h.0, refl) h.1 refl k
-  put_out_stands units P system (SendsEsis port target value) h v k =
-      frame_stands units P system v port target (DeclaredAt system.place) v.clock (Esis value []) refl h tt k
+  put_out_stands units P system addressed (Notes note) h v k = record { world = k; lines = (h, tt) }
+  put_out_stands units P system addressed (Transmits port target packet) h v k =
+      frame_stands units P system v port target packet.unit.maker packet.unit.made (Labelled packet []) addressed (h.0, refl) h.1 refl k
+  put_out_stands units P system addressed (SendsEsis port target value) h v k =
+      frame_stands units P system v port target (DeclaredAt system.place) v.clock (Esis value []) addressed refl h tt k
 
   -- a system that gives out only what is sound leaves a sound world
   pub takes_effect_stands : (units : List unit.Unit) (P Q : ℕ → SystemState → Type 0) (w : World) (place : ℕ) (effect : Effect)
       → ((other : ℕ) (s : SystemState) → other ≢ place → P other s → Q other s) → Q place effect.after
-      → AllByRecursion (OutputIsSound (N effect.after.configuration.name) (units ++ effect.units)) effect.outputs
+      → PortsAreAddressed effect.after → AllByRecursion (OutputIsSound (N effect.after.configuration.name) (units ++ effect.units)) effect.outputs
       → Stands units now count P w → Keeps (Stands (units ++ effect.units) now count Q) (LineIs N) (takes_effect w place effect)
-  takes_effect_stands units P Q w place effect others here outputs k =
+  takes_effect_stands units P Q w place effect others here addressed outputs k =
       let later : List unit.Unit = units ++ effect.units in
       keeps-put_all_out (Stands later now count Q) (LineIs N) effect.after effect.outputs
       (AllByRecursion-implies (OutputIsSound (N effect.after.configuration.name) later) (λ output. (v : World) → Stands later now count Q v → Keeps (Stands later now count Q) (LineIs N) (put_out effect.after v output))
-      (put_out_stands later Q effect.after) effect.outputs outputs)
+      (put_out_stands later Q effect.after addressed) effect.outputs outputs)
       (with_effect w place effect)
       (record {
         made = ap (λ us. us ++ effect.units) k.made;

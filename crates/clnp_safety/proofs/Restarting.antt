@@ -54,6 +54,7 @@ restart_is_sound plan past units now place s made sound =
       not_due = tt;
       not_whole = tt;
       budget = omega arith;
+      known = tt;
     }
 
 -- A name belongs to one system.

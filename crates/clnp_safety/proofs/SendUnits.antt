@@ -87,4 +87,5 @@ module _ (plan : Plan) (units : List unit.Unit) (now place : ℕ) (s : SystemSta
     not_due = h.not_due;
     not_whole = h.not_whole;
     budget = h.budget;
+    known = h.known;
   }

@@ -48,16 +48,16 @@ module _ (laws : StepLaws) (plan : Plan) (fit : IsFit plan) (past : List Entry) 
       let input : Input = frame_to s copy in
       let now : CopyIsSound v.units copy = subst (λ us. CopyIsSound us copy) (sym k.front.1) (copy_later w.units k.front.0 copy carries) in
       let done = arrival_is_sound laws plan fit past w h v.units k.front k.made place s it.sound it.pending from (is_group copy.target) copy.content
-      carries.carries carries.carried
+      carries.sender carries.carries carries.carried
       (comes_young plan.limits.age w.clock copy.birth copy.content carries.birth (is_soon copy v k.stands.clock soon)) in
-      step_keeps laws plan fit past w w.clock (NoteIsSteady plan past w) Each Each v place s input w.clock it.sound tt it.sound.moment (now.carries, now.carried)
-      (others_stand laws plan fit past v.units w.clock place s it.sound input (now.carries, now.carried) w.units w.clock)
+      step_keeps laws plan fit past w w.clock (NoteIsSteady plan past w) Each Each v place s input w.clock it.sound tt it.sound.moment (now.sender, now.carries, now.carried)
+      (others_stand laws plan fit past v.units w.clock place s it.sound input (now.sender, now.carries, now.carried) w.units w.clock)
       (record {
         sound = done.after;
-        pending = pending_after laws plan fit past v.units w.clock place s it.sound input (now.carries, now.carried) tt w.units it.pending;
+        pending = pending_after laws plan fit past v.units w.clock place s it.sound input (now.sender, now.carries, now.carried) tt w.units it.pending;
       })
       done.rest done.replies
-      (notes_are_steady laws plan fit past w s.configuration.name s input v.units (now.carries, now.carried) done.notes tt) k
+      (notes_are_steady laws plan fit past w s.configuration.name s input v.units (now.sender, now.carries, now.carried) done.notes tt) k
 
   -- the world with another cursor
   at_cursor : (next : ℕ) → Sound (record w { cursor = next })

@@ -19,6 +19,7 @@ use Rattle.clnp_machine.specs.Content.{Labelled}
 use Rattle.clnp_options.specs.Reasons.{reason_code}
 use Rattle.clnp_options.specs.declared.reasons.Reason.TheVariants.{LifetimeExpiredInReassembly}
 use Rattle.clnp_machine.specs.System.{SystemState}
+use Rattle.clnp_machine.specs.Steps.{KnowsAddresses}
 use Rattle.clnp_machine.specs.Local.{Action, Deed, Sends, Tells, at_moment, discard_first, expire, give_up_due, gives_up, made_in, tick}
 use Rattle.clnp_safety.specs.Invariant.{AreUsesUntil, BufferIsSound, IsInUses, SystemIsSound}
 use Rattle.clnp_safety.specs.StepLaws.{StepLaws}
@@ -44,6 +45,7 @@ module _ (laws : StepLaws) (plan : Plan) (units : List unit.Unit) (now place : �
     buffers : AllByRecursion (BufferIsSound plan units) s.buffers
     not_whole : AllByRecursion (λ buffer. is_whole buffer ≡ false) s.buffers
     budget : held s.buffers ≤ s.configuration.settings.budget
+    known : KnowsAddresses s
 
   none_left : (s : SystemState) → IsExpiring s → AllByRecursion (λ (buffer : Buffer Packet). now < buffer.deadline) s.buffers
       → SystemIsSound plan units now place s
@@ -59,6 +61,7 @@ module _ (laws : StepLaws) (plan : Plan) (units : List unit.Unit) (now place : �
     not_due = not_due;
     not_whole = is.not_whole;
     budget = is.budget;
+    known = is.known;
   }
 
   taken_out : (s : SystemState) (key : Key) (count : ℕ) → IsExpiring s → IsExpiring (record s { buffers = without key s.buffers; count = count })
@@ -73,6 +76,7 @@ module _ (laws : StepLaws) (plan : Plan) (units : List unit.Unit) (now place : �
     buffers = AllByRecursion-filter (λ b. not (same_key b.key key)) (BufferIsSound plan units) (BufferIsSound plan units) (λ b t h. h) s.buffers is.buffers;
     not_whole = AllByRecursion-filter (λ b. not (same_key b.key key)) (λ (b : Buffer Packet). is_whole b ≡ false) (λ (b : Buffer Packet). is_whole b ≡ false) (λ b t h. h) s.buffers is.not_whole;
     budget = let less = sum_filter size_of (λ (b : Buffer Packet). not (same_key b.key key)) s.buffers in let within = is.budget in omega arith;
+    known = is.known;
   }
 
   give_up_is_sound : (most : ℕ) (s : SystemState) (found : Option (Buffer Packet)) → due s.moment s.buffers ≡ found → length s.buffers ≤ most + 1 → IsExpiring s
@@ -112,6 +116,7 @@ at_moment_is laws plan units before now place s later sound = record {
   buffers = sound.buffers;
   not_whole = sound.not_whole;
   budget = sound.budget;
+  known = sound.known;
 }
 
 pub tick_is_sound : StepLaws → (plan : Plan) (units : List unit.Unit) (before now place : ℕ) (s : SystemState) → SystemIsSound plan units before place s → before ≤ now

@@ -1,16 +1,18 @@
 -- A tick of the clock comes to each system in turn.
 use Rattle.clnp_base.proofs.Lists.{AllByRecursion-implies, slice_get_none}
-use Rattle.std.proofs.Common.{◌≡◌, ◌≤◌, ◌<◌, ℕ, zero, suc, List, ◌+◌, length, refl, sym, subst, arith}
-use Rattle.std.specs.Prelude.{slice_get}
+use Rattle.std.proofs.Common.{◌≡◌, ◌≤◌, ◌<◌, ℕ, zero, suc, inl, inr, List, ◌+◌, length, refl, sym, subst, arith}
+use Rattle.std.specs.Prelude.{◌&&◌, nat_le, not, slice_get}
 use Rattle.std.specs.List.{range_with_len}
+use Rattle.std.proofs.lemmas.Bool.{cases_Bool}
 use Rattle.std.proofs.lemmas.Option.{slice_get_within}
 use Rattle.scenario.specs.Scenario.{IsFit, Plan}
 use Rattle.clnp_plan.specs.Journal.{Line}
 use Rattle.clnp_machine.specs.Unit as unit
 use Rattle.clnp_machine.specs.System.{SystemState, MomentComes, then_does}
 use Rattle.clnp_machine.specs.Local.{made_in, tick}
-use Rattle.clnp_machine.specs.Esis.{forgets, says_hello}
+use Rattle.clnp_machine.specs.Esis.{forgets, is_silent, says_hello}
 use Rattle.clnp_machine.specs.Step.{effect_of, moment_comes}
+use Rattle.clnp_machine.specs.Steps.{KnowsAddresses}
 use Rattle.clnp_machine.specs.Told.{NoteIsQuiet, TellsOnly}
 use Rattle.clnp_network.specs.Run.{Entry}
 use Rattle.clnp_network.specs.World.{World, comes, tick_each, tick_one}
@@ -24,6 +26,10 @@ use Rattle.clnp_safety.proofs.Effects.{IsSoundWith, notes_are_steady, others_sta
 use Rattle.clnp_safety.proofs.Hellos.{EffectIsSound, deed_is_sound, hellos_then, then_hellos}
 use Rattle.clnp_safety.proofs.Ticking.{tick_is_sound, tick_reports}
 use Rattle.clnp_safety.proofs.Moves.{IsSoundAt, sound_at_clock}
+
+-- a hello that is said leaves what was heard
+hello_knows : (s : SystemState) → KnowsAddresses s → KnowsAddresses (says_hello s).after
+hello_knows s known = elim (cases_Bool (not (is_silent s) && nat_le s.next_hello s.moment)) [ inl due ↦ rw due known | inr early ↦ rw early known ]
 
 -- what comes of a moment
 moment_is_sound : StepLaws → (plan : Plan) (past : List Entry) (w : World) (name : List ℕ) (units : List unit.Unit) (before now place : ℕ) (s : SystemState) → before ≤ now
@@ -43,6 +49,7 @@ moment_is_sound laws plan past w name units before now place s later sound rest 
           (laws.deeds.tick s now);
     }))
     (hellos_then ticked.after forgotten says_hello (laws.hellos.forgotten ticked.after s.moment) (laws.hellos.said forgotten.after))
+    (hello_knows ticked.after)
 
 module _ (laws : StepLaws) (plan : Plan) (fit : IsFit plan) (past : List Entry) (w : World) (now : ℕ) (later : w.clock ≤ now) where
   -- the moment has come to the systems before a place, and to none from there on

@@ -128,7 +128,7 @@ module _ (units more : List unit.Unit) where
   content_later (Unlabelled octets) h = absurd h
 
   pub copy_later : (copy : Copy) → CopyIsSound units copy → CopyIsSound (units ++ more) copy
-  copy_later copy h = record { carries = content_later copy.content h.carries; carried = h.carried; birth = h.birth }
+  copy_later copy h = record { sender = h.sender; carries = content_later copy.content h.carries; carried = h.carried; birth = h.birth }
 
   segment_later : (u : unit.Unit) (arrival : Arrival Packet) → IsOfUnit units u arrival → IsOfUnit (units ++ more) u arrival
   segment_later u arrival h = record { packet = packet_later arrival.carried h.packet; carriable = h.carriable; unit = h.unit; offered = h.offered }

@@ -1,5 +1,6 @@
 -- What comes to a system in a run, and what it gives out.
 use Rattle.std.specs.Prelude.{List}
+use Rattle.nsap.specs.Address.{IsAddress}
 use Rattle.clnp_plan.specs.declared.note.Note.{Note}
 use Rattle.esis_pdus.specs.Grammar.{IsPdu}
 use Rattle.clnp_machine.specs.Unit as unit
@@ -9,9 +10,9 @@ use Rattle.clnp_machine.specs.System.{Input, FrameComes, Output, Transmits, Send
 use Rattle.clnp_machine.specs.Steps.{IsRangeOf}
 use Rattle.clnp_safety.specs.Invariant.{Carries}
 
--- a frame that comes carries a packet of one of some units, or an ES-IS value, as one may, and nothing behind it
+-- a frame comes from an address, and carries a packet of one of some units, or an ES-IS value, as one may, and nothing behind it
 abbrev pub ComesSoundly : List unit.Unit → Input → Type 0
-ComesSoundly units (FrameComes port sender to_group content) = Carries (IsRangeOf units) content × IsCarried content
+ComesSoundly units (FrameComes port sender to_group content) = IsAddress sender × Carries (IsRangeOf units) content × IsCarried content
 ComesSoundly units _ = Unit {0}
 
 -- it sends packets of some units, which PDUs can carry, and notes what Q holds of

@@ -3,5 +3,6 @@ mod Hearing
 mod Forgetting
 mod Lengths
 mod LookingUp
+mod Redirects
 mod Saying
 mod Ticking

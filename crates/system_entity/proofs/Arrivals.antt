@@ -9,7 +9,7 @@ use Rattle.pdu_header.specs.declared.pdu.Refusal.TheVariants as refused
 use Rattle.pdu_header.specs.Value.{PduValue}
 use Rattle.pdu_header.specs.Grammar.{BeginsWith}
 use Rattle.pdu_header.specs.Rules.{octet, refusal}
-use Rattle.pdu_header.specs.View.{pdu_value, told, why_refused}
+use Rattle.pdu_header.specs.View.{part_value, pdu_value, told, why_refused}
 use Rattle.pdu_header.specs.Headers.{SpellsHeader}
 use Rattle.pdu_header.specs.declared.pdu.Pdu.{Pdu}
 use Rattle.system_entity.specs.Comes.{HasValue}
@@ -24,7 +24,7 @@ use Rattle.clnp_machine.specs.Content.{Content, IsCarried, Labelled, Esis, Unlab
 use Rattle.clnp_machine.specs.System.{SystemState}
 use Rattle.clnp_machine.specs.Local.{discard, tells}
 use Rattle.clnp_machine.specs.Steps.{CarriesOnePacket, CarriesOneEsisValue}
-use Rattle.clnp_machine.specs.Step.{content_comes, discard_refused, effect_of, octets_come, unheard_note}
+use Rattle.clnp_machine.specs.Step.{begins_unit, content_comes, discard_refused, effect_of, octets_come, unheard_note}
 
 -- a frame with an ES-IS value begins with the protocol's octet, one with a packet with its own
 abbrev pub BeginsAsEsis : Type 0
@@ -48,11 +48,14 @@ packet_found one begun P frame v rest begins at (Unlabelled octets) none e for_p
     absurd (none.clnp v rest (record { octets = begins.octets; spells = begins.spells; split = e ∙ begins.split }))
 
 -- what is needed of a PDU that was read has its value
-pub of_value : (pdu : Pdu) (head : List ℕ) (len : ℕ) → SpellsHeader (pdu_value pdu) pdu.head.now → head ≡ pdu.head.now
-    → len ≡ length pdu.body.now → HasValue (record { to = pdu.to; life = pdu.life; head = head; len = len }) (pdu_value pdu)
-of_value pdu head len spells of count =
+pub of_value : (pdu : Pdu) (first : Bool) (head : List ℕ) (len : ℕ) → SpellsHeader (pdu_value pdu) pdu.head.now
+    → first ≡ begins_unit (option_map part_value pdu.seg) → head ≡ pdu.head.now → len ≡ length pdu.body.now
+    → HasValue (record { to = pdu.to; from = pdu.from; first = first; life = pdu.life; head = head; len = len }) (pdu_value pdu)
+of_value pdu first head len spells begins of count =
     record {
       destination = refl;
+      source = refl;
+      first = sym begins;
       lifetime = refl;
       header = subst (λ (octets : List ℕ). SpellsHeader (pdu_value pdu) octets) (sym of) spells;
       len = sym count;

@@ -61,47 +61,47 @@ over_is_quiet t place group p over = asked_is t place group p t.configuration.ro
 
 -- ---- packets
 
-abbrev other : SystemState → Packet → List ℕ → Effect
-other s p following = passes_by s.configuration.role s p following
+abbrev other : SystemState → Place → Packet → List ℕ → Effect
+other s came p following = passes_by s.configuration.role s came p following
 
 abbrev over_deed : SystemState → Packet → List ℕ → Deed
 over_deed s p following = discard s (Labelled p following) (reason_code LifetimeExpiredInTransit) 0
 
-own_effect : (s : SystemState) (p : Packet) (following : List ℕ) → (p.lifetime == 0) ≡ false → is_own s p.unit.destination ≡ true
-    → packet_comes s p following ≡ effect_of (receive s p following)
-own_effect s p following alive own =
+own_effect : (s : SystemState) (came : Place) (p : Packet) (following : List ℕ) → (p.lifetime == 0) ≡ false → is_own s p.unit.destination ≡ true
+    → packet_comes s came p following ≡ effect_of (receive s p following)
+own_effect s came p following alive own =
     ap (λ (b : Bool). if b then effect_of (over_deed s p following)
-    else (if is_own s p.unit.destination then effect_of (receive s p following) else other s p following)) alive
-    ∙ ap (λ (b : Bool). if b then effect_of (receive s p following) else other s p following) own
+    else (if is_own s p.unit.destination then effect_of (receive s p following) else other s came p following)) alive
+    ∙ ap (λ (b : Bool). if b then effect_of (receive s p following) else other s came p following) own
 
-expired_effect : (s : SystemState) (p : Packet) (following : List ℕ) → (p.lifetime == 0) ≡ true
-    → packet_comes s p following ≡ effect_of (over_deed s p following)
-expired_effect s p following over =
+expired_effect : (s : SystemState) (came : Place) (p : Packet) (following : List ℕ) → (p.lifetime == 0) ≡ true
+    → packet_comes s came p following ≡ effect_of (over_deed s p following)
+expired_effect s came p following over =
     ap (λ (b : Bool). if b then effect_of (over_deed s p following)
-    else (if is_own s p.unit.destination then effect_of (receive s p following) else other s p following)) over
+    else (if is_own s p.unit.destination then effect_of (receive s p following) else other s came p following)) over
 
 -- what comes of a packet for the system
 pub received_after : (s : SystemState) (p : Packet) (following : List ℕ) (place : Place) (group : Bool) → (p.lifetime == 0) ≡ false
     → is_own s p.unit.destination ≡ true → (content_comes s place group (Labelled p following)).after ≡ (receive s p following).after
 received_after s p following place group alive own =
-    responds_stays (packet_comes s p following).after place group p ∙ ap (λ (e : Effect). e.after) (own_effect s p following alive own)
+    responds_stays (packet_comes s place p following).after place group p ∙ ap (λ (e : Effect). e.after) (own_effect s place p following alive own)
 
 pub received_outputs : (s : SystemState) (p : Packet) (following : List ℕ) (place : Place) (group : Bool) → (p.lifetime == 0) ≡ false
     → is_own s p.unit.destination ≡ true
     → (content_comes s place group (Labelled p following)).outputs
     ≡ (effect_of (receive s p following)).outputs ++ (responds (receive s p following).after place group p).outputs
 received_outputs s p following place group alive own =
-    ap (λ (e : Effect). e.outputs ++ (responds e.after place group p).outputs) (own_effect s p following alive own)
+    ap (λ (e : Effect). e.outputs ++ (responds e.after place group p).outputs) (own_effect s place p following alive own)
 
 -- what comes of one whose lifetime is over
 pub expired_after : (s : SystemState) (p : Packet) (following : List ℕ) (place : Place) (group : Bool) → (p.lifetime == 0) ≡ true
     → (content_comes s place group (Labelled p following)).after ≡ (over_deed s p following).after
 expired_after s p following place group over =
-    responds_stays (packet_comes s p following).after place group p ∙ ap (λ (e : Effect). e.after) (expired_effect s p following over)
+    responds_stays (packet_comes s place p following).after place group p ∙ ap (λ (e : Effect). e.after) (expired_effect s place p following over)
 
 pub expired_outputs : (s : SystemState) (p : Packet) (following : List ℕ) (place : Place) (group : Bool) → (p.lifetime == 0) ≡ true
     → (content_comes s place group (Labelled p following)).outputs ≡ (effect_of (over_deed s p following)).outputs
 expired_outputs s p following place group over =
-    ap (λ (e : Effect). e.outputs ++ (responds e.after place group p).outputs) (expired_effect s p following over)
+    ap (λ (e : Effect). e.outputs ++ (responds e.after place group p).outputs) (expired_effect s place p following over)
     ∙ ap (λ (e : Effect). (effect_of (over_deed s p following)).outputs ++ e.outputs) (over_is_quiet (over_deed s p following).after place group p over)
     ∙ append-nil (effect_of (over_deed s p following)).outputs

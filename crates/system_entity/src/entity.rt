@@ -30,7 +30,7 @@ use crate::way::{Way, by_route, host_hop, to_neighbour};
 use clnp_base::NoMemory;
 use clnp_plan::{Ask, Limits, Note, Output, Role, SendRefusal, SystemConfig};
 use clnp_views::Frame;
-use esis_entity::{EsisEntity, send_redirect};
+use esis_entity::EsisEntity;
 use esis_tables::Place;
 use forwarding::Routes;
 use local_entity::{Hop, Local};
@@ -42,7 +42,7 @@ use std::marker::Model;
 
 mod steps;
 
-use steps::{has_content, pass_pieces, routes_of};
+use steps::{has_content, pass_pieces, routes_of, tell_way};
 
 /// What came of a frame.
 #[derive(Clone, Copy, Debug, PartialEq, Eq)]
@@ -252,6 +252,7 @@ impl SystemEntity {
     /// `NoMemory`: `out` is then as it was, and the entity is spent.
     pub fn redirect(
         &mut self,
+        alloc: Global,
         place: Place,
         to: &Address,
         way: &Way,
@@ -270,18 +271,9 @@ impl SystemEntity {
         if self.spent {
             return Err(NoMemory);
         }
-        let before = out.len();
-        match send_redirect(
-            self.local.config(),
-            place,
-            to,
-            &way.snpa,
-            way.title.as_ref(),
-            out,
-        ) {
+        match tell_way(alloc, self.local.config(), place, to, way, out) {
             Ok(()) => Ok(()),
             Err(_) => {
-                out.truncate(before);
                 self.spent = true;
                 Err(NoMemory)
             }

@@ -1,5 +1,5 @@
 //! The steps of a system while it takes them: all that is given out is appended, or nothing.
-ghost use Rattle.std.specs.Prelude.{◌≡◌, ◌≢◌, ◌==◌, ◌≤◌, ◌<◌, ◌^◌, ◌+◌, ◌++◌, ℕ, Bool, true, false, List, IfErr, IfOk, OnOk, OnErr, MatchResult, None, Some, length, map};
+ghost use Rattle.std.specs.Prelude.{◌≡◌, ◌≢◌, ◌==◌, ◌≤◌, ◌<◌, ◌^◌, ◌+◌, ◌++◌, ℕ, Bool, true, false, List, [], ◌∷◌, IfErr, IfOk, OnOk, OnErr, MatchResult, None, Some, length, map};
 ghost use Rattle.std.specs.List.{AllByRecursion, flat_map};
 ghost use Rattle.clnp_options.specs.Grammar.{FitsKind};
 ghost use Rattle.clnp_options.specs.Parameter.{parameters};
@@ -12,7 +12,9 @@ ghost use Rattle.clnp_machine.specs.Given.{Appends};
 ghost use Rattle.clnp_machine.specs.Local as machine;
 ghost use Rattle.clnp_machine.specs.Local.{is_own};
 ghost use Rattle.clnp_machine.specs.Step.{content_comes, effect_of, moment_comes, outputs_of, responds, unheard_note, unit_hop};
-ghost use Rattle.clnp_machine.specs.System.{SystemState, next_number};
+ghost use Rattle.clnp_machine.specs.System.{SystemState, SendsEsis, next_number};
+ghost use Rattle.clnp_machine.specs.Esis.{redirect};
+ghost use Rattle.nsap.specs.declared.target.Target.TheVariants.{System};
 ghost use Rattle.clnp_machine.specs.Unit.{IsCarriable, Packet, Unit, value_of, wire};
 ghost use Rattle.clnp_views.specs.Extent.{part, whole};
 ghost use Rattle.forwarding.specs.Stands as routing;
@@ -25,11 +27,13 @@ ghost use Rattle.system_entity.specs.Stands.{PartsStand, PartsStandSince};
 
 use super::{Arrival, SystemEntity};
 use crate::passing::Passing;
+use crate::way::Way;
 use clnp_base::NoMemory;
 use clnp_machine::laws;
 use clnp_options::Reason;
 use clnp_plan::{Ask, Note, Output, Role, SendRefusal, SystemConfig};
 use clnp_views::Frame;
+use esis_entity::send_redirect;
 use esis_pdus::EsisRefusal;
 use esis_tables::Place;
 use forwarding::{RouteRefusal, Routes};
@@ -391,6 +395,27 @@ pub(super) fn pass_pieces(
     let body = frame.view()?.narrow(from, len);
     let mut outputs = Vec::new(alloc);
     give_pieces(cuts, hop, &body, true, &mut outputs)?;
+    out.append(&mut outputs)?;
+    Ok(())
+}
+
+/// Tells a system, at a place of one's own, of the way to an address, or gives out nothing.
+pub(super) fn tell_way(
+    alloc: Global,
+    config: &SystemConfig,
+    place: Place,
+    to: &Address,
+    way: &Way,
+    out: &mut Vec<Output>,
+) -> Result<(), NoMemory>
+    ensures given { OnOk result ((s : SystemState) (moment : ℕ) → s.configuration ≡ config.now
+        → Appends moment out.old.items out.new.items
+        (SendsEsis place.port (System place.snpa) (redirect s to.now way.now.snpa way.now.title) ∷ [])) }
+    ensures none { OnErr result (out.new.items ≡ out.old.items) }
+{
+    let mut outputs = Vec::new(alloc);
+    let title = way.title.as_ref();
+    send_redirect(config, place, to, &way.snpa, title, &mut outputs)?;
     out.append(&mut outputs)?;
     Ok(())
 }

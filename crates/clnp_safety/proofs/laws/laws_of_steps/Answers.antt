@@ -13,6 +13,7 @@ returns c = record {
     ranges = c.ranges_of_units_are_sent.ensures;
     carriable = c.what_is_sent_is_carriable.ensures.sent;
     esis_pdus = c.hellos_are_pdus.ensures.pdus;
+    known = c.hellos_are_pdus.ensures.known;
     no_rule = c.rules_are_noted_of_octets_alone.ensures;
     own = c.only_owners_hand_up.ensures;
     budget = c.budgets_are_kept.ensures;

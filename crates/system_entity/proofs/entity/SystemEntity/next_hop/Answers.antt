@@ -29,6 +29,6 @@ pub returns-in-Some : goal.returns-in-Some
 returns-in-Some c = λ s before h.
     let p = subst (λ (e : SystemEntityState). PartsStandSince before e s) (sym c.self.view_is) h in
     let role = sym (ap (λ (x : SystemConfiguration). x.role) (c.config.ensures ∙ p.local.configuration)) ∙ sym c.role.ensures ∙ c.in-Router.is in
-    ap (λ (hop : machine.Hop). Some hop) c.hop_by.ensures
+    ap (λ (hop : machine.Hop). Some hop) c.hop.ensures
     ∙ ap (λ (way : Option Way). option_map hop_by (way_option way)) (sym c.in-Some.is)
     ∙ of_router s c.args.to.now c.way.result role (c.way.ensures s before h)
