@@ -85,6 +85,13 @@ def hello(system):
     return sealed(header) if system.sealed else header
 
 
+def redirect(router, holding, to, via, title):
+    """A router's redirect: where the next hop towards an address is, and its title unless it is that address itself."""
+    part = b"".join(bytes([len(octets)]) + octets for octets in (to, via, title))
+    header = bytes([0x82, 9 + len(part), 1, 0, 6]) + holding.to_bytes(2, "big") + bytes(2) + part
+    return sealed(header) if router.sealed else header
+
+
 class Network:
     """The network of a text: it plays the text's events."""
 
@@ -123,6 +130,8 @@ class Network:
             self.note(system, f"late {number_of_copy}")
         elif "hello" in copy:
             self.hears(system, (port, copy["sender"]), **copy["hello"])
+        elif "redirect" in copy:
+            self.hears_redirect(system, (port, copy["sender"]), **copy["redirect"])
         elif copy["unit"]["to"] in system.addresses:
             self.receive(system, copy)
             if copy["target"] == "es":
@@ -130,9 +139,9 @@ class Network:
         elif system.role == b"host":
             self.note(system, f"notmine {copy['unit']['to'].hex()}")
         else:
-            self.forwards(system, copy)
+            self.forwards(system, copy, (port, copy["sender"]))
 
-    # hellos
+    # hellos and redirects
 
     def says(self, system, hop):
         suggest = system.settings[b"suggest"] if system.role == b"router" else 0
@@ -154,9 +163,16 @@ class Network:
             system.period = suggest
             system.due = min(system.due, self.clock + 2 * suggest)
 
+    def hears_redirect(self, host, source, to, via, holding):
+        """A host hears redirects of the routers that it knows."""
+        if source[1] in [snpa for _, snpa in host.known("is", self.clock).values()]:
+            self.keeps_in_mind(host, "rd", to, (source[0], via), holding)
+        else:
+            self.note(host, "ignored rd")
+
     def keeps_in_mind(self, system, table, key, source, holding):
         entries = system.heard[table]
-        limit = system.settings[{"es": b"neighbours", "is": b"routers"}[table]]
+        limit = system.settings[{"es": b"neighbours", "is": b"routers", "rd": b"redirects"}[table]]
         if key not in entries and len(entries) >= limit:
             answer = f"full {len(entries)}"
         else:
@@ -180,16 +196,35 @@ class Network:
 
     # units
 
-    def forwards(self, router, copy):
+    def forwards(self, router, copy, came):
         """A PDU for another address goes on, as what was cut of its unit and with what is left of its lifetime."""
-        hop = router.next_hop(copy["unit"]["to"], self.clock)
-        if hop is None:
+        way = router.way(copy["unit"]["to"], self.clock)
+        if way is None:
             return self.discards(router, copy, "81")
+        hop, title = way
         life = copy["life"] - router.transits[hop[0]]
         if life <= 0:
             return self.discards(router, copy, "a0")
         if not self.goes_on(router, hop, copy["unit"], life, copy["birth"], copy["offset"], copy["octets"]):
-            self.discards(router, copy, "05")
+            return self.discards(router, copy, "05")
+        if hop[0] == came[0]:
+            self.may_redirect(router, copy, came, hop[1], title)
+
+    def may_redirect(self, router, copy, came, via, title):
+        """A PDU went on by the port by which it came. Its source is told of the next hop there, where the PDU begins its unit
+        and its source is known to be where it came from, unless the router's redirects are held for no time."""
+        holding, to = router.settings[b"rhold"], copy["unit"]["to"]
+        known = router.known("es", self.clock).get(copy["unit"]["from"])
+        if holding == 0:
+            self.met["back-with-redirects-off"] += 1
+        elif copy["offset"] > 0:
+            self.met["back-in-a-later-segment"] += 1
+        elif known != came:
+            self.met["back-from-elsewhere" if known else "back-from-an-unknown-source"] += 1
+        else:
+            self.met["redirect-to-a-route" if title else "redirect-to-an-end-system"] += 1
+            told = dict(to=to, via=via, holding=holding)
+            self.puts(router, came, redirect(router, holding, to, via, title), self.clock, redirect=told)
 
     def goes_on(self, system, hop, unit, life, birth, offset, octets):
         """Octets of a unit go out on a port, in PDUs that its subnetwork takes, unless they may not be cut."""
@@ -323,6 +358,7 @@ class Network:
             self.met["forgot-a-request"] += len(system.pending) == 8
             system.pending = (system.pending + [unit])[-8:]
         self.note(system, f"sent {kind} {system.units} {shown} {source.hex()} {destination.hex()} {len(octets)}")
+        self.met["sent-as-redirected"] += system.role == b"host" and destination in system.known("rd", self.clock)
         is_to_itself = system.role == b"router" and destination in system.addresses
         hop = None if is_to_itself else system.next_hop(destination, self.clock)
         if hop is None:

@@ -30,8 +30,10 @@ def random_settings(role, is_silent):
     settings = ["hello=0"] if is_silent else random.choice(hellos)
     settings += random.choice([[], ["checksum=off"], ["checksum=on"]])
     settings += random.choice([[], [f"life={random.randint(1, random.choice([6, 255]))}"]])
-    settings += random.choice([[], [], ["slots=1"], ["segments=2"], ["budget=1100"], ["budget=512", "rhold=0"]])
-    settings += random.choice([[], ["neighbours=1"], ["neighbours=2", "routers=1"], ["routers=1"]])
+    settings += random.choice([[], [], ["slots=1"], ["segments=2"], ["budget=1100"], ["budget=512"]])
+    settings += random.choice([[], [], ["neighbours=1"], ["neighbours=2", "routers=1"], ["routers=1"]])
+    settings += random.choice([[], [], ["rhold=0"], ["rhold=1"], ["rhold=2"], ["rhold=65535"]])
+    settings += random.choice([[], [], ["redirects=1"], ["redirects=2"]])
     if random.random() < (0.6 if role == "router" else 0.1):
         settings.append(f"suggest={random.choice([0, 1, 2, 3, 7, 400, 32767])}")
     random.shuffle(settings)
@@ -39,13 +41,17 @@ def random_settings(role, is_silent):
 
 
 def random_network():
-    """Subnetworks, and which of them each host and each router is on: often a row with a router between two."""
-    subnets = [f"s{at}" for at in range(random.choice([1, 1, 2, 2, 3, 4]))]
-    hosts = [f"h{at}" for at in range(random.randint(0 if random.random() < 0.05 else 1, 6))]
-    there = {name: [random.choice(subnets)] for name in hosts}
-    is_row = len(subnets) > 1 and random.random() < 0.6
-    for at in range(len(subnets) - 1 if is_row else random.choice([0, 1, 1, 2, 3])):
+    """Subnetworks, and which of them each host and each router is on: often a row with a router between two, or one on which
+    most hosts and each router are, so that routers send back what came from there."""
+    is_shared = random.random() < 0.4
+    subnets = [f"s{at}" for at in range(random.choice([1, 1, 2] if is_shared else [1, 1, 2, 2, 3, 4]))]
+    hosts = [f"h{at}" for at in range(random.randint(2 if is_shared else 0 if random.random() < 0.05 else 1, 6))]
+    there = {name: [subnets[0] if is_shared and random.random() < 0.9 else random.choice(subnets)] for name in hosts}
+    is_row = len(subnets) > 1 and not is_shared and random.random() < 0.6
+    for at in range(len(subnets) - 1 if is_row else random.choice([1, 1, 2] if is_shared else [0, 1, 1, 2, 3])):
         there[f"r{at}"] = subnets[at:at + 2] if is_row else random.sample(subnets, random.randint(1, len(subnets)))
+        if is_shared and subnets[0] not in there[f"r{at}"]:
+            there[f"r{at}"].append(subnets[0])
     return subnets, hosts, there
 
 
@@ -122,7 +128,7 @@ def random_scenario():
     events = random.choice([[], ["tick 1", "settle 40"], ["tick 1", "settle 40"]])
     for _ in range(random.randint(0, 40)):
         events += random_echoes(names, known, everyone) if random.random() < 0.12 else []
-        if len(hosts) > 1 and len(hosts) < len(there) and random.random() < 0.15:
+        if len(hosts) > 1 and len(hosts) < len(there) and random.random() < 0.2:
             events += random_crossing(hosts, known)
         events.append(random_event(hosts or names, names, known, everyone))
         if random.random() < 0.5 and events[-1].startswith(("send", "tick")):
@@ -166,14 +172,16 @@ def random_echoes(names, known, everyone):
 
 
 def random_crossing(hosts, known):
-    """A unit from one host to another, whose copies go on a few at a time while the clock ticks."""
+    """Units from one host to another, whose copies go on a few at a time while the clock ticks and the host may restart."""
     host, other = random.sample(hosts, 2)
     source, destination = (random.choice(known[name] or ["ab"]) for name in (host, other))
-    length = random.choice([2, 493, 600, 1490, 1500, 2000, 2500])
+    length, whole = random.choice([2, 493, 600, 1490, 1500, 2000, 2500]), random.choice(["", "", " whole"])
     octets, life = f"pat:{length}:{random.randint(0, 255)}", random.choice([5, 30, 255])
-    events = [f"send {host} {source} {destination} {octets} life={life}"]
+    events = [f"send {host} {source} {destination} {octets} life={life}{whole}"] * random.choice([1, 1, 2])
     for _ in range(random.choice([1, 2, 4])):
-        events += [f"settle {random.choice([1, 3, 20, 60])}", f"tick {random.choice([1, 1, 2, 3])}"]
+        events.append(f"settle {random.choice([1, 3, 20, 60])}")
+        events += random.choice([[], [f"tick {random.choice([1, 1, 2, 3])}"], [random.choice(events)]])
+        events += random.choice([[], [], [], [], [], [f"restart {host}"]])
     return events + ["settle 60"]
 
 
@@ -242,11 +250,11 @@ def changed(lines):
 
 
 def kinds_of(journal):
-    """How often each kind of line stands in a journal, with a hearing's answer, a drop's reason, and the like."""
+    """How often each kind of line stands in a journal, with a hearing's table and answer, a drop's reason, and the like."""
     lines = [line.split(" ") for line in journal.splitlines()]
     words = [line[2:] for line in lines if line[0] != "end"]
-    told = {"hear": 3, "drop": 1, "sent": 1, "refused": 1}
-    return collections.Counter("-".join([line[0]] + line[told.get(line[0], 9):][:1]) for line in words)
+    told = {"hear": [1, 3], "gone": [1], "ignored": [1], "drop": [1], "sent": [1], "refused": [1]}
+    return collections.Counter("-".join([line[0]] + [line[at] for at in told.get(line[0], [])]) for line in words)
 
 
 def run_each(program, texts):

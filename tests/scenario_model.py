@@ -127,7 +127,7 @@ class System:
     def starts(self, moment, quiet):
         """At its start, and again at a restart: nothing is kept, nothing was heard, and its hello is due."""
         self.uses, self.buffers, self.pending, self.quiet = [], [], [], quiet
-        self.heard = {"es": {}, "is": {}}
+        self.heard = {"es": {}, "is": {}, "rd": {}}
         self.period, self.due = self.settings[b"hello"], moment
 
     def held(self):
@@ -141,15 +141,26 @@ class System:
         in_range = all(ranges[self.role][0] <= count <= ranges[self.role][1] for count, ranges in counts)
         return in_range and sorted(self.ports) == list(range(len(self.ports)))
 
+    def known(self, table, moment):
+        """The places of all that it knows of end systems (es), of routers (is) or of better hops (rd)."""
+        return {key: entry["place"] for key, entry in self.heard[table].items() if entry["until"] > moment}
+
     def next_hop(self, destination, moment):
-        """Where a PDU goes, a port and whom it is for there: to the end system of this address; else from a host to the
-        router that it heard last, or to all end systems, and from a router by the route of the most digits, if any."""
-        known = {table: {key: entry["place"] for key, entry in entries.items() if entry["until"] > moment}
-                 for table, entries in self.heard.items()}
-        if destination in known["es"]:
-            return known["es"][destination]
-        if self.role == b"host":
-            return (list(known["is"].values()) or [(0, "es")])[-1]
+        """Where a PDU goes, a port and whom it is for there. A host sends it to the better hop that a redirect named for this
+        address, else to the end system of this address, else to the router that it heard last, or to all end systems."""
+        if self.role == b"router":
+            way = self.way(destination, moment)
+            return way and way[0]
+        for table in ("rd", "es"):
+            if destination in (known := self.known(table, moment)):
+                return known[destination]
+        return (list(self.known("is", moment).values()) or [(0, "es")])[-1]
+
+    def way(self, destination, moment):
+        """A router's next hop, and the title of the system there: none where it is the end system of this address, which
+        comes before the route of the most digits."""
+        if destination in (known := self.known("es", moment)):
+            return known[destination], b""
         covering = [digits for digits in self.routes if destination.hex().startswith(digits)]
         return self.routes[max(covering, key=len)] if covering else None
 
@@ -237,10 +248,10 @@ class Text:
         want(router.role == b"router", UNKNOWN_NAME)
         digits, port_number = prefix(words[1]), number(words[2], 0, 7)
         want(port_number in router.ports, UNKNOWN_NAME)
-        snpa, _ = address(words[3]), address(words[4])
+        snpa, title = address(words[3]), address(words[4])
         want(digits not in router.routes, DUP_ADDRESS)
         want(len(router.routes) < 256, COUNT)
-        router.routes[digits] = (port_number, snpa)
+        router.routes[digits] = (port_number, snpa), title
 
     def start(self):
         want(all(system.is_complete() for system in self.systems), COUNT)

@@ -29,19 +29,19 @@ is_quiet s place group p role other =
     ∙ ap (λ (b : Bool). if b then tells_of_itself s place.port place.snpa else idles s)
     (asks_no_other group (p.lifetime == 0) (is_own s p.unit.destination) other)
 
-is_noted : (s : SystemState) (p : Packet) (following : List ℕ) → s.configuration.role ≡ Host → (p.lifetime == 0) ≡ false
-    → is_own s p.unit.destination ≡ false → packet_comes s p following ≡ effect_of (tells s (NotMine p.unit.destination))
-is_noted s p following role alive other =
+is_noted : (s : SystemState) (came : Place) (p : Packet) (following : List ℕ) → s.configuration.role ≡ Host → (p.lifetime == 0) ≡ false
+    → is_own s p.unit.destination ≡ false → packet_comes s came p following ≡ effect_of (tells s (NotMine p.unit.destination))
+is_noted s came p following role alive other =
     ap (λ (b : Bool). if b then discards s p following (reason_code LifetimeExpiredInTransit)
-    else (if is_own s p.unit.destination then effect_of (receive s p following) else passes_by s.configuration.role s p following)) alive
-    ∙ ap (λ (b : Bool). if b then effect_of (receive s p following) else passes_by s.configuration.role s p following) other
-    ∙ ap (λ (r : Role). passes_by r s p following) role
+    else (if is_own s p.unit.destination then effect_of (receive s p following) else passes_by s.configuration.role s came p following)) alive
+    ∙ ap (λ (b : Bool). if b then effect_of (receive s p following) else passes_by s.configuration.role s came p following) other
+    ∙ ap (λ (r : Role). passes_by r s came p following) role
 
 passes : (s : SystemState) (place : Place) (group : Bool) (p : Packet) (following : List ℕ) → s.configuration.role ≡ Host
     → (p.lifetime == 0) ≡ false → is_own s p.unit.destination ≡ false
     → content_comes s place group (Labelled p following) ≡ gives s (Notes (NotMine p.unit.destination) ∷ [])
 passes s place group p following role alive other =
-    ap (λ (effect : Effect). then_does effect (λ t. responds t place group p)) (is_noted s p following role alive other)
+    ap (λ (effect : Effect). then_does effect (λ t. responds t place group p)) (is_noted s place p following role alive other)
     ∙ ap (λ (effect : Effect). then_does (effect_of (tells s (NotMine p.unit.destination))) (λ t. effect))
     (is_quiet s place group p role other)
 

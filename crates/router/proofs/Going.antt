@@ -2,6 +2,7 @@
 use Rattle.std.proofs.Common.{◌≡◌, ◌∙◌, refl, sym, ap, subst, ℕ, ◌+◌, ◌-◌, ◌≤◌, Bool, true, false, Option, None, Some, Ok, Err, inr, List, [], ◌∷◌, ◌++◌, map, length, take, drop, if◌then◌else◌, arith, length-append, append_assoc}
 use Rattle.std.specs.Prelude.{Result, nat_le, slice_get}
 use Rattle.std.proofs.Math.Seq.{drop-append_seam, take-append_seam}
+use Rattle.esis_tables.specs.declared.fact.Place.{Place}
 use Rattle.clnp_options.specs.Reasons.{reason_code}
 use Rattle.clnp_options.specs.declared.reasons.Reason.TheVariants.{DestinationUnknown, LifetimeExpiredInTransit, SegmentationNotPermitted}
 use Rattle.clnp_views.specs.Extent.{Extent, part, seen, whole}
@@ -17,35 +18,42 @@ use Rattle.clnp_plan.specs.declared.config.PortConfig.{PortConfig}
 use Rattle.clnp_machine.specs.Content.{Labelled}
 use Rattle.clnp_machine.specs.Given.{GiveAllFor, IsSentOnFor}
 use Rattle.clnp_machine.specs.Step as machine
-use Rattle.clnp_machine.specs.Step.{discards, forwarded, goes_on, goes_on_by, loss_at, next_hop, pieces_go_on}
+use Rattle.clnp_machine.specs.Step.{discards, forwarded, goes_on, goes_on_by, hop_by, loss_at, pieces_go_on, transmissions, way_of}
 use Rattle.clnp_machine.specs.System.{Effect, SystemState, Transmits}
 use Rattle.clnp_machine.specs.Unit.{IsCarriable, Packet, cut, value_of}
 use Rattle.clnp_machine.proofs.Pieces.{AreBoth, AreThese, IsThis, cut_both}
-use Rattle.local_entity.specs.Sending.{hop_option, machine_hop, piece_frame, transmission}
+use Rattle.local_entity.specs.Sending.{machine_hop, piece_frame, transmission}
 use Rattle.local_entity.specs.declared.sending.Hop.{Hop}
 use Rattle.local_entity.proofs.Sent.{CutsSay, IsAnswer, piece_octets}
 use Rattle.system_entity.specs.Comes.{HasValue}
 use Rattle.system_entity.specs.declared.passing.Passing.{Passing}
-use Rattle.router.specs.Onward.{GoesOn, life_left}
+use Rattle.system_entity.specs.declared.way.Way.{Way}
+use Rattle.system_entity.specs.Ways.{machine_way, way_option}
+use Rattle.router.specs.Onward.{GoesOn, life_left, way_hop}
 
--- ---- the way, and the port of its hop
+-- ---- the way, and its port
 
-module _ (s : SystemState) (p : Packet) (following : List ℕ) where
+module _ (s : SystemState) (came : Place) (p : Packet) (following : List ℕ) where
   -- no way is known
-  pub no_way : (hop : Option Hop) → hop ≡ None → hop_option hop ≡ next_hop s p.unit.destination
-      → goes_on s p following (next_hop s p.unit.destination) ≡ discards s p following (reason_code DestinationUnknown)
-  no_way hop is way =
-      ap (λ (o : Option machine.Hop). goes_on s p following o) (sym way) ∙ ap (λ (o : Option Hop). goes_on s p following (hop_option o)) is
+  pub no_way : (way : Option Way) → way ≡ None → way_option way ≡ way_of s p.unit.destination
+      → goes_on s came p following (way_of s p.unit.destination) ≡ discards s p following (reason_code DestinationUnknown)
+  no_way way none is =
+      ap (λ (o : Option machine.Way). goes_on s came p following o) (sym is)
+      ∙ ap (λ (o : Option Way). goes_on s came p following (way_option o)) none
 
   -- it is by this port, if it is there
-  pub by_its_port : (way : Option Hop) (hop : Hop) (configuration : SystemConfiguration) (port : Option PortConfig) → configuration ≡ s.configuration
-      → way ≡ Some hop → hop_option way ≡ next_hop s p.unit.destination → slice_get configuration.ports hop.port ≡ port
-      → goes_on_by s p following (machine_hop hop) port ≡ goes_on s p following (next_hop s p.unit.destination)
-  by_its_port way hop configuration port same is next at =
-      ap (λ (o : Option PortConfig). goes_on_by s p following (machine_hop hop) o) (sym at)
-      ∙ ap (λ (c : SystemConfiguration). goes_on_by s p following (machine_hop hop) (slice_get c.ports hop.port)) same
-      ∙ ap (λ (o : Option Hop). goes_on s p following (hop_option o)) (sym is)
-      ∙ ap (λ (o : Option machine.Hop). goes_on s p following o) next
+  pub by_its_port : (found : Option Way) (way : Way) (configuration : SystemConfiguration) (port : Option PortConfig) → configuration ≡ s.configuration
+      → found ≡ Some way → way_option found ≡ way_of s p.unit.destination → slice_get configuration.ports way.port ≡ port
+      → goes_on_by s came p following (machine_way way) port ≡ goes_on s came p following (way_of s p.unit.destination)
+  by_its_port found way configuration port same is next at =
+      ap (λ (o : Option PortConfig). goes_on_by s came p following (machine_way way) o) (sym at)
+      ∙ ap (λ (c : SystemConfiguration). goes_on_by s came p following (machine_way way) (slice_get c.ports way.port)) same
+      ∙ ap (λ (o : Option Way). goes_on s came p following (way_option o)) (sym is)
+      ∙ ap (λ (o : Option machine.Way). goes_on s came p following o) next
+
+-- the hop of the code is that of the way
+pub hop_is : (hop : Hop) (way : Way) → machine_hop hop ≡ hop_by (machine_way way) → hop ≡ way_hop way
+hop_is hop way e = ap (λ (h : machine.Hop). let r : Hop = record { port = h.port; target = h.target } in r) e
 
 -- ---- the lifetime
 
@@ -82,26 +90,28 @@ module _ (came : Packet) (following : List ℕ) (q : Packet) (unit : q.unit ≡ 
   pieces_go moment [] (packet ∷ packets) these = absurd these
   pieces_go moment (piece ∷ others) [] these = absurd these
 
-module _ (s : SystemState) (p : Packet) (following : List ℕ) (hop : Hop) (q : Packet) (unit : q.unit ≡ p.unit)
+module _ (s : SystemState) (came : Place) (p : Packet) (following : List ℕ) (way : Way) (q : Packet) (unit : q.unit ≡ p.unit)
     (same : (value_of q).body ≡ (value_of p).body) (octets : ℕ) (result : Result (List Cut) NotPermitted) where
   both_go : (pieces : Option (List Piece)) (packets : Option (List Packet)) (cuts : List Cut) → AreBoth q pieces packets → IsAnswer octets pieces result
-      → result ≡ Ok cuts → GoesOn (record { hop = hop; cuts = cuts }) s p following (pieces_go_on s p following (machine_hop hop) packets)
+      → result ≡ Ok cuts → GoesOn (record { way = way; cuts = cuts }) s came p following (pieces_go_on s came p following (machine_way way) packets)
   both_go None None cuts both answer ok = absurd (cc)
   both_go (Some pieces) (Some packets) cuts both answer ok =
       let are : map given pieces ≡ cuts = cc in
       record {
         after = refl;
+        pieces = transmissions (hop_by (machine_way way)) (Some packets);
+        outputs = refl;
         given = λ body shown count.
-            subst (λ (list : List Cut). GiveAllFor s.moment (Labelled p following) (map (transmission true hop body) list)
-            (map (λ packet. Transmits hop.port hop.target packet) packets)) are
-            (pieces_go p following q unit body hop (shown ∙ sym same) count s.moment pieces packets both);
+            subst (λ (list : List Cut). GiveAllFor s.moment (Labelled p following) (map (transmission true (way_hop way) body) list)
+            (transmissions (hop_by (machine_way way)) (Some packets))) are
+            (pieces_go p following q unit body (way_hop way) (shown ∙ sym same) count s.moment pieces packets both);
       }
   both_go None (Some packets) cuts both answer ok = absurd both
   both_go (Some pieces) None cuts both answer ok = absurd both
 
   none_goes : (pieces : Option (List Piece)) (packets : Option (List Packet)) (refused : NotPermitted) → AreBoth q pieces packets
       → IsAnswer octets pieces result → result ≡ Err refused
-      → pieces_go_on s p following (machine_hop hop) packets ≡ discards s p following (reason_code SegmentationNotPermitted)
+      → pieces_go_on s came p following (machine_way way) packets ≡ discards s p following (reason_code SegmentationNotPermitted)
   none_goes None None refused both answer err = refl
   none_goes (Some pieces) (Some packets) refused both answer err = absurd (cc)
   none_goes None (Some packets) refused both answer err = absurd both
@@ -109,18 +119,18 @@ module _ (s : SystemState) (p : Packet) (following : List ℕ) (hop : Hop) (q : 
 
 -- ---- what comes of it by a port
 
-module _ (s : SystemState) (p : Packet) (following : List ℕ) (hop : Hop) (port : PortConfig) where
+module _ (s : SystemState) (came : Place) (p : Packet) (following : List ℕ) (way : Way) (port : PortConfig) where
   abbrev lowered : Packet
   lowered = forwarded p (loss_at port)
 
   abbrev by_test : Bool → Effect
   by_test over =
       if over then discards s p following (reason_code LifetimeExpiredInTransit)
-      else pieces_go_on s p following (machine_hop hop) (cut lowered port.mtu)
+      else pieces_go_on s came p following (machine_way way) (cut lowered port.mtu)
 
   -- its lifetime ends
   pub ends : (passing : Passing) (left : Option ℕ) → HasValue passing (value_of p) → left ≡ life_left passing.life port → left ≡ None
-      → goes_on_by s p following (machine_hop hop) (Some port) ≡ discards s p following (reason_code LifetimeExpiredInTransit)
+      → goes_on_by s came p following (machine_way way) (Some port) ≡ discards s p following (reason_code LifetimeExpiredInTransit)
   ends passing left has told none =
       ap (λ (n : ℕ). by_test (nat_le n (loss_at port))) has.lifetime
       ∙ ap by_test (none_is (nat_le passing.life (loss_at port)) (passing.life - loss_at port) (sym told ∙ none))
@@ -131,7 +141,7 @@ module _ (s : SystemState) (p : Packet) (following : List ℕ) (hop : Hop) (port
     lives : (nat_le passing.life (loss_at port) ≡ false) × (passing.life - loss_at port ≡ life)
     lives = left_is (nat_le passing.life (loss_at port)) (passing.life - loss_at port) life (sym told ∙ some)
 
-    alive : goes_on_by s p following (machine_hop hop) (Some port) ≡ pieces_go_on s p following (machine_hop hop) (cut lowered port.mtu)
+    alive : goes_on_by s came p following (machine_way way) (Some port) ≡ pieces_go_on s came p following (machine_way way) (cut lowered port.mtu)
     alive = ap (λ (n : ℕ). by_test (nat_le n (loss_at port))) has.lifetime ∙ ap by_test lives.0
 
     spells : SpellsHeader (value_of lowered) head
@@ -147,17 +157,17 @@ module _ (s : SystemState) (p : Packet) (following : List ℕ) (hop : Hop) (port
     both = cut_both lowered port.mtu (record { pdu = spells.pdu; from = carriable.from; to = carriable.to }) is.mtu.least
 
     -- its pieces go on
-    pub goes : (cuts : List Cut) → result ≡ Ok cuts → GoesOn (record { hop = hop; cuts = cuts }) s p following (goes_on_by s p following (machine_hop hop) (Some port))
+    pub goes : (cuts : List Cut) → result ≡ Ok cuts → GoesOn (record { way = way; cuts = cuts }) s came p following (goes_on_by s came p following (machine_way way) (Some port))
     goes cuts ok =
-        subst (λ (effect : Effect). GoesOn (record { hop = hop; cuts = cuts }) s p following effect) (sym alive)
-        (both_go s p following hop lowered refl refl (segment_length (value_of lowered)) result (segmenter.cut (value_of lowered) port.mtu)
+        subst (λ (effect : Effect). GoesOn (record { way = way; cuts = cuts }) s came p following effect) (sym alive)
+        (both_go s came p following way lowered refl refl (segment_length (value_of lowered)) result (segmenter.cut (value_of lowered) port.mtu)
         (cut lowered port.mtu) cuts both answer ok)
 
     -- it may not be cut
     pub stays : (refused : NotPermitted) → result ≡ Err refused
-        → goes_on_by s p following (machine_hop hop) (Some port) ≡ discards s p following (reason_code SegmentationNotPermitted)
+        → goes_on_by s came p following (machine_way way) (Some port) ≡ discards s p following (reason_code SegmentationNotPermitted)
     stays refused err =
-        alive ∙ none_goes s p following hop lowered refl refl (segment_length (value_of lowered)) result
+        alive ∙ none_goes s came p following way lowered refl refl (segment_length (value_of lowered)) result
         (segmenter.cut (value_of lowered) port.mtu) (cut lowered port.mtu) refused both answer err
 
 -- ---- the frame

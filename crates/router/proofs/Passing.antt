@@ -1,6 +1,6 @@
 -- What comes of a packet for another address, at a router.
-use Rattle.std.proofs.Common.{◌≡◌, ◌∙◌, refl, sym, ap, ℕ, Bool, true, false, List, ◌++◌, if◌then◌else◌, Option, None, Some}
-use Rattle.std.specs.Prelude.{◌==◌, nat_le, slice_get}
+use Rattle.std.proofs.Common.{◌≡◌, ◌∙◌, sym, ap, ℕ, Bool, false, List, ◌++◌, if◌then◌else◌}
+use Rattle.std.specs.Prelude.{◌==◌}
 use Rattle.std.proofs.lemmas.List.{append-nil}
 use Rattle.esis_tables.specs.declared.fact.Place.{Place}
 use Rattle.clnp_options.specs.Reasons.{reason_code}
@@ -10,39 +10,39 @@ use Rattle.clnp_plan.specs.declared.config.Role.{Role}
 use Rattle.clnp_plan.specs.declared.config.Role.TheVariants.{Router}
 use Rattle.clnp_machine.specs.Content.{Labelled}
 use Rattle.clnp_machine.specs.Local.{is_own, receive}
-use Rattle.clnp_machine.specs.Step.{content_comes, discards, effect_of, goes_on, next_hop, packet_comes, passes_by, responds}
+use Rattle.clnp_machine.specs.Step.{content_comes, discards, effect_of, goes_on, packet_comes, passes_by, responds, way_of}
 use Rattle.clnp_machine.specs.System.{Effect, SystemState}
 use Rattle.clnp_machine.specs.Unit.{Packet}
 use Rattle.system_entity.proofs.Receipt.{responds_stays, router_is_quiet}
 
 -- it is all that is done
 
-abbrev pub onward : SystemState → Packet → List ℕ → Effect
-onward s p following = goes_on s p following (next_hop s p.unit.destination)
+abbrev pub onward : SystemState → (came : Place) → Packet → List ℕ → Effect
+onward s came p following = goes_on s came p following (way_of s p.unit.destination)
 
-forwards : (s : SystemState) (p : Packet) (following : List ℕ) → s.configuration.role ≡ Router → (p.lifetime == 0) ≡ false
-    → is_own s p.unit.destination ≡ false → packet_comes s p following ≡ onward s p following
-forwards s p following role alive other =
+forwards : (s : SystemState) (came : Place) (p : Packet) (following : List ℕ) → s.configuration.role ≡ Router → (p.lifetime == 0) ≡ false
+    → is_own s p.unit.destination ≡ false → packet_comes s came p following ≡ onward s came p following
+forwards s came p following role alive other =
     ap (λ (b : Bool). if b then discards s p following (reason_code LifetimeExpiredInTransit)
-    else (if is_own s p.unit.destination then effect_of (receive s p following) else passes_by s.configuration.role s p following)) alive
-    ∙ ap (λ (b : Bool). if b then effect_of (receive s p following) else passes_by s.configuration.role s p following) other
-    ∙ ap (λ (r : Role). passes_by r s p following) role
+    else (if is_own s p.unit.destination then effect_of (receive s p following) else passes_by s.configuration.role s came p following)) alive
+    ∙ ap (λ (b : Bool). if b then effect_of (receive s p following) else passes_by s.configuration.role s came p following) other
+    ∙ ap (λ (r : Role). passes_by r s came p following) role
 
 pub passed_after : (s : SystemState) (place : Place) (group : Bool) (p : Packet) (following : List ℕ) → s.configuration.role ≡ Router
     → (p.lifetime == 0) ≡ false → is_own s p.unit.destination ≡ false
-    → (onward s p following).after ≡ (content_comes s place group (Labelled p following)).after
+    → (onward s place p following).after ≡ (content_comes s place group (Labelled p following)).after
 passed_after s place group p following role alive other =
-    sym (responds_stays (onward s p following).after place group p)
-    ∙ ap (λ (e : Effect). (responds e.after place group p).after) (sym (forwards s p following role alive other))
+    sym (responds_stays (onward s place p following).after place group p)
+    ∙ ap (λ (e : Effect). (responds e.after place group p).after) (sym (forwards s place p following role alive other))
 
 pub passed_outputs : (s : SystemState) (place : Place) (group : Bool) (p : Packet) (following : List ℕ) → s.configuration.role ≡ Router
     → (p.lifetime == 0) ≡ false → is_own s p.unit.destination ≡ false
-    → (packet_comes s p following).after.configuration ≡ s.configuration
-    → (onward s p following).outputs ≡ (content_comes s place group (Labelled p following)).outputs
+    → (packet_comes s place p following).after.configuration ≡ s.configuration
+    → (onward s place p following).outputs ≡ (content_comes s place group (Labelled p following)).outputs
 passed_outputs s place group p following role alive other itself =
-    let e : Effect = onward s p following in
+    let e : Effect = onward s place p following in
     let still : e.after.configuration.role ≡ Router =
-    ap (λ (d : Effect). d.after.configuration.role) (sym (forwards s p following role alive other))
+    ap (λ (d : Effect). d.after.configuration.role) (sym (forwards s place p following role alive other))
     ∙ ap (λ (c : SystemConfiguration). c.role) itself ∙ role in
     sym (append-nil e.outputs) ∙ ap (λ (answer : Effect). e.outputs ++ answer.outputs) (sym (router_is_quiet e.after place group p still))
-    ∙ ap (λ (d : Effect). d.outputs ++ (responds d.after place group p).outputs) (sym (forwards s p following role alive other))
+    ∙ ap (λ (d : Effect). d.outputs ++ (responds d.after place group p).outputs) (sym (forwards s place p following role alive other))

@@ -127,7 +127,7 @@ impl Router {
         let place = Place { port, snpa: from };
         match self.entity.frame(alloc, place, group, frame, out)? {
             Arrival::Done => Ok(()),
-            Arrival::Passes(passing) => self.forward(alloc, place, &passing, frame, out),
+            Arrival::Passes(passing) => self.forward(alloc, &place, &passing, frame, out),
         }
     }
 
@@ -168,7 +168,7 @@ impl Router {
     fn forward(
         &mut self,
         alloc: Global,
-        came: Place,
+        came: &Place,
         passing: &Passing,
         frame: &Frame,
         out: &mut Vec<Output>,
@@ -177,11 +177,11 @@ impl Router {
         requires pdu { IsAtFront passing.now frame.now }
         ensures stands { OnOk result ((s : SystemState) (p : Packet) (following : List ℕ) → Stands self.old s → IsCarriable p
             → HasValue passing.now (value_of p) → frame.now ≡ wire p ++ following
-            → Stands self.new (goes_on s came p following (way_of s p.unit.destination)).after) }
+            → Stands self.new (goes_on s came.now p following (way_of s p.unit.destination)).after) }
         ensures outputs { OnOk result ((s : SystemState) (p : Packet) (following : List ℕ) → Stands self.old s → IsCarriable p
             → HasValue passing.now (value_of p) → frame.now ≡ wire p ++ following
             → AppendsFor s.moment (Labelled p following) out.old.items out.new.items
-            (goes_on s came p following (way_of s p.unit.destination)).outputs) }
+            (goes_on s came.now p following (way_of s p.unit.destination)).outputs) }
         ensures none { OnErr result (out.new.items ≡ out.old.items) }
         ensures spent { OnErr result (self.new.entity.spent ≡ true) }
         ensures refused { self.old.entity.spent ≡ true → IsErr result }
@@ -194,7 +194,7 @@ impl Router {
                 let before = out.len();
                 self.entity
                     .pass_on(alloc, frame, from, passing.len, cuts, way.hop(), out)?;
-                if let Err(refused) = self.redirect(came, passing, &way, out) {
+                if let Err(refused) = self.redirect(alloc, came, passing, &way, out) {
                     out.truncate(before);
                     return Err(refused);
                 }
@@ -227,13 +227,14 @@ impl Router {
     /// it came, where its source is known to be (ISO 9542, section 6.8).
     fn redirect(
         &mut self,
-        came: Place,
+        alloc: Global,
+        came: &Place,
         passing: &Passing,
         way: &Way,
         out: &mut Vec<Output>,
     ) -> Result<(), NoMemory>
         ensures outputs { OnOk result ((s : SystemState) (p : Packet) → Stands self.old s → HasValue passing.now (value_of p)
-            → Appends s.moment out.old.items out.new.items (redirects s came p (machine_way way.now))) }
+            → Appends s.moment out.old.items out.new.items (redirects s came.now p (machine_way way.now))) }
         ensures same { OnOk result (self.new ≡ self.old) }
         ensures none { OnErr result (out.new.items ≡ out.old.items) }
         ensures spent { OnErr result (self.new.entity.spent ≡ true) }
@@ -241,16 +242,17 @@ impl Router {
         ensures config { self.new.entity.local.configuration ≡ self.old.entity.local.configuration }
     {
         if self.is_redirected(came, passing, way) {
-            return self.entity.redirect(came, &passing.to, way, out);
+            let place = *came;
+            return self.entity.redirect(alloc, place, &passing.to, way, out);
         }
         Ok(())
     }
 
-    /// Whether the source of a PDU that goes on is told of the way: the PDU begins its unit, it goes on by the port by which it
-    /// came, and its source is known to be at the place from which it came.
-    fn is_redirected(&self, came: Place, passing: &Passing, way: &Way) -> bool
+    /// Whether the source of a PDU that goes on is told of the way: redirects hold for a time, the PDU begins its unit, it goes
+    /// on by the port by which it came, and its source is known to be at the place from which it came.
+    fn is_redirected(&self, came: &Place, passing: &Passing, way: &Way) -> bool
         ensures { (s : SystemState) (p : Packet) → Stands self.now s → HasValue passing.now (value_of p)
-            → result ≡ is_redirected s came p (machine_way way.now) }
+            → result ≡ is_redirected s came.now p (machine_way way.now) }
     {
         if self.entity.config().settings().rhold == 0 || way.port != came.port || !passing.first {
             return false;

@@ -71,9 +71,9 @@ returns-in-Passes-clause-outputs c =
     (content_comes s place c.args.group what).outputs) (sym other.content_is)
     (subst (λ (others : List machine.Output). AppendsFor c.args.self.now.entity.moment (Labelled p following) c.args.out.now.items c.forward.new.out.items others)
     (passed_outputs s place c.args.group p following role other.alive other.not_own
-    (c.deeds_are_of_their_moment.ensures.packet s p following).itself.configuration)
-    (subst (λ (before : List Output). AppendsFor c.args.self.now.entity.moment (Labelled p following) before c.forward.new.out.items (onward s p following).outputs)
+    (c.deeds_are_of_their_moment.ensures.packet s place p following).itself.configuration)
+    (subst (λ (before : List Output). AppendsFor c.args.self.now.entity.moment (Labelled p following) before c.forward.new.out.items (onward s place p following).outputs)
     left.1
-    (subst (λ (moment : ℕ). AppendsFor moment (Labelled p following) c.frame.new.out.items c.forward.new.out.items (onward s p following).outputs)
+    (subst (λ (moment : ℕ). AppendsFor moment (Labelled p following) c.frame.new.out.items c.forward.new.out.items (onward s place p following).outputs)
     (sym h.parts.moment) given))))
     c.forward.ensures.outputs
