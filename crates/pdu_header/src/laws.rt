@@ -1,5 +1,6 @@
 //! Laws of the definitions: the grammar of PDUs, stated as a relation between a value and its octets,
-//! and the rules G1 to G20 agree; a router's edits keep what is a PDU. Each law is the clause of a function that does nothing.
+//! and the rules G1 to G20 agree; a router's edits keep what is a PDU. Each law is the clause of a function
+//! that does nothing.
 ghost use Rattle.clnp_options.specs.Edits.{advanced, edited, marked, recorded, target_of};
 ghost use Rattle.clnp_options.specs.Parameter.{quality, recording, source_route, spelled};
 ghost use Rattle.clnp_options.specs.declared.judge.OptionRefusal.{OptionRefusal};
