@@ -1,3 +1,3 @@
 pub mod Passing
 pub mod Going
-pub mod Redirecting
+pub mod Better

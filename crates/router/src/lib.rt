@@ -3,6 +3,7 @@
 
 mod onward;
 mod passage;
+mod redirecting;
 mod router;
 
 pub use router::Router;

@@ -25,6 +25,7 @@ ghost use Rattle.router.specs.Stands.{IsLeftBy, Stands};
 
 use crate::onward::{Onward, by_port};
 use crate::passage::{behind, is_off_route};
+use crate::redirecting::{is_at, may_be_redirected};
 use clnp_base::NoMemory;
 use clnp_machine::laws;
 use clnp_options::Reason;
@@ -305,7 +306,7 @@ impl Router {
         ensures moment { self.new.entity.moment ≡ self.old.entity.moment }
         ensures config { self.new.entity.local.configuration ≡ self.old.entity.local.configuration }
     {
-        if !towards_title && self.is_redirected(came, passing, way) {
+        if self.is_redirected(came, passing, towards_title, way) {
             let place = *came;
             return self.entity.redirect(alloc, place, &passing.to, way, out);
         }
@@ -313,19 +314,24 @@ impl Router {
     }
 
     /// Whether the source of a PDU that goes on is told of the way: redirects hold for a time, the PDU begins its unit, it goes
-    /// on by the port by which it came, and its source is known to be at the place from which it came.
-    fn is_redirected(&self, came: &Place, passing: &Passing, way: &Way) -> bool
+    /// on by the port by which it came, not towards a title of a source route, and its source is known to be at the place from
+    /// which it came.
+    fn is_redirected(
+        &self,
+        came: &Place,
+        passing: &Passing,
+        towards_title: bool,
+        way: &Way,
+    ) -> bool
         ensures { (s : SystemState) (p : Packet) (options : List Parameter) → Stands self.now s → HasValue passing.now (value_of p)
-            → is_none (target_of options) ≡ true
+            → towards_title ≡ is_some (target_of options)
             → result ≡ is_redirected s came.now p options (machine_way way.now) }
     {
-        if self.entity.config().settings().rhold == 0 || way.port != came.port || !passing.first {
+        let holding = self.entity.config().settings().rhold;
+        if !may_be_redirected(holding, came, passing, towards_title, way) {
             return false;
         }
-        match self.entity.neighbour(&passing.from) {
-            Some(known) => known.port == came.port && known.snpa == came.snpa,
-            None => false,
-        }
+        is_at(came, self.entity.neighbour(&passing.from))
     }
 
     /// Forgets all that it keeps and heard, and is quiet as long as an identifier rests; the count of its units goes

@@ -3,7 +3,7 @@ use Rattle.std.proofs.Common.{◌∙◌, refl, sym, subst, false, List}
 use Rattle.clnp_machine.specs.Given.{Appends}
 use Rattle.clnp_machine.specs.System.{Output}
 use Rattle.clnp_machine.proofs.Given.{appends_none}
-use Rattle.router.proofs.Redirecting.{told_is}
+use Rattle.router.proofs.Better.{told_is}
 use Rattle.router.proofs.router.Router.redirect.Goals as goal
 
 pub returns-clause-outputs : goal.returns-clause-outputs
