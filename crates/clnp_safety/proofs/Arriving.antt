@@ -28,7 +28,7 @@ use Rattle.esis_tables.specs.declared.fact.Place.{Place}
 use Rattle.clnp_machine.specs.Esis.{esis_comes, is_silent, tells_of_itself}
 use Rattle.clnp_machine.specs.System.{SystemState, Effect, FrameComes, Transmits, table_limits}
 use Rattle.clnp_machine.specs.Local.{Deed, and_then, data_in, discard, echo_ask, hand_up, is_all, is_answer, is_own, octet_of, offer, offered, receive, takes_in, takes_reply, tells}
-use Rattle.clnp_machine.specs.Step.{Hop, Way, content_comes, discards, ends_at, forwarded, goes_on, goes_on_by, goes_on_way, goes_on_with, hop_by, is_asked_for, is_named, is_redirected, loss_at, options_behind, packet_comes, passes_by, pieces_go_on, redirects, responds, towards, transmissions, way_of}
+use Rattle.clnp_machine.specs.Step.{Hop, Way, content_comes, discards, ends_at, forwarded, goes_on, goes_on_by, goes_on_way, hop_by, is_asked_for, is_named, is_redirected, loss_at, options_behind, packet_comes, passes_by, pieces_go_on, redirects, responds, towards, transmissions, way_of}
 use Rattle.clnp_machine.specs.Steps.{IsRangeOf, KnowsAddresses, NotesOnly}
 use Rattle.clnp_machine.specs.Told.{TellsNoInterference}
 use Rattle.clnp_plan.specs.declared.config.PortConfig.{PortConfig}

@@ -15,9 +15,9 @@ use Rattle.reassembly.proofs.Shared.{same_key-true}
 use Rattle.clnp_machine.specs.Unit as unit
 use Rattle.clnp_machine.specs.Unit.{IsCarriable, Packet}
 use Rattle.clnp_machine.specs.Local.{header_size, identifier_in, offered}
+use Rattle.clnp_machine.specs.Steps.{IsRangeOf}
 use Rattle.clnp_network.specs.Run.{Entry}
 use Rattle.clnp_safety.specs.Invariant.{BufferIsSound, IsOfUnit, Owns, UnitIsSound, UnitsAreSound}
-use Rattle.clnp_machine.specs.Steps.{IsRangeOf}
 use Rattle.clnp_safety.specs.StepLaws.{StepLaws}
 use Rattle.clnp_safety.proofs.Units.{different_makers, same_unit}
 use Rattle.clnp_safety.proofs.Kept.{KeptIn, find_passes}

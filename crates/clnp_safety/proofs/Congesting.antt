@@ -1,12 +1,11 @@
 -- A router that is said to be congested, or no longer, is as sound as before.
 use Rattle.std.proofs.Common.{◌≡◌, refl, ℕ, List, Bool}
 use Rattle.std.specs.Prelude.{slice_get, Option, None, Some}
-use Rattle.clnp_plan.specs.Journal.{Line}
 use Rattle.clnp_plan.specs.declared.note.Note.TheVariants.{Congest}
 use Rattle.scenario.specs.Scenario.{IsFit, Plan}
 use Rattle.scenario.specs.declared.event.Move.{Move}
 use Rattle.clnp_machine.specs.Unit as unit
-use Rattle.clnp_machine.specs.System.{SystemState, Input, Effect, IsCongested}
+use Rattle.clnp_machine.specs.System.{SystemState, Input, IsCongested}
 use Rattle.clnp_machine.specs.Step.{congest, step}
 use Rattle.clnp_network.specs.World.{World, comes, comes_to, takes_effect}
 use Rattle.clnp_network.specs.Run.{Entry}

@@ -3,10 +3,10 @@ use Rattle.std.specs.Prelude.{◌≡◌, ◌↔◌, ℕ, ◌≤◌, Bool, false,
 use Rattle.std.specs.List.{AllByRecursion, Contains, flat_map}
 use Rattle.hex.specs.Hex.{IsBytes}
 use Rattle.nsap.specs.Address.{IsAddress}
-use Rattle.echo.specs.Match.{Echoes, echoes}
 use Rattle.clnp_options.specs.Edits.{HaveOneForm}
 use Rattle.clnp_options.specs.Parameter.{Parameter}
 use Rattle.pdu_header.specs.Spelling.{header_length}
+use Rattle.echo.specs.Match.{Echoes, echoes}
 use Rattle.esis_pdus.specs.Grammar.{IsPdu}
 use Rattle.esis_pdus.specs.Spelling.{spelling}
 use Rattle.esis_pdus.specs.Value.{EsisValue}
