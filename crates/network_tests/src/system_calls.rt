@@ -1,5 +1,8 @@
+ghost use Rattle.std.specs.Prelude.{◌≡◌};
+ghost use Rattle.clnp_systems.specs.Stands.{entity_of};
+
 use clnp_base::lines;
-use clnp_plan::{Output, journal_text};
+use clnp_plan::{Output, Sending, journal_text, transmission_text};
 use clnp_systems::System;
 use clnp_views::Frame;
 use nsap::{Address, Snpa, Target};
@@ -22,17 +25,31 @@ events
 end
 ";
 
+/// A host and a router that say no hello.
+const SILENT: &[u8] = b"clnp-sim 1
+subnet lan 1500
+system a host hello=0
+system r router hello=0
+address a 47002702
+address r 470027ff
+port a 0 lan 01
+port r 0 lan 0a
+events
+end
+";
+
 /// The hello of a, and that of r.
 const ESH: &[u8] = b"\x82\x0f\x01\x00\x02\x00\x78\x32\x4b\x01\x04\x47\x00\x27\x02";
 
 const ISH: &[u8] = b"\x82\x12\x01\x00\x04\x00\x78\x5b\x39\x04\x47\x00\x27\xff\xc6\x02\x00\x1e";
 
+/// The hello of 47002701, and that of r where it has no wish.
+const OTHER_ESH: &[u8] = b"\x82\x0f\x01\x00\x02\x00\x78\x2c\x52\x01\x04\x47\x00\x27\x01";
+
+const SILENT_ISH: &[u8] = b"\x82\x0e\x01\x00\x04\x00\x78\xb1\xcd\x04\x47\x00\x27\xff";
+
 /// A redirect for 47002701.
 const RD: &[u8] = b"\x82\x11\x01\x00\x06\x00\x78\xad\xc8\x04\x47\x00\x27\x01\x01\x02\x00";
-
-/// The header of the report that r makes of the discard of a PDU for 47002701.
-const REPORT: &[u8] =
-    b"\x81\x17\x01\x40\x01\x00\x2a\x56\x78\x04\x47\x00\x27\x02\x04\x47\x00\x27\xff\xc1\x02\x81\x00";
 
 /// A PDU of data for 47002701, and an echo reply for a.
 const FOR_ANOTHER: &[u8] =
@@ -41,59 +58,72 @@ const FOR_ANOTHER: &[u8] =
 const FOR_A: &[u8] =
     b"\x81\x13\x01\x40\x1f\x00\x15\x2f\xde\x04\x47\x00\x27\x02\x04\x47\x00\x27\x01hi";
 
-/// The scenario of the systems.
-fn systems(rt: &impl Abort, alloc: Global) -> Scenario {
-    let _lines = lines(SYSTEMS);
-    let Ok(scenario) = read(alloc, SYSTEMS) else {
+/// The scenario of a text.
+fn systems(rt: &impl Abort, alloc: Global, text: &[u8]) -> Scenario {
+    let _lines = lines(text);
+    assert!(rt; text.len() <= 4_000_000);
+    let Ok(scenario) = read(alloc, text) else {
         panic!(rt; "no scenario");
     };
     scenario
 }
 
-/// Frames come to a system at its port 0 from an address there, through a group; what it gives out is appended to a
-/// text: lines, and the headers of frames in place of theirs.
+/// A frame comes to a system at its port 0 from an address there, through a group; what it gives out is appended to a
+/// text.
 fn give(
     rt: &impl Abort,
     alloc: Global,
     system: &mut System,
     from: &[u8],
-    frames: &[&[u8]],
+    octets: &[u8],
     text: &mut Vec<u8>,
-) -> Result<(), Fail> {
+) -> Result<(), Fail>
+    ensures { (entity_of system.new).moment ≡ (entity_of system.old).moment }
+{
     let from = Snpa::from_bytes(from).expect(rt, "an address");
-    for octets in frames {
-        assert!(rt; octets.len() <= 70_000);
-        assert!(rt; !system.config().ports().is_empty());
-        let frame = Frame::copy(alloc, octets)?;
-        let mut out = Vec::new(alloc);
-        system.frame(alloc, 0, from, true, &frame, &mut out)?;
-        show(alloc, system, &out, text)?;
-    }
-    Ok(())
+    assert!(rt; octets.len() <= 70_000);
+    let frame = Frame::copy(alloc, octets)?;
+    let mut out = Vec::new(alloc);
+    system.frame(alloc, 0, from, true, &frame, &mut out)?;
+    show(alloc, 0, system, &out, text)
 }
 
-/// Appends the lines of what a system gives out, with the header of a frame in place of its line.
+/// Appends the lines of what a system gives out, with the number 0 for each copy.
 fn show(
     alloc: Global,
+    now: u64,
     system: &System,
     outputs: &[Output],
     text: &mut Vec<u8>,
 ) -> Result<(), Fail> {
+    let name = system.config().name();
     for output in outputs {
         match output {
-            Output::Note(note) => journal_text(alloc, 1, system.config().name(), note, text)?,
-            Output::Transmit(sending) => text.extend_from_slice(sending.head.as_bytes())?,
+            Output::Note(note) => journal_text(alloc, now, name, note, text)?,
+            Output::Transmit(sending) => {
+                let frame = frame_of(alloc, sending)?;
+                transmission_text(alloc, now, name, 0, sending.port, sending.to, &frame, text)?;
+            }
         }
     }
     Ok(())
 }
 
+/// The octets of a frame.
+fn frame_of(alloc: Global, sending: &Sending) -> Result<Vec<u8>, Fail> {
+    let mut octets = Vec::from_slice(alloc, sending.head.as_bytes())?;
+    if let Some(body) = &sending.body {
+        octets.extend_from_slice(body.bytes())?;
+    }
+    Ok(octets)
+}
+
 /// A host and a router hear each other, answer what is new, and know then where to send; what isn't for them and what they
-/// don't hear they note.
+/// don't hear they note. The hello with which a answers at last has the holding time of the period that r wishes for.
 #[test]
 fn systems_hear_each_other(rt: HostRuntime) -> Result<(), Fail> {
     let alloc = rt.alloc();
-    let scenario = systems(&rt, alloc);
+    let scenario = systems(&rt, alloc, SYSTEMS);
     scenario.is_fit();
     let to = Address::from_bytes(b"\x47\x00\x27\x01").expect(&rt, "an address");
     let a = Address::from_bytes(b"\x47\x00\x27\x02").expect(&rt, "an address");
@@ -105,34 +135,27 @@ fn systems_hear_each_other(rt: HostRuntime) -> Result<(), Fail> {
     let mut host = System::new(alloc, host, scenario.limits(), 0, 0)?;
     let mut router = System::new(alloc, router, scenario.limits(), 0, 0)?;
     let mut text = Vec::new(alloc);
-    give(
-        &rt,
-        alloc,
-        &mut router,
-        b"\x01",
-        &[ESH, ISH, FOR_ANOTHER],
-        &mut text,
-    )?;
-    give(
-        &rt,
-        alloc,
-        &mut host,
-        b"\x0a",
-        &[ISH, RD, b"\x82\x0e", b"\x80", FOR_A],
-        &mut text,
-    )?;
-    let mut expected = Vec::new(alloc);
-    expected.extend_from_slice(b"1 r hear es 47002702 new\n")?;
-    expected.extend_from_slice(ISH)?;
-    expected.extend_from_slice(b"1 r ignored ish\n1 r drop 81 00\n")?;
-    expected.extend_from_slice(b"1 r sent er 1 - 470027ff 47002702 19\n")?;
-    expected.extend_from_slice(REPORT)?;
-    expected.extend_from_slice(b"1 a hear is 470027ff new\n")?;
-    expected.extend_from_slice(ESH)?;
-    expected.extend_from_slice(b"1 a ignored rd\n1 a badesis E1 00\n1 a alien\n")?;
-    expected.extend_from_slice(b"1 a stray 47002701 47002702\n")?;
-    // The period is 30 seconds by now, so the holding time is a minute.
-    expected.extend_from_slice(b"\x82\x0f\x01\x00\x02\x00\x3c\xaa\x0f\x01\x04\x47\x00\x27\x02")?;
+    for octets in [ESH, ISH, RD, FOR_ANOTHER] {
+        give(&rt, alloc, &mut router, b"\x01", octets, &mut text)?;
+    }
+    for octets in [RD, ISH, b"\x82\x0e", b"\x80", FOR_A] {
+        give(&rt, alloc, &mut host, b"\x0a", octets, &mut text)?;
+    }
+    let expected = b"0 r hear es 47002702 new
+0 r tx 0 0 01 821201000400785b3904470027ffc602001e
+0 r ignored ish
+0 r ignored rd
+0 r drop 81 00
+0 r sent er 1 - 470027ff 47002702 19
+0 r tx 0 0 01 8117014001002a5678044700270204470027ffc10281008113010a3c0015ce5804470027010447002702
+0 a ignored rd
+0 a hear is 470027ff new
+0 a tx 0 0 0a 820f0100020078324b010447002702
+0 a badesis E1 00
+0 a alien
+0 a stray 47002701 47002702
+0 a tx 0 0 0a 820f010002003caa0f010447002702
+";
     assert_eq!(rt; text.as_slice(), expected.as_slice());
     let way = Way {
         port: 0,
@@ -153,5 +176,51 @@ fn systems_hear_each_other(rt: HostRuntime) -> Result<(), Fail> {
         host.as_host()
             .is_some_and(|host| host.next_hop(&to) == Target::EndSystems)
     );
+    Ok(())
+}
+
+/// A router tells the source of a PDU that it sends back of the better way; the host sends by it to that one address,
+/// until its holding time ends.
+#[test]
+fn a_redirect_is_told_and_heard(rt: HostRuntime) -> Result<(), Fail> {
+    let alloc = rt.alloc();
+    let scenario = systems(&rt, alloc, SILENT);
+    scenario.is_fit();
+    let to = Address::from_bytes(b"\x47\x00\x27\x01").expect(&rt, "an address");
+    let other = Address::from_bytes(b"\x47\x00\x27\x04").expect(&rt, "an address");
+    let better = Snpa::from_bytes(b"\x02").expect(&rt, "an address");
+    let at_r = Snpa::from_bytes(b"\x0a").expect(&rt, "an address");
+    let [host, router] = scenario.systems() else {
+        panic!(rt; "two systems");
+    };
+    let mut host = System::new(alloc, host, scenario.limits(), 0, 0)?;
+    let mut router = System::new(alloc, router, scenario.limits(), 0, 0)?;
+    let mut text = Vec::new(alloc);
+    give(&rt, alloc, &mut router, b"\x01", ESH, &mut text)?;
+    give(&rt, alloc, &mut router, b"\x02", OTHER_ESH, &mut text)?;
+    give(&rt, alloc, &mut router, b"\x01", FOR_ANOTHER, &mut text)?;
+    give(&rt, alloc, &mut host, b"\x0a", SILENT_ISH, &mut text)?;
+    give(&rt, alloc, &mut host, b"\x0a", RD, &mut text)?;
+    assert!(rt;
+        host.as_host()
+            .is_some_and(|host| host.next_hop(&to) == Target::System(better))
+    );
+    assert!(rt;
+        host.as_host()
+            .is_some_and(|host| host.next_hop(&other) == Target::System(at_r))
+    );
+    let mut out = Vec::new(alloc);
+    host.tick(alloc, 240, &mut out)?;
+    show(alloc, 240, &host, &out, &mut text)?;
+    let expected = b"0 r hear es 47002702 new
+0 r hear es 47002701 new
+0 r tx 0 0 02 811301093c0015d354044700270104470027026869
+0 r tx 0 0 01 82110100060078adc80447002701010200
+0 a hear is 470027ff new
+0 a hear rd 47002701 new
+240 a gone is 470027ff
+240 a gone rd 47002701
+";
+    assert_eq!(rt; text.as_slice(), expected.as_slice());
     Ok(())
 }
