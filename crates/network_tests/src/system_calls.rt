@@ -58,6 +58,20 @@ const FOR_ANOTHER: &[u8] =
 const FOR_A: &[u8] =
     b"\x81\x13\x01\x40\x1f\x00\x15\x2f\xde\x04\x47\x00\x27\x02\x04\x47\x00\x27\x01hi";
 
+/// A host by itself.
+const HOST: &[u8] = b"clnp-sim 1
+subnet lan 1500
+system b host hello=0
+address b 47002701
+port b 0 lan 02
+events
+end
+";
+
+/// The header of an echo request for the host from 47002702, with data up to 65,535 octets in all.
+const LONG_REQUEST: &[u8] =
+    b"\x81\x13\x01\x0a\x3e\xff\xff\x00\x00\x04\x47\x00\x27\x01\x04\x47\x00\x27\x02";
+
 /// The scenario of a text.
 fn systems(rt: &impl Abort, alloc: Global, text: &[u8]) -> Scenario {
     let _lines = lines(text);
@@ -68,13 +82,14 @@ fn systems(rt: &impl Abort, alloc: Global, text: &[u8]) -> Scenario {
     scenario
 }
 
-/// A frame comes to a system at its port 0 from an address there, through a group; what it gives out is appended to a
-/// text.
+/// A frame comes to a system at its port 0 from an address there, through a group or to it alone; what it gives out is appended
+/// to a text.
 fn give(
     rt: &impl Abort,
     alloc: Global,
     system: &mut System,
     from: &[u8],
+    group: bool,
     octets: &[u8],
     text: &mut Vec<u8>,
 ) -> Result<(), Fail>
@@ -84,7 +99,7 @@ fn give(
     assert!(rt; octets.len() <= 70_000);
     let frame = Frame::copy(alloc, octets)?;
     let mut out = Vec::new(alloc);
-    system.frame(alloc, 0, from, true, &frame, &mut out)?;
+    system.frame(alloc, 0, from, group, &frame, &mut out)?;
     show(alloc, 0, system, &out, text)
 }
 
@@ -107,6 +122,13 @@ fn show(
         }
     }
     Ok(())
+}
+
+/// An echo request of so many octets as a PDU can have.
+fn long_request(alloc: Global) -> Result<Vec<u8>, Fail> {
+    let mut octets = Vec::from_slice(alloc, LONG_REQUEST)?;
+    octets.resize(65_535, 0)?;
+    Ok(octets)
 }
 
 /// The octets of a frame.
@@ -136,10 +158,10 @@ fn systems_hear_each_other(rt: HostRuntime) -> Result<(), Fail> {
     let mut router = System::new(alloc, router, scenario.limits(), 0, 0)?;
     let mut text = Vec::new(alloc);
     for octets in [ESH, ISH, RD, FOR_ANOTHER] {
-        give(&rt, alloc, &mut router, b"\x01", octets, &mut text)?;
+        give(&rt, alloc, &mut router, b"\x01", true, octets, &mut text)?;
     }
     for octets in [RD, ISH, b"\x82\x0e", b"\x80", FOR_A] {
-        give(&rt, alloc, &mut host, b"\x0a", octets, &mut text)?;
+        give(&rt, alloc, &mut host, b"\x0a", true, octets, &mut text)?;
     }
     let expected = b"0 r hear es 47002702 new
 0 r tx 0 0 01 821201000400785b3904470027ffc602001e
@@ -196,11 +218,19 @@ fn a_redirect_is_told_and_heard(rt: HostRuntime) -> Result<(), Fail> {
     let mut host = System::new(alloc, host, scenario.limits(), 0, 0)?;
     let mut router = System::new(alloc, router, scenario.limits(), 0, 0)?;
     let mut text = Vec::new(alloc);
-    give(&rt, alloc, &mut router, b"\x01", ESH, &mut text)?;
-    give(&rt, alloc, &mut router, b"\x02", OTHER_ESH, &mut text)?;
-    give(&rt, alloc, &mut router, b"\x01", FOR_ANOTHER, &mut text)?;
-    give(&rt, alloc, &mut host, b"\x0a", SILENT_ISH, &mut text)?;
-    give(&rt, alloc, &mut host, b"\x0a", RD, &mut text)?;
+    give(&rt, alloc, &mut router, b"\x01", true, ESH, &mut text)?;
+    give(&rt, alloc, &mut router, b"\x02", true, OTHER_ESH, &mut text)?;
+    give(
+        &rt,
+        alloc,
+        &mut router,
+        b"\x01",
+        true,
+        FOR_ANOTHER,
+        &mut text,
+    )?;
+    give(&rt, alloc, &mut host, b"\x0a", true, SILENT_ISH, &mut text)?;
+    give(&rt, alloc, &mut host, b"\x0a", true, RD, &mut text)?;
     assert!(rt;
         host.as_host()
             .is_some_and(|host| host.next_hop(&to) == Target::System(better))
@@ -221,6 +251,24 @@ fn a_redirect_is_told_and_heard(rt: HostRuntime) -> Result<(), Fail> {
 240 a gone is 470027ff
 240 a gone rd 47002701
 ";
+    assert_eq!(rt; text.as_slice(), expected.as_slice());
+    Ok(())
+}
+
+/// An echo request whose reply would be too long comes to a host alone: that is all that is noted, and nothing is sent.
+#[test]
+fn a_long_request_is_not_answered(rt: HostRuntime) -> Result<(), Fail> {
+    let alloc = rt.alloc();
+    let scenario = systems(&rt, alloc, HOST);
+    scenario.is_fit();
+    let [host] = scenario.systems() else {
+        panic!(rt; "one system");
+    };
+    let mut host = System::new(alloc, host, scenario.limits(), 0, 0)?;
+    let octets = long_request(alloc)?;
+    let mut text = Vec::new(alloc);
+    give(&rt, alloc, &mut host, b"\x01", false, &octets, &mut text)?;
+    let expected = b"0 b refused too-long 65516\n";
     assert_eq!(rt; text.as_slice(), expected.as_slice());
     Ok(())
 }
