@@ -13,6 +13,7 @@ ghost use Rattle.segmenter.specs.Left.{IsCutOf};
 ghost use Rattle.system_entity.specs.Comes.{HasValue};
 ghost use Rattle.router.specs.Onward.{ComesTo, life_left};
 
+use clnp_machine::laws;
 use clnp_options::Reason;
 use clnp_plan::PortConfig;
 use pdu_header::Header;
@@ -48,6 +49,7 @@ pub(crate) fn by_port(
     let Some(life) = life_left(passing.life, port) else {
         return Err(Reason::LifetimeExpiredInTransit);
     };
+    laws::what_goes_on_has_its_value();
     let towards_title = head.route_target().is_some();
     let mut head = head;
     head.set_life(life);

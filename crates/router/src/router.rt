@@ -24,7 +24,7 @@ ghost use Rattle.router.specs.Onward.{ComesTo};
 ghost use Rattle.router.specs.Stands.{IsLeftBy, Stands};
 
 use crate::onward::{Onward, by_port};
-use crate::passage::{behind, is_off_route};
+use crate::passage::{behind, is_barred, is_off_route};
 use crate::redirecting::{is_at, may_be_redirected};
 use clnp_base::NoMemory;
 use clnp_machine::laws;
@@ -266,7 +266,7 @@ impl Router {
         let Some(way) = self.entity.way(&to) else {
             return Err(unknown);
         };
-        if head.is_route_complete() && !way.ends_at(&to) {
+        if is_barred(&head, &way, &to) {
             return Err(Reason::PathNotAcceptable);
         }
         let config = self.entity.config();
@@ -316,13 +316,7 @@ impl Router {
     /// Whether the source of a PDU that goes on is told of the way: redirects hold for a time, the PDU begins its unit, it goes
     /// on by the port by which it came, not towards a title of a source route, and its source is known to be at the place from
     /// which it came.
-    fn is_redirected(
-        &self,
-        came: &Place,
-        passing: &Passing,
-        towards_title: bool,
-        way: &Way,
-    ) -> bool
+    fn is_redirected(&self, came: &Place, passing: &Passing, towards_title: bool, way: &Way) -> bool
         ensures { (s : SystemState) (p : Packet) (options : List Parameter) → Stands self.now s → HasValue passing.now (value_of p)
             → towards_title ≡ is_some (target_of options)
             → result ≡ is_redirected s came.now p options (machine_way way.now) }

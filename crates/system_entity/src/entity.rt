@@ -396,9 +396,9 @@ impl SystemEntity {
         ensures moment { self.new.moment ≡ self.old.moment }
         ensures config { self.new.local.configuration ≡ self.old.local.configuration }
     {
+        self.congested = false;
         self.local.restart(self.moment);
         self.esis.restart(self.local.config(), self.moment);
-        self.congested = false;
     }
 
     /// It is congested from now on, or no more.
