@@ -125,8 +125,9 @@ class System:
         self.starts(0, 0)
 
     def starts(self, moment, quiet):
-        """At its start, and again at a restart: nothing is kept, nothing was heard, and its hello is due."""
+        """At its start, and again at a restart: nothing is kept, nothing was heard, no congestion, and its hello is due."""
         self.uses, self.buffers, self.pending, self.quiet = [], [], [], quiet
+        self.congested = False
         self.heard = {"es": {}, "is": {}, "rd": {}}
         self.period, self.due = self.settings[b"hello"], moment
 
