@@ -1,5 +1,6 @@
 -- The options of a PDU while a router passes its own title in a source route.
-use Rattle.std.proofs.Common.{◌≡◌, ◌∙◌, refl, sym, ap, subst, ℕ, zero, suc, Bool, true, false, List, [], ◌∷◌, length, if◌then◌else◌}
+use Rattle.std.proofs.Common.{◌≡◌, ◌∙◌, refl, sym, ap, subst, ℕ, zero, suc, Bool, true, false, List, [], ◌∷◌, length, if◌then◌else◌, Option, Some}
+use Rattle.std.specs.Str.{bytes_eq}
 use Rattle.clnp_options.specs.Edits.{advanced, edited, recorded, target_of}
 use Rattle.clnp_options.specs.Parameter.{Parameter, recording, source_route}
 use Rattle.pdu_header.specs.Headers.{SpellsHeader, with_options}
@@ -14,6 +15,12 @@ pub record IsPassing (most left : ℕ) (s : SystemState) (v : PduValue) (head : 
   pub options : List Parameter
   pub spells : SpellsHeader (with_options options v) head
   pub rest : passing_own left s options ≡ passing_own most s v.options
+
+-- a title that the code finds at the pointer is that of the options
+pub named_where_it_stands : (s : SystemState) (options : List Parameter) (title there : List ℕ) (found : Option (List ℕ)) (same : Bool)
+    → title_of s ≡ title → found ≡ Some there → found ≡ target_of options → same ≡ bytes_eq there title → same ≡ is_named s (target_of options)
+named_where_it_stands s options title there found same named is at told =
+    told ∙ ap (λ (own : List ℕ). bytes_eq there own) (sym named) ∙ ap (is_named s) (sym is ∙ at)
 
 -- one passing
 passes_one : (s : SystemState) (left : ℕ) (options : List Parameter) → is_named s (target_of options) ≡ true

@@ -51,6 +51,11 @@ on_route s came p following test on is =
     ap (λ (b : Bool). if b then discards s p following (reason_code PathNotAcceptable)
     else goes_on_with s came p following (options_behind s p.options)) (sym on ∙ is)
 
+-- it is sent towards the title, or towards its destination
+pub whither_is : (p : Packet) (options : List Parameter) (passing : Passing) → HasValue passing (value_of p)
+    → towards passing.to (target_of options) ≡ towards p.unit.destination (target_of options)
+whither_is p options passing has = ap (λ (to : List ℕ). towards to (target_of options)) (sym has.destination)
+
 module _ (s : SystemState) (came : Place) (p : Packet) (following : List ℕ) (options : List Parameter) (to : List ℕ)
     (towards_it : to ≡ towards p.unit.destination (target_of options)) where
   abbrev whither : List ℕ

@@ -1,13 +1,16 @@
 //! What a router changes in the options of a PDU that goes on: it passes its own title in a source route, puts it in a recording of
 //! route, and notes that it is congested (ISO/IEC 8473, sections 6.14, 6.15 and 6.18).
 ghost use Rattle.std.specs.Prelude.{◌≡◌, ◌&&◌, IsSome, not, true};
-ghost use Rattle.clnp_options.specs.Edits.{is_complete, target_of};
+ghost use Rattle.clnp_options.specs.Edits.{edited, is_complete, recorded, target_of};
+ghost use Rattle.clnp_options.specs.Parameter.{recording};
+ghost use Rattle.clnp_options.specs.Reasons.{reason_code};
 ghost use Rattle.clnp_machine.specs.Esis.{title_of};
-ghost use Rattle.clnp_machine.specs.Step.{ends_at, is_named, most_titles, options_behind, passing_own};
+ghost use Rattle.clnp_machine.specs.Step.{ends_at, is_named, most_titles, no_way_to, noting_congestion, options_behind, passing_own, towards};
 ghost use Rattle.clnp_machine.specs.System.{SystemState};
 ghost use Rattle.pdu_header.specs.Headers.{IsHeader, SpellsHeader, with_options};
 ghost use Rattle.pdu_header.specs.Value.{PduValue};
 
+use clnp_options::Reason;
 use nsap::Address;
 use pdu_header::Header;
 use system_entity::Way;
@@ -31,6 +34,26 @@ pub(crate) fn is_barred(head: &Header, way: &Way, to: &Address) -> bool
     head.is_route_complete() && !way.ends_at(to)
 }
 
+/// What a PDU is sent towards: the title to which its header's source route leads next, else its destination.
+pub(crate) fn towards(head: &Header, destination: &Address) -> Address
+    ensures { (v : PduValue) → SpellsHeader v head.now → result ≡ towards destination.now (target_of v.options) }
+{
+    match head.route_target() {
+        Some(title) => title,
+        None => *destination,
+    }
+}
+
+/// Why a PDU with a header is discarded where no way leads there.
+pub(crate) fn no_way(head: &Header) -> Reason
+    ensures { (v : PduValue) → SpellsHeader v head.now → reason_code result ≡ no_way_to (target_of v.options) }
+{
+    match head.route_target() {
+        Some(_) => Reason::UnknownAddressInRoute,
+        None => Reason::DestinationUnknown,
+    }
+}
+
 /// The header of a PDU behind the router of a title, which may be congested.
 pub(crate) fn behind(head: &Header, title: &Address, congested: bool) -> Header
     requires { IsHeader head.now }
@@ -39,10 +62,7 @@ pub(crate) fn behind(head: &Header, title: &Address, congested: bool) -> Header
 {
     let mut head = *head;
     pass_own(&mut head, title);
-    head.record_title(title);
-    if congested {
-        head.mark_congestion();
-    }
+    tell(&mut head, title, congested);
     head
 }
 
@@ -60,7 +80,19 @@ fn pass_own(head: &mut Header, title: &Address)
     }
 }
 
+/// Puts a router's title in a header's recording of route, and says there that it is congested, where it is.
+fn tell(head: &mut Header, title: &Address, congested: bool)
+    ensures { (v : PduValue) → SpellsHeader v head.old
+        → SpellsHeader (with_options (noting_congestion congested (edited recording (recorded title.now) v.options)) v) head.new }
+{
+    head.record_title(title);
+    if congested {
+        head.mark_congestion();
+    }
+}
+
 /// Whether a title stands at the pointer of a header's source route.
+#[tactic(auto, using(crate::proofs::Behind::named_where_it_stands))]
 fn is_named(head: &Header, title: &Address) -> bool
     ensures named { (s : SystemState) (v : PduValue) → title_of s ≡ title.now → SpellsHeader v head.now
         → result ≡ is_named s (target_of v.options) }

@@ -8,10 +8,9 @@ ghost use Rattle.clnp_machine.specs.Content.{Content, IsCarried, Labelled, frame
 ghost use Rattle.clnp_machine.specs.Given.{Appends, AppendsFor};
 ghost use Rattle.clnp_machine.specs.Local.{refusal, request_unit};
 ghost use Rattle.clnp_machine.specs.Esis.{title_of};
-ghost use Rattle.clnp_machine.specs.Step.{goes_on, goes_on_with, is_redirected, no_way_to, options_behind, redirects, step, towards, way_of};
+ghost use Rattle.clnp_machine.specs.Step.{goes_on, goes_on_with, is_redirected, options_behind, redirects, step, way_of};
 ghost use Rattle.clnp_options.specs.Edits.{target_of};
 ghost use Rattle.clnp_options.specs.Parameter.{Parameter};
-ghost use Rattle.clnp_options.specs.Reasons.{reason_code};
 ghost use Rattle.pdu_header.specs.Headers.{SpellsHeader, with_options};
 ghost use Rattle.clnp_machine.specs.System.{SystemState, AsksForEcho, FrameComes, IsRestarted, IsCongested, MomentComes, first_state, next_number};
 ghost use Rattle.clnp_machine.specs.Unit.{IsCarriable, Packet, value_of, wire};
@@ -24,7 +23,7 @@ ghost use Rattle.router.specs.Onward.{ComesTo};
 ghost use Rattle.router.specs.Stands.{IsLeftBy, Stands};
 
 use crate::onward::{Onward, by_port};
-use crate::passage::{behind, is_barred, is_off_route};
+use crate::passage::{behind, is_barred, is_off_route, no_way, towards};
 use crate::redirecting::{is_at, may_be_redirected};
 use clnp_base::NoMemory;
 use clnp_machine::laws;
@@ -238,33 +237,22 @@ impl Router {
             return Err(Reason::PathNotAcceptable);
         }
         let head = behind(&passing.head, title, self.entity.is_congested());
-        let Some(to) = head.route_target() else {
-            return self.onward_to(passing, head, passing.to, Reason::DestinationUnknown);
-        };
-        self.onward_to(passing, head, to, Reason::UnknownAddressInRoute)
+        self.onward_with(passing, head)
     }
 
-    /// How a PDU goes on towards an address with a header that was changed, or for which reason it is discarded; where no way leads
-    /// there the reason is given.
-    fn onward_to(
-        &self,
-        passing: &Passing,
-        head: Header,
-        to: Address,
-        unknown: Reason,
-    ) -> Result<Onward, Reason>
+    /// How a PDU goes on with a header that was changed, or for which reason it is discarded.
+    fn onward_with(&self, passing: &Passing, head: Header) -> Result<Onward, Reason>
         requires pdu { (v : PduValue) × HasValue passing.now v }
         requires head { (v : PduValue) × SpellsHeader v head × (length v.body ≡ passing.now.len) }
         ensures goes { (s : SystemState) (came : Place) (p : Packet) (following : List ℕ) → Stands self.now s → IsCarriable p
             → HasValue passing.now (value_of p)
             → SpellsHeader (with_options (options_behind s p.options) (value_of p)) head
-            → to ≡ towards p.unit.destination (target_of (options_behind s p.options))
-            → reason_code unknown ≡ no_way_to (target_of (options_behind s p.options))
             → ComesTo result s came p following (goes_on_with s came p following (options_behind s p.options)) }
         ensures each { IfOk result (λ onward. AllByRecursion (IsCutOf passing.now.len) onward.cuts) }
     {
+        let to = towards(&head, &passing.to);
         let Some(way) = self.entity.way(&to) else {
-            return Err(unknown);
+            return Err(no_way(&head));
         };
         if is_barred(&head, &way, &to) {
             return Err(Reason::PathNotAcceptable);

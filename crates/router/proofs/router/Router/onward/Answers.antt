@@ -1,7 +1,5 @@
 -- It leaves its route, or goes on with the options behind the router.
-use Rattle.std.proofs.Common.{◌∙◌, sym, ap, subst, ℕ, List, Option}
-use Rattle.pdu_header.specs.Headers.{with_options}
-use Rattle.clnp_machine.specs.Step.{no_way_to, options_behind, towards}
+use Rattle.std.proofs.Common.{sym, subst}
 use Rattle.clnp_machine.specs.System.{Effect}
 use Rattle.clnp_machine.specs.Unit.{value_of}
 use Rattle.system_entity.specs.Stands as entity
@@ -16,36 +14,16 @@ returns-then-is_off_route-clause-goes c = λ s came p following h carriable has.
     off_route s came p following c.is_off_route.result c.if-is_off_route.true
     (c.is_off_route.ensures s (value_of p) (sym (c.title-title.ensures s h)) has.header)
 
-pub onward_to-requires-clause-head : goal.onward_to-requires-clause-head
-onward_to-requires-clause-head c =
+pub onward_with-requires-clause-head : goal.onward_with-requires-clause-head
+onward_with-requires-clause-head c =
     is_header c.self.inside.entity.local.configuration c.title-title.result.now c.is_congested.result c.args.passing.now.head c.behind-head.result
     c.args.passing.now.len c.requires.0 c.requires.1.header c.requires.1.len c.behind-head.ensures
-
-pub onward_to-requires-2-clause-head : goal.onward_to-requires-2-clause-head
-onward_to-requires-2-clause-head c =
-    is_header c.self.inside.entity.local.configuration c.title-title.result.now c.is_congested.result c.args.passing.now.head c.behind-head.result
-    c.args.passing.now.len c.requires.0 c.requires.1.header c.requires.1.len c.behind-head.ensures
-
-pub returns-in_default-clause-goes : goal.returns-in_default-clause-goes
-returns-in_default-clause-goes c = λ s came p following h carriable has.
-    let stands = subst (λ (router : RouterState). entity.Stands router.entity s) (sym c.self.view_is) h in
-    let title = sym (c.title-title.ensures s h) in
-    let behind = options_behind s p.options in
-    let edited = c.behind-head.ensures s (value_of p) title (sym (c.is_congested.ensures s s.moment stands.parts)) has.header in
-    let target = sym c.in_default.is ∙ c.route_target.ensures (with_options behind (value_of p)) edited in
-    subst (λ (effect : Effect). ComesTo c.onward_to.result s came p following effect)
-    (on_route s came p following c.is_off_route.result c.if-is_off_route.false (c.is_off_route.ensures s (value_of p) title has.header))
-    (c.onward_to.ensures.goes s came p following h carriable has edited
-    (sym has.destination ∙ ap (λ (t : Option (List ℕ)). towards p.unit.destination t) target) (ap no_way_to target))
 
 pub returns-clause-goes : goal.returns-clause-goes
 returns-clause-goes c = λ s came p following h carriable has.
     let stands = subst (λ (router : RouterState). entity.Stands router.entity s) (sym c.self.view_is) h in
     let title = sym (c.title-title.ensures s h) in
-    let behind = options_behind s p.options in
-    let edited = c.behind-head.ensures s (value_of p) title (sym (c.is_congested.ensures s s.moment stands.parts)) has.header in
-    let target = sym c.in-Some.is ∙ c.route_target.ensures (with_options behind (value_of p)) edited in
-    subst (λ (effect : Effect). ComesTo c.onward_to-2.result s came p following effect)
+    subst (λ (effect : Effect). ComesTo c.onward_with.result s came p following effect)
     (on_route s came p following c.is_off_route.result c.if-is_off_route.false (c.is_off_route.ensures s (value_of p) title has.header))
-    (c.onward_to-2.ensures.goes s came p following h carriable has edited
-    (ap (λ (t : Option (List ℕ)). towards p.unit.destination t) target) (ap no_way_to target))
+    (c.onward_with.ensures.goes s came p following h carriable has
+    (c.behind-head.ensures s (value_of p) title (sym (c.is_congested.ensures s s.moment stands.parts)) has.header))
