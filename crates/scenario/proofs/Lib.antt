@@ -12,3 +12,4 @@ pub mod Asks
 pub mod Forms
 pub mod Addresses
 pub mod Accepted
+pub mod Seeded

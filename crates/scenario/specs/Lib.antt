@@ -5,3 +5,4 @@ pub mod Refusal
 pub mod Declarations
 pub mod Events
 pub mod Words
+pub mod Seeds
