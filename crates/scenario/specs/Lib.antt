@@ -6,3 +6,5 @@ pub mod Declarations
 pub mod Events
 pub mod Words
 pub mod Seeds
+pub mod Canonical
+pub mod Lines

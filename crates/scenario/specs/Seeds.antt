@@ -53,9 +53,9 @@ two_networks events = record {
       host (codes "a") (address_in 1 1) (on_first 1)
       ∷ host (codes "b") (address_in 1 2) (on_first 2)
       ∷ router (codes "r1") (address_in 1 0xff) (on_first 10 ∷ on_middle 11 ∷ [])
-          (record { prefix = digits_of (area 2); port = 1; snpa = 12 ∷ []; title = address_in 2 0xff })
+      (record { prefix = digits_of (area 2); port = 1; snpa = 12 ∷ []; title = address_in 2 0xff })
       ∷ router (codes "r2") (address_in 2 0xff) (on_middle 12 ∷ on_second 13 ∷ [])
-          (record { prefix = digits_of (area 1); port = 0; snpa = 11 ∷ []; title = address_in 1 0xff })
+      (record { prefix = digits_of (area 1); port = 0; snpa = 11 ∷ []; title = address_in 1 0xff })
       ∷ host (codes "c") (address_in 2 1) (on_second 3)
       ∷ host (codes "d") (address_in 2 2) (on_second 4)
       ∷ [];
