@@ -13,3 +13,4 @@ pub mod Forms
 pub mod Addresses
 pub mod Accepted
 pub mod Seeded
+mod Worked
