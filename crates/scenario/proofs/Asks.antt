@@ -24,7 +24,7 @@ SpellsWhatItAccepts = (is_report : Bool) (part : List ℕ) → Accepts is_report
 abbrev pub AreFair : List ℕ → Type 0
 AreFair octets = FitsKind false (parameters octets)
 
-none_fair : AreFair []
+pub none_fair : AreFair []
 unfolding parameters_after
 none_fair = (λ t. absurd (true≢false (sym t)), λ a. absurd (omega (arith, a.2)))
 

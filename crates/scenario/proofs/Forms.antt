@@ -46,7 +46,7 @@ address_formed laws word = is_read (nsap.octets_of word) (laws.addresses word)
 
 -- Data.
 
-abbrev HasOctets : Body → Type 0
+abbrev pub HasOctets : Body → Type 0
 HasOctets body = IsBytes (octets_of body)
 
 mapped_octets : (f : ℕ → ℕ) → ((q : ℕ) → f q < 256) → (places : List ℕ) → IsBytes (map f places)
@@ -54,7 +54,7 @@ mapped_octets f below [] i = omega arith
 mapped_octets f below (q ∷ places) zero = below q
 mapped_octets f below (q ∷ places) (suc i) = mapped_octets f below places i
 
-pattern_octets : (len start : ℕ) → HasOctets (Pattern len start)
+pub pattern_octets : (len start : ℕ) → HasOctets (Pattern len start)
 pattern_octets len start = mapped_octets (λ q. (q + q / 256 + start) % 256) (λ q. omega arith) (range_with_len 0 len)
 
 pattern_read : (word : List ℕ) → IfOk (pattern_word word) HasOctets
@@ -80,10 +80,10 @@ data_octets word =
 -- Options and lifetimes.
 
 -- octets that spell options in their form
-abbrev AreInForm : List ℕ → Type 0
+abbrev pub AreInForm : List ℕ → Type 0
 AreInForm octets = AreFormed (parameters octets)
 
-none_formed : AreInForm []
+pub none_formed : AreInForm []
 unfolding parameters_after
 none_formed =
     record { formed = λ i d within. absurd (omega (arith, within)); distinct = λ i j d before within. absurd (omega (arith, within)) }

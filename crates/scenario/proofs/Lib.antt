@@ -12,3 +12,5 @@ pub mod Asks
 pub mod Forms
 pub mod Addresses
 pub mod Accepted
+pub mod Seeded
+mod Worked
