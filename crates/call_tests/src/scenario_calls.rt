@@ -174,8 +174,12 @@ fn makes_the_scenario_of_a_seed(rt: HostRuntime) -> Result<(), Fail> {
     let scenario = from_seed(rt.alloc(), 0)?;
     assert_eq!(rt; scenario.systems().len(), 6);
     assert_eq!(rt; scenario.events().len(), 582);
-    let [Event::Tick { count: 1 }, Event::Settle { count: 40 }, Event::Lose { count: 5 }, ..] =
-        scenario.events()
+    let [
+        Event::Tick { count: 1 },
+        Event::Settle { count: 40 },
+        Event::Lose { count: 5 },
+        ..
+    ] = scenario.events()
     else {
         assert!(rt; false);
         return Ok(());

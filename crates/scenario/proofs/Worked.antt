@@ -49,18 +49,18 @@ read_again = refl
 -- an event of each kind, and a `send` with all its words
 of_each_kind : Plan
 of_each_kind = two_networks (
-  Send 0 (0x47 ∷ 0 ∷ []) (0x48 ∷ []) (Hex (0x68 ∷ 0xff ∷ [])) (record { life = 9; report = false; segment = false; options = 0xc5 ∷ 1 ∷ 0xc0 ∷ [] })
-  ∷ Send 1 (0x47 ∷ []) (0x48 ∷ []) (Hex []) (record { life = 32; report = true; segment = true; options = [] })
-  ∷ Echo 2 (0x47 ∷ []) (0x48 ∷ []) (Pattern 70000 255)
-  ∷ Deliver 1000000000 5
-  ∷ Settle 2
-  ∷ Lose 3
-  ∷ Tick 65535
-  ∷ Restart 3
-  ∷ Congest 2 true
-  ∷ Congest 3 false
-  ∷ []
-)
+    Send 0 (0x47 ∷ 0 ∷ []) (0x48 ∷ []) (Hex (0x68 ∷ 0xff ∷ [])) (record { life = 9; report = false; segment = false; options = 0xc5 ∷ 1 ∷ 0xc0 ∷ [] })
+    ∷ Send 1 (0x47 ∷ []) (0x48 ∷ []) (Hex []) (record { life = 32; report = true; segment = true; options = [] })
+    ∷ Echo 2 (0x47 ∷ []) (0x48 ∷ []) (Pattern 70000 255)
+    ∷ Deliver 1000000000 5
+    ∷ Settle 2
+    ∷ Lose 3
+    ∷ Tick 65535
+    ∷ Restart 3
+    ∷ Congest 2 true
+    ∷ Congest 3 false
+    ∷ []
+    )
 
 of_each_kind_text : List ℕ
 of_each_kind_text = codes "clnp-sim 1\nlimits 40 20 60\nsubnet lan1 1500\nsubnet mid 512\nsubnet lan2 1024\nsystem a host hello=60 suggest=0 rhold=120 slots=16 segments=1024 budget=262144 neighbours=64 routers=8 redirects=64 life=32 checksum=on\nsystem b host hello=60 suggest=0 rhold=120 slots=16 segments=1024 budget=262144 neighbours=64 routers=8 redirects=64 life=32 checksum=on\nsystem r1 router hello=60 suggest=0 rhold=120 slots=16 segments=1024 budget=262144 neighbours=64 routers=8 redirects=64 life=32 checksum=on\nsystem r2 router hello=60 suggest=0 rhold=120 slots=16 segments=1024 budget=262144 neighbours=64 routers=8 redirects=64 life=32 checksum=on\nsystem c host hello=60 suggest=0 rhold=120 slots=16 segments=1024 budget=262144 neighbours=64 routers=8 redirects=64 life=32 checksum=on\nsystem d host hello=60 suggest=0 rhold=120 slots=16 segments=1024 budget=262144 neighbours=64 routers=8 redirects=64 life=32 checksum=on\naddress a 4700270101\nport a 0 lan1 01 1\naddress b 4700270102\nport b 0 lan1 02 1\naddress r1 47002701ff\nport r1 0 lan1 0a 1\nport r1 1 mid 0b 1\nroute r1 47002702 1 0c 47002702ff\naddress r2 47002702ff\nport r2 0 mid 0c 1\nport r2 1 lan2 0d 1\nroute r2 47002701 0 0b 47002701ff\naddress c 4700270201\nport c 0 lan2 03 1\naddress d 4700270202\nport d 0 lan2 04 1\nevents\nsend a 4700 48 hex:68ff life=9 noreport whole opt=c501c0\nsend b 47 48 hex: life=32\necho r1 47 48 pat:70000:255\ndeliver 1000000000 d\nsettle 2\nlose 3\ntick 65535\nrestart r2\ncongest r1 on\ncongest r2 off\nend\n"
