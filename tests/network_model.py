@@ -85,6 +85,38 @@ def hello(system):
     return sealed(header) if system.sealed else header
 
 
+def options_of(octets):
+    """The options that these octets spell: codes and values."""
+    options = []
+    while octets:
+        end = 2 + octets[1]
+        options.append((octets[0], octets[2:end]))
+        octets = octets[end:]
+    return options
+
+
+def source_route(options):
+    """Whether a source route is complete, and the titles to which it still leads."""
+    for value in [value for code, value in options if code == 0xC8]:
+        titles, at = [], value[1] - 1
+        while at < len(value):
+            titles.append(value[at + 1:at + 1 + value[at]])
+            at += 1 + value[at]
+        return value[0] == 1, titles
+    return False, []
+
+
+def recorded(value, title):
+    """A recording of route with one title more, or ended where there is no room for it."""
+    pointer = value[1]
+    last = pointer + len(title)
+    if pointer == 255:
+        return value
+    if last > len(value):
+        return value[:1] + b"\xff" + value[2:]
+    return value[:1] + bytes([last + 1]) + value[2:pointer - 1] + bytes([len(title)]) + title + value[last:]
+
+
 def redirect(router, holding, to, via, title):
     """A router's redirect: where the next hop towards an address is, and its title unless it is that address itself."""
     part = b"".join(bytes([len(octets)]) + octets for octets in (to, via, title))
@@ -197,18 +229,51 @@ class Network:
     # units
 
     def forwards(self, router, copy, came):
-        """A PDU for another address goes on, as what was cut of its unit and with what is left of its lifetime."""
-        way = router.way(copy["unit"]["to"], self.clock)
+        """A PDU for another address goes on, as what was cut of its unit and with what is left of its lifetime. Its source
+        route leads it, its recording tells of the router, and its quality of service of congestion there."""
+        unit, own = copy["unit"], router.addresses[0]
+        options = options_of(unit["options"])
+        is_complete, titles = source_route(options)
+        if is_complete and titles[:1] != [own]:
+            self.met["complete-route-elsewhere" if titles else "complete-route-exhausted"] += 1
+            return self.discards(router, copy, "93")
+        passed = 0
+        while titles[:1] == [own]:
+            passed, titles = passed + 1, titles[1:]
+        target = titles[0] if titles else unit["to"]
+        way = router.way(target, self.clock)
         if way is None:
-            return self.discards(router, copy, "81")
+            return self.discards(router, copy, "92" if titles else "81")
         hop, title = way
+        if is_complete and title not in (b"", target):
+            self.met["complete-route-by-another-system"] += 1
+            return self.discards(router, copy, "93")
         life = copy["life"] - router.transits[hop[0]]
         if life <= 0:
             return self.discards(router, copy, "a0")
-        if not self.goes_on(router, hop, copy["unit"], life, copy["birth"], copy["offset"], copy["octets"]):
+        options = b"".join(self.behind(router, code, value, passed * (1 + len(own))) for code, value in options)
+        if not self.goes_on(router, hop, dict(unit, options=options), life, copy["birth"], copy["offset"], copy["octets"]):
             return self.discards(router, copy, "05")
-        if hop[0] == came[0]:
+        self.met[f"{'complete' if is_complete else 'partial'}-route-passed"] += passed
+        self.met["led-to-a-neighbour" if title == b"" else "led-by-a-route"] += titles != []
+        if titles:
+            self.met["led-back"] += hop[0] == came[0]
+        elif hop[0] == came[0]:
             self.may_redirect(router, copy, came, hop[1], title)
+
+    def behind(self, router, code, value, passed):
+        """An option of a PDU behind a router, by so many octets of titles further in a source route."""
+        there = value
+        if code == 0xC8:
+            value = value[:1] + bytes([value[1] + passed]) + value[2:]
+        elif code == 0xCB:
+            value = recorded(value, router.addresses[0])
+            kind = ["partial", "complete"][value[0]]
+            self.met[f"{kind}-recording-{'ended' if value[1] == 255 else 'went-on'}"] += there != value
+        elif code == 0xC3 and router.congested and value[0] >> 6 == 3:
+            value = bytes([value[0] | 0x08]) + value[1:]
+            self.met["congestion-told"] += there != value
+        return bytes([code, len(value)]) + value
 
     def may_redirect(self, router, copy, came, via, title):
         """A PDU went on by the port by which it came. Its source is told of the next hop there, where the PDU begins its unit
@@ -400,6 +465,10 @@ class Network:
         system.starts(self.clock, self.clock + self.reuse)
         self.note(system, "restart")
 
+    def congest(self, router, is_congested):
+        router.congested = is_congested
+        self.note(router, f"congest {'on' if is_congested else 'off'}")
+
     def moves(self, event):
         if event[0] in ("settle", "lose"):
             return event[1] * [lambda: self.pass_on(event[0] == "settle")]
@@ -407,6 +476,8 @@ class Network:
             return event[1] * [self.tick]
         if event[0] == "deliver":
             return [lambda: self.deliver(event[1], self.text.systems[event[2]])]
+        if event[0] == "congest":
+            return [lambda: self.congest(self.text.systems[event[1]], event[2])]
         if event[0] == "restart":
             return [lambda: self.restart(self.text.systems[event[1]])]
         asked = self.send if event[0] == "send" else self.echo

@@ -72,29 +72,48 @@ def distances(there, home):
     return known
 
 
-def random_hop(router, host, there, snpas):
-    """A port and a subnetwork address there: mostly the nearest way to a host, else of anyone, the router too."""
+def nearer_systems(system, other, there):
+    """The port of a system that is nearest to another one, and who there is nearer to it."""
+    far = distances(there, there[other][0])
+    port, subnet = min(enumerate(there[system]), key=lambda at: far.get(at[1], 99))
+    return port, [other] if far.get(subnet) == 0 else [
+        name for name in there if name[0] == "r" and name != system and subnet in there[name]
+        and any(far.get(further, 99) < far.get(subnet, 99) for further in there[name])]
+
+
+def random_path(host, other, there):
+    """The routers on a near way from a host to another system."""
+    path, system = [], host
+    while len(path) < 6:
+        _, nearer = nearer_systems(system, other, there)
+        if not nearer or other in nearer:
+            break
+        system = random.choice(nearer)
+        path.append(system)
+    return path
+
+
+def random_hop(router, other, there, snpas):
+    """A port and who is there: mostly on the nearest way to another system, else anyone, the router too, or nobody."""
+    port, nearer = nearer_systems(router, other, there)
     if random.random() < 0.2:
         port = random.randrange(len(there[router]))
-        others = [snpas[name, there[router][port]] for name in there if there[router][port] in there[name]]
-        return port, random.choice(others + ["ee"])
-    far = distances(there, there[host][0])
-    port, subnet = min(enumerate(there[router]), key=lambda at: far.get(at[1], 99))
-    nearer = [host] if far.get(subnet) == 0 else [
-        name for name in there if name[0] == "r" and name != router and subnet in there[name]
-        and any(far.get(other, 99) < far.get(subnet, 99) for other in there[name])]
-    return port, snpas[random.choice(nearer or [router]), subnet]
+        nearer = [name for name in there if there[router][port] in there[name]] + [None]
+    name = random.choice(nearer or [router])
+    return port, name, "ee" if name is None else snpas[name, there[router][port]]
 
 
 def random_routes(router, there, snpas, known):
+    """Routes to hosts and other routers: the titles there are mostly those of the next systems."""
     lines, used = [], set()
-    for host in [name for name in there if name[0] == "h"]:
-        for digits in known[host] if random.random() < 0.8 else []:
-            port, snpa = random_hop(router, host, there, snpas)
+    for other in [name for name in there if name != router]:
+        for digits in known[other] if random.random() < 0.8 else []:
+            port, name, snpa = random_hop(router, other, there, snpas)
+            title = random.choice(known[name] if name and known[name] and random.random() < 0.7 else known[other])
             leading = digits[:random.choice([0, 1, 2, 4, 7, 40, 40, 40])]
             shown = random.choice([leading, leading.upper(), leading[:2] + "." + leading[2:]]) or "*"
             if leading not in used:
-                lines.append(f"route {router} {shown} {port} {snpa} {random.choice(known[host])}")
+                lines.append(f"route {router} {shown} {port} {snpa} {title}")
             used.add(leading)
     return lines
 
@@ -121,8 +140,9 @@ def random_scenario():
         age, hold = random.randint(1, 9), random.randint(1, 9)
         attached.append(f"limits {age} {hold} {age + hold + random.randint(0, 3)}")
     random.shuffle(attached)
-    for name, role in systems:
-        attached += random_routes(name, there, snpas, known) if role == "router" and random.random() < 0.9 else []
+    routers = [name for name, role in systems if role == "router"]
+    for name in routers:
+        attached += random_routes(name, there, snpas, known) if random.random() < 0.9 else []
     everyone = [octets for others in known.values() for octets in others] + ["ab", "4700"]
     names = [name for name, _ in systems] or ["x"]
     events = random.choice([[], ["tick 1", "settle 40"], ["tick 1", "settle 40"]])
@@ -130,6 +150,8 @@ def random_scenario():
         events += random_echoes(names, known, everyone) if random.random() < 0.12 else []
         if len(hosts) > 1 and len(hosts) < len(there) and random.random() < 0.2:
             events += random_crossing(hosts, known)
+        if hosts and routers and random.random() < 0.3:
+            events += random_led(hosts, routers, there, known, everyone)
         events.append(random_event(hosts or names, names, known, everyone))
         if random.random() < 0.5 and events[-1].startswith(("send", "tick")):
             events.append(f"settle {random.choice([4, 30, 60])}")
@@ -185,6 +207,70 @@ def random_crossing(hosts, known):
     return events + ["settle 60"]
 
 
+def option(code, value):
+    return f"{code:02x}{len(value) // 2:02x}{value}"
+
+
+def titles_of(systems, known):
+    return [f"{len(digits) // 2:02x}{digits}" for name in systems for digits in known[name][:1]]
+
+
+def random_source_route(path, routers, known, everyone):
+    """A source route, mostly by the routers on a way, with some left out, passed already, named twice or not there."""
+    kept = random.choice([0.5, 1, 1, 1])
+    named = [name for name in path if random.random() < kept]
+    for _ in range(random.choice([0, 0, 0, 0, 1, 2])):
+        named.insert(random.randint(0, len(named)), random.choice(routers + named))
+    titles = titles_of(named, known)
+    if random.random() < 0.15:
+        digits = random.choice(everyone + [random_address()])
+        titles.insert(random.randint(0, len(titles)), f"{len(digits) // 2:02x}{digits}")
+    passed = random.choice([0, 0, 0, 0, 0, len(titles), random.randint(0, len(titles))])
+    pointer = 3 + len("".join(titles[:passed])) // 2
+    if passed == len(titles) and random.random() < 0.3:
+        pointer = random.choice([pointer, pointer + 1, 254, 255])
+    return f"{random.choice(['00', '00', '01'])}{pointer:02x}{''.join(titles)}"
+
+
+def random_recording(routers, known):
+    """A recording of route with some titles in it, and room for some more."""
+    titles = "".join(titles_of([name for name in routers if random.random() < 0.2], known))
+    room = random.choice([0, 1, 4, 5, 6, 10, 11, 18, 40, 60])
+    pointer = 255 if random.random() < 0.1 else 3 + len(titles) // 2
+    octets = bytes(room) if random.random() < 0.6 else random.randbytes(room)
+    return f"{random.choice(['00', '00', '01'])}{pointer:02x}{titles}{octets.hex()}"
+
+
+def random_options(path, routers, known, everyone):
+    """Options of what goes through routers: a source route, a recording, a quality of service, beside each other and others."""
+    qualities = ["c0", "c8", "c000", "ff", "80", "8001", "40", "48ff"]
+    found = [(0xC8, random_source_route(path, routers, known, everyone))] if random.random() < 0.6 else []
+    found += [(0xCB, random_recording(routers, known))] if random.random() < 0.5 else []
+    found += [(0xC3, random.choice(qualities))] if random.random() < 0.5 else []
+    found += random.choice([[], [], [], [(0xC5, "c0")], [(0xCD, "05")], [(0xCC, "0000")], [(0xCC, ""), (0xCC, "ff")]])
+    random.shuffle(found)
+    return "".join(option(code, value) for code, value in found)
+
+
+def random_led(hosts, routers, there, known, everyone):
+    """Units with such options from one host to another, through routers that are congested at times."""
+    ends = [random.choices(hosts, k=2) for _ in range(5)]
+    host, other = max(ends, key=lambda pair: len(random_path(*pair, there)))
+    source, destination = (random.choice(known[name] or ["ab"]) for name in (host, other))
+    path, events = random_path(host, other, there), random.choice([[], ["tick 1", "settle 30"]])
+    for _ in range(random.choice([1, 2, 3])):
+        for router in routers if random.random() < 0.4 else []:
+            events += random.choice([[], [f"congest {router} on"], [f"congest {router} on"], [f"congest {router} off"]])
+        words = random.choice([[], ["whole"], ["whole"]]) + random.choice([[], [], ["noreport"]])
+        words += random.choice([[], [f"life={random.choice([1, 2, 3, 10, 255])}"]])
+        words += [f"opt={random_options(path, routers, known, everyone)}"]
+        random.shuffle(words)
+        octets = f"pat:{random.choice([0, 2, 2, 20, 450, 600, 1480])}:{random.randint(0, 255)}"
+        events.append(f"send {host} {source} {destination} {octets} {' '.join(words)}")
+        events += random.choice([[], [f"settle {random.choice([1, 4, 12])}"], ["settle 30"]])
+    return events + random.choice([["settle 40"], ["tick 1", "settle 40"], [f"restart {random.choice(routers)}"]])
+
+
 def random_event(hosts, names, known, everyone):
     kind = random.random()
     if kind < 0.25:
@@ -202,14 +288,18 @@ def random_event(hosts, names, known, everyone):
         return f"deliver {random.randint(1, random.choice([5, 15, 60]))} {random.choice(names)}"
     if kind < 0.65:
         return f"tick {random.choice([1, 1, 2, 3, 4, 8, 20]) if random.random() < 0.97 else random.randint(1, 300)}"
-    if kind < 0.69:
+    if kind < 0.67:
         return f"restart {random.choice(names)}"
+    routers = [name for name in names if name[0] == "r"]
+    if kind < 0.69 and routers:
+        return f"congest {random.choice(routers)} {random.choice(['on', 'on', 'off'])}"
     return f"settle {random.choice([1, 2, 4, 8, 30])}" if kind < 0.95 else f"lose {random.randint(1, 6)}"
 
 
 WORDS = """pat:3 pat:70001:0 pat:3:256 pat:x:1 opt= opt=c1020000 opt=cd opt=c5 slots=0 budget=511 tick suggest=1
 suggest=32768 suggest= hello=1 hello=601 hello= hello x 0 1 2 8 256 65536 511 70 end events host router r0 r1 life=0
-life=300 whole zz a.b 4 . * ** 4700* 47.0 route echo hex:1 hex -1 007 99999999999999999999999 checksum=maybe h0 s0 H0
+life=300 whole congest on off zz a.b 4 . * ** 4700* 47.0 route echo hex:1 hex -1 007 99999999999999999999999
+checksum=maybe h0 s0 H0
 abcdefghijklmnopq 012345678901234567890123456789012345678 01234567890123456789012345678901234567890""".split()
 MORE = "x whole life=3 noreport hello=0 hello=2 suggest=3 checksum=on opt=cd0101 slots=2 7".split()
 
@@ -253,7 +343,7 @@ def kinds_of(journal):
     """How often each kind of line stands in a journal, with a hearing's table and answer, a drop's reason, and the like."""
     lines = [line.split(" ") for line in journal.splitlines()]
     words = [line[2:] for line in lines if line[0] != "end"]
-    told = {"hear": [1, 3], "gone": [1], "ignored": [1], "drop": [1], "sent": [1], "refused": [1]}
+    told = {"hear": [1, 3], "gone": [1], "ignored": [1], "drop": [1], "sent": [1], "refused": [1], "congest": [1]}
     return collections.Counter("-".join([line[0]] + [line[at] for at in told.get(line[0], [])]) for line in words)
 
 

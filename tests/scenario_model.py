@@ -125,8 +125,9 @@ class System:
         self.starts(0, 0)
 
     def starts(self, moment, quiet):
-        """At its start, and again at a restart: nothing is kept, nothing was heard, and its hello is due."""
+        """At its start, and again at a restart: nothing is kept, nothing was heard, no congestion, and its hello is due."""
         self.uses, self.buffers, self.pending, self.quiet = [], [], [], quiet
+        self.congested = False
         self.heard = {"es": {}, "is": {}, "rd": {}}
         self.period, self.due = self.settings[b"hello"], moment
 
@@ -275,6 +276,12 @@ class Text:
         elif keyword == b"restart":
             want(len(words) == 1, SYNTAX)
             event = ("restart", place(self.system_names(), words[0]))
+        elif keyword == b"congest":
+            want(len(words) == 2, SYNTAX)
+            router = place(self.system_names(), words[0])
+            want(self.systems[router].role == b"router", UNKNOWN_NAME)
+            want(words[1] in (b"on", b"off"), SYNTAX)
+            event = ("congest", router, words[1] == b"on")
         else:
             want(keyword in (b"settle", b"lose") and len(words) == 1, SYNTAX)
             passed = number(words[0], 1, 100_000)

@@ -1,6 +1,6 @@
 use clnp_base::lines;
 use clnp_plan::{Limits, Role, Settings};
-use scenario::{Scenario, ScenarioRefusal, read};
+use scenario::{Event, Scenario, ScenarioRefusal, from_seed, read, write};
 use std::alloc::Global;
 use std::test::Fail;
 
@@ -125,5 +125,64 @@ fn reads_a_router(rt: HostRuntime) -> Result<(), Fail> {
         assert_eq!(rt; port.snpa.as_bytes(), snpa.as_slice());
     }
     assert_eq!(rt; router.ports().len(), 2);
+    Ok(())
+}
+
+const TWO_HOSTS: &[u8] = b"# two hosts on one subnetwork
+clnp-sim 1
+subnet lan 1500
+system a host hello=0
+system b host hello=0
+address a 47002702
+address b 47002701
+port a 0 lan 01
+port b 0 lan 02
+events
+tick 1
+end
+";
+
+/// What `write` makes of it.
+const TWO_HOSTS_WRITTEN: &[u8] = b"clnp-sim 1
+limits 256 60 320
+subnet lan 1500
+system a host hello=0 suggest=0 rhold=120 slots=16 segments=1024 budget=262144 neighbours=64 routers=8 redirects=64 life=64 checksum=on
+system b host hello=0 suggest=0 rhold=120 slots=16 segments=1024 budget=262144 neighbours=64 routers=8 redirects=64 life=64 checksum=on
+address a 47002702
+port a 0 lan 01 1
+address b 47002701
+port b 0 lan 02 1
+events
+tick 1
+end
+";
+
+#[test]
+fn writes_what_was_read(rt: HostRuntime) -> Result<(), Fail> {
+    let Some(Ok(scenario)) = answer(rt.alloc(), TWO_HOSTS) else {
+        assert!(rt; false);
+        return Ok(());
+    };
+    let mut text = Vec::new(rt.alloc());
+    write(rt.alloc(), &scenario, &mut text)?;
+    assert_eq!(rt; text.as_slice(), TWO_HOSTS_WRITTEN);
+    Ok(())
+}
+
+#[test]
+fn makes_the_scenario_of_a_seed(rt: HostRuntime) -> Result<(), Fail> {
+    let scenario = from_seed(rt.alloc(), 0)?;
+    assert_eq!(rt; scenario.systems().len(), 6);
+    assert_eq!(rt; scenario.events().len(), 582);
+    let [
+        Event::Tick { count: 1 },
+        Event::Settle { count: 40 },
+        Event::Lose { count: 5 },
+        ..
+    ] = scenario.events()
+    else {
+        assert!(rt; false);
+        return Ok(());
+    };
     Ok(())
 }

@@ -9,10 +9,10 @@ use Rattle.clnp_plan.specs.declared.config.Role.{Role}
 use Rattle.clnp_plan.specs.declared.config.Role.TheVariants.{Host, Router}
 use Rattle.scenario.specs.Scenario.{Plan, IsFit, octets_of, moves_of, moves_from, ticks_of}
 use Rattle.scenario.specs.declared.event.Event.{Event}
-use Rattle.scenario.specs.declared.event.Event.TheVariants.{Send, Echo, Deliver, Settle, Lose, Tick, Restart}
+use Rattle.scenario.specs.declared.event.Event.TheVariants.{Send, Echo, Deliver, Settle, Lose, Tick, Restart, Congest}
 use Rattle.scenario.specs.declared.event.Move.{Move}
 use Rattle.scenario.specs.declared.event.Move.TheVariants.{One, SettleOne, LoseOne, TickOne}
-use Rattle.clnp_machine.specs.System.{SystemState, Input, AsksForEcho, AsksToSend, MomentComes, IsRestarted, Output, Transmits, SendsEsis, Notes, Effect}
+use Rattle.clnp_machine.specs.System.{SystemState, Input, AsksForEcho, AsksToSend, MomentComes, IsRestarted, IsCongested, Output, Transmits, SendsEsis, Notes, Effect}
 use Rattle.clnp_machine.specs.Unit.{DeclaredAt}
 use Rattle.clnp_machine.specs.Content.{Labelled, Esis}
 use Rattle.clnp_machine.specs.Step.{step}
@@ -94,6 +94,7 @@ of_event limits w (Some (Lose count)) = refl
 of_event limits w (Some (Tick count)) = refl
 of_event limits w (Some (Deliver copy system)) = of_delivery_at limits w copy system (slice_get w.systems system)
 of_event limits w (Some (Restart system)) = of_system w system IsRestarted (slice_get w.systems system)
+of_event limits w (Some (Congest system on)) = of_system w system (IsCongested on) (slice_get w.systems system)
 of_event limits w (Some (Echo system from to body)) = of_system w system (AsksForEcho from to (octets_of body)) (slice_get w.systems system)
 of_event limits w (Some (Send system from to body ask)) =
     of_asking w system (AsksToSend from to (octets_of body) ask) (slice_get w.systems system)
@@ -128,6 +129,7 @@ ticks_in_event place (Tick count) = ticks_of_each count
 ticks_in_event place (Send system from to body ask) = refl
 ticks_in_event place (Deliver copy system) = refl
 ticks_in_event place (Restart system) = refl
+ticks_in_event place (Congest system on) = refl
 ticks_in_event place (Echo system from to body) = refl
 
 ticks_in_events : (place : ℕ) (events : List Event) → ticks_in (moves_from place events) ≡ sum_by ticks_of events

@@ -127,9 +127,18 @@ fn play_event<K: Sink>(
         Event::Tick { count } => {
             play_times(alloc, scenario, &Move::TickOne, *count, world, block, sink)
         }
-        Event::Send { .. } | Event::Echo { .. } | Event::Deliver { .. } | Event::Restart { .. } => {
-            play_move(alloc, scenario, &Move::One(place), world, block, sink)
-        }
+        Event::Send { .. }
+        | Event::Echo { .. }
+        | Event::Deliver { .. }
+        | Event::Restart { .. }
+        | Event::Congest { .. } => play_move(
+            alloc,
+            scenario,
+            &Move::One(place),
+            world,
+            block,
+            sink,
+        ),
     }
 }
 

@@ -5,6 +5,7 @@ use Rattle.std.specs.List.{AllByRecursion, filter, flat_map, list_any}
 use Rattle.std.proofs.lemmas.List.Elements.{filter-append}
 use Rattle.std.proofs.lemmas.List.Folds.{list_any-append}
 use Rattle.clnp_base.proofs.Lists.{AllByRecursion-append}
+use Rattle.clnp_options.specs.Parameter.{Parameter}
 use Rattle.clnp_options.specs.declared.judge.OptionRefusal.{OptionRefusal}
 use Rattle.esis_pdus.specs.declared.pdu.EsisBody.{EsisBody}
 use Rattle.esis_pdus.specs.declared.pdu.EsisBody.TheVariants as body
@@ -29,12 +30,12 @@ use Rattle.clnp_machine.specs.Content.{Labelled, Unlabelled}
 use Rattle.clnp_machine.specs.System.{SystemState, Output, Transmits, SendsEsis, Notes, Effect, idles, gives, then_does}
 use Rattle.clnp_machine.specs.Esis.{answers_new, end_system_heard, esis_comes, esis_heard, esis_limits, follows, heard_now, hears, hears_each, intermediate_system_heard, is_silent, own_hello, redirect, redirect_heard, tells_new, tells_of_itself}
 use Rattle.clnp_machine.specs.Local.{Action, Sends, Tells, Deed, and_then, discard, made_in, receive, tells}
-use Rattle.clnp_machine.specs.Step.{Hop, Way, discard_refused, first_sent, hop_by, is_asked_for, is_redirected, octets_come, outputs_of, packet_comes, responds, sent_on, transmissions, unheard_note, unit_hop}
+use Rattle.clnp_machine.specs.Step.{Hop, Way, discard_refused, first_sent, hop_by, is_asked_for, is_redirected, octets_come, options_behind, outputs_of, packet_comes, redirects, responds, sent_on, transmissions, unheard_note, unit_hop}
 use Rattle.clnp_machine.specs.Steps.{IsAtMostItsHello, IsAtMostOneTo, IsAtMostReportOf, IsItsRedirect, sends_esis, sends_frame}
 use Rattle.clnp_machine.proofs.Asked.{discard_makes, not_reported}
 use Rattle.clnp_machine.proofs.Deeds.{packet_is}
 use Rattle.clnp_machine.proofs.Hellos.{only_comes, only_hears_each, same_hello}
-use Rattle.clnp_machine.proofs.Passing.{going, packet_does}
+use Rattle.clnp_machine.proofs.Passing.{packet_does}
 use Rattle.clnp_machine.proofs.Known.{IsKnown, all_known, becomes_known, none_new, not_new, told_old}
 
 -- where no output passes a test, none is left by it
@@ -173,13 +174,10 @@ SilentOrRedirects s place outputs =
     NonePasses sends_esis outputs
     ⊎ ((value : EsisValue) × IsItsRedirect s value × (filter sends_esis outputs ≡ SendsEsis place.port (System place.snpa) value ∷ []))
 
-going_sends : (s : SystemState) (came : Place) (p : Packet) (way : Way) (pieces : List Packet) → s.configuration.role ≡ Router
-    → SilentOrRedirects s came (going s came p way pieces)
-going_sends s came p way pieces router = go (is_redirected s came p way)
+redirects_or_none : (s : SystemState) (came : Place) (p : Packet) (options : List Parameter) (way : Way) → s.configuration.role ≡ Router
+    → (front : List Output) → NonePasses sends_esis front → SilentOrRedirects s came (front ++ redirects s came p options way)
+redirects_or_none s came p options way router front silent = go (is_redirected s came p options way)
   where
-    front : List Output
-    front = transmissions (hop_by way) (Some pieces)
-
     value : EsisValue
     value = redirect s p.unit.destination way.place.snpa way.title
 
@@ -189,15 +187,17 @@ going_sends s came p way pieces router = go (is_redirected s came p way)
         inr (
           value,
           (router, (p.unit.destination, way.place.snpa, way.title, refl)),
-          none_before sends_esis front (SendsEsis came.port (System came.snpa) value ∷ []) (pieces_silent (hop_by way) pieces),
+          none_before sends_esis front (SendsEsis came.port (System came.snpa) value ∷ []) silent,
         )
-    go false = inl (AllByRecursion-append (λ output. sends_esis output ≡ false) front [] (pieces_silent (hop_by way) pieces) tt)
+    go false = inl (AllByRecursion-append (λ output. sends_esis output ≡ false) front [] silent tt)
 
 pub packet_sends : (s : SystemState) (came : Place) (p : Packet) (following : List ℕ) → SilentOrRedirects s came (packet_comes s came p following).outputs
 packet_sends s came p following =
     packet_does (λ effect. SilentOrRedirects s came effect.outputs) s came p following
     (λ reason of_none. inl (deeds_silent (discard s (Labelled p following) reason 0).after (discard s (Labelled p following) reason 0).actions))
-    (λ router way port pieces there alive gives known. going_sends s came p way pieces router) (inl (refl, tt))
+    (λ router way port pieces there alive gives known.
+    redirects_or_none s came p (options_behind s p.options) way router (transmissions (hop_by way) (Some pieces)) (pieces_silent (hop_by way) pieces))
+    (inl (refl, tt))
     (λ own. inl (deeds_silent (receive s p following).after (receive s p following).actions))
 
 -- a router doesn't tell of itself then

@@ -27,10 +27,10 @@ use Rattle.clnp_machine.specs.Identifiers.{Identifiers}
 use Rattle.clnp_machine.specs.Unit as unit
 use Rattle.clnp_machine.specs.Unit.{DeclaredAt, Packet, value_of, wire}
 use Rattle.clnp_machine.specs.Content.{Content, Labelled, Esis, Unlabelled, frame_of}
-use Rattle.clnp_machine.specs.System.{SystemState, Input, AsksToSend, AsksForEcho, FrameComes, MomentComes, IsRestarted, Effect, next_number, then_does, table_limits}
+use Rattle.clnp_machine.specs.System.{SystemState, Input, AsksToSend, AsksForEcho, FrameComes, MomentComes, IsRestarted, IsCongested, Effect, next_number, then_does, table_limits}
 use Rattle.clnp_machine.specs.Local.{Action, Sends, Tells, Deed, and_then, at_moment, data_in, discard, discard_first, echo_ask, expire, give_up_due, gives_up, hand_up, has_address, is_all, is_answer, made_in, make, makes, offer, offered, receive, refusal, report_unit, reports, reports_from, restarted, rests, takes_in, takes_reply, tells, tick, unit_of, unless_refused, with_use}
 use Rattle.clnp_machine.specs.Esis.{esis_comes, forgets, says_hello}
-use Rattle.clnp_machine.specs.Step.{packet_comes, discard_refused, octets_come, effect_of, responds, content_comes, moment_comes, restart, step, unheard_note}
+use Rattle.clnp_machine.specs.Step.{packet_comes, discard_refused, octets_come, effect_of, responds, content_comes, moment_comes, restart, congest, step, unheard_note}
 use Rattle.clnp_machine.specs.Steps.{AreNumbered, IsDeed, IsEffect, StaysItself, HearsNothing, LeavesTheRest, OnlyHellos, WasPendingOrMade, moment_after, segments_in, IsFresh, IsWithinBudget}
 use Rattle.clnp_machine.specs.Told.{IsOfNoRule}
 use Rattle.clnp_machine.proofs.Gained.{KeepsOnly, each_kept, keeps_give_up}
@@ -64,10 +64,15 @@ goes-on s t u h k = record {
 
 -- it hears nothing
 pub hears-nothing : (s : SystemState) → HearsNothing s s
-hears-nothing s = record { facts = refl; hello = refl; next_hello = refl }
+hears-nothing s = record { facts = refl; hello = refl; next_hello = refl; congested = refl }
 
 hears-on : (s t u : SystemState) → HearsNothing s t → HearsNothing t u → HearsNothing s u
-hears-on s t u h k = record { facts = k.facts ∙ h.facts; hello = k.hello ∙ h.hello; next_hello = k.next_hello ∙ h.next_hello }
+hears-on s t u h k = record {
+  facts = k.facts ∙ h.facts;
+  hello = k.hello ∙ h.hello;
+  next_hello = k.next_hello ∙ h.next_hello;
+  congested = k.congested ∙ h.congested;
+}
 
 -- what a deed leaves, and the units that it makes, where W says of each what it is
 pub record Does (W : unit.Unit → Type 0) (s : SystemState) (deed : Deed) : Type 0 where
@@ -133,7 +138,7 @@ module _ (W : unit.Unit → Type 0) where
   does_make_unit : (s : SystemState) (u : unit.Unit) → u.number ≡ next_number s → W u → Does W s (makes s u)
   does_make_unit s u number is = record {
     goes = record { itself = record { place = refl; configuration = refl; hold = refl; reuse = reuse_kept s u.identifier }; moment = refl; budget = λ h. h };
-    heard = record { facts = refl; hello = refl; next_hello = refl };
+    heard = record { facts = refl; hello = refl; next_hello = refl; congested = refl };
     makes = makes_one W s u number is;
   }
 
@@ -178,7 +183,7 @@ module _ (W : unit.Unit → Type 0) where
     does_take_reply t source destination octets None = does_tell t _
     does_take_reply t source destination octets (Some request) = record {
       goes = record { itself = record { place = refl; configuration = refl; hold = refl; reuse = refl }; moment = refl; budget = λ h. h };
-      heard = record { facts = refl; hello = refl; next_hello = refl };
+      heard = record { facts = refl; hello = refl; next_hello = refl; congested = refl };
       makes = makes_answered W t (is_answer source destination octets);
     }
 
@@ -209,7 +214,7 @@ module _ (W : unit.Unit → Type 0) where
           → (IsWithinBudget t → held kept ≤ t.configuration.settings.budget) → Does W t (takes_in t (Labelled p following) (offered p following) kept answer)
       does_take_in t at kept buffer.Held within =
           does_from t (record t { buffers = kept }) (tells (record t { buffers = kept }) _) (with_buffers t kept within)
-          (record { facts = refl; hello = refl; next_hello = refl }) refl refl (does_tell (record t { buffers = kept }) _)
+          (record { facts = refl; hello = refl; next_hello = refl; congested = refl }) refl refl (does_tell (record t { buffers = kept }) _)
       does_take_in t at kept buffer.Whole within =
           let arrival = offered p following in
           let rest : List (Buffer Packet) = buffer.without arrival.key kept in
@@ -221,7 +226,7 @@ module _ (W : unit.Unit → Type 0) where
           let most = within h in
           omega arith) in
           does_from t v (hand_up v p.unit.kind p.unit.source p.unit.destination octets p.options) goes
-          (record { facts = refl; hello = refl; next_hello = refl }) refl refl
+          (record { facts = refl; hello = refl; next_hello = refl; congested = refl }) refl refl
           (does_hand_up v (goes-on o t v at goes) p.unit.kind p.unit.source p.unit.destination octets p.options (such.replied octets))
       does_take_in t at kept (buffer.Interference there other) within = does_drop t at _ _ interference
       does_take_in t at kept buffer.Repeat within = does_tell t _
@@ -283,7 +288,7 @@ module _ (W : unit.Unit → Type 0) where
         (λ h.
         let less = sum_filter size_of (λ (b : Buffer Packet). not (same_key b.key ended.key)) t.buffers in
         omega arith) in
-        does_from t v (gives_up t ended) goes (record { facts = refl; hello = refl; next_hello = refl }) refl refl
+        does_from t v (gives_up t ended) goes (record { facts = refl; hello = refl; next_hello = refl; congested = refl }) refl refl
         (does_tell_and v (note.Expired ended.key.id (held rest)) (λ x. discard_first x (buffer.first_carried ended))
         (does_discard_first v (goes-on o t v at goes) ended.kept each))
 
@@ -378,6 +383,7 @@ module _ (W : unit.Unit → Type 0) where
   AllSuch s (FrameComes port sender to_group (Unlabelled octets)) = (reason place : ℕ) → Reported W s octets reason place
   AllSuch s (MomentComes now) = (p : Packet) → Contains (carried_in s.buffers) p → ReportsSuch W (at_moment now s) p
   AllSuch s IsRestarted = Unit {0}
+  AllSuch s (IsCongested on) = Unit {0}
 
   leads_content : (s : SystemState) (port : ℕ) (sender : List ℕ) (to_group : Bool) (content : Content)
       → AllSuch s (FrameComes port sender to_group content) → Leads W s (content_comes s (record { port = port; snpa = sender }) to_group content)
@@ -413,6 +419,12 @@ module _ (W : unit.Unit → Type 0) where
     makes = makes_forgotten W s (restarted s) refl refl;
   }
 
+  leads_congested : (s : SystemState) (on : Bool) → Leads W s (effect_of (congest s on))
+  leads_congested s on = record {
+    goes = record { itself = record { place = refl; configuration = refl; hold = refl; reuse = refl }; moment = refl; budget = λ h. h };
+    makes = makes_none W s (record s { congested = on }) refl refl;
+  }
+
   pub leads_step : (s : SystemState) (input : Input) → AllSuch s input → Leads W (begun s input) (step s input)
   leads_step s (AsksToSend from to octets ask) such = by_deed s (make s Dt from to octets ask) (does_make W s Dt from to octets ask such)
   leads_step s (AsksForEcho from to octets) such =
@@ -420,6 +432,7 @@ module _ (W : unit.Unit → Type 0) where
   leads_step s (FrameComes port sender to_group content) such = leads_content s port sender to_group content such
   leads_step s (MomentComes now) such = leads_moment s now such
   leads_step s IsRestarted such = leads_restarted s
+  leads_step s (IsCongested on) such = leads_congested s on
 
 -- Each unit that is made is made now by the system, of a source that is its own.
 
@@ -467,6 +480,7 @@ all_fresh s (FrameComes port sender to_group (Esis value following)) = tt
 all_fresh s (FrameComes port sender to_group (Unlabelled octets)) = report_fresh s octets
 all_fresh s (MomentComes now) = λ p there. report_fresh (at_moment now s) (wire p ++ []) (reason_code LifetimeExpiredInReassembly) 0
 all_fresh s IsRestarted = tt
+all_fresh s (IsCongested on) = tt
 
 leads_fresh : (s : SystemState) (input : Input) → Leads (IsFresh (begun s input) (moment_after s input)) (begun s input) (step s input)
 leads_fresh s input = leads_step (IsFresh (begun s input) (moment_after s input)) s input (all_fresh s input)

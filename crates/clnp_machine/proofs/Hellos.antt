@@ -25,7 +25,7 @@ use Rattle.clnp_machine.specs.Steps.{IsOfHellos, LeavesTheRest, OnlyHellos}
 -- nothing is left but the rest
 
 pub rest-itself : (s : SystemState) → LeavesTheRest s s
-rest-itself s = record { place = refl; configuration = refl; hold = refl; moment = refl; count = refl; identifiers = refl; buffers = refl; pending = refl }
+rest-itself s = record { place = refl; configuration = refl; hold = refl; moment = refl; count = refl; identifiers = refl; buffers = refl; pending = refl; congested = refl }
 
 pub rest-on : (s t u : SystemState) → LeavesTheRest s t → LeavesTheRest t u → LeavesTheRest s u
 rest-on s t u h k = record {
@@ -37,6 +37,7 @@ rest-on s t u h k = record {
   identifiers = k.identifiers ∙ h.identifiers;
   buffers = k.buffers ∙ h.buffers;
   pending = k.pending ∙ h.pending;
+  congested = k.congested ∙ h.congested;
 }
 
 pub only_idles : (s : SystemState) → OnlyHellos s (idles s)
@@ -66,7 +67,7 @@ pub only_says_hello : (s : SystemState) → OnlyHellos s (says_hello s)
 only_says_hello s =
     only_one_of s (not (is_silent s) && nat_le s.next_hello s.moment) _ _
     (only_gives s (record s { next_hello = s.moment + 2 * s.hello }) (hello_everywhere s)
-    (record { place = refl; configuration = refl; hold = refl; moment = refl; count = refl; identifiers = refl; buffers = refl; pending = refl })
+    (record { place = refl; configuration = refl; hold = refl; moment = refl; count = refl; identifiers = refl; buffers = refl; pending = refl; congested = refl })
     (AllByRecursion-map_any IsOfHellos (λ port. SendsEsis port (hearers s.configuration.role) (own_hello s)) (range_with_len 0 (length s.configuration.ports))
     (λ port. tt)))
     (only_idles s)
@@ -75,7 +76,7 @@ only_says_hello s =
 
 pub only_hears : (s : SystemState) (table : TableKind) (key : List ℕ) (place : Place) (holding : ℕ) → OnlyHellos s (hears s table key place holding)
 only_hears s table key place holding = record {
-  rest = record { place = refl; configuration = refl; hold = refl; moment = refl; count = refl; identifiers = refl; buffers = refl; pending = refl };
+  rest = record { place = refl; configuration = refl; hold = refl; moment = refl; count = refl; identifiers = refl; buffers = refl; pending = refl; congested = refl };
   outputs = (tt, tt);
   units = refl;
 }
@@ -99,7 +100,7 @@ pub rest_follows : (s : SystemState) (timer : Option ℕ) → LeavesTheRest s (f
 rest_follows s None = rest-itself s
 rest_follows s (Some seconds) =
     rest_followed s (record s { hello = seconds; next_hello = min s.next_hello (s.moment + 2 * seconds) }) (seconds == 0 || is_silent s)
-    (record { place = refl; configuration = refl; hold = refl; moment = refl; count = refl; identifiers = refl; buffers = refl; pending = refl })
+    (record { place = refl; configuration = refl; hold = refl; moment = refl; count = refl; identifiers = refl; buffers = refl; pending = refl; congested = refl })
 
 only_end_system : (role : Role) (s : SystemState) (place : Place) (holding : ℕ) (addresses : List (List ℕ))
     → OnlyHellos s (end_system_heard role s place holding addresses)

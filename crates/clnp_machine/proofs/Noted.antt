@@ -26,10 +26,10 @@ use Rattle.clnp_machine.specs.Identifiers.{NotDrawn, IsQuiet, IsBusy, not_drawn}
 use Rattle.clnp_machine.specs.Unit as unit
 use Rattle.clnp_machine.specs.Unit.{Packet, value_of, whole_packet, cut}
 use Rattle.clnp_machine.specs.Content.{Content, Labelled, Esis, Unlabelled, frame_of}
-use Rattle.clnp_machine.specs.System.{SystemState, Input, AsksToSend, AsksForEcho, FrameComes, MomentComes, IsRestarted, Output, Transmits, SendsEsis, Notes, Effect, then_does, table_limits}
+use Rattle.clnp_machine.specs.System.{SystemState, Input, AsksToSend, AsksForEcho, FrameComes, MomentComes, IsRestarted, IsCongested, Output, Transmits, SendsEsis, Notes, Effect, then_does, table_limits}
 use Rattle.clnp_machine.specs.Local.{Action, Sends, Tells, Deed, at_moment, data_in, discard, discard_first, echo_ask, expire, give_up_due, gives_up, hand_up, header_size, identifier_refusal, is_all, is_answer, is_own, make, makes, most_octets, not_drawn_note, offer, offered, receive, refusal, report_unit, reports_from, requests_echo, rests, sent_note, takes_in, takes_reply, tick, unit_of, unless_refused}
 use Rattle.clnp_machine.specs.Esis.{esis_comes, forgets, says_hello}
-use Rattle.clnp_machine.specs.Step.{Hop, unit_hop, transmissions, sent_on, first_sent, outputs_of, effect_of, packet_comes, discard_refused, unheard_note, octets_come, responds, content_comes, step, hop_by, redirects}
+use Rattle.clnp_machine.specs.Step.{Hop, unit_hop, transmissions, sent_on, first_sent, outputs_of, effect_of, packet_comes, discard_refused, unheard_note, octets_come, responds, content_comes, step, hop_by, options_behind, redirects}
 use Rattle.clnp_machine.specs.Steps.{IsForOwn, IsNoRestart, IsOfHellos, NotesOnly, OnlyHellos, RestartsNothing}
 use Rattle.clnp_machine.specs.Told.{IsOfNoRule, IsRefusal, IsToldBy, NoteIsQuiet, NotesNoRule, SpellsPdus, TellsOnly}
 use Rattle.clnp_machine.proofs.Hellos.{only_comes, only_forgets, only_responds, only_says_hello, only_then}
@@ -295,8 +295,9 @@ module _ (s : SystemState) (input : Input) where
       packet_does NoteAll s came p following
       (λ reason of_none. by_deed (discard s (Labelled p following) reason 0) (drops_tell s (Labelled p following) reason 0 of_none))
       (λ router way port pieces there alive gives known.
-      AllByRecursion-append (NotesOnly (IsNoted s input)) (transmissions (hop_by way) (Some pieces)) (redirects s came p way)
-      (pieces_end (IsNoted s input) (hop_by way) pieces) (redirects_are (NotesOnly (IsNoted s input)) s came p way tt))
+      let options = options_behind s p.options in
+      AllByRecursion-append (NotesOnly (IsNoted s input)) (transmissions (hop_by way) (Some pieces)) (redirects s came p options way)
+      (pieces_end (IsNoted s input) (hop_by way) pieces) (redirects_are (NotesOnly (IsNoted s input)) s came p options way (λ to. tt)))
       (tt, tt)
       (λ own. by_deed (receive s p following) (receive_tells s p following own))
 
@@ -327,6 +328,7 @@ step_notes s (MomentComes now) =
     (by_deed s input (tick s now) (tick_tells (IsNoted s input) (end_noted s input) s now))
     (only_then ticked (forgets s.moment ticked) says_hello (only_forgets s.moment ticked) (only_says_hello ticked))
 step_notes s IsRestarted = (tt, tt)
+step_notes s (IsCongested on) = (tt, tt)
 
 -- What that says.
 
@@ -350,6 +352,7 @@ all_spelled (AsksToSend from to octets ask) h un = un
 all_spelled (AsksForEcho from to octets) h un = un
 all_spelled (MomentComes now) h un = un
 all_spelled IsRestarted h un = un
+all_spelled (IsCongested on) h un = un
 
 noted_ruleless : (s : SystemState) (input : Input) → SpellsPdus input → (note : Note) → IsNoted s input note → NotesNoRule note
 noted_ruleless s input spells (Discard reason place) (inl of_none) = of_none
@@ -368,6 +371,7 @@ not_restarted (AsksToSend from to octets ask) h is = is
 not_restarted (AsksForEcho from to octets) h is = is
 not_restarted (FrameComes port sender to_group content) h is = is
 not_restarted (MomentComes now) h is = is
+not_restarted (IsCongested on) h is = is
 
 noted_restart : (s : SystemState) (input : Input) → RestartsNothing input → (note : Note) → IsNoted s input note → IsNoRestart note
 noted_restart s input none Restart h = not_restarted input none h

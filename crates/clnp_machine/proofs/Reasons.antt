@@ -1,6 +1,6 @@
 -- Reasons for discard that no rule of PDUs gives.
 use Rattle.std.proofs.Common.{◌≢◌, ℕ, arith}
-use Rattle.clnp_options.specs.declared.reasons.Reason.TheVariants.{Congestion, DestinationUnknown, LifetimeExpiredInReassembly, LifetimeExpiredInTransit, ReassemblyInterference, SegmentationNotPermitted}
+use Rattle.clnp_options.specs.declared.reasons.Reason.TheVariants.{Congestion, DestinationUnknown, LifetimeExpiredInReassembly, LifetimeExpiredInTransit, PathNotAcceptable, ReassemblyInterference, SegmentationNotPermitted, UnknownAddressInRoute}
 use Rattle.clnp_options.specs.Reasons.{reason_code}
 use Rattle.pdu_header.specs.Table.{table}
 use Rattle.clnp_machine.specs.Told.{IsOfNoRule}
@@ -49,6 +49,12 @@ segmentation = of_none 0x05 (omega arith) (omega arith) (omega arith) (omega ari
 
 pub unknown : IsOfNoRule (reason_code DestinationUnknown)
 unknown = of_none 0x81 (omega arith) (omega arith) (omega arith) (omega arith) (omega arith) (omega arith) (omega arith) (omega arith)
+
+pub unknown_in_route : IsOfNoRule (reason_code UnknownAddressInRoute)
+unknown_in_route = of_none 0x92 (omega arith) (omega arith) (omega arith) (omega arith) (omega arith) (omega arith) (omega arith) (omega arith)
+
+pub path : IsOfNoRule (reason_code PathNotAcceptable)
+path = of_none 0x93 (omega arith) (omega arith) (omega arith) (omega arith) (omega arith) (omega arith) (omega arith) (omega arith)
 
 pub transit : IsOfNoRule (reason_code LifetimeExpiredInTransit)
 transit = of_none 0xa0 (omega arith) (omega arith) (omega arith) (omega arith) (omega arith) (omega arith) (omega arith) (omega arith)

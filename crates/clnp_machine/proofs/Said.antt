@@ -1,11 +1,12 @@
 -- A system sends no ES-IS PDU but its own hello and redirects, which PDUs can carry.
-use Rattle.std.proofs.Common.{◌≡◌, ◌∙◌, refl, sym, subst, ℕ, ◌+◌, ◌*◌, ◌≤◌, inl, inr, Bool, true, false, List, [], ◌∷◌, ◌++◌, length, length-append, Option, None, Some, All, arith}
-use Rattle.std.specs.Prelude.{◌==◌, ◌&&◌, ◌||◌, not, min, nat_le, if◌then◌else◌, slice_get, option_map}
+use Rattle.std.proofs.Common.{◌≡◌, ◌∙◌, refl, sym, ap, subst, ℕ, ◌+◌, ◌*◌, ◌≤◌, inl, inr, Bool, true, false, List, [], ◌∷◌, ◌++◌, length, length-append, Option, None, Some, All, arith}
+use Rattle.std.specs.Prelude.{◌==◌, ◌&&◌, ◌||◌, not, min, nat_le, is_none, if◌then◌else◌, slice_get, option_map}
 use Rattle.std.specs.Option.{option_or}
 use Rattle.std.specs.List.{AllByRecursion, flat_map, list_any, range_with_len}
 use Rattle.std.proofs.lemmas.List.Elements.{recursion_from_All}
 use Rattle.clnp_base.proofs.Lists.{AllByRecursion-append, AllByRecursion-contains, AllByRecursion-implies, AllByRecursion-map_any}
 use Rattle.nsap.specs.Address.{IsAddress}
+use Rattle.clnp_options.specs.Edits.{target_of}
 use Rattle.clnp_options.specs.Grammar.{joined}
 use Rattle.esis_pdus.specs.declared.pdu.EsisBody.{EsisBody}
 use Rattle.esis_pdus.specs.declared.pdu.EsisBody.TheVariants as body
@@ -29,15 +30,21 @@ use Rattle.clnp_plan.specs.declared.config.Role.{Role}
 use Rattle.clnp_plan.specs.declared.config.Role.TheVariants.{Host, Router}
 use Rattle.clnp_machine.specs.Unit.{Packet}
 use Rattle.clnp_machine.specs.Content.{Content, Esis, IsCarried, Labelled, Unlabelled}
-use Rattle.clnp_machine.specs.System.{SystemState, Input, AsksToSend, AsksForEcho, FrameComes, MomentComes, IsRestarted, Output, Transmits, SendsEsis, Notes, Effect, gives, idles, then_does}
+use Rattle.clnp_machine.specs.System.{SystemState, Input, AsksToSend, AsksForEcho, FrameComes, MomentComes, IsRestarted, IsCongested, Output, Transmits, SendsEsis, Notes, Effect, gives, idles, then_does}
 use Rattle.clnp_machine.specs.Esis.{answers_new, end_system_heard, esis_heard, esis_limits, first_of, follows, forgets, gone_note, heard_now, hearers, hears, hears_each, hello_everywhere, holding_time, intermediate_system_heard, is_silent, own_hello, redirect, redirect_heard, says_hello, tells_new, tells_of_itself, wish}
 use Rattle.clnp_machine.specs.Local.{Action, discard, echo_ask, make, receive, requests_echo, tick}
-use Rattle.clnp_machine.specs.Step.{Way, by_route, content_comes, hop_by, is_asked_for, octets_come, outputs_of, packet_comes, redirects, responds, step, to_neighbour, transmissions, way_of}
+use Rattle.clnp_machine.specs.Step.{Way, by_route, content_comes, hop_by, is_asked_for, octets_come, options_behind, outputs_of, packet_comes, redirects, responds, step, to_neighbour, towards, transmissions, way_of}
 use Rattle.clnp_machine.specs.Steps.{IsFair, IsItsOwn, KnowsAddresses, SendsEsisPdus, SendsItsOwn, sends_esis, sends_frame}
 use Rattle.clnp_machine.proofs.Answering.{deeds_silent, hears_notes, redirect_notes}
+use Rattle.clnp_machine.proofs.Behind.{first_is}
 use Rattle.clnp_machine.proofs.Deeds.{make_is, octets_are, packet_is, tick_is}
 use Rattle.clnp_machine.proofs.Passing.{packet_does, redirects_are}
 use Rattle.clnp_machine.proofs.Hellos.{only_hears_each, hello_is, said, same_hello}
+
+-- where a source route leads to no title a packet is sent towards its destination
+no_title : (destination : List ℕ) (title : Option (List ℕ)) → is_none title ≡ true → towards destination title ≡ destination
+no_title destination None none = refl
+no_title destination (Some title) none = absurd (cc)
 
 -- What holds of a system's own hello, and of the redirect that may follow a packet, holds of each ES-IS value that is sent.
 
@@ -125,9 +132,11 @@ module _ (Q : EsisValue → Type 0) (s : SystemState) (own : (seconds : ℕ) →
       packet_does (λ effect. SendsIts effect.outputs) s came p following
       (λ reason of_none. deeds_its (discard s (Labelled p following) reason 0).after (discard s (Labelled p following) reason 0).actions)
       (λ router way port pieces there alive gives known.
-      AllByRecursion-append (SendsSuch Q) (transmissions (hop_by way) (Some pieces)) (redirects s came p way)
+      let options = options_behind s p.options in
+      AllByRecursion-append (SendsSuch Q) (transmissions (hop_by way) (Some pieces)) (redirects s came p options way)
       (AllByRecursion-map_any (SendsSuch Q) (λ piece. Transmits way.place.port (System way.place.snpa) piece) pieces (λ piece. tt))
-      (redirects_are (SendsSuch Q) s came p way (such way router known)))
+      (redirects_are (SendsSuch Q) s came p options way
+      (λ none. such way router (ap (way_of s) (sym (no_title p.unit.destination (target_of options) none)) ∙ known))))
       (tt, tt) (λ mine. deeds_its (receive s p following).after (receive s p following).actions)
 
   content_its : (place : Place) (to_group : Bool) (content : Content) → RedirectsSuch Q s content → SendsIts (content_comes s place to_group content).outputs
@@ -153,6 +162,7 @@ module _ (Q : EsisValue → Type 0) (s : SystemState) (own : (seconds : ℕ) →
       (AllByRecursion-map_any (SendsSuch Q) gone_note (gone s.moment t.moment t.facts) (λ key. tt))
       (says_its u (tick_is s now).itself.configuration))
   step_its IsRestarted such = (tt, tt)
+  step_its (IsCongested on) such = (tt, tt)
 
 -- Its own hello is one that a PDU can carry.
 
@@ -169,10 +179,6 @@ host_fits : (addresses : List (List ℕ)) → length addresses ≤ 8 → All IsA
 host_fits addresses few each =
     let most = joined_size addresses (recursion_from_All IsAddress addresses each) in
     omega arith
-
-first_is : (addresses : List (List ℕ)) → length addresses ≡ 1 → All IsAddress addresses → IsAddress (first_of (slice_get addresses 0))
-first_is [] one each = absurd (omega arith)
-first_is (address ∷ others) one each = (recursion_from_All IsAddress (address ∷ others) each).0
 
 pub said_pdu : (role : Role) (c : SystemConfiguration) (seconds : ℕ) → HasItsAddresses role c.addresses → All IsAddress c.addresses → IsPdu (said role c seconds)
 said_pdu Host c seconds some each =
@@ -199,6 +205,7 @@ comes_its s (AsksForEcho from to octets) = tt
 comes_its s (FrameComes port sender to_group content) = redirects_its s content
 comes_its s (MomentComes now) = tt
 comes_its s IsRestarted = tt
+comes_its s (IsCongested on) = tt
 
 sends_own : (s : SystemState) (output : Output) → SendsSuch (IsItsOwn s) output → SendsItsOwn s output
 sends_own s (Transmits port target packet) h = tt
@@ -279,6 +286,7 @@ module _ (s : SystemState) (is : IsAddressed s.configuration) (knows : KnowsAddr
     comes_pdus (FrameComes port sender to_group content) fair = redirects_pdus content fair.1
     comes_pdus (MomentComes now) fair = tt
     comes_pdus IsRestarted fair = tt
+    comes_pdus (IsCongested on) fair = tt
 
     such_pdus : (output : Output) → SendsSuch IsPdu output → SendsEsisPdus output
     such_pdus (Transmits port target packet) h = tt
@@ -384,3 +392,4 @@ step_known s (MomentComes now) fair knows =
     let t = (tick s now).after in
     says_known (forgets s.moment t).after (subst AtAddresses (sym (tick_is s now).heard.facts) knows)
 step_known s IsRestarted fair knows = tt
+step_known s (IsCongested on) fair knows = knows

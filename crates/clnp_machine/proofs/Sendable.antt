@@ -28,21 +28,24 @@ use Rattle.error_reports.proofs.Reason.{alone, alone_fits}
 use Rattle.reassembly.specs.Arrival.{Arrival}
 use Rattle.esis_tables.specs.declared.fact.Place.{Place}
 use Rattle.clnp_plan.specs.Asking.{IsFormedAsk}
-use Rattle.clnp_plan.specs.Configuration.{IsPort, IsSystem, SystemConfiguration}
+use Rattle.clnp_plan.specs.Configuration.{HasItsAddresses, IsPort, IsSystem, SystemConfiguration}
+use Rattle.clnp_plan.specs.declared.config.Role.{Role}
 use Rattle.clnp_plan.specs.declared.ask.Ask.{Ask}
 use Rattle.clnp_plan.specs.declared.config.PortConfig.{PortConfig}
 use Rattle.clnp_machine.specs.Unit as unit
 use Rattle.clnp_machine.specs.Unit.{Packet, IsCarriable, cut, more_follows, segmentation_of, value_of, value_with, whole_packet, wire}
 use Rattle.clnp_machine.specs.Content.{Content, Esis, IsCarried, Labelled, Unlabelled}
-use Rattle.clnp_machine.specs.System.{SystemState, Input, AsksToSend, AsksForEcho, FrameComes, MomentComes, IsRestarted, Output, Transmits, SendsEsis, Notes, Effect, then_does}
-use Rattle.clnp_machine.specs.Esis.{esis_comes, forgets, says_hello}
+use Rattle.clnp_machine.specs.System.{SystemState, Input, AsksToSend, AsksForEcho, FrameComes, MomentComes, IsRestarted, IsCongested, Output, Transmits, SendsEsis, Notes, Effect, then_does}
+use Rattle.clnp_machine.specs.Esis.{esis_comes, forgets, says_hello, title_of}
 use Rattle.clnp_machine.specs.Local.{Action, Deed, IsAsOffered, Sends, Tells, at_moment, discard, echo_ask, header_size, identifier_for, made_in, make, most_octets, receive, refusal, report_unit, tick, unit_of}
-use Rattle.clnp_machine.specs.Step.{Hop, content_comes, effect_of, first_sent, forwarded, loss_at, moment_comes, octets_come, outputs_of, packet_comes, responds, sent_on, step, transmissions, unit_hop, hop_by, redirects}
+use Rattle.clnp_machine.specs.Step.{Hop, content_comes, effect_of, first_sent, forwarded, loss_at, moment_comes, octets_come, outputs_of, packet_comes, responds, sent_on, step, transmissions, unit_hop, hop_by, options_behind, redirects}
 use Rattle.clnp_machine.specs.Steps.{AreCarriable, ComesWith, IsFair, IsOfHellos, KeepsAsOffered, OnlyHellos, SendsCarriable}
 use Rattle.clnp_machine.proofs.Deeds.{AllSuch, CausesSuch, Does, Replied, Reported, does_discard, does_make, does_receive, does_tick, does_with_octets, goes-nowhere}
 use Rattle.clnp_machine.proofs.Gained.{all_segments, each_kept, keeps_step}
 use Rattle.clnp_machine.proofs.Hellos.{only_comes, only_forgets, only_responds, only_says_hello, only_then}
 use Rattle.clnp_machine.proofs.Making.{allowed, total_is, total_with}
+use Rattle.clnp_machine.specs.EditLaws.{EditLaws}
+use Rattle.clnp_machine.proofs.Behind.{behind_carriable, first_is}
 use Rattle.clnp_machine.proofs.Passing.{Onward, packet_does, redirects_are}
 use Rattle.clnp_machine.proofs.Pieces.{cut_carriable}
 use Rattle.clnp_machine.proofs.Reporting.{header_in, kept_carriable, source_is}
@@ -259,6 +262,7 @@ all_sendable s (MomentComes now) system fair each keeps =
     λ p there. report_sendable (at_moment now s) system each (wire p ++ []) (reason_code LifetimeExpiredInReassembly) 0
     (λ is. readable_packet p [] (kept_carriable s keeps p there))
 all_sendable s IsRestarted system fair each keeps = tt
+all_sendable s (IsCongested on) system fair each keeps = tt
 
 -- What is sent of what a system does at its addresses.
 
@@ -278,42 +282,19 @@ deed_carriable s deed system h =
 
 -- What goes on.
 
-segment_kept : (v : PduValue) (life : ℕ) (part : Option SegmentationPart) → IsSegment v part → IsSegment (record v { lifetime = life }) part
-segment_kept v life None h = h
-segment_kept v life (Some part) h = record { identifier = h.identifier; offset = h.offset; total = h.total; range = h.range }
-
--- a PDU can carry a packet of less lifetime where it can carry the packet
-forwarded_carriable : (p : Packet) (loss : ℕ) → IsCarriable p → IsCarriable (forwarded p loss)
-forwarded_carriable p loss h =
-    let pdu = h.pdu in
-    let lifetime : p.lifetime < 256 = pdu.lifetime in
-    record {
-      pdu = record {
-        lifetime = omega arith;
-        destination = pdu.destination;
-        source = pdu.source;
-        segmentation = segment_kept (value_of p) (p.lifetime - loss) (segmentation_of p) pdu.segmentation;
-        options = pdu.options;
-        reason = pdu.reason;
-        header_fits = pdu.header_fits;
-        segment_fits = pdu.segment_fits;
-      };
-      from = h.from;
-      to = h.to;
-    }
-
 found_carriable : (found : Option (List Packet)) (given : List Packet) → found ≡ Some given → AreCarriable found → AllByRecursion IsCarriable given
 found_carriable found given same h = subst AreCarriable same h
 
-onward_carriable : (s : SystemState) (came : Place) (p : Packet) → AllByRecursion IsPort s.configuration.ports → IsCarriable p
-    → Onward (λ effect. AllByRecursion SendsCarriable effect.outputs) s came p
-onward_carriable s came p each h way port given there alive gives known =
+onward_carriable : EditLaws → (s : SystemState) (came : Place) (p : Packet) → AllByRecursion IsPort s.configuration.ports → IsAddress (title_of s)
+    → IsCarriable p → Onward (λ effect. AllByRecursion SendsCarriable effect.outputs) s came p
+onward_carriable laws s came p each title h way port given there alive gives known =
+    let options = options_behind s p.options in
     let wide : 512 ≤ port.mtu = (AllByRecursion-slice_get IsPort s.configuration.ports way.place.port port there each).mtu.least in
-    AllByRecursion-append SendsCarriable (transmissions (hop_by way) (Some given)) (redirects s came p way)
+    AllByRecursion-append SendsCarriable (transmissions (hop_by way) (Some given)) (redirects s came p options way)
     (each_sent (hop_by way) given
-    (found_carriable (cut (forwarded p (loss_at port)) port.mtu) given gives
-    (cut_carriable (forwarded p (loss_at port)) port.mtu (forwarded_carriable p (loss_at port) h) wide)))
-    (redirects_are SendsCarriable s came p way tt)
+    (found_carriable (cut (forwarded p (loss_at port) options) port.mtu) given gives
+    (cut_carriable (forwarded p (loss_at port) options) port.mtu (behind_carriable laws s p (loss_at port) title h) wide)))
+    (redirects_are SendsCarriable s came p options way (λ to. tt))
 
 hello_carriable : (output : Output) → IsOfHellos output → SendsCarriable output
 hello_carriable (Transmits port target packet) h = absurd h
@@ -323,26 +304,29 @@ hello_carriable (Notes note) h = tt
 hellos_carriable : (s : SystemState) (effect : Effect) → OnlyHellos s effect → AllByRecursion SendsCarriable effect.outputs
 hellos_carriable s effect h = AllByRecursion-implies IsOfHellos SendsCarriable hello_carriable effect.outputs h.outputs
 
-packet_carriable : (s : SystemState) (came : Place) (p : Packet) (following : List ℕ) → IsSystem s.configuration → IsCarriable p → CausesSuch IsSendable s p following
+packet_carriable : EditLaws → (s : SystemState) (came : Place) (p : Packet) (following : List ℕ) → All IsAddress s.configuration.addresses → IsSystem s.configuration → IsCarriable p → CausesSuch IsSendable s p following
     → AllByRecursion SendsCarriable (packet_comes s came p following).outputs
-packet_carriable s came p following system h such =
+packet_carriable laws s came p following each system h such =
     packet_does (λ effect. AllByRecursion SendsCarriable effect.outputs) s came p following
     (λ reason of_none. deed_carriable s (discard s (Labelled p following) reason 0) system
     (does_discard IsSendable s s (goes-nowhere s) (Labelled p following) reason 0 (such.reported reason of_none)))
-    (λ router. onward_carriable s came p system.each_port h) (tt, tt)
+    (λ router. onward_carriable laws s came p system.each_port
+    (first_is s.configuration.addresses (subst (λ (role : Role). HasItsAddresses role s.configuration.addresses) router system.addresses) each) h)
+    (tt, tt)
     (λ own. deed_carriable s (receive s p following) system (does_receive IsSendable s p following such s (goes-nowhere s)))
 
-content_carriable : (s : SystemState) (port : ℕ) (sender : List ℕ) (to_group : Bool) (content : Content) → IsSystem s.configuration → IsCarried content
+content_carriable : EditLaws → (s : SystemState) (port : ℕ) (sender : List ℕ) (to_group : Bool) (content : Content)
+    → All IsAddress s.configuration.addresses → IsSystem s.configuration → IsCarried content
     → AllSuch IsSendable s (FrameComes port sender to_group content)
     → AllByRecursion SendsCarriable (content_comes s (record { port = port; snpa = sender }) to_group content).outputs
-content_carriable s port sender to_group (Labelled p following) system h such =
+content_carriable laws s port sender to_group (Labelled p following) each system h such =
     let place : Place = record { port = port; snpa = sender } in
     let come = packet_comes s place p following in
-    AllByRecursion-append SendsCarriable come.outputs (responds come.after place to_group p).outputs (packet_carriable s place p following system h such)
+    AllByRecursion-append SendsCarriable come.outputs (responds come.after place to_group p).outputs (packet_carriable laws s place p following each system h such)
     (hellos_carriable come.after (responds come.after place to_group p) (only_responds come.after place to_group p))
-content_carriable s port sender to_group (Esis value following) system h such =
+content_carriable laws s port sender to_group (Esis value following) each system h such =
     let place : Place = record { port = port; snpa = sender } in hellos_carriable s (esis_comes s place value) (only_comes s place value)
-content_carriable s port sender to_group (Unlabelled octets) system h such =
+content_carriable laws s port sender to_group (Unlabelled octets) each system h such =
     deed_carriable s (octets_come s octets) system (does_with_octets IsSendable s s (goes-nowhere s) octets such)
 
 moment_carriable : (s : SystemState) (now : ℕ) → IsSystem s.configuration → AllSuch IsSendable s (MomentComes now)
@@ -355,20 +339,22 @@ moment_carriable s now system such =
     (hellos_carriable ticked hellos
     (only_then ticked (forgets s.moment ticked) says_hello (only_forgets s.moment ticked) (only_says_hello ticked)))
 
-carriable_where : (s : SystemState) (input : Input) → IsSystem s.configuration → IsFair input → AllSuch IsSendable s input
+carriable_where : EditLaws → (s : SystemState) (input : Input) → IsSystem s.configuration → IsFair input → All IsAddress s.configuration.addresses
+    → AllSuch IsSendable s input
     → AllByRecursion SendsCarriable (step s input).outputs
-carriable_where s (AsksToSend from to octets ask) system fair such =
+carriable_where laws s (AsksToSend from to octets ask) system fair each such =
     deed_carriable s (make s Dt from to octets ask) system (does_make IsSendable s Dt from to octets ask such)
-carriable_where s (AsksForEcho from to octets) system fair such =
+carriable_where laws s (AsksForEcho from to octets) system fair each such =
     let ask = echo_ask s from to (length octets) true in
     deed_carriable s (make s Erq from to octets ask) system (does_make IsSendable s Erq from to octets ask such)
-carriable_where s (FrameComes port sender to_group content) system fair such = content_carriable s port sender to_group content system fair.1 such
-carriable_where s (MomentComes now) system fair such = moment_carriable s now system such
-carriable_where s IsRestarted system fair such = (tt, tt)
+carriable_where laws s (FrameComes port sender to_group content) system fair each such = content_carriable laws s port sender to_group content each system fair.1 such
+carriable_where laws s (MomentComes now) system fair each such = moment_carriable s now system such
+carriable_where laws s IsRestarted system fair each such = (tt, tt)
+carriable_where laws s (IsCongested on) system fair each such = (tt, tt)
 
-pub step_carriable : (s : SystemState) (input : Input) → IsSystem s.configuration → IsFair input → All IsAddress s.configuration.addresses
+pub step_carriable : EditLaws → (s : SystemState) (input : Input) → IsSystem s.configuration → IsFair input → All IsAddress s.configuration.addresses
     → KeepsAsOffered s → AllByRecursion SendsCarriable (step s input).outputs
-step_carriable s input system fair each keeps = carriable_where s input system fair (all_sendable s input system fair each keeps)
+step_carriable laws s input system fair each keeps = carriable_where laws s input system fair each (all_sendable s input system fair each keeps)
 
 -- Segments that are kept are as they were offered.
 
@@ -381,6 +367,7 @@ comes_offered (AsksToSend from to octets ask) fair arrival comes = absurd comes
 comes_offered (AsksForEcho from to octets) fair arrival comes = absurd comes
 comes_offered (MomentComes now) fair arrival comes = absurd comes
 comes_offered IsRestarted fair arrival comes = absurd comes
+comes_offered (IsCongested on) fair arrival comes = absurd comes
 
 pub step_keeps : (s : SystemState) (input : Input) → IsFair input → KeepsAsOffered s → KeepsAsOffered (step s input).after
 step_keeps s input fair keeps =

@@ -10,16 +10,20 @@ use Rattle.pdu_header.specs.Spelling.{header_length}
 use Rattle.clnp_plan.specs.declared.config.PortConfig.{PortConfig}
 use Rattle.segmenter.specs.Range.{Range}
 use Rattle.segmenter.specs.Cut.{data_room, nth_range, ranges}
+use Rattle.clnp_options.specs.Edits.{HaveOneForm}
+use Rattle.clnp_options.specs.Parameter.{Parameter}
 use Rattle.clnp_machine.specs.Unit as unit
 use Rattle.clnp_machine.specs.Unit.{Packet, value_of, wire, whole_packet, piece_of, pieces, cut}
 use Rattle.clnp_machine.specs.Content.{Labelled, Esis, Unlabelled}
-use Rattle.clnp_machine.specs.System.{SystemState, Input, AsksToSend, AsksForEcho, FrameComes, MomentComes, IsRestarted, Output, Transmits, SendsEsis, Notes, Effect, then_does}
+use Rattle.clnp_machine.specs.System.{SystemState, Input, AsksToSend, AsksForEcho, FrameComes, MomentComes, IsRestarted, IsCongested, Output, Transmits, SendsEsis, Notes, Effect, then_does}
 use Rattle.clnp_machine.specs.Esis.{esis_comes, forgets, says_hello}
 use Rattle.clnp_machine.specs.Local.{Action, Sends, Tells, Deed, discard, made_in, make, receive, requests_echo, tick}
-use Rattle.clnp_machine.specs.Step.{Hop, effect_of, first_sent, forwarded, loss_at, octets_come, outputs_of, packet_comes, passes_by, responds, sent_on, step, transmissions, unit_hop, Way, hop_by, redirects}
+use Rattle.clnp_machine.specs.Step.{Hop, effect_of, first_sent, forwarded, loss_at, octets_come, outputs_of, packet_comes, passes_by, responds, sent_on, step, transmissions, unit_hop, Way, hop_by, redirects, options_behind}
 use Rattle.clnp_machine.specs.Steps.{GoesOnFrom, GoesOnOrIsReported, IsOfHellos, IsRangeOf, OnlyHellos, SendsOn, SendsRangesOf, SendsRangesOrGoesOn}
 use Rattle.clnp_machine.proofs.Asked.{discard_makes}
 use Rattle.clnp_machine.proofs.Hellos.{only_comes, only_forgets, only_responds, only_says_hello, only_then}
+use Rattle.clnp_machine.specs.EditLaws.{EditLaws}
+use Rattle.clnp_machine.proofs.Behind.{behind_form}
 use Rattle.clnp_machine.proofs.Passing.{going, packet_does, passing_does, redirects_are}
 
 -- a range of so many places
@@ -86,7 +90,7 @@ module _ (p : Packet) where
           subst (AllByRecursion (IsPartOf p)) same
           (each_piece identifier e (ranges (data_room (header_length (value_of p)) mtu) p.length) (ranges_within (data_room (header_length (value_of p)) mtu) p.length))
 
-module _ (units : List unit.Unit) (u : unit.Unit) (made : Contains units u) where
+module _ (laws : EditLaws) (units : List unit.Unit) (u : unit.Unit) (made : Contains units u) where
   part_is_range : (q : Packet) → IsPartOf (whole_packet u) q → IsRangeOf units q
   part_is_range q h =
       let same : q.unit ≡ u = h.unit in
@@ -95,7 +99,7 @@ module _ (units : List unit.Unit) (u : unit.Unit) (made : Contains units u) wher
       let to : q.offset + q.length ≤ 0 + length u.octets = h.to in
       record {
         unit = subst (Contains units) (sym same) made;
-        options = h.options ∙ ap (λ (v : unit.Unit). v.options) (sym same);
+        options = subst (λ (o : List Parameter). HaveOneForm q.options o) (h.options ∙ ap (λ (v : unit.Unit). v.options) (sym same)) (laws.form.same q.options);
         lifetime = rw same (omega arith);
         within = rw same (omega arith);
         whole = rw same h.whole;
@@ -138,14 +142,14 @@ sends_later units more (SendsEsis port target value) h = tt
 sends_later units more (Notes note) h = tt
 
 -- all that is sent is ranges of the units that are made
-pub sends_ranges : (s : SystemState) (actions : List Action) → AllByRecursion (SendsRangesOf (made_in actions)) (flat_map (outputs_of s) actions)
-sends_ranges s [] = tt
-sends_ranges s (Tells told ∷ actions) = (tt, sends_ranges s actions)
-sends_ranges s (Sends u ∷ actions) =
+pub sends_ranges : EditLaws → (s : SystemState) (actions : List Action) → AllByRecursion (SendsRangesOf (made_in actions)) (flat_map (outputs_of s) actions)
+sends_ranges laws s [] = tt
+sends_ranges laws s (Tells told ∷ actions) = (tt, sends_ranges laws s actions)
+sends_ranges laws s (Sends u ∷ actions) =
     AllByRecursion-append (SendsRangesOf (u ∷ made_in actions)) (first_sent s u (unit_hop s u)) (flat_map (outputs_of s) actions)
-    (first_sent_is_ranges (u ∷ made_in actions) u (0, omega arith, refl) s (unit_hop s u))
+    (first_sent_is_ranges laws (u ∷ made_in actions) u (0, omega arith, refl) s (unit_hop s u))
     (AllByRecursion-implies (SendsRangesOf (made_in actions)) (SendsRangesOf (u ∷ made_in actions)) (sends_later (u ∷ []) (made_in actions))
-    (flat_map (outputs_of s) actions) (sends_ranges s actions))
+    (flat_map (outputs_of s) actions) (sends_ranges laws s actions))
 
 range_sooner : (units more : List unit.Unit) (p : Packet) → IsRangeOf units p → IsRangeOf (units ++ more) p
 range_sooner units more p h = record {
@@ -158,9 +162,9 @@ range_sooner units more p h = record {
 
 -- Packets that go on.
 
-module _ (s : SystemState) (p : Packet) where
+module _ (laws : EditLaws) (s : SystemState) (p : Packet) where
   part_goes_on : (number : ℕ) (port : PortConfig) → slice_get s.configuration.ports number ≡ Some port → loss_at port < p.lifetime → (q : Packet)
-      → IsPartOf (forwarded p (loss_at port)) q → GoesOnFrom s number p q
+      → IsPartOf (forwarded p (loss_at port) (options_behind s p.options)) q → GoesOnFrom s number p q
   part_goes_on number port there alive q h =
       let same : q.unit ≡ p.unit = h.unit in
       let lifetime : q.lifetime ≡ p.lifetime - loss_at port = h.lifetime in
@@ -168,7 +172,7 @@ module _ (s : SystemState) (p : Packet) where
         port = port;
         there = there;
         unit = same;
-        options = h.options;
+        options = λ carriable. subst (λ (o : List Parameter). HaveOneForm o p.options) (sym h.options) (behind_form laws s p.options carriable.pdu.options);
         hops = h.hops;
         lifetime = omega arith;
         alive = omega arith;
@@ -178,13 +182,15 @@ module _ (s : SystemState) (p : Packet) where
       }
 
   onward : (came : Place) (way : Way) (port : PortConfig) (given : List Packet) → slice_get s.configuration.ports way.place.port ≡ Some port
-      → loss_at port < p.lifetime → cut (forwarded p (loss_at port)) port.mtu ≡ Some given → AllByRecursion (SendsOn s p) (going s came p way given)
+      → loss_at port < p.lifetime → cut (forwarded p (loss_at port) (options_behind s p.options)) port.mtu ≡ Some given
+      → AllByRecursion (SendsOn s p) (going s came p (options_behind s p.options) way given)
   onward came way port given there alive gives =
       let hop = hop_by way in
-      AllByRecursion-append (SendsOn s p) (map (λ piece. Transmits hop.port hop.target piece) given) (redirects s came p way)
-      (AllByRecursion-mapped (IsPartOf (forwarded p (loss_at port))) (SendsOn s p) (λ piece. Transmits hop.port hop.target piece) given
-      (part_goes_on hop.port port there alive) (cut_is_parts (forwarded p (loss_at port)) port.mtu given gives))
-      (redirects_are (SendsOn s p) s came p way tt)
+      let options = options_behind s p.options in
+      AllByRecursion-append (SendsOn s p) (map (λ piece. Transmits hop.port hop.target piece) given) (redirects s came p options way)
+      (AllByRecursion-mapped (IsPartOf (forwarded p (loss_at port) options)) (SendsOn s p) (λ piece. Transmits hop.port hop.target piece) given
+      (part_goes_on hop.port port there alive) (cut_is_parts (forwarded p (loss_at port) options) port.mtu given gives))
+      (redirects_are (SendsOn s p) s came p options way (λ to. tt))
 
   -- what comes of a packet for another address goes on, or its discard is reported
   pub passing_sends : (came : Place) (following : List ℕ) → GoesOnOrIsReported s p (wire p ++ following) (passes_by s.configuration.role s came p following)
@@ -192,13 +198,13 @@ module _ (s : SystemState) (p : Packet) where
       passing_does (GoesOnOrIsReported s p (wire p ++ following)) s came p following
       (λ reason of_none.
       let deed = discard s (Labelled p following) reason 0 in
-      inr (sends_ranges deed.after deed.actions, discard_makes s (Labelled p following) reason 0))
+      inr (sends_ranges laws deed.after deed.actions, discard_makes s (Labelled p following) reason 0))
       (λ router way port given there alive gives known. inl (onward came way port given there alive gives, refl)) (inl ((tt, tt), refl))
       s.configuration.role refl
 
 -- All that is sent in a step.
 
-module _ (s : SystemState) (input : Input) where
+module _ (laws : EditLaws) (s : SystemState) (input : Input) where
   abbrev pub SendsSuch : List unit.Unit → Output → Type 0
   SendsSuch units = SendsRangesOrGoesOn s input units
 
@@ -227,7 +233,7 @@ module _ (s : SystemState) (input : Input) where
   deed_such : (deed : Deed) → SendsSuchOf (effect_of deed)
   deed_such deed =
       AllByRecursion-implies (SendsRangesOf (made_in deed.actions)) (SendsSuch (made_in deed.actions)) (made_such (made_in deed.actions))
-      (flat_map (outputs_of deed.after) deed.actions) (sends_ranges deed.after deed.actions)
+      (flat_map (outputs_of deed.after) deed.actions) (sends_ranges laws deed.after deed.actions)
 
   -- an effect, and then what is said and heard
   then_such : (effect : Effect) (next : SystemState → Effect) → SendsSuchOf effect → OnlyHellos effect.after (next effect.after) → SendsSuchOf (then_does effect next)
@@ -243,31 +249,33 @@ on_such s at sender to_group p following (Transmits port target packet) h = inr 
 on_such s at sender to_group p following (SendsEsis port target value) h = tt
 on_such s at sender to_group p following (Notes note) h = tt
 
-packet_such : (s : SystemState) (at : ℕ) (sender : List ℕ) (to_group : Bool) (p : Packet) (following : List ℕ)
-    → SendsSuchOf s (FrameComes at sender to_group (Labelled p following)) (packet_comes s (record { port = at; snpa = sender }) p following)
-packet_such s at sender to_group p following =
+packet_such : (laws : EditLaws) (s : SystemState) (at : ℕ) (sender : List ℕ) (to_group : Bool) (p : Packet) (following : List ℕ)
+    → SendsSuchOf laws s (FrameComes at sender to_group (Labelled p following)) (packet_comes s (record { port = at; snpa = sender }) p following)
+packet_such laws s at sender to_group p following =
     let input : Input = FrameComes at sender to_group (Labelled p following) in
     let came : Place = record { port = at; snpa = sender } in
-    packet_does (SendsSuchOf s input) s came p following (λ reason of_none. deed_such s input (discard s (Labelled p following) reason 0))
+    let options = options_behind s p.options in
+    packet_does (SendsSuchOf laws s input) s came p following (λ reason of_none. deed_such laws s input (discard s (Labelled p following) reason 0))
     (λ router way port given there alive gives known.
     AllByRecursion-implies (SendsOn s p) (SendsRangesOrGoesOn s input []) (on_such s at sender to_group p following)
-    (going s came p way given) (onward s p came way port given there alive gives))
-    (tt, tt) (λ own. deed_such s input (receive s p following))
+    (going s came p options way given) (onward laws s p came way port given there alive gives))
+    (tt, tt) (λ own. deed_such laws s input (receive s p following))
 
-pub step_sends : (s : SystemState) (input : Input) → AllByRecursion (SendsRangesOrGoesOn s input (step s input).units) (step s input).outputs
-step_sends s (AsksToSend from to octets ask) = deed_such s (AsksToSend from to octets ask) (make s Dt from to octets ask)
-step_sends s (AsksForEcho from to octets) = deed_such s (AsksForEcho from to octets) (requests_echo s from to octets)
-step_sends s (FrameComes port sender to_group (Labelled p following)) =
+pub step_sends : EditLaws → (s : SystemState) (input : Input) → AllByRecursion (SendsRangesOrGoesOn s input (step s input).units) (step s input).outputs
+step_sends laws s (AsksToSend from to octets ask) = deed_such laws s (AsksToSend from to octets ask) (make s Dt from to octets ask)
+step_sends laws s (AsksForEcho from to octets) = deed_such laws s (AsksForEcho from to octets) (requests_echo s from to octets)
+step_sends laws s (FrameComes port sender to_group (Labelled p following)) =
     let place : Place = record { port = port; snpa = sender } in
-    then_such s (FrameComes port sender to_group (Labelled p following)) (packet_comes s place p following) (λ t. responds t place to_group p)
-    (packet_such s port sender to_group p following) (only_responds (packet_comes s place p following).after place to_group p)
-step_sends s (FrameComes port sender to_group (Esis value following)) =
+    then_such laws s (FrameComes port sender to_group (Labelled p following)) (packet_comes s place p following) (λ t. responds t place to_group p)
+    (packet_such laws s port sender to_group p following) (only_responds (packet_comes s place p following).after place to_group p)
+step_sends laws s (FrameComes port sender to_group (Esis value following)) =
     let place : Place = record { port = port; snpa = sender } in
-    hellos_such s (FrameComes port sender to_group (Esis value following)) s (esis_comes s place value).units (esis_comes s place value)
+    hellos_such laws s (FrameComes port sender to_group (Esis value following)) s (esis_comes s place value).units (esis_comes s place value)
     (only_comes s place value)
-step_sends s (FrameComes port sender to_group (Unlabelled octets)) = deed_such s (FrameComes port sender to_group (Unlabelled octets)) (octets_come s octets)
-step_sends s (MomentComes now) =
+step_sends laws s (FrameComes port sender to_group (Unlabelled octets)) = deed_such laws s (FrameComes port sender to_group (Unlabelled octets)) (octets_come s octets)
+step_sends laws s (MomentComes now) =
     let ticked = (tick s now).after in
-    then_such s (MomentComes now) (effect_of (tick s now)) (λ t. then_does (forgets s.moment t) says_hello) (deed_such s (MomentComes now) (tick s now))
+    then_such laws s (MomentComes now) (effect_of (tick s now)) (λ t. then_does (forgets s.moment t) says_hello) (deed_such laws s (MomentComes now) (tick s now))
     (only_then ticked (forgets s.moment ticked) says_hello (only_forgets s.moment ticked) (only_says_hello ticked))
-step_sends s IsRestarted = (tt, tt)
+step_sends laws s IsRestarted = (tt, tt)
+step_sends laws s (IsCongested on) = (tt, tt)

@@ -8,3 +8,4 @@ pub mod Step
 pub mod Steps
 pub mod Told
 pub mod Given
+pub mod EditLaws

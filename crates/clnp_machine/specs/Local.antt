@@ -329,8 +329,8 @@ at_moment now s = record s { moment = now }
 abbrev pub tick : SystemState → ℕ → Deed
 tick s now = expire (length s.buffers) (at_moment now s)
 
--- All that it keeps and heard is forgotten, and it is quiet as long as an identifier rests; its hello is due. The count of its
--- units goes on.
+-- All that it keeps and heard is forgotten, and it is quiet as long as an identifier rests; its hello is due, and it isn't
+-- congested. The count of its units goes on.
 abbrev pub restarted : SystemState → SystemState
 restarted s =
     record s {
@@ -340,4 +340,5 @@ restarted s =
       facts = [];
       hello = s.configuration.settings.hello;
       next_hello = s.moment;
+      congested = false;
     }

@@ -1,6 +1,6 @@
 -- One step of a system, whatever comes to it: hosts and routers differ in where they send, in what they do with a packet for
 -- another address (ISO 8473, section 6), and in what they say and hear of each other (ISO 9542, section 6).
-use Rattle.std.specs.Prelude.{ℕ, ◌+◌, ◌-◌, ◌==◌, ◌&&◌, max, nat_le, not, Bool, true, false, if◌then◌else◌, List, [], ◌∷◌, ◌++◌, map, slice_get, Option, None, Some, option_map}
+use Rattle.std.specs.Prelude.{ℕ, zero, suc, ◌+◌, ◌-◌, ◌==◌, ◌&&◌, max, nat_le, not, Bool, true, false, if◌then◌else◌, List, [], ◌∷◌, ◌++◌, map, slice_get, Option, None, Some, is_none, option_map}
 use Rattle.std.specs.List.{flat_map}
 use Rattle.std.specs.Option.{option_or}
 use Rattle.std.specs.Str.{bytes_eq}
@@ -16,19 +16,21 @@ use Rattle.forwarding.specs.declared.route.Route.{Route}
 use Rattle.forwarding.specs.Longest.{longest}
 use Rattle.pdu_header.specs.declared.kind.Kind.TheVariants.{Dt}
 use Rattle.clnp_options.specs.declared.judge.OptionRefusal.{OptionRefusal}
+use Rattle.clnp_options.specs.Edits.{advanced, edited, is_complete, marked, recorded, target_of}
+use Rattle.clnp_options.specs.Parameter.{Parameter, quality, recording, source_route}
 use Rattle.clnp_options.specs.Reasons.{reason_code}
-use Rattle.clnp_options.specs.declared.reasons.Reason.TheVariants.{DestinationUnknown, LifetimeExpiredInTransit, NotSpecified, SegmentationNotPermitted}
+use Rattle.clnp_options.specs.declared.reasons.Reason.TheVariants.{DestinationUnknown, LifetimeExpiredInTransit, NotSpecified, PathNotAcceptable, SegmentationNotPermitted, UnknownAddressInRoute}
 use Rattle.pdu_header.specs.Rules.{octet, refusal as rule_broken}
 use Rattle.clnp_plan.specs.declared.config.PortConfig.{PortConfig}
 use Rattle.clnp_plan.specs.declared.config.Role.{Role}
 use Rattle.clnp_plan.specs.declared.config.Role.TheVariants.{Host, Router}
 use Rattle.clnp_plan.specs.declared.note.Note.{Note}
-use Rattle.clnp_plan.specs.declared.note.Note.TheVariants.{BadEsis, Discard, NotMine, Alien, Restart}
+use Rattle.clnp_plan.specs.declared.note.Note.TheVariants.{BadEsis, Discard, NotMine, Alien, Restart, Congest}
 use Rattle.pdu_header.specs.Value.{SegmentationPart}
 use Rattle.clnp_machine.specs.Unit.{Unit, Packet, segmentation_of, whole_packet, cut}
 use Rattle.clnp_machine.specs.Content.{Content, Labelled, Esis, Unlabelled}
-use Rattle.clnp_machine.specs.System.{SystemState, Input, AsksToSend, AsksForEcho, FrameComes, MomentComes, IsRestarted, Output, Transmits, SendsEsis, Notes, Effect, idles, gives, then_does}
-use Rattle.clnp_machine.specs.Esis.{esis_comes, forgets, redirect, says_hello, tells_of_itself}
+use Rattle.clnp_machine.specs.System.{SystemState, Input, AsksToSend, AsksForEcho, FrameComes, MomentComes, IsRestarted, IsCongested, Output, Transmits, SendsEsis, Notes, Effect, idles, gives, then_does}
+use Rattle.clnp_machine.specs.Esis.{esis_comes, forgets, redirect, says_hello, tells_of_itself, title_of}
 use Rattle.clnp_machine.specs.Local.{Action, Sends, Tells, Deed, tells, made_in, is_own, make, discard, receive, requests_echo, tick, restarted}
 
 -- Where a system sends.
@@ -120,9 +122,52 @@ effect_of deed =
 abbrev pub loss_at : PortConfig → ℕ
 loss_at port = max 1 port.transit
 
--- a packet that was forwarded once more
-abbrev pub forwarded : Packet → (loss : ℕ) → Packet
-forwarded p loss = record p { lifetime = p.lifetime - loss; hops = p.hops + 1 }
+-- a packet that was forwarded once more, with these options
+abbrev pub forwarded : Packet → (loss : ℕ) → (options : List Parameter) → Packet
+forwarded p loss options = record p { lifetime = p.lifetime - loss; hops = p.hops + 1; options = options }
+
+-- Source routes, recorded routes, congestion.
+
+-- whether a title is the system's own
+abbrev pub is_named : SystemState → Option (List ℕ) → Bool
+is_named s None = false
+is_named s (Some title) = bytes_eq title (title_of s)
+
+-- A router passes its own title in a source route while it stands at the pointer (section 6.14).
+abbrev pub passing_own : (most : ℕ) → SystemState → List Parameter → List Parameter
+passing_own zero s options = options
+passing_own (suc most) s options =
+    if is_named s (target_of options) then passing_own most s (edited source_route advanced options) else options
+
+-- no source route has so many titles, since its pointer is an octet
+abbrev pub most_titles : ℕ
+most_titles = 255
+
+-- a router that is congested says so where a quality of service has room for it (section 6.18)
+abbrev pub noting_congestion : (congested : Bool) → List Parameter → List Parameter
+noting_congestion false options = options
+noting_congestion true options = edited quality marked options
+
+-- The options of a packet behind a router: its title is passed in a source route, and put in a recording of route (section
+-- 6.15).
+abbrev pub options_behind : SystemState → List Parameter → List Parameter
+options_behind s options =
+    noting_congestion s.congested (edited recording (recorded (title_of s)) (passing_own most_titles s options))
+
+-- what a packet is sent towards: the title to which its source route leads next, else its destination
+abbrev pub towards : (destination : List ℕ) → (title : Option (List ℕ)) → List ℕ
+towards destination None = destination
+towards destination (Some title) = title
+
+-- why it is discarded where no way leads there
+abbrev pub no_way_to : (title : Option (List ℕ)) → ℕ
+no_way_to None = reason_code DestinationUnknown
+no_way_to (Some title) = reason_code UnknownAddressInRoute
+
+-- whether the next system on a way is that of an address itself: a neighbour, or a router of this title
+abbrev pub ends_at : (address : List ℕ) → (title : Option (List ℕ)) → Bool
+ends_at address None = true
+ends_at address (Some title) = bytes_eq title address
 
 -- a packet that came in a frame is discarded for a reason, for which no place in it is told
 abbrev pub discards : SystemState → Packet → (following : List ℕ) → (reason : ℕ) → Effect
@@ -138,44 +183,61 @@ abbrev pub begins_unit : Option SegmentationPart → Bool
 begins_unit None = true
 begins_unit (Some part) = part.offset == 0
 
--- Whether its source is told of a better way where a packet goes on: the packet begins its unit, it goes on by the port by
--- which it came, and its source is an end system that is known to be at the place from which it came. A router that wants its
--- redirects held for no time sends none (ISO 9542, section 6.8).
-abbrev pub is_redirected : SystemState → (came : Place) → Packet → Way → Bool
-is_redirected s came p way =
+-- Whether its source is told of a better way where a packet goes on with these options: the packet begins its unit, it goes
+-- on by the port by which it came, and not towards a title of a source route, and its source is an end system that is known to
+-- be at the place from which it came. A router that wants its redirects held for no time sends none (ISO 9542, section 6.8).
+abbrev pub is_redirected : SystemState → (came : Place) → Packet → (options : List Parameter) → Way → Bool
+is_redirected s came p options way =
     not (s.configuration.settings.rhold == 0)
     && (way.place.port == came.port
-    && (begins_unit (segmentation_of p) && is_at came (heard.current_place s.moment Es p.unit.source s.facts)))
+    && (is_none (target_of options)
+    && (begins_unit (segmentation_of p) && is_at came (heard.current_place s.moment Es p.unit.source s.facts))))
 
 -- the redirect that follows a packet that goes on, if any does
-abbrev pub redirects : SystemState → (came : Place) → Packet → Way → List Output
-redirects s came p way =
-    if is_redirected s came p way
+abbrev pub redirects : SystemState → (came : Place) → Packet → (options : List Parameter) → Way → List Output
+redirects s came p options way =
+    if is_redirected s came p options way
     then SendsEsis came.port (System came.snpa) (redirect s p.unit.destination way.place.snpa way.title) ∷ []
     else []
 
 -- the pieces of a packet go on, and a redirect may follow them; a packet that may not be cut is discarded (section 6.9)
-abbrev pub pieces_go_on : SystemState → (came : Place) → Packet → (following : List ℕ) → Way → Option (List Packet) → Effect
-pieces_go_on s came p following way None = discards s p following (reason_code SegmentationNotPermitted)
-pieces_go_on s came p following way (Some pieces) =
-    gives s (transmissions (hop_by way) (Some pieces) ++ redirects s came p way)
+abbrev pub pieces_go_on : SystemState → (came : Place) → Packet → (following : List ℕ) → (options : List Parameter) → Way
+    → Option (List Packet) → Effect
+pieces_go_on s came p following options way None = discards s p following (reason_code SegmentationNotPermitted)
+pieces_go_on s came p following options way (Some pieces) =
+    gives s (transmissions (hop_by way) (Some pieces) ++ redirects s came p options way)
 
 -- A packet goes on by a port, in frames that its subnetwork takes, unless its lifetime ends on the way there (section 6.4).
-abbrev pub goes_on_by : SystemState → (came : Place) → Packet → (following : List ℕ) → Way → Option PortConfig → Effect
-goes_on_by s came p following way None = discards s p following (reason_code DestinationUnknown)
-goes_on_by s came p following way (Some port) =
+abbrev pub goes_on_by : SystemState → (came : Place) → Packet → (following : List ℕ) → (options : List Parameter) → Way
+    → Option PortConfig → Effect
+goes_on_by s came p following options way None = discards s p following (reason_code DestinationUnknown)
+goes_on_by s came p following options way (Some port) =
     if nat_le p.lifetime (loss_at port) then discards s p following (reason_code LifetimeExpiredInTransit)
-    else pieces_go_on s came p following way (cut (forwarded p (loss_at port)) port.mtu)
+    else pieces_go_on s came p following options way (cut (forwarded p (loss_at port) options) port.mtu)
 
--- a packet goes on by its way; without one its destination is unknown
-abbrev pub goes_on : SystemState → (came : Place) → Packet → (following : List ℕ) → Option Way → Effect
-goes_on s came p following None = discards s p following (reason_code DestinationUnknown)
-goes_on s came p following (Some way) = goes_on_by s came p following way (slice_get s.configuration.ports way.place.port)
+-- A packet goes on by its way; where there is none, the address is unknown. A complete source route allows no other system before
+-- the one that it leads to next (section 6.14).
+abbrev pub goes_on_way : SystemState → (came : Place) → Packet → (following : List ℕ) → (options : List Parameter) → Option Way → Effect
+goes_on_way s came p following options None = discards s p following (no_way_to (target_of options))
+goes_on_way s came p following options (Some way) =
+    if is_complete options && not (ends_at (towards p.unit.destination (target_of options)) way.title)
+    then discards s p following (reason_code PathNotAcceptable)
+    else goes_on_by s came p following options way (slice_get s.configuration.ports way.place.port)
+
+abbrev pub goes_on_with : SystemState → (came : Place) → Packet → (following : List ℕ) → (options : List Parameter) → Effect
+goes_on_with s came p following options =
+    goes_on_way s came p following options (way_of s (towards p.unit.destination (target_of options)))
+
+-- A packet goes on, unless its source route is complete and doesn't name the router here (section 6.14).
+abbrev pub goes_on : SystemState → (came : Place) → Packet → (following : List ℕ) → Effect
+goes_on s came p following =
+    if is_complete p.options && not (is_named s (target_of p.options)) then discards s p following (reason_code PathNotAcceptable)
+    else goes_on_with s came p following (options_behind s p.options)
 
 -- a packet for another address: no host is asked to carry it on, a router forwards it (section 6.5)
 abbrev pub passes_by : Role → SystemState → (came : Place) → Packet → (following : List ℕ) → Effect
 passes_by Host s came p following = effect_of (tells s (NotMine p.unit.destination))
-passes_by Router s came p following = goes_on s came p following (way_of s p.unit.destination)
+passes_by Router s came p following = goes_on s came p following
 
 -- A packet comes from a place: its lifetime is over (section 6.4), or it is for the system (section 6.2), or for another address.
 abbrev pub packet_comes : SystemState → (came : Place) → Packet → (following : List ℕ) → Effect
@@ -227,6 +289,10 @@ moment_comes s now =
 abbrev pub restart : SystemState → Deed
 restart s = tells (restarted s) Restart
 
+-- it is congested, or no more
+abbrev pub congest : SystemState → (on : Bool) → Deed
+congest s on = tells (record s { congested = on }) (Congest on)
+
 -- One step, whatever comes.
 abbrev pub step : SystemState → Input → Effect
 step s (AsksToSend from to octets ask) = effect_of (make s Dt from to octets ask)
@@ -234,3 +300,4 @@ step s (AsksForEcho from to octets) = effect_of (requests_echo s from to octets)
 step s (FrameComes port sender to_group content) = content_comes s (record { port = port; snpa = sender }) to_group content
 step s (MomentComes now) = moment_comes s now
 step s IsRestarted = effect_of (restart s)
+step s (IsCongested on) = effect_of (congest s on)

@@ -1,6 +1,7 @@
 -- What is so of every step of a system.
 use Rattle.std.specs.Prelude.{◌≡◌, ℕ, ◌+◌, ◌≤◌, ◌⊎◌, Bool, true, false, List, [], ◌∷◌, ◌++◌, length, map, slice_get, Option, None, Some}
 use Rattle.std.specs.List.{AllByRecursion, Contains, flat_map}
+use Rattle.clnp_options.specs.Edits.{HaveOneForm}
 use Rattle.clnp_options.specs.Grammar.{FitsKind}
 use Rattle.clnp_options.specs.Parameter.{parameters}
 use Rattle.pdu_header.specs.Grammar.{BeginsWith}
@@ -28,7 +29,7 @@ use Rattle.clnp_plan.specs.declared.note.Note.TheVariants.{Echoed, Gone, Got, He
 use Rattle.clnp_machine.specs.Unit as unit
 use Rattle.clnp_machine.specs.Unit.{DeclaredAt, Packet, IsCarriable, value_of, wire}
 use Rattle.clnp_machine.specs.Content.{Content, IsCarried, Labelled, Esis, Unlabelled}
-use Rattle.clnp_machine.specs.System.{SystemState, number_behind, Input, AsksToSend, AsksForEcho, FrameComes, MomentComes, IsRestarted, Output, Transmits, SendsEsis, Notes, Effect}
+use Rattle.clnp_machine.specs.System.{SystemState, number_behind, Input, AsksToSend, AsksForEcho, FrameComes, MomentComes, IsRestarted, IsCongested, Output, Transmits, SendsEsis, Notes, Effect}
 use Rattle.clnp_machine.specs.Esis.{own_hello, redirect}
 use Rattle.clnp_machine.specs.Local.{Deed, IsAsOffered, made_in, is_own, header_size, offered}
 use Rattle.clnp_machine.specs.Step.{loss_at, next_hop}
@@ -47,6 +48,7 @@ moment_after s (AsksForEcho from to octets) = s.moment
 moment_after s (FrameComes port sender to_group content) = s.moment
 moment_after s (MomentComes now) = now
 moment_after s IsRestarted = s.moment
+moment_after s (IsCongested on) = s.moment
 
 -- nothing is asked of the system
 abbrev pub AsksNothing : Input → Type 0
@@ -82,11 +84,12 @@ IsMadeFor (AsksToSend from to octets ask) u = (u.kind ≡ Dt) × (u.source ≡ f
 IsMadeFor (AsksForEcho from to octets) u = (u.kind ≡ Erq) × (u.source ≡ from) × (u.destination ≡ to) × (u.octets ≡ octets)
 IsMadeFor _ u = (u.kind ≡ Er) ⊎ (u.kind ≡ Erp)
 
--- what it heard, and when it says hello, is as before
+-- what it heard, when it says hello, and whether it is congested is as before
 pub record HearsNothing (before after : SystemState) : Type 0 where
   pub facts : after.facts ≡ before.facts
   pub hello : after.hello ≡ before.hello
   pub next_hello : after.next_hello ≡ before.next_hello
+  pub congested : after.congested ≡ before.congested
 
 -- all else is as before
 pub record LeavesTheRest (before after : SystemState) : Type 0 where
@@ -98,6 +101,7 @@ pub record LeavesTheRest (before after : SystemState) : Type 0 where
   pub identifiers : after.identifiers ≡ before.identifiers
   pub buffers : after.buffers ≡ before.buffers
   pub pending : after.pending ≡ before.pending
+  pub congested : after.congested ≡ before.congested
 
 -- an ES-IS PDU, or a note of what is heard or gone
 abbrev pub IsOfHellos : Output → Type 0
@@ -129,21 +133,22 @@ pub record IsEffect (s : SystemState) (effect : Effect) : Type 0 where
   pub fresh : AllByRecursion (IsFresh s s.moment) effect.units
 
 -- What holds of a packet of one of some units: it is a range of the unit, and all of it where the unit may not be
--- segmented; it was forwarded no more often than its lifetime allowed, and its options are as the unit's.
+-- segmented; it was forwarded no more often than its lifetime allowed, and its options have the form of the unit's.
 pub record IsRangeOf (units : List unit.Unit) (p : Packet) : Type 0 where
   pub unit : Contains units p.unit
-  pub options : p.options ≡ p.unit.options
+  pub options : HaveOneForm p.options p.unit.options
   pub lifetime : p.hops + p.lifetime ≤ p.unit.lifetime
   pub within : p.offset + p.length ≤ length p.unit.octets
   pub whole : p.unit.identifier ≡ None → (p.offset ≡ 0) × (p.length ≡ length p.unit.octets)
 
 -- What holds of a packet that goes on by a port, of one that came: it is a range of that one's, and all of it where its unit may
--- not be segmented; it was forwarded once more, and its lifetime is lower by the port's transit, by 1 at least, and not over.
+-- not be segmented; it was forwarded once more, and its lifetime is lower by the port's transit, by 1 at least, and not over; its
+-- options have the form of that one's, where a PDU can carry that one.
 pub record GoesOnFrom (s : SystemState) (number : ℕ) (came p : Packet) : Type 0 where
   pub port : PortConfig
   pub there : slice_get s.configuration.ports number ≡ Some port
   pub unit : p.unit ≡ came.unit
-  pub options : p.options ≡ came.options
+  pub options : IsCarriable came → HaveOneForm p.options came.options
   pub hops : p.hops ≡ came.hops + 1
   pub lifetime : p.lifetime + loss_at port ≡ came.lifetime
   pub alive : 1 ≤ p.lifetime

@@ -1,5 +1,5 @@
 -- One system: its state, what comes to it, and what it does.
-use Rattle.std.specs.Prelude.{ℕ, ◌+◌, ◌-◌, ◌^◌, min, Bool, List, [], ◌++◌}
+use Rattle.std.specs.Prelude.{ℕ, ◌+◌, ◌-◌, ◌^◌, min, Bool, false, List, [], ◌++◌}
 use Rattle.nsap.specs.declared.target.Target.{Target}
 use Rattle.reassembly.specs.declared.table.TableLimits.{TableLimits}
 use Rattle.reassembly.specs.Buffer.{Buffer}
@@ -33,6 +33,8 @@ pub record SystemState : Type 0 where
   pub hello : ℕ
   -- the moment from which on its next hello is due
   pub next_hello : ℕ
+  -- whether it is congested
+  pub congested : Bool
 
 -- a system at its start, with a quiet time that ends at a moment
 abbrev pub first_state : (place : ℕ) → SystemConfiguration → Limits → (now quiet : ℕ) → SystemState
@@ -49,6 +51,7 @@ first_state place configuration limits now quiet =
       facts = [];
       hello = configuration.settings.hello;
       next_hello = now;
+      congested = false;
     }
 
 -- the numbers that the buffers keep to
@@ -61,14 +64,15 @@ table_limits s =
       hold = s.hold;
     }
 
--- What comes to a system: it is asked to send octets, or an echo request with them; a frame comes in at a port, from an address there, to a group of
--- systems or to it alone; a moment comes; it is restarted.
+-- What comes to a system: it is asked to send octets, or an echo request with them; a frame comes in at a port, from an address
+-- there, to a group of systems or to it alone; a moment comes; it is restarted; it is congested from now on, or no more.
 pub data Input : Type 0 where
   AsksToSend : (from to octets : List ℕ) (ask : Ask) → Input
   AsksForEcho : (from to octets : List ℕ) → Input
   FrameComes : (port : ℕ) (sender : List ℕ) (to_group : Bool) (content : Content) → Input
   MomentComes : (now : ℕ) → Input
   IsRestarted : Input
+  IsCongested : (on : Bool) → Input
 
 -- what a system gives out: it sends a packet or an ES-IS PDU on a port, or notes something
 pub data Output : Type 0 where

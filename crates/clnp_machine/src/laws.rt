@@ -1,11 +1,11 @@
 //! Laws of one step of a system: each holds for every state and whatever comes, and its function
 //! does nothing.
-ghost use Rattle.std.specs.Prelude.{All, Bool, false, ◌≡◌, ◌==◌, ◌&&◌, ◌↔◌, ◌≤◌, ℕ, None, Some, List, [], ◌++◌, length, map, not, option_map};
+ghost use Rattle.std.specs.Prelude.{All, Bool, false, ◌≡◌, ◌==◌, ◌&&◌, ◌↔◌, ◌≤◌, ◌-◌, ℕ, None, Some, List, [], ◌++◌, length, map, not, option_map};
 ghost use Rattle.std.specs.List.{AllByRecursion, Contains, filter, flat_map, list_any};
 ghost use Rattle.hex.specs.Hex.{IsBytes};
 ghost use Rattle.pdu_header.specs.declared.kind.Kind.{Kind};
 ghost use Rattle.pdu_header.specs.declared.kind.Kind.TheVariants.{Er, Erp};
-ghost use Rattle.pdu_header.specs.Spelling.{type_code};
+ghost use Rattle.pdu_header.specs.Spelling.{header_length, type_code};
 ghost use Rattle.pdu_header.specs.Value.{PduValue};
 ghost use Rattle.error_reports.specs.Report.{report_of};
 ghost use Rattle.echo.specs.Reply.{reply_of};
@@ -24,11 +24,13 @@ ghost use Rattle.esis_tables.specs.declared.fact.Place.{Place};
 ghost use Rattle.clnp_plan.specs.declared.ask.Ask.{Ask};
 ghost use Rattle.clnp_machine.specs.Unit.{Unit, Packet, IsCarriable, cut, value_of, whole_packet, wire};
 ghost use Rattle.clnp_machine.specs.Content.{Content, Esis, IsCarried, Labelled, Unlabelled, content_of, frame_of};
-ghost use Rattle.clnp_machine.specs.Esis.{esis_comes, forgets, own_hello, says_hello, tells_new, tells_of_itself};
-ghost use Rattle.clnp_machine.specs.Local.{Action, at_moment, discard, echo_ask, gives_up, made_in, make, receive, refusal, report_unit, tick, unit_of};
+ghost use Rattle.clnp_machine.specs.Esis.{esis_comes, forgets, own_hello, says_hello, tells_new, tells_of_itself, title_of};
+ghost use Rattle.clnp_machine.specs.Local.{Action, at_moment, discard, echo_ask, gives_up, header_size, made_in, make, receive, refusal, report_unit, tick, unit_of};
 ghost use Rattle.clnp_machine.specs.System.{SystemState, Input, FrameComes, IsRestarted};
-ghost use Rattle.clnp_machine.specs.Step.{octets_come, outputs_of, packet_comes, passes_by, responds, step};
-ghost use Rattle.clnp_machine.specs.Steps.{AreCarriable, AreNumbered, IsAtMostReportOf, IsMadeFor, IsNoRestart, IsRedirectFor, KeepsAsOffered, KeepsNextHops, KnowsAddresses, ReportsOn, RestartsNothing, WasPendingOrMade, BreaksNoEsisRule, BreaksNoRule, CarriesOneEsisValue, CarriesOnePacket, IsAtMostItsHello, IsAtMostOneTo, IsDeed, IsEffect, IsFair, IsForOwn, GoesOnOrIsReported, IsFresh, IsWithinBudget, NotesOnly, OnlyHellos, SendsCarriable, SendsEsisPdus, SendsItsOwn, SendsRangesOrGoesOn, StaysItself, WasKeptOrComes, moment_after, segments_in, sends_esis, sends_frame};
+ghost use Rattle.pdu_header.specs.Headers.{with_lifetime, with_options};
+ghost use Rattle.clnp_machine.specs.EditLaws.{EditLaws};
+ghost use Rattle.clnp_machine.specs.Step.{forwarded, octets_come, options_behind, outputs_of, packet_comes, passes_by, responds, step};
+ghost use Rattle.clnp_machine.specs.Steps.{AreCarriable, AreNumbered, IsAtMostReportOf, IsMadeFor, IsNoRestart, IsRedirectFor, KeepsAsOffered, KeepsNextHops, KnowsAddresses, ReportsOn, RestartsNothing, WasPendingOrMade, BreaksNoEsisRule, BreaksNoRule, CarriesOneEsisValue, CarriesOnePacket, IsAtMostItsHello, IsAtMostOneTo, IsDeed, IsEffect, IsFair, IsForOwn, GoesOnOrIsReported, IsFresh, IsRangeOf, IsWithinBudget, NotesOnly, OnlyHellos, SendsCarriable, SendsEsisPdus, SendsItsOwn, SendsRangesOrGoesOn, StaysItself, WasKeptOrComes, moment_after, segments_in, sends_esis, sends_frame};
 ghost use Rattle.clnp_machine.specs.Told.{IsAllowed, IsRefusal, IsToldBy, NoteIsQuiet, NotesNoRule, SpellsPdus, TellsNoInterference, TellsOnly, WasThereOrTakes};
 
 /// A step leaves a system at its place with its configuration, at the moment that came last.
@@ -72,7 +74,9 @@ pub fn new_units_are_fresh()
 pub fn ranges_of_units_are_sent()
     ensures { (s : SystemState) (input : Input)
         → AllByRecursion (SendsRangesOrGoesOn s input (step s input).units) (step s input).outputs }
-{}
+{
+    laws_of_edits();
+}
 
 /// Each packet that forwarding sends has one hop more than the one that came, and a lifetime that is
 /// lower by the transit of the port by which it goes on, at least by one; or the one that came doesn't
@@ -80,7 +84,28 @@ pub fn ranges_of_units_are_sent()
 pub fn forwarding_costs_lifetime()
     ensures { (s : SystemState) (came : Place) (p : Packet) (following : List ℕ)
         → GoesOnOrIsReported s p (wire p ++ following) (passes_by s.configuration.role s came p following) }
-{}
+{
+    laws_of_edits();
+}
+
+/// The header of a packet is as long as that of its unit's initial PDU, however often it was forwarded: a
+/// router changes the values of options, and never their lengths.
+pub fn headers_keep_their_length()
+    ensures { (units : List Unit) (p : Packet) → IsRangeOf units p → header_length (value_of p) ≡ header_size p.unit }
+{
+    laws_of_edits();
+}
+
+/// The PDU of a packet that goes on has the value of the one that came, but for its lifetime and options;
+/// and where a router has a title, a PDU can carry it.
+pub fn what_goes_on_has_its_value()
+    ensures value { (s : SystemState) (p : Packet) (loss : ℕ) → IsCarriable p → value_of (forwarded p loss (options_behind s p.options))
+        ≡ with_options (options_behind s p.options) (with_lifetime (p.lifetime - loss) (value_of p)) }
+    ensures carriable { (s : SystemState) (p : Packet) (loss : ℕ) → IsAddress (title_of s) → IsCarriable p
+        → IsCarriable (forwarded p loss (options_behind s p.options)) }
+{
+    laws_of_edits();
+}
 
 /// PDUs can carry each packet that is sent in a step of a system of sound configuration with addresses,
 /// where what comes to it is fair, and the segments that it keeps can be carried.
@@ -88,7 +113,9 @@ pub fn what_is_sent_is_carriable()
     ensures sent { (s : SystemState) (input : Input) → IsSystem s.configuration → IsFair input
         → All IsAddress s.configuration.addresses → KeepsAsOffered s → AllByRecursion SendsCarriable (step s input).outputs }
     ensures kept { (s : SystemState) (input : Input) → IsFair input → KeepsAsOffered s → KeepsAsOffered (step s input).after }
-{}
+{
+    laws_of_edits();
+}
 
 /// A system sends no ES-IS PDU but its own hello and, as a router, redirects. Where it is configured as
 /// a system with addresses, what comes is fair, and what it heard of is at addresses, each is one that
@@ -303,4 +330,13 @@ pub fn no_frame_is_of_both_protocols()
 {
     pdu_header::laws::spelled_where_no_rule_is_broken();
     esis_pdus::laws::spelled_where_no_rule_is_broken();
+}
+
+/// What the laws of options and of PDUs say of a router's edits.
+fn laws_of_edits()
+    ensures { EditLaws }
+{
+    clnp_options::laws::edits_keep_the_form();
+    clnp_options::laws::edits_keep_options_formed();
+    pdu_header::laws::edited_pdus_are_pdus();
 }

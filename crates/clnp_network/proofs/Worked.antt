@@ -4,7 +4,7 @@ use Rattle.std.proofs.Common.{◌≡◌, ℕ, true, false, List, [], ◌∷◌, 
 use Rattle.hex.specs.Hex.{encode_with, decode_pairs}
 use Rattle.fletcher.specs.Checksum.{sealed, checksum_x, checksum_y}
 use Rattle.clnp_options.specs.Parameter.{spelled, parameters_after}
-use Rattle.clnp_options.specs.Edits.{value_of}
+use Rattle.clnp_options.specs.Edits.{edited, target_of, value_of}
 use Rattle.clnp_options.specs.Grammar.{joined}
 use Rattle.pdu_header.specs.Rules.{extent_refusal}
 use Rattle.esis_pdus.specs.Timer.{seconds_of}
@@ -153,10 +153,10 @@ sent_across to = record {
 }
 
 journal-across_a_router : journal (sent_across of_b) ≡ codes "1 r tx 1 0 es 820e0100040078b1cd04470027ff\n1 r tx 2 1 es 820e0100040078b1cd04470027ff\n1 a hear is 470027ff new\n1 b hear is 470027ff new\n1 a sent dt 1 - 47002702 47002701 2\n1 a tx 3 0 0a 8113010a3c0015ce58044700270104470027026869\n1 r tx 4 1 02 811301093c0015d354044700270104470027026869\n1 b got 47002702 47002701 6869\nend 1 4\n"
-unfolding parameters_after encode_with sealed checksum_x checksum_y spelled joined digits seconds_of
+unfolding target_of value_of edited parameters_after encode_with sealed checksum_x checksum_y spelled joined digits seconds_of
 journal-across_a_router = refl
 
 -- a host that the router has no way to: the discard is reported, with the header that came
 journal-reported : journal (sent_across (0x47 ∷ 0 ∷ 0x27 ∷ 3 ∷ [])) ≡ codes "1 r tx 1 0 es 820e0100040078b1cd04470027ff\n1 r tx 2 1 es 820e0100040078b1cd04470027ff\n1 a hear is 470027ff new\n1 b hear is 470027ff new\n1 a sent dt 1 - 47002702 47002703 2\n1 a tx 3 0 0a 8113010a3c0015d84c044700270304470027026869\n1 r drop 81 00\n1 r sent er 1 - 470027ff 47002702 19\n1 r tx 4 0 01 8117014001002a5678044700270204470027ffc10281008113010a3c0015d84c04470027030447002702\n1 a report 470027ff 47002702 81 00 8113010a3c0015d84c04470027030447002702\nend 1 4\n"
-unfolding extent_refusal value_of parameters_after encode_with sealed checksum_x checksum_y spelled joined digits seconds_of
+unfolding extent_refusal target_of value_of edited parameters_after encode_with sealed checksum_x checksum_y spelled joined digits seconds_of
 journal-reported = refl

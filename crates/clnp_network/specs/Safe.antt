@@ -11,12 +11,13 @@ use Rattle.scenario.specs.declared.event.Move.{Move}
 use Rattle.scenario.specs.declared.event.Move.TheVariants.{One, SettleOne, LoseOne, TickOne}
 use Rattle.pdu_header.specs.declared.kind.Kind.TheVariants.{Erq, Erp}
 use Rattle.pdu_header.specs.Rules.{header_of}
+use Rattle.pdu_header.specs.Spelling.{header_length}
 use Rattle.echo.specs.Match.{Echoes}
 use Rattle.esis_pdus.specs.Grammar.{IsPdu}
 use Rattle.clnp_machine.specs.Content.{Labelled, Esis, Unlabelled, Content, frame_of}
 use Rattle.clnp_machine.specs.Unit as unit
-use Rattle.clnp_machine.specs.Unit.{DeclaredAt, Packet, wire}
-use Rattle.clnp_machine.specs.Local.{is_own}
+use Rattle.clnp_machine.specs.Unit.{DeclaredAt, Packet, value_of, wire}
+use Rattle.clnp_machine.specs.Local.{header_size, is_own}
 use Rattle.clnp_machine.specs.System.{SystemState}
 use Rattle.clnp_machine.specs.Steps.{BreaksNoEsisRule, BreaksNoRule, IsRangeOf, IsRedirectFor, KeepsNextHops}
 use Rattle.clnp_machine.specs.Told.{NotesNoRule}
@@ -82,6 +83,16 @@ MeetsLifetime (Unlabelled octets) = Unit {0}
 -- no PDU of the network was forwarded more often than its lifetime allowed
 abbrev pub IsWithinLifetimes : World → Type 0
 IsWithinLifetimes w = AllByRecursion (λ copy. MeetsLifetime copy.content) w.copies
+
+-- the header of a packet is as long as that of its unit's initial PDU
+abbrev pub KeepsHeader : Content → Type 0
+KeepsHeader (Labelled packet following) = header_length (value_of packet) ≡ header_size packet.unit
+KeepsHeader (Esis value following) = Unit {0}
+KeepsHeader (Unlabelled octets) = Unit {0}
+
+-- each packet of the network has such a header, however often it was cut and forwarded
+abbrev pub KeepsHeaders : World → Type 0
+KeepsHeaders w = AllByRecursion (λ copy. KeepsHeader copy.content) w.copies
 
 -- A frame carries a range of a unit that was made, and its copy is as old as the unit; or it carries an ES-IS value that a PDU
 -- can carry. Nothing is behind its PDU.

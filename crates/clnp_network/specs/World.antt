@@ -12,12 +12,12 @@ use Rattle.clnp_plan.specs.declared.config.Role.TheVariants.{Host, Router}
 use Rattle.clnp_plan.specs.declared.config.PortConfig.{PortConfig}
 use Rattle.scenario.specs.Scenario.{Plan, octets_of}
 use Rattle.scenario.specs.declared.event.Event.{Event}
-use Rattle.scenario.specs.declared.event.Event.TheVariants.{Send, Echo, Deliver, Settle, Lose, Tick, Restart}
+use Rattle.scenario.specs.declared.event.Event.TheVariants.{Send, Echo, Deliver, Settle, Lose, Tick, Restart, Congest}
 use Rattle.scenario.specs.declared.event.Move.{Move}
 use Rattle.scenario.specs.declared.event.Move.TheVariants.{One, SettleOne, LoseOne, TickOne}
 use Rattle.clnp_machine.specs.Unit.{Maker, DeclaredAt, Unit}
 use Rattle.clnp_machine.specs.Content.{Content, Labelled, Esis, frame_of}
-use Rattle.clnp_machine.specs.System.{SystemState, first_state, Input, AsksToSend, AsksForEcho, FrameComes, MomentComes, IsRestarted, Output, Transmits, SendsEsis, Notes, Effect}
+use Rattle.clnp_machine.specs.System.{SystemState, first_state, Input, AsksToSend, AsksForEcho, FrameComes, MomentComes, IsRestarted, IsCongested, Output, Transmits, SendsEsis, Notes, Effect}
 use Rattle.clnp_machine.specs.Step.{step}
 
 -- a frame on a subnetwork, for good
@@ -233,6 +233,7 @@ event_happens limits w (Some (Lose count)) = nothing w
 event_happens limits w (Some (Tick count)) = nothing w
 event_happens limits w (Some (Deliver copy system)) = deliver limits w copy system
 event_happens limits w (Some (Restart system)) = comes w system IsRestarted
+event_happens limits w (Some (Congest system on)) = comes w system (IsCongested on)
 event_happens limits w (Some (Send system from to body ask)) = asks w system (AsksToSend from to (octets_of body) ask)
 event_happens limits w (Some (Echo system from to body)) = comes w system (AsksForEcho from to (octets_of body))
 

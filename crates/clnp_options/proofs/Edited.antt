@@ -1,6 +1,6 @@
 -- A part in which the value of one option was changed.
-use Rattle.std.proofs.Common.{◌≡◌, ◌∙◌, sym, ap, subst, refl, ℕ, ◌+◌, ◌-◌, ◌≤◌, ◌≢◌, inl, inr, Bool, true, false, ◌||◌, List, [], ◌∷◌, ◌++◌, map, length, take, drop, get_or, arith, length-append, append_assoc, Some, None, is_some, IsNone, IsSome}
-use Rattle.std.specs.Option.{option_and_then}
+use Rattle.std.proofs.Common.{◌≡◌, ◌∙◌, sym, ap, subst, refl, ℕ, ◌+◌, ◌-◌, ◌≤◌, ◌≢◌, inl, inr, Bool, true, false, ◌||◌, ◌==◌, List, [], ◌∷◌, ◌++◌, map, length, take, drop, get_or, arith, length-append, append_assoc, Some, None, is_some, IsNone, IsSome}
+use Rattle.std.specs.Option.{option_and_then, option_map_or}
 use Rattle.std.specs.Prelude.{All, AllPairs, eqb}
 use Rattle.std.specs.List.{list_any}
 use Rattle.std.proofs.lemmas.Bool.{cases_Bool, true≢false, eq-eqb, eqb-true}
@@ -11,7 +11,7 @@ use borrow.Rule.Slice.PartMut.{put_mid}
 use Rattle.clnp_options.specs.Parameter.{Parameter, padding, source_route, recording, quality, reason, spelling, spelled, parameters}
 use Rattle.clnp_options.specs.Grammar.{IsTitle, IsSourceRoute, IsRecording, HasForm, AreFormed}
 use Rattle.clnp_options.specs.Rules.{place_of_reason, is_reason, Accepts, IsWellFormed}
-use Rattle.clnp_options.specs.Edits.{edited, value_of, pointer_of, title_at, target_of, advanced, recorded, marked}
+use Rattle.clnp_options.specs.Edits.{edited, value_of, pointer_of, title_at, target_of, is_complete, advanced, recorded, marked}
 use Rattle.clnp_options.specs.Located.{StandsAt}
 use Rattle.clnp_options.proofs.Parts.{spelled-append, spelled-cons, parameters-of_spelled}
 use Rattle.clnp_options.proofs.Places.{is_some-place_of}
@@ -121,7 +121,7 @@ octets-edited part code start end s change value w n e l =
     ∙ ap (λ t. spelled s.before ++ t) (spelled-cons option (parameters s.after) ∙ ap (λ t. spelling option ++ t) (sym (after_spelled part code start end s w))) in
     rw (front, back, e, ← l) (append_assoc (spelled s.before) (code ∷ length (change s.value) ∷ []) (change s.value ++ s.after)) ∙ sym whole
 
-codes_of : List Parameter → List ℕ
+pub codes_of : List Parameter → List ℕ
 codes_of os = map (λ o. o.code) os
 
 code_at : (os ps : List Parameter) (i : ℕ) (d : Parameter) → codes_of os ≡ codes_of ps → (get_or os i d).code ≡ (get_or ps i d).code
@@ -129,7 +129,7 @@ unfolding codes_of
 code_at os ps i d e =
     sym (get_or-map (λ (o : Parameter). o.code) os i d) ∙ ap (λ t. get_or t i d.code) e ∙ get_or-map (λ (o : Parameter). o.code) ps i d
 
-pairs_by_codes : (os ps : List Parameter) → codes_of os ≡ codes_of ps → AllPairs Differs os → AllPairs Differs ps
+pub pairs_by_codes : (os ps : List Parameter) → codes_of os ≡ codes_of ps → AllPairs Differs os → AllPairs Differs ps
 unfolding codes_of
 pairs_by_codes os ps e h i j d lt within same =
     let l : length os ≡ length ps = sym (length-map os (λ o. o.code)) ∙ ap length e ∙ length-map ps (λ o. o.code) in
@@ -140,10 +140,10 @@ unfolding codes_of
 reasons_of [] = refl
 reasons_of (o ∷ os) = ap (λ t. eqb o.code reason || t) (reasons_of os)
 
-reason_by_codes : (os ps : List Parameter) → codes_of os ≡ codes_of ps → list_any is_reason os ≡ list_any is_reason ps
+pub reason_by_codes : (os ps : List Parameter) → codes_of os ≡ codes_of ps → list_any is_reason os ≡ list_any is_reason ps
 reason_by_codes os ps e = reasons_of os ∙ ap (list_any (λ c. eqb c reason)) e ∙ sym (reasons_of ps)
 
-codes_of-edited : (code : ℕ) (change : List ℕ → List ℕ) (os : List Parameter) → codes_of (edited code change os) ≡ codes_of os
+pub codes_of-edited : (code : ℕ) (change : List ℕ → List ℕ) (os : List Parameter) → codes_of (edited code change os) ≡ codes_of os
 unfolding codes_of edited
 codes_of-edited code change [] = refl
 codes_of-edited code change (o ∷ os) =
@@ -152,7 +152,7 @@ codes_of-edited code change (o ∷ os) =
       | inr f ↦ rw f (ap (λ t. o.code ∷ t) (codes_of-edited code change os))
     ]
 
-kind_by_codes : (is_report : Bool) (os ps : List Parameter) → list_any is_reason os ≡ list_any is_reason ps → IsNone (place_of_reason is_report 1 os) → IsNone (place_of_reason is_report 1 ps)
+pub kind_by_codes : (is_report : Bool) (os ps : List Parameter) → list_any is_reason os ≡ list_any is_reason ps → IsNone (place_of_reason is_report 1 os) → IsNone (place_of_reason is_report 1 ps)
 kind_by_codes true os ps e h =
     elim (cases_Bool (list_any is_reason ps)) [
       | inl t ↦ rw t refl
@@ -236,6 +236,15 @@ target_of-at part start end s =
 pub target_of-none : (part : List ℕ) → value_of source_route (parameters part) ≡ None → None ≡ target_of (parameters part)
 unfolding target_of
 target_of-none part e = sym (ap (option_and_then title_at) e)
+
+-- the route's kind is the part's
+pub complete_of-at : (part : List ℕ) (start end : ℕ) → StandsAt part source_route start end → (get_or (take (end - start) (drop start part)) 0 0 == 1) ≡ is_complete (parameters part)
+complete_of-at part start end s =
+    ap (λ v. get_or v 0 0 == 1) (value_at part source_route start end s)
+    ∙ sym (ap (λ o. option_map_or (λ value. get_or value 0 0 == 1) o false) (value_of-at part source_route start end s))
+
+pub complete_of-none : (part : List ℕ) → value_of source_route (parameters part) ≡ None → false ≡ is_complete (parameters part)
+complete_of-none part e = sym (ap (λ o. option_map_or (λ value. get_or value 0 0 == 1) o false) e)
 
 pub target_leads : (part : List ℕ) (start end : ℕ) → StandsAt part source_route start end → IsSome (target_of (parameters part)) → pointer_of (take (end - start) (drop start part)) ≤ length (take (end - start) (drop start part))
 target_leads part start end s h =

@@ -8,3 +8,4 @@ pub mod Agree
 pub mod Pushed
 pub mod Edited
 pub mod Values
+pub mod Kept

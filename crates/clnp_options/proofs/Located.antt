@@ -1,12 +1,11 @@
 -- Where an option's value stands in a part.
-use Rattle.std.proofs.Common.{◌≡◌, ◌∙◌, sym, ap, refl, ℕ, ◌+◌, ◌-◌, ◌≢◌, List, [], ◌∷◌, ◌++◌, length, arith, length-append, append_assoc, Some, None}
+use Rattle.std.proofs.Common.{◌≡◌, ◌∙◌, sym, ap, refl, ℕ, ◌≢◌, List, [], ◌∷◌, ◌++◌, length, append_assoc, Some, None}
 use Rattle.std.specs.Prelude.{eqb}
 use Rattle.std.proofs.Common.{inl, inr}
 use Rattle.std.proofs.lemmas.Bool.{cond-true, cond-false, cases_Bool, ne_eqb, eq-eqb}
 use Rattle.std.proofs.lemmas.List.{append-nil}
 use Rattle.clnp_options.specs.Parameter.{Parameter, spelling, spelled, parameters}
 use Rattle.clnp_options.specs.Edits.{value_of}
-use Rattle.clnp_options.specs.Located.{StandsAt}
 use Rattle.clnp_options.proofs.Parts.{spelled-append, spelled-cons, spelled-nil}
 use Rattle.std.proofs.lemmas.Option.{none-some}
 

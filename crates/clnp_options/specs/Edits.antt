@@ -1,5 +1,6 @@
 -- What a router reads and changes in the options of a PDU that it forwards.
-use Rattle.std.specs.Prelude.{ℕ, ◌+◌, ◌-◌, ◌==◌, nat_le, if◌then◌else◌, List, [], ◌∷◌, ◌++◌, map, length, take, drop, slice_index, slice_set, bit_or, Option, Some, None, option_and_then}
+use Rattle.std.specs.Prelude.{◌≡◌, ℕ, ◌+◌, ◌-◌, ◌==◌, nat_le, Bool, false, if◌then◌else◌, List, [], ◌∷◌, ◌++◌, map, length, take, drop, slice_index, slice_set, bit_or, Option, Some, None, option_and_then, ⊤}
+use Rattle.std.specs.Option.{option_map_or}
 use Rattle.clnp_options.specs.Parameter.{Parameter, source_route}
 
 -- the options with the value of each one of this code changed
@@ -31,6 +32,14 @@ title_at value =
 unfoldable pub target_of : List Parameter → Option (List ℕ)
 target_of options = option_and_then title_at (value_of source_route options)
 
+-- whether a source route is complete: the PDU goes through the systems that it names and no others (type code 1)
+abbrev pub is_complete : List Parameter → Bool
+is_complete options = option_map_or (λ value. slice_index value 0 == 1) (value_of source_route options) false
+
+-- the number of octets of a source route from its pointer on
+abbrev pub route_left : List Parameter → ℕ
+route_left options = option_map_or (λ value. length value + 1 - pointer_of value) (value_of source_route options) 0
+
 -- a source route with its pointer moved past the title there and its length octet
 unfoldable pub advanced : List ℕ → List ℕ
 advanced value = slice_set value 1 (pointer_of value + title_size value + 1)
@@ -53,3 +62,11 @@ recorded title value =
 -- a quality of service with the congestion bit, 0x08, set where its format is the globally unique one, 11
 unfoldable pub marked : List ℕ → List ℕ
 marked value = if nat_le 192 (slice_index value 0) then slice_set value 0 (bit_or (slice_index value 0) 8) else value
+
+-- options of the same codes, with values of the same lengths
+abbrev pub HaveOneForm : List Parameter → List Parameter → Type 0
+HaveOneForm [] [] = ⊤
+HaveOneForm [] (other ∷ others) = ⊥
+HaveOneForm (one ∷ ones) [] = ⊥
+HaveOneForm (one ∷ ones) (other ∷ others) =
+    (one.code ≡ other.code) × (length one.value ≡ length other.value) × HaveOneForm ones others

@@ -1,12 +1,12 @@
 //! What a router reads and changes in the options of a PDU that it forwards: where a source route
-//! leads, the pointer behind it, the recording of route, the congestion bit.
+//! leads, whether it is complete, the pointer behind it, the recording of route, the congestion bit.
 
-ghost use Rattle.std.specs.Prelude.{◌≡◌, ◌+◌, ◌≤◌, ◌≢◌, Bool, length, min, option_copied, IsSome, MatchOption, None, Some};
+ghost use Rattle.std.specs.Prelude.{◌≡◌, ◌+◌, ◌≤◌, ◌≢◌, Bool, length, min, option_copied, IsSome, MatchOption, None, Some, slice_index, ◌==◌};
 ghost use Rattle.clnp_options.specs.Parameter.{parameters, spelled, source_route, recording, quality};
 ghost use Rattle.clnp_options.specs.Rules.{IsWellFormed, Accepts};
 ghost use Rattle.clnp_options.specs.Grammar.{IsTitle};
 ghost use Rattle.clnp_options.specs.Edits as edits;
-ghost use Rattle.clnp_options.specs.Edits.{edited, target_of, value_of, pointer_of, advanced, recorded, marked};
+ghost use Rattle.clnp_options.specs.Edits.{edited, target_of, is_complete, value_of, pointer_of, advanced, recorded, marked};
 ghost use Rattle.clnp_options.specs.Located.{StandsAt, LeadsOn};
 
 use crate::codes::{QUALITY, RECORDING, SOURCE_ROUTE};
@@ -16,6 +16,8 @@ use crate::read::first_option;
 const ENDED: u8 = 255;
 /// The format of the globally unique values.
 const GLOBALLY_UNIQUE: u8 = 0xc0;
+/// The type code of a complete source route.
+const COMPLETE: u8 = 1;
 /// Congestion experienced.
 const CONGESTION: u8 = 0x08;
 
@@ -36,6 +38,17 @@ pub fn route_target(part: &[u8]) -> Option<&[u8]>
         return None;
     };
     title_at(&part[start..end])
+}
+
+/// Whether the part has a complete source route: the PDU goes through the systems that it names and no others.
+pub fn is_route_complete(part: &[u8]) -> bool
+    requires { IsWellFormed part.now }
+    ensures { result ≡ is_complete (parameters part.now) }
+{
+    let Some((start, end)) = value_range(part, SOURCE_ROUTE) else {
+        return false;
+    };
+    has_complete_kind(&part[start..end])
 }
 
 /// Moves the pointer of the part's source route past the title there and its length octet.
@@ -115,6 +128,14 @@ fn title_at(value: &[u8]) -> Option<&[u8]>
     }
     let size = value[pointer - 1] as usize;
     Some(&value[pointer..pointer + size])
+}
+
+/// Whether a source route's kind says that it is complete.
+fn has_complete_kind(value: &[u8]) -> bool
+    requires { 1 ≤ length value.now }
+    ensures { result ≡ (slice_index value.now 0 == 1) }
+{
+    value[0] == COMPLETE
 }
 
 /// Moves a source route's pointer past the title there and its length octet.

@@ -12,7 +12,9 @@ mod list;
 mod read;
 mod reasons;
 
-pub use edit::{advance_route, level, mark_congestion, record_title, route_target};
+pub use edit::{
+    advance_route, is_route_complete, level, mark_congestion, record_title, route_target,
+};
 pub use judge::{OptionRefusal, check, place_of_unfit};
 pub use kinds::{OptionRef, Options, walk};
 pub use list::{OptionList, OptionTooLong};

@@ -13,7 +13,7 @@ use Rattle.esis_tables.specs.declared.fact.Heard.TheVariants as heard
 use Rattle.esis_tables.specs.declared.fact.TableKind.{TableKind}
 use Rattle.esis_tables.specs.declared.fact.TableKind.TheVariants as table
 use Rattle.clnp_plan.specs.declared.note.Note.{Note}
-use Rattle.clnp_plan.specs.declared.note.Note.TheVariants.{Sent, Refused, Got, Report, Echoed, Stray, Discard, Held, Repeat, Crowded, Many, NoSlot, Interference, Expired, NotMine, Alien, BadEsis, Hear, Gone, Ignored, Restart}
+use Rattle.clnp_plan.specs.declared.note.Note.TheVariants.{Sent, Refused, Got, Report, Echoed, Stray, Discard, Held, Repeat, Crowded, Many, NoSlot, Interference, Expired, NotMine, Alien, BadEsis, Hear, Gone, Ignored, Restart, Congest}
 use Rattle.clnp_plan.specs.declared.note.Why.{Why}
 use Rattle.clnp_plan.specs.declared.note.Why.TheVariants as why
 
@@ -65,6 +65,11 @@ abbrev pub ignored_word : Bool → List ℕ
 ignored_word true = codes "rd"
 ignored_word false = codes "ish"
 
+-- whether a router is congested
+abbrev pub on_word : Bool → List ℕ
+on_word true = codes "on"
+on_word false = codes "off"
+
 -- where a frame goes: to one system, or to a group
 abbrev pub target_word : Target → List ℕ
 target_word (System snpa) = hex_text snpa
@@ -104,6 +109,7 @@ note_words (Hear table key heard) = codes "hear" ∷ table_word table ∷ hex_te
 note_words (Gone table key) = codes "gone" ∷ table_word table ∷ hex_text key ∷ []
 note_words (Ignored rd) = codes "ignored" ∷ ignored_word rd ∷ []
 note_words Restart = codes "restart" ∷ []
+note_words (Congest on) = codes "congest" ∷ on_word on ∷ []
 
 -- A line: what a system notes, a frame that it transmits as a copy with a number on a port, a copy that isn't there
 -- for it to be given, or one that is too old to be given.

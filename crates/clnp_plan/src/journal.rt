@@ -1,7 +1,7 @@
 //! The text of journal lines: words separated by one space, each line ended by `\n`.
 ghost use Rattle.std.specs.Prelude.{◌≡◌, ◌∷◌, ◌++◌, codes, map, take, length, OnOk, OnErr};
 ghost use Rattle.nsap.specs.Text.{hex_text};
-ghost use Rattle.clnp_plan.specs.Journal.{Late, Noted, Transmitted, Void, line_of, line_text, end_text, heard_words, ignored_word, kind_word, table_word, why_word, octets_word, identifier_word, rule_word, target_word};
+ghost use Rattle.clnp_plan.specs.Journal.{Late, Noted, Transmitted, Void, line_of, line_text, end_text, heard_words, ignored_word, kind_word, on_word, table_word, why_word, octets_word, identifier_word, rule_word, target_word};
 ghost use Rattle.clnp_plan.specs.Words.{word_text};
 
 use crate::note::{Note, Why};
@@ -209,6 +209,10 @@ pub fn journal_text<'a>(
             push_line(first, &words, out)
         }
         Note::Restart => push_line(first, &[name, Word::Text(b"restart")], out),
+        Note::Congest { on } => {
+            let words = [name, Word::Text(b"congest"), on_word(*on)];
+            push_line(first, &words, out)
+        }
     }
 }
 
@@ -414,6 +418,17 @@ fn ignored_word(rd: bool) -> Word<'static>
         Word::Text(b"rd")
     } else {
         Word::Text(b"ish")
+    }
+}
+
+/// The word of whether a router is congested.
+fn on_word(on: bool) -> Word<'static>
+    ensures { word_text result ≡ on_word on }
+{
+    if on {
+        Word::Text(b"on")
+    } else {
+        Word::Text(b"off")
     }
 }
 

@@ -125,4 +125,8 @@ pub enum Note {
     },
     /// The system was restarted.
     Restart,
+    /// The router was said to be congested, or else to be so no longer.
+    Congest {
+        on: bool,
+    },
 }

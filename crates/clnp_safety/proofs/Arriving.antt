@@ -8,6 +8,7 @@ use Rattle.std.specs.List.{AllByRecursion, find}
 use Rattle.std.proofs.lemmas.Bool.{cases_Bool, eqb-false, true≢false}
 use Rattle.std.proofs.lemmas.List.{append-nil}
 use Rattle.nsap.specs.Address.{IsAddress}
+use Rattle.clnp_options.specs.Edits.{is_complete, target_of}
 use Rattle.clnp_options.specs.Parameter.{Parameter}
 use Rattle.clnp_options.specs.Reasons.{reason_code}
 use Rattle.clnp_options.specs.declared.reasons.Reason.TheVariants.{Congestion}
@@ -27,7 +28,7 @@ use Rattle.esis_tables.specs.declared.fact.Place.{Place}
 use Rattle.clnp_machine.specs.Esis.{esis_comes, is_silent, tells_of_itself}
 use Rattle.clnp_machine.specs.System.{SystemState, Effect, FrameComes, Transmits, table_limits}
 use Rattle.clnp_machine.specs.Local.{Deed, and_then, data_in, discard, echo_ask, hand_up, is_all, is_answer, is_own, octet_of, offer, offered, receive, takes_in, takes_reply, tells}
-use Rattle.clnp_machine.specs.Step.{Hop, Way, content_comes, discards, forwarded, goes_on, goes_on_by, hop_by, is_asked_for, is_redirected, loss_at, packet_comes, passes_by, pieces_go_on, redirects, responds, transmissions, way_of}
+use Rattle.clnp_machine.specs.Step.{Hop, Way, content_comes, discards, ends_at, forwarded, goes_on, goes_on_by, goes_on_way, hop_by, is_asked_for, is_named, is_redirected, loss_at, options_behind, packet_comes, passes_by, pieces_go_on, redirects, responds, towards, transmissions, way_of}
 use Rattle.clnp_machine.specs.Steps.{IsRangeOf, KnowsAddresses, NotesOnly}
 use Rattle.clnp_machine.specs.Told.{TellsNoInterference}
 use Rattle.clnp_plan.specs.declared.config.PortConfig.{PortConfig}
@@ -165,7 +166,7 @@ module _ (laws : StepLaws) (plan : Plan) (fit : IsFit plan) (past : List Entry) 
         kept_live : AllByRecursion (IsLive plan units w.clock) kept
         kept_live =
             all_after laws (table_limits s) s.moment (offered p []) (IsLive plan units w.clock)
-            (stay_live plan fit past w.clock units made p packet carriable young identifier identified (table_limits s) sound.hold s.moment sound.moment alive)
+            (stay_live laws plan fit past w.clock units made p packet carriable young identifier identified (table_limits s) sound.hold s.moment sound.moment alive)
             s.buffers live_buffers
 
         kept_within : held kept ≤ s.configuration.settings.budget
@@ -190,7 +191,7 @@ module _ (laws : StepLaws) (plan : Plan) (fit : IsFit plan) (past : List Entry) 
             let it = unit_sound plan past w.clock units u made live.sound.made in
             let len : data_len joined.shape ≡ length u.octets = ap data_len live.sound.shape ∙ (let total = it.total in omega arith) in
             joined_is_unit units u it.first_position joined live.sound.kept len whole
-            ∙ ap (λ (v : unit.Unit). v.octets) (unit_in plan fit past w.clock units made p packet carriable young identifier identified joined live same)
+            ∙ ap (λ (v : unit.Unit). v.octets) (unit_in laws plan fit past w.clock units made p packet carriable young identifier identified joined live same)
 
         is_joined : buffer.answer (table_limits s) s.moment (offered p []) s.buffers ≡ buffer.Whole
             → Does (takes_in s (Labelled p []) (offered p []) kept buffer.Whole)
@@ -220,7 +221,7 @@ module _ (laws : StepLaws) (plan : Plan) (fit : IsFit plan) (past : List Entry) 
         taken buffer.Whole told = is_joined told
         taken (buffer.Interference there other) told =
             absurd (subst TellsNoInterference told (laws.segments.apart (table_limits s) s.moment (offered p []) s.buffers
-            (clashes_with_none plan fit past w.clock units made p packet carriable young identifier identified s.buffers live_buffers)))
+            (clashes_with_none laws plan fit past w.clock units made p packet carriable young identifier identified s.buffers live_buffers)))
         taken buffer.Repeat told = tells_soundly plan past w s.configuration.name units w.clock place s _ may tt
         taken (buffer.NoSlot live) told = tells_and_discards (note.NoSlot live) (reason_code Congestion) tt
         taken (buffer.Crowded held size) told = tells_and_discards (note.Crowded held size) (reason_code Congestion) tt
@@ -236,7 +237,7 @@ module _ (laws : StepLaws) (plan : Plan) (fit : IsFit plan) (past : List Entry) 
       receive_is_sound =
           let it = unit_sound plan past w.clock units p.unit made packet.unit in
           elim (cases_Bool (is_all p)) [
-            | inl all ↦ rw all (hands_up_octets own s.buffers sound p.options (value_of p).body (whole_is_unit units p packet it.first_position it.total all))
+            | inl all ↦ rw all (hands_up_octets own s.buffers sound p.options (value_of p).body (whole_is_unit laws units p packet it.first_position it.total all))
             | inr part ↦ rw part (offer_is_sound p.unit.identifier refl part)
           ]
 
@@ -251,35 +252,49 @@ module _ (laws : StepLaws) (plan : Plan) (fit : IsFit plan) (past : List Entry) 
     pieces_note_nothing hop [] = tt
     pieces_note_nothing hop (piece ∷ pieces) = (tt, pieces_note_nothing hop pieces)
 
-    redirects_note_nothing : (came : Place) (way : Way) → AllByRecursion (NotesOnly (IsHonest plan past w s.configuration.name)) (redirects s came p way)
-    redirects_note_nothing came way = elim (cases_Bool (is_redirected s came p way)) [ inl wanted ↦ rw wanted (tt, tt) | inr none ↦ rw none tt ]
+    -- with the options that the router leaves
+    module _ (came : Place) (options : List Parameter) where
+      redirects_note_nothing : (way : Way) → AllByRecursion (NotesOnly (IsHonest plan past w s.configuration.name)) (redirects s came p options way)
+      redirects_note_nothing way = elim (cases_Bool (is_redirected s came p options way)) [ inl wanted ↦ rw wanted (tt, tt) | inr none ↦ rw none tt ]
 
-    pieces_soundly : (came : Place) (way : Way) (pieces : Option (List Packet)) → Gives (pieces_go_on s came p [] way pieces)
-    pieces_soundly came way None = is_discarded _
-    pieces_soundly came way (Some pieces) = record {
-      after = subst (λ us. SystemIsSound plan us w.clock place s) (sym (append-nil units)) sound;
-      rest = (subst (λ us. MayDo plan us w.clock place s) (sym (append-nil units)) may).rest;
-      replies = tt;
-      notes = AllByRecursion-append (NotesOnly (IsHonest plan past w s.configuration.name)) (transmissions (hop_by way) (Some pieces)) (redirects s came p way)
-          (pieces_note_nothing (hop_by way) pieces) (redirects_note_nothing came way);
-    }
+      pieces_soundly : (way : Way) (pieces : Option (List Packet)) → Gives (pieces_go_on s came p [] options way pieces)
+      pieces_soundly way None = is_discarded _
+      pieces_soundly way (Some pieces) = record {
+        after = subst (λ us. SystemIsSound plan us w.clock place s) (sym (append-nil units)) sound;
+        rest = (subst (λ us. MayDo plan us w.clock place s) (sym (append-nil units)) may).rest;
+        replies = tt;
+        notes = AllByRecursion-append (NotesOnly (IsHonest plan past w s.configuration.name)) (transmissions (hop_by way) (Some pieces)) (redirects s came p options way)
+            (pieces_note_nothing (hop_by way) pieces) (redirects_note_nothing way);
+      }
 
-    goes_on_by_soundly : (came : Place) (way : Way) (port : Option PortConfig) → Gives (goes_on_by s came p [] way port)
-    goes_on_by_soundly came way None = is_discarded _
-    goes_on_by_soundly came way (Some port) =
-        elim (cases_Bool (nat_le p.lifetime (loss_at port))) [
-          | inl over ↦ rw over (is_discarded _)
-          | inr lives ↦ rw lives (pieces_soundly came way (cut (forwarded p (loss_at port)) port.mtu))
+      goes_on_by_soundly : (way : Way) (port : Option PortConfig) → Gives (goes_on_by s came p [] options way port)
+      goes_on_by_soundly way None = is_discarded _
+      goes_on_by_soundly way (Some port) =
+          elim (cases_Bool (nat_le p.lifetime (loss_at port))) [
+            | inl over ↦ rw over (is_discarded _)
+            | inr lives ↦ rw lives (pieces_soundly way (cut (forwarded p (loss_at port) options) port.mtu))
+          ]
+
+      goes_on_way_soundly : (way : Option Way) → Gives (goes_on_way s came p [] options way)
+      goes_on_way_soundly None = is_discarded _
+      goes_on_way_soundly (Some way) =
+          elim (cases_Bool (is_complete options && not (ends_at (towards p.unit.destination (target_of options)) way.title))) [
+            | inl off ↦ rw off (is_discarded _)
+            | inr there ↦ rw there (goes_on_by_soundly way (slice_get s.configuration.ports way.place.port))
+          ]
+
+    goes_on_soundly : (came : Place) → Gives (goes_on s came p [])
+    goes_on_soundly came =
+        let options = options_behind s p.options in
+        elim (cases_Bool (is_complete p.options && not (is_named s (target_of p.options)))) [
+          | inl off ↦ rw off (is_discarded _)
+          | inr named ↦ rw named (goes_on_way_soundly came options (way_of s (towards p.unit.destination (target_of options))))
         ]
-
-    goes_on_soundly : (came : Place) (way : Option Way) → Gives (goes_on s came p [] way)
-    goes_on_soundly came None = is_discarded _
-    goes_on_soundly came (Some way) = goes_on_by_soundly came way (slice_get s.configuration.ports way.place.port)
 
     passes_soundly : (role : Role) (came : Place) → Gives (passes_by role s came p [])
     passes_soundly Host came =
         deed_is_sound plan past w s.configuration.name units w.clock place laws _ (tells_soundly plan past w s.configuration.name units w.clock place s (note.NotMine p.unit.destination) may tt)
-    passes_soundly Router came = goes_on_soundly came (way_of s p.unit.destination)
+    passes_soundly Router came = goes_on_soundly came
 
     packet_is_sound : (came : Place) → w.clock ≤ p.unit.made + plan.limits.age → Gives (packet_comes s came p [])
     packet_is_sound came young =

@@ -82,7 +82,7 @@ step_meets laws w place s input there comes k =
 pub lifetimes_hold : StepLaws → (plan : Plan) (moves : List Move) → IsWithinLifetimes (world_after plan (first_world plan) moves)
 lifetimes_hold laws plan moves =
     keeps-moves ComesWithin IsWithinLifetimes AnyLine
-    (record { steps = step_meets laws; frames = frame_comes_within; moments = λ now. tt; restarts = tt; cursor = λ w next k. k; clock = λ w now k. k; fine = any_line_is_fine })
+    (record { steps = step_meets laws; frames = frame_comes_within; moments = λ now. tt; restarts = tt; congestion = λ on. tt; cursor = λ w next k. k; clock = λ w now k. k; fine = any_line_is_fine })
     plan (asked_by_all ComesWithin (λ from to octets ask. tt) (λ from to octets. tt) plan.events) moves (first_world plan) tt
 
 -- Budgets.
@@ -115,6 +115,6 @@ opened_within limits place (system ∷ systems) = (omega arith, opened_within li
 pub budgets_hold : StepLaws → (plan : Plan) (moves : List Move) → IsWithinBudgets (world_after plan (first_world plan) moves)
 budgets_hold laws plan moves =
     keeps-moves AnyInput IsWithinBudgets AnyLine
-    (record { steps = step_within laws; frames = λ w at copy e k s. tt; moments = λ now. tt; restarts = tt; cursor = λ w next k. k; clock = λ w now k. k; fine = any_line_is_fine })
+    (record { steps = step_within laws; frames = λ w at copy e k s. tt; moments = λ now. tt; restarts = tt; congestion = λ on. tt; cursor = λ w next k. k; clock = λ w now k. k; fine = any_line_is_fine })
     plan (any_events plan.events) moves (first_world plan)
     (opened_within plan.limits 0 plan.systems)

@@ -13,12 +13,12 @@ use Rattle.reassembly.specs.Arrival.{same_key, same_shape}
 use Rattle.reassembly.specs.Buffer.{Buffer, buffer_of, clashes, opened_by}
 use Rattle.reassembly.proofs.Shared.{same_key-true}
 use Rattle.clnp_machine.specs.Unit as unit
-use Rattle.clnp_machine.specs.Unit.{IsCarriable, Packet, value_of}
+use Rattle.clnp_machine.specs.Unit.{IsCarriable, Packet}
 use Rattle.clnp_machine.specs.Local.{header_size, identifier_in, offered}
+use Rattle.clnp_machine.specs.Steps.{IsRangeOf}
 use Rattle.clnp_network.specs.Run.{Entry}
 use Rattle.clnp_safety.specs.Invariant.{BufferIsSound, IsOfUnit, Owns, UnitIsSound, UnitsAreSound}
-use Rattle.clnp_machine.specs.Steps.{IsRangeOf}
-use Rattle.clnp_safety.proofs.BufferUnits.{header_of_unit}
+use Rattle.clnp_safety.specs.StepLaws.{StepLaws}
 use Rattle.clnp_safety.proofs.Units.{different_makers, same_unit}
 use Rattle.clnp_safety.proofs.Kept.{KeptIn, find_passes}
 
@@ -37,15 +37,15 @@ same_shape-like a b e =
 abbrev unit_shape : unit.Unit → Shape
 unit_shape u = record { total = u.total; head_len = header_size u; kind = type_code u.kind }
 
-shape_offered : (p : Packet) → p.options ≡ p.unit.options → (offered p []).shape ≡ unit_shape p.unit
-shape_offered p options = ap (λ n. record { total = p.unit.total; head_len = n; kind = type_code p.unit.kind }) (header_of_unit p options)
+shape_offered : StepLaws → (units : List unit.Unit) (p : Packet) → IsRangeOf units p → (offered p []).shape ≡ unit_shape p.unit
+shape_offered laws units p range = ap (λ n. record { total = p.unit.total; head_len = n; kind = type_code p.unit.kind }) (laws.headers.header units p range)
 
 -- a buffer that is sound, and isn't due
 pub record IsLive (plan : Plan) (units : List unit.Unit) (now : ℕ) (buffer : Buffer Packet) : Type 0 where
   pub sound : BufferIsSound plan units buffer
   pub lasts : now < buffer.deadline
 
-module _ (plan : Plan) (fit : IsFit plan) (past : List Entry) (now : ℕ) (units : List unit.Unit) (made : UnitsAreSound plan past now units)
+module _ (laws : StepLaws) (plan : Plan) (fit : IsFit plan) (past : List Entry) (now : ℕ) (units : List unit.Unit) (made : UnitsAreSound plan past now units)
     (p : Packet) (packet : IsRangeOf units p) (carriable : IsCarriable p) (young : now ≤ p.unit.made + plan.limits.age) (identifier : ℕ)
     (identified : p.unit.identifier ≡ Some identifier) where
   -- a unit that was made so long before or after it isn't that of a buffer that lasts
@@ -81,7 +81,7 @@ module _ (plan : Plan) (fit : IsFit plan) (past : List Entry) (now : ℕ) (units
   shape_in_buffer : (buffer : Buffer Packet) → IsLive plan units now buffer → same_key buffer.key (offered p []).key ≡ true
       → buffer.shape ≡ (offered p []).shape
   shape_in_buffer buffer live same =
-      live.sound.shape ∙ ap unit_shape (unit_in buffer live same) ∙ sym (shape_offered p packet.options)
+      live.sound.shape ∙ ap unit_shape (unit_in buffer live same) ∙ sym (shape_offered laws units p packet)
 
   clashes_not : (found : Option (Buffer Packet))
       → ((buffer : Buffer Packet) → found ≡ Some buffer → buffer.shape ≡ (offered p []).shape) → clashes found (offered p []).shape ≡ false
@@ -109,7 +109,7 @@ module _ (plan : Plan) (fit : IsFit plan) (past : List Entry) (now : ℕ) (units
         identifier = identifier;
         identified = identified;
         key = ap (λ n. record { from = p.unit.source; to = p.unit.destination; id = n }) (ap identifier_in identified);
-        shape = shape_offered p packet.options;
+        shape = shape_offered laws units p packet;
         opened = omega arith;
         deadline = omega arith;
         kept = (of_unit p.unit refl, tt);

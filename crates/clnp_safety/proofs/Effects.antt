@@ -38,18 +38,19 @@ use Rattle.clnp_safety.proofs.Units.{buffer_later, packet_goes_on, packet_later,
 -- What a step gives out is sound, where its notes are: what it sends is of units that are made in it, or of that of the packet
 -- that came.
 
-range_goes_on : (units : List unit.Unit) (s : SystemState) (port : ℕ) (input : Input) (p : Packet) → ComesSoundly units input → GoesOnOf s port input p
+range_goes_on : StepLaws → (units : List unit.Unit) (s : SystemState) (port : ℕ) (input : Input) (p : Packet) → ComesSoundly units input → GoesOnOf s port input p
     → IsRangeOf units p
-range_goes_on units s port (FrameComes at sender to_group (Labelled came following)) p comes on = packet_goes_on units s port came p on comes.1.0
-range_goes_on units s port _ p comes on = absurd on
+range_goes_on laws units s port (FrameComes at sender to_group (Labelled came following)) p comes on =
+    packet_goes_on laws units s port came p on comes.1.0 comes.2
+range_goes_on laws units s port _ p comes on = absurd on
 
-module _ (Q : Note → Type 0) (units made : List unit.Unit) (s : SystemState) (input : Input) (comes : ComesSoundly units input) where
+module _ (laws : StepLaws) (Q : Note → Type 0) (units made : List unit.Unit) (s : SystemState) (input : Input) (comes : ComesSoundly units input) where
   output_is_sound : (output : Output) → SendsRangesOrGoesOn s input made output → SendsCarriable output → SendsEsisPdus output → NotesOnly Q output
       → OutputIsSound Q (units ++ made) output
   output_is_sound (Transmits port target packet) sends carriable pdus notes = (
     elim sends [
       | inl new ↦ packet_of_more units made packet new
-      | inr on ↦ packet_later units made packet (range_goes_on units s port input packet comes on)
+      | inr on ↦ packet_later units made packet (range_goes_on laws units s port input packet comes on)
     ],
     carriable,
   )
@@ -161,7 +162,7 @@ module _ (laws : StepLaws) (plan : Plan) (fit : IsFit plan) (past : List Entry) 
         → AllByRecursion (OutputIsSound Q (units ++ (step s input).units)) (step s input).outputs
     step_gives_soundly Q fair notes =
         let is = configured place s.configuration sound.declared in
-        outputs_are_sound Q units (step s input).units s input comes (step s input).outputs (laws.steps.ranges s input)
+        outputs_are_sound laws Q units (step s input).units s input comes (step s input).outputs (laws.steps.ranges s input)
         (laws.steps.carriable s input is.0 fair is.1.own (kept_as_offered plan units s sound.buffers))
         (laws.steps.esis_pdus s input is.0 is.1 fair sound.known) notes
 

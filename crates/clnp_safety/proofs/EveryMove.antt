@@ -1,6 +1,6 @@
 -- What each step of a system keeps, whatever comes to it, or whatever comes that a plan's events allow, each move keeps.
 use Rattle.clnp_base.proofs.Lists.{AllByRecursion-any, AllByRecursion-slice_get}
-use Rattle.std.proofs.Common.{◌≡◌, ℕ, refl, List, [], ◌∷◌, ◌+◌, length, ◌-◌}
+use Rattle.std.proofs.Common.{◌≡◌, ℕ, refl, List, [], ◌∷◌, ◌+◌, length, ◌-◌, Bool}
 use Rattle.std.specs.Prelude.{slice_get, Option, None, Some}
 use Rattle.std.specs.List.{AllByRecursion, range_with_len}
 use Rattle.clnp_plan.specs.Journal.{Line}
@@ -8,10 +8,10 @@ use Rattle.clnp_plan.specs.declared.ask.Ask.{Ask}
 use Rattle.clnp_plan.specs.declared.config.Limits.{Limits}
 use Rattle.scenario.specs.Scenario.{Plan, octets_of}
 use Rattle.scenario.specs.declared.event.Event.{Event}
-use Rattle.scenario.specs.declared.event.Event.TheVariants.{Send, Echo, Deliver, Settle, Lose, Tick, Restart}
+use Rattle.scenario.specs.declared.event.Event.TheVariants.{Send, Echo, Deliver, Settle, Lose, Tick, Restart, Congest}
 use Rattle.scenario.specs.declared.event.Move.{Move}
 use Rattle.scenario.specs.declared.event.Move.TheVariants.{One, SettleOne, LoseOne, TickOne}
-use Rattle.clnp_machine.specs.System.{SystemState, Input, AsksToSend, AsksForEcho, MomentComes, IsRestarted}
+use Rattle.clnp_machine.specs.System.{SystemState, Input, AsksToSend, AsksForEcho, MomentComes, IsRestarted, IsCongested}
 use Rattle.clnp_machine.specs.Step.{step}
 use Rattle.clnp_network.specs.World.{World, Copy, takes_effect, comes, frame_to, addressees_from, settle_copy, lose_copy, tick_each, event_happens, after}
 use Rattle.clnp_network.specs.Run.{Entry, entries_of, world_after}
@@ -49,6 +49,7 @@ pub record EachStepKeeps (Comes : Input → Type 0) (K : World → Type 0) (Q : 
   pub frames : (w : World) (at : ℕ) (copy : Copy) → slice_get w.copies at ≡ Some copy → K w → (s : SystemState) → Comes (frame_to s copy)
   pub moments : (now : ℕ) → Comes (MomentComes now)
   pub restarts : Comes IsRestarted
+  pub congestion : (on : Bool) → Comes (IsCongested on)
   pub cursor : (w : World) (next : ℕ) → K w → K (record w { cursor = next })
   pub clock : (w : World) (now : ℕ) → K w → K (record w { clock = now })
   pub fine : NotGivenIsFine Q
@@ -69,6 +70,7 @@ module _ (Comes : Input → Type 0) (K : World → Type 0) (Q : Line → Type 0)
       keeps-deliver K Q each.fine limits w number system k
       (λ copy e s there soon. each.steps w system s (frame_to s copy) there (each.frames w (number - 1) copy e k s) k)
   keeps-event limits w (Some (Restart system)) may k = keeps-comes w system IsRestarted each.restarts k
+  keeps-event limits w (Some (Congest system on)) may k = keeps-comes w system (IsCongested on) (each.congestion on) k
   keeps-event limits w (Some (Send system from to body ask)) may k =
       keeps-asks K Q w system (AsksToSend from to (octets_of body) ask) k
       (keeps-comes w system (AsksToSend from to (octets_of body) ask) (may (Send system from to body ask) refl) k)

@@ -30,6 +30,7 @@ hellos_then s effect next first second = record {
     identifiers = second.rest.identifiers ∙ first.rest.identifiers;
     buffers = second.rest.buffers ∙ first.rest.buffers;
     pending = second.rest.pending ∙ first.rest.pending;
+    congested = second.rest.congested ∙ first.rest.congested;
   };
   outputs = AllByRecursion-append IsOfHellos effect.outputs (next effect.after).outputs first.outputs second.outputs;
   units = ap (λ us. us ++ (next effect.after).units) first.units ∙ second.units;

@@ -16,7 +16,7 @@ use Rattle.clnp_machine.specs.Unit.{Packet, more_follows, value_of, value_with}
 use Rattle.clnp_machine.specs.Local.{header_size, is_all, octet_of}
 use Rattle.clnp_safety.specs.Invariant.{IsOfUnit}
 use Rattle.clnp_machine.specs.Steps.{IsRangeOf}
-use Rattle.clnp_safety.proofs.BufferUnits.{header_of_unit}
+use Rattle.clnp_safety.specs.StepLaws.{StepLaws}
 
 -- the octet at a place of a unit's data
 abbrev unit_octet : ℕ → unit.Unit → ℕ
@@ -43,7 +43,7 @@ module _ (units : List unit.Unit) (u : unit.Unit) (first : u.first_position ≡ 
       get_or-map-range_with_len read 0 (data_len buffer.shape) place place 0 low (omega arith)
       ∙ octet_of_unit buffer.kept place all (each_place (is_covered buffer.kept) (data_len buffer.shape) whole place low))
 
-module _ (units : List unit.Unit) (p : Packet) (sound : IsRangeOf units p) (first : p.unit.first_position ≡ 0)
+module _ (laws : StepLaws) (units : List unit.Unit) (p : Packet) (sound : IsRangeOf units p) (first : p.unit.first_position ≡ 0)
     (total : p.unit.total ≡ header_size p.unit + length p.unit.octets) where
   body_of_all : p.offset ≡ 0 → length p.unit.octets ≤ p.length → (value_of p).body ≡ p.unit.octets
   body_of_all start most =
@@ -54,7 +54,7 @@ module _ (units : List unit.Unit) (p : Packet) (sound : IsRangeOf units p) (firs
   none_follows : (identifier : ℕ) → p.unit.identifier ≡ Some identifier → (value_of p).more ≡ false → length p.unit.octets ≤ p.offset + p.length
   none_follows identifier is none =
       let reaches = ltb-false (p.offset + p.length) (p.unit.total - header_length (value_with p false)) (ap (more_follows p) (sym is) ∙ none) in
-      let same : header_length (value_with p false) ≡ header_size p.unit = header_of_unit p sound.options in
+      let same : header_length (value_with p false) ≡ header_size p.unit = laws.headers.header units p sound in
       omega arith
 
   whole_by : (identifier : Option ℕ) → p.unit.identifier ≡ identifier → (is_none identifier || ((p.offset == 0) && not (value_of p).more)) ≡ true

@@ -5,7 +5,6 @@ pub mod Told
 pub mod SendUnits
 pub mod SendAsked
 pub mod Deeds
-pub mod BufferUnits
 pub mod Founded
 pub mod BufferOffers
 pub mod Joining
@@ -13,6 +12,7 @@ pub mod Hellos
 pub mod Arriving
 pub mod Ticking
 pub mod Restarting
+pub mod Congesting
 pub mod Lines
 pub mod Steps
 pub mod EveryMove

@@ -6,7 +6,7 @@ use Rattle.std.specs.List.{AllByRecursion}
 use Rattle.clnp_plan.specs.Journal.{Line}
 use Rattle.scenario.specs.Scenario.{AsksFairly, AsksInForm, Plan, IsFit, octets_of}
 use Rattle.scenario.specs.declared.event.Event.{Event}
-use Rattle.scenario.specs.declared.event.Event.TheVariants.{Send, Echo, Deliver, Settle, Lose, Tick, Restart}
+use Rattle.scenario.specs.declared.event.Event.TheVariants.{Send, Echo, Deliver, Settle, Lose, Tick, Restart, Congest}
 use Rattle.scenario.specs.declared.event.Move.{Move}
 use Rattle.scenario.specs.declared.event.Move.TheVariants.{One, SettleOne, LoseOne, TickOne}
 use Rattle.clnp_machine.specs.Unit as unit
@@ -18,13 +18,14 @@ use Rattle.reassembly.specs.Arrival.{Arrival}
 use Rattle.reassembly.specs.Buffer.{Buffer}
 use Rattle.clnp_network.specs.World.{World, Copy, after, event_happens, deliver, settle_one, lose_one, tick_one, first_world}
 use Rattle.clnp_network.specs.Run.{Entry, entries_of, moves_made, run, world_after}
-use Rattle.clnp_network.specs.Safe.{AsksFor, CarriesRanges, EachIsFounded, EachWasSent, FramesAreUnbroken, HoldsOneUnit, HoldsUnitsApart, IdentifiersRest, IsHonest, IsSend, IsUnbroken, NoInterference, NoneIsAlien, RangeIn, TellsNoRule}
+use Rattle.clnp_network.specs.Safe.{AsksFor, CarriesRanges, EachIsFounded, EachWasSent, FramesAreUnbroken, HoldsOneUnit, HoldsUnitsApart, IdentifiersRest, IsHonest, IsSend, IsUnbroken, KeepsHeader, KeepsHeaders, NoInterference, NoneIsAlien, RangeIn, TellsNoRule}
 use Rattle.clnp_safety.specs.Invariant.{BufferIsSound, Carries, CopyIsSound, IsBornWithUnit, IsOfUnit, WorldIsSound}
 use Rattle.clnp_safety.specs.StepLaws.{StepLaws}
 use Rattle.clnp_safety.proofs.Lines.{LinesAreSound, lines_are_apart, lines_are_founded, lines_are_honest, lines_are_known, lines_tell_no_rule}
 use Rattle.clnp_safety.proofs.Moves.{MoveIsSound, kept_is_sound, nothing_is_sound}
 use Rattle.clnp_safety.proofs.Settles.{settle_one_is_sound, deliver_is_sound, lose_one_is_sound}
 use Rattle.clnp_safety.proofs.Restarting.{restarted_is_sound}
+use Rattle.clnp_safety.proofs.Congesting.{congested_is_sound}
 use Rattle.clnp_safety.proofs.Ticks.{tick_one_is_sound}
 use Rattle.clnp_safety.proofs.Asked.{echo_is_asked, system_is_asked}
 use Rattle.clnp_safety.proofs.Opens.{first_world_is_sound}
@@ -41,6 +42,7 @@ module _ (laws : StepLaws) (plan : Plan) (fit : IsFit plan) where
     event_is_sound move (Some (Deliver copy system)) fair asks =
         kept_is_sound plan past move w w.clock (deliver plan.limits w copy system) (deliver_is_sound laws plan fit past w h copy system)
     event_is_sound move (Some (Restart system)) fair asks = restarted_is_sound laws plan fit past move w h system
+    event_is_sound move (Some (Congest system on)) fair asks = congested_is_sound laws plan fit past move w h system on
     event_is_sound move (Some (Send system from to body ask)) fair asks =
         let is = fair (Send system from to body ask) refl in
         system_is_asked laws plan fit past move w h system from to (octets_of body) ask (is.1, is.0) (asks from to (octets_of body) (refl, refl, refl))
@@ -153,6 +155,17 @@ frames_are_unbroken laws plan fit moves =
     let w = world_after plan (first_world plan) moves in
     AllByRecursion-implies (CopyIsSound w.units) (λ (copy : Copy). IsUnbroken copy.content)
     (λ copy h. unbroken laws w.units copy.content h.carries h.carried) w.copies (last_is_sound laws plan fit moves).1.copies
+
+keeps_header : StepLaws → (units : List unit.Unit) (content : Content) → Carries (IsRangeOf units) content → KeepsHeader content
+keeps_header laws units (Labelled packet following) carries = laws.headers.header units packet carries.0
+keeps_header laws units (Esis value following) carries = tt
+keeps_header laws units (Unlabelled octets) carries = tt
+
+pub headers_are_kept : StepLaws → (plan : Plan) → IsFit plan → (moves : List Move) → KeepsHeaders (world_after plan (first_world plan) moves)
+headers_are_kept laws plan fit moves =
+    let w = world_after plan (first_world plan) moves in
+    AllByRecursion-implies (CopyIsSound w.units) (λ (copy : Copy). KeepsHeader copy.content)
+    (λ copy h. keeps_header laws w.units copy.content h.carries) w.copies (last_is_sound laws plan fit moves).1.copies
 
 one_unit : (plan : Plan) (units : List unit.Unit) (buffer : Buffer Packet) → BufferIsSound plan units buffer → HoldsOneUnit units buffer
 one_unit plan units buffer h =

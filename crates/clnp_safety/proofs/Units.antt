@@ -8,10 +8,11 @@ use Rattle.reassembly.specs.Arrival.{Arrival}
 use Rattle.reassembly.specs.Buffer.{Buffer}
 use Rattle.scenario.specs.Scenario.{Plan, IsFit}
 use Rattle.clnp_plan.specs.Configuration.{SystemConfiguration, AreDistinct}
+use Rattle.clnp_options.specs.Edits.{HaveOneForm}
 use Rattle.pdu_header.specs.declared.kind.Kind.{Kind}
 use Rattle.pdu_header.specs.declared.kind.Kind.TheVariants.{Dt, Er, Erq, Erp}
 use Rattle.clnp_machine.specs.Unit as unit
-use Rattle.clnp_machine.specs.Unit.{Packet}
+use Rattle.clnp_machine.specs.Unit.{IsCarriable, Packet}
 use Rattle.clnp_machine.specs.Content.{Content, Labelled, Esis, Unlabelled}
 use Rattle.clnp_machine.specs.System.{SystemState}
 use Rattle.clnp_machine.specs.Steps.{GoesOnFrom, IsRangeOf}
@@ -20,6 +21,7 @@ use Rattle.clnp_network.specs.World.{Copy}
 use Rattle.clnp_network.specs.Safe.{Rests}
 use Rattle.clnp_network.specs.Run.{Entry}
 use Rattle.clnp_safety.specs.Invariant.{Owns, CopyIsSound, Carries, IsMadeOn, IsOfUnit, BufferIsSound, EachRests, UnitIsSound, UnitsAreSound}
+use Rattle.clnp_safety.specs.StepLaws.{StepLaws}
 
 -- one of two units with a maker and an identifier rests behind the other
 pub same_unit : (reuse : ℕ) (units : List unit.Unit) (u v : unit.Unit) (i : ℕ) → EachRests reuse units → Contains units u → Contains units v
@@ -72,7 +74,8 @@ pub different_makers : (plan : Plan) (place other : ℕ) (address : List ℕ) �
 different_makers plan place other address fit own owns =
     one_owner plan.systems place other own.system owns.system address fit.addresses own.there own.own owns.there owns.own
 
--- A packet that goes on is a range of the unit of that which came, and it was forwarded no more often than its lifetime allowed.
+-- A packet that goes on is a range of the unit of that which came, with options of the same form, and it was forwarded no more
+-- often than its lifetime allowed.
 
 pub lives_within : (s : SystemState) (port : ℕ) (came p : Packet) → GoesOnFrom s port came p → came.hops + came.lifetime ≤ came.unit.lifetime
     → p.hops + p.lifetime ≤ p.unit.lifetime
@@ -83,11 +86,12 @@ lives_within s port came p on h =
     let loss = le-max_left 1 on.port.transit in
     omega arith
 
-pub packet_goes_on : (units : List unit.Unit) (s : SystemState) (port : ℕ) (came p : Packet) → GoesOnFrom s port came p → IsRangeOf units came
-    → IsRangeOf units p
-packet_goes_on units s port came p on h = record {
+pub packet_goes_on : StepLaws → (units : List unit.Unit) (s : SystemState) (port : ℕ) (came p : Packet) → GoesOnFrom s port came p → IsRangeOf units came
+    → IsCarriable came → IsRangeOf units p
+packet_goes_on laws units s port came p on h carriable = record {
   unit = subst (Contains units) (sym on.unit) h.unit;
-  options = on.options ∙ h.options ∙ ap (λ (u : unit.Unit). u.options) (sym on.unit);
+  options = laws.headers.chained p.options came.options p.unit.options (on.options carriable)
+      (subst (λ (u : unit.Unit). HaveOneForm came.options u.options) (sym on.unit) h.options);
   lifetime = lives_within s port came p on h.lifetime;
   within =
       let from = on.from in

@@ -3,6 +3,9 @@ use Rattle.std.specs.Prelude.{◌≡◌, ◌↔◌, ℕ, ◌≤◌, Bool, false,
 use Rattle.std.specs.List.{AllByRecursion, Contains, flat_map}
 use Rattle.hex.specs.Hex.{IsBytes}
 use Rattle.nsap.specs.Address.{IsAddress}
+use Rattle.clnp_options.specs.Edits.{HaveOneForm}
+use Rattle.clnp_options.specs.Parameter.{Parameter}
+use Rattle.pdu_header.specs.Spelling.{header_length}
 use Rattle.echo.specs.Match.{Echoes, echoes}
 use Rattle.esis_pdus.specs.Grammar.{IsPdu}
 use Rattle.esis_pdus.specs.Spelling.{spelling}
@@ -14,13 +17,13 @@ use Rattle.reassembly.specs.Buffer as buffer
 use Rattle.reassembly.specs.Buffer.{Buffer, buffer_of, clashes, held, without}
 use Rattle.clnp_plan.specs.Configuration.{IsAddressed, IsSystem}
 use Rattle.clnp_machine.specs.Unit as unit
-use Rattle.clnp_machine.specs.Unit.{IsCarriable, Packet, wire}
+use Rattle.clnp_machine.specs.Unit.{IsCarriable, Packet, value_of, wire}
 use Rattle.clnp_machine.specs.Content.{Content, frame_of}
 use Rattle.clnp_machine.specs.System.{SystemState, Input, IsRestarted}
-use Rattle.clnp_machine.specs.Local.{Action, discard, gives_up, made_in, refusal, tick}
+use Rattle.clnp_machine.specs.Local.{Action, discard, gives_up, header_size, made_in, refusal, tick}
 use Rattle.clnp_machine.specs.Esis.{esis_comes, forgets, says_hello}
 use Rattle.clnp_machine.specs.Step.{outputs_of, responds, step}
-use Rattle.clnp_machine.specs.Steps.{BreaksNoEsisRule, BreaksNoRule, IsAtMostReportOf, IsFair, IsForOwn, IsFresh, IsMadeFor, IsNoRestart, IsWithinBudget, KeepsAsOffered, KnowsAddresses, NotesOnly, OnlyHellos, ReportsOn, RestartsNothing, SendsCarriable, SendsEsisPdus, SendsRangesOrGoesOn, StaysItself, WasPendingOrMade, moment_after}
+use Rattle.clnp_machine.specs.Steps.{BreaksNoEsisRule, BreaksNoRule, IsAtMostReportOf, IsFair, IsForOwn, IsFresh, IsMadeFor, IsNoRestart, IsRangeOf, IsWithinBudget, KeepsAsOffered, KnowsAddresses, NotesOnly, OnlyHellos, ReportsOn, RestartsNothing, SendsCarriable, SendsEsisPdus, SendsRangesOrGoesOn, StaysItself, WasPendingOrMade, moment_after}
 use Rattle.clnp_machine.specs.Told.{IsAllowed, IsRefusal, IsToldBy, NoteIsQuiet, NotesNoRule, SpellsPdus, TellsNoInterference, TellsOnly, WasThereOrTakes}
 
 -- of a whole step
@@ -71,11 +74,17 @@ pub record OfSegments : Type 0 where
   pub apart : (limits : TableLimits) (moment : ℕ) (arrival : Arrival Packet) (buffers : List (Buffer Packet))
       → clashes (buffer_of arrival.key buffers) arrival.shape ≡ false → TellsNoInterference (buffer.answer limits moment arrival buffers)
 
+-- of a packet's header, and of the options in it, whose form a router keeps
+pub record OfHeaders : Type 0 where
+  pub header : (units : List unit.Unit) (p : Packet) → IsRangeOf units p → header_length (value_of p) ≡ header_size p.unit
+  pub chained : (first second third : List Parameter) → HaveOneForm first second → HaveOneForm second third → HaveOneForm first third
+
 pub record StepLaws : Type 0 where
   pub steps : OfSteps
   pub deeds : OfDeeds
   pub hellos : OfHellos
   pub segments : OfSegments
+  pub headers : OfHeaders
   pub frames : (p : Packet) (following : List ℕ) → IsCarriable p → BreaksNoRule (wire p ++ following)
   pub answers : (request_data reply_data : List ℕ) → IsBytes reply_data → IsTrue (echoes request_data reply_data) ↔ Echoes request_data reply_data
   pub esis_frames : (value : EsisValue) (following : List ℕ) → IsPdu value → BreaksNoEsisRule (spelling value ++ following)

@@ -6,7 +6,7 @@ ghost use Rattle.scenario.specs.Scenario.{Plan, IsFit};
 ghost use Rattle.scenario.specs.declared.event.Move.{Move};
 ghost use Rattle.clnp_network.specs.World.{World, after, first_world};
 ghost use Rattle.clnp_network.specs.Run.{Entry, entries_of, full_weight, run, text_of, until_full, world_after};
-ghost use Rattle.clnp_network.specs.Safe.{CarriesRanges, EachIsFounded, EachWasSent, FramesAreUnbroken, HoldsUnitsApart, IdentifiersRest, IsHonest, IsSend, NoRefusal, IsWithinBudgets, IsWithinLifetimes, NoInterference, NoneIsAlien, RedirectsChangeOneNextHop, TellsNoRule};
+ghost use Rattle.clnp_network.specs.Safe.{CarriesRanges, EachIsFounded, EachWasSent, FramesAreUnbroken, HoldsUnitsApart, IdentifiersRest, IsHonest, IsSend, NoRefusal, IsWithinBudgets, IsWithinLifetimes, KeepsHeaders, NoInterference, NoneIsAlien, RedirectsChangeOneNextHop, TellsNoRule};
 ghost use Rattle.clnp_safety.specs.Growth.{IsFront, IsFullAt, IsWithinCopies};
 ghost use Rattle.clnp_safety.specs.Owners.{IsByOwner};
 ghost use Rattle.clnp_safety.specs.Refusal.{LeavesNothing};
@@ -46,6 +46,14 @@ pub fn ranges_of_units_are_carried()
 pub fn no_frame_breaks_a_rule()
     ensures { (plan : Plan) → IsFit plan → (moves : List Move)
         → FramesAreUnbroken (world_after plan (first_world plan) moves) }
+{
+    laws_of_steps();
+}
+
+/// The header of each packet of a run is as long as that of its unit's initial PDU, however often the
+/// packet was cut and forwarded: routers change the values of options, and never their lengths.
+pub fn headers_keep_their_length()
+    ensures { (plan : Plan) → IsFit plan → (moves : List Move) → KeepsHeaders (world_after plan (first_world plan) moves) }
 {
     laws_of_steps();
 }
@@ -174,5 +182,7 @@ fn laws_of_steps()
     machine::a_segment_is_kept_in_its_buffer();
     machine::carriable_packets_break_no_rule();
     machine::esis_pdus_break_no_rule();
+    machine::headers_keep_their_length();
+    clnp_options::laws::edits_keep_the_form();
     echo::laws::the_test_is_the_rule();
 }

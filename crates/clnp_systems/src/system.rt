@@ -6,7 +6,7 @@ ghost use Rattle.clnp_machine.specs.Content.{Content, IsCarried, frame_of};
 ghost use Rattle.clnp_machine.specs.Given.{Appends, AppendsFor};
 ghost use Rattle.clnp_machine.specs.Local.{refusal, request_unit};
 ghost use Rattle.clnp_machine.specs.Step.{step};
-ghost use Rattle.clnp_machine.specs.System.{SystemState, AsksForEcho, FrameComes, IsRestarted, MomentComes, first_state, next_number};
+ghost use Rattle.clnp_machine.specs.System.{SystemState, AsksForEcho, FrameComes, IsRestarted, IsCongested, MomentComes, first_state, next_number};
 ghost use Rattle.local_entity.specs.Local.{IsWhy};
 ghost use Rattle.system_entity.specs.Stands.{IsLeftBy};
 ghost use Rattle.clnp_systems.specs.declared.system.System.TheVariants as variant;
@@ -154,6 +154,18 @@ impl System {
         match self {
             System::Host(host) => host.restart(),
             System::Router(router) => router.restart(),
+        }
+    }
+
+    /// It is congested from now on, or no more; a restart ends it. A host that is congested does nothing else than before.
+    pub fn congest(&mut self, on: bool)
+        ensures stands { (s : SystemState) → Stands self.old s → Stands self.new (step s (IsCongested on)).after }
+        ensures moment { (entity_of self.new).moment ≡ (entity_of self.old).moment }
+        ensures config { configuration_of self.new ≡ configuration_of self.old }
+    {
+        match self {
+            System::Host(host) => host.congest(on),
+            System::Router(router) => router.congest(on),
         }
     }
 

@@ -1,7 +1,9 @@
 //! Parts whose changes are known from elsewhere. A header with two addresses of four octets and no segmentation part
 //! has its options from place 20 on.
 
-use clnp_options::{advance_route, check, mark_congestion, record_title, route_target};
+use clnp_options::{
+    advance_route, check, is_route_complete, mark_congestion, record_title, route_target,
+};
 
 #[test]
 fn follows_and_records_routes(rt: HostRuntime) {
@@ -14,6 +16,10 @@ fn follows_and_records_routes(rt: HostRuntime) {
     advance_route(&mut route);
     assert!(rt; route == *b"\xc8\x07\x00\x08\x04\x47\x00\x27\xff");
     assert!(rt; route_target(&route).is_none());
+    assert!(rt; !is_route_complete(&route));
+    let complete = b"\xc8\x02\x01\x03";
+    check(complete, 20, false).expect(&rt, "a complete route");
+    assert!(rt; is_route_complete(complete));
 
     let mut recording = *b"\xcb\x07\x00\x03\x00\x00\x00\x00\x00";
     check(&recording, 20, false).expect(&rt, "a recording");

@@ -59,6 +59,10 @@ fn advanced(frame: &[u8]) -> Option<Header> {
         return None;
     }
     let mut header = Header::of(&pdu);
+    let target = header.route_target()?;
+    if target.as_bytes() != b"\x47\x00\x27\xff".as_slice() {
+        return None;
+    }
     header.advance_route();
     Some(header)
 }
@@ -71,6 +75,8 @@ fn changes_options(rt: HostRuntime) -> Result<(), Fail> {
     ) else {
         panic!(rt; "no header")
     };
+    assert!(rt; header.route_target().is_none());
+    assert!(rt; !header.is_route_complete());
     header.record_title(&Address::from_text(b"47002701")?);
     header.mark_congestion();
     assert!(rt;

@@ -10,7 +10,7 @@ ghost use Rattle.clnp_machine.specs.Content.{Content, IsCarried, frame_of};
 ghost use Rattle.clnp_machine.specs.Given.{Appends};
 ghost use Rattle.clnp_machine.specs.Local.{refusal, request_unit, unit_of};
 ghost use Rattle.clnp_machine.specs.Step.{Hop, next_hop, step};
-ghost use Rattle.clnp_machine.specs.System.{SystemState, AsksForEcho, AsksToSend, FrameComes, IsRestarted, MomentComes, first_state, next_number};
+ghost use Rattle.clnp_machine.specs.System.{SystemState, AsksForEcho, AsksToSend, FrameComes, IsRestarted, IsCongested, MomentComes, first_state, next_number};
 ghost use Rattle.local_entity.specs.Local.{IsWhy};
 ghost use Rattle.end_system.specs.Stands.{IsLeftBy, Stands};
 
@@ -199,6 +199,16 @@ impl EndSystem {
         ensures config { self.new.entity.local.configuration ≡ self.old.entity.local.configuration }
     {
         self.entity.restart();
+    }
+
+    /// It is congested from now on, or no more; a restart ends it.
+    pub fn congest(&mut self, on: bool)
+        ensures stands { (s : SystemState) → Stands self.old s → Stands self.new (step s (IsCongested on)).after }
+        ensures spent { self.new.entity.spent ≡ self.old.entity.spent }
+        ensures moment { self.new.entity.moment ≡ self.old.entity.moment }
+        ensures config { self.new.entity.local.configuration ≡ self.old.entity.local.configuration }
+    {
+        self.entity.congest(on);
     }
 
     /// How many octets are held for reassembly: of the whole frames in which kept segments came.

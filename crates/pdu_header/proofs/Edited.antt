@@ -16,8 +16,8 @@ use Rattle.pdu_header.specs.Layout.{type_code}
 use Rattle.pdu_header.specs.Spelling.{pair_of, counted, flags_and_type, header_length, segment_length, segmentation_octets, unsealed_header}
 use Rattle.pdu_header.specs.Grammar.{IsSegment, is_report}
 use Rattle.pdu_header.specs.Parts.{checked}
-use Rattle.pdu_header.specs.Headers.{IsHeader, SpellsHeader, IsEdited, with_options}
-use Rattle.pdu_header.proofs.Written.{length-header, nine_at_least}
+use Rattle.pdu_header.specs.Headers.{SpellsHeader, IsEdited, with_options}
+use Rattle.pdu_header.proofs.Written.{length-header}
 use Rattle.pdu_header.proofs.Changed.{Changes, header_length-is}
 
 -- what stands before the options, with these octets as its checksum
@@ -90,7 +90,7 @@ edited_unsealed v options start s len =
     ap (take start) (sym (unsealed_parted v)) ∙ take_at (before_options v 0 0) (spelled v.options) start (length-before v 0 0 ∙ sym s) in
     ap (λ t. t ++ spelled options) (front ∙ same_front v options 0 0 len) ∙ unsealed_parted (with_options options v)
 
-segment_kept : (v : PduValue) (options : List Parameter) (part : Option SegmentationPart) → header_length v ≡ header_length (with_options options v) → IsSegment v part → IsSegment (with_options options v) part
+pub segment_kept : (v : PduValue) (options : List Parameter) (part : Option SegmentationPart) → header_length v ≡ header_length (with_options options v) → IsSegment v part → IsSegment (with_options options v) part
 segment_kept v options None e h = h
 segment_kept v options (Some part) e h =
     let total : ℕ = part.total in

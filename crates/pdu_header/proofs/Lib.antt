@@ -15,3 +15,4 @@ pub mod Sealing
 pub mod Least
 pub mod Taken
 pub mod Told
+pub mod EditedPdus

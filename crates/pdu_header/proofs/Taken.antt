@@ -3,7 +3,7 @@ use Rattle.std.proofs.Common.{◌≡◌, ◌∙◌, sym, ap, refl, ℕ, ◌+◌,
 use Rattle.std.specs.Prelude.{slice_set}
 use Rattle.std.proofs.Math.ListN.{set}
 use Rattle.std.proofs.lemmas.List.{set-get_or, get_or-drop, length-drop, drop_all}
-use Rattle.std.proofs.lemmas.List.Edits.{paste_none, paste_more, paste_all, length-paste}
+use Rattle.std.proofs.lemmas.List.Edits.{paste_none, paste_more, paste_all}
 use Rattle.std.proofs.lemmas.Grind.{common_steps}
 use lib.Seq.{paste}
 use Rattle.fletcher.proofs.ChecksumLaws.{length-sealed}

@@ -2,8 +2,9 @@
 ghost use Rattle.std.specs.Prelude.{◌≡◌, ◌+◌, ◌≤◌, ◌^◌, ◌⊎◌, ℕ, Bool, List, length, if◌then◌else◌, bit_and, bit_or, option_map, None, Some, IfOk, MatchResult};
 ghost use Rattle.fletcher.specs.Checksum.{octet};
 ghost use Rattle.pdu_header.specs.Value.{SegmentationPart, PduValue};
-ghost use Rattle.clnp_options.specs.Parameter.{source_route, recording, quality};
-ghost use Rattle.clnp_options.specs.Edits.{edited, advanced, recorded, marked};
+ghost use Rattle.clnp_options.specs.Parameter.{parameters, source_route, recording, quality};
+ghost use Rattle.clnp_options.specs.Rules.{IsWellFormed};
+ghost use Rattle.clnp_options.specs.Edits.{edited, target_of, is_complete, advanced, recorded, marked};
 ghost use Rattle.pdu_header.specs.Spelling.{header_length, segmentation_octets};
 ghost use Rattle.pdu_header.specs.Rules.{part_place};
 ghost use Rattle.pdu_header.specs.View.{part_value};
@@ -152,6 +153,23 @@ impl Header {
         put_pair(&mut self.cells, part + 3, offset);
     }
 
+    /// The title to which the source route leads next (ISO 8473, section 7.5.4); none where there is no source route, or
+    /// it is exhausted.
+    pub fn route_target(&self) -> Option<Address>
+        ensures { (v : PduValue) → SpellsHeader v self.now → result ≡ target_of v.options }
+    {
+        let title = clnp_options::route_target(options_of(self.cells.as_bytes()))?;
+        Address::from_bytes(title).ok()
+    }
+
+    /// Whether there is a complete source route: the PDU goes through the systems that it names and no others
+    /// (section 7.5.4).
+    pub fn is_route_complete(&self) -> bool
+        ensures { (v : PduValue) → SpellsHeader v self.now → result ≡ is_complete v.options }
+    {
+        clnp_options::is_route_complete(options_of(self.cells.as_bytes()))
+    }
+
     /// Moves the pointer of the source route past the title there (ISO 8473, section 7.5.4).
     pub fn advance_route(&mut self)
         requires { LeadsOn self.old }
@@ -187,6 +205,16 @@ impl Header {
         changed.mark_congestion(start);
         self.cells.take_over(changed.as_bytes(), start);
     }
+}
+
+/// The options in a header.
+fn options_of(octets: &[u8]) -> &[u8]
+    requires { IsHeader octets.now }
+    ensures well_formed { IsWellFormed result.now }
+    ensures options { (v : PduValue) → SpellsHeader v octets.now → parameters result.now ≡ v.options }
+{
+    let start = options_index(octets);
+    &octets[start..]
 }
 
 /// The index, from 0, of the options in a header.

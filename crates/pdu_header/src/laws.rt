@@ -1,20 +1,23 @@
 //! Laws of the definitions: the grammar of PDUs, stated as a relation between a value and its octets,
-//! and the rules G1 to G20 agree. Each law is the clause of a function that does nothing.
-ghost use Rattle.clnp_options.specs.Parameter.{spelled};
+//! and the rules G1 to G20 agree; a router's edits keep what is a PDU. Each law is the clause of a function
+//! that does nothing.
+ghost use Rattle.clnp_options.specs.Edits.{advanced, edited, marked, recorded, target_of};
+ghost use Rattle.clnp_options.specs.Parameter.{quality, recording, source_route, spelled};
 ghost use Rattle.clnp_options.specs.declared.judge.OptionRefusal.{OptionRefusal};
 ghost use Rattle.fletcher.specs.Checksum.{with_checksum};
 ghost use Rattle.fletcher.specs.Laws.{HasChecksum};
 ghost use Rattle.hex.specs.Hex.{IsBytes};
+ghost use Rattle.nsap.specs.Address.{IsAddress};
 ghost use Rattle.pdu_header.specs.Account.{IsLaidOut};
 ghost use Rattle.pdu_header.specs.Grammar.{BeginsWith, IsPdu, Spells, is_report};
-ghost use Rattle.pdu_header.specs.Headers.{SpellsHeader};
+ghost use Rattle.pdu_header.specs.Headers.{SpellsHeader, with_options};
 ghost use Rattle.pdu_header.specs.Reading.{value_of};
 ghost use Rattle.pdu_header.specs.Rules.{is_reportable, is_unfit_range, octet, refusal};
 ghost use Rattle.pdu_header.specs.Segment.{FitsRange};
 ghost use Rattle.pdu_header.specs.Spelling.{header, header_length, segmentation_octets};
 ghost use Rattle.pdu_header.specs.Table.{AreKept, IsLeastBroken, table};
 ghost use Rattle.pdu_header.specs.Value.{PduValue, SegmentationPart};
-ghost use Rattle.std.specs.Prelude.{◌≡◌, ◌↔◌, ◌&&◌, ◌+◌, ◌-◌, ◌<◌, ℕ, Bool, false, List, None, Some, length, nat_lt, not};
+ghost use Rattle.std.specs.Prelude.{◌≡◌, ◌↔◌, ◌&&◌, ◌+◌, ◌-◌, ◌<◌, ℕ, Bool, false, IsSome, List, None, Some, length, nat_lt, not};
 
 /// Of a frame at most one prefix spells a value, and it spells one value only.
 pub fn one_value()
@@ -71,4 +74,11 @@ pub fn a_header_has_its_length()
 pub fn more_follows_where_the_unit_goes_on()
     ensures test { (head_len data_len : ℕ) (more : Bool) (part : SegmentationPart) → (is_unfit_range head_len part.total (part.offset + data_len) more ≡ false) ↔ FitsRange head_len data_len more part }
     ensures more { (v : PduValue) (part : SegmentationPart) → IsPdu v → v.segmentation ≡ Some part → v.more ≡ nat_lt (part.offset + length v.body) (part.total - header_length v) }
+{}
+
+/// What a router makes of the options of a PDU is the options of a PDU.
+pub fn edited_pdus_are_pdus()
+    ensures advanced { (v : PduValue) → IsPdu v → IsSome (target_of v.options) → IsPdu (with_options (edited source_route advanced v.options) v) }
+    ensures recorded { (v : PduValue) (title : List ℕ) → IsPdu v → IsAddress title → IsPdu (with_options (edited recording (recorded title) v.options) v) }
+    ensures marked { (v : PduValue) → IsPdu v → IsPdu (with_options (edited quality marked v.options) v) }
 {}

@@ -1,6 +1,8 @@
 -- Whether the source of a packet that goes on is told of a better way, and what it is told.
-use Rattle.std.proofs.Common.{◌≡◌, ◌∙◌, refl, sym, ap, ℕ, Bool, true, false, List, [], ◌∷◌, if◌then◌else◌, Option}
-use Rattle.std.specs.Prelude.{◌==◌, ◌&&◌, not}
+use Rattle.std.proofs.Common.{◌≡◌, ◌∙◌, refl, sym, ap, ℕ, Bool, true, false, List, [], ◌∷◌, if◌then◌else◌, Option, None, Some}
+use Rattle.std.specs.Prelude.{◌==◌, ◌&&◌, is_none, is_some, not}
+use Rattle.clnp_options.specs.Edits.{target_of}
+use Rattle.clnp_options.specs.Parameter.{Parameter}
 use Rattle.esis_tables.specs.declared.fact.Place.{Place}
 use Rattle.esis_tables.specs.declared.fact.TableKind.TheVariants.{Es}
 use Rattle.esis_tables.specs.NextHop.{current_place}
@@ -14,30 +16,40 @@ use Rattle.system_entity.specs.Ways.{machine_way}
 use Rattle.system_entity.specs.declared.passing.Passing.{Passing}
 use Rattle.system_entity.specs.declared.way.Way.{Way}
 
--- the four tests in another grouping
-grouped : (some back first there : Bool) → ((some && (back && first)) && there) ≡ (some && (back && (first && there)))
-grouped true true first there = refl
-grouped true false first there = refl
-grouped false back first there = refl
+-- the tests in another grouping
+grouped : (some back towards_it first there : Bool) → ((some && (back && (towards_it && first))) && there) ≡ (some && (back && (towards_it && (first && there))))
+grouped true true true first there = refl
+grouped true true false first there = refl
+grouped true false towards_it first there = refl
+grouped false back towards_it first there = refl
 
-module _ (s : SystemState) (came : Place) (p : Packet) (way : Way) where
+-- none is the other way round of some
+none_where_not_some : (title : Option (List ℕ)) → not (is_some title) ≡ is_none title
+none_where_not_some None = refl
+none_where_not_some (Some title) = refl
+
+module _ (s : SystemState) (came : Place) (p : Packet) (options : List Parameter) (way : Way) where
   -- where the packet may call for a redirect, what is known of its source decides
-  pub source_decides : (passing : Passing) (known : Option Place) (holding : ℕ) (may : Bool) → HasValue passing (value_of p)
-      → known ≡ current_place s.moment Es passing.from s.facts → holding ≡ s.configuration.settings.rhold
-      → may ≡ (not (holding == 0) && (way.port == came.port && passing.first)) → (may && is_at came known) ≡ is_redirected s came p (machine_way way)
-  source_decides passing known holding may has is told tested =
+  pub source_decides : (passing : Passing) (known : Option Place) (holding : ℕ) (towards_title may : Bool) → HasValue passing (value_of p)
+      → towards_title ≡ is_some (target_of options) → known ≡ current_place s.moment Es passing.from s.facts
+      → holding ≡ s.configuration.settings.rhold
+      → may ≡ (not (holding == 0) && (way.port == came.port && (not towards_title && passing.first)))
+      → (may && is_at came known) ≡ is_redirected s came p options (machine_way way)
+  source_decides passing known holding towards_title may has titled is told tested =
       let back : Bool = way.port == came.port in
       let there : Bool = is_at came (current_place s.moment Es p.unit.source s.facts) in
       ap (λ (known : Option Place). may && is_at came known) is
       ∙ ap (λ (from : List ℕ). may && is_at came (current_place s.moment Es from s.facts)) (sym has.source)
-      ∙ ap (λ (b : Bool). b && there) tested ∙ grouped (not (holding == 0)) back passing.first there
-      ∙ ap (λ (n : ℕ). not (n == 0) && (back && (passing.first && there))) told
-      ∙ ap (λ (b : Bool). not (s.configuration.settings.rhold == 0) && (back && (b && there))) (sym has.first)
+      ∙ ap (λ (b : Bool). b && there) tested ∙ grouped (not (holding == 0)) back (not towards_title) passing.first there
+      ∙ ap (λ (b : Bool). not (holding == 0) && (back && (b && (passing.first && there))))
+      (ap not titled ∙ none_where_not_some (target_of options))
+      ∙ ap (λ (n : ℕ). not (n == 0) && (back && (is_none (target_of options) && (passing.first && there)))) told
+      ∙ ap (λ (b : Bool). not (s.configuration.settings.rhold == 0) && (back && (is_none (target_of options) && (b && there)))) (sym has.first)
 
   -- what is told where it is, and where it isn't
   abbrev told_if : Bool → List Output
   told_if test =
       if test then SendsEsis came.port (System came.snpa) (redirect s p.unit.destination way.snpa way.title) ∷ [] else []
 
-  pub told_is : (test : Bool) → test ≡ is_redirected s came p (machine_way way) → told_if test ≡ redirects s came p (machine_way way)
+  pub told_is : (test : Bool) → test ≡ is_redirected s came p options (machine_way way) → told_if test ≡ redirects s came p options (machine_way way)
   told_is test is = ap told_if is

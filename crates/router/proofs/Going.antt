@@ -1,12 +1,14 @@
 -- How a packet goes on: its way, its port, its pieces.
 use Rattle.std.proofs.Common.{◌≡◌, ◌∙◌, refl, sym, ap, subst, ℕ, ◌+◌, ◌-◌, ◌≤◌, Bool, true, false, Option, None, Some, Ok, Err, inr, List, [], ◌∷◌, ◌++◌, map, length, take, drop, if◌then◌else◌, arith, length-append, append_assoc}
-use Rattle.std.specs.Prelude.{Result, nat_le, slice_get}
+use Rattle.std.specs.Prelude.{Result, ◌&&◌, not, is_some, nat_le, slice_get}
 use Rattle.std.proofs.Math.Seq.{drop-append_seam, take-append_seam}
 use Rattle.esis_tables.specs.declared.fact.Place.{Place}
 use Rattle.clnp_options.specs.Reasons.{reason_code}
-use Rattle.clnp_options.specs.declared.reasons.Reason.TheVariants.{DestinationUnknown, LifetimeExpiredInTransit, SegmentationNotPermitted}
+use Rattle.clnp_options.specs.declared.reasons.Reason.TheVariants.{LifetimeExpiredInTransit, PathNotAcceptable, SegmentationNotPermitted}
+use Rattle.clnp_options.specs.Edits.{is_complete, target_of}
+use Rattle.clnp_options.specs.Parameter.{Parameter}
 use Rattle.clnp_views.specs.Extent.{Extent, part, seen, whole}
-use Rattle.pdu_header.specs.Headers.{SpellsHeader, with_lifetime}
+use Rattle.pdu_header.specs.Headers.{SpellsHeader, with_lifetime, with_options}
 use Rattle.pdu_header.specs.Spelling.{header, segment_length}
 use Rattle.pdu_header.specs.Value.{PduValue}
 use Rattle.segmenter.specs.declared.cuts.Cut.{Cut}
@@ -18,7 +20,7 @@ use Rattle.clnp_plan.specs.declared.config.PortConfig.{PortConfig}
 use Rattle.clnp_machine.specs.Content.{Labelled}
 use Rattle.clnp_machine.specs.Given.{GiveAllFor, IsSentOnFor}
 use Rattle.clnp_machine.specs.Step as machine
-use Rattle.clnp_machine.specs.Step.{discards, forwarded, goes_on, goes_on_by, hop_by, loss_at, pieces_go_on, transmissions, way_of}
+use Rattle.clnp_machine.specs.Step.{discards, ends_at, forwarded, goes_on, goes_on_by, goes_on_way, goes_on_with, hop_by, is_named, loss_at, no_way_to, options_behind, pieces_go_on, towards, transmissions, way_of}
 use Rattle.clnp_machine.specs.System.{Effect, SystemState, Transmits}
 use Rattle.clnp_machine.specs.Unit.{IsCarriable, Packet, cut, value_of}
 use Rattle.clnp_machine.proofs.Pieces.{AreBoth, AreThese, IsThis, cut_both}
@@ -33,23 +35,71 @@ use Rattle.router.specs.Onward.{GoesOn, life_left, way_hop}
 
 -- ---- the way, and its port
 
-module _ (s : SystemState) (came : Place) (p : Packet) (following : List ℕ) where
-  -- no way is known
-  pub no_way : (way : Option Way) → way ≡ None → way_option way ≡ way_of s p.unit.destination
-      → goes_on s came p following (way_of s p.unit.destination) ≡ discards s p following (reason_code DestinationUnknown)
-  no_way way none is =
-      ap (λ (o : Option machine.Way). goes_on s came p following o) (sym is)
-      ∙ ap (λ (o : Option Way). goes_on s came p following (way_option o)) none
+-- the source route is complete and names another system here
+pub off_route : (s : SystemState) (came : Place) (p : Packet) (following : List ℕ) (test : Bool) → test ≡ true
+    → test ≡ (is_complete p.options && not (is_named s (target_of p.options)))
+    → goes_on s came p following ≡ discards s p following (reason_code PathNotAcceptable)
+off_route s came p following test off is =
+    ap (λ (b : Bool). if b then discards s p following (reason_code PathNotAcceptable)
+    else goes_on_with s came p following (options_behind s p.options)) (sym is ∙ off)
 
-  -- it is by this port, if it is there
-  pub by_its_port : (found : Option Way) (way : Way) (configuration : SystemConfiguration) (port : Option PortConfig) → configuration ≡ s.configuration
-      → found ≡ Some way → way_option found ≡ way_of s p.unit.destination → slice_get configuration.ports way.port ≡ port
-      → goes_on_by s came p following (machine_way way) port ≡ goes_on s came p following (way_of s p.unit.destination)
-  by_its_port found way configuration port same is next at =
-      ap (λ (o : Option PortConfig). goes_on_by s came p following (machine_way way) o) (sym at)
-      ∙ ap (λ (c : SystemConfiguration). goes_on_by s came p following (machine_way way) (slice_get c.ports way.port)) same
-      ∙ ap (λ (o : Option Way). goes_on s came p following (way_option o)) (sym is)
-      ∙ ap (λ (o : Option machine.Way). goes_on s came p following o) next
+-- or it goes on with the options behind the router
+pub on_route : (s : SystemState) (came : Place) (p : Packet) (following : List ℕ) (test : Bool) → test ≡ false
+    → test ≡ (is_complete p.options && not (is_named s (target_of p.options)))
+    → goes_on_with s came p following (options_behind s p.options) ≡ goes_on s came p following
+on_route s came p following test on is =
+    ap (λ (b : Bool). if b then discards s p following (reason_code PathNotAcceptable)
+    else goes_on_with s came p following (options_behind s p.options)) (sym on ∙ is)
+
+-- it is sent towards the title, or towards its destination
+pub whither_is : (p : Packet) (options : List Parameter) (passing : Passing) → HasValue passing (value_of p)
+    → towards passing.to (target_of options) ≡ towards p.unit.destination (target_of options)
+whither_is p options passing has = ap (λ (to : List ℕ). towards to (target_of options)) (sym has.destination)
+
+module _ (s : SystemState) (came : Place) (p : Packet) (following : List ℕ) (options : List Parameter) (to : List ℕ)
+    (towards_it : to ≡ towards p.unit.destination (target_of options)) where
+  abbrev whither : List ℕ
+  whither = towards p.unit.destination (target_of options)
+
+  abbrev on_its_way : Option machine.Way → Effect
+  on_its_way way = goes_on_way s came p following options way
+
+  -- the way that the code finds
+  way_is : (found : Option Way) → way_option found ≡ way_of s to → on_its_way (way_option found) ≡ goes_on_with s came p following options
+  way_is found is = ap on_its_way (is ∙ ap (λ (there : List ℕ). way_of s there) towards_it)
+
+  -- no way is known
+  pub no_way : (found : Option Way) (reason : ℕ) → found ≡ None → way_option found ≡ way_of s to → reason ≡ no_way_to (target_of options)
+      → goes_on_with s came p following options ≡ discards s p following reason
+  no_way found reason none is why =
+      sym (way_is found is) ∙ ap (λ (o : Option Way). on_its_way (way_option o)) none
+      ∙ ap (λ (n : ℕ). discards s p following n) (sym why)
+
+  module _ (found : Option Way) (way : Way) (some : found ≡ Some way) (is : way_option found ≡ way_of s to) where
+    abbrev by_test : Bool → Effect
+    by_test off =
+        if off then discards s p following (reason_code PathNotAcceptable)
+        else goes_on_by s came p following options (machine_way way) (slice_get s.configuration.ports way.port)
+
+    by_way : by_test (is_complete options && not (ends_at whither way.title)) ≡ goes_on_with s came p following options
+    by_way = ap (λ (o : Option Way). on_its_way (way_option o)) (sym some) ∙ way_is found is
+
+    module _ (barred : Bool) (decided : barred ≡ (is_complete options && not (ends_at to way.title))) where
+      tested : barred ≡ (is_complete options && not (ends_at whither way.title))
+      tested = decided ∙ ap (λ (a : List ℕ). is_complete options && not (ends_at a way.title)) towards_it
+
+      -- it is that of another system than a complete source route allows
+      pub by_another : barred ≡ true → goes_on_with s came p following options ≡ discards s p following (reason_code PathNotAcceptable)
+      by_another off = sym by_way ∙ ap by_test (sym tested ∙ off)
+
+      -- it is by this port, if it is there
+      pub by_its_port : (configuration : SystemConfiguration) (port : Option PortConfig) → barred ≡ false → configuration ≡ s.configuration
+          → slice_get configuration.ports way.port ≡ port
+          → goes_on_by s came p following options (machine_way way) port ≡ goes_on_with s came p following options
+      by_its_port configuration port on same at =
+          ap (λ (o : Option PortConfig). goes_on_by s came p following options (machine_way way) o) (sym at)
+          ∙ ap (λ (c : SystemConfiguration). goes_on_by s came p following options (machine_way way) (slice_get c.ports way.port)) same
+          ∙ ap by_test (sym on ∙ tested) ∙ by_way
 
 -- the hop of the code is that of the way
 pub hop_is : (hop : Hop) (way : Way) → machine_hop hop ≡ hop_by (machine_way way) → hop ≡ way_hop way
@@ -90,10 +140,12 @@ module _ (came : Packet) (following : List ℕ) (q : Packet) (unit : q.unit ≡ 
   pieces_go moment [] (packet ∷ packets) these = absurd these
   pieces_go moment (piece ∷ others) [] these = absurd these
 
-module _ (s : SystemState) (came : Place) (p : Packet) (following : List ℕ) (way : Way) (q : Packet) (unit : q.unit ≡ p.unit)
+module _ (s : SystemState) (came : Place) (p : Packet) (following : List ℕ) (way : Way) (towards_title : Bool)
+    (told : towards_title ≡ is_some (target_of (options_behind s p.options))) (q : Packet) (unit : q.unit ≡ p.unit)
     (same : (value_of q).body ≡ (value_of p).body) (octets : ℕ) (result : Result (List Cut) NotPermitted) where
   both_go : (pieces : Option (List Piece)) (packets : Option (List Packet)) (cuts : List Cut) → AreBoth q pieces packets → IsAnswer octets pieces result
-      → result ≡ Ok cuts → GoesOn (record { way = way; cuts = cuts }) s came p following (pieces_go_on s came p following (machine_way way) packets)
+      → result ≡ Ok cuts → GoesOn (record { way = way; towards_title = towards_title; cuts = cuts }) s came p following
+      (pieces_go_on s came p following (options_behind s p.options) (machine_way way) packets)
   both_go None None cuts both answer ok = absurd (cc)
   both_go (Some pieces) (Some packets) cuts both answer ok =
       let are : map given pieces ≡ cuts = cc in
@@ -101,6 +153,7 @@ module _ (s : SystemState) (came : Place) (p : Packet) (following : List ℕ) (w
         after = refl;
         pieces = transmissions (hop_by (machine_way way)) (Some packets);
         outputs = refl;
+        towards_title = told;
         given = λ body shown count.
             subst (λ (list : List Cut). GiveAllFor s.moment (Labelled p following) (map (transmission true (way_hop way) body) list)
             (transmissions (hop_by (machine_way way)) (Some packets))) are
@@ -111,7 +164,8 @@ module _ (s : SystemState) (came : Place) (p : Packet) (following : List ℕ) (w
 
   none_goes : (pieces : Option (List Piece)) (packets : Option (List Packet)) (refused : NotPermitted) → AreBoth q pieces packets
       → IsAnswer octets pieces result → result ≡ Err refused
-      → pieces_go_on s came p following (machine_way way) packets ≡ discards s p following (reason_code SegmentationNotPermitted)
+      → pieces_go_on s came p following (options_behind s p.options) (machine_way way) packets
+      ≡ discards s p following (reason_code SegmentationNotPermitted)
   none_goes None None refused both answer err = refl
   none_goes (Some pieces) (Some packets) refused both answer err = absurd (cc)
   none_goes None (Some packets) refused both answer err = absurd both
@@ -120,34 +174,45 @@ module _ (s : SystemState) (came : Place) (p : Packet) (following : List ℕ) (w
 -- ---- what comes of it by a port
 
 module _ (s : SystemState) (came : Place) (p : Packet) (following : List ℕ) (way : Way) (port : PortConfig) where
-  abbrev lowered : Packet
-  lowered = forwarded p (loss_at port)
+  abbrev behind : List Parameter
+  behind = options_behind s p.options
 
-  abbrev by_test : Bool → Effect
-  by_test over =
+  abbrev lowered : Packet
+  lowered = forwarded p (loss_at port) behind
+
+  abbrev outcome : Effect
+  outcome = goes_on_by s came p following behind (machine_way way) (Some port)
+
+  abbrev by_life : Bool → Effect
+  by_life over =
       if over then discards s p following (reason_code LifetimeExpiredInTransit)
-      else pieces_go_on s came p following (machine_way way) (cut lowered port.mtu)
+      else pieces_go_on s came p following behind (machine_way way) (cut lowered port.mtu)
 
   -- its lifetime ends
   pub ends : (passing : Passing) (left : Option ℕ) → HasValue passing (value_of p) → left ≡ life_left passing.life port → left ≡ None
-      → goes_on_by s came p following (machine_way way) (Some port) ≡ discards s p following (reason_code LifetimeExpiredInTransit)
+      → outcome ≡ discards s p following (reason_code LifetimeExpiredInTransit)
   ends passing left has told none =
-      ap (λ (n : ℕ). by_test (nat_le n (loss_at port))) has.lifetime
-      ∙ ap by_test (none_is (nat_le passing.life (loss_at port)) (passing.life - loss_at port) (sym told ∙ none))
+      ap (λ (n : ℕ). by_life (nat_le n (loss_at port))) has.lifetime
+      ∙ ap by_life (none_is (nat_le passing.life (loss_at port)) (passing.life - loss_at port) (sym told ∙ none))
 
-  module _ (passing : Passing) (left : Option ℕ) (life : ℕ) (head : List ℕ) (result : Result (List Cut) NotPermitted) (is : IsPort port)
-      (carriable : IsCarriable p) (has : HasValue passing (value_of p)) (told : left ≡ life_left passing.life port) (some : left ≡ Some life)
-      (spelled : (v : PduValue) → SpellsHeader v passing.head → SpellsHeader (with_lifetime life v) head) (say : CutsSay head passing.len port.mtu result) where
+  module _ (passing : Passing) (left : Option ℕ) (life : ℕ) (changed head : List ℕ) (target : Option (List ℕ)) (result : Result (List Cut) NotPermitted)
+      (is : IsPort port) (carriable : IsCarriable p) (has : HasValue passing (value_of p)) (told : left ≡ life_left passing.life port) (some : left ≡ Some life)
+      (edited : SpellsHeader (with_options behind (value_of p)) changed)
+      (leads : (v : PduValue) → SpellsHeader v changed → target ≡ target_of v.options)
+      (spelled : (v : PduValue) → SpellsHeader v changed → SpellsHeader (with_lifetime life v) head) (say : CutsSay head passing.len port.mtu result)
+      (valued : value_of lowered ≡ with_options behind (with_lifetime (p.lifetime - loss_at port) (value_of p))) where
     lives : (nat_le passing.life (loss_at port) ≡ false) × (passing.life - loss_at port ≡ life)
     lives = left_is (nat_le passing.life (loss_at port)) (passing.life - loss_at port) life (sym told ∙ some)
 
-    alive : goes_on_by s came p following (machine_way way) (Some port) ≡ pieces_go_on s came p following (machine_way way) (cut lowered port.mtu)
-    alive = ap (λ (n : ℕ). by_test (nat_le n (loss_at port))) has.lifetime ∙ ap by_test lives.0
+    alive : outcome ≡ pieces_go_on s came p following behind (machine_way way) (cut lowered port.mtu)
+    alive = ap (λ (n : ℕ). by_life (nat_le n (loss_at port))) has.lifetime ∙ ap by_life lives.0
 
     spells : SpellsHeader (value_of lowered) head
     spells =
-        subst (λ (n : ℕ). SpellsHeader (with_lifetime (n - loss_at port) (value_of p)) head) (sym has.lifetime)
-        (subst (λ (n : ℕ). SpellsHeader (with_lifetime n (value_of p)) head) (sym lives.1) (spelled (value_of p) has.header))
+        subst (λ (v : PduValue). SpellsHeader v head) (sym valued)
+        (subst (λ (n : ℕ). SpellsHeader (with_lifetime (n - loss_at port) (with_options behind (value_of p))) head) (sym has.lifetime)
+        (subst (λ (n : ℕ). SpellsHeader (with_lifetime n (with_options behind (value_of p))) head) (sym lives.1)
+        (spelled (with_options behind (value_of p)) edited)))
 
     -- what the code's cutting answers
     answer : IsAnswer (segment_length (value_of lowered)) (segmenter.cut (value_of lowered) port.mtu) result
@@ -156,18 +221,21 @@ module _ (s : SystemState) (came : Place) (p : Packet) (following : List ℕ) (w
     both : AreBoth lowered (segmenter.cut (value_of lowered) port.mtu) (cut lowered port.mtu)
     both = cut_both lowered port.mtu (record { pdu = spells.pdu; from = carriable.from; to = carriable.to }) is.mtu.least
 
+    towards_title_is : is_some target ≡ is_some (target_of behind)
+    towards_title_is = ap is_some (leads (with_options behind (value_of p)) edited)
+
     -- its pieces go on
-    pub goes : (cuts : List Cut) → result ≡ Ok cuts → GoesOn (record { way = way; cuts = cuts }) s came p following (goes_on_by s came p following (machine_way way) (Some port))
-    goes cuts ok =
-        subst (λ (effect : Effect). GoesOn (record { way = way; cuts = cuts }) s came p following effect) (sym alive)
-        (both_go s came p following way lowered refl refl (segment_length (value_of lowered)) result (segmenter.cut (value_of lowered) port.mtu)
-        (cut lowered port.mtu) cuts both answer ok)
+    pub goes : (towards_title : Bool) → towards_title ≡ is_some target → (cuts : List Cut) → result ≡ Ok cuts
+        → GoesOn (record { way = way; towards_title = towards_title; cuts = cuts }) s came p following outcome
+    goes towards_title titled cuts ok =
+        subst (λ (effect : Effect). GoesOn (record { way = way; towards_title = towards_title; cuts = cuts }) s came p following effect) (sym alive)
+        (both_go s came p following way towards_title (titled ∙ towards_title_is) lowered refl refl (segment_length (value_of lowered)) result
+        (segmenter.cut (value_of lowered) port.mtu) (cut lowered port.mtu) cuts both answer ok)
 
     -- it may not be cut
-    pub stays : (refused : NotPermitted) → result ≡ Err refused
-        → goes_on_by s came p following (machine_way way) (Some port) ≡ discards s p following (reason_code SegmentationNotPermitted)
+    pub stays : (refused : NotPermitted) → result ≡ Err refused → outcome ≡ discards s p following (reason_code SegmentationNotPermitted)
     stays refused err =
-        alive ∙ none_goes s came p following way lowered refl refl (segment_length (value_of lowered)) result
+        alive ∙ none_goes s came p following way (is_some target) towards_title_is lowered refl refl (segment_length (value_of lowered)) result
         (segmenter.cut (value_of lowered) port.mtu) (cut lowered port.mtu) refused both answer err
 
 -- ---- the frame

@@ -1,3 +1,4 @@
 pub mod Passing
 pub mod Going
 pub mod Better
+pub mod Behind

@@ -10,7 +10,7 @@ use Rattle.clnp_plan.specs.declared.config.Role.{Role}
 use Rattle.clnp_plan.specs.declared.config.Role.TheVariants.{Router}
 use Rattle.clnp_machine.specs.Content.{Labelled}
 use Rattle.clnp_machine.specs.Local.{is_own, receive}
-use Rattle.clnp_machine.specs.Step.{content_comes, discards, effect_of, goes_on, packet_comes, passes_by, responds, way_of}
+use Rattle.clnp_machine.specs.Step.{content_comes, discards, effect_of, goes_on, packet_comes, passes_by, responds}
 use Rattle.clnp_machine.specs.System.{Effect, SystemState}
 use Rattle.clnp_machine.specs.Unit.{Packet}
 use Rattle.system_entity.proofs.Receipt.{responds_stays, router_is_quiet}
@@ -18,7 +18,7 @@ use Rattle.system_entity.proofs.Receipt.{responds_stays, router_is_quiet}
 -- it is all that is done
 
 abbrev pub onward : SystemState → (came : Place) → Packet → List ℕ → Effect
-onward s came p following = goes_on s came p following (way_of s p.unit.destination)
+onward s came p following = goes_on s came p following
 
 forwards : (s : SystemState) (came : Place) (p : Packet) (following : List ℕ) → s.configuration.role ≡ Router → (p.lifetime == 0) ≡ false
     → is_own s p.unit.destination ≡ false → packet_comes s came p following ≡ onward s came p following

@@ -1,12 +1,13 @@
 -- What a PDU for another address comes to.
-use Rattle.std.specs.Prelude.{◌≡◌, ◌-◌, ℕ, nat_le, true, if◌then◌else◌, List, ◌++◌, length, map, Option, None, Some, Result, Ok, Err}
+use Rattle.std.specs.Prelude.{◌≡◌, ◌-◌, ℕ, nat_le, true, is_some, if◌then◌else◌, List, ◌++◌, length, map, Option, None, Some, Result, Ok, Err}
 use Rattle.clnp_options.specs.Reasons.{reason_code}
 use Rattle.clnp_options.specs.declared.reasons.Reason.{Reason}
 use Rattle.clnp_views.specs.Extent.{Extent, seen}
 use Rattle.clnp_machine.specs.Content.{Labelled}
 use Rattle.clnp_machine.specs.Given.{GiveAllFor}
 use Rattle.clnp_plan.specs.declared.config.PortConfig.{PortConfig}
-use Rattle.clnp_machine.specs.Step.{discards, loss_at, redirects}
+use Rattle.clnp_machine.specs.Step.{discards, loss_at, options_behind, redirects}
+use Rattle.clnp_options.specs.Edits.{target_of}
 use Rattle.clnp_machine.specs.System.{Effect, SystemState, Output as Given}
 use Rattle.clnp_machine.specs.Unit.{Packet, value_of}
 use Rattle.esis_tables.specs.declared.fact.Place.{Place}
@@ -29,7 +30,8 @@ way_hop way = record { port = way.port; target = System way.snpa }
 pub record GoesOn (onward : Onward) (s : SystemState) (came : Place) (p : Packet) (following : List ℕ) (effect : Effect) : Type 0 where
   pub after : effect.after ≡ s
   pub pieces : List Given
-  pub outputs : effect.outputs ≡ pieces ++ redirects s came p (machine_way onward.way)
+  pub outputs : effect.outputs ≡ pieces ++ redirects s came p (options_behind s p.options) (machine_way onward.way)
+  pub towards_title : onward.towards_title ≡ is_some (target_of (options_behind s p.options))
   pub given : (body : Extent) → seen body ≡ (value_of p).body → length (seen body) ≡ body.len
       → GiveAllFor s.moment (Labelled p following) (map (transmission true (way_hop onward.way) body) onward.cuts) pieces
 

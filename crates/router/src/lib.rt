@@ -2,6 +2,7 @@
 #![tactic(auto)]
 
 mod onward;
+mod passage;
 mod redirecting;
 mod router;
 

@@ -1,8 +1,9 @@
 //! In which pieces a PDU for another address goes on (ISO/IEC 8473, sections 6.4 and 6.7).
-ghost use Rattle.std.specs.Prelude.{◌≡◌, ℕ, IfOk, List, Some};
+ghost use Rattle.std.specs.Prelude.{◌≡◌, ℕ, IfOk, List, Some, length};
 ghost use Rattle.std.specs.List.{AllByRecursion};
 ghost use Rattle.clnp_plan.specs.Configuration.{IsPort};
-ghost use Rattle.clnp_machine.specs.Step.{goes_on_by};
+ghost use Rattle.clnp_machine.specs.Step.{goes_on_by, options_behind};
+ghost use Rattle.pdu_header.specs.Headers.{SpellsHeader, with_options};
 ghost use Rattle.clnp_machine.specs.System.{SystemState};
 ghost use Rattle.clnp_machine.specs.Unit.{IsCarriable, Packet, value_of};
 ghost use Rattle.system_entity.specs.Ways.{machine_way};
@@ -12,35 +13,52 @@ ghost use Rattle.segmenter.specs.Left.{IsCutOf};
 ghost use Rattle.system_entity.specs.Comes.{HasValue};
 ghost use Rattle.router.specs.Onward.{ComesTo, life_left};
 
+use clnp_machine::laws;
 use clnp_options::Reason;
 use clnp_plan::PortConfig;
+use pdu_header::Header;
 use segmenter::{Cuts, NotPermitted};
 use system_entity::{Passing, Way};
 
-/// The pieces of a PDU, and the way that they go.
+/// The pieces of a PDU, the way that they go, and whether it is the way to a title of a source route.
 #[derive(Drop)]
 pub(crate) struct Onward {
     pub way: Way,
+    pub towards_title: bool,
     pub cuts: Cuts,
 }
 
-/// How a PDU goes on by a way and its port, or for which reason it is discarded there.
+/// How a PDU goes on with a header that was changed, by a way and its port, or for which reason it is discarded there.
 #[tactic(auto, using(crate::proofs::Going::ends))]
-pub(crate) fn by_port(passing: &Passing, way: Way, port: &PortConfig) -> Result<Onward, Reason>
+pub(crate) fn by_port(
+    passing: &Passing,
+    head: Header,
+    way: Way,
+    port: &PortConfig,
+) -> Result<Onward, Reason>
     requires port { IsPort port.now }
     requires pdu { (v : PduValue) × HasValue passing.now v }
+    requires head { (v : PduValue) × SpellsHeader v head × (length v.body ≡ passing.now.len) }
     ensures goes { (s : SystemState) (came : Place) (p : Packet) (following : List ℕ) → IsCarriable p
         → HasValue passing.now (value_of p)
-        → ComesTo result s came p following (goes_on_by s came p following (machine_way way) (Some port.now)) }
+        → SpellsHeader (with_options (options_behind s p.options) (value_of p)) head
+        → ComesTo result s came p following
+        (goes_on_by s came p following (options_behind s p.options) (machine_way way) (Some port.now)) }
     ensures each { IfOk result (λ onward. AllByRecursion (IsCutOf passing.now.len) onward.cuts) }
 {
     let Some(life) = life_left(passing.life, port) else {
         return Err(Reason::LifetimeExpiredInTransit);
     };
-    let mut head = passing.head;
+    laws::what_goes_on_has_its_value();
+    let towards_title = head.route_target().is_some();
+    let mut head = head;
     head.set_life(life);
     match Cuts::new(head, passing.len, port.mtu) {
-        Ok(cuts) => Ok(Onward { way, cuts }),
+        Ok(cuts) => Ok(Onward {
+            way,
+            towards_title,
+            cuts,
+        }),
         Err(NotPermitted { .. }) => Err(Reason::SegmentationNotPermitted),
     }
 }

@@ -6,11 +6,18 @@ use esis_tables::Place;
 use system_entity::{Passing, Way};
 
 /// Whether a PDU that came from a place and goes on by a way may call for a redirect: redirects hold for a time, it goes on by
-/// the port by which it came, and it begins its unit.
-pub(crate) fn may_be_redirected(holding: u16, came: &Place, passing: &Passing, way: &Way) -> bool
-    ensures { result ≡ (not (holding == 0) && (way.now.port == came.now.port && passing.now.first)) }
+/// the port by which it came, not towards a title of a source route, and it begins its unit.
+pub(crate) fn may_be_redirected(
+    holding: u16,
+    came: &Place,
+    passing: &Passing,
+    towards_title: bool,
+    way: &Way,
+) -> bool
+    ensures { result
+        ≡ (not (holding == 0) && (way.now.port == came.now.port && (not towards_title && passing.now.first))) }
 {
-    holding != 0 && way.port == came.port && passing.first
+    holding != 0 && way.port == came.port && !towards_title && passing.first
 }
 
 /// Whether something is at a place, as far as is known.

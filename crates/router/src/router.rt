@@ -1,5 +1,5 @@
 //! The steps of a router.
-ghost use Rattle.std.specs.Prelude.{◌≡◌, ◌≤◌, ◌<◌, ◌+◌, ◌++◌, ◌^◌, ℕ, IfErr, IfOk, List, OnOk, OnErr, IsErr, MatchResult, None, Some, Err, true, length};
+ghost use Rattle.std.specs.Prelude.{◌≡◌, ◌≤◌, ◌<◌, ◌+◌, ◌++◌, ◌^◌, ℕ, IfErr, IfOk, List, OnOk, OnErr, IsErr, MatchResult, None, Some, Err, true, is_none, is_some, length};
 ghost use Rattle.std.specs.List.{AllByRecursion};
 ghost use Rattle.reassembly.specs.Buffer.{held};
 ghost use Rattle.clnp_plan.specs.declared.ask.SendRefusal.TheVariants.{NoMemory as WantsMemory};
@@ -7,8 +7,12 @@ ghost use Rattle.clnp_plan.specs.declared.config.Role.TheVariants.{Router as IsR
 ghost use Rattle.clnp_machine.specs.Content.{Content, IsCarried, Labelled, frame_of};
 ghost use Rattle.clnp_machine.specs.Given.{Appends, AppendsFor};
 ghost use Rattle.clnp_machine.specs.Local.{refusal, request_unit};
-ghost use Rattle.clnp_machine.specs.Step.{goes_on, is_redirected, redirects, step, way_of};
-ghost use Rattle.clnp_machine.specs.System.{SystemState, AsksForEcho, FrameComes, IsRestarted, MomentComes, first_state, next_number};
+ghost use Rattle.clnp_machine.specs.Esis.{title_of};
+ghost use Rattle.clnp_machine.specs.Step.{goes_on, goes_on_with, is_redirected, options_behind, redirects, step, way_of};
+ghost use Rattle.clnp_options.specs.Edits.{target_of};
+ghost use Rattle.clnp_options.specs.Parameter.{Parameter};
+ghost use Rattle.pdu_header.specs.Headers.{SpellsHeader, with_options};
+ghost use Rattle.clnp_machine.specs.System.{SystemState, AsksForEcho, FrameComes, IsRestarted, IsCongested, MomentComes, first_state, next_number};
 ghost use Rattle.clnp_machine.specs.Unit.{IsCarriable, Packet, value_of, wire};
 ghost use Rattle.pdu_header.specs.Value.{PduValue};
 ghost use Rattle.segmenter.specs.Left.{IsCutOf};
@@ -19,6 +23,7 @@ ghost use Rattle.router.specs.Onward.{ComesTo};
 ghost use Rattle.router.specs.Stands.{IsLeftBy, Stands};
 
 use crate::onward::{Onward, by_port};
+use crate::passage::{behind, is_barred, is_off_route, no_way, towards};
 use crate::redirecting::{is_at, may_be_redirected};
 use clnp_base::NoMemory;
 use clnp_machine::laws;
@@ -27,6 +32,7 @@ use clnp_plan::{Limits, Output, SendRefusal, SystemConfig};
 use clnp_views::Frame;
 use esis_tables::Place;
 use nsap::{Address, Snpa};
+use pdu_header::Header;
 use std::alloc::Global;
 use std::marker::Model;
 use system_entity::{Arrival, Passing, SystemEntity, Way};
@@ -178,11 +184,11 @@ impl Router {
         requires pdu { IsAtFront passing.now frame.now }
         ensures stands { OnOk result ((s : SystemState) (p : Packet) (following : List ℕ) → Stands self.old s → IsCarriable p
             → HasValue passing.now (value_of p) → frame.now ≡ wire p ++ following
-            → Stands self.new (goes_on s came.now p following (way_of s p.unit.destination)).after) }
+            → Stands self.new (goes_on s came.now p following).after) }
         ensures outputs { OnOk result ((s : SystemState) (p : Packet) (following : List ℕ) → Stands self.old s → IsCarriable p
             → HasValue passing.now (value_of p) → frame.now ≡ wire p ++ following
             → AppendsFor s.moment (Labelled p following) out.old.items out.new.items
-            (goes_on s came.now p following (way_of s p.unit.destination)).outputs) }
+            (goes_on s came.now p following).outputs) }
         ensures none { OnErr result (out.new.items ≡ out.old.items) }
         ensures spent { OnErr result (self.new.entity.spent ≡ true) }
         ensures refused { self.old.entity.spent ≡ true → IsErr result }
@@ -190,12 +196,25 @@ impl Router {
         ensures config { self.new.entity.local.configuration ≡ self.old.entity.local.configuration }
     {
         match self.onward(passing) {
-            Ok(Onward { way, cuts }) => {
+            Ok(
+                Onward {
+                    way,
+                    towards_title,
+                    cuts,
+                },
+            ) => {
                 let from = passing.head.as_bytes().len();
                 let before = out.len();
                 self.entity
                     .pass_on(alloc, frame, from, passing.len, cuts, way.hop(), out)?;
-                if let Err(refused) = self.redirect(alloc, came, passing, &way, out) {
+                if let Err(refused) = self.redirect(
+                    alloc,
+                    came,
+                    passing,
+                    towards_title,
+                    &way,
+                    out,
+                ) {
                     out.truncate(before);
                     return Err(refused);
                 }
@@ -210,18 +229,49 @@ impl Router {
         requires { (v : PduValue) × HasValue passing.now v }
         ensures goes { (s : SystemState) (came : Place) (p : Packet) (following : List ℕ) → Stands self.now s → IsCarriable p
             → HasValue passing.now (value_of p)
-            → ComesTo result s came p following (goes_on s came p following (way_of s p.unit.destination)) }
+            → ComesTo result s came p following (goes_on s came p following) }
         ensures each { IfOk result (λ onward. AllByRecursion (IsCutOf passing.now.len) onward.cuts) }
     {
-        let Some(way) = self.entity.way(&passing.to) else {
-            return Err(Reason::DestinationUnknown);
+        let title = self.title();
+        if is_off_route(&passing.head, title) {
+            return Err(Reason::PathNotAcceptable);
+        }
+        let head = behind(&passing.head, title, self.entity.is_congested());
+        self.onward_with(passing, head)
+    }
+
+    /// How a PDU goes on with a header that was changed, or for which reason it is discarded.
+    fn onward_with(&self, passing: &Passing, head: Header) -> Result<Onward, Reason>
+        requires pdu { (v : PduValue) × HasValue passing.now v }
+        requires head { (v : PduValue) × SpellsHeader v head × (length v.body ≡ passing.now.len) }
+        ensures goes { (s : SystemState) (came : Place) (p : Packet) (following : List ℕ) → Stands self.now s → IsCarriable p
+            → HasValue passing.now (value_of p)
+            → SpellsHeader (with_options (options_behind s p.options) (value_of p)) head
+            → ComesTo result s came p following (goes_on_with s came p following (options_behind s p.options)) }
+        ensures each { IfOk result (λ onward. AllByRecursion (IsCutOf passing.now.len) onward.cuts) }
+    {
+        let to = towards(&head, &passing.to);
+        let Some(way) = self.entity.way(&to) else {
+            return Err(no_way(&head));
         };
+        if is_barred(&head, &way, &to) {
+            return Err(Reason::PathNotAcceptable);
+        }
         let config = self.entity.config();
         config.is_system();
         let Some(port) = config.ports().get(usize::from(way.port)) else {
             return Err(Reason::DestinationUnknown);
         };
-        by_port(passing, way, port)
+        by_port(passing, head, way, port)
+    }
+
+    /// Its title is its one address.
+    fn title(&self) -> &Address
+        ensures { (s : SystemState) → Stands self.now s → result.now ≡ title_of s }
+    {
+        let config = self.entity.config();
+        config.is_system();
+        &config.addresses()[0]
     }
 
     /// Tells the source of a PDU that goes on of a better way, where there is one: the PDU goes back to the subnetwork from which
@@ -231,18 +281,20 @@ impl Router {
         alloc: Global,
         came: &Place,
         passing: &Passing,
+        towards_title: bool,
         way: &Way,
         out: &mut Vec<Output>,
     ) -> Result<(), NoMemory>
-        ensures outputs { OnOk result ((s : SystemState) (p : Packet) → Stands self.old s → HasValue passing.now (value_of p)
-            → Appends s.moment out.old.items out.new.items (redirects s came.now p (machine_way way.now))) }
+        ensures outputs { OnOk result ((s : SystemState) (p : Packet) (options : List Parameter) → Stands self.old s
+            → HasValue passing.now (value_of p) → towards_title ≡ is_some (target_of options)
+            → Appends s.moment out.old.items out.new.items (redirects s came.now p options (machine_way way.now))) }
         ensures same { OnOk result (self.new ≡ self.old) }
         ensures none { OnErr result (out.new.items ≡ out.old.items) }
         ensures spent { OnErr result (self.new.entity.spent ≡ true) }
         ensures moment { self.new.entity.moment ≡ self.old.entity.moment }
         ensures config { self.new.entity.local.configuration ≡ self.old.entity.local.configuration }
     {
-        if self.is_redirected(came, passing, way) {
+        if self.is_redirected(came, passing, towards_title, way) {
             let place = *came;
             return self.entity.redirect(alloc, place, &passing.to, way, out);
         }
@@ -250,13 +302,15 @@ impl Router {
     }
 
     /// Whether the source of a PDU that goes on is told of the way: redirects hold for a time, the PDU begins its unit, it goes
-    /// on by the port by which it came, and its source is known to be at the place from which it came.
-    fn is_redirected(&self, came: &Place, passing: &Passing, way: &Way) -> bool
-        ensures { (s : SystemState) (p : Packet) → Stands self.now s → HasValue passing.now (value_of p)
-            → result ≡ is_redirected s came.now p (machine_way way.now) }
+    /// on by the port by which it came, not towards a title of a source route, and its source is known to be at the place from
+    /// which it came.
+    fn is_redirected(&self, came: &Place, passing: &Passing, towards_title: bool, way: &Way) -> bool
+        ensures { (s : SystemState) (p : Packet) (options : List Parameter) → Stands self.now s → HasValue passing.now (value_of p)
+            → towards_title ≡ is_some (target_of options)
+            → result ≡ is_redirected s came.now p options (machine_way way.now) }
     {
         let holding = self.entity.config().settings().rhold;
-        if !may_be_redirected(holding, came, passing, way) {
+        if !may_be_redirected(holding, came, passing, towards_title, way) {
             return false;
         }
         is_at(came, self.entity.neighbour(&passing.from))
@@ -271,6 +325,16 @@ impl Router {
         ensures config { self.new.entity.local.configuration ≡ self.old.entity.local.configuration }
     {
         self.entity.restart();
+    }
+
+    /// It is congested from now on, or no more; a restart ends it.
+    pub fn congest(&mut self, on: bool)
+        ensures stands { (s : SystemState) → Stands self.old s → Stands self.new (step s (IsCongested on)).after }
+        ensures spent { self.new.entity.spent ≡ self.old.entity.spent }
+        ensures moment { self.new.entity.moment ≡ self.old.entity.moment }
+        ensures config { self.new.entity.local.configuration ≡ self.old.entity.local.configuration }
+    {
+        self.entity.congest(on);
     }
 
     /// How many octets are held for reassembly: of the whole frames in which kept segments came.

@@ -6,9 +6,10 @@ use Rattle.std.proofs.lemmas.List.{length-map}
 use Rattle.std.proofs.lemmas.List.Sums.{sum_by-cons}
 use Rattle.std.proofs.lemmas.Result.{IfOk-at_ok}
 use Rattle.clnp_base.specs.Text.{lines_of, words_of}
+use Rattle.clnp_base.proofs.Lists.{AllByRecursion-implies}
 use Rattle.clnp_plan.specs.Configuration.{SystemConfiguration, IsSystem}
 use Rattle.clnp_plan.specs.declared.config.Limits.{Limits}
-use Rattle.scenario.specs.Scenario.{Plan, Subnetwork, IsFit, AsksFairly, AsksInForm, IsPlaced, IsFromHost, ticks_of}
+use Rattle.scenario.specs.Scenario.{Plan, Subnetwork, IsFit, AsksFairly, AsksInForm, IsPlaced, IsFromHost, IsOfRouter, ticks_of}
 use Rattle.scenario.specs.Words.{is_skipped}
 use Rattle.scenario.specs.Declarations.{Declarations, DeclaredSystem, nothing_declared, limits_of, snpas_on, configuration_of}
 use Rattle.scenario.specs.Events.{event_line, counted, are_few, nothing_counted}
@@ -21,7 +22,7 @@ use Rattle.scenario.proofs.Asks.{event_fair}
 use Rattle.scenario.proofs.Forms.{Laws, event_formed}
 use Rattle.scenario.proofs.Addresses.{ReadAddressed, configured_addresses, declared_addresses}
 use Rattle.scenario.proofs.Placed.{AreAmong, event_placed}
-use Rattle.scenario.proofs.Senders.{events_from_hosts}
+use Rattle.scenario.proofs.Roles.{HasItsRole, events_in_roles}
 use Rattle.scenario.proofs.Kept.{configuration_snpas, configurations_on}
 use Rattle.scenario.proofs.Lists.{configuration_names}
 use Rattle.scenario.proofs.Fit.{AreDeclared, declarations_fit, nothing_fit, configurations_fit}
@@ -88,13 +89,14 @@ plan_fit laws lines =
     let fits : AreDeclared declared = are_declared.0 in
     let systems : List SystemConfiguration = map configuration_of declared.value.systems in
     let names : List (List ℕ) = map (λ (system : DeclaredSystem). system.name) declared.value.systems in
-    behind_such (events_from names systems declared.number nothing_counted declared.lines) _ (λ events. AreCounted names 0 events × AllByRecursion (IsFromHost systems) events) IsFit
-    (both (events_from names systems declared.number nothing_counted declared.lines) (AreCounted names 0) (AllByRecursion (IsFromHost systems))
+    behind_such (events_from names systems declared.number nothing_counted declared.lines) _ (λ events. AreCounted names 0 events × AllByRecursion (HasItsRole systems) events) IsFit
+    (both (events_from names systems declared.number nothing_counted declared.lines) (AreCounted names 0) (AllByRecursion (HasItsRole systems))
     (events_fit laws names systems (configurations_fit declared fits) declared.number nothing_counted declared.lines (omega arith))
-    (events_from_hosts names systems declared.number nothing_counted declared.lines)) (λ events are.
+    (events_in_roles names systems declared.number nothing_counted declared.lines)) (λ events are.
     let counted : AreCounted names 0 events = are.0 in
     record {
-      senders = are.1;
+      senders = AllByRecursion-implies (HasItsRole systems) (IsFromHost systems) (λ event role. role.0) events are.1;
+      congested = AllByRecursion-implies (HasItsRole systems) (IsOfRouter systems) (λ event role. role.1) events are.1;
       limits = fits.fit.limits;
       systems = configurations_fit declared fits;
       addresses = rw (configuration_addresses declared.value.systems) (distinct_of (addresses_of declared.value.systems) fits.fit.addresses);

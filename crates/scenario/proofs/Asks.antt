@@ -9,7 +9,7 @@ use Rattle.clnp_options.specs.Rules.{Accepts, refusal}
 use Rattle.clnp_plan.specs.Configuration.{SystemConfiguration}
 use Rattle.scenario.specs.Scenario.{AsksFairly}
 use Rattle.scenario.specs.Words.{literal, has_prefix, declared_word, address_word, data_word, number_word, life_word, octets_behind, options_read, options_word, one_word, two_words, four_words, first_four, each_once}
-use Rattle.scenario.specs.Events.{wish_word, wish_words, wish_key, options_in, host_word, send_line, deliver_line, count_line, tick_line, restart_line, echo_line, event_line}
+use Rattle.scenario.specs.Events.{wish_word, wish_words, wish_key, options_in, host_word, send_line, deliver_line, count_line, tick_line, restart_line, echo_line, router_word, on_word, congest_line, event_line}
 use Rattle.scenario.specs.declared.code.Code.TheVariants as bad
 use Rattle.scenario.specs.declared.event.Event.TheVariants.{Settle, Lose, Tick}
 use Rattle.scenario.specs.declared.wish.Wish.{Wish}
@@ -24,7 +24,7 @@ SpellsWhatItAccepts = (is_report : Bool) (part : List ℕ) → Accepts is_report
 abbrev pub AreFair : List ℕ → Type 0
 AreFair octets = FitsKind false (parameters octets)
 
-none_fair : AreFair []
+pub none_fair : AreFair []
 unfolding parameters_after
 none_fair = (λ t. absurd (true≢false (sym t)), λ a. absurd (omega (arith, a.2)))
 
@@ -96,6 +96,13 @@ echo_fair names words =
     behind_result (address_word w.2) _ AsksFairly (λ to _.
     behind_result (data_word w.3) _ AsksFairly (λ body _. tt)))))
 
+congest_fair : (names : List (List ℕ)) (systems : List SystemConfiguration) (words : List (List ℕ)) → IfOk (congest_line names systems words) AsksFairly
+unfolding congest_line
+congest_fair names systems words =
+    behind_found (two_words words) _ _ AsksFairly (λ w _.
+    behind_result (router_word names systems w.0) _ AsksFairly (λ system _.
+    behind_result (on_word w.1) _ AsksFairly (λ on _. tt)))
+
 pub event_fair : SpellsWhatItAccepts → (names : List (List ℕ)) (systems : List SystemConfiguration) (words : List (List ℕ)) → IfOk (event_line names systems words) AsksFairly
 unfolding event_line
 event_fair law names systems [] = tt
@@ -106,4 +113,5 @@ event_fair law names systems (keyword ∷ words) =
     (either_way (bytes_eq keyword (codes "lose")) _ _ AsksFairly (behind_result (count_line words) (λ count. Ok (Lose count)) AsksFairly (λ count _. tt))
     (either_way (bytes_eq keyword (codes "tick")) _ _ AsksFairly (behind_result (tick_line words) (λ count. Ok (Tick count)) AsksFairly (λ count _. tt))
     (either_way (bytes_eq keyword (codes "restart")) _ _ AsksFairly (restart_fair names words)
-    (either_way (bytes_eq keyword (codes "echo")) _ _ AsksFairly (echo_fair names words) tt))))))
+    (either_way (bytes_eq keyword (codes "echo")) _ _ AsksFairly (echo_fair names words)
+    (either_way (bytes_eq keyword (codes "congest")) _ _ AsksFairly (congest_fair names systems words) tt)))))))

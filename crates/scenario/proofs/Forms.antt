@@ -16,7 +16,7 @@ use Rattle.clnp_options.specs.Rules.{Accepts, refusal}
 use Rattle.clnp_plan.specs.Configuration.{IsSystem, IsWithin, SystemConfiguration}
 use Rattle.scenario.specs.Scenario.{AsksInForm, octets_of}
 use Rattle.scenario.specs.Words.{literal, has_prefix, after_prefix, digits_read, pattern_word, two_fields, declared_word, address_read, address_word, data_word, number_word, life_word, octets_behind, options_read, options_word, one_word, two_words, four_words, first_four, each_once}
-use Rattle.scenario.specs.Events.{wish_word, wish_words, wish_key, life_in, own_life, options_in, host_word, send_line, deliver_line, count_line, tick_line, restart_line, echo_line, event_line}
+use Rattle.scenario.specs.Events.{wish_word, wish_words, wish_key, life_in, own_life, options_in, host_word, send_line, deliver_line, count_line, tick_line, restart_line, echo_line, router_word, on_word, congest_line, event_line}
 use Rattle.scenario.specs.declared.code.Code.TheVariants as bad
 use Rattle.scenario.specs.declared.event.Body.{Body}
 use Rattle.scenario.specs.declared.event.Body.TheVariants.{Hex, Pattern}
@@ -46,7 +46,7 @@ address_formed laws word = is_read (nsap.octets_of word) (laws.addresses word)
 
 -- Data.
 
-abbrev HasOctets : Body → Type 0
+abbrev pub HasOctets : Body → Type 0
 HasOctets body = IsBytes (octets_of body)
 
 mapped_octets : (f : ℕ → ℕ) → ((q : ℕ) → f q < 256) → (places : List ℕ) → IsBytes (map f places)
@@ -54,7 +54,7 @@ mapped_octets f below [] i = omega arith
 mapped_octets f below (q ∷ places) zero = below q
 mapped_octets f below (q ∷ places) (suc i) = mapped_octets f below places i
 
-pattern_octets : (len start : ℕ) → HasOctets (Pattern len start)
+pub pattern_octets : (len start : ℕ) → HasOctets (Pattern len start)
 pattern_octets len start = mapped_octets (λ q. (q + q / 256 + start) % 256) (λ q. omega arith) (range_with_len 0 len)
 
 pattern_read : (word : List ℕ) → IfOk (pattern_word word) HasOctets
@@ -80,10 +80,10 @@ data_octets word =
 -- Options and lifetimes.
 
 -- octets that spell options in their form
-abbrev AreInForm : List ℕ → Type 0
+abbrev pub AreInForm : List ℕ → Type 0
 AreInForm octets = AreFormed (parameters octets)
 
-none_formed : AreInForm []
+pub none_formed : AreInForm []
 unfolding parameters_after
 none_formed =
     record { formed = λ i d within. absurd (omega (arith, within)); distinct = λ i j d before within. absurd (omega (arith, within)) }
@@ -180,6 +180,13 @@ echo_formed laws names words =
     behind_such (address_word w.2) _ IsAddress AsksInForm (address_formed laws w.2) (λ to to_is.
     behind_such (data_word w.3) _ HasOctets AsksInForm (data_octets w.3) (λ body octets. (from_is, to_is, octets))))))
 
+congest_formed : (names : List (List ℕ)) (systems : List SystemConfiguration) (words : List (List ℕ)) → IfOk (congest_line names systems words) AsksInForm
+unfolding congest_line
+congest_formed names systems words =
+    behind_found (two_words words) _ _ AsksInForm (λ w _.
+    behind_result (router_word names systems w.0) _ AsksInForm (λ system _.
+    behind_result (on_word w.1) _ AsksInForm (λ on _. tt)))
+
 pub event_formed : Laws → (names : List (List ℕ)) (systems : List SystemConfiguration) (words : List (List ℕ)) → AllByRecursion IsSystem systems
     → IfOk (event_line names systems words) AsksInForm
 unfolding event_line
@@ -191,4 +198,5 @@ event_formed laws names systems (keyword ∷ words) are =
     (either_way (bytes_eq keyword (codes "lose")) _ _ AsksInForm (behind_result (count_line words) (λ count. Ok (Lose count)) AsksInForm (λ count _. tt))
     (either_way (bytes_eq keyword (codes "tick")) _ _ AsksInForm (behind_result (tick_line words) (λ count. Ok (Tick count)) AsksInForm (λ count _. tt))
     (either_way (bytes_eq keyword (codes "restart")) _ _ AsksInForm (restart_formed names words)
-    (either_way (bytes_eq keyword (codes "echo")) _ _ AsksInForm (echo_formed laws names words) tt))))))
+    (either_way (bytes_eq keyword (codes "echo")) _ _ AsksInForm (echo_formed laws names words)
+    (either_way (bytes_eq keyword (codes "congest")) _ _ AsksInForm (congest_formed names systems words) tt)))))))

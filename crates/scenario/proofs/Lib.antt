@@ -6,9 +6,11 @@ pub mod Apart
 pub mod Kept
 pub mod Numbers
 pub mod Placed
-pub mod Senders
+pub mod Roles
 pub mod Fit
 pub mod Asks
 pub mod Forms
 pub mod Addresses
 pub mod Accepted
+pub mod Seeded
+mod Worked

@@ -4,7 +4,7 @@ use Rattle.std.specs.Str.{bytes_eq}
 use Rattle.clnp_plan.specs.Configuration.{SystemConfiguration}
 use Rattle.scenario.specs.Scenario.{IsPlaced}
 use Rattle.scenario.specs.Words.{declared_word, address_word, data_word, number_word, one_word, two_words, four_words, first_four, each_once}
-use Rattle.scenario.specs.Events.{wish_words, wish_key, is_host_at, host_word, send_line, deliver_line, count_line, tick_line, restart_line, echo_line, event_line}
+use Rattle.scenario.specs.Events.{wish_words, wish_key, is_host_at, host_word, is_router_at, router_word, on_word, send_line, deliver_line, count_line, tick_line, restart_line, echo_line, congest_line, event_line}
 use Rattle.scenario.specs.declared.code.Code.TheVariants as bad
 use Rattle.scenario.specs.declared.event.Event.{Event}
 use Rattle.scenario.specs.declared.event.Event.TheVariants.{Settle, Lose, Tick}
@@ -51,6 +51,18 @@ echo_placed names words =
     behind_result (address_word w.2) _ (AreAmong names) (λ to _.
     behind_result (data_word w.3) _ (AreAmong names) (λ body _. within)))))
 
+router_is_within : (names : List (List ℕ)) (systems : List SystemConfiguration) (word : List ℕ) → IfOk (router_word names systems word) (λ place. place < length names)
+router_is_within names systems word =
+    behind_such (declared_word names word) _ (λ place. place < length names) (λ place. place < length names) (declared_is_within names word) (λ place within.
+    behind_wanted (is_router_at (slice_get systems place)) bad.UnknownName (λ _. Ok place) (λ place. place < length names) (λ _. within))
+
+congest_placed : (names : List (List ℕ)) (systems : List SystemConfiguration) (words : List (List ℕ)) → IfOk (congest_line names systems words) (AreAmong names)
+unfolding congest_line
+congest_placed names systems words =
+    behind_found (two_words words) _ _ (AreAmong names) (λ w _.
+    behind_such (router_word names systems w.0) _ (λ place. place < length names) (AreAmong names) (router_is_within names systems w.0) (λ system within.
+    behind_result (on_word w.1) _ (AreAmong names) (λ on _. within)))
+
 pub event_placed : (names : List (List ℕ)) (systems : List SystemConfiguration) (words : List (List ℕ)) → IfOk (event_line names systems words) (AreAmong names)
 unfolding event_line
 event_placed names systems [] = tt
@@ -61,4 +73,5 @@ event_placed names systems (keyword ∷ words) =
     (either_way (bytes_eq keyword (codes "lose")) _ _ (AreAmong names) (behind_result (count_line words) (λ count. Ok (Lose count)) (AreAmong names) (λ count _. tt))
     (either_way (bytes_eq keyword (codes "tick")) _ _ (AreAmong names) (behind_result (tick_line words) (λ count. Ok (Tick count)) (AreAmong names) (λ count _. tt))
     (either_way (bytes_eq keyword (codes "restart")) _ _ (AreAmong names) (restart_placed names words)
-    (either_way (bytes_eq keyword (codes "echo")) _ _ (AreAmong names) (echo_placed names words) tt))))))
+    (either_way (bytes_eq keyword (codes "echo")) _ _ (AreAmong names) (echo_placed names words)
+    (either_way (bytes_eq keyword (codes "congest")) _ _ (AreAmong names) (congest_placed names systems words) tt)))))))

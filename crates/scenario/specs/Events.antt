@@ -6,13 +6,14 @@ use Rattle.clnp_plan.specs.Configuration.{SystemConfiguration}
 use Rattle.clnp_plan.specs.declared.ask.Ask.{Ask}
 use Rattle.clnp_plan.specs.declared.config.Role.{Role}
 use Rattle.clnp_plan.specs.declared.config.Role.TheVariants.{Host, Router}
+use Rattle.scenario.specs.Declarations.{is_router}
 use Rattle.scenario.specs.Scenario.{ticks_of}
 use Rattle.scenario.specs.Words.{◌>>=◌, wanted, found, literal, declared_word, number_word, address_word, data_word, life_word, options_word, has_prefix, one_word, two_words, four_words, first_four, each_once}
 use Rattle.scenario.specs.declared.code.Code.{Code}
 use Rattle.scenario.specs.declared.code.Code.TheVariants as bad
 use Rattle.scenario.specs.declared.counts.Counts.{Counts}
 use Rattle.scenario.specs.declared.event.Event.{Event}
-use Rattle.scenario.specs.declared.event.Event.TheVariants.{Send, Deliver, Settle, Lose, Tick, Restart, Echo}
+use Rattle.scenario.specs.declared.event.Event.TheVariants.{Send, Deliver, Settle, Lose, Tick, Restart, Echo, Congest}
 use Rattle.scenario.specs.declared.wish.Wish.{Wish}
 use Rattle.scenario.specs.declared.wish.Wish.TheVariants.{Lasting, NoReport, Whole, Options}
 
@@ -130,6 +131,33 @@ echo_line names words = do
   body ← data_word w.3
   Ok (Echo system from to body)
 
+-- whether a system is a router
+abbrev pub is_router_at : Option SystemConfiguration → Bool
+is_router_at None = false
+is_router_at (Some system) = is_router system.role
+
+-- the place of the router that a word names
+abbrev pub router_word : (names : List (List ℕ)) (systems : List SystemConfiguration) → List ℕ → Result ℕ Code
+router_word names systems word = do
+  place ← declared_word names word
+  _ ← wanted (is_router_at (slice_get systems place)) bad.UnknownName
+  Ok place
+
+-- `on` or `off`
+abbrev pub on_word : List ℕ → Result Bool Code
+on_word word =
+    if bytes_eq word (codes "on") then Ok true
+    else if bytes_eq word (codes "off") then Ok false
+    else Err bad.Syntax
+
+-- `NAME on` or `NAME off`, behind `congest`: a router is congested, or no longer
+unfoldable pub congest_line : (names : List (List ℕ)) (systems : List SystemConfiguration) → List (List ℕ) → Result Event Code
+congest_line names systems words = do
+  w ← found (two_words words) bad.Syntax
+  system ← router_word names systems w.0
+  on ← on_word w.1
+  Ok (Congest system on)
+
 -- `N`, behind `settle` and `lose`
 unfoldable pub count_line : List (List ℕ) → Result ℕ Code
 count_line words = found (one_word words) bad.Syntax >>= number_word 1 100000
@@ -144,6 +172,7 @@ event_line names systems (keyword ∷ words) =
     else if bytes_eq keyword (codes "tick") then (tick_line words >>= λ count. Ok (Tick count))
     else if bytes_eq keyword (codes "restart") then restart_line names words
     else if bytes_eq keyword (codes "echo") then echo_line names words
+    else if bytes_eq keyword (codes "congest") then congest_line names systems words
     else Err bad.Syntax
 
 -- the copies that an event settles or loses

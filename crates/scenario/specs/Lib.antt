@@ -5,3 +5,6 @@ pub mod Refusal
 pub mod Declarations
 pub mod Events
 pub mod Words
+pub mod Seeds
+pub mod Canonical
+pub mod Lines

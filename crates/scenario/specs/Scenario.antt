@@ -9,11 +9,11 @@ use Rattle.clnp_plan.specs.Asking.{IsFormedAsk}
 use Rattle.clnp_plan.specs.Configuration.{AreDistinct, AreLimits, IsAddressed, IsSystem, IsWithin, SystemConfiguration}
 use Rattle.clnp_plan.specs.declared.config.Limits.{Limits}
 use Rattle.clnp_plan.specs.declared.config.PortConfig.{PortConfig}
-use Rattle.clnp_plan.specs.declared.config.Role.TheVariants.{Host}
+use Rattle.clnp_plan.specs.declared.config.Role.TheVariants.{Host, Router}
 use Rattle.scenario.specs.declared.event.Body.{Body}
 use Rattle.scenario.specs.declared.event.Body.TheVariants.{Hex, Pattern}
 use Rattle.scenario.specs.declared.event.Event.{Event}
-use Rattle.scenario.specs.declared.event.Event.TheVariants.{Send, Deliver, Settle, Lose, Tick, Restart, Echo}
+use Rattle.scenario.specs.declared.event.Event.TheVariants.{Send, Deliver, Settle, Lose, Tick, Restart, Echo, Congest}
 use Rattle.scenario.specs.declared.event.Move.{Move}
 use Rattle.scenario.specs.declared.event.Move.TheVariants.{One, SettleOne, LoseOne, TickOne}
 
@@ -43,6 +43,7 @@ moves_of place (Send system from to body ask) = One place ∷ []
 moves_of place (Deliver copy system) = One place ∷ []
 moves_of place (Restart system) = One place ∷ []
 moves_of place (Echo system from to body) = One place ∷ []
+moves_of place (Congest system on) = One place ∷ []
 
 -- the moves of events, the first of them at a place
 abbrev pub moves_from : ℕ → List Event → List Move
@@ -72,12 +73,18 @@ IsPlaced systems (Send system from to body ask) = system < systems
 IsPlaced systems (Deliver copy system) = system < systems
 IsPlaced systems (Restart system) = system < systems
 IsPlaced systems (Echo system from to body) = system < systems
+IsPlaced systems (Congest system on) = system < systems
 IsPlaced systems _ = Unit {0}
 
 -- the system of an event that asks for a data unit is a host
 abbrev pub IsFromHost : List SystemConfiguration → Event → Type 0
 IsFromHost systems (Send system from to body ask) = option_map (λ (host : SystemConfiguration). host.role) (slice_get systems system) ≡ Some Host
 IsFromHost systems _ = Unit {0}
+
+-- the system of an event that says whether one is congested is a router
+abbrev pub IsOfRouter : List SystemConfiguration → Event → Type 0
+IsOfRouter systems (Congest system on) = option_map (λ (router : SystemConfiguration). router.role) (slice_get systems system) ≡ Some Router
+IsOfRouter systems _ = Unit {0}
 
 -- the subnetwork of a port is there, and its MTU is the port's
 abbrev pub IsOn : List Subnetwork → PortConfig → Type 0
@@ -109,3 +116,5 @@ pub record IsFit (plan : Plan) : Type 0 where
   pub places : AllByRecursion (IsPlaced (length plan.systems)) plan.events
   -- hosts alone are asked to send
   pub senders : AllByRecursion (IsFromHost plan.systems) plan.events
+  -- routers alone are said to be congested
+  pub congested : AllByRecursion (IsOfRouter plan.systems) plan.events

@@ -55,7 +55,8 @@ fn passed_by(event: &Event) -> u32
         | Event::Deliver { .. }
         | Event::Tick { .. }
         | Event::Restart { .. }
-        | Event::Echo { .. } => 0,
+        | Event::Echo { .. }
+        | Event::Congest { .. } => 0,
     }
 }
 
@@ -70,6 +71,7 @@ fn ticks_of(event: &Event) -> u32
         | Event::Settle { .. }
         | Event::Lose { .. }
         | Event::Restart { .. }
-        | Event::Echo { .. } => 0,
+        | Event::Echo { .. }
+        | Event::Congest { .. } => 0,
     }
 }

@@ -50,6 +50,11 @@ pub enum Event {
         to: Address,
         body: Body,
     },
+    /// A router is congested from now on, or else no longer.
+    Congest {
+        system: u8,
+        on: bool,
+    },
 }
 
 /// One move of the simulated network.

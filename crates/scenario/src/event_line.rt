@@ -3,13 +3,14 @@ ghost use Rattle.std.specs.Prelude.{◌≡◌, ◌<◌, ◌≤◌, map, length, 
 ghost use Rattle.std.specs.List.{position};
 ghost use Rattle.std.specs.Str.{bytes_eq};
 ghost use Rattle.clnp_base.specs.Text.{words_of};
-ghost use Rattle.scenario.specs.Events.{own_life, is_host, is_host_at, host_word, send_line, deliver_line, count_line, tick_line, restart_line, echo_line, event_line};
+ghost use Rattle.scenario.specs.Events.{own_life, is_host, is_host_at, host_word, send_line, deliver_line, count_line, tick_line, restart_line, echo_line, is_router_at, router_word, on_word, congest_line, event_line};
 ghost use Rattle.scenario.specs.Words.{declared_word};
 ghost use Rattle.scenario.specs.Refusal.{Faults};
 
 use crate::code::Code;
 use crate::event::Event;
 use crate::fault::LineFault;
+use crate::system::is_router;
 use crate::wish::{ask_of, each_once, wish_words};
 use crate::word::{
     address_word, data_word, first_four, four_words, is_name, number_word, one_word, same,
@@ -183,6 +184,53 @@ fn echo_line(alloc: Global, systems: &[SystemConfig], line: &[u8]) -> Result<Eve
     })
 }
 
+/// Whether the system at a place is a router.
+fn is_router_at(systems: &[SystemConfig], place: u8) -> bool
+    ensures { result ≡ is_router_at (slice_get systems.now place) }
+{
+    match systems.get(usize::from(place)) {
+        Some(system) => is_router(system.role()),
+        None => false,
+    }
+}
+
+/// The place of the router that a word names.
+fn router_word(systems: &[SystemConfig], word: &[u8]) -> Result<u8, Code>
+    requires { length systems.now ≤ 64 }
+    ensures { result ≡ router_word (map (λ system. system.name) systems.now) systems.now word.now }
+{
+    let place = system_word(systems, word)?;
+    wanted(is_router_at(systems, place), Code::UnknownName)?;
+    Ok(place)
+}
+
+/// `on` or `off`.
+fn on_word(word: &[u8]) -> Result<bool, Code>
+    ensures { result ≡ on_word word.now }
+{
+    if same(word, b"on") {
+        return Ok(true);
+    }
+    if same(word, b"off") {
+        return Ok(false);
+    }
+    Err(Code::Syntax)
+}
+
+/// `NAME on` or `NAME off`, behind `congest`.
+#[tactic(auto, unfolding(crate::specs::Events::congest_line))]
+fn congest_line(systems: &[SystemConfig], line: &[u8]) -> Result<Event, Code>
+    requires { length systems.now ≤ 64 }
+    ensures { result ≡ congest_line (map (λ system. system.name) systems.now) systems.now (words_of line.now) }
+{
+    let Some((name, word)) = two_words(line) else {
+        return Err(Code::Syntax);
+    };
+    let system = router_word(systems, name)?;
+    let on = on_word(word)?;
+    Ok(Event::Congest { system, on })
+}
+
 /// The event of a line.
 #[tactic(auto, unfolding(crate::specs::Events::event_line))]
 pub(crate) fn event_line(
@@ -226,6 +274,12 @@ pub(crate) fn event_line(
     }
     if same(keyword, b"echo") {
         return echo_line(alloc, systems, line);
+    }
+    if same(keyword, b"congest") {
+        return match congest_line(systems, line) {
+            Ok(event) => Ok(event),
+            Err(code) => Err(LineFault::Broken(code)),
+        };
     }
     Err(LineFault::Broken(Code::Syntax))
 }

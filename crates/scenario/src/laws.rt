@@ -8,9 +8,9 @@ ghost use Rattle.scenario.specs.Scenario.{IsFit, Plan};
 /// each system has the addresses, ports and routes that its role calls for, no name, address or SNPA on a
 /// subnetwork stands twice, and no prefix at a router, each port is on a declared subnetwork and has its
 /// MTU, each route leads out of a port that is there, events name declared systems, hosts alone are asked
-/// to send data units, few ticks pass, each unit and each echo is asked for between addresses, a data unit
-/// with a lifetime that an octet holds and options in their form, and none with an option that an error
-/// report alone may have.
+/// to send data units, routers alone are said to be congested, few ticks pass, each unit and each echo is
+/// asked for between addresses, a data unit with a lifetime that an octet holds and options in their form,
+/// and none with an option that an error report alone may have.
 pub fn accepted_is_fit()
     ensures { (text : List ℕ) (plan : Plan) → plan_of text ≡ Ok plan → IsFit plan }
 {

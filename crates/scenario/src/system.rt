@@ -79,7 +79,7 @@ fn most_ports(role: Role) -> usize
     }
 }
 
-fn is_router(role: Role) -> bool
+pub(crate) fn is_router(role: Role) -> bool
     ensures { result ≡ is_router role }
 {
     matches!(role, Role::Router)

@@ -7,6 +7,7 @@ use Rattle.clnp_plan.specs.Configuration.{SystemConfiguration}
 use Rattle.clnp_machine.specs.Identifiers.{Identifiers}
 use Rattle.clnp_machine.specs.Local.{Deed, IsAsOffered, Sends, Tells, made_in}
 use Rattle.clnp_machine.specs.Local as machine
+use Rattle.clnp_machine.specs.Step.{congest}
 use Rattle.clnp_machine.specs.Steps as steps
 use Rattle.clnp_machine.specs.Steps.{IsDeed, LeavesTheRest, OnlyHellos}
 use Rattle.clnp_machine.specs.System.{SystemState, Effect, table_limits}
@@ -77,6 +78,7 @@ parts_after_deed before here local s deed is done h =
       local = done;
       esis = esis_same before here.esis s deed.after is.itself.configuration is.heard.facts is.heard.hello is.heard.next_hello h.esis;
       moment = h.moment ∙ sym is.moment;
+      congested = h.congested ∙ sym is.heard.congested;
       since = subst (λ (now : ℕ). before ≤ now) (sym is.moment) h.since;
     }
 
@@ -88,6 +90,7 @@ parts_after_hello before here esis s effect only done h =
       local = local_same here.local s effect.after (keeps_rest s effect.after only.rest) h.local;
       esis = done;
       moment = h.moment ∙ sym only.rest.moment;
+      congested = h.congested ∙ sym only.rest.congested;
       since = omega arith;
     }
 
@@ -113,9 +116,24 @@ parts_later here s now later h =
       local = local_same here.local s (machine.at_moment now s) (keeps_moment s now) h.local;
       esis = esis_same s.moment here.esis s (machine.at_moment now s) refl refl refl refl h.esis;
       moment = refl;
+      congested = h.congested;
       since = subst (λ (m : ℕ). m ≤ now) h.moment later;
     }
 
 -- whether it is spent says nothing of its parts
 pub while_spent : (here : SystemEntityState) (spent : Bool) (s : SystemState) → PartsStand here s → PartsStand (record here { spent = spent }) s
-while_spent here spent s h = record { local = h.local; esis = h.esis; moment = h.moment; since = h.since }
+while_spent here spent s h =
+    record { local = h.local; esis = h.esis; moment = h.moment; congested = h.congested; since = h.since }
+
+-- nothing that it keeps depends on whether it is congested
+pub while_congested : (here : SystemEntityState) (on : Bool) (s : SystemState) → PartsStand here s
+    → PartsStand (record here { congested = on }) (congest s on).after
+while_congested here on s h =
+    let t : SystemState = (congest s on).after in
+    record {
+      local = local_same here.local s t (record { configuration = refl; hold = refl; count = refl; identifiers = refl; buffers = refl; pending = refl }) h.local;
+      esis = esis_same s.moment here.esis s t refl refl refl refl h.esis;
+      moment = h.moment;
+      congested = refl;
+      since = h.since;
+    }

@@ -15,6 +15,7 @@ pub record PartsStandSince (before : ℕ) (entity : SystemEntityState) (s : Syst
   pub local : local_entity.Stands entity.local s
   pub esis : esis_entity.StandsSince before entity.esis s
   pub moment : entity.moment ≡ s.moment
+  pub congested : entity.congested ≡ s.congested
   pub since : before ≤ s.moment
 
 -- and what has ended by its own moment

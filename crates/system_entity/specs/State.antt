@@ -9,5 +9,7 @@ pub record SystemEntityState : Type 0 where
   -- what it says of itself, and heard of others
   pub esis : EsisState
   pub moment : ℕ
+  -- it is congested
+  pub congested : Bool
   -- memory was refused in a step of it
   pub spent : Bool

@@ -12,7 +12,7 @@ ghost use Rattle.clnp_machine.specs.Content.{Content, IsCarried, frame_of};
 ghost use Rattle.clnp_machine.specs.Given.{Appends};
 ghost use Rattle.clnp_machine.specs.Local as machine;
 ghost use Rattle.clnp_machine.specs.Local.{has_address, restarted};
-ghost use Rattle.clnp_machine.specs.Step.{effect_of, moment_comes, next_hop, way_of};
+ghost use Rattle.clnp_machine.specs.Step.{congest, effect_of, moment_comes, next_hop, way_of};
 ghost use Rattle.clnp_machine.specs.Esis.{redirect};
 ghost use Rattle.clnp_machine.specs.System.{SystemState, SendsEsis, first_state, next_number};
 ghost use Rattle.esis_tables.specs.declared.fact.TableKind.TheVariants.{Es};
@@ -65,6 +65,7 @@ pub struct SystemEntity {
     esis: EsisEntity,
     routes: Routes,
     moment: u64,
+    congested: bool,
     spent: bool,
 }
 
@@ -74,9 +75,9 @@ impl Model for SystemEntity {
 
     ghost Value = { SystemEntityState };
 
-    ghost view = { λ e. record { local = e.local; esis = e.esis; moment = e.moment; spent = e.spent } };
+    ghost view = { λ e. record { local = e.local; esis = e.esis; moment = e.moment; congested = e.congested; spent = e.spent } };
 
-    ghost invariant = { λ e. IsSound (record { local = e.local; esis = e.esis; moment = e.moment; spent = e.spent }) e.routes };
+    ghost invariant = { λ e. IsSound (record { local = e.local; esis = e.esis; moment = e.moment; congested = e.congested; spent = e.spent }) e.routes };
 }
 
 impl SystemEntity {
@@ -106,6 +107,7 @@ impl SystemEntity {
             esis,
             routes,
             moment: now,
+            congested: false,
             spent: false,
         })
     }
@@ -394,8 +396,26 @@ impl SystemEntity {
         ensures moment { self.new.moment ≡ self.old.moment }
         ensures config { self.new.local.configuration ≡ self.old.local.configuration }
     {
+        self.congested = false;
         self.local.restart(self.moment);
         self.esis.restart(self.local.config(), self.moment);
+    }
+
+    /// It is congested from now on, or no more.
+    pub fn congest(&mut self, on: bool)
+        ensures stands { (s : SystemState) → Stands self.old s → Stands self.new (congest s on).after }
+        ensures spent { self.new.spent ≡ self.old.spent }
+        ensures moment { self.new.moment ≡ self.old.moment }
+        ensures config { self.new.local.configuration ≡ self.old.local.configuration }
+    {
+        self.congested = on;
+    }
+
+    /// Whether it is congested.
+    pub fn is_congested(&self) -> bool
+        ensures { (s : SystemState) (before : ℕ) → PartsStandSince before self.now s → result ≡ s.congested }
+    {
+        self.congested
     }
 
     /// How many octets are held for reassembly: of the whole frames in which kept segments came.

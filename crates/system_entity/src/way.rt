@@ -28,6 +28,16 @@ impl Way {
             target: Target::System(self.snpa),
         }
     }
+
+    /// Whether the next system on it is that of an address itself: a neighbour, or a router of this title.
+    pub fn ends_at(&self, address: &Address) -> bool
+        ensures { result ≡ machine.ends_at address.now self.now.title }
+    {
+        match self.title {
+            Some(title) => title == *address,
+            None => true,
+        }
+    }
 }
 
 /// The way to an end system that was heard of.

@@ -1,7 +1,7 @@
 //! The moves, and what an event does.
 ghost use Rattle.std.specs.Prelude.{◌≡◌, ◌+◌, ◌<◌, ◌≤◌, ◌^◌, ℕ, List, ◌++◌, OnOk, OnErr, Some, length, slice_get, vec_len};
 ghost use Rattle.std.specs.List.{AllByRecursion, range_with_len};
-ghost use Rattle.clnp_machine.specs.System.{IsRestarted, MomentComes};
+ghost use Rattle.clnp_machine.specs.System.{IsRestarted, IsCongested, MomentComes};
 ghost use Rattle.clnp_network.specs.World as network;
 ghost use Rattle.clnp_world.specs.Parts.{Follows, Holds, IsBehind, IsRunning, Puts, Shows};
 ghost use Rattle.clnp_systems.specs.Stands.{entity_of};
@@ -114,6 +114,9 @@ impl Network {
                 self.deliver(alloc, limits, *copy, usize::from(*system), lines)
             }
             Event::Restart { system } => self.restart(alloc, usize::from(*system), lines),
+            Event::Congest { system, on } => {
+                self.congest(alloc, usize::from(*system), *on, lines)
+            }
             Event::Settle { .. } | Event::Lose { .. } | Event::Tick { .. } => Ok(()),
         }
     }
@@ -139,6 +142,24 @@ impl Network {
         }
         self.systems[place].restart();
         self.write_note(alloc, place, &Note::Restart, lines)
+    }
+
+    /// The system at a place is congested from now on, or no more.
+    fn congest(
+        &mut self,
+        alloc: Global,
+        place: usize,
+        on: bool,
+        lines: &mut Vec<u8>,
+    ) -> Result<(), NoMemory>
+        ensures { OnOk result ((model : network.World) → Holds self.old model
+            → Follows self.new lines.old.items lines.new.items (network.comes model place (IsCongested on))) }
+    {
+        if place >= self.systems.len() {
+            return Ok(());
+        }
+        self.systems[place].congest(on);
+        self.write_note(alloc, place, &Note::Congest { on }, lines)
     }
 
     /// One tick passes.

@@ -38,6 +38,10 @@ returns c = record {
     within = c.a_segment_is_kept_in_its_buffer.ensures.within;
     apart = c.a_segment_is_kept_in_its_buffer.ensures.apart;
   };
+  headers = record {
+    header = c.headers_keep_their_length.ensures;
+    chained = c.edits_keep_the_form.ensures.chained;
+  };
   frames = c.carriable_packets_break_no_rule.ensures;
   answers = c.the_test_is_the_rule.ensures.reply;
   esis_frames = c.esis_pdus_break_no_rule.ensures;

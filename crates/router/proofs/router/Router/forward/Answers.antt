@@ -5,7 +5,7 @@ use Rattle.clnp_views.specs.Extent.{Extent, part, seen, whole}
 use Rattle.clnp_machine.specs.Content.{Labelled}
 use Rattle.clnp_machine.specs.Given.{Appends, AppendsFor}
 use Rattle.clnp_machine.specs.Local.{discard}
-use Rattle.clnp_machine.specs.Step.{effect_of, redirects}
+use Rattle.clnp_machine.specs.Step.{effect_of, options_behind, redirects}
 use Rattle.clnp_machine.specs.System.{Effect, Output, SystemState}
 use Rattle.clnp_machine.specs.Unit.{value_of}
 use Rattle.clnp_machine.proofs.Given.{appends_for, appends_for_both}
@@ -68,9 +68,10 @@ returns-in_default-clause-outputs c = λ s p following h carriable has frame.
       give_all = goes.given body shown (ap length shown ∙ has.len);
     } in
     let second = appends_for s.moment (Labelled p following) c.pass_on.new.out.items c.redirect.new.out.items
-    (redirects s c.args.came.now p (machine_way way))
-    (c.in_default.ensures.outputs s p (subst (λ (e : SystemEntityState). entity.Stands e s) (sym c.in_ok-pass_on-in-Ok.ensures.same) stands) has) in
+    (redirects s c.args.came.now p (options_behind s p.options) (machine_way way))
+    (c.in_default.ensures.outputs s p (options_behind s p.options)
+    (subst (λ (e : SystemEntityState). entity.Stands e s) (sym c.in_ok-pass_on-in-Ok.ensures.same) stands) has goes.towards_title) in
     subst (λ (others : List Output). AppendsFor s.moment (Labelled p following) c.args.out.now.items c.redirect.new.out.items others)
     (sym goes.outputs)
     (appends_for_both s.moment (Labelled p following) c.args.out.now.items c.pass_on.new.out.items c.redirect.new.out.items goes.pieces
-    (redirects s c.args.came.now p (machine_way way)) first second)
+    (redirects s c.args.came.now p (options_behind s p.options) (machine_way way)) first second)

@@ -7,7 +7,7 @@ use Rattle.router.proofs.Better.{told_is}
 use Rattle.router.proofs.router.Router.redirect.Goals as goal
 
 pub returns-clause-outputs : goal.returns-clause-outputs
-returns-clause-outputs c = λ s p h has.
+returns-clause-outputs c = λ s p options h has titled.
     subst (λ (others : List Output). Appends s.moment c.args.out.now.items c.args.out.now.items others)
-    (told_is s c.args.came.now p c.args.way.now false (sym c.if-is_redirected.false ∙ c.is_redirected.ensures s p h has))
+    (told_is s c.args.came.now p options c.args.way.now false (sym c.if-is_redirected.false ∙ c.is_redirected.ensures s p options h has titled))
     (appends_none s.moment c.args.out.now.items c.args.out.now.items refl)

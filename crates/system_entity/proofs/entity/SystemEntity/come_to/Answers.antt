@@ -24,17 +24,17 @@ give_out-requires c =
     )
 
 inside : goal.After-drop-outputs-2 → SystemEntityState
-inside c = record { local = c.self.inside.local; esis = c.self.inside.esis; moment = c.self.inside.moment; spent = c.self.inside.spent }
+inside c = record { local = c.self.inside.local; esis = c.self.inside.esis; moment = c.self.inside.moment; congested = c.self.inside.congested; spent = c.self.inside.spent }
 
 -- once the buffers that were due are gone
 ticked : (c : goal.After-drop-outputs-2) (s : SystemState) → PartsStand c.args.self.now s
-    → PartsStandSince s.moment (record { local = c.tick.new.self; esis = c.self.inside.esis; moment = c.args.now; spent = c.self.inside.spent }) (tick s c.args.now).after
+    → PartsStandSince s.moment (record { local = c.tick.new.self; esis = c.self.inside.esis; moment = c.args.now; congested = c.self.inside.congested; spent = c.self.inside.spent }) (tick s c.args.now).after
 ticked c s h =
     let parts = subst (λ (e : SystemEntityState). PartsStand e s) (sym c.self.view_is) h in
     let later : c.self.inside.moment ≤ c.args.now = subst (λ (e : SystemEntityState). e.moment ≤ c.args.now) (sym c.self.view_is) c.requires.later in
     parts_after_deed s.moment _ c.tick.new.self (at_moment c.args.now s) (tick s c.args.now)
     (c.deeds_are_of_their_moment.ensures.tick s c.args.now) (c.in_ok-tick.ensures.stands s parts.local)
-    (parts_later (record { local = c.self.inside.local; esis = c.self.inside.esis; moment = c.self.inside.moment; spent = c.self.inside.spent }) s c.args.now later parts)
+    (parts_later (record { local = c.self.inside.local; esis = c.self.inside.esis; moment = c.self.inside.moment; congested = c.self.inside.congested; spent = c.self.inside.spent }) s c.args.now later parts)
 
 pub returns-clause-stands : goal.returns-clause-stands
 returns-clause-stands c = λ s h.

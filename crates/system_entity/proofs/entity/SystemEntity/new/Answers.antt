@@ -12,6 +12,7 @@ returns-clause-stands c = λ place. record {
     local = c.in_ok-local.ensures.stands place c.args.now;
     esis = c.in_ok-esis.ensures place c.args.limits.now c.args.quiet;
     moment = refl;
+    congested = refl;
     since = omega arith;
   };
 }

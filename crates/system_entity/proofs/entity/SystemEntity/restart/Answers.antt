@@ -1,5 +1,5 @@
 -- Both parts stand for the state after a restart.
-use Rattle.std.proofs.Common.{◌≡◌, ◌∙◌, sym, subst, arith}
+use Rattle.std.proofs.Common.{◌≡◌, ◌∙◌, refl, sym, subst, false, arith}
 use Rattle.forwarding.specs.Stands as routing
 use Rattle.clnp_plan.specs.Configuration.{SystemConfiguration}
 use Rattle.clnp_machine.specs.Local.{restarted}
@@ -9,10 +9,10 @@ use Rattle.system_entity.specs.Stands.{Stands}
 use Rattle.system_entity.proofs.entity.SystemEntity.restart.Goals as goal
 
 abbrev inside : goal.After-restart-2 → SystemEntityState
-inside c = record { local = c.self.inside.local; esis = c.self.inside.esis; moment = c.self.inside.moment; spent = c.self.inside.spent }
+inside c = record { local = c.self.inside.local; esis = c.self.inside.esis; moment = c.self.inside.moment; congested = c.self.inside.congested; spent = c.self.inside.spent }
 
 abbrev after : goal.After-restart-2 → SystemEntityState
-after c = record { local = c.restart.new.self; esis = c.restart-2.new.self; moment = c.self.inside.moment; spent = c.self.inside.spent }
+after c = record { local = c.restart.new.self; esis = c.restart-2.new.self; moment = c.self.inside.moment; congested = false; spent = c.self.inside.spent }
 
 again : (c : goal.After-restart-2) (s : SystemState) → Stands (inside c) s → Stands (after c) (restarted s)
 again c s h =
@@ -24,6 +24,7 @@ again c s h =
         local = c.restart.ensures.stands s h.parts.local (sym h.parts.moment);
         esis = c.restart-2.ensures s s.moment h.parts.esis configuration (sym h.parts.moment);
         moment = h.parts.moment;
+        congested = refl;
         since = omega arith;
       };
     }

@@ -1,0 +1,279 @@
+-- Scenarios of seeds: the first numbers that are picked, what is declared, and that each is fit to be run.
+use Rattle.std.proofs.Common.{◌≡◌, ℕ, zero, suc, ◌+◌, ◌*◌, ◌/◌, ◌%◌, ◌^◌, ◌-◌, ◌<◌, ◌≤◌, ◌==◌, nat_lt, Bool, true, false, if◌then◌else◌, List, [], ◌∷◌, ◌++◌, map, Option, None, Some, option_map, slice_get, refl, subst, Result, Ok, Err, MatchResult, codes, length, length-append, append_assoc, sym, ◌∙◌, arith}
+use Rattle.std.specs.List.{AllByRecursion, sum}
+use Rattle.std.proofs.lemmas.List.{append-nil}
+use Rattle.std.proofs.lemmas.List.Sums.{sum_by-cons}
+use Rattle.std.proofs.lemmas.Result.{IfOk-at_ok}
+use Rattle.hex.specs.Hex.{IsBytes, decode_pairs}
+use Rattle.nsap.specs.Address.{IsAddress}
+use Rattle.nsap.specs.Text.{octets_of}
+use Rattle.clnp_base.proofs.Lists.{AllByRecursion-append, AllByRecursion-implies}
+use Rattle.clnp_plan.specs.Configuration.{SystemConfiguration}
+use Rattle.clnp_plan.specs.declared.config.Role.TheVariants.{Host}
+use Rattle.scenario.specs.Grammar.{BadLine as Bad, plan_of, plan_at, events_from}
+use Rattle.scenario.specs.Declarations.{limits_line, subnet_line, room_word, setting_word, system_line, address_line, port_line, route_line, declaration_line}
+use Rattle.scenario.specs.Scenario.{Plan, IsFit, AsksFairly, AsksInForm, IsPlaced, IsFromHost, IsOfRouter, ticks_of}
+use Rattle.scenario.specs.Refusal.{Refuses}
+use Rattle.scenario.specs.declared.fault.ScenarioRefusal.{ScenarioRefusal}
+use Rattle.scenario.specs.declared.fault.ScenarioRefusal.TheVariants.{BadLine}
+use Rattle.scenario.specs.Seeds.{Drawn, next, only, pick, two_networks, address_in, address_of, place_of, usual_ask, a_send, an_echo, a_delivery, a_loss, some_ticks, restart_of_one, a_restart, event_of, one_or_two, round, rounds, storm_events, storm}
+use Rattle.scenario.specs.declared.event.Body.TheVariants.{Pattern}
+use Rattle.scenario.specs.declared.event.Event.{Event}
+use Rattle.scenario.specs.declared.event.Event.TheVariants.{Send, Deliver, Settle, Lose, Tick, Restart, Echo}
+use Rattle.scenario.proofs.Asks.{none_fair}
+use Rattle.scenario.proofs.Forms.{none_formed, pattern_octets}
+
+-- The text of what is declared.
+abbrev pub declared_text : List ℕ
+declared_text = codes "clnp-sim 1\nlimits 40 20 60\nsubnet lan1 1500\nsubnet mid 512\nsubnet lan2 1024\nsystem a host life=32\nsystem b host life=32\nsystem r1 router life=32\nsystem r2 router life=32\nsystem c host life=32\nsystem d host life=32\naddress a 4700270101\naddress b 4700270102\naddress r1 47002701ff\naddress r2 47002702ff\naddress c 4700270201\naddress d 4700270202\nport a 0 lan1 01\nport b 0 lan1 02\nport r1 0 lan1 0a\nport r1 1 mid 0b\nport r2 0 mid 0c\nport r2 1 lan2 0d\nport c 0 lan2 03\nport d 0 lan2 04\nroute r1 47002702 1 0c 47002702ff\nroute r2 47002701 0 0b 47002701ff\nevents\nend\n"
+
+pub declared_text_read : plan_of declared_text ≡ Ok (two_networks [])
+unfolding decode_pairs octets_of plan_at events_from limits_line subnet_line room_word setting_word system_line address_line port_line route_line declaration_line
+declared_text_read = refl
+
+-- the 31 high bits that seeds 1 and 0 give first, and the kinds of their first rounds
+first_of_one : next 1 / 2 ^ 33 ≡ 908834774
+unfolding next
+first_of_one = refl
+
+first_kind_of_one : (pick 10 1).0 ≡ 4
+unfolding next
+first_kind_of_one = refl
+
+first_of_zero : next 0 / 2 ^ 33 ≡ 167951807
+unfolding next
+first_of_zero = refl
+
+first_kind_of_zero : (pick 10 0).0 ≡ 7
+unfolding next
+first_kind_of_zero = refl
+
+-- ---- each is fit to be run
+
+abbrev the_systems : List SystemConfiguration
+the_systems = (two_networks []).systems
+
+-- an event that two networks can have, with so many ticks at most that many of them are few
+record IsGood (event : Event) : Type 0 where
+  pub fair : AsksFairly event
+  pub formed : AsksInForm event
+  pub placed : IsPlaced 6 event
+  pub sender : IsFromHost the_systems event
+  pub congested : IsOfRouter the_systems event
+  pub ticks : ticks_of event ≤ 200
+
+no_bytes : IsBytes []
+no_bytes i = omega arith
+
+one_more_byte : (octet : ℕ) (octets : List ℕ) → octet < 256 → IsBytes octets → IsBytes (octet ∷ octets)
+one_more_byte octet octets small bytes zero = small
+one_more_byte octet octets small bytes (suc i) = bytes i
+
+in_network : (network system : ℕ) → network < 256 → system < 256 → IsAddress (address_in network system)
+in_network network system n s = record {
+  some = omega arith;
+  few = omega arith;
+  bytes =
+      one_more_byte 0x47 (0 ∷ 0x27 ∷ network ∷ system ∷ []) (omega arith)
+      (one_more_byte 0 (0x27 ∷ network ∷ system ∷ []) (omega arith)
+      (one_more_byte 0x27 (network ∷ system ∷ []) (omega arith)
+      (one_more_byte network (system ∷ []) n
+      (one_more_byte system [] s no_bytes))));
+}
+
+-- what holds either way
+either : {X : Type 0} (P : X → Type 0) (test : Bool) (x y : X) → P x → P y → P (if test then x else y)
+either P true x y p q = p
+either P false x y p q = q
+
+host_addressed : (number : ℕ) → IsAddress (address_of number)
+host_addressed number =
+    either IsAddress (number == 0) _ _ (in_network 1 1 (omega arith) (omega arith))
+    (either IsAddress (number == 1) _ _ (in_network 1 2 (omega arith) (omega arith))
+    (either IsAddress (number == 2) _ _ (in_network 2 1 (omega arith) (omega arith)) (in_network 2 2 (omega arith) (omega arith))))
+
+-- the place of a host
+record IsHostPlace (place : ℕ) : Type 0 where
+  pub within : place < 6
+  pub role : option_map (λ (system : SystemConfiguration). system.role) (slice_get the_systems place) ≡ Some Host
+
+host_placed : (number : ℕ) → IsHostPlace (place_of number)
+host_placed number =
+    either IsHostPlace (number == 0) _ _ (record { within = omega arith; role = refl })
+    (either IsHostPlace (number == 1) _ _ (record { within = omega arith; role = refl })
+    (either IsHostPlace (number == 2) _ _ (record { within = omega arith; role = refl }) (record { within = omega arith; role = refl })))
+
+send_good : (from to len start : ℕ) → IsGood (Send (place_of from) (address_of from) (address_of to) (Pattern len start) usual_ask)
+send_good from to len start = record {
+  fair = none_fair;
+  formed = record { source = host_addressed from; destination = host_addressed to; lifetime = omega arith; options = none_formed };
+  placed = (host_placed from).within;
+  sender = (host_placed from).role;
+  congested = tt;
+  ticks = omega arith;
+}
+
+echo_good : (from to len start : ℕ) → IsGood (Echo (place_of from) (address_of from) (address_of to) (Pattern len start))
+echo_good from to len start = record {
+  fair = tt;
+  formed = (host_addressed from, host_addressed to, pattern_octets len start);
+  placed = (host_placed from).within;
+  sender = tt;
+  congested = tt;
+  ticks = omega arith;
+}
+
+delivery_good : (copy system : ℕ) → system < 6 → IsGood (Deliver copy system)
+delivery_good copy system h = record { fair = tt; formed = tt; placed = h; sender = tt; congested = tt; ticks = omega arith }
+
+restart_good : (system : ℕ) → system < 6 → IsGood (Restart system)
+restart_good system h = record { fair = tt; formed = tt; placed = h; sender = tt; congested = tt; ticks = omega arith }
+
+loss_good : (count : ℕ) → IsGood (Lose count)
+loss_good count = record { fair = tt; formed = tt; placed = tt; sender = tt; congested = tt; ticks = omega arith }
+
+settle_good : (count : ℕ) → IsGood (Settle count)
+settle_good count = record { fair = tt; formed = tt; placed = tt; sender = tt; congested = tt; ticks = omega arith }
+
+ticks_good : (count : ℕ) → count ≤ 200 → IsGood (Tick count)
+ticks_good count h = record { fair = tt; formed = tt; placed = tt; sender = tt; congested = tt; ticks = h }
+
+-- what is drawn at any state has this property
+abbrev Draws : {A : Type 0} → (A → Type 0) → Drawn A → Type 0
+Draws P drawn = (state : ℕ) → P (drawn state).0
+
+abbrev IsGoodIfAny : Option Event → Type 0
+IsGoodIfAny None = Unit {0}
+IsGoodIfAny (Some event) = IsGood event
+
+restart_drawn : Draws IsGoodIfAny a_restart
+restart_drawn state =
+    either (Draws IsGoodIfAny) ((pick 8 state).0 == 0) restart_of_one (only None) (λ next. restart_good _ (omega arith)) (λ next. tt) (pick 8 state).1
+
+send_drawn : Draws IsGoodIfAny a_send
+send_drawn state =
+    send_good (pick 4 state).0 (pick 4 (pick 4 state).1).0 (pick 6000 (pick 4 (pick 4 state).1).1).0 (pick 256 (pick 6000 (pick 4 (pick 4 state).1).1).1).0
+
+echo_drawn : Draws IsGoodIfAny an_echo
+echo_drawn state =
+    echo_good (pick 4 state).0 (pick 4 (pick 4 state).1).0 (pick 600 (pick 4 (pick 4 state).1).1).0 (pick 256 (pick 600 (pick 4 (pick 4 state).1).1).1).0
+
+event_good : (kind : ℕ) → Draws IsGoodIfAny (event_of kind)
+unfolding event_of
+event_good kind =
+    either (Draws IsGoodIfAny) (nat_lt kind 5) a_send _ send_drawn
+    (either (Draws IsGoodIfAny) (kind == 5) an_echo _ echo_drawn
+    (either (Draws IsGoodIfAny) (kind == 6) a_delivery _ (λ state. delivery_good _ _ (omega arith))
+    (either (Draws IsGoodIfAny) (kind == 7) a_loss _ (λ state. loss_good _)
+    (either (Draws IsGoodIfAny) (kind == 8) some_ticks a_restart (λ state. ticks_good _ (omega arith)) restart_drawn))))
+
+-- events that two networks can have, so many at most
+record AreGood (most : ℕ) (events : List Event) : Type 0 where
+  pub each : AllByRecursion IsGood events
+  pub few : length events ≤ most
+
+one_or_two_good : (event : Option Event) (last : Event) → IsGoodIfAny event → IsGood last → AreGood 2 (one_or_two event last)
+one_or_two_good None last first good = record { each = (good, tt); few = omega arith }
+one_or_two_good (Some event) last first good = record { each = (first, (good, tt)); few = omega arith }
+
+round_good : Draws (AreGood 2) round
+unfolding round
+round_good state = one_or_two_good _ _ (event_good _ _) (settle_good _)
+
+more_good : (m n : ℕ) (xs ys : List Event) → AreGood m xs → AreGood n ys → AreGood (m + n) (xs ++ ys)
+more_good m n xs ys p q = record {
+  each = AllByRecursion-append IsGood xs ys p.each q.each;
+  few = rw (length-append xs ys) (omega (arith, p.few, q.few));
+}
+
+rounds_good : (count : ℕ) → Draws (AreGood (2 * count)) (rounds count)
+unfolding rounds
+rounds_good zero state = record { each = tt; few = omega arith }
+rounds_good (suc count) state =
+    subst (λ most. AreGood most ((round state).0 ++ (rounds count (round state).1).0)) (omega arith)
+    (more_good 2 (2 * count) (round state).0 (rounds count (round state).1).0 (round_good state) (rounds_good count (round state).1))
+
+storm_good : (seed : ℕ) → AreGood 605 (storm_events seed)
+storm_good seed =
+    more_good 2 603 (Tick 1 ∷ Settle 40 ∷ []) _ (record { each = (ticks_good 1 (omega arith), (settle_good 40, tt)); few = omega arith })
+    (more_good 600 3 (rounds 300 seed).0 _ (rounds_good 300 seed)
+    (record { each = (settle_good 100000, (ticks_good 200 (omega arith), (settle_good 100000, tt))); few = omega arith }))
+
+few_ticks : (events : List Event) → AllByRecursion IsGood events → sum (map ticks_of events) ≤ 200 * length events
+few_ticks [] good = omega arith
+few_ticks (event ∷ events) good =
+    rw (sum_by-cons (λ x. x) (ticks_of event) (map ticks_of events)) (omega (arith, good.0.ticks, few_ticks events good.1))
+
+storm_fit : (seed : ℕ) → IsFit (two_networks []) → IsFit (storm seed)
+storm_fit seed fit =
+    let good : AreGood 605 (storm_events seed) = storm_good seed in
+    record {
+      limits = fit.limits;
+      systems = fit.systems;
+      subnet_names = fit.subnet_names;
+      system_names = fit.system_names;
+      few_subnets = fit.few_subnets;
+      few_systems = fit.few_systems;
+      mtus = fit.mtus;
+      snpas = fit.snpas;
+      ports = fit.ports;
+      addresses = fit.addresses;
+      each_address = fit.each_address;
+      ticks = omega (arith, few_ticks (storm_events seed) good.each, good.few);
+      asks = AllByRecursion-implies IsGood AsksFairly (λ event is. is.fair) (storm_events seed) good.each;
+      formed = AllByRecursion-implies IsGood AsksInForm (λ event is. is.formed) (storm_events seed) good.each;
+      places = AllByRecursion-implies IsGood (IsPlaced 6) (λ event is. is.placed) (storm_events seed) good.each;
+      senders = AllByRecursion-implies IsGood (IsFromHost the_systems) (λ event is. is.sender) (storm_events seed) good.each;
+      congested = AllByRecursion-implies IsGood (IsOfRouter the_systems) (λ event is. is.congested) (storm_events seed) good.each;
+    }
+
+-- the parts of two networks and the events of a storm
+pub parts_fit : (seed : ℕ) (networks : Plan) (events : List Event) → networks ≡ two_networks [] → events ≡ storm_events seed → IsFit networks
+    → IsFit (record { limits = networks.limits; subnets = networks.subnets; systems = networks.systems; events = events })
+parts_fit seed networks events networks_are events_are fit =
+    rw (networks_are, events_are) (storm_fit seed (subst IsFit networks_are fit))
+
+-- ---- as the code has it
+
+abbrev IsRead : Result Plan Bad → Type 0
+IsRead (Ok plan) = Unit {0}
+IsRead (Err bad) = ⊥
+
+-- what the code reads is what the grammar reads
+abbrev Agrees : Result Plan Bad → Result Plan ScenarioRefusal → Type 0
+Agrees reading read = MatchResult read (λ plan. reading ≡ Ok plan) (λ refusal. Refuses refusal reading)
+
+-- what is read isn't refused
+pub never_refused : (reading : Result Plan Bad) (plan : Plan) → reading ≡ Ok plan → (read : Result Plan ScenarioRefusal) (refusal : ScenarioRefusal) (line code : ℕ)
+    → read ≡ Err refusal → refusal ≡ BadLine line code → Agrees reading read → ⊥
+never_refused reading plan is read refusal line code refused bad agrees =
+    let bad_line : Refuses (BadLine line code) reading = subst (λ r. Refuses r reading) bad (subst (Agrees reading) refused agrees) in
+    subst IsRead (sym is ∙ bad_line) tt
+
+pub read_is : (reading : Result Plan Bad) (plan : Plan) → reading ≡ Ok plan → (read : Result Plan ScenarioRefusal) (found : Plan)
+    → read ≡ Ok found → Agrees reading read → found ≡ plan
+read_is reading plan is read found given agrees =
+    let same : Ok plan ≡ Ok found = sym is ∙ subst (Agrees reading) given agrees in
+    IfOk-at_ok (λ p. p ≡ plan) same refl
+
+-- one round more
+pub goes_on : (count state : ℕ) (front all : List Event) → count < 300
+    → front ++ (rounds (300 - count) state).0 ≡ all
+    → (front ++ (round state).0) ++ (rounds (300 - (count + 1)) (round state).1).0 ≡ all
+unfolding rounds
+goes_on count state front all h is =
+    let left : ℕ = 300 - (count + 1) in
+    let more : 300 - count ≡ suc left = omega (arith, h) in
+    append_assoc front (round state).0 (rounds left (round state).1).0 ∙ (rw more at is)
+
+-- the last round
+pub all_done : (count state : ℕ) (front all : List Event) → count ≡ 300
+    → front ++ (rounds (300 - count) state).0 ≡ all → front ≡ all
+unfolding rounds
+all_done count state front all end is =
+    let none_left : 300 - count ≡ 0 = omega (arith, end) in
+    sym (append-nil front) ∙ (rw none_left at is)
+
+pub and_then : (seed : ℕ) (front : List Event) → front ≡ Tick 1 ∷ Settle 40 ∷ (rounds 300 seed).0
+    → ((front ++ Settle 100000 ∷ []) ++ Tick 200 ∷ []) ++ Settle 100000 ∷ [] ≡ storm_events seed
+and_then seed front is = rw is (simp append_assoc)

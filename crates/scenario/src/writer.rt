@@ -1,0 +1,403 @@
+//! The writer of scenario texts.
+ghost use Rattle.std.specs.Prelude.{◌≡◌, ◌++◌, ◌≤◌, codes, length, map, slice_get, OnOk, OnErr};
+ghost use Rattle.std.specs.List.{flat_map};
+ghost use Rattle.std.specs.Fmt.{decimal};
+ghost use Rattle.nsap.specs.Text.{hex_text};
+ghost use Rattle.clnp_plan.specs.Journal.{behind_space, line_of, on_word};
+ghost use Rattle.scenario.specs.Canonical as canonical;
+ghost use Rattle.scenario.specs.Canonical.{address_text, ask_words, belongings_text, event_text, limits_text, port_text, port_texts, route_text, subnet_text, system_text, text_of};
+ghost use Rattle.scenario.specs.Lines.{word_text};
+
+use crate::event::{Body, Event};
+use crate::line::{Word, push_line, push_words};
+use crate::plan::{Scenario, Subnet};
+use clnp_base::{NoMemory, push};
+use clnp_plan::{Ask, Limits, PortConfig, Role, SystemConfig};
+use forwarding::Route;
+use nsap::Address;
+use std::alloc::Global;
+
+/// Appends the text of a scenario, from which `read` reads it again: each line with all its words, in one order, and
+/// hexadecimal digits in lower case. Behind the limits, the subnetworks and the systems come, for each system, its
+/// addresses, its ports and its routes, and then the events.
+///
+/// # Errors
+///
+/// `NoMemory`; `out` is then as it was.
+pub fn write(alloc: Global, scenario: &Scenario, out: &mut Vec<u8>) -> Result<(), NoMemory>
+    ensures written { OnOk result (out.new.items ≡ out.old.items ++ text_of scenario.now) }
+    ensures same { OnErr result (out.new.items ≡ out.old.items) }
+{
+    let mut text = Vec::new(alloc);
+    push_scenario(scenario, &mut text)?;
+    push(text.as_slice(), out)
+}
+
+/// Appends the text of a scenario.
+fn push_scenario(scenario: &Scenario, out: &mut Vec<u8>) -> Result<(), NoMemory>
+    ensures { OnOk result (out.new.items ≡ out.old.items ++ text_of scenario.now) }
+{
+    push(b"clnp-sim 1\n", out)?;
+    push_declarations(scenario, out)?;
+    push(b"events\n", out)?;
+    push_events(scenario.systems(), scenario.events(), out)?;
+    push(b"end\n", out)
+}
+
+/// Appends what is declared.
+fn push_declarations(scenario: &Scenario, out: &mut Vec<u8>) -> Result<(), NoMemory>
+    ensures { OnOk result (out.new.items ≡ out.old.items ++ canonical.declarations_text scenario.now) }
+{
+    push_limits(scenario.limits(), out)?;
+    push_subnets(scenario.subnets(), out)?;
+    push_systems(scenario.systems(), out)?;
+    push_all_belongings(scenario.subnets(), scenario.systems(), out)
+}
+
+fn push_limits(limits: &Limits, out: &mut Vec<u8>) -> Result<(), NoMemory>
+    ensures { OnOk result (out.new.items ≡ out.old.items ++ limits_text limits.now) }
+{
+    let words = [
+        number_word(u64::from(limits.age)),
+        number_word(u64::from(limits.hold)),
+        number_word(u64::from(limits.reuse)),
+    ];
+    push_line(b"limits", &words, out)
+}
+
+fn push_subnets(subnets: &[Subnet], out: &mut Vec<u8>) -> Result<(), NoMemory>
+    ensures { OnOk result (out.new.items ≡ out.old.items ++ flat_map subnet_text subnets.now) }
+{
+    for subnet in subnets {
+        let words = [
+            Word::Text(subnet.name()),
+            number_word(u64::from(subnet.mtu)),
+        ];
+        push_line(b"subnet", &words, out)?;
+    }
+    Ok(())
+}
+
+fn push_systems(systems: &[SystemConfig], out: &mut Vec<u8>) -> Result<(), NoMemory>
+    ensures { OnOk result (out.new.items ≡ out.old.items ++ flat_map system_text systems.now) }
+{
+    for system in systems {
+        push_system(system, out)?;
+    }
+    Ok(())
+}
+
+/// Appends the line of a system, with all its settings.
+#[tactic(auto, unfolding(crate::specs::Canonical::system_text))]
+fn push_system(system: &SystemConfig, out: &mut Vec<u8>) -> Result<(), NoMemory>
+    ensures { OnOk result (out.new.items ≡ out.old.items ++ system_text system.now) }
+{
+    let settings = system.settings();
+    let words = [
+        Word::Text(system.name()),
+        role_word(system.role()),
+        Word::Number(b"hello=", u64::from(settings.hello)),
+        Word::Number(b"suggest=", u64::from(settings.suggest)),
+        Word::Number(b"rhold=", u64::from(settings.rhold)),
+        Word::Number(b"slots=", u64::from(settings.slots)),
+        Word::Number(b"segments=", u64::from(settings.segments)),
+        Word::Number(b"budget=", u64::from(settings.budget)),
+        Word::Number(b"neighbours=", u64::from(settings.neighbours)),
+        Word::Number(b"routers=", u64::from(settings.routers)),
+        Word::Number(b"redirects=", u64::from(settings.redirects)),
+        Word::Number(b"life=", u64::from(settings.life)),
+        checksum_word(settings.sealed),
+    ];
+    push_line(b"system", &words, out)
+}
+
+/// Appends what each system has.
+fn push_all_belongings(
+    subnets: &[Subnet],
+    systems: &[SystemConfig],
+    out: &mut Vec<u8>,
+) -> Result<(), NoMemory>
+    ensures { OnOk result (out.new.items ≡ out.old.items ++ flat_map (belongings_text subnets.now) systems.now) }
+{
+    for system in systems {
+        push_belongings(subnets, system, out)?;
+    }
+    Ok(())
+}
+
+/// Appends the addresses, the ports and the routes of a system.
+#[tactic(auto, unfolding(crate::specs::Canonical::belongings_text))]
+fn push_belongings(
+    subnets: &[Subnet],
+    system: &SystemConfig,
+    out: &mut Vec<u8>,
+) -> Result<(), NoMemory>
+    ensures { OnOk result (out.new.items ≡ out.old.items ++ belongings_text subnets.now system.now) }
+{
+    system.is_system();
+    push_addresses(system.name(), system.addresses(), out)?;
+    push_ports(subnets, system.name(), system.ports(), out)?;
+    push_routes(system.name(), system.routes(), out)
+}
+
+fn push_addresses(name: &[u8], addresses: &[Address], out: &mut Vec<u8>) -> Result<(), NoMemory>
+    ensures { OnOk result (out.new.items ≡ out.old.items ++ flat_map (address_text name.now) addresses.now) }
+{
+    for address in addresses {
+        push_address(name, address, out)?;
+    }
+    Ok(())
+}
+
+fn push_address<'a>(name: &'a [u8], address: &'a Address, out: &mut Vec<u8>) -> Result<(), NoMemory>
+    ensures { OnOk result (out.new.items ≡ out.old.items ++ address_text name.now address.now) }
+{
+    push_line(b"address", &[Word::Text(name), address_word(address)], out)
+}
+
+/// Appends ports, by their numbers from 0.
+fn push_ports(
+    subnets: &[Subnet],
+    name: &[u8],
+    ports: &[PortConfig],
+    out: &mut Vec<u8>,
+) -> Result<(), NoMemory>
+    requires { length ports.now ≤ 8 }
+    ensures { OnOk result (out.new.items ≡ out.old.items ++ port_texts subnets.now name.now 0 ports.now) }
+{
+    let mut number: u64 = 0;
+    let mut left = ports;
+    while let [port, others @ ..] = left {
+        push_port(subnets, name, number, port, out)?;
+        number += 1;
+        left = others;
+    }
+    Ok(())
+}
+
+/// Appends the line of a port, with its transit.
+fn push_port<'a>(
+    subnets: &'a [Subnet],
+    name: &'a [u8],
+    number: u64,
+    port: &'a PortConfig,
+    out: &mut Vec<u8>,
+) -> Result<(), NoMemory>
+    ensures { OnOk result (out.new.items ≡ out.old.items ++ port_text subnets.now name.now number port.now) }
+{
+    let words = [
+        Word::Text(name),
+        number_word(number),
+        subnet_word(subnets, port.subnet),
+        Word::Octets(b"", port.snpa.as_bytes()),
+        number_word(u64::from(port.transit)),
+    ];
+    push_line(b"port", &words, out)
+}
+
+fn push_routes(name: &[u8], routes: &[Route], out: &mut Vec<u8>) -> Result<(), NoMemory>
+    ensures { OnOk result (out.new.items ≡ out.old.items ++ flat_map (route_text name.now) routes.now) }
+{
+    for route in routes {
+        push_route(name, route, out)?;
+    }
+    Ok(())
+}
+
+fn push_route<'a>(name: &'a [u8], route: &'a Route, out: &mut Vec<u8>) -> Result<(), NoMemory>
+    ensures { OnOk result (out.new.items ≡ out.old.items ++ route_text name.now route.now) }
+{
+    let words = [
+        Word::Text(name),
+        Word::Digits(&route.prefix),
+        number_word(u64::from(route.port)),
+        Word::Octets(b"", route.snpa.as_bytes()),
+        address_word(&route.title),
+    ];
+    push_line(b"route", &words, out)
+}
+
+fn push_events(
+    systems: &[SystemConfig],
+    events: &[Event],
+    out: &mut Vec<u8>,
+) -> Result<(), NoMemory>
+    ensures { OnOk result (out.new.items ≡ out.old.items ++ flat_map (event_text systems.now) events.now) }
+{
+    for event in events {
+        push_event(systems, event, out)?;
+    }
+    Ok(())
+}
+
+/// Appends the line of an event.
+fn push_event<'a>(
+    systems: &'a [SystemConfig],
+    event: &'a Event,
+    out: &mut Vec<u8>,
+) -> Result<(), NoMemory>
+    ensures { OnOk result (out.new.items ≡ out.old.items ++ event_text systems.now event.now) }
+{
+    match event {
+        Event::Send {
+            system,
+            from,
+            to,
+            body,
+            ask,
+        } => {
+            let words = [
+                name_word(systems, *system),
+                address_word(from),
+                address_word(to),
+                body_word(body),
+            ];
+            push_send(&words, ask, out)
+        }
+        Event::Deliver { copy, system } => {
+            let words = [number_word(u64::from(*copy)), name_word(systems, *system)];
+            push_line(b"deliver", &words, out)
+        }
+        Event::Settle { count } => push_line(b"settle", &[number_word(u64::from(*count))], out),
+        Event::Lose { count } => push_line(b"lose", &[number_word(u64::from(*count))], out),
+        Event::Tick { count } => push_line(b"tick", &[number_word(u64::from(*count))], out),
+        Event::Restart { system } => push_line(b"restart", &[name_word(systems, *system)], out),
+        Event::Echo {
+            system,
+            from,
+            to,
+            body,
+        } => {
+            let words = [
+                name_word(systems, *system),
+                address_word(from),
+                address_word(to),
+                body_word(body),
+            ];
+            push_line(b"echo", &words, out)
+        }
+        Event::Congest { system, on } => {
+            push_line(
+                b"congest",
+                &[name_word(systems, *system), on_word(*on)],
+                out,
+            )
+        }
+    }
+}
+
+/// Appends the line of a `send`, whose words before the lifetime are given.
+fn push_send<'a>(words: &[Word<'a>], ask: &Ask, out: &mut Vec<u8>) -> Result<(), NoMemory>
+    ensures { OnOk result (out.new.items ≡ out.old.items ++ line_of (codes "send") (map word_text words.now ++ ask_words ask.now)) }
+{
+    push(b"send", out)?;
+    push_words(words, out)?;
+    push_ask(ask, out)?;
+    push(b"\n", out)
+}
+
+/// Appends how a unit is to be sent.
+fn push_ask(ask: &Ask, out: &mut Vec<u8>) -> Result<(), NoMemory>
+    ensures { OnOk result (out.new.items ≡ out.old.items ++ flat_map behind_space (ask_words ask.now)) }
+{
+    push_words(&[Word::Number(b"life=", u64::from(ask.life))], out)?;
+    push_word_if(!ask.report, b"noreport", out)?;
+    push_word_if(!ask.segment, b"whole", out)?;
+    push_options(ask.options.as_bytes(), out)
+}
+
+/// Appends a word where it is wanted.
+fn push_word_if(wanted: bool, word: &[u8], out: &mut Vec<u8>) -> Result<(), NoMemory>
+    ensures { OnOk result (out.new.items ≡ out.old.items ++ flat_map behind_space (canonical.word_if wanted word.now)) }
+{
+    if wanted {
+        return push_words(&[Word::Text(word)], out);
+    }
+    Ok(())
+}
+
+/// Appends the word of options, where there are some.
+fn push_options(options: &[u8], out: &mut Vec<u8>) -> Result<(), NoMemory>
+    ensures { OnOk result (out.new.items ≡ out.old.items ++ flat_map behind_space (canonical.options_words options.now)) }
+{
+    if options.is_empty() {
+        return Ok(());
+    }
+    push_words(&[Word::Octets(b"opt=", options)], out)
+}
+
+/// The word of a number.
+fn number_word(number: u64) -> Word<'static>
+    ensures { word_text result ≡ decimal number }
+{
+    Word::Number(b"", number)
+}
+
+/// The word of an address.
+fn address_word(address: &Address) -> Word<'_>
+    ensures { word_text result ≡ hex_text address.now }
+{
+    Word::Octets(b"", address.as_bytes())
+}
+
+/// The word of the name of the system at a place.
+fn name_word(systems: &[SystemConfig], place: u8) -> Word<'_>
+    ensures { word_text result ≡ canonical.system_name (slice_get systems.now place) }
+{
+    match systems.get(usize::from(place)) {
+        Some(system) => Word::Text(system.name()),
+        None => Word::Text(b""),
+    }
+}
+
+/// The word of the name of the subnetwork at a place.
+fn subnet_word(subnets: &[Subnet], place: u8) -> Word<'_>
+    ensures { word_text result ≡ canonical.subnet_name (slice_get subnets.now place) }
+{
+    match subnets.get(usize::from(place)) {
+        Some(subnet) => Word::Text(subnet.name()),
+        None => Word::Text(b""),
+    }
+}
+
+/// The word of data, in the form in which they were read.
+fn body_word(body: &Body) -> Word<'_>
+    ensures { word_text result ≡ canonical.body_text body.now }
+{
+    match body {
+        Body::Hex(octets) => Word::Octets(b"hex:", octets.as_bytes()),
+        Body::Pattern { len, start } => Word::Pattern(*len, *start),
+    }
+}
+
+/// The word of whether a system is a host or a router.
+fn role_word(role: Role) -> Word<'static>
+    ensures { word_text result ≡ canonical.role_text role }
+{
+    match role {
+        Role::Host => Word::Text(b"host"),
+        Role::Router => Word::Text(b"router"),
+    }
+}
+
+/// The word of whether headers get a checksum.
+fn checksum_word(sealed: bool) -> Word<'static>
+    ensures { word_text result ≡ canonical.checksum_text sealed }
+{
+    if sealed {
+        Word::Text(b"checksum=on")
+    } else {
+        Word::Text(b"checksum=off")
+    }
+}
+
+/// The word of whether a router is congested.
+fn on_word(on: bool) -> Word<'static>
+    ensures { word_text result ≡ on_word on }
+{
+    if on {
+        Word::Text(b"on")
+    } else {
+        Word::Text(b"off")
+    }
+}

@@ -1,0 +1,18 @@
+-- What it keeps stands for the same state, but that it is congested or not.
+use Rattle.clnp_machine.specs.Step.{congest}
+use Rattle.system_entity.proofs.Parts.{while_congested}
+use Rattle.system_entity.proofs.entity.SystemEntity.congest.Goals as goal
+
+pub invariant_of-self : goal.invariant_of-self
+invariant_of-self c = record {
+  moment = c.self.invariant.moment;
+  hold = c.self.invariant.hold;
+  routes = c.self.invariant.routes;
+  ready = λ free.
+      let r = c.self.invariant.ready free in
+      record {
+        state = (congest r.state c.args.on).after;
+        stands = record { not_spent = r.stands.not_spent; parts = while_congested _ c.args.on r.state r.stands.parts };
+        ready = r.ready;
+      };
+}
