@@ -140,29 +140,32 @@ fn frame_of(alloc: Global, sending: &Sending) -> Result<Vec<u8>, Fail> {
     Ok(octets)
 }
 
-/// A host and a router hear each other, answer what is new, and know then where to send; what isn't for them and what they
-/// don't hear they note. The hello with which a answers at last has the holding time of the period that r wishes for.
+/// A router hears a host, answers it since it is new, and knows then where to send; what isn't for it and what it doesn't hear it
+/// notes.
 #[test]
-fn systems_hear_each_other(rt: HostRuntime) -> Result<(), Fail> {
+fn a_router_hears_a_host(rt: HostRuntime) -> Result<(), Fail> {
     let alloc = rt.alloc();
     let scenario = systems(&rt, alloc, SYSTEMS);
     scenario.is_fit();
-    let to = Address::from_bytes(b"\x47\x00\x27\x01").expect(&rt, "an address");
     let a = Address::from_bytes(b"\x47\x00\x27\x02").expect(&rt, "an address");
     let at_a = Snpa::from_bytes(b"\x01").expect(&rt, "an address");
-    let at_r = Snpa::from_bytes(b"\x0a").expect(&rt, "an address");
-    let [host, router] = scenario.systems() else {
+    let [_host, router] = scenario.systems() else {
         panic!(rt; "two systems");
     };
-    let mut host = System::new(alloc, host, scenario.limits(), 0, 0)?;
     let mut router = System::new(alloc, router, scenario.limits(), 0, 0)?;
     let mut text = Vec::new(alloc);
-    for octets in [ESH, ISH, RD, FOR_ANOTHER] {
-        give(&rt, alloc, &mut router, b"\x01", true, octets, &mut text)?;
-    }
-    for octets in [RD, ISH, b"\x82\x0e", b"\x80", FOR_A] {
-        give(&rt, alloc, &mut host, b"\x0a", true, octets, &mut text)?;
-    }
+    give(&rt, alloc, &mut router, b"\x01", true, ESH, &mut text)?;
+    give(&rt, alloc, &mut router, b"\x01", true, ISH, &mut text)?;
+    give(&rt, alloc, &mut router, b"\x01", true, RD, &mut text)?;
+    give(
+        &rt,
+        alloc,
+        &mut router,
+        b"\x01",
+        true,
+        FOR_ANOTHER,
+        &mut text,
+    )?;
     let expected = b"0 r hear es 47002702 new
 0 r tx 0 0 01 821201000400785b3904470027ffc602001e
 0 r ignored ish
@@ -170,13 +173,6 @@ fn systems_hear_each_other(rt: HostRuntime) -> Result<(), Fail> {
 0 r drop 81 00
 0 r sent er 1 - 470027ff 47002702 19
 0 r tx 0 0 01 8117014001002a5678044700270204470027ffc10281008113010a3c0015ce5804470027010447002702
-0 a ignored rd
-0 a hear is 470027ff new
-0 a tx 0 0 0a 820f0100020078324b010447002702
-0 a badesis E1 00
-0 a alien
-0 a stray 47002701 47002702
-0 a tx 0 0 0a 820f010002003caa0f010447002702
 ";
     assert_eq!(rt; text.as_slice(), expected.as_slice());
     let way = Way {
@@ -189,6 +185,37 @@ fn systems_hear_each_other(rt: HostRuntime) -> Result<(), Fail> {
             .as_router()
             .is_some_and(|router| router.next_hop(&a) == Some(way))
     );
+    Ok(())
+}
+
+/// A host hears a router, answers it since it is new, and sends to it until a restart; what it doesn't hear it notes. The hello
+/// with which it answers at last has the holding time of the period that the router wishes for.
+#[test]
+fn a_host_hears_a_router(rt: HostRuntime) -> Result<(), Fail> {
+    let alloc = rt.alloc();
+    let scenario = systems(&rt, alloc, SYSTEMS);
+    scenario.is_fit();
+    let to = Address::from_bytes(b"\x47\x00\x27\x01").expect(&rt, "an address");
+    let at_r = Snpa::from_bytes(b"\x0a").expect(&rt, "an address");
+    let [host, _router] = scenario.systems() else {
+        panic!(rt; "two systems");
+    };
+    let mut host = System::new(alloc, host, scenario.limits(), 0, 0)?;
+    let mut text = Vec::new(alloc);
+    give(&rt, alloc, &mut host, b"\x0a", true, RD, &mut text)?;
+    give(&rt, alloc, &mut host, b"\x0a", true, ISH, &mut text)?;
+    give(&rt, alloc, &mut host, b"\x0a", true, b"\x82\x0e", &mut text)?;
+    give(&rt, alloc, &mut host, b"\x0a", true, b"\x80", &mut text)?;
+    give(&rt, alloc, &mut host, b"\x0a", true, FOR_A, &mut text)?;
+    let expected = b"0 a ignored rd
+0 a hear is 470027ff new
+0 a tx 0 0 0a 820f0100020078324b010447002702
+0 a badesis E1 00
+0 a alien
+0 a stray 47002701 47002702
+0 a tx 0 0 0a 820f010002003caa0f010447002702
+";
+    assert_eq!(rt; text.as_slice(), expected.as_slice());
     assert!(rt;
         host.as_host()
             .is_some_and(|host| host.next_hop(&to) == Target::System(at_r))
