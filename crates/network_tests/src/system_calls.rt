@@ -10,20 +10,6 @@ use scenario::{Scenario, read};
 use std::alloc::Global;
 use std::process::Abort;
 use std::test::Fail;
-use system_entity::Way;
-
-/// A host and a router that say hello; the router wishes for a hello every 30 seconds.
-const SYSTEMS: &[u8] = b"clnp-sim 1
-subnet lan 512
-system a host
-system r router suggest=30
-address a 47002702
-address r 470027ff
-port a 0 lan 01
-port r 0 lan 0a
-events
-end
-";
 
 /// A host and a router that say no hello.
 const SILENT: &[u8] = b"clnp-sim 1
@@ -38,10 +24,8 @@ events
 end
 ";
 
-/// The hello of a, and that of r.
+/// The hello of a.
 const ESH: &[u8] = b"\x82\x0f\x01\x00\x02\x00\x78\x32\x4b\x01\x04\x47\x00\x27\x02";
-
-const ISH: &[u8] = b"\x82\x12\x01\x00\x04\x00\x78\x5b\x39\x04\x47\x00\x27\xff\xc6\x02\x00\x1e";
 
 /// The hello of 47002701, and that of r where it has no wish.
 const OTHER_ESH: &[u8] = b"\x82\x0f\x01\x00\x02\x00\x78\x2c\x52\x01\x04\x47\x00\x27\x01";
@@ -51,12 +35,9 @@ const SILENT_ISH: &[u8] = b"\x82\x0e\x01\x00\x04\x00\x78\xb1\xcd\x04\x47\x00\x27
 /// A redirect for 47002701.
 const RD: &[u8] = b"\x82\x11\x01\x00\x06\x00\x78\xad\xc8\x04\x47\x00\x27\x01\x01\x02\x00";
 
-/// A PDU of data for 47002701, and an echo reply for a.
+/// A PDU of data for 47002701.
 const FOR_ANOTHER: &[u8] =
     b"\x81\x13\x01\x0a\x3c\x00\x15\xce\x58\x04\x47\x00\x27\x01\x04\x47\x00\x27\x02hi";
-
-const FOR_A: &[u8] =
-    b"\x81\x13\x01\x40\x1f\x00\x15\x2f\xde\x04\x47\x00\x27\x02\x04\x47\x00\x27\x01hi";
 
 /// A host by itself.
 const HOST: &[u8] = b"clnp-sim 1
@@ -138,94 +119,6 @@ fn frame_of(alloc: Global, sending: &Sending) -> Result<Vec<u8>, Fail> {
         octets.extend_from_slice(body.bytes())?;
     }
     Ok(octets)
-}
-
-/// A router hears a host, answers it since it is new, and knows then where to send; what isn't for it and what it doesn't hear it
-/// notes.
-#[test]
-fn a_router_hears_a_host(rt: HostRuntime) -> Result<(), Fail> {
-    let alloc = rt.alloc();
-    let scenario = systems(&rt, alloc, SYSTEMS);
-    scenario.is_fit();
-    let a = Address::from_bytes(b"\x47\x00\x27\x02").expect(&rt, "an address");
-    let at_a = Snpa::from_bytes(b"\x01").expect(&rt, "an address");
-    let [_host, router] = scenario.systems() else {
-        panic!(rt; "two systems");
-    };
-    let mut router = System::new(alloc, router, scenario.limits(), 0, 0)?;
-    let mut text = Vec::new(alloc);
-    give(&rt, alloc, &mut router, b"\x01", true, ESH, &mut text)?;
-    give(&rt, alloc, &mut router, b"\x01", true, ISH, &mut text)?;
-    give(&rt, alloc, &mut router, b"\x01", true, RD, &mut text)?;
-    give(
-        &rt,
-        alloc,
-        &mut router,
-        b"\x01",
-        true,
-        FOR_ANOTHER,
-        &mut text,
-    )?;
-    let expected = b"0 r hear es 47002702 new
-0 r tx 0 0 01 821201000400785b3904470027ffc602001e
-0 r ignored ish
-0 r ignored rd
-0 r drop 81 00
-0 r sent er 1 - 470027ff 47002702 19
-0 r tx 0 0 01 8117014001002a5678044700270204470027ffc10281008113010a3c0015ce5804470027010447002702
-";
-    assert_eq!(rt; text.as_slice(), expected.as_slice());
-    let way = Way {
-        port: 0,
-        snpa: at_a,
-        title: None,
-    };
-    assert!(rt;
-        router
-            .as_router()
-            .is_some_and(|router| router.next_hop(&a) == Some(way))
-    );
-    Ok(())
-}
-
-/// A host hears a router, answers it since it is new, and sends to it until a restart; what it doesn't hear it notes. The hello
-/// with which it answers at last has the holding time of the period that the router wishes for.
-#[test]
-fn a_host_hears_a_router(rt: HostRuntime) -> Result<(), Fail> {
-    let alloc = rt.alloc();
-    let scenario = systems(&rt, alloc, SYSTEMS);
-    scenario.is_fit();
-    let to = Address::from_bytes(b"\x47\x00\x27\x01").expect(&rt, "an address");
-    let at_r = Snpa::from_bytes(b"\x0a").expect(&rt, "an address");
-    let [host, _router] = scenario.systems() else {
-        panic!(rt; "two systems");
-    };
-    let mut host = System::new(alloc, host, scenario.limits(), 0, 0)?;
-    let mut text = Vec::new(alloc);
-    give(&rt, alloc, &mut host, b"\x0a", true, RD, &mut text)?;
-    give(&rt, alloc, &mut host, b"\x0a", true, ISH, &mut text)?;
-    give(&rt, alloc, &mut host, b"\x0a", true, b"\x82\x0e", &mut text)?;
-    give(&rt, alloc, &mut host, b"\x0a", true, b"\x80", &mut text)?;
-    give(&rt, alloc, &mut host, b"\x0a", true, FOR_A, &mut text)?;
-    let expected = b"0 a ignored rd
-0 a hear is 470027ff new
-0 a tx 0 0 0a 820f0100020078324b010447002702
-0 a badesis E1 00
-0 a alien
-0 a stray 47002701 47002702
-0 a tx 0 0 0a 820f010002003caa0f010447002702
-";
-    assert_eq!(rt; text.as_slice(), expected.as_slice());
-    assert!(rt;
-        host.as_host()
-            .is_some_and(|host| host.next_hop(&to) == Target::System(at_r))
-    );
-    host.restart();
-    assert!(rt;
-        host.as_host()
-            .is_some_and(|host| host.next_hop(&to) == Target::EndSystems)
-    );
-    Ok(())
 }
 
 /// A router tells the source of a PDU that it sends back of the better way; the host sends by it to that one address,
