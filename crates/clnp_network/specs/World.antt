@@ -5,18 +5,18 @@ use Rattle.std.specs.Str.{bytes_eq}
 use Rattle.nsap.specs.declared.target.Target.{Target}
 use Rattle.nsap.specs.declared.target.Target.TheVariants.{System, EndSystems, Routers}
 use Rattle.clnp_plan.specs.Configuration.{SystemConfiguration}
-use Rattle.clnp_plan.specs.Journal.{Line, Noted, Transmitted, Void, Late}
+use Rattle.clnp_plan.specs.Journal.{Line, Noted, Transmitted, Void, Late, Injected}
 use Rattle.clnp_plan.specs.declared.config.Limits.{Limits}
 use Rattle.clnp_plan.specs.declared.config.Role.{Role}
 use Rattle.clnp_plan.specs.declared.config.Role.TheVariants.{Host, Router}
 use Rattle.clnp_plan.specs.declared.config.PortConfig.{PortConfig}
-use Rattle.scenario.specs.Scenario.{Plan, octets_of}
+use Rattle.scenario.specs.Scenario.{Plan, Subnetwork, octets_of}
 use Rattle.scenario.specs.declared.event.Event.{Event}
-use Rattle.scenario.specs.declared.event.Event.TheVariants.{Send, Echo, Deliver, Settle, Lose, Tick, Restart, Congest}
+use Rattle.scenario.specs.declared.event.Event.TheVariants.{Send, Echo, Deliver, Settle, Lose, Tick, Restart, Congest, Inject}
 use Rattle.scenario.specs.declared.event.Move.{Move}
 use Rattle.scenario.specs.declared.event.Move.TheVariants.{One, SettleOne, LoseOne, TickOne}
-use Rattle.clnp_machine.specs.Unit.{Maker, DeclaredAt, Unit}
-use Rattle.clnp_machine.specs.Content.{Content, Labelled, Esis, frame_of}
+use Rattle.clnp_machine.specs.Unit.{Maker, DeclaredAt, Outside, Unit}
+use Rattle.clnp_machine.specs.Content.{Content, Labelled, Esis, content_of, frame_of}
 use Rattle.clnp_machine.specs.System.{SystemState, first_state, Input, AsksToSend, AsksForEcho, FrameComes, MomentComes, IsRestarted, IsCongested, Output, Transmits, SendsEsis, Notes, Effect}
 use Rattle.clnp_machine.specs.Step.{step}
 
@@ -225,21 +225,46 @@ asks_system w place asked (Some system) = asks_role system.configuration.role w 
 abbrev pub asks : World → ℕ → Input → Step
 asks w place asked = asks_system w place asked (slice_get w.systems place)
 
+-- Octets come from outside on a subnetwork, from an address there: they become the next copy, whose number and moment those
+-- of its unit are, where a PDU is in them. Nobody knows who made them.
+abbrev pub copy_from_outside : (number moment subnet : ℕ) (sender : List ℕ) → Target → (octets : List ℕ) → Copy
+copy_from_outside number moment subnet sender target octets =
+    record {
+      subnet = subnet;
+      sender = sender;
+      target = target;
+      maker = Outside;
+      birth = moment;
+      content = content_of number moment octets;
+    }
+
+abbrev pub injects_on : World → (subnet : ℕ) → Option Subnetwork → (sender : List ℕ) → Target → (octets : List ℕ) → Step
+injects_on w subnet None sender target octets = nothing w
+injects_on w subnet (Some declared) sender target octets =
+    record {
+      world = record w { copies = w.copies ++ copy_from_outside (length w.copies + 1) w.clock subnet sender target octets ∷ [] };
+      lines = Injected w.clock (length w.copies + 1) declared.name sender target ∷ [];
+    }
+
+abbrev pub injects : List Subnetwork → World → (subnet : ℕ) (sender : List ℕ) → Target → (octets : List ℕ) → Step
+injects subnets w subnet sender target octets = injects_on w subnet (slice_get subnets subnet) sender target octets
+
 -- what an event of one move does
-abbrev pub event_happens : Limits → World → Option Event → Step
-event_happens limits w None = nothing w
-event_happens limits w (Some (Settle count)) = nothing w
-event_happens limits w (Some (Lose count)) = nothing w
-event_happens limits w (Some (Tick count)) = nothing w
-event_happens limits w (Some (Deliver copy system)) = deliver limits w copy system
-event_happens limits w (Some (Restart system)) = comes w system IsRestarted
-event_happens limits w (Some (Congest system on)) = comes w system (IsCongested on)
-event_happens limits w (Some (Send system from to body ask)) = asks w system (AsksToSend from to (octets_of body) ask)
-event_happens limits w (Some (Echo system from to body)) = comes w system (AsksForEcho from to (octets_of body))
+abbrev pub event_happens : List Subnetwork → Limits → World → Option Event → Step
+event_happens subnets limits w None = nothing w
+event_happens subnets limits w (Some (Settle count)) = nothing w
+event_happens subnets limits w (Some (Lose count)) = nothing w
+event_happens subnets limits w (Some (Tick count)) = nothing w
+event_happens subnets limits w (Some (Deliver copy system)) = deliver limits w copy system
+event_happens subnets limits w (Some (Restart system)) = comes w system IsRestarted
+event_happens subnets limits w (Some (Congest system on)) = comes w system (IsCongested on)
+event_happens subnets limits w (Some (Send system from to body ask)) = asks w system (AsksToSend from to (octets_of body) ask)
+event_happens subnets limits w (Some (Echo system from to body)) = comes w system (AsksForEcho from to (octets_of body))
+event_happens subnets limits w (Some (Inject subnet from to octets)) = injects subnets w subnet from to octets
 
 -- one move of the network
 abbrev pub after : Plan → World → Move → Step
-after plan w (One place) = event_happens plan.limits w (slice_get plan.events place)
+after plan w (One place) = event_happens plan.subnets plan.limits w (slice_get plan.events place)
 after plan w SettleOne = settle_one plan.limits w
 after plan w LoseOne = lose_one w
 after plan w TickOne = tick_one w

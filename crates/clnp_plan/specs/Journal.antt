@@ -112,20 +112,23 @@ note_words Restart = codes "restart" ∷ []
 note_words (Congest on) = codes "congest" ∷ on_word on ∷ []
 
 -- A line: what a system notes, a frame that it transmits as a copy with a number on a port, a copy that isn't there
--- for it to be given, or one that is too old to be given.
+-- for it to be given, or one that is too old to be given; or a frame from outside that became a copy on a subnetwork.
 pub data Line : Type 0 where
   Noted : (now : ℕ) (name : List ℕ) (note : Note) → Line
   Transmitted : (now : ℕ) (name : List ℕ) (copy : ℕ) (port : ℕ) (target : Target) (frame : List ℕ) → Line
   Void : (now : ℕ) (name : List ℕ) (copy : ℕ) → Line
   Late : (now : ℕ) (name : List ℕ) (copy : ℕ) → Line
+  Injected : (now : ℕ) (copy : ℕ) (subnet sender : List ℕ) (target : Target) → Line
 
--- each begins with the moment and the system's name
+-- each begins with the moment and the system's name, or `-` where no system did it
 abbrev pub line_text : Line → List ℕ
 line_text (Noted now name note) = line_of (decimal now) (name ∷ note_words note)
 line_text (Transmitted now name copy port target frame) =
     line_of (decimal now) (name ∷ codes "tx" ∷ decimal copy ∷ decimal port ∷ target_word target ∷ octets_word frame ∷ [])
 line_text (Void now name copy) = line_of (decimal now) (name ∷ codes "void" ∷ decimal copy ∷ [])
 line_text (Late now name copy) = line_of (decimal now) (name ∷ codes "late" ∷ decimal copy ∷ [])
+line_text (Injected now copy subnet sender target) =
+    line_of (decimal now) (codes "-" ∷ codes "inject" ∷ decimal copy ∷ subnet ∷ hex_text sender ∷ target_word target ∷ [])
 
 -- the last line of a journal: the clock and the number of copies
 abbrev pub end_text : ℕ → ℕ → List ℕ

@@ -1,13 +1,13 @@
 //! The text of journal lines: words separated by one space, each line ended by `\n`.
 ghost use Rattle.std.specs.Prelude.{◌≡◌, ◌∷◌, ◌++◌, codes, map, take, length, OnOk, OnErr};
 ghost use Rattle.nsap.specs.Text.{hex_text};
-ghost use Rattle.clnp_plan.specs.Journal.{Late, Noted, Transmitted, Void, line_of, line_text, end_text, heard_words, ignored_word, kind_word, on_word, table_word, why_word, octets_word, identifier_word, rule_word, target_word};
+ghost use Rattle.clnp_plan.specs.Journal.{Injected, Late, Noted, Transmitted, Void, line_of, line_text, end_text, heard_words, ignored_word, kind_word, on_word, table_word, why_word, octets_word, identifier_word, rule_word, target_word};
 ghost use Rattle.clnp_plan.specs.Words.{word_text};
 
 use crate::note::{Note, Why};
 use clnp_base::{NoMemory, push, push_decimal, push_hex};
 use esis_tables::{Heard, TableKind};
-use nsap::{Address, Target};
+use nsap::{Address, Snpa, Target};
 use pdu_header::Kind;
 use std::alloc::Global;
 
@@ -313,6 +313,36 @@ pub fn late_text(
     ensures same { OnErr result (out.new.items ≡ out.old.items) }
 {
     let words = [Word::Text(name), Word::Text(b"late"), Word::Number(copy)];
+    push_line(Word::Number(now), &words, out)
+}
+
+/// Appends the line of a frame from outside that became the copy with a number on a subnetwork, from an address
+/// there to a target.
+///
+/// # Errors
+///
+/// `NoMemory`; `out` is then as it was.
+pub fn injection_text<'a>(
+    _alloc: Global,
+    now: u64,
+    copy: u64,
+    subnet: &'a [u8],
+    sender: &'a Snpa,
+    target: &'a Target,
+    out: &mut Vec<u8>,
+) -> Result<(), NoMemory>
+    ensures written { OnOk result (out.new.items ≡ out.old.items
+        ++ line_text (Injected now copy subnet.now sender.now target.now)) }
+    ensures same { OnErr result (out.new.items ≡ out.old.items) }
+{
+    let words = [
+        Word::Text(b"-"),
+        Word::Text(b"inject"),
+        Word::Number(copy),
+        Word::Text(subnet),
+        Word::Octets(sender.as_bytes()),
+        target_word(target),
+    ];
     push_line(Word::Number(now), &words, out)
 }
 

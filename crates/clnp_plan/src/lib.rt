@@ -9,6 +9,8 @@ mod output;
 
 pub use ask::{Ask, SendRefusal};
 pub use config::{Limits, PortConfig, Role, Settings, SystemConfig};
-pub use journal::{journal_text, late_text, push_end, transmission_text, void_text};
+pub use journal::{
+    injection_text, journal_text, late_text, push_end, transmission_text, void_text,
+};
 pub use note::{Note, Why};
 pub use output::{Output, Sending};

@@ -1,5 +1,5 @@
 -- A text that the grammar accepts is a scenario that is fit to be run.
-use Rattle.std.proofs.Common.{◌≡◌, ℕ, ◌+◌, ◌≤◌, ◌&&◌, true, nat_le, List, [], ◌∷◌, map, codes, Result, Ok, Err, IfOk, refl, sym, ◌∙◌, subst, arith}
+use Rattle.std.proofs.Common.{◌≡◌, ℕ, ◌+◌, ◌≤◌, ◌&&◌, true, nat_le, List, [], ◌∷◌, map, length, codes, Result, Ok, Err, IfOk, refl, sym, ◌∙◌, subst, arith}
 use Rattle.std.specs.List.{AllByRecursion, flat_map, sum}
 use Rattle.std.proofs.lemmas.Bool.{leb-true, and_parts}
 use Rattle.std.proofs.lemmas.List.{length-map}
@@ -9,7 +9,7 @@ use Rattle.clnp_base.specs.Text.{lines_of, words_of}
 use Rattle.clnp_base.proofs.Lists.{AllByRecursion-implies}
 use Rattle.clnp_plan.specs.Configuration.{SystemConfiguration, IsSystem}
 use Rattle.clnp_plan.specs.declared.config.Limits.{Limits}
-use Rattle.scenario.specs.Scenario.{Plan, Subnetwork, IsFit, AsksFairly, AsksInForm, IsPlaced, IsFromHost, IsOfRouter, ticks_of}
+use Rattle.scenario.specs.Scenario.{Plan, Subnetwork, IsFit, AsksFairly, AsksInForm, InjectsInForm, IsPlaced, IsFromHost, IsOfRouter, ticks_of}
 use Rattle.scenario.specs.Words.{is_skipped}
 use Rattle.scenario.specs.Declarations.{Declarations, DeclaredSystem, nothing_declared, limits_of, snpas_on, configuration_of}
 use Rattle.scenario.specs.Events.{event_line, counted, are_few, nothing_counted}
@@ -21,6 +21,7 @@ use Rattle.scenario.proofs.Apart.{addresses_of, distinct_of, configuration_addre
 use Rattle.scenario.proofs.Asks.{event_fair}
 use Rattle.scenario.proofs.Forms.{Laws, event_formed}
 use Rattle.scenario.proofs.Addresses.{ReadAddressed, configured_addresses, declared_addresses}
+use Rattle.scenario.proofs.Outside.{event_injected, words_stand}
 use Rattle.scenario.proofs.Placed.{AreAmong, event_placed}
 use Rattle.scenario.proofs.Roles.{HasItsRole, events_in_roles}
 use Rattle.scenario.proofs.Kept.{configuration_snpas, configurations_on}
@@ -34,49 +35,55 @@ few_ticks counts h =
     leb-true counts.ticks 1000000 q.1
 
 -- an event that is counted, behind others
-record IsCounted (names : List (List ℕ)) (counts : Counts) (event : Event) : Type 0 where
+record IsCounted (subnets names : List (List ℕ)) (counts : Counts) (event : Event) : Type 0 where
   pub few : are_few (counted counts event) ≡ true
   pub fair : AsksFairly event
   pub formed : AsksInForm event
   pub placed : AreAmong names event
+  pub injected : InjectsInForm (length subnets) event
 
 both : {A E : Type 0} (r : Result A E) (P Q : A → Type 0) → IfOk r P → IfOk r Q → IfOk r (λ x. P x × Q x)
 both (Ok x) P Q p q = (p, q)
 both (Err e) P Q p q = tt
 
-event_fit : Laws → (names : List (List ℕ)) (systems : List SystemConfiguration) → AllByRecursion IsSystem systems → (counts : Counts) (words : List (List ℕ))
-    → IfOk (counted_event names systems counts words) (IsCounted names counts)
+event_fit : Laws → (subnets names : List (List ℕ)) (systems : List SystemConfiguration) → AllByRecursion IsSystem systems → (counts : Counts) (line : List ℕ)
+    → IfOk (counted_event subnets names systems counts (words_of line)) (IsCounted subnets names counts)
 unfolding counted_event
-event_fit laws names systems are counts words =
-    behind_such (event_line names systems words) _ (λ event. AsksFairly event × (AsksInForm event × AreAmong names event)) (IsCounted names counts)
-    (both (event_line names systems words) AsksFairly (λ event. AsksInForm event × AreAmong names event) (event_fair laws.options names systems words)
-    (both (event_line names systems words) AsksInForm (AreAmong names) (event_formed laws names systems words are) (event_placed names systems words))) (λ event is.
-    behind_wanted (are_few (counted counts event)) _ _ (IsCounted names counts) (λ few. record { few = few; fair = is.0; formed = is.1.0; placed = is.1.1 }))
+event_fit laws subnets names systems are counts line =
+    let words : List (List ℕ) = words_of line in
+    behind_such (event_line subnets names systems words) _ (λ event. AsksFairly event × (AsksInForm event × (AreAmong names event × InjectsInForm (length subnets) event))) (IsCounted subnets names counts)
+    (both (event_line subnets names systems words) AsksFairly (λ event. AsksInForm event × (AreAmong names event × InjectsInForm (length subnets) event)) (event_fair laws.options subnets names systems words)
+    (both (event_line subnets names systems words) AsksInForm (λ event. AreAmong names event × InjectsInForm (length subnets) event) (event_formed laws subnets names systems words are)
+    (both (event_line subnets names systems words) (AreAmong names) (InjectsInForm (length subnets)) (event_placed subnets names systems words)
+    (event_injected laws subnets names systems words (words_stand line))))) (λ event is.
+    behind_wanted (are_few (counted counts event)) _ _ (IsCounted subnets names counts) (λ few. record { few = few; fair = is.0; formed = is.1.0; placed = is.1.1.0; injected = is.1.1.1 }))
 
 -- events behind so many ticks
-record AreCounted (names : List (List ℕ)) (before : ℕ) (events : List Event) : Type 0 where
+record AreCounted (subnets names : List (List ℕ)) (before : ℕ) (events : List Event) : Type 0 where
   pub ticks : before + sum (map ticks_of events) ≤ 1000000
   pub fair : AllByRecursion AsksFairly events
   pub formed : AllByRecursion AsksInForm events
   pub placed : AllByRecursion (AreAmong names) events
+  pub injected : AllByRecursion (InjectsInForm (length subnets)) events
 
-events_fit : Laws → (names : List (List ℕ)) (systems : List SystemConfiguration) → AllByRecursion IsSystem systems → (n : ℕ) (counts : Counts) (lines : List (List ℕ))
-    → counts.ticks ≤ 1000000 → IfOk (events_from names systems n counts lines) (AreCounted names counts.ticks)
+events_fit : Laws → (subnets names : List (List ℕ)) (systems : List SystemConfiguration) → AllByRecursion IsSystem systems → (n : ℕ) (counts : Counts) (lines : List (List ℕ))
+    → counts.ticks ≤ 1000000 → IfOk (events_from subnets names systems n counts lines) (AreCounted subnets names counts.ticks)
 unfolding events_from
-events_fit laws names systems are n counts [] h = tt
-events_fit laws names systems are n counts (line ∷ lines) h =
-    either_way (is_skipped line) _ _ (AreCounted names counts.ticks) (events_fit laws names systems are (n + 1) counts lines h)
-    (either_way (is_line_of (codes "end") (words_of line)) _ _ (AreCounted names counts.ticks)
-    (behind_result (nothing_after (n + 1) lines) _ (AreCounted names counts.ticks) (λ _ _. record { ticks = omega (arith, h); fair = tt; formed = tt; placed = tt }))
-    (behind_line_such n (counted_event names systems counts (words_of line)) _ (IsCounted names counts) (AreCounted names counts.ticks)
-    (event_fit laws names systems are counts (words_of line)) (λ event first.
-    behind_such (events_from names systems (n + 1) (counted counts event) lines) _ (AreCounted names (counts.ticks + ticks_of event)) (AreCounted names counts.ticks)
-    (events_fit laws names systems are (n + 1) (counted counts event) lines (few_ticks (counted counts event) first.few)) (λ others rest.
+events_fit laws subnets names systems are n counts [] h = tt
+events_fit laws subnets names systems are n counts (line ∷ lines) h =
+    either_way (is_skipped line) _ _ (AreCounted subnets names counts.ticks) (events_fit laws subnets names systems are (n + 1) counts lines h)
+    (either_way (is_line_of (codes "end") (words_of line)) _ _ (AreCounted subnets names counts.ticks)
+    (behind_result (nothing_after (n + 1) lines) _ (AreCounted subnets names counts.ticks) (λ _ _. record { ticks = omega (arith, h); fair = tt; formed = tt; placed = tt; injected = tt }))
+    (behind_line_such n (counted_event subnets names systems counts (words_of line)) _ (IsCounted subnets names counts) (AreCounted subnets names counts.ticks)
+    (event_fit laws subnets names systems are counts line) (λ event first.
+    behind_such (events_from subnets names systems (n + 1) (counted counts event) lines) _ (AreCounted subnets names (counts.ticks + ticks_of event)) (AreCounted subnets names counts.ticks)
+    (events_fit laws subnets names systems are (n + 1) (counted counts event) lines (few_ticks (counted counts event) first.few)) (λ others rest.
     record {
       ticks = rw (sum_by-cons (λ x. x) (ticks_of event) (map ticks_of others)) (omega (arith, rest.ticks));
       fair = (first.fair, rest.fair);
       formed = (first.formed, rest.formed);
       placed = (first.placed, rest.placed);
+      injected = (first.injected, rest.injected);
     }))))
 
 plan_fit : Laws → (lines : List (List ℕ)) → IfOk (plan_at lines) IsFit
@@ -89,11 +96,12 @@ plan_fit laws lines =
     let fits : AreDeclared declared = are_declared.0 in
     let systems : List SystemConfiguration = map configuration_of declared.value.systems in
     let names : List (List ℕ) = map (λ (system : DeclaredSystem). system.name) declared.value.systems in
-    behind_such (events_from names systems declared.number nothing_counted declared.lines) _ (λ events. AreCounted names 0 events × AllByRecursion (HasItsRole systems) events) IsFit
-    (both (events_from names systems declared.number nothing_counted declared.lines) (AreCounted names 0) (AllByRecursion (HasItsRole systems))
-    (events_fit laws names systems (configurations_fit declared fits) declared.number nothing_counted declared.lines (omega arith))
-    (events_in_roles names systems declared.number nothing_counted declared.lines)) (λ events are.
-    let counted : AreCounted names 0 events = are.0 in
+    let subnets : List (List ℕ) = map (λ (subnet : Subnetwork). subnet.name) declared.value.subnets in
+    behind_such (events_from subnets names systems declared.number nothing_counted declared.lines) _ (λ events. AreCounted subnets names 0 events × AllByRecursion (HasItsRole systems) events) IsFit
+    (both (events_from subnets names systems declared.number nothing_counted declared.lines) (AreCounted subnets names 0) (AllByRecursion (HasItsRole systems))
+    (events_fit laws subnets names systems (configurations_fit declared fits) declared.number nothing_counted declared.lines (omega arith))
+    (events_in_roles subnets names systems declared.number nothing_counted declared.lines)) (λ events are.
+    let counted : AreCounted subnets names 0 events = are.0 in
     record {
       senders = AllByRecursion-implies (HasItsRole systems) (IsFromHost systems) (λ event role. role.0) events are.1;
       congested = AllByRecursion-implies (HasItsRole systems) (IsOfRouter systems) (λ event role. role.1) events are.1;
@@ -104,6 +112,7 @@ plan_fit laws lines =
       ticks = omega (arith, counted.ticks);
       asks = counted.fair;
       formed = counted.formed;
+      injected = subst (λ n. AllByRecursion (InjectsInForm n) events) (length-map declared.value.subnets (λ (subnet : Subnetwork). subnet.name)) counted.injected;
       subnet_names = distinct_of (map (λ (subnet : Subnetwork). subnet.name) declared.value.subnets) fits.fit.subnet_names;
       system_names = rw (configuration_names declared.value.systems) (distinct_of names fits.fit.system_names);
       few_subnets = fits.fit.few_subnets;
@@ -130,10 +139,10 @@ pub plan_is : (text : List ℕ) (n m : ℕ) (left rest : List (List ℕ)) (d : D
     → header_from 1 (lines_of text) ≡ Ok (record { value = tt; number = n; lines = left })
     → declarations_from n nothing_declared left ≡ Ok (record { value = d; number = m; lines = rest })
     → limits ≡ limits_of d.limits → subnets ≡ d.subnets → systems ≡ map configuration_of d.systems
-    → events_from (map (λ (system : SystemConfiguration). system.name) systems) systems m nothing_counted rest ≡ Ok events
+    → events_from (map (λ (subnet : Subnetwork). subnet.name) subnets) (map (λ (system : SystemConfiguration). system.name) systems) systems m nothing_counted rest ≡ Ok events
     → plan_of text ≡ Ok (record { limits = limits; subnets = subnets; systems = systems; events = events })
 unfolding plan_at
 plan_is text n m left rest d limits subnets systems events header declared limits_is subnets_is systems_is happens =
-    let named : events_from (map (λ (system : DeclaredSystem). system.name) d.systems) (map configuration_of d.systems) m nothing_counted rest ≡ Ok events
-    = rw (systems_is, configuration_names d.systems) at happens in
+    let named : events_from (map (λ (subnet : Subnetwork). subnet.name) d.subnets) (map (λ (system : DeclaredSystem). system.name) d.systems) (map configuration_of d.systems) m nothing_counted rest ≡ Ok events
+    = rw (subnets_is, systems_is, configuration_names d.systems) at happens in
     rw (header, declared, named, limits_is, subnets_is, systems_is) refl

@@ -15,6 +15,7 @@ use Rattle.scenario.specs.declared.event.Event.TheVariants.{Settle, Lose, Tick}
 use Rattle.scenario.specs.declared.wish.Wish.{Wish}
 use Rattle.scenario.specs.declared.wish.Wish.TheVariants.{Lasting, NoReport, Whole, Options}
 use Rattle.scenario.proofs.Behind.{behind_result, behind_found, behind_wanted, behind_such, either_way}
+use Rattle.scenario.proofs.Injected.{inject_such}
 
 -- what the crate of options says of each part of a header
 abbrev pub SpellsWhatItAccepts : Type 0
@@ -103,10 +104,10 @@ congest_fair names systems words =
     behind_result (router_word names systems w.0) _ AsksFairly (λ system _.
     behind_result (on_word w.1) _ AsksFairly (λ on _. tt)))
 
-pub event_fair : SpellsWhatItAccepts → (names : List (List ℕ)) (systems : List SystemConfiguration) (words : List (List ℕ)) → IfOk (event_line names systems words) AsksFairly
+pub event_fair : SpellsWhatItAccepts → (subnets names : List (List ℕ)) (systems : List SystemConfiguration) (words : List (List ℕ)) → IfOk (event_line subnets names systems words) AsksFairly
 unfolding event_line
-event_fair law names systems [] = tt
-event_fair law names systems (keyword ∷ words) =
+event_fair law subnets names systems [] = tt
+event_fair law subnets names systems (keyword ∷ words) =
     either_way (bytes_eq keyword (codes "send")) _ _ AsksFairly (send_fair law names systems words)
     (either_way (bytes_eq keyword (codes "deliver")) _ _ AsksFairly (deliver_fair names words)
     (either_way (bytes_eq keyword (codes "settle")) _ _ AsksFairly (behind_result (count_line words) (λ count. Ok (Settle count)) AsksFairly (λ count _. tt))
@@ -114,4 +115,5 @@ event_fair law names systems (keyword ∷ words) =
     (either_way (bytes_eq keyword (codes "tick")) _ _ AsksFairly (behind_result (tick_line words) (λ count. Ok (Tick count)) AsksFairly (λ count _. tt))
     (either_way (bytes_eq keyword (codes "restart")) _ _ AsksFairly (restart_fair names words)
     (either_way (bytes_eq keyword (codes "echo")) _ _ AsksFairly (echo_fair names words)
-    (either_way (bytes_eq keyword (codes "congest")) _ _ AsksFairly (congest_fair names systems words) tt)))))))
+    (either_way (bytes_eq keyword (codes "congest")) _ _ AsksFairly (congest_fair names systems words)
+    (either_way (bytes_eq keyword (codes "inject")) _ _ AsksFairly (inject_such subnets words AsksFairly (λ subnet from to octets. tt)) tt))))))))

@@ -24,6 +24,7 @@ use Rattle.scenario.specs.declared.event.Event.TheVariants.{Settle, Lose, Tick}
 use Rattle.scenario.specs.declared.wish.Wish.{Wish}
 use Rattle.scenario.specs.declared.wish.Wish.TheVariants.{Lasting, NoReport, Whole, Options}
 use Rattle.scenario.proofs.Asks.{SpellsWhatItAccepts}
+use Rattle.scenario.proofs.Injected.{inject_such}
 use Rattle.scenario.proofs.Behind.{behind_result, behind_found, behind_wanted, behind_such, either_way, number_behind_is_within}
 
 -- what the crate of addresses says of each text
@@ -187,11 +188,11 @@ congest_formed names systems words =
     behind_result (router_word names systems w.0) _ AsksInForm (λ system _.
     behind_result (on_word w.1) _ AsksInForm (λ on _. tt)))
 
-pub event_formed : Laws → (names : List (List ℕ)) (systems : List SystemConfiguration) (words : List (List ℕ)) → AllByRecursion IsSystem systems
-    → IfOk (event_line names systems words) AsksInForm
+pub event_formed : Laws → (subnets names : List (List ℕ)) (systems : List SystemConfiguration) (words : List (List ℕ)) → AllByRecursion IsSystem systems
+    → IfOk (event_line subnets names systems words) AsksInForm
 unfolding event_line
-event_formed laws names systems [] are = tt
-event_formed laws names systems (keyword ∷ words) are =
+event_formed laws subnets names systems [] are = tt
+event_formed laws subnets names systems (keyword ∷ words) are =
     either_way (bytes_eq keyword (codes "send")) _ _ AsksInForm (send_formed laws names systems words are)
     (either_way (bytes_eq keyword (codes "deliver")) _ _ AsksInForm (deliver_formed names words)
     (either_way (bytes_eq keyword (codes "settle")) _ _ AsksInForm (behind_result (count_line words) (λ count. Ok (Settle count)) AsksInForm (λ count _. tt))
@@ -199,4 +200,5 @@ event_formed laws names systems (keyword ∷ words) are =
     (either_way (bytes_eq keyword (codes "tick")) _ _ AsksInForm (behind_result (tick_line words) (λ count. Ok (Tick count)) AsksInForm (λ count _. tt))
     (either_way (bytes_eq keyword (codes "restart")) _ _ AsksInForm (restart_formed names words)
     (either_way (bytes_eq keyword (codes "echo")) _ _ AsksInForm (echo_formed laws names words)
-    (either_way (bytes_eq keyword (codes "congest")) _ _ AsksInForm (congest_formed names systems words) tt)))))))
+    (either_way (bytes_eq keyword (codes "congest")) _ _ AsksInForm (congest_formed names systems words)
+    (either_way (bytes_eq keyword (codes "inject")) _ _ AsksInForm (inject_such subnets words AsksInForm (λ subnet from to octets. tt)) tt))))))))

@@ -9,6 +9,7 @@ use Rattle.scenario.specs.declared.code.Code.TheVariants as bad
 use Rattle.scenario.specs.declared.event.Event.{Event}
 use Rattle.scenario.specs.declared.event.Event.TheVariants.{Settle, Lose, Tick}
 use Rattle.scenario.proofs.Behind.{behind_result, behind_found, behind_wanted, behind_such, either_way, declared_is_within}
+use Rattle.scenario.proofs.Injected.{inject_such}
 
 abbrev pub AreAmong : List (List ℕ) → Event → Type 0
 AreAmong names event = IsPlaced (length names) event
@@ -63,10 +64,10 @@ congest_placed names systems words =
     behind_such (router_word names systems w.0) _ (λ place. place < length names) (AreAmong names) (router_is_within names systems w.0) (λ system within.
     behind_result (on_word w.1) _ (AreAmong names) (λ on _. within)))
 
-pub event_placed : (names : List (List ℕ)) (systems : List SystemConfiguration) (words : List (List ℕ)) → IfOk (event_line names systems words) (AreAmong names)
+pub event_placed : (subnets names : List (List ℕ)) (systems : List SystemConfiguration) (words : List (List ℕ)) → IfOk (event_line subnets names systems words) (AreAmong names)
 unfolding event_line
-event_placed names systems [] = tt
-event_placed names systems (keyword ∷ words) =
+event_placed subnets names systems [] = tt
+event_placed subnets names systems (keyword ∷ words) =
     either_way (bytes_eq keyword (codes "send")) _ _ (AreAmong names) (send_placed names systems words)
     (either_way (bytes_eq keyword (codes "deliver")) _ _ (AreAmong names) (deliver_placed names words)
     (either_way (bytes_eq keyword (codes "settle")) _ _ (AreAmong names) (behind_result (count_line words) (λ count. Ok (Settle count)) (AreAmong names) (λ count _. tt))
@@ -74,4 +75,5 @@ event_placed names systems (keyword ∷ words) =
     (either_way (bytes_eq keyword (codes "tick")) _ _ (AreAmong names) (behind_result (tick_line words) (λ count. Ok (Tick count)) (AreAmong names) (λ count _. tt))
     (either_way (bytes_eq keyword (codes "restart")) _ _ (AreAmong names) (restart_placed names words)
     (either_way (bytes_eq keyword (codes "echo")) _ _ (AreAmong names) (echo_placed names words)
-    (either_way (bytes_eq keyword (codes "congest")) _ _ (AreAmong names) (congest_placed names systems words) tt)))))))
+    (either_way (bytes_eq keyword (codes "congest")) _ _ (AreAmong names) (congest_placed names systems words)
+    (either_way (bytes_eq keyword (codes "inject")) _ _ (AreAmong names) (inject_such subnets words (AreAmong names) (λ subnet from to octets. tt)) tt))))))))

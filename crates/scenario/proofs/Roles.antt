@@ -17,6 +17,7 @@ use Rattle.scenario.specs.declared.code.Code.TheVariants as bad
 use Rattle.scenario.specs.declared.counts.Counts.{Counts}
 use Rattle.scenario.specs.declared.event.Event.{Event}
 use Rattle.scenario.specs.declared.event.Event.TheVariants.{Settle, Lose, Tick}
+use Rattle.scenario.proofs.Injected.{inject_such}
 use Rattle.scenario.proofs.Behind.{behind_result, behind_found, behind_wanted, behind_such, behind_line_such, either_way}
 
 abbrev pub HasItsRole : List SystemConfiguration → Event → Type 0
@@ -94,10 +95,10 @@ congest_in_role names systems words =
     behind_such (router_word names systems w.0) _ (IsRouterOf systems) (HasItsRole systems) (router_is_router names systems w.0) (λ system is.
     behind_result (on_word w.1) _ (HasItsRole systems) (λ on _. (tt, is))))
 
-event_in_role : (names : List (List ℕ)) (systems : List SystemConfiguration) (words : List (List ℕ)) → IfOk (event_line names systems words) (HasItsRole systems)
+event_in_role : (subnets names : List (List ℕ)) (systems : List SystemConfiguration) (words : List (List ℕ)) → IfOk (event_line subnets names systems words) (HasItsRole systems)
 unfolding event_line
-event_in_role names systems [] = tt
-event_in_role names systems (keyword ∷ words) =
+event_in_role subnets names systems [] = tt
+event_in_role subnets names systems (keyword ∷ words) =
     either_way (bytes_eq keyword (codes "send")) _ _ (HasItsRole systems) (send_in_role names systems words)
     (either_way (bytes_eq keyword (codes "deliver")) _ _ (HasItsRole systems) (deliver_in_role names systems words)
     (either_way (bytes_eq keyword (codes "settle")) _ _ (HasItsRole systems) (behind_result (count_line words) (λ count. Ok (Settle count)) (HasItsRole systems) (λ count _. (tt, tt)))
@@ -105,24 +106,25 @@ event_in_role names systems (keyword ∷ words) =
     (either_way (bytes_eq keyword (codes "tick")) _ _ (HasItsRole systems) (behind_result (tick_line words) (λ count. Ok (Tick count)) (HasItsRole systems) (λ count _. (tt, tt)))
     (either_way (bytes_eq keyword (codes "restart")) _ _ (HasItsRole systems) (restart_in_role names systems words)
     (either_way (bytes_eq keyword (codes "echo")) _ _ (HasItsRole systems) (echo_in_role names systems words)
-    (either_way (bytes_eq keyword (codes "congest")) _ _ (HasItsRole systems) (congest_in_role names systems words) tt)))))))
+    (either_way (bytes_eq keyword (codes "congest")) _ _ (HasItsRole systems) (congest_in_role names systems words)
+    (either_way (bytes_eq keyword (codes "inject")) _ _ (HasItsRole systems) (inject_such subnets words (HasItsRole systems) (λ subnet from to octets. (tt, tt))) tt))))))))
 
-counted_in_role : (names : List (List ℕ)) (systems : List SystemConfiguration) (counts : Counts) (words : List (List ℕ))
-    → IfOk (counted_event names systems counts words) (HasItsRole systems)
+counted_in_role : (subnets names : List (List ℕ)) (systems : List SystemConfiguration) (counts : Counts) (words : List (List ℕ))
+    → IfOk (counted_event subnets names systems counts words) (HasItsRole systems)
 unfolding counted_event
-counted_in_role names systems counts words =
-    behind_such (event_line names systems words) _ (HasItsRole systems) (HasItsRole systems) (event_in_role names systems words) (λ event is.
+counted_in_role subnets names systems counts words =
+    behind_such (event_line subnets names systems words) _ (HasItsRole systems) (HasItsRole systems) (event_in_role subnets names systems words) (λ event is.
     behind_wanted (are_few (counted counts event)) _ _ (HasItsRole systems) (λ _. is))
 
-pub events_in_roles : (names : List (List ℕ)) (systems : List SystemConfiguration) (n : ℕ) (counts : Counts) (lines : List (List ℕ))
-    → IfOk (events_from names systems n counts lines) (AllByRecursion (HasItsRole systems))
+pub events_in_roles : (subnets names : List (List ℕ)) (systems : List SystemConfiguration) (n : ℕ) (counts : Counts) (lines : List (List ℕ))
+    → IfOk (events_from subnets names systems n counts lines) (AllByRecursion (HasItsRole systems))
 unfolding events_from
-events_in_roles names systems n counts [] = tt
-events_in_roles names systems n counts (line ∷ lines) =
-    either_way (is_skipped line) _ _ (AllByRecursion (HasItsRole systems)) (events_in_roles names systems (n + 1) counts lines)
+events_in_roles subnets names systems n counts [] = tt
+events_in_roles subnets names systems n counts (line ∷ lines) =
+    either_way (is_skipped line) _ _ (AllByRecursion (HasItsRole systems)) (events_in_roles subnets names systems (n + 1) counts lines)
     (either_way (is_line_of (codes "end") (words_of line)) _ _ (AllByRecursion (HasItsRole systems))
     (behind_result (nothing_after (n + 1) lines) _ (AllByRecursion (HasItsRole systems)) (λ _ _. tt))
-    (behind_line_such n (counted_event names systems counts (words_of line)) _ (HasItsRole systems) (AllByRecursion (HasItsRole systems))
-    (counted_in_role names systems counts (words_of line)) (λ event first.
-    behind_such (events_from names systems (n + 1) (counted counts event) lines) _ (AllByRecursion (HasItsRole systems)) (AllByRecursion (HasItsRole systems))
-    (events_in_roles names systems (n + 1) (counted counts event) lines) (λ others rest. (first, rest)))))
+    (behind_line_such n (counted_event subnets names systems counts (words_of line)) _ (HasItsRole systems) (AllByRecursion (HasItsRole systems))
+    (counted_in_role subnets names systems counts (words_of line)) (λ event first.
+    behind_such (events_from subnets names systems (n + 1) (counted counts event) lines) _ (AllByRecursion (HasItsRole systems)) (AllByRecursion (HasItsRole systems))
+    (events_in_roles subnets names systems (n + 1) (counted counts event) lines) (λ others rest. (first, rest)))))

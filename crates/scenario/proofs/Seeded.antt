@@ -12,7 +12,7 @@ use Rattle.clnp_plan.specs.Configuration.{SystemConfiguration}
 use Rattle.clnp_plan.specs.declared.config.Role.TheVariants.{Host}
 use Rattle.scenario.specs.Grammar.{BadLine as Bad, plan_of, plan_at, events_from}
 use Rattle.scenario.specs.Declarations.{limits_line, subnet_line, room_word, setting_word, system_line, address_line, port_line, route_line, declaration_line}
-use Rattle.scenario.specs.Scenario.{Plan, IsFit, AsksFairly, AsksInForm, IsPlaced, IsFromHost, IsOfRouter, ticks_of}
+use Rattle.scenario.specs.Scenario.{Plan, IsFit, AsksFairly, AsksInForm, InjectsInForm, IsPlaced, IsFromHost, IsOfRouter, ticks_of}
 use Rattle.scenario.specs.Refusal.{Refuses}
 use Rattle.scenario.specs.declared.fault.ScenarioRefusal.{ScenarioRefusal}
 use Rattle.scenario.specs.declared.fault.ScenarioRefusal.TheVariants.{BadLine}
@@ -60,6 +60,7 @@ record IsGood (event : Event) : Type 0 where
   pub placed : IsPlaced 6 event
   pub sender : IsFromHost the_systems event
   pub congested : IsOfRouter the_systems event
+  pub injected : InjectsInForm 3 event
   pub ticks : ticks_of event ≤ 200
 
 no_bytes : IsBytes []
@@ -110,6 +111,7 @@ send_good from to len start = record {
   placed = (host_placed from).within;
   sender = (host_placed from).role;
   congested = tt;
+  injected = tt;
   ticks = omega arith;
 }
 
@@ -120,23 +122,24 @@ echo_good from to len start = record {
   placed = (host_placed from).within;
   sender = tt;
   congested = tt;
+  injected = tt;
   ticks = omega arith;
 }
 
 delivery_good : (copy system : ℕ) → system < 6 → IsGood (Deliver copy system)
-delivery_good copy system h = record { fair = tt; formed = tt; placed = h; sender = tt; congested = tt; ticks = omega arith }
+delivery_good copy system h = record { fair = tt; formed = tt; placed = h; sender = tt; congested = tt; injected = tt; ticks = omega arith }
 
 restart_good : (system : ℕ) → system < 6 → IsGood (Restart system)
-restart_good system h = record { fair = tt; formed = tt; placed = h; sender = tt; congested = tt; ticks = omega arith }
+restart_good system h = record { fair = tt; formed = tt; placed = h; sender = tt; congested = tt; injected = tt; ticks = omega arith }
 
 loss_good : (count : ℕ) → IsGood (Lose count)
-loss_good count = record { fair = tt; formed = tt; placed = tt; sender = tt; congested = tt; ticks = omega arith }
+loss_good count = record { fair = tt; formed = tt; placed = tt; sender = tt; congested = tt; injected = tt; ticks = omega arith }
 
 settle_good : (count : ℕ) → IsGood (Settle count)
-settle_good count = record { fair = tt; formed = tt; placed = tt; sender = tt; congested = tt; ticks = omega arith }
+settle_good count = record { fair = tt; formed = tt; placed = tt; sender = tt; congested = tt; injected = tt; ticks = omega arith }
 
 ticks_good : (count : ℕ) → count ≤ 200 → IsGood (Tick count)
-ticks_good count h = record { fair = tt; formed = tt; placed = tt; sender = tt; congested = tt; ticks = h }
+ticks_good count h = record { fair = tt; formed = tt; placed = tt; sender = tt; congested = tt; injected = tt; ticks = h }
 
 -- what is drawn at any state has this property
 abbrev Draws : {A : Type 0} → (A → Type 0) → Drawn A → Type 0
@@ -225,6 +228,7 @@ storm_fit seed fit =
       places = AllByRecursion-implies IsGood (IsPlaced 6) (λ event is. is.placed) (storm_events seed) good.each;
       senders = AllByRecursion-implies IsGood (IsFromHost the_systems) (λ event is. is.sender) (storm_events seed) good.each;
       congested = AllByRecursion-implies IsGood (IsOfRouter the_systems) (λ event is. is.congested) (storm_events seed) good.each;
+      injected = AllByRecursion-implies IsGood (InjectsInForm 3) (λ event is. is.injected) (storm_events seed) good.each;
     }
 
 -- the parts of two networks and the events of a storm

@@ -6,7 +6,7 @@ use Rattle.hex.specs.Hex.{lower_digits}
 use Rattle.nsap.specs.Text.{hex_text}
 use Rattle.forwarding.specs.declared.route.Route.{Route}
 use Rattle.clnp_plan.specs.Configuration.{SystemConfiguration}
-use Rattle.clnp_plan.specs.Journal.{line_of, on_word}
+use Rattle.clnp_plan.specs.Journal.{line_of, on_word, target_word}
 use Rattle.clnp_plan.specs.declared.ask.Ask.{Ask}
 use Rattle.clnp_plan.specs.declared.config.Limits.{Limits}
 use Rattle.clnp_plan.specs.declared.config.PortConfig.{PortConfig}
@@ -17,7 +17,7 @@ use Rattle.scenario.specs.Scenario.{Plan, Subnetwork}
 use Rattle.scenario.specs.declared.event.Body.{Body}
 use Rattle.scenario.specs.declared.event.Body.TheVariants.{Hex, Pattern}
 use Rattle.scenario.specs.declared.event.Event.{Event}
-use Rattle.scenario.specs.declared.event.Event.TheVariants.{Send, Deliver, Settle, Lose, Tick, Restart, Echo, Congest}
+use Rattle.scenario.specs.declared.event.Event.TheVariants.{Send, Deliver, Settle, Lose, Tick, Restart, Echo, Congest, Inject}
 
 -- ---- words
 
@@ -123,17 +123,19 @@ ask_words ask =
     keyed (codes "life=") ask.life
     ∷ word_if (not ask.report) (codes "noreport") ++ word_if (not ask.segment) (codes "whole") ++ options_words ask.options
 
-abbrev pub event_text : List SystemConfiguration → Event → List ℕ
-event_text systems (Send system from to body ask) =
+abbrev pub event_text : List Subnetwork → List SystemConfiguration → Event → List ℕ
+event_text subnets systems (Send system from to body ask) =
     line_of (codes "send") (system_name (slice_get systems system) ∷ hex_text from ∷ hex_text to ∷ body_text body ∷ ask_words ask)
-event_text systems (Deliver copy system) = line_of (codes "deliver") (decimal copy ∷ system_name (slice_get systems system) ∷ [])
-event_text systems (Settle count) = line_of (codes "settle") (decimal count ∷ [])
-event_text systems (Lose count) = line_of (codes "lose") (decimal count ∷ [])
-event_text systems (Tick count) = line_of (codes "tick") (decimal count ∷ [])
-event_text systems (Restart system) = line_of (codes "restart") (system_name (slice_get systems system) ∷ [])
-event_text systems (Echo system from to body) =
+event_text subnets systems (Deliver copy system) = line_of (codes "deliver") (decimal copy ∷ system_name (slice_get systems system) ∷ [])
+event_text subnets systems (Settle count) = line_of (codes "settle") (decimal count ∷ [])
+event_text subnets systems (Lose count) = line_of (codes "lose") (decimal count ∷ [])
+event_text subnets systems (Tick count) = line_of (codes "tick") (decimal count ∷ [])
+event_text subnets systems (Restart system) = line_of (codes "restart") (system_name (slice_get systems system) ∷ [])
+event_text subnets systems (Echo system from to body) =
     line_of (codes "echo") (system_name (slice_get systems system) ∷ hex_text from ∷ hex_text to ∷ body_text body ∷ [])
-event_text systems (Congest system on) = line_of (codes "congest") (system_name (slice_get systems system) ∷ on_word on ∷ [])
+event_text subnets systems (Congest system on) = line_of (codes "congest") (system_name (slice_get systems system) ∷ on_word on ∷ [])
+event_text subnets systems (Inject subnet from to octets) =
+    line_of (codes "inject") (subnet_name (slice_get subnets subnet) ∷ hex_text from ∷ target_word to ∷ hex_text octets ∷ [])
 
 -- ---- the whole
 
@@ -146,4 +148,4 @@ declarations_text plan =
 
 abbrev pub text_of : Plan → List ℕ
 text_of plan =
-    codes "clnp-sim 1\n" ++ declarations_text plan ++ codes "events\n" ++ flat_map (event_text plan.systems) plan.events ++ codes "end\n"
+    codes "clnp-sim 1\n" ++ declarations_text plan ++ codes "events\n" ++ flat_map (event_text plan.subnets plan.systems) plan.events ++ codes "end\n"

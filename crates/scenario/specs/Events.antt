@@ -1,5 +1,5 @@
 -- The event lines of a scenario text.
-use Rattle.std.specs.Prelude.{ℕ, ◌+◌, ◌&&◌, not, nat_le, Bool, true, false, if◌then◌else◌, List, [], ◌∷◌, slice_get, codes, Option, None, Some, Result, Ok, Err}
+use Rattle.std.specs.Prelude.{ℕ, ◌+◌, ◌&&◌, not, nat_le, length, Bool, true, false, if◌then◌else◌, List, [], ◌∷◌, slice_get, codes, Option, None, Some, Result, Ok, Err}
 use Rattle.std.specs.List.{list_any}
 use Rattle.std.specs.Str.{bytes_eq}
 use Rattle.clnp_plan.specs.Configuration.{SystemConfiguration}
@@ -8,12 +8,12 @@ use Rattle.clnp_plan.specs.declared.config.Role.{Role}
 use Rattle.clnp_plan.specs.declared.config.Role.TheVariants.{Host, Router}
 use Rattle.scenario.specs.Declarations.{is_router}
 use Rattle.scenario.specs.Scenario.{ticks_of}
-use Rattle.scenario.specs.Words.{◌>>=◌, wanted, found, literal, declared_word, number_word, address_word, data_word, life_word, options_word, has_prefix, one_word, two_words, four_words, first_four, each_once}
+use Rattle.scenario.specs.Words.{◌>>=◌, wanted, found, literal, declared_word, number_word, address_word, data_word, life_word, options_word, target_word, frame_word, has_prefix, one_word, two_words, four_words, first_four, each_once}
 use Rattle.scenario.specs.declared.code.Code.{Code}
 use Rattle.scenario.specs.declared.code.Code.TheVariants as bad
 use Rattle.scenario.specs.declared.counts.Counts.{Counts}
 use Rattle.scenario.specs.declared.event.Event.{Event}
-use Rattle.scenario.specs.declared.event.Event.TheVariants.{Send, Deliver, Settle, Lose, Tick, Restart, Echo, Congest}
+use Rattle.scenario.specs.declared.event.Event.TheVariants.{Send, Deliver, Settle, Lose, Tick, Restart, Echo, Congest, Inject}
 use Rattle.scenario.specs.declared.wish.Wish.{Wish}
 use Rattle.scenario.specs.declared.wish.Wish.TheVariants.{Lasting, NoReport, Whole, Options}
 
@@ -158,13 +158,24 @@ congest_line names systems words = do
   on ← on_word w.1
   Ok (Congest system on)
 
+-- `SUBNET FROM TO HEX`, behind `inject`: a frame of at most 70,000 octets comes from outside
+unfoldable pub inject_line : (subnets : List (List ℕ)) → List (List ℕ) → Result Event Code
+inject_line subnets words = do
+  w ← found (four_words words) bad.Syntax
+  subnet ← declared_word subnets w.0
+  from ← address_word w.1
+  to ← target_word w.2
+  octets ← frame_word w.3
+  _ ← wanted (nat_le (length octets) 70000) bad.Count
+  Ok (Inject subnet from to octets)
+
 -- `N`, behind `settle` and `lose`
 unfoldable pub count_line : List (List ℕ) → Result ℕ Code
 count_line words = found (one_word words) bad.Syntax >>= number_word 1 100000
 
-unfoldable pub event_line : (names : List (List ℕ)) (systems : List SystemConfiguration) → List (List ℕ) → Result Event Code
-event_line names systems [] = Err bad.Syntax
-event_line names systems (keyword ∷ words) =
+unfoldable pub event_line : (subnets names : List (List ℕ)) (systems : List SystemConfiguration) → List (List ℕ) → Result Event Code
+event_line subnets names systems [] = Err bad.Syntax
+event_line subnets names systems (keyword ∷ words) =
     if bytes_eq keyword (codes "send") then send_line names systems words
     else if bytes_eq keyword (codes "deliver") then deliver_line names words
     else if bytes_eq keyword (codes "settle") then (count_line words >>= λ count. Ok (Settle count))
@@ -173,6 +184,7 @@ event_line names systems (keyword ∷ words) =
     else if bytes_eq keyword (codes "restart") then restart_line names words
     else if bytes_eq keyword (codes "echo") then echo_line names words
     else if bytes_eq keyword (codes "congest") then congest_line names systems words
+    else if bytes_eq keyword (codes "inject") then inject_line subnets words
     else Err bad.Syntax
 
 -- the copies that an event settles or loses

@@ -3,6 +3,8 @@ use Rattle.std.specs.Prelude.{◌≡◌, ℕ, false, ◌+◌, ◌/◌, ◌%◌, 
 use Rattle.std.specs.List.{AllByRecursion, flat_map, range_with_len}
 use Rattle.hex.specs.Hex.{IsBytes}
 use Rattle.nsap.specs.Address.{IsAddress}
+use Rattle.nsap.specs.declared.target.Target.{Target}
+use Rattle.nsap.specs.declared.target.Target.TheVariants.{System, EndSystems, Routers}
 use Rattle.clnp_options.specs.Grammar.{FitsKind}
 use Rattle.clnp_options.specs.Parameter.{parameters}
 use Rattle.clnp_plan.specs.Asking.{IsFormedAsk}
@@ -13,7 +15,7 @@ use Rattle.clnp_plan.specs.declared.config.Role.TheVariants.{Host, Router}
 use Rattle.scenario.specs.declared.event.Body.{Body}
 use Rattle.scenario.specs.declared.event.Body.TheVariants.{Hex, Pattern}
 use Rattle.scenario.specs.declared.event.Event.{Event}
-use Rattle.scenario.specs.declared.event.Event.TheVariants.{Send, Deliver, Settle, Lose, Tick, Restart, Echo, Congest}
+use Rattle.scenario.specs.declared.event.Event.TheVariants.{Send, Deliver, Settle, Lose, Tick, Restart, Echo, Congest, Inject}
 use Rattle.scenario.specs.declared.event.Move.{Move}
 use Rattle.scenario.specs.declared.event.Move.TheVariants.{One, SettleOne, LoseOne, TickOne}
 
@@ -44,6 +46,7 @@ moves_of place (Deliver copy system) = One place ∷ []
 moves_of place (Restart system) = One place ∷ []
 moves_of place (Echo system from to body) = One place ∷ []
 moves_of place (Congest system on) = One place ∷ []
+moves_of place (Inject subnet from to octets) = One place ∷ []
 
 -- the moves of events, the first of them at a place
 abbrev pub moves_from : ℕ → List Event → List Move
@@ -75,6 +78,33 @@ IsPlaced systems (Restart system) = system < systems
 IsPlaced systems (Echo system from to body) = system < systems
 IsPlaced systems (Congest system on) = system < systems
 IsPlaced systems _ = Unit {0}
+
+-- a target on a subnetwork is an address there, or a group
+abbrev pub IsTarget : Target → Type 0
+IsTarget (System snpa) = IsAddress snpa
+IsTarget EndSystems = Unit {0}
+IsTarget Routers = Unit {0}
+
+-- A frame from outside comes on one of so many subnetworks, from an address there to a target, and has 1 to 70,000 octets.
+pub record IsInjection (subnets subnet : ℕ) (from : List ℕ) (to : Target) (octets : List ℕ) : Type 0 where
+  pub placed : subnet < subnets
+  pub sender : IsAddress from
+  pub target : IsTarget to
+  pub bytes : IsBytes octets
+  pub many : IsWithin 1 70000 (length octets)
+
+abbrev pub InjectsInForm : ℕ → Event → Type 0
+InjectsInForm subnets (Inject subnet from to octets) = IsInjection subnets subnet from to octets
+InjectsInForm subnets _ = Unit {0}
+
+-- no frame comes from outside
+abbrev pub InjectsNothing : Event → Type 0
+InjectsNothing (Inject subnet from to octets) = ⊥
+InjectsNothing _ = Unit {0}
+
+-- all frames of a scenario are made by its own systems
+abbrev pub IsClosed : Plan → Type 0
+IsClosed plan = AllByRecursion InjectsNothing plan.events
 
 -- the system of an event that asks for a data unit is a host
 abbrev pub IsFromHost : List SystemConfiguration → Event → Type 0
@@ -118,3 +148,4 @@ pub record IsFit (plan : Plan) : Type 0 where
   pub senders : AllByRecursion (IsFromHost plan.systems) plan.events
   -- routers alone are said to be congested
   pub congested : AllByRecursion (IsOfRouter plan.systems) plan.events
+  pub injected : AllByRecursion (InjectsInForm (length plan.subnets)) plan.events

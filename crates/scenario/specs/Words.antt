@@ -7,6 +7,8 @@ use Rattle.hex.specs.declared.error.FromHexError.{FromHexError}
 use Rattle.clnp_base.specs.Text.{decimal_of, is_digit}
 use Rattle.clnp_options.specs.Rules.{refusal}
 use Rattle.nsap.specs.Prefix.{prefix_of}
+use Rattle.nsap.specs.declared.target.Target.{Target}
+use Rattle.nsap.specs.declared.target.Target.TheVariants.{System, EndSystems, Routers}
 use Rattle.nsap.specs.Text.{octets_of}
 use Rattle.nsap.specs.declared.fault.NsapFault.{NsapFault}
 use Rattle.scenario.specs.declared.code.Code.{Code}
@@ -89,6 +91,17 @@ digits_read (Err e) = Err bad.Address
 -- whether a word begins so
 abbrev pub has_prefix : List ℕ → List ℕ → Bool
 has_prefix prefix word = bytes_eq (take (length prefix) word) prefix
+
+-- `es`, all end systems, or `is`, all intermediate systems, or else an address on the subnetwork
+abbrev pub target_word : List ℕ → Result Target Code
+target_word word =
+    if bytes_eq word (codes "es") then Ok EndSystems
+    else if bytes_eq word (codes "is") then Ok Routers
+    else (address_word word >>= λ snpa. Ok (System snpa))
+
+-- an even number of hexadecimal digits
+abbrev pub frame_word : List ℕ → Result (List ℕ) Code
+frame_word word = digits_read (decode_of word)
 
 -- an even number of hexadecimal digits behind a prefix
 abbrev pub octets_behind : List ℕ → List ℕ → Result (List ℕ) Code

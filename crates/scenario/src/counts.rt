@@ -56,7 +56,8 @@ fn passed_by(event: &Event) -> u32
         | Event::Tick { .. }
         | Event::Restart { .. }
         | Event::Echo { .. }
-        | Event::Congest { .. } => 0,
+        | Event::Congest { .. }
+        | Event::Inject { .. } => 0,
     }
 }
 
@@ -72,6 +73,7 @@ fn ticks_of(event: &Event) -> u32
         | Event::Lose { .. }
         | Event::Restart { .. }
         | Event::Echo { .. }
-        | Event::Congest { .. } => 0,
+        | Event::Congest { .. }
+        | Event::Inject { .. } => 0,
     }
 }

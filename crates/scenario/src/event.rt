@@ -1,6 +1,6 @@
 use clnp_base::Octets;
 use clnp_plan::Ask;
-use nsap::Address;
+use nsap::{Address, Snpa, Target};
 
 /// The octets of a data unit that is to be sent, in one of the two forms in which they are written.
 #[derive(Debug, Drop)]
@@ -11,7 +11,7 @@ pub enum Body {
     Pattern { len: u32, start: u8 },
 }
 
-/// An event of a scenario; systems are named by their places, from 0.
+/// An event of a scenario; systems and subnetworks are named by their places, from 0.
 #[derive(Debug, Drop)]
 pub enum Event {
     /// A host is asked to send a data unit.
@@ -54,6 +54,13 @@ pub enum Event {
     Congest {
         system: u8,
         on: bool,
+    },
+    /// A frame from outside is put on a subnetwork, from an address there to one or to a group.
+    Inject {
+        subnet: u8,
+        from: Snpa,
+        to: Target,
+        octets: Octets,
     },
 }
 

@@ -3,18 +3,20 @@ ghost use Rattle.std.specs.Prelude.{◌≡◌, ◌<◌, ◌≤◌, map, length, 
 ghost use Rattle.std.specs.List.{position};
 ghost use Rattle.std.specs.Str.{bytes_eq};
 ghost use Rattle.clnp_base.specs.Text.{words_of};
-ghost use Rattle.scenario.specs.Events.{own_life, is_host, is_host_at, host_word, send_line, deliver_line, count_line, tick_line, restart_line, echo_line, is_router_at, router_word, on_word, congest_line, event_line};
+ghost use Rattle.scenario.specs.Events.{own_life, is_host, is_host_at, host_word, send_line, deliver_line, count_line, tick_line, restart_line, echo_line, is_router_at, router_word, on_word, congest_line, inject_line, event_line};
+ghost use Rattle.scenario.specs.Scenario.{Subnetwork};
 ghost use Rattle.scenario.specs.Words.{declared_word};
 ghost use Rattle.scenario.specs.Refusal.{Faults};
 
 use crate::code::Code;
 use crate::event::Event;
 use crate::fault::LineFault;
+use crate::plan::Subnet;
 use crate::system::is_router;
 use crate::wish::{ask_of, each_once, wish_words};
 use crate::word::{
-    address_word, data_word, first_four, four_words, is_name, number_word, one_word, same,
-    two_words, wanted,
+    address_word, data_word, first_four, four_words, frame_word, is_name, number_word, one_word,
+    same, snpa_word, target_word, two_words, wanted,
 };
 use clnp_base::next_word;
 use clnp_plan::{Role, SystemConfig};
@@ -231,15 +233,73 @@ fn congest_line(systems: &[SystemConfig], line: &[u8]) -> Result<Event, Code>
     Ok(Event::Congest { system, on })
 }
 
+/// The place of the first subnetwork of this name.
+fn first_subnet_named(subnets: &[Subnet], name: &[u8]) -> Option<usize>
+    ensures place { result ≡ position (λ subnet. bytes_eq subnet.name name.now) subnets.now }
+    ensures within { IfSome result (λ place. place < length subnets.now) }
+{
+    subnets.iter().position(|subnet| same(subnet.name(), name))
+}
+
+/// The place of a name among the subnetworks'.
+fn subnet_place_of(subnets: &[Subnet], name: &[u8]) -> Option<usize>
+    ensures place { result ≡ position (λ other. bytes_eq other name.now) (map (λ (subnet : Subnetwork). subnet.name) subnets.now) }
+    ensures within { IfSome result (λ place. place < length subnets.now) }
+{
+    first_subnet_named(subnets, name)
+}
+
+/// The place of the subnetwork that a word names.
+fn subnet_word(subnets: &[Subnet], word: &[u8]) -> Result<u8, Code>
+    requires { length subnets.now ≤ 64 }
+    ensures { result ≡ declared_word (map (λ (subnet : Subnetwork). subnet.name) subnets.now) word.now }
+{
+    if !is_name(word) {
+        return Err(Code::Syntax);
+    }
+    match subnet_place_of(subnets, word) {
+        Some(place) => Ok(place as u8),
+        None => Err(Code::UnknownName),
+    }
+}
+
+/// The most octets of a frame from outside.
+const MOST_FRAME: usize = 70_000;
+
+/// `SUBNET FROM TO HEX`, behind `inject`.
+#[tactic(auto, unfolding(crate::specs::Events::inject_line))]
+fn inject_line(alloc: Global, subnets: &[Subnet], line: &[u8]) -> Result<Event, LineFault>
+    requires { length subnets.now ≤ 64 }
+    ensures { let reading = inject_line (map (λ (subnet : Subnetwork). subnet.name) subnets.now) (words_of line.now) in
+        MatchResult result (λ event. reading ≡ Ok event) (λ fault. Faults fault reading) }
+{
+    let Some((subnet, from, to, octets)) = four_words(line) else {
+        return Err(LineFault::Broken(Code::Syntax));
+    };
+    let subnet = subnet_word(subnets, subnet)?;
+    let from = snpa_word(from)?;
+    let to = target_word(to)?;
+    let octets = frame_word(alloc, octets)?;
+    wanted(octets.as_bytes().len() <= MOST_FRAME, Code::Count)?;
+    Ok(Event::Inject {
+        subnet,
+        from,
+        to,
+        octets,
+    })
+}
+
 /// The event of a line.
 #[tactic(auto, unfolding(crate::specs::Events::event_line))]
 pub(crate) fn event_line(
     alloc: Global,
+    subnets: &[Subnet],
     systems: &[SystemConfig],
     line: &[u8],
 ) -> Result<Event, LineFault>
-    requires { length systems.now ≤ 64 }
-    ensures { let reading = event_line (map (λ system. system.name) systems.now) systems.now (words_of line.now) in
+    requires subnets { length subnets.now ≤ 64 }
+    requires systems { length systems.now ≤ 64 }
+    ensures { let reading = event_line (map (λ (subnet : Subnetwork). subnet.name) subnets.now) (map (λ system. system.name) systems.now) systems.now (words_of line.now) in
         MatchResult result (λ event. reading ≡ Ok event) (λ fault. Faults fault reading) }
 {
     let Some((keyword, line)) = next_word(line) else {
@@ -280,6 +340,9 @@ pub(crate) fn event_line(
             Ok(event) => Ok(event),
             Err(code) => Err(LineFault::Broken(code)),
         };
+    }
+    if same(keyword, b"inject") {
+        return inject_line(alloc, subnets, line);
     }
     Err(LineFault::Broken(Code::Syntax))
 }

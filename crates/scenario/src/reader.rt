@@ -7,6 +7,7 @@ ghost use Rattle.scenario.specs.Declarations.{declaration_line, is_complete, con
 ghost use Rattle.scenario.specs.Events.{counted, are_few, nothing_counted};
 ghost use Rattle.scenario.specs.Grammar.{at_line, header_from, declarations_from, nothing_after, counted_event, events_from, plan_of};
 ghost use Rattle.scenario.specs.Codes.{number_of};
+ghost use Rattle.scenario.specs.Scenario.{Subnetwork};
 ghost use Rattle.scenario.specs.Words.{wanted};
 ghost use Rattle.scenario.specs.declared.code.Code.TheVariants as bad;
 ghost use Rattle.scenario.specs.declared.fault.ScenarioRefusal.TheVariants.{BadLine};
@@ -19,7 +20,7 @@ use crate::event::Event;
 use crate::event_line::event_line;
 use crate::fault::{LineFault, ScenarioRefusal};
 use crate::laws;
-use crate::plan::Scenario;
+use crate::plan::{Scenario, Subnet};
 use crate::system::System;
 use crate::word::{is_line_of, is_skipped, same};
 use clnp_base::next_line;
@@ -141,18 +142,20 @@ fn nothing_after(number: u32, text: &[u8]) -> Result<(), ScenarioRefusal>
 #[tactic(auto, unfolding(crate::specs::Grammar::counted_event))]
 fn counted_event(
     alloc: Global,
+    subnets: &[Subnet],
     systems: &[SystemConfig],
     number: u32,
     counts: Counts,
     line: &[u8],
 ) -> Result<Event, ScenarioRefusal>
     requires few { are_few counts ≡ true }
+    requires subnets { length subnets.now ≤ 64 }
     requires systems { length systems.now ≤ 64 }
-    ensures event { let reading = at_line number (counted_event (map (λ system. system.name) systems.now) systems.now counts (words_of line.now)) in
+    ensures event { let reading = at_line number (counted_event (map (λ (subnet : Subnetwork). subnet.name) subnets.now) (map (λ system. system.name) systems.now) systems.now counts (words_of line.now)) in
         MatchResult result (λ event. reading ≡ Ok event) (λ refusal. Refuses refusal reading) }
     ensures few { IfOk result (λ event. are_few (counted counts event) ≡ true) }
 {
-    let event = match event_line(alloc, systems, line) {
+    let event = match event_line(alloc, subnets, systems, line) {
         Ok(event) => event,
         Err(LineFault::NoMemory) => return Err(ScenarioRefusal::NoMemory),
         Err(LineFault::Broken(code)) => return Err(bad_line(number, code)),
@@ -166,13 +169,15 @@ fn counted_event(
 /// The events of the lines from this number on, and `end`.
 fn events_of(
     alloc: Global,
+    subnets: &[Subnet],
     systems: &[SystemConfig],
     number: u32,
     text: &[u8],
 ) -> Result<Vec<Event>, ScenarioRefusal>
     requires few { number + length (lines_of text.now) < 2 ^ 32 }
+    requires subnets { length subnets.now ≤ 64 }
     requires systems { length systems.now ≤ 64 }
-    ensures { let reading = events_from (map (λ system. system.name) systems.now) systems.now number nothing_counted (lines_of text.now) in
+    ensures { let reading = events_from (map (λ (subnet : Subnetwork). subnet.name) subnets.now) (map (λ system. system.name) systems.now) systems.now number nothing_counted (lines_of text.now) in
         MatchResult result (λ events. reading ≡ Ok events.items) (λ refusal. Refuses refusal reading) }
 {
     let mut events = Vec::new(alloc);
@@ -190,7 +195,7 @@ fn events_of(
             nothing_after(number, rest)?;
             return Ok(events);
         }
-        let event = counted_event(alloc, systems, at, counts, line)?;
+        let event = counted_event(alloc, subnets, systems, at, counts, line)?;
         counts = counts.with(&event);
         events.push(event)?;
     }
@@ -227,7 +232,7 @@ pub fn read(alloc: Global, text: &[u8]) -> Result<Scenario, ScenarioRefusal>
     let limits = declared.limits();
     let (subnets, systems) = declared.into_parts();
     let systems = systems_of(alloc, systems)?;
-    let events = events_of(alloc, systems.as_slice(), number, text)?;
+    let events = events_of(alloc, subnets.as_slice(), systems.as_slice(), number, text)?;
     Ok(Scenario {
         limits,
         subnets,

@@ -4,7 +4,7 @@ ghost use Rattle.std.specs.Str.{bytes_eq};
 ghost use Rattle.std.specs.List.{list_all, list_any, position};
 ghost use Rattle.clnp_base.specs.Text.{words_of, is_digit, decimal_of};
 ghost use Rattle.scenario.specs.Grammar.{is_line_of};
-ghost use Rattle.scenario.specs.Words.{one_word, two_words, three_words, four_words, five_words, first_two, first_four, is_one_at_most, wanted, found, literal, is_letter_or_digit, begins_with_letter, is_name, is_digits, is_skipped, number_within, name_word, number_word, address_word, prefix_word, has_prefix, after_prefix, octets_behind, number_behind, is_colon, two_fields, pattern_word, data_word, life_word, options_read, options_word};
+ghost use Rattle.scenario.specs.Words.{one_word, two_words, three_words, four_words, five_words, first_two, first_four, is_one_at_most, wanted, found, literal, is_letter_or_digit, begins_with_letter, is_name, is_digits, is_skipped, number_within, name_word, number_word, address_word, prefix_word, has_prefix, after_prefix, octets_behind, number_behind, is_colon, two_fields, pattern_word, data_word, life_word, options_read, options_word, target_word, frame_word};
 ghost use Rattle.scenario.specs.Refusal.{Faults};
 ghost use Rattle.scenario.specs.declared.code.Code.TheVariants as bad;
 
@@ -13,7 +13,7 @@ use crate::event::Body;
 use crate::fault::LineFault;
 use clnp_base::{Octets, decimal, next_word};
 use clnp_options::OptionList;
-use nsap::{Address, Prefix, Snpa};
+use nsap::{Address, Prefix, Snpa, Target};
 use std::alloc::Global;
 
 /// The word of a line that has one word.
@@ -291,6 +291,32 @@ fn after_prefix<'a>(prefix: &[u8], word: &'a [u8]) -> Result<&'a [u8], Code>
     match word.strip_prefix(prefix) {
         Some(rest) => Ok(rest),
         None => Err(Code::Syntax),
+    }
+}
+
+/// All end systems, all intermediate systems, or one address on a subnetwork.
+pub(crate) fn target_word(word: &[u8]) -> Result<Target, Code>
+    ensures { result ≡ target_word word.now }
+{
+    if same(word, b"es") {
+        return Ok(Target::EndSystems);
+    }
+    if same(word, b"is") {
+        return Ok(Target::Routers);
+    }
+    let snpa = snpa_word(word)?;
+    Ok(Target::System(snpa))
+}
+
+/// The octets that an even number of hexadecimal digits spells.
+pub(crate) fn frame_word(alloc: Global, word: &[u8]) -> Result<Octets, LineFault>
+    ensures { let reading = frame_word word.now in
+        MatchResult result (λ octets. reading ≡ Ok octets) (λ fault. Faults fault reading) }
+{
+    match hex::decode(alloc, word) {
+        Ok(octets) => Ok(Octets::from_vec(octets)),
+        Err(hex::FromHexError::OutOfMemory) => Err(LineFault::NoMemory),
+        Err(_) => Err(LineFault::Broken(Code::Address)),
     }
 }
 

@@ -3,7 +3,7 @@ ghost use Rattle.std.specs.Prelude.{◌≡◌, ◌++◌, ◌≤◌, codes, lengt
 ghost use Rattle.std.specs.List.{flat_map};
 ghost use Rattle.std.specs.Fmt.{decimal};
 ghost use Rattle.nsap.specs.Text.{hex_text};
-ghost use Rattle.clnp_plan.specs.Journal.{behind_space, line_of, on_word};
+ghost use Rattle.clnp_plan.specs.Journal.{behind_space, line_of, on_word, target_word};
 ghost use Rattle.scenario.specs.Canonical as canonical;
 ghost use Rattle.scenario.specs.Canonical.{address_text, ask_words, belongings_text, event_text, limits_text, port_text, port_texts, route_text, subnet_text, system_text, text_of};
 ghost use Rattle.scenario.specs.Lines.{word_text};
@@ -14,7 +14,7 @@ use crate::plan::{Scenario, Subnet};
 use clnp_base::{NoMemory, push};
 use clnp_plan::{Ask, Limits, PortConfig, Role, SystemConfig};
 use forwarding::Route;
-use nsap::Address;
+use nsap::{Address, Target};
 use std::alloc::Global;
 
 /// Appends the text of a scenario, from which `read` reads it again: each line with all its words, in one order, and
@@ -40,7 +40,12 @@ fn push_scenario(scenario: &Scenario, out: &mut Vec<u8>) -> Result<(), NoMemory>
     push(b"clnp-sim 1\n", out)?;
     push_declarations(scenario, out)?;
     push(b"events\n", out)?;
-    push_events(scenario.systems(), scenario.events(), out)?;
+    push_events(
+        scenario.subnets(),
+        scenario.systems(),
+        scenario.events(),
+        out,
+    )?;
     push(b"end\n", out)
 }
 
@@ -218,25 +223,27 @@ fn push_route<'a>(name: &'a [u8], route: &'a Route, out: &mut Vec<u8>) -> Result
 }
 
 fn push_events(
+    subnets: &[Subnet],
     systems: &[SystemConfig],
     events: &[Event],
     out: &mut Vec<u8>,
 ) -> Result<(), NoMemory>
-    ensures { OnOk result (out.new.items ≡ out.old.items ++ flat_map (event_text systems.now) events.now) }
+    ensures { OnOk result (out.new.items ≡ out.old.items ++ flat_map (event_text subnets.now systems.now) events.now) }
 {
     for event in events {
-        push_event(systems, event, out)?;
+        push_event(subnets, systems, event, out)?;
     }
     Ok(())
 }
 
 /// Appends the line of an event.
 fn push_event<'a>(
+    subnets: &'a [Subnet],
     systems: &'a [SystemConfig],
     event: &'a Event,
     out: &mut Vec<u8>,
 ) -> Result<(), NoMemory>
-    ensures { OnOk result (out.new.items ≡ out.old.items ++ event_text systems.now event.now) }
+    ensures { OnOk result (out.new.items ≡ out.old.items ++ event_text subnets.now systems.now event.now) }
 {
     match event {
         Event::Send {
@@ -282,6 +289,20 @@ fn push_event<'a>(
                 &[name_word(systems, *system), on_word(*on)],
                 out,
             )
+        }
+        Event::Inject {
+            subnet,
+            from,
+            to,
+            octets,
+        } => {
+            let words = [
+                subnet_word(subnets, *subnet),
+                Word::Octets(b"", from.as_bytes()),
+                target_word(to),
+                Word::Octets(b"", octets.as_bytes()),
+            ];
+            push_line(b"inject", &words, out)
         }
     }
 }
@@ -357,6 +378,17 @@ fn subnet_word(subnets: &[Subnet], place: u8) -> Word<'_>
     match subnets.get(usize::from(place)) {
         Some(subnet) => Word::Text(subnet.name()),
         None => Word::Text(b""),
+    }
+}
+
+/// The word of where a frame goes: to one system, or to a group.
+fn target_word(target: &Target) -> Word<'_>
+    ensures { word_text result ≡ target_word target.now }
+{
+    match target {
+        Target::System(snpa) => Word::Octets(b"", snpa.as_bytes()),
+        Target::EndSystems => Word::Text(b"es"),
+        Target::Routers => Word::Text(b"is"),
     }
 }
 
