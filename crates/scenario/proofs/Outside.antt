@@ -1,5 +1,5 @@
 -- What an event line says of a frame from outside is formed as it should be.
-use Rattle.std.proofs.Common.{◌≡◌, ℕ, ◌*◌, ◌<◌, ◌==◌, Bool, true, false, nat_le, List, [], ◌∷◌, length, codes, Option, None, Some, Result, Ok, Err, IfOk, if◌then◌else◌, refl, sym, ap, ◌∙◌, arith}
+use Rattle.std.proofs.Common.{◌≡◌, ℕ, ◌<◌, ◌==◌, Bool, true, false, nat_le, List, [], ◌∷◌, length, codes, Option, None, Some, Result, Ok, Err, IfOk, if◌then◌else◌, refl, subst, arith}
 use Rattle.std.specs.List.{AllByRecursion}
 use Rattle.std.specs.Str.{bytes_eq}
 use Rattle.std.proofs.lemmas.Bool.{leb-true}
@@ -7,14 +7,11 @@ use Rattle.hex.specs.Hex.{IsBytes, decode_of}
 use Rattle.hex.specs.declared.error.FromHexError.{FromHexError}
 use Rattle.hex.proofs.HexLemmas.{decode_of-ok}
 use Rattle.nsap.specs.Address.{IsAddress}
-use Rattle.nsap.specs.declared.target.Target.{Target}
-use Rattle.nsap.specs.declared.target.Target.TheVariants.{System, EndSystems, Routers}
 use Rattle.clnp_base.specs.Text.{words_of, onto_first, ends_word}
 use Rattle.clnp_plan.specs.Configuration.{SystemConfiguration}
 use Rattle.scenario.specs.Scenario.{InjectsInForm, IsTarget}
 use Rattle.scenario.specs.Words.{declared_word, digits_read, address_word, data_word, number_word, one_word, two_words, four_words, first_four, each_once, frame_word, target_word}
 use Rattle.scenario.specs.Events.{wish_words, wish_key, host_word, router_word, on_word, send_line, deliver_line, count_line, tick_line, restart_line, echo_line, congest_line, inject_line, event_line}
-use Rattle.scenario.specs.declared.event.Event.{Event}
 use Rattle.scenario.specs.declared.event.Event.TheVariants.{Settle, Lose, Tick}
 use Rattle.scenario.proofs.Behind.{behind_result, behind_found, behind_wanted, behind_such, either_way, declared_is_within}
 use Rattle.scenario.proofs.Forms.{Laws, address_formed}
@@ -59,9 +56,13 @@ target_formed laws word =
     (either_way (bytes_eq word (codes "is")) _ _ IsTarget tt
     (behind_such (address_word word) _ IsAddress IsTarget (address_formed laws word) (λ snpa is. is)))
 
+abbrev FourthStands : Option (List ℕ × List ℕ × List ℕ × List ℕ) → Type 0
+FourthStands None = Unit {0}
+FourthStands (Some w) = Stands w.3
+
 -- the fourth of four words
 fourth_stands : (words : List (List ℕ)) → AllByRecursion Stands words → (w : List ℕ × List ℕ × List ℕ × List ℕ) → four_words words ≡ Some w → Stands w.3
-fourth_stands (a ∷ b ∷ c ∷ d ∷ []) h w e = cc (e, h.1.1.1.0)
+fourth_stands (a ∷ b ∷ c ∷ d ∷ []) h w e = subst FourthStands e h.1.1.1.0
 fourth_stands [] h w e = cc e
 fourth_stands (a ∷ []) h w e = cc e
 fourth_stands (a ∷ b ∷ []) h w e = cc e

@@ -1,5 +1,5 @@
 -- Worked examples of canonical texts, and each of them read again.
-use Rattle.std.proofs.Common.{◌≡◌, ℕ, true, false, List, [], ◌∷◌, ◌++◌, refl, Result, Ok, codes}
+use Rattle.std.proofs.Common.{◌≡◌, ℕ, true, false, List, [], ◌∷◌, refl, Ok, codes}
 use Rattle.std.specs.Fmt.{digits}
 use Rattle.hex.specs.Hex.{encode_with, decode_pairs}
 use Rattle.nsap.specs.Text.{octets_of}
@@ -14,7 +14,6 @@ use Rattle.scenario.specs.Grammar.{plan_of, plan_at, counted_event, events_from}
 use Rattle.scenario.specs.Scenario.{Plan}
 use Rattle.scenario.specs.Seeds.{two_networks}
 use Rattle.scenario.specs.declared.event.Body.TheVariants.{Hex, Pattern}
-use Rattle.scenario.specs.declared.event.Event.{Event}
 use Rattle.scenario.specs.declared.event.Event.TheVariants.{Send, Deliver, Settle, Lose, Tick, Restart, Echo, Congest}
 
 a_host : (name address snpa : List ℕ) → SystemConfiguration

@@ -18,4 +18,4 @@ invariant_of-result c =
     (plan_is c.args.text.now c.in_ok-number.number c.in_ok-number-2.number (lines_of c.in_ok-number.text.now) (lines_of c.in_ok-number-2.text.now)
     c.declarations.new.declared c.limits-limits.result c.into_parts-subnets.result.0.items c.in_ok-systems.systems.items c.in_ok-events.events.items
     c.in_ok-number.ensures.header (rw c.new-declared.ensures at c.in_ok-number-2.ensures.declarations)
-    c.limits-limits.ensures c.into_parts-subnets.ensures.subnets hosts (rw c.as_slice.ensures.value at c.in_ok-events.ensures))
+    c.limits-limits.ensures c.into_parts-subnets.ensures.subnets hosts (rw (c.as_slice.ensures.value, c.as_slice-2.ensures.value) at c.in_ok-events.ensures))

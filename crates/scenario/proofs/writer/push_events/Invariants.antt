@@ -5,4 +5,4 @@ use Rattle.scenario.proofs.writer.push_events.Given as goal
 
 abbrev pub invariant-loop-event : goal.invariant-loop-event
 invariant-loop-event l =
-    l.out.items ≡ l.fn.out.items ++ flat_map (event_text l.systems) (take l.event-index l.events)
+    l.out.items ≡ l.fn.out.items ++ flat_map (event_text l.subnets l.systems) (take l.event-index l.events)
