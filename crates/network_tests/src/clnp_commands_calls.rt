@@ -16,30 +16,8 @@ port b 0 lan 02
 events
 ";
 
-/// One unit from the first to the second.
-const EVENTS: &str = "\
-send a 47002702 47002701 hex:6869 life=10 whole
-settle 1
-end
-";
-
-/// Its journal, of 132 octets.
-const JOURNAL: &[u8] = b"\
-0 a sent dt 1 - 47002702 47002701 2
-0 a tx 1 0 es 8113010a3c0015ce58044700270104470027026869
-0 b got 47002702 47002701 6869
-end 0 1
-";
-
 /// Two vectors, and the verdicts on them.
 const VECTORS: &[u8] = b"81 => refused G1 06 00 silent\n00 => alien\n";
-
-/// The text of the two hosts and of the unit.
-fn scenario(alloc: Global) -> Result<String, Fail> {
-    let mut text = String::from_str(alloc, HOSTS)?;
-    text.push_str(EVENTS)?;
-    Ok(text)
-}
 
 /// A list of one word.
 fn word(alloc: Global, word: &str) -> Result<Vec<String>, Fail> {
@@ -65,21 +43,58 @@ fn call(
     Ok((status, sink))
 }
 
+/// Two hosts with little room: a unit in five pieces, of which the third isn't kept and the others never get whole.
+const CROWDED: &str = "\
+clnp-sim 1
+subnet lan 512
+system a host hello=0
+system b host hello=0 budget=1010
+address a 47002702
+address b 47002701
+port a 0 lan 01
+port b 0 lan 02
+events
+send a 47002702 47002701 pat:2000:0 life=10
+deliver 1 b
+deliver 2 b
+deliver 3 b
+tick 10
+end
+";
+
+/// A simulation over objects in memory that move at most seven octets a call, and fail at given calls. Answers the
+/// status, and the sink as it is afterwards.
+fn simulate(
+    alloc: Global,
+    read_fails: &[u64],
+    write_fails: &[u64],
+) -> Result<(Status, MemSink), Fail> {
+    let words = word(alloc, "sim")?;
+    let text = Vec::from_slice(alloc, CROWDED.as_bytes())?;
+    let mut source = MemSource::new(text, 7, Vec::from_slice(alloc, read_fails)?);
+    let mut sink = MemSink::new(alloc, 65_536, 7, Vec::from_slice(alloc, write_fails)?)?;
+    let status = clnp_main(alloc, words.as_slice(), &mut source, &mut sink);
+    Ok((status, sink))
+}
+
 #[test]
 fn stops_where_the_sink_fails(rt: HostRuntime) -> Result<(), Fail> {
     let alloc = rt.alloc();
-    let text = scenario(alloc)?;
+    let (status, whole) = simulate(alloc, &[], &[])?;
+    assert_eq!(rt; status, Status::Done);
+    let mut number = 1u64;
     let mut front = 0usize;
-    for number in 1..20u64 {
-        let (status, sink) = call(alloc, "sim", text.as_str().as_bytes(), &[], &[number])?;
+    for _ in whole.as_bytes().chunks(7) {
+        let (status, sink) = simulate(alloc, &[], &[number])?;
         assert_eq!(rt; status, Status::WriteFault, "at call {number}");
         assert_eq!(rt; sink.as_bytes().len(), front, "at call {number}");
-        assert!(rt; JOURNAL.starts_with(sink.as_bytes()));
+        assert!(rt; whole.as_bytes().starts_with(sink.as_bytes()));
+        number = number.saturating_add(1);
         front = front.saturating_add(7);
     }
-    let (status, sink) = call(alloc, "sim", text.as_str().as_bytes(), &[], &[20])?;
+    assert!(rt; number > 1000);
+    let (status, _) = simulate(alloc, &[], &[number])?;
     assert_eq!(rt; status, Status::Done);
-    assert_eq!(rt; sink.as_bytes(), JOURNAL);
     for (command, text) in [("show", b"81\n".as_slice()), ("check", VECTORS)] {
         let (status, sink) = call(alloc, command, text, &[], &[1])?;
         assert_eq!(rt; status, Status::WriteFault, "at {command}");
@@ -91,13 +106,18 @@ fn stops_where_the_sink_fails(rt: HostRuntime) -> Result<(), Fail> {
 #[test]
 fn stops_where_the_source_fails(rt: HostRuntime) -> Result<(), Fail> {
     let alloc = rt.alloc();
-    // The vectors have 42 octets, so six calls give some and one more tells the end.
-    for number in 1..8u64 {
-        let (status, sink) = call(alloc, "check", VECTORS, &[number], &[])?;
+    let mut number = 1u64;
+    // Each call but the last gives some octets, and the last tells the end.
+    for _ in CROWDED.as_bytes().chunks(7) {
+        let (status, sink) = simulate(alloc, &[number], &[])?;
         assert_eq!(rt; status, Status::ReadFault, "at call {number}");
         assert!(rt; sink.as_bytes().is_empty());
+        number = number.saturating_add(1);
     }
-    let (status, _) = call(alloc, "check", VECTORS, &[8], &[])?;
+    let (status, _) = simulate(alloc, &[number], &[])?;
+    assert_eq!(rt; status, Status::ReadFault);
+    number = number.saturating_add(1);
+    let (status, _) = simulate(alloc, &[number], &[])?;
     assert_eq!(rt; status, Status::Done);
     Ok(())
 }

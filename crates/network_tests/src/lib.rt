@@ -10,5 +10,3 @@ mod clnp_program_calls;
 mod clnp_world_calls;
 #[cfg(test)]
 mod local_entity_calls;
-#[cfg(test)]
-mod system_calls;
