@@ -6,7 +6,8 @@ use Rattle.fletcher.specs.Checksum.{sealed, checksum_x, checksum_y}
 use Rattle.clnp_options.specs.Parameter.{spelled, parameters_after}
 use Rattle.clnp_options.specs.Edits.{edited, target_of, value_of}
 use Rattle.clnp_options.specs.Grammar.{joined}
-use Rattle.pdu_header.specs.Rules.{extent_refusal}
+use Rattle.clnp_options.specs.Rules.{refusal as options_refusal, form_refusal, list_refusal, place_of, place_of_repeat}
+use Rattle.pdu_header.specs.Rules.{extent_refusal, fixed_part_refusal, addresses_refusal, lengths_refusal, header_refusal, refusal}
 use Rattle.esis_pdus.specs.Timer.{seconds_of}
 use Rattle.forwarding.specs.declared.route.Route.{Route}
 use Rattle.clnp_plan.specs.Configuration.{SystemConfiguration}
@@ -16,10 +17,11 @@ use Rattle.clnp_plan.specs.declared.config.Settings.{Settings}
 use Rattle.scenario.specs.Scenario.{Plan}
 use Rattle.scenario.specs.declared.event.Event.{Event}
 use Rattle.scenario.specs.declared.event.Body.TheVariants.{Hex}
-use Rattle.scenario.specs.declared.event.Event.TheVariants.{Send, Settle, Tick}
+use Rattle.scenario.specs.declared.event.Event.TheVariants.{Send, Settle, Tick, Inject}
 use Rattle.scenario.specs.Grammar.{BadLine, plan_of, plan_at, events_from, counted_event}
 use Rattle.scenario.specs.Declarations.{limits_line, subnet_line, room_word, setting_word, system_line, address_line, port_line, declaration_line}
-use Rattle.scenario.specs.Events.{wish_word, send_line, deliver_line, tick_line, restart_line, echo_line, count_line, event_line}
+use Rattle.scenario.specs.Events.{wish_word, send_line, deliver_line, tick_line, restart_line, echo_line, count_line, inject_line, event_line}
+use Rattle.nsap.specs.declared.target.Target.TheVariants.{System}
 use Rattle.nsap.specs.Prefix.{digits_of}
 use Rattle.nsap.specs.Text.{octets_of}
 use Rattle.std.specs.Fmt.{digits}
@@ -39,6 +41,9 @@ restart = codes "clnp-sim 1\nlimits 4 2 6\nsubnet lan 1500\nsystem a host hello=
 
 abbrev echo : List ℕ
 echo = codes "clnp-sim 1\nsubnet lan 1500\nsystem a host hello=0\nsystem b host hello=0\naddress a 47002702\naddress b 47002701\nport a 0 lan 01\nport b 0 lan 02\nevents\necho a 47002702 47002701 hex:6869\nsettle 2\ndeliver 2 a\nend\n"
+
+abbrev alien : List ℕ
+alien = codes "clnp-sim 1\nsubnet lan 1500\nsystem a host hello=0\nsystem b host hello=0\naddress a 47002702\naddress b 47002701\nport a 0 lan 01\nport b 0 lan 02\nevents\ninject lan 03 02 00\nsettle 1\nend\n"
 
 abbrev written : Result Plan BadLine → List ℕ
 written (Ok plan) = journal plan
@@ -64,6 +69,11 @@ journal-restart = refl
 journal-echo : written (plan_of echo) ≡ codes "0 a sent erq 1 - 47002702 47002701 2\n0 a tx 1 0 es 811301403e0015b737044700270104470027026869\n0 b sent erp 1 - 47002701 47002702 2\n0 b tx 2 0 es 811301401f00152fde044700270204470027016869\n0 a echoed 47002701 47002702 1\n0 a stray 47002701 47002702\nend 0 2\n"
 unfolding parameters_after encode_with decode_pairs sealed checksum_x checksum_y spelled octets_of digits plan_at events_from counted_event limits_line subnet_line room_word setting_word system_line address_line port_line declaration_line wish_word send_line deliver_line tick_line restart_line echo_line count_line event_line
 journal-echo = refl
+
+-- a frame of no protocol
+journal-alien : written (plan_of alien) ≡ codes "0 - inject 1 lan 03 02\n0 b alien\nend 0 1\n"
+unfolding parameters_after encode_with decode_pairs octets_of digits plan_at events_from counted_event limits_line subnet_line room_word setting_word system_line address_line port_line declaration_line wish_word send_line deliver_line tick_line restart_line count_line inject_line event_line
+journal-alien = refl
 
 -- Two hosts and a router that say hello.
 
@@ -160,3 +170,19 @@ journal-across_a_router = refl
 journal-reported : journal (sent_across (0x47 ∷ 0 ∷ 0x27 ∷ 3 ∷ [])) ≡ codes "1 r tx 1 0 es 820e0100040078b1cd04470027ff\n1 r tx 2 1 es 820e0100040078b1cd04470027ff\n1 a hear is 470027ff new\n1 b hear is 470027ff new\n1 a sent dt 1 - 47002702 47002703 2\n1 a tx 3 0 0a 8113010a3c0015d84c044700270304470027026869\n1 r drop 81 00\n1 r sent er 1 - 470027ff 47002702 19\n1 r tx 4 0 01 8117014001002a5678044700270204470027ffc10281008113010a3c0015d84c04470027030447002702\n1 a report 470027ff 47002702 81 00 8113010a3c0015d84c04470027030447002702\nend 1 4\n"
 unfolding extent_refusal target_of value_of edited parameters_after encode_with sealed checksum_x checksum_y spelled joined digits seconds_of
 journal-reported = refl
+
+abbrev from_outside : List ℕ → Plan
+from_outside octets = record {
+  limits = record { age = 256; hold = 60; reuse = 320 };
+  subnets = record { name = codes "lan"; mtu = 1500 } ∷ [];
+  systems = a_host (codes "a") of_a (on_lan (1 ∷ [])) silent ∷ a_host (codes "b") of_b (on_lan (2 ∷ [])) silent ∷ [];
+  events = Inject 0 (3 ∷ []) (System (2 ∷ [])) octets ∷ Settle 1 ∷ [];
+}
+
+abbrev pdu : List ℕ
+pdu = 0x81 ∷ 0x13 ∷ 1 ∷ 10 ∷ 0x3c ∷ 0 ∷ 0x15 ∷ 0xce ∷ 0x58 ∷ 4 ∷ 0x47 ∷ 0 ∷ 0x27 ∷ 1 ∷ 4 ∷ 0x47 ∷ 0 ∷ 0x27 ∷ 2 ∷ 0x68 ∷ 0x69 ∷ []
+
+-- a PDU that no system of the scenario sent
+journal-from_outside : journal (from_outside pdu) ≡ codes "0 - inject 1 lan 03 02\n0 b got 47002702 47002701 6869\nend 0 1\n"
+unfolding refusal extent_refusal header_refusal fixed_part_refusal addresses_refusal lengths_refusal options_refusal form_refusal list_refusal place_of place_of_repeat parameters_after encode_with digits spelled sealed
+journal-from_outside = refl

@@ -1,7 +1,7 @@
 -- Whatever the moves: packets meet the bound on hops and lifetime, and systems keep their budgets.
 use Rattle.clnp_base.proofs.Lists.{AllByRecursion-any, AllByRecursion-append, AllByRecursion-implies, AllByRecursion-slice_get}
-use Rattle.std.proofs.Common.{◌≡◌, ◌≤◌, ◌+◌, ℕ, zero, suc, inl, inr, List, [], ◌∷◌, arith}
-use Rattle.std.specs.Prelude.{slice_get, slice_set, Option, None, Some}
+use Rattle.std.proofs.Common.{◌≡◌, ◌≤◌, ◌+◌, ℕ, zero, suc, inl, inr, Bool, true, false, List, [], ◌∷◌, length, arith}
+use Rattle.std.specs.Prelude.{if◌then◌else◌, is_none, slice_get, slice_set, Option, None, Some}
 use Rattle.std.specs.List.{AllByRecursion}
 use Rattle.nsap.specs.declared.target.Target.{Target}
 use Rattle.clnp_plan.specs.Configuration.{SystemConfiguration}
@@ -9,18 +9,21 @@ use Rattle.clnp_plan.specs.declared.config.Limits.{Limits}
 use Rattle.clnp_plan.specs.declared.config.PortConfig.{PortConfig}
 use Rattle.scenario.specs.Scenario.{Plan}
 use Rattle.scenario.specs.declared.event.Move.{Move}
+use Rattle.pdu_header.specs.Reading.{rest_of}
+use Rattle.esis_pdus.specs.Reading as esis_reading
+use Rattle.esis_pdus.specs.Rules.{why_refused}
 use Rattle.clnp_machine.specs.Unit as unit
 use Rattle.clnp_machine.specs.Unit.{Maker, DeclaredAt, Packet}
-use Rattle.clnp_machine.specs.Content.{Content, Labelled, Esis}
+use Rattle.clnp_machine.specs.Content.{Content, Labelled, Esis, Unlabelled, esis_value_in, is_accepted, packet_from_outside, value_in}
 use Rattle.clnp_machine.specs.System.{SystemState, Input, FrameComes, Output, Transmits, SendsEsis, Notes, Effect}
 use Rattle.clnp_machine.specs.Step.{step}
 use Rattle.clnp_machine.specs.Steps.{GoesOnOf, IsWithinBudget, SendsRangesOrGoesOn}
-use Rattle.clnp_network.specs.World.{World, Copy, copy_from, frame_to, sends_frame, put_out, takes_effect, with_effect, states_from, first_world}
+use Rattle.clnp_network.specs.World.{World, Copy, copy_from, copy_from_outside, frame_to, sends_frame, put_out, takes_effect, with_effect, states_from, first_world}
 use Rattle.clnp_network.specs.Run.{world_after}
 use Rattle.clnp_network.specs.Safe.{IsWithinBudgets, IsWithinLifetimes, MeetsLifetime}
 use Rattle.clnp_safety.specs.StepLaws.{StepLaws}
 use Rattle.clnp_safety.proofs.Lines.{AnyLine, any_line_is_fine}
-use Rattle.clnp_safety.proofs.Steps.{Keeps, keeps-put_all_out}
+use Rattle.clnp_safety.proofs.Steps.{Keeps, keeps-put_all_out, with_outside}
 use Rattle.clnp_safety.proofs.EveryMove.{AnyInput, any_events, asked_by_all, keeps-moves}
 use Rattle.clnp_safety.proofs.Units.{lives_within}
 
@@ -79,10 +82,24 @@ step_meets laws w place s input there comes k =
     (put_out_meets s input comes effect.units effect.after) effect.outputs (laws.steps.ranges s input))
     (with_effect w place effect) k
 
+-- a packet from outside was not forwarded yet
+content_meets : (number moment : ℕ) (octets : List ℕ) (accepted unrefused : Bool)
+    → MeetsLifetime (if accepted then Labelled (packet_from_outside number moment (value_in octets)) (rest_of octets)
+    else if unrefused then Esis (esis_value_in octets) (esis_reading.rest_of octets) else Unlabelled octets)
+content_meets number moment octets true unrefused = omega arith
+content_meets number moment octets false true = tt
+content_meets number moment octets false false = tt
+
+outside_meets : (w : World) (subnet : ℕ) (sender : List ℕ) (target : Target) (octets : List ℕ) → IsWithinLifetimes w
+    → IsWithinLifetimes (with_outside w subnet sender target octets)
+outside_meets w subnet sender target octets k =
+    AllByRecursion-append Bounded w.copies (copy_from_outside (length w.copies + 1) w.clock subnet sender target octets ∷ []) k
+    (content_meets (length w.copies + 1) w.clock octets (is_accepted octets) (is_none (why_refused octets)), tt)
+
 pub lifetimes_hold : StepLaws → (plan : Plan) (moves : List Move) → IsWithinLifetimes (world_after plan (first_world plan) moves)
 lifetimes_hold laws plan moves =
     keeps-moves ComesWithin IsWithinLifetimes AnyLine
-    (record { steps = step_meets laws; frames = frame_comes_within; moments = λ now. tt; restarts = tt; congestion = λ on. tt; cursor = λ w next k. k; clock = λ w now k. k; fine = any_line_is_fine })
+    (record { steps = step_meets laws; frames = frame_comes_within; moments = λ now. tt; restarts = tt; congestion = λ on. tt; cursor = λ w next k. k; clock = λ w now k. k; outside = outside_meets; injected = λ now copy subnet sender target. tt; fine = any_line_is_fine })
     plan (asked_by_all ComesWithin (λ from to octets ask. tt) (λ from to octets. tt) plan.events) moves (first_world plan) tt
 
 -- Budgets.
@@ -115,6 +132,6 @@ opened_within limits place (system ∷ systems) = (omega arith, opened_within li
 pub budgets_hold : StepLaws → (plan : Plan) (moves : List Move) → IsWithinBudgets (world_after plan (first_world plan) moves)
 budgets_hold laws plan moves =
     keeps-moves AnyInput IsWithinBudgets AnyLine
-    (record { steps = step_within laws; frames = λ w at copy e k s. tt; moments = λ now. tt; restarts = tt; congestion = λ on. tt; cursor = λ w next k. k; clock = λ w now k. k; fine = any_line_is_fine })
+    (record { steps = step_within laws; frames = λ w at copy e k s. tt; moments = λ now. tt; restarts = tt; congestion = λ on. tt; cursor = λ w next k. k; clock = λ w now k. k; outside = λ w subnet sender target octets k. k; injected = λ now copy subnet sender target. tt; fine = any_line_is_fine })
     plan (any_events plan.events) moves (first_world plan)
     (opened_within plan.limits 0 plan.systems)

@@ -3,19 +3,20 @@ use Rattle.clnp_base.proofs.Lists.{AllByRecursion-any, AllByRecursion-slice_get}
 use Rattle.std.proofs.Common.{◌≡◌, ℕ, refl, List, [], ◌∷◌, ◌+◌, length, ◌-◌, Bool}
 use Rattle.std.specs.Prelude.{slice_get, Option, None, Some}
 use Rattle.std.specs.List.{AllByRecursion, range_with_len}
+use Rattle.nsap.specs.declared.target.Target.{Target}
 use Rattle.clnp_plan.specs.Journal.{Line}
 use Rattle.clnp_plan.specs.declared.ask.Ask.{Ask}
 use Rattle.clnp_plan.specs.declared.config.Limits.{Limits}
-use Rattle.scenario.specs.Scenario.{Plan, octets_of}
+use Rattle.scenario.specs.Scenario.{Plan, Subnetwork, octets_of}
 use Rattle.scenario.specs.declared.event.Event.{Event}
-use Rattle.scenario.specs.declared.event.Event.TheVariants.{Send, Echo, Deliver, Settle, Lose, Tick, Restart, Congest}
+use Rattle.scenario.specs.declared.event.Event.TheVariants.{Send, Echo, Deliver, Settle, Lose, Tick, Restart, Congest, Inject}
 use Rattle.scenario.specs.declared.event.Move.{Move}
 use Rattle.scenario.specs.declared.event.Move.TheVariants.{One, SettleOne, LoseOne, TickOne}
 use Rattle.clnp_machine.specs.System.{SystemState, Input, AsksToSend, AsksForEcho, MomentComes, IsRestarted, IsCongested}
 use Rattle.clnp_machine.specs.Step.{step}
 use Rattle.clnp_network.specs.World.{World, Copy, takes_effect, comes, frame_to, addressees_from, settle_copy, lose_copy, tick_each, event_happens, after}
 use Rattle.clnp_network.specs.Run.{Entry, entries_of, world_after}
-use Rattle.clnp_safety.proofs.Steps.{Keeps, NotGivenIsFine, keeps-nothing, keeps-followed_by, keeps-comes_to, keeps-asks, keeps-give_each, keeps-deliver}
+use Rattle.clnp_safety.proofs.Steps.{InjectedIsFine, Keeps, NotGivenIsFine, keeps-nothing, keeps-followed_by, keeps-comes_to, keeps-asks, keeps-give_each, keeps-deliver, keeps-injects, with_outside}
 
 -- what an event asks of a system is such as Comes says
 abbrev pub GivesOnly : (Input → Type 0) → Event → Type 0
@@ -42,7 +43,8 @@ pub any_events : (events : List Event) → AllByRecursion (GivesOnly AnyInput) e
 any_events events = asked_by_all AnyInput (λ from to octets ask. tt) (λ from to octets. tt) events
 
 -- K holds of the world after each step of a system of one of which it holds, and Q of the lines, where what comes is such
--- as Comes says, as all is that asks nothing where K holds; K doesn't go by clock and cursor
+-- as Comes says, as all is that asks nothing where K holds; K doesn't go by clock and cursor, and a
+-- frame from outside keeps it
 pub record EachStepKeeps (Comes : Input → Type 0) (K : World → Type 0) (Q : Line → Type 0) : Type 0 where
   pub steps : (w : World) (place : ℕ) (s : SystemState) (input : Input) → slice_get w.systems place ≡ Some s → Comes input → K w
       → Keeps K Q (takes_effect w place (step s input))
@@ -52,6 +54,8 @@ pub record EachStepKeeps (Comes : Input → Type 0) (K : World → Type 0) (Q : 
   pub congestion : (on : Bool) → Comes (IsCongested on)
   pub cursor : (w : World) (next : ℕ) → K w → K (record w { cursor = next })
   pub clock : (w : World) (now : ℕ) → K w → K (record w { clock = now })
+  pub outside : (w : World) (subnet : ℕ) (sender : List ℕ) (target : Target) (octets : List ℕ) → K w → K (with_outside w subnet sender target octets)
+  pub injected : InjectedIsFine Q
   pub fine : NotGivenIsFine Q
 
 module _ (Comes : Input → Type 0) (K : World → Type 0) (Q : Line → Type 0) (each : EachStepKeeps Comes K Q) where
@@ -64,22 +68,24 @@ module _ (Comes : Input → Type 0) (K : World → Type 0) (Q : Line → Type 0)
       keeps-followed_by K Q K (comes w place (MomentComes w.clock)) (λ v. tick_each v places)
       (keeps-comes w place (MomentComes w.clock) (each.moments w.clock) k) (keeps-tick_each places)
 
-  keeps-event : (limits : Limits) (w : World) (asked : Option Event) → ((event : Event) → asked ≡ Some event → GivesOnly Comes event) → K w
-      → Keeps K Q (event_happens limits w asked)
-  keeps-event limits w (Some (Deliver number system)) may k =
+  keeps-event : (subnets : List Subnetwork) (limits : Limits) (w : World) (asked : Option Event) → ((event : Event) → asked ≡ Some event → GivesOnly Comes event) → K w
+      → Keeps K Q (event_happens subnets limits w asked)
+  keeps-event subnets limits w (Some (Deliver number system)) may k =
       keeps-deliver K Q each.fine limits w number system k
       (λ copy e s there soon. each.steps w system s (frame_to s copy) there (each.frames w (number - 1) copy e k s) k)
-  keeps-event limits w (Some (Restart system)) may k = keeps-comes w system IsRestarted each.restarts k
-  keeps-event limits w (Some (Congest system on)) may k = keeps-comes w system (IsCongested on) (each.congestion on) k
-  keeps-event limits w (Some (Send system from to body ask)) may k =
+  keeps-event subnets limits w (Some (Restart system)) may k = keeps-comes w system IsRestarted each.restarts k
+  keeps-event subnets limits w (Some (Congest system on)) may k = keeps-comes w system (IsCongested on) (each.congestion on) k
+  keeps-event subnets limits w (Some (Send system from to body ask)) may k =
       keeps-asks K Q w system (AsksToSend from to (octets_of body) ask) k
       (keeps-comes w system (AsksToSend from to (octets_of body) ask) (may (Send system from to body ask) refl) k)
-  keeps-event limits w (Some (Echo system from to body)) may k =
+  keeps-event subnets limits w (Some (Echo system from to body)) may k =
       keeps-comes w system (AsksForEcho from to (octets_of body)) (may (Echo system from to body) refl) k
-  keeps-event limits w (Some (Settle count)) may k = keeps-nothing K Q w k
-  keeps-event limits w (Some (Lose count)) may k = keeps-nothing K Q w k
-  keeps-event limits w (Some (Tick count)) may k = keeps-nothing K Q w k
-  keeps-event limits w None may k = keeps-nothing K Q w k
+  keeps-event subnets limits w (Some (Inject subnet from to octets)) may k =
+      keeps-injects K Q w subnet from to octets k (each.outside w subnet from to octets k) each.injected subnets
+  keeps-event subnets limits w (Some (Settle count)) may k = keeps-nothing K Q w k
+  keeps-event subnets limits w (Some (Lose count)) may k = keeps-nothing K Q w k
+  keeps-event subnets limits w (Some (Tick count)) may k = keeps-nothing K Q w k
+  keeps-event subnets limits w None may k = keeps-nothing K Q w k
 
   keeps-settle : (limits : Limits) (w : World) (found : Option Copy) → slice_get w.copies w.cursor ≡ found → K w → Keeps K Q (settle_copy limits w found)
   keeps-settle limits w None e k = keeps-nothing K Q w k
@@ -95,7 +101,7 @@ module _ (Comes : Input → Type 0) (K : World → Type 0) (Q : Line → Type 0)
   module _ (plan : Plan) (may : AllByRecursion (GivesOnly Comes) plan.events) where
     pub keeps-move : (w : World) (move : Move) → K w → Keeps K Q (after plan w move)
     keeps-move w (One place) k =
-        keeps-event plan.limits w (slice_get plan.events place) (λ event there. AllByRecursion-slice_get (GivesOnly Comes) plan.events place event there may) k
+        keeps-event plan.subnets plan.limits w (slice_get plan.events place) (λ event there. AllByRecursion-slice_get (GivesOnly Comes) plan.events place event there may) k
     keeps-move w SettleOne k = keeps-settle plan.limits w (slice_get w.copies w.cursor) refl k
     keeps-move w LoseOne k = keeps-lose w (slice_get w.copies w.cursor) k
     keeps-move w TickOne k = keeps-tick_each (range_with_len 0 (length w.systems)) (record w { clock = w.clock + 1 }) (each.clock w (w.clock + 1) k)

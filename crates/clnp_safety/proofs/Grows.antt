@@ -7,20 +7,20 @@ use Rattle.std.proofs.lemmas.Option.{slice_get_within}
 use Rattle.std.proofs.lemmas.List.{append-nil}
 use Rattle.nsap.specs.declared.target.Target.{Target}
 use Rattle.clnp_plan.specs.declared.config.Limits.{Limits}
-use Rattle.scenario.specs.Scenario.{Plan, octets_of}
+use Rattle.scenario.specs.Scenario.{Plan, Subnetwork, octets_of}
 use Rattle.scenario.specs.declared.event.Event.{Event}
-use Rattle.scenario.specs.declared.event.Event.TheVariants.{Send, Echo, Deliver, Settle, Lose, Tick, Restart, Congest}
+use Rattle.scenario.specs.declared.event.Event.TheVariants.{Send, Echo, Deliver, Settle, Lose, Tick, Restart, Congest, Inject}
 use Rattle.scenario.specs.declared.event.Move.{Move}
 use Rattle.scenario.specs.declared.event.Move.TheVariants.{One, SettleOne, LoseOne, TickOne}
 use Rattle.clnp_machine.specs.Unit.{Maker, DeclaredAt}
 use Rattle.clnp_machine.specs.Content.{Content, Labelled, Esis}
 use Rattle.clnp_machine.specs.System.{SystemState, Input, AsksToSend, AsksForEcho, MomentComes, IsRestarted, IsCongested, Output, Transmits, SendsEsis, Notes, Effect}
 use Rattle.clnp_machine.specs.Step.{step}
-use Rattle.clnp_network.specs.World.{World, Copy, copy_from, sends_frame, put_out, with_effect, takes_effect, comes, asks, frame_to, addressees_from, settle_copy, deliver, lose_copy, tick_each, tick_one, event_happens, after, first_world}
+use Rattle.clnp_network.specs.World.{World, Copy, copy_from, copy_from_outside, sends_frame, put_out, with_effect, takes_effect, comes, asks, frame_to, addressees_from, settle_copy, deliver, lose_copy, tick_each, tick_one, injects, event_happens, after, first_world}
 use Rattle.clnp_network.specs.Run.{world_after}
 use Rattle.clnp_safety.specs.Growth.{IsFront, IsWithinCopies}
 use Rattle.clnp_safety.proofs.Lines.{AnyLine, any_line_is_fine}
-use Rattle.clnp_safety.proofs.Steps.{Keeps, keeps-nothing, keeps-followed_by, keeps-put_all_out, keeps-comes_to, keeps-asks, keeps-give_each, keeps-deliver}
+use Rattle.clnp_safety.proofs.Steps.{Keeps, keeps-nothing, keeps-followed_by, keeps-put_all_out, keeps-comes_to, keeps-asks, keeps-give_each, keeps-deliver, keeps-injects}
 
 -- a world with more copies behind these, and this cursor
 record Grown (copies : List Copy) (cursor : ℕ) (w : World) : Type 0 where
@@ -90,22 +90,27 @@ nothing_grows w = grows_to w w w.cursor (λ k. k) (stays w)
 does_grow : (w : World) (place : ℕ) (input : Input) → GrowsFrom w (comes w place input).world
 does_grow w place input = grows_to w (comes w place input).world w.cursor (λ k. k) (comes_grows w.copies w.cursor w place input (stays w)).world
 
-event_grows : (limits : Limits) (w : World) (asked : Option Event) → GrowsFrom w (event_happens limits w asked).world
-event_grows limits w None = nothing_grows w
-event_grows limits w (Some (Settle count)) = nothing_grows w
-event_grows limits w (Some (Lose count)) = nothing_grows w
-event_grows limits w (Some (Tick count)) = nothing_grows w
-event_grows limits w (Some (Deliver number place)) =
+event_grows : (subnets : List Subnetwork) (limits : Limits) (w : World) (asked : Option Event) → GrowsFrom w (event_happens subnets limits w asked).world
+event_grows subnets limits w None = nothing_grows w
+event_grows subnets limits w (Some (Settle count)) = nothing_grows w
+event_grows subnets limits w (Some (Lose count)) = nothing_grows w
+event_grows subnets limits w (Some (Tick count)) = nothing_grows w
+event_grows subnets limits w (Some (Deliver number place)) =
     grows_to w (deliver limits w number place).world w.cursor (λ k. k)
     (keeps-deliver (Grown w.copies w.cursor) AnyLine any_line_is_fine limits w number place (stays w)
     (λ copy e s there soon. takes_effect_grows w.copies w.cursor w place (step s (frame_to s copy)) (stays w))).world
-event_grows limits w (Some (Restart system)) = does_grow w system IsRestarted
-event_grows limits w (Some (Congest system on)) = does_grow w system (IsCongested on)
-event_grows limits w (Some (Echo system from to body)) = does_grow w system (AsksForEcho from to (octets_of body))
-event_grows limits w (Some (Send system from to body ask)) =
+event_grows subnets limits w (Some (Restart system)) = does_grow w system IsRestarted
+event_grows subnets limits w (Some (Congest system on)) = does_grow w system (IsCongested on)
+event_grows subnets limits w (Some (Echo system from to body)) = does_grow w system (AsksForEcho from to (octets_of body))
+event_grows subnets limits w (Some (Send system from to body ask)) =
     let asked = AsksToSend from to (octets_of body) ask in
     grows_to w (asks w system asked).world w.cursor (λ k. k)
     (keeps-asks (Grown w.copies w.cursor) AnyLine w system asked (stays w) (comes_grows w.copies w.cursor w system asked (stays w))).world
+event_grows subnets limits w (Some (Inject subnet from to octets)) =
+    grows_to w (injects subnets w subnet from to octets).world w.cursor (λ k. k)
+    (keeps-injects (Grown w.copies w.cursor) AnyLine w subnet from to octets (stays w)
+    (record { front = (copy_from_outside (length w.copies + 1) w.clock subnet from to octets ∷ [], refl); at = refl })
+    (λ now copy name sender target. tt) subnets).world
 
 settle_copy_grows : (limits : Limits) (w : World) (found : Option Copy) → ((copy : Copy) → found ≡ Some copy → w.cursor + 1 ≤ length w.copies)
     → GrowsFrom w (settle_copy limits w found).world
@@ -124,7 +129,7 @@ lose_copy_grows w (Some copy) bound =
     (record { front = ([], sym (append-nil w.copies)); at = refl })
 
 move_grows : (plan : Plan) (w : World) (move : Move) → GrowsFrom w (after plan w move).world
-move_grows plan w (One place) = event_grows plan.limits w (slice_get plan.events place)
+move_grows plan w (One place) = event_grows plan.subnets plan.limits w (slice_get plan.events place)
 move_grows plan w SettleOne =
     settle_copy_grows plan.limits w (slice_get w.copies w.cursor)
     (λ copy e. let l = slice_get_within w.copies w.cursor copy e in omega arith)

@@ -72,7 +72,7 @@ module _ (laws : StepLaws) (systems : List SystemState) where
       (record { before = was.before; there = was.there; same = same ∙ was.same }))
 
   each_by_owner : EachStepKeeps AnyInput AreConfigured ByOwner
-  each_by_owner = record { steps = takes_effect_by_owner; frames = λ w at copy e k s. tt; moments = λ now. tt; restarts = tt; congestion = λ on. tt; cursor = λ w next k. k; clock = λ w now k. k; fine = fine }
+  each_by_owner = record { steps = takes_effect_by_owner; frames = λ w at copy e k s. tt; moments = λ now. tt; restarts = tt; congestion = λ on. tt; cursor = λ w next k. k; clock = λ w now k. k; outside = λ w subnet sender target octets k. k; injected = λ now copy subnet sender target. tt; fine = fine }
 
 unchanged : (laws : StepLaws) (w : World) → AreConfigured laws w.systems w
 unchanged laws w place s there = record { before = s; there = there; same = refl }

@@ -8,7 +8,7 @@ use Rattle.clnp_plan.specs.declared.config.Limits.{Limits}
 use Rattle.clnp_plan.specs.declared.config.Role.{Role}
 use Rattle.clnp_plan.specs.declared.config.Role.TheVariants.{Host, Router}
 use Rattle.clnp_plan.specs.declared.note.Note.TheVariants.{Refused}
-use Rattle.scenario.specs.Scenario.{Plan, octets_of}
+use Rattle.scenario.specs.Scenario.{Plan, Subnetwork, octets_of}
 use Rattle.scenario.specs.declared.event.Event.{Event}
 use Rattle.scenario.specs.declared.event.Event.TheVariants.{Send}
 use Rattle.scenario.specs.declared.event.Move.{Move}
@@ -56,13 +56,13 @@ asked_at_leaves : StepLaws → (w : World) (place : ℕ) (from to octets : List 
 asked_at_leaves laws w place from to octets ask None told = absurd (told tt)
 asked_at_leaves laws w place from to octets ask (Some s) told = asked_leaves laws s.configuration.role w place from to octets ask told
 
-event_leaves : StepLaws → (limits : Limits) (w : World) (asked : Option Event) (from to octets : List ℕ) → AsksFor asked from to octets
-    → ¬ (NoRefusal (event_happens limits w asked).lines) → LeavesNothing w (event_happens limits w asked)
-event_leaves laws limits w (Some (Send system source destination body ask)) from to octets h told =
+event_leaves : StepLaws → (subnets : List Subnetwork) (limits : Limits) (w : World) (asked : Option Event) (from to octets : List ℕ) → AsksFor asked from to octets
+    → ¬ (NoRefusal (event_happens subnets limits w asked).lines) → LeavesNothing w (event_happens subnets limits w asked)
+event_leaves laws subnets limits w (Some (Send system source destination body ask)) from to octets h told =
     asked_at_leaves laws w system source destination (octets_of body) ask (slice_get w.systems system) told
-event_leaves laws limits w _ from to octets h told = absurd h
+event_leaves laws subnets limits w _ from to octets h told = absurd h
 
 pub refused_send_leaves : StepLaws → (plan : Plan) (w : World) (move : Move) (from to octets : List ℕ) → IsSend plan move from to octets
     → ¬ (NoRefusal (after plan w move).lines) → LeavesNothing w (after plan w move)
-refused_send_leaves laws plan w (One place) from to octets h told = event_leaves laws plan.limits w (slice_get plan.events place) from to octets h told
+refused_send_leaves laws plan w (One place) from to octets h told = event_leaves laws plan.subnets plan.limits w (slice_get plan.events place) from to octets h told
 refused_send_leaves laws plan w _ from to octets h told = absurd h

@@ -4,9 +4,9 @@ use Rattle.std.proofs.Common.{◌≡◌, ℕ, List, [], ◌∷◌, ◌++◌, ◌
 use Rattle.std.specs.Prelude.{slice_get, Option, None, Some}
 use Rattle.std.specs.List.{AllByRecursion}
 use Rattle.clnp_plan.specs.Journal.{Line}
-use Rattle.scenario.specs.Scenario.{AsksFairly, AsksInForm, Plan, IsFit, octets_of}
+use Rattle.scenario.specs.Scenario.{AsksFairly, AsksInForm, InjectsNothing, Plan, IsClosed, IsFit, octets_of}
 use Rattle.scenario.specs.declared.event.Event.{Event}
-use Rattle.scenario.specs.declared.event.Event.TheVariants.{Send, Echo, Deliver, Settle, Lose, Tick, Restart, Congest}
+use Rattle.scenario.specs.declared.event.Event.TheVariants.{Send, Echo, Deliver, Settle, Lose, Tick, Restart, Congest, Inject}
 use Rattle.scenario.specs.declared.event.Move.{Move}
 use Rattle.scenario.specs.declared.event.Move.TheVariants.{One, SettleOne, LoseOne, TickOne}
 use Rattle.clnp_machine.specs.Unit as unit
@@ -30,11 +30,17 @@ use Rattle.clnp_safety.proofs.Ticks.{tick_one_is_sound}
 use Rattle.clnp_safety.proofs.Asked.{echo_is_asked, system_is_asked}
 use Rattle.clnp_safety.proofs.Opens.{first_world_is_sound}
 
-module _ (laws : StepLaws) (plan : Plan) (fit : IsFit plan) where
+-- what a fair event asks in a plan without frames from outside
+record IsOfFitPlan (event : Event) : Type 0 where
+  fair : AsksFairly event
+  formed : AsksInForm event
+  closed : InjectsNothing event
+
+module _ (laws : StepLaws) (plan : Plan) (fit : IsFit plan) (closed : IsClosed plan) where
   module _ (past : List Entry) (w : World) (h : WorldIsSound plan past w) where
-    event_is_sound : (move : Move) (asked : Option Event) → ((event : Event) → asked ≡ Some event → AsksFairly event × AsksInForm event)
+    event_is_sound : (move : Move) (asked : Option Event) → ((event : Event) → asked ≡ Some event → IsOfFitPlan event)
         → ((from to octets : List ℕ) → AsksFor asked from to octets → IsSend plan move from to octets)
-        → MoveIsSound plan past move w (event_happens plan.limits w asked)
+        → MoveIsSound plan past move w (event_happens plan.subnets plan.limits w asked)
     event_is_sound move None fair asks = nothing_is_sound plan past move w h
     event_is_sound move (Some (Settle count)) fair asks = nothing_is_sound plan past move w h
     event_is_sound move (Some (Lose count)) fair asks = nothing_is_sound plan past move w h
@@ -45,16 +51,18 @@ module _ (laws : StepLaws) (plan : Plan) (fit : IsFit plan) where
     event_is_sound move (Some (Congest system on)) fair asks = congested_is_sound laws plan fit past move w h system on
     event_is_sound move (Some (Send system from to body ask)) fair asks =
         let is = fair (Send system from to body ask) refl in
-        system_is_asked laws plan fit past move w h system from to (octets_of body) ask (is.1, is.0) (asks from to (octets_of body) (refl, refl, refl))
+        system_is_asked laws plan fit past move w h system from to (octets_of body) ask (is.formed, is.fair) (asks from to (octets_of body) (refl, refl, refl))
     event_is_sound move (Some (Echo system from to body)) fair asks =
-        let is = (fair (Echo system from to body) refl).1 in
+        let is = (fair (Echo system from to body) refl).formed in
         echo_is_asked laws plan fit past move w h system from to (octets_of body) (is.0, is.1) is.2
+    event_is_sound move (Some (Inject subnet from to octets)) fair asks = absurd (fair (Inject subnet from to octets) refl).closed
 
-    event_is_fair : (place : ℕ) (event : Event) → slice_get plan.events place ≡ Some event → AsksFairly event × AsksInForm event
-    event_is_fair place event there = (
-      AllByRecursion-slice_get AsksFairly plan.events place event there fit.asks,
-      AllByRecursion-slice_get AsksInForm plan.events place event there fit.formed,
-    )
+    event_is_fair : (place : ℕ) (event : Event) → slice_get plan.events place ≡ Some event → IsOfFitPlan event
+    event_is_fair place event there = record {
+      fair = AllByRecursion-slice_get AsksFairly plan.events place event there fit.asks;
+      formed = AllByRecursion-slice_get AsksInForm plan.events place event there fit.formed;
+      closed = AllByRecursion-slice_get InjectsNothing plan.events place event there closed;
+    }
 
     pub move_is_sound : (move : Move) → MoveIsSound plan past move w (after plan w move)
     move_is_sound (One place) = event_is_sound (One place) (slice_get plan.events place) (event_is_fair place) (λ from to octets asked. asked)
@@ -102,36 +110,36 @@ module _ (laws : StepLaws) (plan : Plan) (fit : IsFit plan) where
   moves_are_sound (move ∷ moves) past w h =
       moves_are_sound moves (with_entry past w h move) (after plan w move).world (move_is_sound past w h move).world
 
-pub each_was_sent : StepLaws → (plan : Plan) → IsFit plan → (moves : List Move) → EachWasSent plan [] (entries_of plan (first_world plan) moves)
-each_was_sent laws plan fit moves = moves_are_honest laws plan fit moves [] (first_world plan) (first_world_is_sound plan)
+pub each_was_sent : StepLaws → (plan : Plan) → IsFit plan → IsClosed plan → (moves : List Move) → EachWasSent plan [] (entries_of plan (first_world plan) moves)
+each_was_sent laws plan fit closed moves = moves_are_honest laws plan fit closed moves [] (first_world plan) (first_world_is_sound plan)
 
-pub run_is_honest : StepLaws → (plan : Plan) → IsFit plan → IsHonest plan (run plan)
-run_is_honest laws plan fit = each_was_sent laws plan fit (moves_made plan)
+pub run_is_honest : StepLaws → (plan : Plan) → IsFit plan → IsClosed plan → IsHonest plan (run plan)
+run_is_honest laws plan fit closed = each_was_sent laws plan fit closed (moves_made plan)
 
-pub each_is_founded : StepLaws → (plan : Plan) → IsFit plan → (moves : List Move) → EachIsFounded plan (first_world plan) [] moves
-each_is_founded laws plan fit moves = moves_are_founded laws plan fit moves [] (first_world plan) (first_world_is_sound plan)
+pub each_is_founded : StepLaws → (plan : Plan) → IsFit plan → IsClosed plan → (moves : List Move) → EachIsFounded plan (first_world plan) [] moves
+each_is_founded laws plan fit closed moves = moves_are_founded laws plan fit closed moves [] (first_world plan) (first_world_is_sound plan)
 
-pub none_interferes : StepLaws → (plan : Plan) → IsFit plan → (moves : List Move)
+pub none_interferes : StepLaws → (plan : Plan) → IsFit plan → IsClosed plan → (moves : List Move)
     → AllByRecursion (λ (entry : Entry). NoInterference entry.lines) (entries_of plan (first_world plan) moves)
-none_interferes laws plan fit moves =
-    moves_are laws plan fit NoInterference (λ past w lines is. lines_are_apart plan past w lines is) moves [] (first_world plan) (first_world_is_sound plan)
+none_interferes laws plan fit closed moves =
+    moves_are laws plan fit closed NoInterference (λ past w lines is. lines_are_apart plan past w lines is) moves [] (first_world plan) (first_world_is_sound plan)
 
-pub none_is_alien : StepLaws → (plan : Plan) → IsFit plan → (moves : List Move)
+pub none_is_alien : StepLaws → (plan : Plan) → IsFit plan → IsClosed plan → (moves : List Move)
     → AllByRecursion (λ (entry : Entry). NoneIsAlien entry.lines) (entries_of plan (first_world plan) moves)
-none_is_alien laws plan fit moves =
-    moves_are laws plan fit NoneIsAlien (λ past w lines is. lines_are_known plan past w lines is) moves [] (first_world plan) (first_world_is_sound plan)
+none_is_alien laws plan fit closed moves =
+    moves_are laws plan fit closed NoneIsAlien (λ past w lines is. lines_are_known plan past w lines is) moves [] (first_world plan) (first_world_is_sound plan)
 
-pub none_is_refused : StepLaws → (plan : Plan) → IsFit plan → (moves : List Move)
+pub none_is_refused : StepLaws → (plan : Plan) → IsFit plan → IsClosed plan → (moves : List Move)
     → AllByRecursion (λ (entry : Entry). AllByRecursion TellsNoRule entry.lines) (entries_of plan (first_world plan) moves)
-none_is_refused laws plan fit moves =
-    moves_are laws plan fit (AllByRecursion TellsNoRule) (λ past w lines is. lines_tell_no_rule plan past w lines is) moves [] (first_world plan)
+none_is_refused laws plan fit closed moves =
+    moves_are laws plan fit closed (AllByRecursion TellsNoRule) (λ past w lines is. lines_tell_no_rule plan past w lines is) moves [] (first_world plan)
     (first_world_is_sound plan)
 
 -- What is so of each world of a run.
 
-last_is_sound : StepLaws → (plan : Plan) → IsFit plan → (moves : List Move)
+last_is_sound : StepLaws → (plan : Plan) → IsFit plan → IsClosed plan → (moves : List Move)
     → (past : List Entry) × WorldIsSound plan past (world_after plan (first_world plan) moves)
-last_is_sound laws plan fit moves = moves_are_sound laws plan fit moves [] (first_world plan) (first_world_is_sound plan)
+last_is_sound laws plan fit closed moves = moves_are_sound laws plan fit closed moves [] (first_world plan) (first_world_is_sound plan)
 
 range_in : (units : List unit.Unit) (birth : ℕ) (content : Content) → Carries (IsRangeOf units) content → IsCarried content → IsBornWithUnit birth content
     → RangeIn units birth content
@@ -139,45 +147,45 @@ range_in units birth (Labelled packet following) carries carried born = (carries
 range_in units birth (Esis value following) carries carried born = (carried, carries)
 range_in units birth (Unlabelled octets) carries carried born = absurd carries
 
-pub ranges_are_carried : StepLaws → (plan : Plan) → IsFit plan → (moves : List Move) → CarriesRanges (world_after plan (first_world plan) moves)
-ranges_are_carried laws plan fit moves =
+pub ranges_are_carried : StepLaws → (plan : Plan) → IsFit plan → IsClosed plan → (moves : List Move) → CarriesRanges (world_after plan (first_world plan) moves)
+ranges_are_carried laws plan fit closed moves =
     let w = world_after plan (first_world plan) moves in
     AllByRecursion-implies (CopyIsSound w.units) (λ (copy : Copy). RangeIn w.units copy.birth copy.content)
-    (λ copy h. range_in w.units copy.birth copy.content h.carries h.carried h.birth) w.copies (last_is_sound laws plan fit moves).1.copies
+    (λ copy h. range_in w.units copy.birth copy.content h.carries h.carried h.birth) w.copies (last_is_sound laws plan fit closed moves).1.copies
 
 unbroken : StepLaws → (units : List unit.Unit) (content : Content) → Carries (IsRangeOf units) content → IsCarried content → IsUnbroken content
 unbroken laws units (Labelled packet following) carries carried = laws.frames packet following carried
 unbroken laws units (Esis value following) carries carried = (laws.esis_frames value following carried, carries)
 unbroken laws units (Unlabelled octets) carries carried = absurd carries
 
-pub frames_are_unbroken : StepLaws → (plan : Plan) → IsFit plan → (moves : List Move) → FramesAreUnbroken (world_after plan (first_world plan) moves)
-frames_are_unbroken laws plan fit moves =
+pub frames_are_unbroken : StepLaws → (plan : Plan) → IsFit plan → IsClosed plan → (moves : List Move) → FramesAreUnbroken (world_after plan (first_world plan) moves)
+frames_are_unbroken laws plan fit closed moves =
     let w = world_after plan (first_world plan) moves in
     AllByRecursion-implies (CopyIsSound w.units) (λ (copy : Copy). IsUnbroken copy.content)
-    (λ copy h. unbroken laws w.units copy.content h.carries h.carried) w.copies (last_is_sound laws plan fit moves).1.copies
+    (λ copy h. unbroken laws w.units copy.content h.carries h.carried) w.copies (last_is_sound laws plan fit closed moves).1.copies
 
 keeps_header : StepLaws → (units : List unit.Unit) (content : Content) → Carries (IsRangeOf units) content → KeepsHeader content
 keeps_header laws units (Labelled packet following) carries = laws.headers.header units packet carries.0
 keeps_header laws units (Esis value following) carries = tt
 keeps_header laws units (Unlabelled octets) carries = tt
 
-pub headers_are_kept : StepLaws → (plan : Plan) → IsFit plan → (moves : List Move) → KeepsHeaders (world_after plan (first_world plan) moves)
-headers_are_kept laws plan fit moves =
+pub headers_are_kept : StepLaws → (plan : Plan) → IsFit plan → IsClosed plan → (moves : List Move) → KeepsHeaders (world_after plan (first_world plan) moves)
+headers_are_kept laws plan fit closed moves =
     let w = world_after plan (first_world plan) moves in
     AllByRecursion-implies (CopyIsSound w.units) (λ (copy : Copy). KeepsHeader copy.content)
-    (λ copy h. keeps_header laws w.units copy.content h.carries) w.copies (last_is_sound laws plan fit moves).1.copies
+    (λ copy h. keeps_header laws w.units copy.content h.carries) w.copies (last_is_sound laws plan fit closed moves).1.copies
 
 one_unit : (plan : Plan) (units : List unit.Unit) (buffer : Buffer Packet) → BufferIsSound plan units buffer → HoldsOneUnit units buffer
 one_unit plan units buffer h =
     (h.unit, h.made, AllByRecursion-implies (IsOfUnit units h.unit) (λ (arrival : Arrival Packet). arrival.carried.unit ≡ h.unit) (λ arrival of. of.unit) buffer.kept h.kept)
 
-pub units_are_held_apart : StepLaws → (plan : Plan) → IsFit plan → (moves : List Move) → HoldsUnitsApart (world_after plan (first_world plan) moves)
-units_are_held_apart laws plan fit moves =
+pub units_are_held_apart : StepLaws → (plan : Plan) → IsFit plan → IsClosed plan → (moves : List Move) → HoldsUnitsApart (world_after plan (first_world plan) moves)
+units_are_held_apart laws plan fit closed moves =
     let w = world_after plan (first_world plan) moves in
-    let sound = (last_is_sound laws plan fit moves).1 in
+    let sound = (last_is_sound laws plan fit closed moves).1 in
     AllByRecursion-from_places (λ (system : SystemState). AllByRecursion (HoldsOneUnit w.units) system.buffers) w.systems
     (λ place s there.
     AllByRecursion-implies (BufferIsSound plan w.units) (HoldsOneUnit w.units) (one_unit plan w.units) s.buffers (sound.systems.each place s there).sound.buffers)
 
-pub identifiers_rest : StepLaws → (plan : Plan) → IsFit plan → (moves : List Move) → IdentifiersRest plan.limits.reuse (world_after plan (first_world plan) moves)
-identifiers_rest laws plan fit moves = (last_is_sound laws plan fit moves).1.made.rest
+pub identifiers_rest : StepLaws → (plan : Plan) → IsFit plan → IsClosed plan → (moves : List Move) → IdentifiersRest plan.limits.reuse (world_after plan (first_world plan) moves)
+identifiers_rest laws plan fit closed moves = (last_is_sound laws plan fit closed moves).1.made.rest

@@ -1,14 +1,16 @@
 -- What the parts of a step keep of the worlds, and what their lines are.
 use Rattle.clnp_base.proofs.Lists.{AllByRecursion-append}
-use Rattle.std.proofs.Common.{◌≡◌, ℕ, ◌-◌, List, [], ◌∷◌, refl, Bool, true, false}
+use Rattle.std.proofs.Common.{◌≡◌, ℕ, ◌+◌, ◌-◌, List, [], ◌∷◌, ◌++◌, length, refl, Bool, true, false}
 use Rattle.std.specs.Prelude.{if◌then◌else◌, Option, None, Some, slice_get}
-use Rattle.clnp_plan.specs.Journal.{Line, Void, Late}
+use Rattle.nsap.specs.declared.target.Target.{Target}
+use Rattle.clnp_plan.specs.Journal.{Line, Void, Late, Injected}
 use Rattle.clnp_plan.specs.declared.config.Limits.{Limits}
 use Rattle.clnp_plan.specs.declared.config.Role.{Role}
 use Rattle.clnp_plan.specs.declared.config.Role.TheVariants.{Host, Router}
+use Rattle.scenario.specs.Scenario.{Subnetwork}
 use Rattle.clnp_machine.specs.System.{SystemState, Input, Output}
 use Rattle.clnp_machine.specs.Step.{step}
-use Rattle.clnp_network.specs.World.{World, Copy, Numbered, Step, nothing, writes, followed_by, put_out, put_all_out, takes_effect, comes, comes_to, asks_role, asks_system, asks, frame_to, is_late, give_to, give, give_each, is_void, is_addressee, deliver_to, deliver_at, deliver}
+use Rattle.clnp_network.specs.World.{World, Copy, Numbered, Step, nothing, writes, followed_by, put_out, put_all_out, takes_effect, comes, comes_to, asks_role, asks_system, asks, frame_to, is_late, give_to, give, give_each, is_void, is_addressee, deliver_to, deliver_at, deliver, copy_from_outside, injects_on, injects}
 use Rattle.std.specs.List.{AllByRecursion}
 
 -- K holds of the world after a step, and Q of each of its lines
@@ -23,6 +25,15 @@ keeps-map K J Q taken f h = record { world = f taken.world h.world; lines = h.li
 pub record NotGivenIsFine (Q : Line → Type 0) : Type 0 where
   pub void : (now : ℕ) (name : List ℕ) (copy : ℕ) → Q (Void now name copy)
   pub late : (now : ℕ) (name : List ℕ) (copy : ℕ) → Q (Late now name copy)
+
+-- a world with one more copy, of octets from outside
+abbrev pub with_outside : World → (subnet : ℕ) (sender : List ℕ) → Target → (octets : List ℕ) → World
+with_outside w subnet sender target octets =
+    record w { copies = w.copies ++ copy_from_outside (length w.copies + 1) w.clock subnet sender target octets ∷ [] }
+
+-- the lines of frames from outside are fine
+abbrev pub InjectedIsFine : (Line → Type 0) → Type 0
+InjectedIsFine Q = (now copy : ℕ) (subnet sender : List ℕ) (target : Target) → Q (Injected now copy subnet sender target)
 
 module _ (K : World → Type 0) (Q : Line → Type 0) where
   pub keeps-nothing : (w : World) → K w → Keeps K Q (nothing w)
@@ -60,6 +71,15 @@ module _ (K : World → Type 0) (Q : Line → Type 0) where
 
   pub keeps-asks : (w : World) (place : ℕ) (asked : Input) → K w → Keeps K Q (comes w place asked) → Keeps K Q (asks w place asked)
   keeps-asks w place asked k h = keeps-asks_system w place asked (slice_get w.systems place) k h
+
+  module _ (w : World) (subnet : ℕ) (sender : List ℕ) (target : Target) (octets : List ℕ) (k : K w) (more : K (with_outside w subnet sender target octets))
+      (fine : InjectedIsFine Q) where
+    keeps-injects_on : (found : Option Subnetwork) → Keeps K Q (injects_on w subnet found sender target octets)
+    keeps-injects_on None = keeps-nothing w k
+    keeps-injects_on (Some declared) = record { world = more; lines = (fine w.clock (length w.copies + 1) declared.name sender target, tt) }
+
+    pub keeps-injects : (subnets : List Subnetwork) → Keeps K Q (injects subnets w subnet sender target octets)
+    keeps-injects subnets = keeps-injects_on (slice_get subnets subnet)
 
   module _ (fine : NotGivenIsFine Q) (limits : Limits) (given : Numbered) where
     -- the system takes in the copy that is given to it

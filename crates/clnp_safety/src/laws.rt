@@ -2,7 +2,7 @@
 ghost use Rattle.std.specs.Prelude.{◌≡◌, ℕ, List, [], None, Some};
 ghost use Rattle.std.specs.List.{AllByRecursion};
 ghost use Rattle.clnp_plan.specs.declared.config.Limits.{Limits};
-ghost use Rattle.scenario.specs.Scenario.{Plan, IsFit};
+ghost use Rattle.scenario.specs.Scenario.{Plan, IsClosed, IsFit};
 ghost use Rattle.scenario.specs.declared.event.Move.{Move};
 ghost use Rattle.clnp_network.specs.World.{World, after, first_world};
 ghost use Rattle.clnp_network.specs.Run.{Entry, entries_of, full_weight, run, text_of, until_full, world_after};
@@ -14,78 +14,85 @@ ghost use Rattle.clnp_safety.specs.StepLaws.{StepLaws};
 
 use clnp_machine::laws as machine;
 
-/// A run hands up only what it sent before: from the same source to the same destination, with the
-/// same octets, and not refused. So does each series of moves, in whatever order they come: copies that
-/// are lost, late, given twice or out of order, ticks and restarts change nothing of it.
+/// Without frames from outside a run hands up only what it sent before: from the same source to the
+/// same destination, with the same octets, and not refused. So does each series of moves, in whatever
+/// order they come: copies that are lost, late, given twice or out of order, ticks and restarts change
+/// nothing of it.
 pub fn handed_up_was_sent()
-    ensures run { (plan : Plan) → IsFit plan → IsHonest plan (run plan) }
-    ensures moves { (plan : Plan) → IsFit plan → (moves : List Move) → EachWasSent plan [] (entries_of plan (first_world plan) moves) }
+    ensures run { (plan : Plan) → IsFit plan → IsClosed plan → IsHonest plan (run plan) }
+    ensures moves { (plan : Plan) → IsFit plan → IsClosed plan → (moves : List Move) → EachWasSent plan [] (entries_of plan (first_world plan) moves) }
 {
     laws_of_steps();
 }
 
-/// No segment of a unit ever meets one of another unit in a reassembly buffer, since a data unit
-/// identifier rests until none of its unit can be on its way (ISO 8473, section 6.8).
+/// Without frames from outside no segment of a unit ever meets one of another unit in a reassembly
+/// buffer, since a data unit identifier rests until none of its unit can be on its way (ISO 8473,
+/// section 6.8).
 pub fn no_unit_meets_another()
-    ensures { (plan : Plan) → IsFit plan → (moves : List Move)
+    ensures { (plan : Plan) → IsFit plan → IsClosed plan → (moves : List Move)
         → AllByRecursion (λ (entry : Entry). NoInterference entry.lines) (entries_of plan (first_world plan) moves) }
 {
     laws_of_steps();
 }
 
-/// Each frame of a run carries a range of a unit that was made, however often it was cut, or an ES-IS
-/// value that a PDU can carry, and nothing behind its PDU.
+/// Without frames from outside each frame of a run carries a range of a unit that was made, however
+/// often it was cut, or an ES-IS value that a PDU can carry, and nothing behind its PDU.
 pub fn ranges_of_units_are_carried()
-    ensures { (plan : Plan) → IsFit plan → (moves : List Move) → CarriesRanges (world_after plan (first_world plan) moves) }
+    ensures { (plan : Plan) → IsFit plan → IsClosed plan → (moves : List Move) → CarriesRanges (world_after plan (first_world plan) moves) }
 {
     laws_of_steps();
 }
 
-/// Each frame of a run breaks no rule of its protocol: it begins with 0x81, and none of the rules of
-/// PDUs refuses it, or it begins with 0x82, and none of the rules of ES-IS PDUs does.
+/// Without frames from outside each frame of a run breaks no rule of its protocol: it begins with 0x81,
+/// and none of the rules of PDUs refuses it, or it begins with 0x82, and none of the rules of ES-IS PDUs
+/// does.
 pub fn no_frame_breaks_a_rule()
-    ensures { (plan : Plan) → IsFit plan → (moves : List Move)
+    ensures { (plan : Plan) → IsFit plan → IsClosed plan → (moves : List Move)
         → FramesAreUnbroken (world_after plan (first_world plan) moves) }
 {
     laws_of_steps();
 }
 
-/// The header of each packet of a run is as long as that of its unit's initial PDU, however often the
-/// packet was cut and forwarded: routers change the values of options, and never their lengths.
+/// Without frames from outside the header of each packet of a run is as long as that of its unit's
+/// initial PDU, however often the packet was cut and forwarded: routers change the values of options,
+/// and never their lengths.
 pub fn headers_keep_their_length()
-    ensures { (plan : Plan) → IsFit plan → (moves : List Move) → KeepsHeaders (world_after plan (first_world plan) moves) }
+    ensures { (plan : Plan) → IsFit plan → IsClosed plan → (moves : List Move) → KeepsHeaders (world_after plan (first_world plan) moves) }
 {
     laws_of_steps();
 }
 
-/// No line of a run says that a frame was discarded for a rule of PDUs, or broke one of ES-IS PDUs.
+/// Without frames from outside no line of a run says that a frame was discarded for a rule of PDUs, or
+/// broke one of ES-IS PDUs.
 pub fn no_frame_is_refused()
-    ensures { (plan : Plan) → IsFit plan → (moves : List Move)
+    ensures { (plan : Plan) → IsFit plan → IsClosed plan → (moves : List Move)
         → AllByRecursion (λ (entry : Entry). AllByRecursion TellsNoRule entry.lines) (entries_of plan (first_world plan) moves) }
 {
     laws_of_steps();
 }
 
-/// No frame of a run belongs to no protocol, and no line says so.
+/// Without frames from outside no frame of a run belongs to no protocol, and no line says so.
 pub fn no_frame_is_alien()
-    ensures { (plan : Plan) → IsFit plan → (moves : List Move)
+    ensures { (plan : Plan) → IsFit plan → IsClosed plan → (moves : List Move)
         → AllByRecursion (λ (entry : Entry). NoneIsAlien entry.lines) (entries_of plan (first_world plan) moves) }
 {
     laws_of_steps();
 }
 
-/// Each reassembly buffer of a run holds segments of one unit that was made.
+/// Without frames from outside each reassembly buffer of a run holds segments of one unit that was
+/// made.
 pub fn units_are_held_apart()
-    ensures { (plan : Plan) → IsFit plan → (moves : List Move) → HoldsUnitsApart (world_after plan (first_world plan) moves) }
+    ensures { (plan : Plan) → IsFit plan → IsClosed plan → (moves : List Move) → HoldsUnitsApart (world_after plan (first_world plan) moves) }
 {
     laws_of_steps();
 }
 
-/// What a line of a run says of error reports and echo replies that came to a system is founded on what
-/// the system made: the data of a report are the header of a packet of a unit of its own, and an echo
-/// reply answers a request that it made since its last restart, and was made by an owner of its source.
+/// Without frames from outside, what a line of a run says of error reports and echo replies that came to
+/// a system is founded on what the system made: the data of a report are the header of a packet of a unit
+/// of its own, and an echo reply answers a request that it made since its last restart, and was made by
+/// an owner of its source.
 pub fn reports_and_echoes_are_of_its_own()
-    ensures { (plan : Plan) → IsFit plan → (moves : List Move) → EachIsFounded plan (first_world plan) [] moves }
+    ensures { (plan : Plan) → IsFit plan → IsClosed plan → (moves : List Move) → EachIsFounded plan (first_world plan) [] moves }
 {
     laws_of_steps();
 }
@@ -99,16 +106,16 @@ pub fn a_redirect_changes_one_next_hop()
     machine::a_redirect_changes_one_next_hop();
 }
 
-/// Two units that one system made with one identifier were made at least so long apart as an
-/// identifier rests.
+/// Without frames from outside two units that one system made with one identifier were made at least so
+/// long apart as an identifier rests.
 pub fn identifiers_rest()
-    ensures { (plan : Plan) → IsFit plan → (moves : List Move) → IdentifiersRest plan.limits.reuse (world_after plan (first_world plan) moves) }
+    ensures { (plan : Plan) → IsFit plan → IsClosed plan → (moves : List Move) → IdentifiersRest plan.limits.reuse (world_after plan (first_world plan) moves) }
 {
     laws_of_steps();
 }
 
 /// No system ever holds more octets for reassembly than its budget, whatever the moves of whatever
-/// plan.
+/// plan, and whatever frames come from outside.
 pub fn budgets_are_kept()
     ensures { (plan : Plan) (moves : List Move) → IsWithinBudgets (world_after plan (first_world plan) moves) }
 {
@@ -116,7 +123,8 @@ pub fn budgets_are_kept()
 }
 
 /// No PDU is forwarded more often than its lifetime allowed: hops and lifetime of each packet are
-/// together at most the lifetime of its unit, whatever the moves of whatever plan.
+/// together at most the lifetime of its unit, whatever the moves of whatever plan, and whatever frames
+/// come from outside.
 pub fn hops_are_within_lifetimes()
     ensures { (plan : Plan) (moves : List Move) → IsWithinLifetimes (world_after plan (first_world plan) moves) }
 {
