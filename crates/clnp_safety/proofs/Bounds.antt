@@ -24,7 +24,7 @@ use Rattle.clnp_network.specs.Safe.{IsWithinBudgets, IsWithinLifetimes, MeetsLif
 use Rattle.clnp_safety.specs.StepLaws.{StepLaws}
 use Rattle.clnp_safety.proofs.Lines.{AnyLine, any_line_is_fine}
 use Rattle.clnp_safety.proofs.Steps.{Keeps, keeps-put_all_out, with_outside}
-use Rattle.clnp_safety.proofs.EveryMove.{AnyInput, any_events, asked_by_all, keeps-moves}
+use Rattle.clnp_safety.proofs.EveryMove.{AnyInput, IsOfClock, any_events, asked_by_all, keeps-moves}
 use Rattle.clnp_safety.proofs.Units.{lives_within}
 
 -- Hops and lifetimes.
@@ -73,8 +73,8 @@ module _ (s : SystemState) (input : Input) (comes : ComesWithin input) (units : 
       frame_meets system v port target (DeclaredAt system.place) v.clock (Esis value []) tt k
 
 step_meets : StepLaws → (w : World) (place : ℕ) (s : SystemState) (input : Input) → slice_get w.systems place ≡ Some s → ComesWithin input
-    → IsWithinLifetimes w → Keeps IsWithinLifetimes AnyLine (takes_effect w place (step s input))
-step_meets laws w place s input there comes k =
+    → IsOfClock w input → IsWithinLifetimes w → Keeps IsWithinLifetimes AnyLine (takes_effect w place (step s input))
+step_meets laws w place s input there comes at k =
     let effect : Effect = step s input in
     keeps-put_all_out IsWithinLifetimes AnyLine effect.after effect.outputs
     (AllByRecursion-implies (SendsRangesOrGoesOn s input effect.units)
@@ -99,7 +99,7 @@ outside_meets w subnet sender target octets k =
 pub lifetimes_hold : StepLaws → (plan : Plan) (moves : List Move) → IsWithinLifetimes (world_after plan (first_world plan) moves)
 lifetimes_hold laws plan moves =
     keeps-moves ComesWithin IsWithinLifetimes AnyLine
-    (record { steps = step_meets laws; frames = frame_comes_within; moments = λ now. tt; restarts = tt; congestion = λ on. tt; cursor = λ w next k. k; clock = λ w now k. k; outside = outside_meets; injected = λ now copy subnet sender target. tt; fine = any_line_is_fine })
+    (record { steps = step_meets laws; frames = frame_comes_within; moments = λ now. tt; restarts = tt; congestion = λ on. tt; cursor = λ w next k. k; clock = λ w k. k; outside = outside_meets; injected = λ now copy subnet sender target. tt; fine = any_line_is_fine })
     plan (asked_by_all ComesWithin (λ from to octets ask. tt) (λ from to octets. tt) plan.events) moves (first_world plan) tt
 
 -- Budgets.
@@ -115,9 +115,9 @@ put_out_within system (Notes note) v k = record { world = k; lines = (tt, tt) }
 put_out_within system (Transmits port target packet) v k = record { world = k; lines = (tt, tt) }
 put_out_within system (SendsEsis port target value) v k = record { world = k; lines = (tt, tt) }
 
-step_within : StepLaws → (w : World) (place : ℕ) (s : SystemState) (input : Input) → slice_get w.systems place ≡ Some s → AnyInput input → IsWithinBudgets w
-    → Keeps IsWithinBudgets AnyLine (takes_effect w place (step s input))
-step_within laws w place s input there any k =
+step_within : StepLaws → (w : World) (place : ℕ) (s : SystemState) (input : Input) → slice_get w.systems place ≡ Some s → AnyInput input → IsOfClock w input
+    → IsWithinBudgets w → Keeps IsWithinBudgets AnyLine (takes_effect w place (step s input))
+step_within laws w place s input there any at k =
     let effect : Effect = step s input in
     keeps-put_all_out IsWithinBudgets AnyLine effect.after effect.outputs
     (AllByRecursion-any (λ output. (v : World) → IsWithinBudgets v → Keeps IsWithinBudgets AnyLine (put_out effect.after v output))
@@ -132,6 +132,6 @@ opened_within limits place (system ∷ systems) = (omega arith, opened_within li
 pub budgets_hold : StepLaws → (plan : Plan) (moves : List Move) → IsWithinBudgets (world_after plan (first_world plan) moves)
 budgets_hold laws plan moves =
     keeps-moves AnyInput IsWithinBudgets AnyLine
-    (record { steps = step_within laws; frames = λ w at copy e k s. tt; moments = λ now. tt; restarts = tt; congestion = λ on. tt; cursor = λ w next k. k; clock = λ w now k. k; outside = λ w subnet sender target octets k. k; injected = λ now copy subnet sender target. tt; fine = any_line_is_fine })
+    (record { steps = step_within laws; frames = λ w at copy e k s. tt; moments = λ now. tt; restarts = tt; congestion = λ on. tt; cursor = λ w next k. k; clock = λ w k. k; outside = λ w subnet sender target octets k. k; injected = λ now copy subnet sender target. tt; fine = any_line_is_fine })
     plan (any_events plan.events) moves (first_world plan)
     (opened_within plan.limits 0 plan.systems)

@@ -110,13 +110,23 @@ reports_are_sound plan units made now place s are h = record {
   known = h.known;
 }
 
-pub reports_rest : (reuse : ℕ) (units made : List unit.Unit) → AllByRecursion IsReport made → EachRests reuse units → EachRests reuse (units ++ made)
-reports_rest reuse units [] are rest = subst (EachRests reuse) (sym (append-nil units)) rest
-reports_rest reuse units (u ∷ made) are rest =
+-- a unit that can't be segmented has no identifier
+abbrev pub IsWhole : unit.Unit → Type 0
+IsWhole u = u.identifier ≡ None
+
+pub all_whole : (made : List unit.Unit) → AllByRecursion IsReport made → AllByRecursion IsWhole made
+all_whole made are = AllByRecursion-implies IsReport IsWhole (λ u is. is.whole) made are
+
+pub whole_rest : (reuse : ℕ) (units made : List unit.Unit) → AllByRecursion IsWhole made → EachRests reuse units → EachRests reuse (units ++ made)
+whole_rest reuse units [] are rest = subst (EachRests reuse) (sym (append-nil units)) rest
+whole_rest reuse units (u ∷ made) are rest =
     subst (EachRests reuse) (append_assoc units (u ∷ []) made)
-    (reports_rest reuse (units ++ u ∷ []) made are.1
+    (whole_rest reuse (units ++ u ∷ []) made are.1
     (all_pairs_push (Rests reuse) units u rest
-    (λ k d within maker identifier first second. absurd (none-some identifier (sym are.0.whole ∙ second)))))
+    (λ k d within maker identifier first second. absurd (none-some identifier (sym are.0 ∙ second)))))
+
+pub reports_rest : (reuse : ℕ) (units made : List unit.Unit) → AllByRecursion IsReport made → EachRests reuse units → EachRests reuse (units ++ made)
+reports_rest reuse units made are rest = whole_rest reuse units made (all_whole made are) rest
 
 pub at_most_report : (frame : List ℕ) (made : List unit.Unit) → IsAtMostReportOf frame made → AllByRecursion IsReport made
 at_most_report frame made most =

@@ -28,6 +28,11 @@ GivesOnly Comes _ = Unit {0}
 abbrev pub AnyInput : Input → Type 0
 AnyInput input = Unit {0}
 
+-- the moment that comes is that of the clock
+abbrev pub IsOfClock : World → Input → Type 0
+IsOfClock w (MomentComes now) = now ≡ w.clock
+IsOfClock w _ = Unit {0}
+
 module _ (Comes : Input → Type 0) (asked : (from to octets : List ℕ) (ask : Ask) → Comes (AsksToSend from to octets ask))
     (echo : (from to octets : List ℕ) → Comes (AsksForEcho from to octets)) where
   asked_by : (event : Event) → GivesOnly Comes event
@@ -43,43 +48,44 @@ pub any_events : (events : List Event) → AllByRecursion (GivesOnly AnyInput) e
 any_events events = asked_by_all AnyInput (λ from to octets ask. tt) (λ from to octets. tt) events
 
 -- K holds of the world after each step of a system of one of which it holds, and Q of the lines, where what comes is such
--- as Comes says, as all is that asks nothing where K holds; K doesn't go by clock and cursor, and a
--- frame from outside keeps it
+-- as Comes says, as all is that asks nothing where K holds; K doesn't go by the cursor, and the clock may go
+-- on, and frames come from outside
 pub record EachStepKeeps (Comes : Input → Type 0) (K : World → Type 0) (Q : Line → Type 0) : Type 0 where
-  pub steps : (w : World) (place : ℕ) (s : SystemState) (input : Input) → slice_get w.systems place ≡ Some s → Comes input → K w
-      → Keeps K Q (takes_effect w place (step s input))
+  pub steps : (w : World) (place : ℕ) (s : SystemState) (input : Input) → slice_get w.systems place ≡ Some s → Comes input → IsOfClock w input
+      → K w → Keeps K Q (takes_effect w place (step s input))
   pub frames : (w : World) (at : ℕ) (copy : Copy) → slice_get w.copies at ≡ Some copy → K w → (s : SystemState) → Comes (frame_to s copy)
   pub moments : (now : ℕ) → Comes (MomentComes now)
   pub restarts : Comes IsRestarted
   pub congestion : (on : Bool) → Comes (IsCongested on)
   pub cursor : (w : World) (next : ℕ) → K w → K (record w { cursor = next })
-  pub clock : (w : World) (now : ℕ) → K w → K (record w { clock = now })
+  pub clock : (w : World) → K w → K (record w { clock = w.clock + 1 })
   pub outside : (w : World) (subnet : ℕ) (sender : List ℕ) (target : Target) (octets : List ℕ) → K w → K (with_outside w subnet sender target octets)
   pub injected : InjectedIsFine Q
   pub fine : NotGivenIsFine Q
 
 module _ (Comes : Input → Type 0) (K : World → Type 0) (Q : Line → Type 0) (each : EachStepKeeps Comes K Q) where
-  keeps-comes : (w : World) (place : ℕ) (input : Input) → Comes input → K w → Keeps K Q (comes w place input)
-  keeps-comes w place input may k = keeps-comes_to K Q w place input (slice_get w.systems place) (λ none. k) (λ s there. each.steps w place s input there may k)
+  keeps-comes : (w : World) (place : ℕ) (input : Input) → Comes input → IsOfClock w input → K w → Keeps K Q (comes w place input)
+  keeps-comes w place input may at k =
+      keeps-comes_to K Q w place input (slice_get w.systems place) (λ none. k) (λ s there. each.steps w place s input there may at k)
 
   keeps-tick_each : (places : List ℕ) (w : World) → K w → Keeps K Q (tick_each w places)
   keeps-tick_each [] w k = keeps-nothing K Q w k
   keeps-tick_each (place ∷ places) w k =
       keeps-followed_by K Q K (comes w place (MomentComes w.clock)) (λ v. tick_each v places)
-      (keeps-comes w place (MomentComes w.clock) (each.moments w.clock) k) (keeps-tick_each places)
+      (keeps-comes w place (MomentComes w.clock) (each.moments w.clock) refl k) (keeps-tick_each places)
 
   keeps-event : (subnets : List Subnetwork) (limits : Limits) (w : World) (asked : Option Event) → ((event : Event) → asked ≡ Some event → GivesOnly Comes event) → K w
       → Keeps K Q (event_happens subnets limits w asked)
   keeps-event subnets limits w (Some (Deliver number system)) may k =
       keeps-deliver K Q each.fine limits w number system k
-      (λ copy e s there soon. each.steps w system s (frame_to s copy) there (each.frames w (number - 1) copy e k s) k)
-  keeps-event subnets limits w (Some (Restart system)) may k = keeps-comes w system IsRestarted each.restarts k
-  keeps-event subnets limits w (Some (Congest system on)) may k = keeps-comes w system (IsCongested on) (each.congestion on) k
+      (λ copy e s there soon. each.steps w system s (frame_to s copy) there (each.frames w (number - 1) copy e k s) tt k)
+  keeps-event subnets limits w (Some (Restart system)) may k = keeps-comes w system IsRestarted each.restarts tt k
+  keeps-event subnets limits w (Some (Congest system on)) may k = keeps-comes w system (IsCongested on) (each.congestion on) tt k
   keeps-event subnets limits w (Some (Send system from to body ask)) may k =
       keeps-asks K Q w system (AsksToSend from to (octets_of body) ask) k
-      (keeps-comes w system (AsksToSend from to (octets_of body) ask) (may (Send system from to body ask) refl) k)
+      (keeps-comes w system (AsksToSend from to (octets_of body) ask) (may (Send system from to body ask) refl) tt k)
   keeps-event subnets limits w (Some (Echo system from to body)) may k =
-      keeps-comes w system (AsksForEcho from to (octets_of body)) (may (Echo system from to body) refl) k
+      keeps-comes w system (AsksForEcho from to (octets_of body)) (may (Echo system from to body) refl) tt k
   keeps-event subnets limits w (Some (Inject subnet from to octets)) may k =
       keeps-injects K Q w subnet from to octets k (each.outside w subnet from to octets k) each.injected subnets
   keeps-event subnets limits w (Some (Settle count)) may k = keeps-nothing K Q w k
@@ -91,7 +97,7 @@ module _ (Comes : Input → Type 0) (K : World → Type 0) (Q : Line → Type 0)
   keeps-settle limits w None e k = keeps-nothing K Q w k
   keeps-settle limits w (Some copy) e k =
       keeps-give_each K Q each.fine limits (record { number = w.cursor + 1; copy = copy }) (addressees_from 0 copy w.systems)
-      (λ v place h s there soon. each.steps v place s (frame_to s copy) there (each.frames w w.cursor copy e k s) h) (record w { cursor = w.cursor + 1 })
+      (λ v place h s there soon. each.steps v place s (frame_to s copy) there (each.frames w w.cursor copy e k s) tt h) (record w { cursor = w.cursor + 1 })
       (each.cursor w (w.cursor + 1) k)
 
   keeps-lose : (w : World) (found : Option Copy) → K w → Keeps K Q (lose_copy w found)
@@ -104,7 +110,7 @@ module _ (Comes : Input → Type 0) (K : World → Type 0) (Q : Line → Type 0)
         keeps-event plan.subnets plan.limits w (slice_get plan.events place) (λ event there. AllByRecursion-slice_get (GivesOnly Comes) plan.events place event there may) k
     keeps-move w SettleOne k = keeps-settle plan.limits w (slice_get w.copies w.cursor) refl k
     keeps-move w LoseOne k = keeps-lose w (slice_get w.copies w.cursor) k
-    keeps-move w TickOne k = keeps-tick_each (range_with_len 0 (length w.systems)) (record w { clock = w.clock + 1 }) (each.clock w (w.clock + 1) k)
+    keeps-move w TickOne k = keeps-tick_each (range_with_len 0 (length w.systems)) (record w { clock = w.clock + 1 }) (each.clock w k)
 
     pub keeps-moves : (moves : List Move) (w : World) → K w → K (world_after plan w moves)
     keeps-moves [] w k = k

@@ -31,3 +31,5 @@ pub mod Refusals
 pub mod Owned
 pub mod Redirects
 pub mod Stops
+pub mod Drawing
+pub mod Resting

@@ -13,12 +13,12 @@ length-states_from limits from [] = refl
 length-states_from limits from (system ∷ systems) = ap suc (length-states_from limits (from + 1) systems)
 
 -- the system at a place at the start
-record IsOpened (limits : Limits) (systems : List SystemConfiguration) (place at : ℕ) (s : SystemState) : Type 0 where
-  configuration : SystemConfiguration
-  declared : slice_get systems place ≡ Some configuration
-  state : first_state at configuration limits 0 0 ≡ s
+pub record IsOpened (limits : Limits) (systems : List SystemConfiguration) (place at : ℕ) (s : SystemState) : Type 0 where
+  pub configuration : SystemConfiguration
+  pub declared : slice_get systems place ≡ Some configuration
+  pub state : first_state at configuration limits 0 0 ≡ s
 
-opened : (limits : Limits) (from : ℕ) (systems : List SystemConfiguration) (place at : ℕ) (s : SystemState) → from + place ≡ at
+pub opened : (limits : Limits) (from : ℕ) (systems : List SystemConfiguration) (place at : ℕ) (s : SystemState) → from + place ≡ at
     → slice_get (states_from limits from systems) place ≡ Some s
     → IsOpened limits systems place at s
 opened limits from [] place at s e there = absurd (cc)

@@ -16,7 +16,7 @@ use Rattle.clnp_machine.specs.Steps.{IsForOwn, NotesOnly}
 use Rattle.clnp_network.specs.World.{World, put_out, with_effect, takes_effect, after}
 use Rattle.clnp_safety.specs.Owners.{IsByOwner}
 use Rattle.clnp_safety.specs.StepLaws.{StepLaws}
-use Rattle.clnp_safety.proofs.EveryMove.{AnyInput, EachStepKeeps, any_events, keeps-move}
+use Rattle.clnp_safety.proofs.EveryMove.{AnyInput, EachStepKeeps, IsOfClock, any_events, keeps-move}
 use Rattle.clnp_safety.proofs.Steps.{Keeps, NotGivenIsFine, keeps-put_all_out}
 
 module _ (laws : StepLaws) (systems : List SystemState) where
@@ -59,8 +59,8 @@ module _ (laws : StepLaws) (systems : List SystemState) where
   put_out_by_owner place s later (SendsEsis port target value) was e own v k = record { world = k; lines = (tt, tt) }
 
   takes_effect_by_owner : (w : World) (place : ℕ) (s : SystemState) (input : Input) → slice_get w.systems place ≡ Some s
-      → AnyInput input → AreConfigured w → Keeps AreConfigured ByOwner (takes_effect w place (step s input))
-  takes_effect_by_owner w place s input there any k =
+      → AnyInput input → IsOfClock w input → AreConfigured w → Keeps AreConfigured ByOwner (takes_effect w place (step s input))
+  takes_effect_by_owner w place s input there any at k =
       let was = k place s there in
       let effect : Effect = step s input in
       let same = (laws.steps.itself s input).configuration in
@@ -72,7 +72,7 @@ module _ (laws : StepLaws) (systems : List SystemState) where
       (record { before = was.before; there = was.there; same = same ∙ was.same }))
 
   each_by_owner : EachStepKeeps AnyInput AreConfigured ByOwner
-  each_by_owner = record { steps = takes_effect_by_owner; frames = λ w at copy e k s. tt; moments = λ now. tt; restarts = tt; congestion = λ on. tt; cursor = λ w next k. k; clock = λ w now k. k; outside = λ w subnet sender target octets k. k; injected = λ now copy subnet sender target. tt; fine = fine }
+  each_by_owner = record { steps = takes_effect_by_owner; frames = λ w at copy e k s. tt; moments = λ now. tt; restarts = tt; congestion = λ on. tt; cursor = λ w next k. k; clock = λ w k. k; outside = λ w subnet sender target octets k. k; injected = λ now copy subnet sender target. tt; fine = fine }
 
 unchanged : (laws : StepLaws) (w : World) → AreConfigured laws w.systems w
 unchanged laws w place s there = record { before = s; there = there; same = refl }

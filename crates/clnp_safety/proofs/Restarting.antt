@@ -28,7 +28,8 @@ use Rattle.clnp_safety.proofs.Lines.{LineIs, lines_are}
 use Rattle.clnp_safety.proofs.Moves.{IsPendingStill, MoveIsSound, moved_is_sound, nothing_is_sound, sound_at_clock}
 use Rattle.clnp_safety.proofs.Steps.{Keeps}
 
-no_uses : (now : ℕ) → AreUsesUntil now []
+-- a system that was restarted has no uses
+pub no_uses : (now : ℕ) → AreUsesUntil now []
 no_uses now = record { until_now = tt; in_order = λ i j d below within. absurd (omega arith) }
 
 rests_in_quiet : (plan : Plan) (past : List Entry) (units : List unit.Unit) (now place : ℕ) (s : SystemState) → UnitsAreSound plan past now units

@@ -18,7 +18,7 @@ use Rattle.reassembly.specs.Arrival.{Arrival}
 use Rattle.reassembly.specs.Buffer.{Buffer}
 use Rattle.clnp_network.specs.World.{World, Copy, after, event_happens, deliver, settle_one, lose_one, tick_one, first_world}
 use Rattle.clnp_network.specs.Run.{Entry, entries_of, moves_made, run, world_after}
-use Rattle.clnp_network.specs.Safe.{AsksFor, CarriesRanges, EachIsFounded, EachWasSent, FramesAreUnbroken, HoldsOneUnit, HoldsUnitsApart, IdentifiersRest, IsHonest, IsSend, IsUnbroken, KeepsHeader, KeepsHeaders, NoInterference, NoneIsAlien, RangeIn, TellsNoRule}
+use Rattle.clnp_network.specs.Safe.{AsksFor, CarriesRanges, EachIsFounded, EachWasSent, FramesAreUnbroken, HoldsOneUnit, HoldsUnitsApart, IsHonest, IsSend, IsUnbroken, KeepsHeader, KeepsHeaders, NoInterference, NoneIsAlien, RangeIn, TellsNoRule}
 use Rattle.clnp_safety.specs.Invariant.{BufferIsSound, Carries, CopyIsSound, IsBornWithUnit, IsOfUnit, WorldIsSound}
 use Rattle.clnp_safety.specs.StepLaws.{StepLaws}
 use Rattle.clnp_safety.proofs.Lines.{LinesAreSound, lines_are_apart, lines_are_founded, lines_are_honest, lines_are_known, lines_tell_no_rule}
@@ -186,6 +186,3 @@ units_are_held_apart laws plan fit closed moves =
     AllByRecursion-from_places (λ (system : SystemState). AllByRecursion (HoldsOneUnit w.units) system.buffers) w.systems
     (λ place s there.
     AllByRecursion-implies (BufferIsSound plan w.units) (HoldsOneUnit w.units) (one_unit plan w.units) s.buffers (sound.systems.each place s there).sound.buffers)
-
-pub identifiers_rest : StepLaws → (plan : Plan) → IsFit plan → IsClosed plan → (moves : List Move) → IdentifiersRest plan.limits.reuse (world_after plan (first_world plan) moves)
-identifiers_rest laws plan fit closed moves = (last_is_sound laws plan fit closed moves).1.made.rest

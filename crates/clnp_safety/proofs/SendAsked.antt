@@ -20,7 +20,7 @@ own_address s address own =
     let same : found.1 ≡ address = (bytes_eq-Decides found.1 address).0 found.4 in
     subst (Contains s.configuration.addresses) same (found.0, found.2, found.3)
 
-idle_of : (outcome : Option NotDrawn) → option_map not_drawn_note outcome ≡ None → outcome ≡ None
+pub idle_of : (outcome : Option NotDrawn) → option_map not_drawn_note outcome ≡ None → outcome ≡ None
 idle_of None none = refl
 idle_of (Some refused) none = absurd (cc)
 

@@ -97,7 +97,8 @@ module _ (laws : StepLaws) (plan : Plan) (units : List unit.Unit) (now place : �
   expire_is_sound zero s few is = none_left s is (AllByRecursion-no_element (λ (b : Buffer Packet). now < b.deadline) s.buffers few)
   expire_is_sound (suc most) s few is = give_up_is_sound most s (due s.moment s.buffers) refl (omega arith) is (expire_is_sound most)
 
-uses_later : (before now : ℕ) (uses : List Use) → before ≤ now → AreUsesUntil before uses → AreUsesUntil now uses
+-- uses until a moment are uses until a later one
+pub uses_later : (before now : ℕ) (uses : List Use) → before ≤ now → AreUsesUntil before uses → AreUsesUntil now uses
 uses_later before now uses later are = record {
   until_now = AllByRecursion-implies (λ (given : Use). given.moment ≤ before) (λ (given : Use). given.moment ≤ now) (λ given h. omega arith) uses are.until_now;
   in_order = are.in_order;

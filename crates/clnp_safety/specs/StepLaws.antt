@@ -29,6 +29,7 @@ use Rattle.clnp_machine.specs.Told.{IsAllowed, IsRefusal, IsToldBy, NoteIsQuiet,
 -- of a whole step
 pub record OfSteps : Type 0 where
   pub itself : (s : SystemState) (input : Input) → StaysItself s (step s input).after
+  pub moment : (s : SystemState) (input : Input) → (step s input).after.moment ≡ moment_after s input
   pub fresh : (s : SystemState) (input : Input) → AllByRecursion (IsFresh s (moment_after s input)) (step s input).units
   pub made_for : (s : SystemState) (input : Input) → AllByRecursion (IsMadeFor input) (step s input).units
   pub reports : (s : SystemState) (input : Input) → IsFair input → SpellsPdus input → KeepsAsOffered s

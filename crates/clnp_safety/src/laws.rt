@@ -106,10 +106,10 @@ pub fn a_redirect_changes_one_next_hop()
     machine::a_redirect_changes_one_next_hop();
 }
 
-/// Without frames from outside two units that one system made with one identifier were made at least so
-/// long apart as an identifier rests.
+/// Two units that one system made with one identifier were made at least so long apart as an
+/// identifier rests, whatever the moves of whatever plan, and whatever frames come from outside.
 pub fn identifiers_rest()
-    ensures { (plan : Plan) → IsFit plan → IsClosed plan → (moves : List Move) → IdentifiersRest plan.limits.reuse (world_after plan (first_world plan) moves) }
+    ensures { (plan : Plan) (moves : List Move) → IdentifiersRest plan.limits.reuse (world_after plan (first_world plan) moves) }
 {
     laws_of_steps();
 }

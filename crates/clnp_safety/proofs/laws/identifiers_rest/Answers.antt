@@ -1,4 +1,4 @@
-use Rattle.clnp_safety.proofs.Runs.{identifiers_rest}
+use Rattle.clnp_safety.proofs.Resting.{identifiers_rest}
 use Rattle.clnp_safety.proofs.laws.identifiers_rest.Goals as goal
 
 pub returns : goal.returns

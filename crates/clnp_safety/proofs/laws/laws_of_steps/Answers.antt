@@ -4,6 +4,7 @@ pub returns : goal.returns
 returns c = record {
   steps = record {
     itself = c.a_system_stays_itself.ensures.itself;
+    moment = c.a_system_stays_itself.ensures.moment;
     fresh = c.new_units_are_fresh.ensures.fresh;
     made_for = c.new_units_are_fresh.ensures.asked;
     reports = c.reports_are_of_packets.ensures;

@@ -1,0 +1,265 @@
+-- Identifiers rest, whatever the moves of whatever plan: one that is drawn for a unit was not used for long.
+use Rattle.clnp_base.proofs.Lists.{AllByRecursion-any, AllByRecursion-contains, AllByRecursion-implies, set_each}
+use Rattle.std.proofs.Common.{◌≡◌, ◌≢◌, ◌∙◌, ◌≤◌, ◌+◌, ◌⊎◌, refl, sym, ap, subst, ℕ, inl, inr, List, [], ◌∷◌, ◌++◌, get_or, None, Some, Contains, arith}
+use Rattle.std.specs.Prelude.{slice_get}
+use Rattle.std.specs.List.{AllByRecursion}
+use Rattle.std.proofs.lemmas.List.{append-nil}
+use Rattle.std.proofs.lemmas.List.Elements.{Contains-append_cases, Contains-get_or, Contains-push_cases}
+use Rattle.std.proofs.lemmas.List.Quantifiers.{all_pairs_push}
+use Rattle.std.proofs.lemmas.Option.{none-some}
+use Rattle.scenario.specs.Scenario.{Plan}
+use Rattle.scenario.specs.declared.event.Move.{Move}
+use Rattle.clnp_machine.specs.Identifiers.{Identifiers, after_use, next, not_drawn, restarted}
+use Rattle.clnp_machine.specs.Unit as unit
+use Rattle.clnp_machine.specs.Unit.{DeclaredAt}
+use Rattle.clnp_machine.specs.System.{SystemState, Input, MomentComes, IsRestarted, Output, Transmits, SendsEsis, Notes, Effect}
+use Rattle.clnp_machine.specs.Step.{step}
+use Rattle.clnp_machine.specs.Steps.{IsFresh, RestartsNothing, moment_after}
+use Rattle.clnp_network.specs.World.{World, put_out, takes_effect, with_effect, first_world}
+use Rattle.clnp_network.specs.Run.{world_after}
+use Rattle.clnp_network.specs.Safe.{IdentifiersRest, Rests}
+use Rattle.clnp_safety.specs.Invariant.{AreUsesUntil, EachRests, IsInUses}
+use Rattle.clnp_safety.specs.StepLaws.{StepLaws}
+use Rattle.clnp_safety.proofs.Deeds.{IsWhole, whole_rest}
+use Rattle.clnp_safety.proofs.Drawing.{Draws, DrawsNone, step_draws}
+use Rattle.clnp_safety.proofs.EveryMove.{AnyInput, IsOfClock, any_events, keeps-moves}
+use Rattle.clnp_safety.proofs.Lines.{AnyLine, any_line_is_fine}
+use Rattle.clnp_safety.proofs.Opens.{opened}
+use Rattle.clnp_safety.proofs.Restarting.{no_uses}
+use Rattle.clnp_safety.proofs.Steps.{Keeps, keeps-put_all_out}
+use Rattle.clnp_safety.proofs.Ticking.{uses_later}
+use Rattle.clnp_safety.proofs.Uses.{made_long_ago, used_before, used_now, uses_after}
+
+-- the system at a place made the unit at a moment
+record IsMadeNow (now place : ℕ) (u : unit.Unit) : Type 0 where
+  maker : u.maker ≡ DeclaredAt place
+  made : u.made ≡ now
+
+-- a unit was made until a moment, and its identifier is among the uses, or rests in the quiet time
+record IsAccounted (now : ℕ) (ids : Identifiers) (u : unit.Unit) : Type 0 where
+  made : u.made ≤ now
+  used : IsInUses ids u
+
+-- What holds until a moment of the identifiers of the system at a place, beside the units that were made.
+record AreSound (reuse now place : ℕ) (units : List unit.Unit) (ids : Identifiers) : Type 0 where
+  reuse_is : ids.reuse ≡ reuse
+  uses : AreUsesUntil now ids.uses
+  accounted : (u : unit.Unit) → Contains units u → u.maker ≡ DeclaredAt place → IsAccounted now ids u
+
+-- the system stands at a place, its moment has come, and its identifiers are sound
+record HasSound (reuse now place : ℕ) (units : List unit.Unit) (s : SystemState) : Type 0 where
+  stands_at : s.place ≡ place
+  come : s.moment ≤ now
+  identifiers : AreSound reuse s.moment place units s.identifiers
+
+-- units rest one behind another, and each system has sound identifiers
+record UnitsRest (reuse : ℕ) (w : World) : Type 0 where
+  rest : EachRests reuse w.units
+  each : (place : ℕ) (s : SystemState) → slice_get w.systems place ≡ Some s → HasSound reuse w.clock place w.units s
+
+-- At a later moment the system makes units.
+module _ (reuse before now place : ℕ) (units : List unit.Unit) (ids : Identifiers) (later : before ≤ now) (sound : AreSound reuse before place units ids) where
+  uses_now : AreUsesUntil now ids.uses
+  uses_now = uses_later before now ids.uses later sound.uses
+
+  accounted_now : (u : unit.Unit) → Contains units u → u.maker ≡ DeclaredAt place → IsAccounted now ids u
+  accounted_now u has maker =
+      let was = sound.accounted u has maker in
+      let made = was.made in
+      record { made = omega arith; used = was.used }
+
+  none_drawn : (after : Identifiers) (made : List unit.Unit) → AllByRecursion (IsMadeNow now place) made → DrawsNone ids after made
+      → AreSound reuse now place (units ++ made) after
+  none_drawn after made new none = record {
+    reuse_is = ap (λ (i : Identifiers). i.reuse) none.identifiers ∙ sound.reuse_is;
+    uses = subst (λ (i : Identifiers). AreUsesUntil now i.uses) (sym none.identifiers) uses_now;
+    accounted = λ u has maker. elim (Contains-append_cases units made u has) [
+      | inl there ↦ subst (λ i. IsAccounted now i u) (sym none.identifiers) (accounted_now u there maker)
+      | inr here ↦ record {
+        made = let at = (AllByRecursion-contains (IsMadeNow now place) made u here new).made in omega arith;
+        used = λ identifier identified. absurd (none-some identifier (sym (AllByRecursion-contains IsWhole made u here none.whole) ∙ identified));
+      }
+    ];
+  }
+
+  module _ (u : unit.Unit) (new : IsMadeNow now place u) (identified : u.identifier ≡ Some (next ids)) (idle : not_drawn now ids ≡ None) where
+    one_drawn : AreSound reuse now place (units ++ u ∷ []) (after_use now ids)
+    one_drawn = record {
+      reuse_is = sound.reuse_is;
+      uses = uses_after now ids uses_now;
+      accounted = λ v has maker. elim (Contains-push_cases units u v has) [
+        | inl there ↦ (let was = accounted_now v there maker in record { made = was.made; used = used_before now ids v was.used })
+        | inr same ↦
+            subst (IsAccounted now (after_use now ids)) same
+            (record { made = let at = new.made in omega arith; used = used_now now ids u identified new.made })
+      ];
+    }
+
+    -- a unit of its maker with its identifier was made long before
+    rests_before : (v : unit.Unit) → Contains units v → Rests reuse v u
+    rests_before v has maker identifier id_v id_u =
+        let was = accounted_now v has (maker ∙ new.maker) in
+        let long_ago = made_long_ago now ids v uses_now was.used (id_v ∙ sym id_u ∙ identified) idle in
+        let reuse_is = sound.reuse_is in
+        let at = new.made in
+        omega arith
+
+  module _ (after : Identifiers) (made : List unit.Unit) (new : AllByRecursion (IsMadeNow now place) made) where
+    sound_after : Draws now ids after made → AreSound reuse now place (units ++ made) after
+    sound_after (inl none) = none_drawn after made new none
+    sound_after (inr one) =
+        let is = (subst (AllByRecursion (IsMadeNow now place)) one.only new).0 in
+        subst (AreSound reuse now place (units ++ made)) (sym one.identifiers)
+        (subst (λ us. AreSound reuse now place (units ++ us) (after_use now ids)) (sym one.only) (one_drawn one.made is one.identified one.idle))
+
+    rest_after : EachRests reuse units → Draws now ids after made → EachRests reuse (units ++ made)
+    rest_after rest (inl none) = whole_rest reuse units made none.whole rest
+    rest_after rest (inr one) =
+        let is = (subst (AllByRecursion (IsMadeNow now place)) one.only new).0 in
+        subst (λ us. EachRests reuse (units ++ us)) (sym one.only)
+        (all_pairs_push (Rests reuse) units one.made rest
+        (λ k d within. rests_before one.made is one.identified one.idle (get_or units k d) (Contains-get_or units k d within)))
+
+-- after a restart all units rest in the quiet time
+restarted_sound : (reuse now place : ℕ) (units : List unit.Unit) (ids : Identifiers) → AreSound reuse now place units ids
+    → AreSound reuse now place units (restarted now ids)
+restarted_sound reuse now place units ids sound = record {
+  reuse_is = sound.reuse_is;
+  uses = no_uses now;
+  accounted = λ u has maker.
+      let made = (sound.accounted u has maker).made in
+      record { made = made; used = λ identifier identified. inr (omega arith) };
+}
+
+-- Other systems stay as they are.
+other_sound : (reuse now place other : ℕ) (units made : List unit.Unit) (moment : ℕ) (t : SystemState) → AllByRecursion (IsMadeNow moment place) made
+    → other ≢ place → HasSound reuse now other units t → HasSound reuse now other (units ++ made) t
+other_sound reuse now place other units made moment t new apart h = record {
+  stands_at = h.stands_at;
+  come = h.come;
+  identifiers = record {
+    reuse_is = h.identifiers.reuse_is;
+    uses = h.identifiers.uses;
+    accounted = λ u has maker. elim (Contains-append_cases units made u has) [
+      | inl there ↦ h.identifiers.accounted u there maker
+      | inr here ↦ (
+          let same : DeclaredAt place ≡ DeclaredAt other = sym (AllByRecursion-contains (IsMadeNow moment place) made u here new).maker ∙ maker in
+          let one : other ≡ place = cc in
+          absurd (apart one))
+    ];
+  };
+}
+
+-- nobody restarts a system, or it is restarted
+steady_or_restarted : (input : Input) → RestartsNothing input ⊎ (input ≡ IsRestarted)
+steady_or_restarted IsRestarted = inr refl
+steady_or_restarted _ = inl tt
+
+-- the moment that comes to a system is the clock's, and else it keeps its own
+moment_comes : (w : World) (s : SystemState) (input : Input) → IsOfClock w input → s.moment ≤ w.clock
+    → (s.moment ≤ moment_after s input) × (moment_after s input ≤ w.clock)
+moment_comes w s (MomentComes now) at come = (omega arith, omega arith)
+moment_comes w s _ at come = (omega arith, come)
+
+put_out_rests : (reuse : ℕ) (system : SystemState) (output : Output) (v : World) → UnitsRest reuse v → Keeps (UnitsRest reuse) AnyLine (put_out system v output)
+put_out_rests reuse system (Notes note) v k = record { world = k; lines = (tt, tt) }
+put_out_rests reuse system (Transmits port target packet) v k = record { world = record { rest = k.rest; each = k.each }; lines = (tt, tt) }
+put_out_rests reuse system (SendsEsis port target value) v k = record { world = record { rest = k.rest; each = k.each }; lines = (tt, tt) }
+
+-- the identifiers are sound after a step at a moment, and the units rest
+record EffectRests (reuse place : ℕ) (units : List unit.Unit) (now : ℕ) (effect : Effect) : Type 0 where
+  identifiers : AreSound reuse now place (units ++ effect.units) effect.after.identifiers
+  rest : EachRests reuse (units ++ effect.units)
+
+module _ (laws : StepLaws) (reuse : ℕ) (w : World) (place : ℕ) (s : SystemState) (input : Input) (there : slice_get w.systems place ≡ Some s)
+    (at : IsOfClock w input) (k : UnitsRest reuse w) where
+  abbrev effect : Effect
+  effect = step s input
+
+  abbrev now : ℕ
+  now = moment_after s input
+
+  it : HasSound reuse w.clock place w.units s
+  it = k.each place s there
+
+  comes : (s.moment ≤ now) × (now ≤ w.clock)
+  comes = moment_comes w s input at it.come
+
+  new : AllByRecursion (IsMadeNow now place) effect.units
+  new =
+      AllByRecursion-implies (IsFresh s now) (IsMadeNow now place) (λ u is. record { maker = is.maker ∙ ap DeclaredAt it.stands_at; made = is.made }) effect.units
+      (laws.steps.fresh s input)
+
+  step_rests : RestartsNothing input ⊎ (input ≡ IsRestarted) → EffectRests reuse place w.units now effect
+  step_rests (inl steady) =
+      let draws = step_draws laws s input steady in
+      record {
+        identifiers = sound_after reuse s.moment now place w.units s.identifiers comes.0 it.identifiers effect.after.identifiers effect.units new draws;
+        rest = rest_after reuse s.moment now place w.units s.identifiers comes.0 it.identifiers effect.after.identifiers effect.units new k.rest draws;
+      }
+  step_rests (inr is) =
+      subst (λ i. EffectRests reuse place w.units (moment_after s i) (step s i)) (sym is)
+      (record {
+        identifiers = subst (λ us. AreSound reuse s.moment place us (restarted s.moment s.identifiers)) (sym (append-nil w.units))
+            (restarted_sound reuse s.moment place w.units s.identifiers it.identifiers);
+        rest = subst (EachRests reuse) (sym (append-nil w.units)) k.rest;
+      })
+
+  keeps-resting : Keeps (UnitsRest reuse) AnyLine (takes_effect w place effect)
+  keeps-resting =
+      let done = step_rests (steady_or_restarted input) in
+      let moment = laws.steps.moment s input in
+      keeps-put_all_out (UnitsRest reuse) AnyLine effect.after effect.outputs
+      (AllByRecursion-any (λ output. (v : World) → UnitsRest reuse v → Keeps (UnitsRest reuse) AnyLine (put_out effect.after v output))
+      (put_out_rests reuse effect.after) effect.outputs)
+      (with_effect w place effect)
+      (record {
+        rest = done.rest;
+        each = set_each (λ other t. HasSound reuse w.clock other w.units t) (λ other t. HasSound reuse w.clock other (w.units ++ effect.units) t) w.systems place effect.after k.each
+            (λ other t apart h. other_sound reuse w.clock place other w.units effect.units now t new apart h)
+            (record {
+              stands_at = (laws.steps.itself s input).place ∙ it.stands_at;
+              come = let within = comes.1 in omega arith;
+              identifiers = subst (λ n. AreSound reuse n place (w.units ++ effect.units) effect.after.identifiers) (sym moment) done.identifiers;
+            });
+      })
+
+clock_goes_on : (reuse : ℕ) (w : World) → UnitsRest reuse w → UnitsRest reuse (record w { clock = w.clock + 1 })
+clock_goes_on reuse w k = record {
+  rest = k.rest;
+  each = λ place s there.
+      let it = k.each place s there in
+      let come = it.come in
+      record { stands_at = it.stands_at; come = omega arith; identifiers = it.identifiers };
+}
+
+first_rests : (plan : Plan) → UnitsRest plan.limits.reuse (first_world plan)
+first_rests plan = record {
+  rest = λ i j d below within. absurd (omega arith);
+  each = λ place s there.
+      let here = opened plan.limits 0 plan.systems place place s (omega arith) there in
+      subst (HasSound plan.limits.reuse 0 place []) here.state
+      (record {
+        stands_at = refl;
+        come = omega arith;
+        identifiers = record { reuse_is = refl; uses = no_uses 0; accounted = λ u has. let none = has.1 in absurd (omega arith) };
+      });
+}
+
+pub identifiers_rest : StepLaws → (plan : Plan) (moves : List Move) → IdentifiersRest plan.limits.reuse (world_after plan (first_world plan) moves)
+identifiers_rest laws plan moves =
+    let reuse : ℕ = plan.limits.reuse in
+    (keeps-moves AnyInput (UnitsRest reuse) AnyLine
+    (record {
+      steps = λ w place s input there any at k. keeps-resting laws reuse w place s input there at k;
+      frames = λ w at copy e k s. tt;
+      moments = λ now. tt;
+      restarts = tt;
+      congestion = λ on. tt;
+      cursor = λ w next k. record { rest = k.rest; each = k.each };
+      clock = clock_goes_on reuse;
+      outside = λ w subnet sender target octets k. record { rest = k.rest; each = k.each };
+      injected = λ now copy subnet sender target. tt;
+      fine = any_line_is_fine;
+    })
+    plan (any_events plan.events) moves (first_world plan) (first_rests plan)).rest
