@@ -24,7 +24,7 @@ use Rattle.clnp_network.specs.Safe.{IsWithinBudgets, IsWithinLifetimes, MeetsLif
 use Rattle.clnp_safety.specs.StepLaws.{StepLaws}
 use Rattle.clnp_safety.proofs.Lines.{AnyLine, any_line_is_fine}
 use Rattle.clnp_safety.proofs.Steps.{Keeps, keeps-put_all_out, with_outside}
-use Rattle.clnp_safety.proofs.EveryMove.{AnyInput, IsOfClock, any_events, asked_by_all, keeps-moves}
+use Rattle.clnp_safety.proofs.EveryMove.{AnyFrame, AnyInput, IsOfClock, any_events, asked_by_all, keeps-moves}
 use Rattle.clnp_safety.proofs.Units.{lives_within}
 
 -- Hops and lifetimes.
@@ -90,15 +90,15 @@ content_meets number moment octets true unrefused = omega arith
 content_meets number moment octets false true = tt
 content_meets number moment octets false false = tt
 
-outside_meets : (w : World) (subnet : ℕ) (sender : List ℕ) (target : Target) (octets : List ℕ) → IsWithinLifetimes w
-    → IsWithinLifetimes (with_outside w subnet sender target octets)
-outside_meets w subnet sender target octets k =
+outside_meets : (w : World) (subnet : ℕ) (sender : List ℕ) (target : Target) (octets : List ℕ) → AnyFrame sender octets
+    → IsWithinLifetimes w → IsWithinLifetimes (with_outside w subnet sender target octets)
+outside_meets w subnet sender target octets any k =
     AllByRecursion-append Bounded w.copies (copy_from_outside (length w.copies + 1) w.clock subnet sender target octets ∷ []) k
     (content_meets (length w.copies + 1) w.clock octets (is_accepted octets) (is_none (why_refused octets)), tt)
 
 pub lifetimes_hold : StepLaws → (plan : Plan) (moves : List Move) → IsWithinLifetimes (world_after plan (first_world plan) moves)
 lifetimes_hold laws plan moves =
-    keeps-moves ComesWithin IsWithinLifetimes AnyLine
+    keeps-moves ComesWithin AnyFrame IsWithinLifetimes AnyLine
     (record { steps = step_meets laws; frames = frame_comes_within; moments = λ now. tt; restarts = tt; congestion = λ on. tt; cursor = λ w next k. k; clock = λ w k. k; outside = outside_meets; injected = λ now copy subnet sender target. tt; fine = any_line_is_fine })
     plan (asked_by_all ComesWithin (λ from to octets ask. tt) (λ from to octets. tt) plan.events) moves (first_world plan) tt
 
@@ -131,7 +131,7 @@ opened_within limits place (system ∷ systems) = (omega arith, opened_within li
 
 pub budgets_hold : StepLaws → (plan : Plan) (moves : List Move) → IsWithinBudgets (world_after plan (first_world plan) moves)
 budgets_hold laws plan moves =
-    keeps-moves AnyInput IsWithinBudgets AnyLine
-    (record { steps = step_within laws; frames = λ w at copy e k s. tt; moments = λ now. tt; restarts = tt; congestion = λ on. tt; cursor = λ w next k. k; clock = λ w k. k; outside = λ w subnet sender target octets k. k; injected = λ now copy subnet sender target. tt; fine = any_line_is_fine })
+    keeps-moves AnyInput AnyFrame IsWithinBudgets AnyLine
+    (record { steps = step_within laws; frames = λ w at copy e k s. tt; moments = λ now. tt; restarts = tt; congestion = λ on. tt; cursor = λ w next k. k; clock = λ w k. k; outside = λ w subnet sender target octets any k. k; injected = λ now copy subnet sender target. tt; fine = any_line_is_fine })
     plan (any_events plan.events) moves (first_world plan)
     (opened_within plan.limits 0 plan.systems)

@@ -38,7 +38,7 @@ abbrev unit_shape : unit.Unit → Shape
 unit_shape u = record { total = u.total; head_len = header_size u; kind = type_code u.kind }
 
 shape_offered : StepLaws → (units : List unit.Unit) (p : Packet) → IsRangeOf units p → (offered p []).shape ≡ unit_shape p.unit
-shape_offered laws units p range = ap (λ n. record { total = p.unit.total; head_len = n; kind = type_code p.unit.kind }) (laws.headers.header units p range)
+shape_offered laws units p range = ap (λ n. record { total = p.unit.total; head_len = n; kind = type_code p.unit.kind }) (laws.headers.header p range.options)
 
 -- a buffer that is sound, and isn't due
 pub record IsLive (plan : Plan) (units : List unit.Unit) (now : ℕ) (buffer : Buffer Packet) : Type 0 where

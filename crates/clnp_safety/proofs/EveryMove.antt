@@ -18,15 +18,20 @@ use Rattle.clnp_network.specs.World.{World, Copy, takes_effect, comes, frame_to,
 use Rattle.clnp_network.specs.Run.{Entry, entries_of, world_after}
 use Rattle.clnp_safety.proofs.Steps.{InjectedIsFine, Keeps, NotGivenIsFine, keeps-nothing, keeps-followed_by, keeps-comes_to, keeps-asks, keeps-give_each, keeps-deliver, keeps-injects, with_outside}
 
--- what an event asks of a system is such as Comes says
-abbrev pub GivesOnly : (Input → Type 0) → Event → Type 0
-GivesOnly Comes (Send system from to body ask) = Comes (AsksToSend from to (octets_of body) ask)
-GivesOnly Comes (Echo system from to body) = Comes (AsksForEcho from to (octets_of body))
-GivesOnly Comes _ = Unit {0}
+-- what an event asks of a system is such as Comes says, and a frame from outside such as Brings says of its sender and octets
+abbrev pub GivesOnly : (Comes : Input → Type 0) (Brings : List ℕ → List ℕ → Type 0) → Event → Type 0
+GivesOnly Comes Brings (Send system from to body ask) = Comes (AsksToSend from to (octets_of body) ask)
+GivesOnly Comes Brings (Echo system from to body) = Comes (AsksForEcho from to (octets_of body))
+GivesOnly Comes Brings (Inject subnet from to octets) = Brings from octets
+GivesOnly Comes Brings _ = Unit {0}
 
 -- whatever comes to a system
 abbrev pub AnyInput : Input → Type 0
 AnyInput input = Unit {0}
+
+-- whatever comes from outside
+abbrev pub AnyFrame : List ℕ → List ℕ → Type 0
+AnyFrame sender octets = Unit {0}
 
 -- the moment that comes is that of the clock
 abbrev pub IsOfClock : World → Input → Type 0
@@ -35,22 +40,22 @@ IsOfClock w _ = Unit {0}
 
 module _ (Comes : Input → Type 0) (asked : (from to octets : List ℕ) (ask : Ask) → Comes (AsksToSend from to octets ask))
     (echo : (from to octets : List ℕ) → Comes (AsksForEcho from to octets)) where
-  asked_by : (event : Event) → GivesOnly Comes event
+  asked_by : (event : Event) → GivesOnly Comes AnyFrame event
   asked_by (Send system from to body ask) = asked from to (octets_of body) ask
   asked_by (Echo system from to body) = echo from to (octets_of body)
   asked_by _ = tt
 
   -- whatever is asked is such as Comes says, and so all events ask only that
-  pub asked_by_all : (events : List Event) → AllByRecursion (GivesOnly Comes) events
-  asked_by_all events = AllByRecursion-any (GivesOnly Comes) asked_by events
+  pub asked_by_all : (events : List Event) → AllByRecursion (GivesOnly Comes AnyFrame) events
+  asked_by_all events = AllByRecursion-any (GivesOnly Comes AnyFrame) asked_by events
 
-pub any_events : (events : List Event) → AllByRecursion (GivesOnly AnyInput) events
+pub any_events : (events : List Event) → AllByRecursion (GivesOnly AnyInput AnyFrame) events
 any_events events = asked_by_all AnyInput (λ from to octets ask. tt) (λ from to octets. tt) events
 
 -- K holds of the world after each step of a system of one of which it holds, and Q of the lines, where what comes is such
 -- as Comes says, as all is that asks nothing where K holds; K doesn't go by the cursor, and the clock may go
 -- on, and frames come from outside
-pub record EachStepKeeps (Comes : Input → Type 0) (K : World → Type 0) (Q : Line → Type 0) : Type 0 where
+pub record EachStepKeeps (Comes : Input → Type 0) (Brings : List ℕ → List ℕ → Type 0) (K : World → Type 0) (Q : Line → Type 0) : Type 0 where
   pub steps : (w : World) (place : ℕ) (s : SystemState) (input : Input) → slice_get w.systems place ≡ Some s → Comes input → IsOfClock w input
       → K w → Keeps K Q (takes_effect w place (step s input))
   pub frames : (w : World) (at : ℕ) (copy : Copy) → slice_get w.copies at ≡ Some copy → K w → (s : SystemState) → Comes (frame_to s copy)
@@ -59,11 +64,12 @@ pub record EachStepKeeps (Comes : Input → Type 0) (K : World → Type 0) (Q : 
   pub congestion : (on : Bool) → Comes (IsCongested on)
   pub cursor : (w : World) (next : ℕ) → K w → K (record w { cursor = next })
   pub clock : (w : World) → K w → K (record w { clock = w.clock + 1 })
-  pub outside : (w : World) (subnet : ℕ) (sender : List ℕ) (target : Target) (octets : List ℕ) → K w → K (with_outside w subnet sender target octets)
+  pub outside : (w : World) (subnet : ℕ) (sender : List ℕ) (target : Target) (octets : List ℕ) → Brings sender octets → K w
+      → K (with_outside w subnet sender target octets)
   pub injected : InjectedIsFine Q
   pub fine : NotGivenIsFine Q
 
-module _ (Comes : Input → Type 0) (K : World → Type 0) (Q : Line → Type 0) (each : EachStepKeeps Comes K Q) where
+module _ (Comes : Input → Type 0) (Brings : List ℕ → List ℕ → Type 0) (K : World → Type 0) (Q : Line → Type 0) (each : EachStepKeeps Comes Brings K Q) where
   keeps-comes : (w : World) (place : ℕ) (input : Input) → Comes input → IsOfClock w input → K w → Keeps K Q (comes w place input)
   keeps-comes w place input may at k =
       keeps-comes_to K Q w place input (slice_get w.systems place) (λ none. k) (λ s there. each.steps w place s input there may at k)
@@ -74,7 +80,7 @@ module _ (Comes : Input → Type 0) (K : World → Type 0) (Q : Line → Type 0)
       keeps-followed_by K Q K (comes w place (MomentComes w.clock)) (λ v. tick_each v places)
       (keeps-comes w place (MomentComes w.clock) (each.moments w.clock) refl k) (keeps-tick_each places)
 
-  keeps-event : (subnets : List Subnetwork) (limits : Limits) (w : World) (asked : Option Event) → ((event : Event) → asked ≡ Some event → GivesOnly Comes event) → K w
+  keeps-event : (subnets : List Subnetwork) (limits : Limits) (w : World) (asked : Option Event) → ((event : Event) → asked ≡ Some event → GivesOnly Comes Brings event) → K w
       → Keeps K Q (event_happens subnets limits w asked)
   keeps-event subnets limits w (Some (Deliver number system)) may k =
       keeps-deliver K Q each.fine limits w number system k
@@ -87,7 +93,7 @@ module _ (Comes : Input → Type 0) (K : World → Type 0) (Q : Line → Type 0)
   keeps-event subnets limits w (Some (Echo system from to body)) may k =
       keeps-comes w system (AsksForEcho from to (octets_of body)) (may (Echo system from to body) refl) tt k
   keeps-event subnets limits w (Some (Inject subnet from to octets)) may k =
-      keeps-injects K Q w subnet from to octets k (each.outside w subnet from to octets k) each.injected subnets
+      keeps-injects K Q w subnet from to octets k (each.outside w subnet from to octets (may (Inject subnet from to octets) refl) k) each.injected subnets
   keeps-event subnets limits w (Some (Settle count)) may k = keeps-nothing K Q w k
   keeps-event subnets limits w (Some (Lose count)) may k = keeps-nothing K Q w k
   keeps-event subnets limits w (Some (Tick count)) may k = keeps-nothing K Q w k
@@ -104,10 +110,10 @@ module _ (Comes : Input → Type 0) (K : World → Type 0) (Q : Line → Type 0)
   keeps-lose w None k = keeps-nothing K Q w k
   keeps-lose w (Some copy) k = keeps-nothing K Q (record w { cursor = w.cursor + 1 }) (each.cursor w (w.cursor + 1) k)
 
-  module _ (plan : Plan) (may : AllByRecursion (GivesOnly Comes) plan.events) where
+  module _ (plan : Plan) (may : AllByRecursion (GivesOnly Comes Brings) plan.events) where
     pub keeps-move : (w : World) (move : Move) → K w → Keeps K Q (after plan w move)
     keeps-move w (One place) k =
-        keeps-event plan.subnets plan.limits w (slice_get plan.events place) (λ event there. AllByRecursion-slice_get (GivesOnly Comes) plan.events place event there may) k
+        keeps-event plan.subnets plan.limits w (slice_get plan.events place) (λ event there. AllByRecursion-slice_get (GivesOnly Comes Brings) plan.events place event there may) k
     keeps-move w SettleOne k = keeps-settle plan.limits w (slice_get w.copies w.cursor) refl k
     keeps-move w LoseOne k = keeps-lose w (slice_get w.copies w.cursor) k
     keeps-move w TickOne k = keeps-tick_each (range_with_len 0 (length w.systems)) (record w { clock = w.clock + 1 }) (each.clock w k)

@@ -54,7 +54,7 @@ module _ (laws : StepLaws) (units : List unit.Unit) (p : Packet) (sound : IsRang
   none_follows : (identifier : ℕ) → p.unit.identifier ≡ Some identifier → (value_of p).more ≡ false → length p.unit.octets ≤ p.offset + p.length
   none_follows identifier is none =
       let reaches = ltb-false (p.offset + p.length) (p.unit.total - header_length (value_with p false)) (ap (more_follows p) (sym is) ∙ none) in
-      let same : header_length (value_with p false) ≡ header_size p.unit = laws.headers.header units p sound in
+      let same : header_length (value_with p false) ≡ header_size p.unit = laws.headers.header p sound.options in
       omega arith
 
   whole_by : (identifier : Option ℕ) → p.unit.identifier ≡ identifier → (is_none identifier || ((p.offset == 0) && not (value_of p).more)) ≡ true

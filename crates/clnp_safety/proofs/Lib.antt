@@ -33,3 +33,4 @@ pub mod Redirects
 pub mod Stops
 pub mod Drawing
 pub mod Resting
+pub mod Carried

@@ -22,7 +22,7 @@ use Rattle.clnp_safety.specs.Invariant.{AreUsesUntil, EachRests, IsInUses}
 use Rattle.clnp_safety.specs.StepLaws.{StepLaws}
 use Rattle.clnp_safety.proofs.Deeds.{IsWhole, whole_rest}
 use Rattle.clnp_safety.proofs.Drawing.{Draws, DrawsNone, step_draws}
-use Rattle.clnp_safety.proofs.EveryMove.{AnyInput, IsOfClock, any_events, keeps-moves}
+use Rattle.clnp_safety.proofs.EveryMove.{AnyFrame, AnyInput, IsOfClock, any_events, keeps-moves}
 use Rattle.clnp_safety.proofs.Lines.{AnyLine, any_line_is_fine}
 use Rattle.clnp_safety.proofs.Opens.{opened}
 use Rattle.clnp_safety.proofs.Restarting.{no_uses}
@@ -249,7 +249,7 @@ first_rests plan = record {
 pub identifiers_rest : StepLaws → (plan : Plan) (moves : List Move) → IdentifiersRest plan.limits.reuse (world_after plan (first_world plan) moves)
 identifiers_rest laws plan moves =
     let reuse : ℕ = plan.limits.reuse in
-    (keeps-moves AnyInput (UnitsRest reuse) AnyLine
+    (keeps-moves AnyInput AnyFrame (UnitsRest reuse) AnyLine
     (record {
       steps = λ w place s input there any at k. keeps-resting laws reuse w place s input there at k;
       frames = λ w at copy e k s. tt;
@@ -258,7 +258,7 @@ identifiers_rest laws plan moves =
       congestion = λ on. tt;
       cursor = λ w next k. record { rest = k.rest; each = k.each };
       clock = clock_goes_on reuse;
-      outside = λ w subnet sender target octets k. record { rest = k.rest; each = k.each };
+      outside = λ w subnet sender target octets any k. record { rest = k.rest; each = k.each };
       injected = λ now copy subnet sender target. tt;
       fine = any_line_is_fine;
     })

@@ -18,7 +18,7 @@ use Rattle.reassembly.specs.Arrival.{Arrival}
 use Rattle.reassembly.specs.Buffer.{Buffer}
 use Rattle.clnp_network.specs.World.{World, Copy, after, event_happens, deliver, settle_one, lose_one, tick_one, first_world}
 use Rattle.clnp_network.specs.Run.{Entry, entries_of, moves_made, run, world_after}
-use Rattle.clnp_network.specs.Safe.{AsksFor, CarriesRanges, EachIsFounded, EachWasSent, FramesAreUnbroken, HoldsOneUnit, HoldsUnitsApart, IsHonest, IsSend, IsUnbroken, KeepsHeader, KeepsHeaders, NoInterference, NoneIsAlien, RangeIn, TellsNoRule}
+use Rattle.clnp_network.specs.Safe.{AsksFor, CarriesRanges, EachIsFounded, EachWasSent, FramesAreUnbroken, HoldsOneUnit, HoldsUnitsApart, IsHonest, IsSend, IsUnbroken, NoInterference, NoneIsAlien, RangeIn, TellsNoRule}
 use Rattle.clnp_safety.specs.Invariant.{BufferIsSound, Carries, CopyIsSound, IsBornWithUnit, IsOfUnit, WorldIsSound}
 use Rattle.clnp_safety.specs.StepLaws.{StepLaws}
 use Rattle.clnp_safety.proofs.Lines.{LinesAreSound, lines_are_apart, lines_are_founded, lines_are_honest, lines_are_known, lines_tell_no_rule}
@@ -163,17 +163,6 @@ frames_are_unbroken laws plan fit closed moves =
     let w = world_after plan (first_world plan) moves in
     AllByRecursion-implies (CopyIsSound w.units) (λ (copy : Copy). IsUnbroken copy.content)
     (λ copy h. unbroken laws w.units copy.content h.carries h.carried) w.copies (last_is_sound laws plan fit closed moves).1.copies
-
-keeps_header : StepLaws → (units : List unit.Unit) (content : Content) → Carries (IsRangeOf units) content → KeepsHeader content
-keeps_header laws units (Labelled packet following) carries = laws.headers.header units packet carries.0
-keeps_header laws units (Esis value following) carries = tt
-keeps_header laws units (Unlabelled octets) carries = tt
-
-pub headers_are_kept : StepLaws → (plan : Plan) → IsFit plan → IsClosed plan → (moves : List Move) → KeepsHeaders (world_after plan (first_world plan) moves)
-headers_are_kept laws plan fit closed moves =
-    let w = world_after plan (first_world plan) moves in
-    AllByRecursion-implies (CopyIsSound w.units) (λ (copy : Copy). KeepsHeader copy.content)
-    (λ copy h. keeps_header laws w.units copy.content h.carries) w.copies (last_is_sound laws plan fit closed moves).1.copies
 
 one_unit : (plan : Plan) (units : List unit.Unit) (buffer : Buffer Packet) → BufferIsSound plan units buffer → HoldsOneUnit units buffer
 one_unit plan units buffer h =

@@ -4,3 +4,4 @@ pub mod Refusal
 pub mod Owners
 pub mod Outputs
 pub mod StepLaws
+pub mod Outside

@@ -18,12 +18,12 @@ use Rattle.reassembly.specs.Buffer.{Buffer, buffer_of, clashes, held, without}
 use Rattle.clnp_plan.specs.Configuration.{IsAddressed, IsSystem}
 use Rattle.clnp_machine.specs.Unit as unit
 use Rattle.clnp_machine.specs.Unit.{IsCarriable, Packet, value_of, wire}
-use Rattle.clnp_machine.specs.Content.{Content, frame_of}
+use Rattle.clnp_machine.specs.Content.{Content, IsCarried, content_of, frame_of}
 use Rattle.clnp_machine.specs.System.{SystemState, Input, IsRestarted}
 use Rattle.clnp_machine.specs.Local.{Action, discard, gives_up, header_size, made_in, refusal, tick}
 use Rattle.clnp_machine.specs.Esis.{esis_comes, forgets, says_hello}
 use Rattle.clnp_machine.specs.Step.{outputs_of, responds, step}
-use Rattle.clnp_machine.specs.Steps.{BreaksNoEsisRule, BreaksNoRule, IsAtMostReportOf, IsFair, IsForOwn, IsFresh, IsMadeFor, IsNoRestart, IsRangeOf, IsWithinBudget, KeepsAsOffered, KnowsAddresses, NotesOnly, OnlyHellos, ReportsOn, RestartsNothing, SendsCarriable, SendsEsisPdus, SendsRangesOrGoesOn, StaysItself, WasPendingOrMade, moment_after}
+use Rattle.clnp_machine.specs.Steps.{BreaksNoEsisRule, BreaksNoRule, IsAtMostReportOf, IsFair, IsForOwn, IsFresh, IsMadeFor, IsNoRestart, IsWithinBudget, KeepsAsOffered, KnowsAddresses, NotesOnly, OnlyHellos, ReportsOn, RestartsNothing, SendsCarriable, SendsEsisPdus, SendsRangesOrGoesOn, StaysItself, WasPendingOrMade, moment_after}
 use Rattle.clnp_machine.specs.Told.{IsAllowed, IsRefusal, IsToldBy, NoteIsQuiet, NotesNoRule, SpellsPdus, TellsNoInterference, TellsOnly, WasThereOrTakes}
 
 -- of a whole step
@@ -40,6 +40,7 @@ pub record OfSteps : Type 0 where
   pub ranges : (s : SystemState) (input : Input) → AllByRecursion (SendsRangesOrGoesOn s input (step s input).units) (step s input).outputs
   pub carriable : (s : SystemState) (input : Input) → IsSystem s.configuration → IsFair input → All IsAddress s.configuration.addresses
       → KeepsAsOffered s → AllByRecursion SendsCarriable (step s input).outputs
+  pub kept : (s : SystemState) (input : Input) → IsFair input → KeepsAsOffered s → KeepsAsOffered (step s input).after
   pub esis_pdus : (s : SystemState) (input : Input) → IsSystem s.configuration → IsAddressed s.configuration → IsFair input
       → KnowsAddresses s → AllByRecursion SendsEsisPdus (step s input).outputs
   pub known : (s : SystemState) (input : Input) → IsFair input → KnowsAddresses s → KnowsAddresses (step s input).after
@@ -77,7 +78,8 @@ pub record OfSegments : Type 0 where
 
 -- of a packet's header, and of the options in it, whose form a router keeps
 pub record OfHeaders : Type 0 where
-  pub header : (units : List unit.Unit) (p : Packet) → IsRangeOf units p → header_length (value_of p) ≡ header_size p.unit
+  pub header : (p : Packet) → HaveOneForm p.options p.unit.options → header_length (value_of p) ≡ header_size p.unit
+  pub same : (options : List Parameter) → HaveOneForm options options
   pub chained : (first second third : List Parameter) → HaveOneForm first second → HaveOneForm second third → HaveOneForm first third
 
 pub record StepLaws : Type 0 where
@@ -86,6 +88,7 @@ pub record StepLaws : Type 0 where
   pub hellos : OfHellos
   pub segments : OfSegments
   pub headers : OfHeaders
+  pub outside : (number moment : ℕ) (octets : List ℕ) → IsBytes octets → IsCarried (content_of number moment octets)
   pub frames : (p : Packet) (following : List ℕ) → IsCarriable p → BreaksNoRule (wire p ++ following)
   pub answers : (request_data reply_data : List ℕ) → IsBytes reply_data → IsTrue (echoes request_data reply_data) ↔ Echoes request_data reply_data
   pub esis_frames : (value : EsisValue) (following : List ℕ) → IsPdu value → BreaksNoEsisRule (spelling value ++ following)

@@ -8,6 +8,7 @@ ghost use Rattle.clnp_network.specs.World.{World, after, first_world};
 ghost use Rattle.clnp_network.specs.Run.{Entry, entries_of, full_weight, run, text_of, until_full, world_after};
 ghost use Rattle.clnp_network.specs.Safe.{CarriesRanges, EachIsFounded, EachWasSent, FramesAreUnbroken, HoldsUnitsApart, IdentifiersRest, IsHonest, IsSend, NoRefusal, IsWithinBudgets, IsWithinLifetimes, KeepsHeaders, NoInterference, NoneIsAlien, RedirectsChangeOneNextHop, TellsNoRule};
 ghost use Rattle.clnp_safety.specs.Growth.{IsFront, IsFullAt, IsWithinCopies};
+ghost use Rattle.clnp_safety.specs.Outside.{PdusAreUnbroken};
 ghost use Rattle.clnp_safety.specs.Owners.{IsByOwner};
 ghost use Rattle.clnp_safety.specs.Refusal.{LeavesNothing};
 ghost use Rattle.clnp_safety.specs.StepLaws.{StepLaws};
@@ -53,11 +54,19 @@ pub fn no_frame_breaks_a_rule()
     laws_of_steps();
 }
 
-/// Without frames from outside the header of each packet of a run is as long as that of its unit's
-/// initial PDU, however often the packet was cut and forwarded: routers change the values of options,
-/// and never their lengths.
+/// The header of each packet of a run is as long as that of its unit's initial PDU, however often the
+/// packet was cut and forwarded, and whatever frames come from outside: routers change the values of
+/// options, and never their lengths.
 pub fn headers_keep_their_length()
-    ensures { (plan : Plan) → IsFit plan → IsClosed plan → (moves : List Move) → KeepsHeaders (world_after plan (first_world plan) moves) }
+    ensures { (plan : Plan) → IsFit plan → (moves : List Move) → KeepsHeaders (world_after plan (first_world plan) moves) }
+{
+    laws_of_steps();
+}
+
+/// Whatever frames come from outside, each frame of a run that carries a packet or an ES-IS value breaks
+/// no rule of its protocol: what systems send and send on is never broken.
+pub fn no_pdu_breaks_a_rule()
+    ensures { (plan : Plan) → IsFit plan → (moves : List Move) → PdusAreUnbroken (world_after plan (first_world plan) moves) }
 {
     laws_of_steps();
 }
@@ -190,7 +199,9 @@ fn laws_of_steps()
     machine::a_segment_is_kept_in_its_buffer();
     machine::carriable_packets_break_no_rule();
     machine::esis_pdus_break_no_rule();
-    machine::headers_keep_their_length();
+    machine::octets_have_a_content();
     clnp_options::laws::edits_keep_the_form();
+    clnp_options::laws::edits_keep_options_formed();
+    pdu_header::laws::edited_pdus_are_pdus();
     echo::laws::the_test_is_the_rule();
 }

@@ -1,4 +1,4 @@
-use Rattle.clnp_safety.proofs.Runs.{headers_are_kept}
+use Rattle.clnp_safety.proofs.Carried.{headers_are_kept}
 use Rattle.clnp_safety.proofs.laws.headers_keep_their_length.Goals as goal
 
 pub returns : goal.returns

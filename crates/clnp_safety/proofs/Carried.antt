@@ -1,0 +1,235 @@
+-- Whatever comes from outside, each frame carries what one may carry, and the options of a packet have the form of its unit's.
+use Rattle.clnp_base.proofs.Lists.{AllByRecursion-append, AllByRecursion-both, AllByRecursion-implies, AllByRecursion-slice_get, set_each}
+use Rattle.std.proofs.Common.{◌≡◌, ◌∙◌, refl, sym, ap, subst, ℕ, ◌+◌, inl, inr, Bool, true, false, List, [], ◌∷◌, length, Option, None, Some, arith}
+use Rattle.std.specs.Prelude.{if◌then◌else◌, is_none, slice_get}
+use Rattle.std.specs.List.{AllByRecursion}
+use Rattle.hex.specs.Hex.{IsBytes}
+use Rattle.nsap.specs.Address.{IsAddress}
+use Rattle.nsap.specs.declared.target.Target.{Target}
+use Rattle.clnp_options.specs.Edits.{HaveOneForm}
+use Rattle.pdu_header.specs.Reading.{rest_of}
+use Rattle.esis_pdus.specs.Grammar.{IsPdu}
+use Rattle.esis_pdus.specs.Reading as esis_reading
+use Rattle.esis_pdus.specs.Rules.{why_refused}
+use Rattle.clnp_plan.specs.Configuration.{SystemConfiguration}
+use Rattle.clnp_plan.specs.declared.config.PortConfig.{PortConfig}
+use Rattle.scenario.specs.Scenario.{AsksFairly, AsksInForm, InjectsInForm, IsFit, Plan}
+use Rattle.scenario.specs.declared.event.Event.{Event}
+use Rattle.scenario.specs.declared.event.Event.TheVariants.{Send, Echo, Inject}
+use Rattle.scenario.specs.declared.event.Move.{Move}
+use Rattle.clnp_machine.specs.Unit as unit
+use Rattle.clnp_machine.specs.Unit.{Maker, DeclaredAt, IsCarriable, Packet}
+use Rattle.clnp_machine.specs.Content.{Content, IsCarried, Labelled, Esis, Unlabelled, esis_value_in, is_accepted, packet_from_outside, value_in}
+use Rattle.clnp_machine.specs.System.{SystemState, Input, FrameComes, Output, Transmits, SendsEsis, Notes, Effect}
+use Rattle.clnp_machine.specs.Step.{step}
+use Rattle.clnp_machine.specs.Steps.{GoesOnOf, IsFair, KeepsAsOffered, KnowsAddresses, SendsCarriable, SendsEsisPdus, SendsRangesOrGoesOn}
+use Rattle.clnp_network.specs.World.{World, Copy, copy_from, copy_from_outside, frame_to, sends_frame, put_out, takes_effect, with_effect, first_world}
+use Rattle.clnp_network.specs.Run.{world_after}
+use Rattle.clnp_network.specs.Safe.{KeepsHeader, KeepsHeaders}
+use Rattle.clnp_safety.specs.Outside.{PduIsUnbroken, PdusAreUnbroken}
+use Rattle.clnp_safety.specs.StepLaws.{StepLaws}
+use Rattle.clnp_safety.proofs.Effects.{configured}
+use Rattle.clnp_safety.proofs.EveryMove.{GivesOnly, IsOfClock, keeps-moves}
+use Rattle.clnp_safety.proofs.Lines.{AnyLine, any_line_is_fine}
+use Rattle.clnp_safety.proofs.Opens.{opened}
+use Rattle.clnp_safety.proofs.Outputs.{PortsAreAddressed}
+use Rattle.clnp_safety.proofs.Steps.{Keeps, keeps-put_all_out, with_outside}
+
+-- the options of a packet have the form of its unit's
+abbrev IsInForm : Content → Type 0
+IsInForm (Labelled packet following) = HaveOneForm packet.options packet.unit.options
+IsInForm (Esis value following) = Unit {0}
+IsInForm (Unlabelled octets) = Unit {0}
+
+-- a frame comes from an address, and carries what one may carry
+record IsCarriedInForm (copy : Copy) : Type 0 where
+  sender : IsAddress copy.sender
+  carried : IsCarried copy.content
+  form : IsInForm copy.content
+
+-- the system at a place is that of the plan, keeps segments as they were offered, and heard of systems at addresses
+record IsOfPlan (plan : Plan) (place : ℕ) (s : SystemState) : Type 0 where
+  declared : slice_get plan.systems place ≡ Some s.configuration
+  kept : KeepsAsOffered s
+  known : KnowsAddresses s
+
+record AllIsCarried (plan : Plan) (w : World) : Type 0 where
+  copies : AllByRecursion IsCarriedInForm w.copies
+  each : (place : ℕ) (s : SystemState) → slice_get w.systems place ≡ Some s → IsOfPlan plan place s
+
+-- What comes.
+
+abbrev FrameInForm : Input → Type 0
+FrameInForm (FrameComes port sender to_group content) = IsInForm content
+FrameInForm _ = Unit {0}
+
+abbrev ComesFairly : Input → Type 0
+ComesFairly input = IsFair input × FrameInForm input
+
+abbrev IsBroughtFairly : List ℕ → List ℕ → Type 0
+IsBroughtFairly sender octets = IsAddress sender × IsBytes octets
+
+event_gives : (subnets : ℕ) (event : Event) → AsksFairly event → AsksInForm event × InjectsInForm subnets event → GivesOnly ComesFairly IsBroughtFairly event
+event_gives subnets (Send system from to body ask) fair formed = ((formed.0, fair), tt)
+event_gives subnets (Echo system from to body) fair formed = ((formed.0.0, formed.0.1), tt)
+event_gives subnets (Inject subnet from to octets) fair formed = (formed.1.sender, formed.1.bytes)
+event_gives subnets _ fair formed = tt
+
+events_give : (plan : Plan) → IsFit plan → AllByRecursion (GivesOnly ComesFairly IsBroughtFairly) plan.events
+events_give plan fit =
+    let subnets = length plan.subnets in
+    AllByRecursion-both AsksFairly (λ event. AsksInForm event × InjectsInForm subnets event) (GivesOnly ComesFairly IsBroughtFairly) (event_gives subnets) plan.events
+    fit.asks
+    (AllByRecursion-both AsksInForm (InjectsInForm subnets) (λ event. AsksInForm event × InjectsInForm subnets event) (λ event formed injected. (formed, injected))
+    plan.events fit.formed fit.injected)
+
+-- What a step sends.
+
+-- what is sent is what a frame may carry, in form
+abbrev SendsInForm : Output → Type 0
+SendsInForm (Transmits port target packet) = IsCarriable packet × HaveOneForm packet.options packet.unit.options
+SendsInForm (SendsEsis port target value) = IsPdu value
+SendsInForm (Notes note) = Unit {0}
+
+copy_in_form : (found : Option PortConfig) (target : Target) (maker : Maker) (birth : ℕ) (content : Content)
+    → ((port : PortConfig) → found ≡ Some port → IsAddress port.snpa) → IsCarried content → IsInForm content
+    → AllByRecursion IsCarriedInForm (copy_from found target maker birth content)
+copy_in_form None target maker birth content addressed carried form = tt
+copy_in_form (Some port) target maker birth content addressed carried form = (record { sender = addressed port refl; carried = carried; form = form }, tt)
+
+module _ (plan : Plan) where
+  frame_is_carried : (system : SystemState) → PortsAreAddressed system → (v : World) (port : ℕ) (target : Target) (maker : Maker) (birth : ℕ) (content : Content)
+      → IsCarried content → IsInForm content → AllIsCarried plan v → Keeps (AllIsCarried plan) AnyLine (sends_frame system v port target maker birth content)
+  frame_is_carried system addressed v port target maker birth content carried form k = record {
+    world = record {
+      copies = AllByRecursion-append IsCarriedInForm v.copies (copy_from (slice_get system.configuration.ports port) target maker birth content) k.copies
+          (copy_in_form (slice_get system.configuration.ports port) target maker birth content
+          (λ config there. AllByRecursion-slice_get (λ (port : PortConfig). IsAddress port.snpa) system.configuration.ports port config there addressed) carried form);
+      each = k.each;
+    };
+    lines = (tt, tt);
+  }
+
+  output_is_carried : (system : SystemState) → PortsAreAddressed system → (output : Output) → SendsInForm output → (v : World) → AllIsCarried plan v
+      → Keeps (AllIsCarried plan) AnyLine (put_out system v output)
+  output_is_carried system addressed (Notes note) sends v k = record { world = k; lines = (tt, tt) }
+  output_is_carried system addressed (Transmits port target packet) sends v k =
+      frame_is_carried system addressed v port target packet.unit.maker packet.unit.made (Labelled packet []) sends.0 sends.1 k
+  output_is_carried system addressed (SendsEsis port target value) sends v k =
+      frame_is_carried system addressed v port target (DeclaredAt system.place) v.clock (Esis value []) sends tt k
+
+module _ (laws : StepLaws) (s : SystemState) where
+  -- a packet that goes on has options of its unit's form, as that which came has
+  on_in_form : (port : ℕ) (input : Input) (p : Packet) → ComesFairly input → GoesOnOf s port input p → HaveOneForm p.options p.unit.options
+  on_in_form port (FrameComes at sender to_group (Labelled came following)) p comes on =
+      laws.headers.chained p.options came.options p.unit.options (on.options comes.0.1)
+      (subst (λ (u : unit.Unit). HaveOneForm came.options u.options) (sym on.unit) comes.1)
+  on_in_form port _ p comes on = absurd on
+
+  sends_in_form : (input : Input) → ComesFairly input → (made : List unit.Unit) (output : Output) → SendsRangesOrGoesOn s input made output
+      → SendsCarriable output × SendsEsisPdus output → SendsInForm output
+  sends_in_form input comes made (Notes note) ranges sends = tt
+  sends_in_form input comes made (Transmits port target packet) ranges sends =
+      (sends.0, elim ranges [ inl new ↦ new.options | inr on ↦ on_in_form port input packet comes on ])
+  sends_in_form input comes made (SendsEsis port target value) ranges sends = sends.1
+
+module _ (laws : StepLaws) (plan : Plan) (fit : IsFit plan) where
+  step_is_carried : (w : World) (place : ℕ) (s : SystemState) (input : Input) → slice_get w.systems place ≡ Some s → ComesFairly input → IsOfClock w input
+      → AllIsCarried plan w → Keeps (AllIsCarried plan) AnyLine (takes_effect w place (step s input))
+  step_is_carried w place s input there comes at k =
+      let effect : Effect = step s input in
+      let it = k.each place s there in
+      let is = configured laws plan fit [] place s.configuration it.declared in
+      let same = (laws.steps.itself s input).configuration in
+      let addressed = subst (λ (c : SystemConfiguration). AllByRecursion (λ (port : PortConfig). IsAddress port.snpa) c.ports) (sym same) is.1.ports in
+      let sends = AllByRecursion-both (SendsRangesOrGoesOn s input effect.units) (λ output. SendsCarriable output × SendsEsisPdus output) SendsInForm
+      (sends_in_form laws s input comes effect.units) effect.outputs (laws.steps.ranges s input)
+      (AllByRecursion-both SendsCarriable SendsEsisPdus (λ output. SendsCarriable output × SendsEsisPdus output) (λ output a b. (a, b)) effect.outputs
+      (laws.steps.carriable s input is.0 comes.0 is.1.own it.kept) (laws.steps.esis_pdus s input is.0 is.1 comes.0 it.known)) in
+      keeps-put_all_out (AllIsCarried plan) AnyLine effect.after effect.outputs
+      (AllByRecursion-implies SendsInForm (λ output. (v : World) → AllIsCarried plan v → Keeps (AllIsCarried plan) AnyLine (put_out effect.after v output))
+      (output_is_carried plan effect.after addressed) effect.outputs sends)
+      (with_effect w place effect)
+      (record {
+        copies = k.copies;
+        each = set_each (IsOfPlan plan) (IsOfPlan plan) w.systems place effect.after k.each (λ other t apart h. h)
+            (record {
+              declared = it.declared ∙ ap Some (sym same);
+              kept = laws.steps.kept s input comes.0 it.kept;
+              known = laws.steps.known s input comes.0 it.known;
+            });
+      })
+
+  frame_comes_fairly : (w : World) (at : ℕ) (copy : Copy) → slice_get w.copies at ≡ Some copy → AllIsCarried plan w → (s : SystemState) → ComesFairly (frame_to s copy)
+  frame_comes_fairly w at copy there k s =
+      let it = AllByRecursion-slice_get IsCarriedInForm w.copies at copy there k.copies in
+      ((it.sender, it.carried), it.form)
+
+  -- a packet from outside is all of what is known of its unit
+  outside_in_form : (number moment : ℕ) (octets : List ℕ) (accepted unrefused : Bool)
+      → IsInForm (if accepted then Labelled (packet_from_outside number moment (value_in octets)) (rest_of octets)
+      else if unrefused then Esis (esis_value_in octets) (esis_reading.rest_of octets) else Unlabelled octets)
+  outside_in_form number moment octets true unrefused = laws.headers.same (value_in octets).options
+  outside_in_form number moment octets false true = tt
+  outside_in_form number moment octets false false = tt
+
+  outside_is_carried : (w : World) (subnet : ℕ) (sender : List ℕ) (target : Target) (octets : List ℕ) → IsBroughtFairly sender octets → AllIsCarried plan w
+      → AllIsCarried plan (with_outside w subnet sender target octets)
+  outside_is_carried w subnet sender target octets brought k = record {
+    copies = AllByRecursion-append IsCarriedInForm w.copies (copy_from_outside (length w.copies + 1) w.clock subnet sender target octets ∷ []) k.copies (
+      record {
+        sender = brought.0;
+        carried = laws.outside (length w.copies + 1) w.clock octets brought.1;
+        form = outside_in_form (length w.copies + 1) w.clock octets (is_accepted octets) (is_none (why_refused octets));
+      },
+      tt,
+    );
+    each = k.each;
+  }
+
+  first_is_carried : AllIsCarried plan (first_world plan)
+  first_is_carried = record {
+    copies = tt;
+    each = λ place s there.
+        let here = opened plan.limits 0 plan.systems place place s (omega arith) there in
+        subst (IsOfPlan plan place) here.state (record { declared = here.declared; kept = tt; known = tt });
+  }
+
+  all_is_carried : (moves : List Move) → AllIsCarried plan (world_after plan (first_world plan) moves)
+  all_is_carried moves =
+      keeps-moves ComesFairly IsBroughtFairly (AllIsCarried plan) AnyLine
+      (record {
+        steps = step_is_carried;
+        frames = frame_comes_fairly;
+        moments = λ now. (tt, tt);
+        restarts = (tt, tt);
+        congestion = λ on. (tt, tt);
+        cursor = λ w next k. record { copies = k.copies; each = k.each };
+        clock = λ w k. record { copies = k.copies; each = k.each };
+        outside = outside_is_carried;
+        injected = λ now copy subnet sender target. tt;
+        fine = any_line_is_fine;
+      })
+      plan (events_give plan fit) moves (first_world plan) first_is_carried
+
+-- What follows of it.
+
+keeps_header : StepLaws → (content : Content) → IsInForm content → KeepsHeader content
+keeps_header laws (Labelled packet following) form = laws.headers.header packet form
+keeps_header laws (Esis value following) form = tt
+keeps_header laws (Unlabelled octets) form = tt
+
+pub headers_are_kept : StepLaws → (plan : Plan) → IsFit plan → (moves : List Move) → KeepsHeaders (world_after plan (first_world plan) moves)
+headers_are_kept laws plan fit moves =
+    AllByRecursion-implies IsCarriedInForm (λ (copy : Copy). KeepsHeader copy.content) (λ copy h. keeps_header laws copy.content h.form)
+    (world_after plan (first_world plan) moves).copies (all_is_carried laws plan fit moves).copies
+
+unbroken : StepLaws → (content : Content) → IsCarried content → PduIsUnbroken content
+unbroken laws (Labelled packet following) carried = laws.frames packet following carried
+unbroken laws (Esis value following) carried = laws.esis_frames value following carried
+unbroken laws (Unlabelled octets) carried = tt
+
+pub pdus_are_unbroken : StepLaws → (plan : Plan) → IsFit plan → (moves : List Move) → PdusAreUnbroken (world_after plan (first_world plan) moves)
+pdus_are_unbroken laws plan fit moves =
+    AllByRecursion-implies IsCarriedInForm (λ (copy : Copy). PduIsUnbroken copy.content) (λ copy h. unbroken laws copy.content h.carried)
+    (world_after plan (first_world plan) moves).copies (all_is_carried laws plan fit moves).copies

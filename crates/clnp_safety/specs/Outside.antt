@@ -1,0 +1,15 @@
+-- What holds of frames whether they came from outside or not.
+use Rattle.std.specs.List.{AllByRecursion}
+use Rattle.clnp_machine.specs.Content.{Content, Labelled, Esis, Unlabelled, frame_of}
+use Rattle.clnp_machine.specs.Steps.{BreaksNoEsisRule, BreaksNoRule}
+use Rattle.clnp_network.specs.World.{World}
+
+-- where a frame carries a packet it breaks no rule of PDUs, and where it carries an ES-IS value none of ES-IS PDUs
+abbrev pub PduIsUnbroken : Content → Type 0
+PduIsUnbroken (Labelled packet following) = BreaksNoRule (frame_of (Labelled packet following))
+PduIsUnbroken (Esis value following) = BreaksNoEsisRule (frame_of (Esis value following))
+PduIsUnbroken (Unlabelled octets) = Unit {0}
+
+-- so it is of each frame on the network
+abbrev pub PdusAreUnbroken : World → Type 0
+PdusAreUnbroken w = AllByRecursion (λ copy. PduIsUnbroken copy.content) w.copies
