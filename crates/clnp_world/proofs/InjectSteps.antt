@@ -1,14 +1,13 @@
 -- What a network of the code stands for after a frame came from outside.
-use Rattle.std.proofs.Common.{◌≡◌, ◌≤◌, ◌+◌, ◌∙◌, ℕ, cond, Bool, true, false, List, [], ◌∷◌, ◌++◌, length, Option, Some, None, refl, sym, ap, subst, append-nil}
+use Rattle.std.proofs.Common.{◌≡◌, ◌≤◌, ◌+◌, ◌∙◌, ℕ, cond, Bool, true, false, List, [], ◌∷◌, ◌++◌, length, Option, Some, refl, sym, ap, subst, append-nil}
 use Rattle.std.specs.Prelude.{is_none, slice_get}
-use Rattle.std.proofs.lemmas.Option.{slice_get_past}
 use Rattle.hex.specs.Hex.{IsBytes}
 use Rattle.nsap.specs.declared.target.Target.{Target}
 use Rattle.esis_pdus.specs.Reading as esis_reading
 use Rattle.esis_pdus.specs.Rules.{why_refused}
 use Rattle.pdu_header.specs.Reading.{rest_of}
-use Rattle.clnp_plan.specs.Journal.{Injected, Line, line_text}
-use Rattle.clnp_machine.specs.Content.{Content, Esis, Labelled, Unlabelled, content_of, esis_value_in, frame_of, is_accepted, packet_from_outside, value_in}
+use Rattle.clnp_plan.specs.Journal.{Injected, line_text}
+use Rattle.clnp_machine.specs.Content.{Esis, Labelled, Unlabelled, content_of, esis_value_in, is_accepted, packet_from_outside, value_in}
 use Rattle.clnp_machine.proofs.Outside.{content_carried, content_frame}
 use Rattle.clnp_network.specs.World as network
 use Rattle.scenario.specs.Scenario.{Subnetwork}
@@ -17,7 +16,6 @@ use Rattle.clnp_world.specs.Stands.{IsBornWithUnit}
 use Rattle.clnp_world.specs.Parts.{Follows, Holds, PutsCopies}
 use Rattle.clnp_world.specs.declared.network.Network.{Network}
 use Rattle.clnp_world.specs.declared.copy.FrameCopy.{FrameCopy}
-use Rattle.clnp_world.proofs.GiveSteps.{follows_nothing}
 use Rattle.clnp_world.proofs.PutSteps.{counted, shows_more}
 
 -- a unit from outside is made at the moment at which its frame comes
@@ -62,12 +60,3 @@ injects_there old code before after subnets subnet number declared sender target
           ∙ ap (λ (k : ℕ). before ++ line_text (Injected model.clock k declared.name sender target)) number_is
           ∙ ap (λ (l : List ℕ). before ++ l) (sym (append-nil (line_text (Injected model.clock next declared.name sender target))));
     }
-
--- no subnetwork was declared at the place
-pub injects_nowhere : (code : Network) (lines : List ℕ) (subnets : List Subnetwork) (subnet : ℕ) (sender : List ℕ) (target : Target) (octets : List ℕ)
-    → length subnets ≤ subnet → (model : network.World) → Holds code model
-    → Follows code lines lines (network.injects subnets model subnet sender target octets)
-injects_nowhere code lines subnets subnet sender target octets past model h =
-    let none : slice_get subnets subnet ≡ None = slice_get_past subnets subnet past in
-    subst (λ (d : Option Subnetwork). Follows code lines lines (network.injects_on model subnet d sender target octets)) (sym none)
-    (follows_nothing code lines model h)
