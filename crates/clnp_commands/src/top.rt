@@ -4,6 +4,7 @@ ghost use Rattle.std.specs.List.{AllByRecursion};
 ghost use Rattle.std.specs.Io.KnownBytes.{Consumes, Keeps};
 ghost use Rattle.clnp_base.specs.Streams.{Rose};
 ghost use Rattle.scenario.specs.Grammar.{plan_of};
+ghost use Rattle.scenario.specs.Scenario.{IsClosed};
 ghost use Rattle.clnp_network.specs.World.{World, first_world};
 ghost use Rattle.clnp_network.specs.Run.{run, world_after};
 ghost use Rattle.clnp_network.specs.Safe.{CarriesRanges, EachIsFounded, FramesAreUnbroken, HoldsUnitsApart, IdentifiersRest, IsHonest, IsWithinBudgets, IsWithinLifetimes, NoInterference, NoneIsAlien, RedirectsChangeOneNextHop, TellsNoRule};
@@ -95,51 +96,57 @@ pub fn clnp_main<S: Source, K: Sink>(
         × ((text : List ℕ) × ReadsWhole (S.left source.old) (S.left source.new) text
         × AppendsOutputParts command text (K.written sink.old) (K.written sink.new))) }
 
-    // Each data unit that the run of a scenario hands up is one that was sent before in that run.
-    ensures safe { (text : List ℕ) → IfOk (plan_of text) (λ plan. IsHonest plan (run plan)) }
+    // Where no frame comes from outside, each data unit that the run of a scenario hands up is one that
+    // was sent before in that run.
+    ensures safe { (text : List ℕ) → IfOk (plan_of text) (λ plan. IsClosed plan → IsHonest plan (run plan)) }
 
-    // In no run of a scenario does a segment meet another unit's in a buffer.
-    ensures apart { (text : List ℕ) → IfOk (plan_of text) (λ plan. AllByRecursion (λ entry. NoInterference entry.lines) (run plan)) }
+    // In no run of a scenario without frames from outside does a segment meet another unit's in a buffer.
+    ensures apart { (text : List ℕ) → IfOk (plan_of text) (λ plan. IsClosed plan → AllByRecursion (λ entry. NoInterference entry.lines) (run plan)) }
 
-    // After whatever moves of a scenario no system holds more octets for reassembly than its budget.
+    // After whatever moves of a scenario, whatever comes from outside, no system holds more octets for
+    // reassembly than its budget.
     ensures bounded { (text : List ℕ) → IfOk (plan_of text) (λ plan. (moves : List Move)
         → IsWithinBudgets (world_after plan (first_world plan) moves)) }
 
-    // After whatever moves of a scenario each copy carries a range of a unit that was made, or an ES-IS
-    // value that a PDU can carry, with nothing behind its PDU; each reassembly buffer holds segments of
-    // one such unit, and two units of one maker with one identifier were made as long apart as an
-    // identifier rests.
-    ensures carried { (text : List ℕ) → IfOk (plan_of text) (λ plan. (moves : List Move)
+    // After whatever moves of a scenario without frames from outside each copy carries a range of a unit
+    // that was made, or an ES-IS value that a PDU can carry, with nothing behind its PDU; each reassembly
+    // buffer holds segments of one such unit.
+    ensures carried { (text : List ℕ) → IfOk (plan_of text) (λ plan. IsClosed plan → (moves : List Move)
         → CarriesRanges (world_after plan (first_world plan) moves)) }
-    ensures held_apart { (text : List ℕ) → IfOk (plan_of text) (λ plan. (moves : List Move)
+    ensures held_apart { (text : List ℕ) → IfOk (plan_of text) (λ plan. IsClosed plan → (moves : List Move)
         → HoldsUnitsApart (world_after plan (first_world plan) moves)) }
+
+    // Two units of one maker with one identifier were made as long apart as an identifier rests, whatever
+    // comes from outside.
     ensures rest { (text : List ℕ) → IfOk (plan_of text) (λ plan. (moves : List Move)
         → IdentifiersRest plan.limits.reuse (world_after plan (first_world plan) moves)) }
 
-    // After whatever moves of a scenario the frame of each copy begins with 0x81, and no rule of PDUs
-    // refuses it; or it begins with 0x82, and no rule of ES-IS PDUs does.
-    ensures unbroken { (text : List ℕ) → IfOk (plan_of text) (λ plan. (moves : List Move)
+    // After whatever moves of a scenario without frames from outside the frame of each copy begins with
+    // 0x81, and no rule of PDUs refuses it; or it begins with 0x82, and no rule of ES-IS PDUs does.
+    ensures unbroken { (text : List ℕ) → IfOk (plan_of text) (λ plan. IsClosed plan → (moves : List Move)
         → FramesAreUnbroken (world_after plan (first_world plan) moves)) }
 
-    // No line of a run says that a frame was discarded for a rule of PDUs, or broke one of ES-IS PDUs.
-    ensures unrefused { (text : List ℕ) → IfOk (plan_of text) (λ plan.
+    // No line of such a run says that a frame was discarded for a rule of PDUs, or broke one of ES-IS
+    // PDUs.
+    ensures unrefused { (text : List ℕ) → IfOk (plan_of text) (λ plan. IsClosed plan →
         AllByRecursion (λ entry. AllByRecursion TellsNoRule entry.lines) (run plan)) }
 
-    // What a line of a scenario's moves says of error reports and echo replies that came to a system is
-    // founded on what the system made: a report's data are the header of a packet of a unit of its own;
+    // What a line of such a scenario's moves says of error reports and echo replies that came to a system
+    // is founded on what the system made: a report's data are the header of a packet of a unit of its own;
     // a reply answers a request that it made since its last restart, and an owner of its source made it.
-    ensures founded { (text : List ℕ) → IfOk (plan_of text) (λ plan. (moves : List Move)
+    ensures founded { (text : List ℕ) → IfOk (plan_of text) (λ plan. IsClosed plan → (moves : List Move)
         → EachIsFounded plan (first_world plan) [] moves) }
 
-    // Wherever a copy that carries a redirect is given to a system, its next hop towards each address
-    // but the redirect's destination is as before, and each other system is as it was.
+    // Wherever a copy that carries a redirect is given to a system, whoever made it, the system's next hop
+    // towards each address but the redirect's destination is as before, and each other system is as it
+    // was.
     ensures redirects { (text : List ℕ) → IfOk (plan_of text) (λ plan. (w : World) → RedirectsChangeOneNextHop plan.limits w) }
 
-    // No line of a run notes a frame of no protocol.
-    ensures known { (text : List ℕ) → IfOk (plan_of text) (λ plan. AllByRecursion (λ entry. NoneIsAlien entry.lines) (run plan)) }
+    // Where no frame comes from outside, no line of a run notes a frame of no protocol.
+    ensures known { (text : List ℕ) → IfOk (plan_of text) (λ plan. IsClosed plan → AllByRecursion (λ entry. NoneIsAlien entry.lines) (run plan)) }
 
-    // After whatever moves of a scenario hops and lifetime of each packet are together at most the
-    // lifetime of its unit.
+    // After whatever moves of a scenario, whatever comes from outside, hops and lifetime of each packet
+    // are together at most the lifetime of its unit.
     ensures lifetimes { (text : List ℕ) → IfOk (plan_of text) (λ plan. (moves : List Move)
         → IsWithinLifetimes (world_after plan (first_world plan) moves)) }
 {
@@ -159,24 +166,24 @@ pub fn clnp_main<S: Source, K: Sink>(
 
 /// What is so of the run of the scenario that a text is, and of whatever moves of it.
 fn every_run_is_safe()
-    ensures safe { (text : List ℕ) → IfOk (plan_of text) (λ plan. IsHonest plan (run plan)) }
-    ensures apart { (text : List ℕ) → IfOk (plan_of text) (λ plan. AllByRecursion (λ entry. NoInterference entry.lines) (run plan)) }
+    ensures safe { (text : List ℕ) → IfOk (plan_of text) (λ plan. IsClosed plan → IsHonest plan (run plan)) }
+    ensures apart { (text : List ℕ) → IfOk (plan_of text) (λ plan. IsClosed plan → AllByRecursion (λ entry. NoInterference entry.lines) (run plan)) }
     ensures bounded { (text : List ℕ) → IfOk (plan_of text) (λ plan. (moves : List Move)
         → IsWithinBudgets (world_after plan (first_world plan) moves)) }
-    ensures carried { (text : List ℕ) → IfOk (plan_of text) (λ plan. (moves : List Move)
+    ensures carried { (text : List ℕ) → IfOk (plan_of text) (λ plan. IsClosed plan → (moves : List Move)
         → CarriesRanges (world_after plan (first_world plan) moves)) }
-    ensures held_apart { (text : List ℕ) → IfOk (plan_of text) (λ plan. (moves : List Move)
+    ensures held_apart { (text : List ℕ) → IfOk (plan_of text) (λ plan. IsClosed plan → (moves : List Move)
         → HoldsUnitsApart (world_after plan (first_world plan) moves)) }
     ensures rest { (text : List ℕ) → IfOk (plan_of text) (λ plan. (moves : List Move)
         → IdentifiersRest plan.limits.reuse (world_after plan (first_world plan) moves)) }
-    ensures unbroken { (text : List ℕ) → IfOk (plan_of text) (λ plan. (moves : List Move)
+    ensures unbroken { (text : List ℕ) → IfOk (plan_of text) (λ plan. IsClosed plan → (moves : List Move)
         → FramesAreUnbroken (world_after plan (first_world plan) moves)) }
-    ensures unrefused { (text : List ℕ) → IfOk (plan_of text) (λ plan.
+    ensures unrefused { (text : List ℕ) → IfOk (plan_of text) (λ plan. IsClosed plan →
         AllByRecursion (λ entry. AllByRecursion TellsNoRule entry.lines) (run plan)) }
-    ensures founded { (text : List ℕ) → IfOk (plan_of text) (λ plan. (moves : List Move)
+    ensures founded { (text : List ℕ) → IfOk (plan_of text) (λ plan. IsClosed plan → (moves : List Move)
         → EachIsFounded plan (first_world plan) [] moves) }
     ensures redirects { (text : List ℕ) → IfOk (plan_of text) (λ plan. (w : World) → RedirectsChangeOneNextHop plan.limits w) }
-    ensures known { (text : List ℕ) → IfOk (plan_of text) (λ plan. AllByRecursion (λ entry. NoneIsAlien entry.lines) (run plan)) }
+    ensures known { (text : List ℕ) → IfOk (plan_of text) (λ plan. IsClosed plan → AllByRecursion (λ entry. NoneIsAlien entry.lines) (run plan)) }
     ensures lifetimes { (text : List ℕ) → IfOk (plan_of text) (λ plan. (moves : List Move)
         → IsWithinLifetimes (world_after plan (first_world plan) moves)) }
 {
