@@ -26,6 +26,7 @@ use Rattle.clnp_machine.specs.Steps.{GoesOnOf, IsFair, KeepsAsOffered, KnowsAddr
 use Rattle.clnp_network.specs.World.{World, Copy, copy_from, copy_from_outside, frame_to, sends_frame, put_out, takes_effect, with_effect, first_world}
 use Rattle.clnp_network.specs.Run.{world_after}
 use Rattle.clnp_network.specs.Safe.{KeepsHeader, KeepsHeaders}
+use Rattle.clnp_safety.specs.Growth.{IsFront}
 use Rattle.clnp_safety.specs.Outside.{PduIsUnbroken, PdusAreUnbroken}
 use Rattle.clnp_safety.specs.StepLaws.{StepLaws}
 use Rattle.clnp_safety.proofs.Effects.{configured}
@@ -160,8 +161,9 @@ module _ (laws : StepLaws) (plan : Plan) (fit : IsFit plan) where
             });
       })
 
-  frame_comes_fairly : (w : World) (at : ℕ) (copy : Copy) → slice_get w.copies at ≡ Some copy → AllIsCarried plan w → (s : SystemState) → ComesFairly (frame_to s copy)
-  frame_comes_fairly w at copy there k s =
+  frame_comes_fairly : (w : World) (at : ℕ) (copy : Copy) → slice_get w.copies at ≡ Some copy → AllIsCarried plan w
+      → (units : List unit.Unit) → IsFront w.units units → (s : SystemState) → ComesFairly (frame_to s copy)
+  frame_comes_fairly w at copy there k units front s =
       let it = AllByRecursion-slice_get IsCarriedInForm w.copies at copy there k.copies in
       ((it.sender, it.carried), it.form)
 
@@ -197,20 +199,20 @@ module _ (laws : StepLaws) (plan : Plan) (fit : IsFit plan) where
 
   all_is_carried : (moves : List Move) → AllIsCarried plan (world_after plan (first_world plan) moves)
   all_is_carried moves =
-      keeps-moves ComesFairly IsBroughtFairly (AllIsCarried plan) AnyLine
+      keeps-moves (λ units. ComesFairly) IsBroughtFairly (AllIsCarried plan) AnyLine
       (record {
         steps = step_is_carried;
         frames = frame_comes_fairly;
-        moments = λ now. (tt, tt);
-        restarts = (tt, tt);
-        congestion = λ on. (tt, tt);
+        moments = λ units now. (tt, tt);
+        restarts = λ units. (tt, tt);
+        congestion = λ units on. (tt, tt);
         cursor = λ w next k. record { copies = k.copies; each = k.each };
         clock = λ w k. record { copies = k.copies; each = k.each };
         outside = outside_is_carried;
         injected = λ now copy subnet sender target. tt;
         fine = any_line_is_fine;
       })
-      plan (events_give plan fit) moves (first_world plan) first_is_carried
+      plan (λ units. events_give plan fit) moves (first_world plan) first_is_carried
 
 -- What follows of it.
 
