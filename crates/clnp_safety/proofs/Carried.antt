@@ -1,6 +1,7 @@
--- Whatever comes from outside, each frame carries what one may carry, and the options of a packet have the form of its unit's.
+-- Whatever comes from outside, each frame carries what one may carry, the options of a packet have the form of its unit's, and a
+-- packet that isn't from outside is a range of a unit that was made.
 use Rattle.clnp_base.proofs.Lists.{AllByRecursion-append, AllByRecursion-both, AllByRecursion-implies, AllByRecursion-slice_get, set_each}
-use Rattle.std.proofs.Common.{◌≡◌, ◌∙◌, refl, sym, ap, subst, ℕ, ◌+◌, inl, inr, Bool, true, false, List, [], ◌∷◌, length, Option, None, Some, arith}
+use Rattle.std.proofs.Common.{◌≡◌, ◌∙◌, refl, sym, ap, subst, ℕ, ◌+◌, ◌⊎◌, inl, inr, Bool, true, false, List, [], ◌∷◌, ◌++◌, length, Option, None, Some, arith}
 use Rattle.std.specs.Prelude.{if◌then◌else◌, is_none, slice_get}
 use Rattle.std.specs.List.{AllByRecursion}
 use Rattle.hex.specs.Hex.{IsBytes}
@@ -18,22 +19,24 @@ use Rattle.scenario.specs.declared.event.Event.{Event}
 use Rattle.scenario.specs.declared.event.Event.TheVariants.{Send, Echo, Inject}
 use Rattle.scenario.specs.declared.event.Move.{Move}
 use Rattle.clnp_machine.specs.Unit as unit
-use Rattle.clnp_machine.specs.Unit.{Maker, DeclaredAt, IsCarriable, Packet}
+use Rattle.clnp_machine.specs.Unit.{Maker, DeclaredAt, Outside, IsCarriable, Packet}
 use Rattle.clnp_machine.specs.Content.{Content, IsCarried, Labelled, Esis, Unlabelled, esis_value_in, is_accepted, packet_from_outside, value_in}
 use Rattle.clnp_machine.specs.System.{SystemState, Input, FrameComes, Output, Transmits, SendsEsis, Notes, Effect}
 use Rattle.clnp_machine.specs.Step.{step}
-use Rattle.clnp_machine.specs.Steps.{GoesOnOf, IsFair, KeepsAsOffered, KnowsAddresses, SendsCarriable, SendsEsisPdus, SendsRangesOrGoesOn}
+use Rattle.clnp_machine.specs.Steps.{GoesOnOf, IsFair, IsRangeOf, KeepsAsOffered, KnowsAddresses, SendsCarriable, SendsEsisPdus, SendsRangesOrGoesOn}
 use Rattle.clnp_network.specs.World.{World, Copy, copy_from, copy_from_outside, frame_to, sends_frame, put_out, takes_effect, with_effect, first_world}
 use Rattle.clnp_network.specs.Run.{world_after}
-use Rattle.clnp_network.specs.Safe.{KeepsHeader, KeepsHeaders}
-use Rattle.clnp_safety.specs.Outside.{PduIsUnbroken, PdusAreUnbroken}
+use Rattle.clnp_network.specs.Safe.{KeepsHeader, KeepsHeaders, RangeIn}
+use Rattle.clnp_safety.specs.Growth.{IsFront}
+use Rattle.clnp_safety.specs.Outside.{CarriesRangesOrOutside, OutsideOrRange, PduIsUnbroken, PdusAreUnbroken}
 use Rattle.clnp_safety.specs.StepLaws.{StepLaws}
 use Rattle.clnp_safety.proofs.Effects.{configured}
 use Rattle.clnp_safety.proofs.EveryMove.{GivesOnly, IsOfClock, keeps-moves}
 use Rattle.clnp_safety.proofs.Lines.{AnyLine, any_line_is_fine}
 use Rattle.clnp_safety.proofs.Opens.{opened}
 use Rattle.clnp_safety.proofs.Outputs.{PortsAreAddressed}
-use Rattle.clnp_safety.proofs.Steps.{Keeps, keeps-put_all_out, with_outside}
+use Rattle.clnp_safety.proofs.Units.{packet_goes_on, packet_later, packet_of_more}
+use Rattle.clnp_safety.proofs.Steps.{Keeps, keeps-map, keeps-put_all_out, with_outside}
 
 -- the options of a packet have the form of its unit's
 abbrev IsInForm : Content → Type 0
@@ -41,11 +44,23 @@ IsInForm (Labelled packet following) = HaveOneForm packet.options packet.unit.op
 IsInForm (Esis value following) = Unit {0}
 IsInForm (Unlabelled octets) = Unit {0}
 
--- a frame comes from an address, and carries what one may carry
-record IsCarriedInForm (copy : Copy) : Type 0 where
+-- a packet is of a unit from outside, or a range of one of some units
+abbrev IsOutsideOrOf : List unit.Unit → Packet → Type 0
+IsOutsideOrOf units p = (p.unit.maker ≡ Outside) ⊎ IsRangeOf units p
+
+-- the copy of a packet was made by who made its unit
+abbrev IsMadeBy : Maker → Content → Type 0
+IsMadeBy maker (Labelled packet following) = maker ≡ packet.unit.maker
+IsMadeBy maker (Esis value following) = Unit {0}
+IsMadeBy maker (Unlabelled octets) = Unit {0}
+
+-- a frame comes from an address, and carries what one may carry: what was made outside, or a range of a unit that was made
+record IsCarriedInForm (units : List unit.Unit) (copy : Copy) : Type 0 where
   sender : IsAddress copy.sender
   carried : IsCarried copy.content
   form : IsInForm copy.content
+  made_by : IsMadeBy copy.maker copy.content
+  origin : OutsideOrRange units copy
 
 -- the system at a place is that of the plan, keeps segments as they were offered, and heard of systems at addresses
 record IsOfPlan (plan : Plan) (place : ℕ) (s : SystemState) : Type 0 where
@@ -53,32 +68,72 @@ record IsOfPlan (plan : Plan) (place : ℕ) (s : SystemState) : Type 0 where
   kept : KeepsAsOffered s
   known : KnowsAddresses s
 
-record AllIsCarried (plan : Plan) (w : World) : Type 0 where
-  copies : AllByRecursion IsCarriedInForm w.copies
+-- these units were made, each frame is such, and each system is that of the plan
+record AllIsCarriedBeside (plan : Plan) (units : List unit.Unit) (w : World) : Type 0 where
+  made : w.units ≡ units
+  copies : AllByRecursion (IsCarriedInForm units) w.copies
   each : (place : ℕ) (s : SystemState) → slice_get w.systems place ≡ Some s → IsOfPlan plan place s
+
+abbrev AllIsCarried : Plan → World → Type 0
+AllIsCarried plan w = AllIsCarriedBeside plan w.units w
+
+all_beside : (plan : Plan) (units : List unit.Unit) (w : World) → AllIsCarriedBeside plan units w → AllIsCarried plan w
+all_beside plan units w h = subst (λ us. AllIsCarriedBeside plan us w) (sym h.made) h
+
+range_later : (units more : List unit.Unit) (birth : ℕ) (content : Content) → RangeIn units birth content → RangeIn (units ++ more) birth content
+range_later units more birth (Labelled packet following) range = (packet_later units more packet range.0, range.1, range.2)
+range_later units more birth (Esis value following) range = range
+range_later units more birth (Unlabelled octets) range = absurd range
+
+-- a copy stays such as more units are made
+copy_later : (units more : List unit.Unit) (copy : Copy) → IsCarriedInForm units copy → IsCarriedInForm (units ++ more) copy
+copy_later units more copy h = record {
+  sender = h.sender;
+  carried = h.carried;
+  form = h.form;
+  made_by = h.made_by;
+  origin = elim h.origin [ inl outside ↦ inl outside | inr range ↦ inr (range_later units more copy.birth copy.content range) ];
+}
 
 -- What comes.
 
-abbrev FrameInForm : Input → Type 0
-FrameInForm (FrameComes port sender to_group content) = IsInForm content
-FrameInForm _ = Unit {0}
+abbrev PacketIsKnown : List unit.Unit → Content → Type 0
+PacketIsKnown units (Labelled packet following) = IsOutsideOrOf units packet
+PacketIsKnown units (Esis value following) = Unit {0}
+PacketIsKnown units (Unlabelled octets) = Unit {0}
 
-abbrev ComesFairly : Input → Type 0
-ComesFairly input = IsFair input × FrameInForm input
+abbrev FrameInForm : List unit.Unit → Input → Type 0
+FrameInForm units (FrameComes port sender to_group content) = IsInForm content × PacketIsKnown units content
+FrameInForm units _ = Unit {0}
+
+abbrev ComesFairly : List unit.Unit → Input → Type 0
+ComesFairly units input = IsFair input × FrameInForm units input
+
+packet_is_known : (units : List unit.Unit) (maker : Maker) (birth : ℕ) (content : Content) → IsMadeBy maker content → (maker ≡ Outside) ⊎ RangeIn units birth content
+    → PacketIsKnown units content
+packet_is_known units maker birth (Labelled packet following) by origin = elim origin [ inl outside ↦ inl (sym by ∙ outside) | inr range ↦ inr range.0 ]
+packet_is_known units maker birth (Esis value following) by origin = tt
+packet_is_known units maker birth (Unlabelled octets) by origin = tt
+
+known_later : (units more : List unit.Unit) (content : Content) → PacketIsKnown units content → PacketIsKnown (units ++ more) content
+known_later units more (Labelled packet following) known = elim known [ inl outside ↦ inl outside | inr range ↦ inr (packet_later units more packet range) ]
+known_later units more (Esis value following) known = tt
+known_later units more (Unlabelled octets) known = tt
 
 abbrev IsBroughtFairly : List ℕ → List ℕ → Type 0
 IsBroughtFairly sender octets = IsAddress sender × IsBytes octets
 
-event_gives : (subnets : ℕ) (event : Event) → AsksFairly event → AsksInForm event × InjectsInForm subnets event → GivesOnly ComesFairly IsBroughtFairly event
-event_gives subnets (Send system from to body ask) fair formed = ((formed.0, fair), tt)
-event_gives subnets (Echo system from to body) fair formed = ((formed.0.0, formed.0.1), tt)
-event_gives subnets (Inject subnet from to octets) fair formed = (formed.1.sender, formed.1.bytes)
-event_gives subnets _ fair formed = tt
+event_gives : (units : List unit.Unit) (subnets : ℕ) (event : Event) → AsksFairly event → AsksInForm event × InjectsInForm subnets event
+    → GivesOnly (ComesFairly units) IsBroughtFairly event
+event_gives units subnets (Send system from to body ask) fair formed = ((formed.0, fair), tt)
+event_gives units subnets (Echo system from to body) fair formed = ((formed.0.0, formed.0.1), tt)
+event_gives units subnets (Inject subnet from to octets) fair formed = (formed.1.sender, formed.1.bytes)
+event_gives units subnets _ fair formed = tt
 
-events_give : (plan : Plan) → IsFit plan → AllByRecursion (GivesOnly ComesFairly IsBroughtFairly) plan.events
-events_give plan fit =
+events_give : (plan : Plan) → IsFit plan → (units : List unit.Unit) → AllByRecursion (GivesOnly (ComesFairly units) IsBroughtFairly) plan.events
+events_give plan fit units =
     let subnets = length plan.subnets in
-    AllByRecursion-both AsksFairly (λ event. AsksInForm event × InjectsInForm subnets event) (GivesOnly ComesFairly IsBroughtFairly) (event_gives subnets) plan.events
+    AllByRecursion-both AsksFairly (λ event. AsksInForm event × InjectsInForm subnets event) (GivesOnly (ComesFairly units) IsBroughtFairly) (event_gives units subnets) plan.events
     fit.asks
     (AllByRecursion-both AsksInForm (InjectsInForm subnets) (λ event. AsksInForm event × InjectsInForm subnets event) (λ event formed injected. (formed, injected))
     plan.events fit.formed fit.injected)
@@ -86,55 +141,87 @@ events_give plan fit =
 -- What a step sends.
 
 -- what is sent is what a frame may carry, in form
-abbrev SendsInForm : Output → Type 0
-SendsInForm (Transmits port target packet) = IsCarriable packet × HaveOneForm packet.options packet.unit.options
-SendsInForm (SendsEsis port target value) = IsPdu value
-SendsInForm (Notes note) = Unit {0}
+abbrev SendsInForm : List unit.Unit → Output → Type 0
+SendsInForm units (Transmits port target packet) = IsCarriable packet × HaveOneForm packet.options packet.unit.options × IsOutsideOrOf units packet
+SendsInForm units (SendsEsis port target value) = IsPdu value
+SendsInForm units (Notes note) = Unit {0}
 
-copy_in_form : (found : Option PortConfig) (target : Target) (maker : Maker) (birth : ℕ) (content : Content)
-    → ((port : PortConfig) → found ≡ Some port → IsAddress port.snpa) → IsCarried content → IsInForm content
-    → AllByRecursion IsCarriedInForm (copy_from found target maker birth content)
-copy_in_form None target maker birth content addressed carried form = tt
-copy_in_form (Some port) target maker birth content addressed carried form = (record { sender = addressed port refl; carried = carried; form = form }, tt)
+-- what a frame carries that a system sends
+record IsSent (units : List unit.Unit) (maker : Maker) (birth : ℕ) (content : Content) : Type 0 where
+  carried : IsCarried content
+  form : IsInForm content
+  made_by : IsMadeBy maker content
+  origin : (maker ≡ Outside) ⊎ RangeIn units birth content
 
-module _ (plan : Plan) where
+copy_in_form : (units : List unit.Unit) (found : Option PortConfig) (target : Target) (maker : Maker) (birth : ℕ) (content : Content)
+    → ((port : PortConfig) → found ≡ Some port → IsAddress port.snpa) → IsSent units maker birth content
+    → AllByRecursion (IsCarriedInForm units) (copy_from found target maker birth content)
+copy_in_form units None target maker birth content addressed sent = tt
+copy_in_form units (Some port) target maker birth content addressed sent =
+    (record { sender = addressed port refl; carried = sent.carried; form = sent.form; made_by = sent.made_by; origin = sent.origin }, tt)
+
+module _ (plan : Plan) (units : List unit.Unit) where
+  abbrev Beside : World → Type 0
+  Beside = AllIsCarriedBeside plan units
+
   frame_is_carried : (system : SystemState) → PortsAreAddressed system → (v : World) (port : ℕ) (target : Target) (maker : Maker) (birth : ℕ) (content : Content)
-      → IsCarried content → IsInForm content → AllIsCarried plan v → Keeps (AllIsCarried plan) AnyLine (sends_frame system v port target maker birth content)
-  frame_is_carried system addressed v port target maker birth content carried form k = record {
+      → IsSent units maker birth content → Beside v → Keeps Beside AnyLine (sends_frame system v port target maker birth content)
+  frame_is_carried system addressed v port target maker birth content sent k = record {
     world = record {
-      copies = AllByRecursion-append IsCarriedInForm v.copies (copy_from (slice_get system.configuration.ports port) target maker birth content) k.copies
-          (copy_in_form (slice_get system.configuration.ports port) target maker birth content
-          (λ config there. AllByRecursion-slice_get (λ (port : PortConfig). IsAddress port.snpa) system.configuration.ports port config there addressed) carried form);
+      made = k.made;
+      copies = AllByRecursion-append (IsCarriedInForm units) v.copies (copy_from (slice_get system.configuration.ports port) target maker birth content) k.copies
+          (copy_in_form units (slice_get system.configuration.ports port) target maker birth content
+          (λ config there. AllByRecursion-slice_get (λ (port : PortConfig). IsAddress port.snpa) system.configuration.ports port config there addressed) sent);
       each = k.each;
     };
     lines = (tt, tt);
   }
 
-  output_is_carried : (system : SystemState) → PortsAreAddressed system → (output : Output) → SendsInForm output → (v : World) → AllIsCarried plan v
-      → Keeps (AllIsCarried plan) AnyLine (put_out system v output)
+  packet_is_sent : (packet : Packet) → IsOutsideOrOf units packet → (packet.unit.maker ≡ Outside) ⊎ RangeIn units packet.unit.made (Labelled packet [])
+  packet_is_sent packet origin = elim origin [ inl outside ↦ inl outside | inr range ↦ inr (range, refl, refl) ]
+
+  output_is_carried : (system : SystemState) → PortsAreAddressed system → (output : Output) → SendsInForm units output → (v : World) → Beside v
+      → Keeps Beside AnyLine (put_out system v output)
   output_is_carried system addressed (Notes note) sends v k = record { world = k; lines = (tt, tt) }
   output_is_carried system addressed (Transmits port target packet) sends v k =
-      frame_is_carried system addressed v port target packet.unit.maker packet.unit.made (Labelled packet []) sends.0 sends.1 k
+      frame_is_carried system addressed v port target packet.unit.maker packet.unit.made (Labelled packet [])
+      (record { carried = sends.0; form = sends.1; made_by = refl; origin = packet_is_sent packet sends.2 }) k
   output_is_carried system addressed (SendsEsis port target value) sends v k =
-      frame_is_carried system addressed v port target (DeclaredAt system.place) v.clock (Esis value []) sends tt k
+      frame_is_carried system addressed v port target (DeclaredAt system.place) v.clock (Esis value [])
+      (record { carried = sends; form = tt; made_by = tt; origin = inr (sends, refl) }) k
 
-module _ (laws : StepLaws) (s : SystemState) where
+module _ (laws : StepLaws) (s : SystemState) (units : List unit.Unit) where
   -- a packet that goes on has options of its unit's form, as that which came has
-  on_in_form : (port : ℕ) (input : Input) (p : Packet) → ComesFairly input → GoesOnOf s port input p → HaveOneForm p.options p.unit.options
+  on_in_form : (port : ℕ) (input : Input) (p : Packet) → ComesFairly units input → GoesOnOf s port input p → HaveOneForm p.options p.unit.options
   on_in_form port (FrameComes at sender to_group (Labelled came following)) p comes on =
       laws.headers.chained p.options came.options p.unit.options (on.options comes.0.1)
-      (subst (λ (u : unit.Unit). HaveOneForm came.options u.options) (sym on.unit) comes.1)
+      (subst (λ (u : unit.Unit). HaveOneForm came.options u.options) (sym on.unit) comes.1.0)
   on_in_form port _ p comes on = absurd on
 
-  sends_in_form : (input : Input) → ComesFairly input → (made : List unit.Unit) (output : Output) → SendsRangesOrGoesOn s input made output
-      → SendsCarriable output × SendsEsisPdus output → SendsInForm output
+  -- and it is from outside, or a range of a unit, as that is
+  on_is_known : (port : ℕ) (input : Input) (p : Packet) → ComesFairly units input → GoesOnOf s port input p → IsOutsideOrOf units p
+  on_is_known port (FrameComes at sender to_group (Labelled came following)) p comes on =
+      elim comes.1.1 [
+        | inl outside ↦ inl (ap (λ (u : unit.Unit). u.maker) on.unit ∙ outside)
+        | inr range ↦ inr (packet_goes_on laws units s port came p on range comes.0.1)
+      ]
+  on_is_known port _ p comes on = absurd on
+
+  sends_in_form : (input : Input) → ComesFairly units input → (made : List unit.Unit) (output : Output) → SendsRangesOrGoesOn s input made output
+      → SendsCarriable output × SendsEsisPdus output → SendsInForm (units ++ made) output
   sends_in_form input comes made (Notes note) ranges sends = tt
-  sends_in_form input comes made (Transmits port target packet) ranges sends =
-      (sends.0, elim ranges [ inl new ↦ new.options | inr on ↦ on_in_form port input packet comes on ])
+  sends_in_form input comes made (Transmits port target packet) ranges sends = (
+    sends.0,
+    elim ranges [ inl new ↦ new.options | inr on ↦ on_in_form port input packet comes on ],
+    elim ranges [
+      | inl new ↦ inr (packet_of_more units made packet new)
+      | inr on ↦ known_later units made (Labelled packet []) (on_is_known port input packet comes on)
+    ],
+  )
   sends_in_form input comes made (SendsEsis port target value) ranges sends = sends.1
 
 module _ (laws : StepLaws) (plan : Plan) (fit : IsFit plan) where
-  step_is_carried : (w : World) (place : ℕ) (s : SystemState) (input : Input) → slice_get w.systems place ≡ Some s → ComesFairly input → IsOfClock w input
+  step_is_carried : (w : World) (place : ℕ) (s : SystemState) (input : Input) → slice_get w.systems place ≡ Some s → ComesFairly w.units input → IsOfClock w input
       → AllIsCarried plan w → Keeps (AllIsCarried plan) AnyLine (takes_effect w place (step s input))
   step_is_carried w place s input there comes at k =
       let effect : Effect = step s input in
@@ -142,28 +229,34 @@ module _ (laws : StepLaws) (plan : Plan) (fit : IsFit plan) where
       let is = configured laws plan fit [] place s.configuration it.declared in
       let same = (laws.steps.itself s input).configuration in
       let addressed = subst (λ (c : SystemConfiguration). AllByRecursion (λ (port : PortConfig). IsAddress port.snpa) c.ports) (sym same) is.1.ports in
-      let sends = AllByRecursion-both (SendsRangesOrGoesOn s input effect.units) (λ output. SendsCarriable output × SendsEsisPdus output) SendsInForm
-      (sends_in_form laws s input comes effect.units) effect.outputs (laws.steps.ranges s input)
+      let units : List unit.Unit = w.units ++ effect.units in
+      let sends = AllByRecursion-both (SendsRangesOrGoesOn s input effect.units) (λ output. SendsCarriable output × SendsEsisPdus output) (SendsInForm units)
+      (sends_in_form laws s w.units input comes effect.units) effect.outputs (laws.steps.ranges s input)
       (AllByRecursion-both SendsCarriable SendsEsisPdus (λ output. SendsCarriable output × SendsEsisPdus output) (λ output a b. (a, b)) effect.outputs
       (laws.steps.carriable s input is.0 comes.0 is.1.own it.kept) (laws.steps.esis_pdus s input is.0 is.1 comes.0 it.known)) in
-      keeps-put_all_out (AllIsCarried plan) AnyLine effect.after effect.outputs
-      (AllByRecursion-implies SendsInForm (λ output. (v : World) → AllIsCarried plan v → Keeps (AllIsCarried plan) AnyLine (put_out effect.after v output))
-      (output_is_carried plan effect.after addressed) effect.outputs sends)
+      let beside : World → Type 0 = AllIsCarriedBeside plan units in
+      keeps-map beside (AllIsCarried plan) AnyLine (takes_effect w place effect) (all_beside plan units)
+      (keeps-put_all_out beside AnyLine effect.after effect.outputs
+      (AllByRecursion-implies (SendsInForm units) (λ output. (v : World) → beside v → Keeps beside AnyLine (put_out effect.after v output))
+      (output_is_carried plan units effect.after addressed) effect.outputs sends)
       (with_effect w place effect)
       (record {
-        copies = k.copies;
+        made = refl;
+        copies = AllByRecursion-implies (IsCarriedInForm w.units) (IsCarriedInForm units) (copy_later w.units effect.units) w.copies k.copies;
         each = set_each (IsOfPlan plan) (IsOfPlan plan) w.systems place effect.after k.each (λ other t apart h. h)
             (record {
               declared = it.declared ∙ ap Some (sym same);
               kept = laws.steps.kept s input comes.0 it.kept;
               known = laws.steps.known s input comes.0 it.known;
             });
-      })
+      }))
 
-  frame_comes_fairly : (w : World) (at : ℕ) (copy : Copy) → slice_get w.copies at ≡ Some copy → AllIsCarried plan w → (s : SystemState) → ComesFairly (frame_to s copy)
-  frame_comes_fairly w at copy there k s =
-      let it = AllByRecursion-slice_get IsCarriedInForm w.copies at copy there k.copies in
-      ((it.sender, it.carried), it.form)
+  frame_comes_fairly : (w : World) (at : ℕ) (copy : Copy) → slice_get w.copies at ≡ Some copy → AllIsCarried plan w
+      → (units : List unit.Unit) → IsFront w.units units → (s : SystemState) → ComesFairly units (frame_to s copy)
+  frame_comes_fairly w at copy there k units front s =
+      let it = AllByRecursion-slice_get (IsCarriedInForm w.units) w.copies at copy there k.copies in
+      let known = packet_is_known w.units copy.maker copy.birth copy.content it.made_by it.origin in
+      ((it.sender, it.carried), (it.form, subst (λ us. PacketIsKnown us copy.content) (sym front.1) (known_later w.units front.0 copy.content known)))
 
   -- a packet from outside is all of what is known of its unit
   outside_in_form : (number moment : ℕ) (octets : List ℕ) (accepted unrefused : Bool)
@@ -173,14 +266,25 @@ module _ (laws : StepLaws) (plan : Plan) (fit : IsFit plan) where
   outside_in_form number moment octets false true = tt
   outside_in_form number moment octets false false = tt
 
+  outside_makes : (number moment : ℕ) (octets : List ℕ) (accepted unrefused : Bool)
+      → IsMadeBy Outside
+      (if accepted then Labelled (packet_from_outside number moment (value_in octets)) (rest_of octets)
+      else if unrefused then Esis (esis_value_in octets) (esis_reading.rest_of octets) else Unlabelled octets)
+  outside_makes number moment octets true unrefused = refl
+  outside_makes number moment octets false true = tt
+  outside_makes number moment octets false false = tt
+
   outside_is_carried : (w : World) (subnet : ℕ) (sender : List ℕ) (target : Target) (octets : List ℕ) → IsBroughtFairly sender octets → AllIsCarried plan w
       → AllIsCarried plan (with_outside w subnet sender target octets)
   outside_is_carried w subnet sender target octets brought k = record {
-    copies = AllByRecursion-append IsCarriedInForm w.copies (copy_from_outside (length w.copies + 1) w.clock subnet sender target octets ∷ []) k.copies (
+    made = refl;
+    copies = AllByRecursion-append (IsCarriedInForm w.units) w.copies (copy_from_outside (length w.copies + 1) w.clock subnet sender target octets ∷ []) k.copies (
       record {
         sender = brought.0;
         carried = laws.outside (length w.copies + 1) w.clock octets brought.1;
         form = outside_in_form (length w.copies + 1) w.clock octets (is_accepted octets) (is_none (why_refused octets));
+        made_by = outside_makes (length w.copies + 1) w.clock octets (is_accepted octets) (is_none (why_refused octets));
+        origin = inl refl;
       },
       tt,
     );
@@ -189,6 +293,7 @@ module _ (laws : StepLaws) (plan : Plan) (fit : IsFit plan) where
 
   first_is_carried : AllIsCarried plan (first_world plan)
   first_is_carried = record {
+    made = refl;
     copies = tt;
     each = λ place s there.
         let here = opened plan.limits 0 plan.systems place place s (omega arith) there in
@@ -201,11 +306,11 @@ module _ (laws : StepLaws) (plan : Plan) (fit : IsFit plan) where
       (record {
         steps = step_is_carried;
         frames = frame_comes_fairly;
-        moments = λ now. (tt, tt);
-        restarts = (tt, tt);
-        congestion = λ on. (tt, tt);
-        cursor = λ w next k. record { copies = k.copies; each = k.each };
-        clock = λ w k. record { copies = k.copies; each = k.each };
+        moments = λ units now. (tt, tt);
+        restarts = λ units. (tt, tt);
+        congestion = λ units on. (tt, tt);
+        cursor = λ w next k. record { made = refl; copies = k.copies; each = k.each };
+        clock = λ w k. record { made = refl; copies = k.copies; each = k.each };
         outside = outside_is_carried;
         injected = λ now copy subnet sender target. tt;
         fine = any_line_is_fine;
@@ -221,8 +326,9 @@ keeps_header laws (Unlabelled octets) form = tt
 
 pub headers_are_kept : StepLaws → (plan : Plan) → IsFit plan → (moves : List Move) → KeepsHeaders (world_after plan (first_world plan) moves)
 headers_are_kept laws plan fit moves =
-    AllByRecursion-implies IsCarriedInForm (λ (copy : Copy). KeepsHeader copy.content) (λ copy h. keeps_header laws copy.content h.form)
-    (world_after plan (first_world plan) moves).copies (all_is_carried laws plan fit moves).copies
+    let w = world_after plan (first_world plan) moves in
+    AllByRecursion-implies (IsCarriedInForm w.units) (λ (copy : Copy). KeepsHeader copy.content) (λ copy h. keeps_header laws copy.content h.form) w.copies
+    (all_is_carried laws plan fit moves).copies
 
 unbroken : StepLaws → (content : Content) → IsCarried content → PduIsUnbroken content
 unbroken laws (Labelled packet following) carried = laws.frames packet following carried
@@ -231,5 +337,11 @@ unbroken laws (Unlabelled octets) carried = tt
 
 pub pdus_are_unbroken : StepLaws → (plan : Plan) → IsFit plan → (moves : List Move) → PdusAreUnbroken (world_after plan (first_world plan) moves)
 pdus_are_unbroken laws plan fit moves =
-    AllByRecursion-implies IsCarriedInForm (λ (copy : Copy). PduIsUnbroken copy.content) (λ copy h. unbroken laws copy.content h.carried)
-    (world_after plan (first_world plan) moves).copies (all_is_carried laws plan fit moves).copies
+    let w = world_after plan (first_world plan) moves in
+    AllByRecursion-implies (IsCarriedInForm w.units) (λ (copy : Copy). PduIsUnbroken copy.content) (λ copy h. unbroken laws copy.content h.carried) w.copies
+    (all_is_carried laws plan fit moves).copies
+
+pub ranges_or_outside : StepLaws → (plan : Plan) → IsFit plan → (moves : List Move) → CarriesRangesOrOutside (world_after plan (first_world plan) moves)
+ranges_or_outside laws plan fit moves =
+    let w = world_after plan (first_world plan) moves in
+    AllByRecursion-implies (IsCarriedInForm w.units) (OutsideOrRange w.units) (λ copy h. h.origin) w.copies (all_is_carried laws plan fit moves).copies

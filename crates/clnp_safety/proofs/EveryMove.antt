@@ -1,6 +1,6 @@
 -- What each step of a system keeps, whatever comes to it, or whatever comes that a plan's events allow, each move keeps.
 use Rattle.clnp_base.proofs.Lists.{AllByRecursion-any, AllByRecursion-slice_get}
-use Rattle.std.proofs.Common.{◌≡◌, ℕ, refl, List, [], ◌∷◌, ◌+◌, length, ◌-◌, Bool}
+use Rattle.std.proofs.Common.{◌≡◌, ℕ, refl, sym, subst, List, [], ◌∷◌, ◌++◌, ◌+◌, length, ◌-◌, Bool}
 use Rattle.std.specs.Prelude.{slice_get, Option, None, Some}
 use Rattle.std.specs.List.{AllByRecursion, range_with_len}
 use Rattle.nsap.specs.declared.target.Target.{Target}
@@ -12,11 +12,16 @@ use Rattle.scenario.specs.declared.event.Event.{Event}
 use Rattle.scenario.specs.declared.event.Event.TheVariants.{Send, Echo, Deliver, Settle, Lose, Tick, Restart, Congest, Inject}
 use Rattle.scenario.specs.declared.event.Move.{Move}
 use Rattle.scenario.specs.declared.event.Move.TheVariants.{One, SettleOne, LoseOne, TickOne}
-use Rattle.clnp_machine.specs.System.{SystemState, Input, AsksToSend, AsksForEcho, MomentComes, IsRestarted, IsCongested}
+use Rattle.clnp_machine.specs.Unit as unit
+use Rattle.clnp_machine.specs.System.{SystemState, Input, AsksToSend, AsksForEcho, MomentComes, IsRestarted, IsCongested, Output, Transmits, SendsEsis, Notes, Effect}
 use Rattle.clnp_machine.specs.Step.{step}
-use Rattle.clnp_network.specs.World.{World, Copy, takes_effect, comes, frame_to, addressees_from, settle_copy, lose_copy, tick_each, event_happens, after}
+use Rattle.clnp_network.specs.World.{World, Copy, Numbered, give_each, put_out, with_effect, takes_effect, comes, frame_to, addressees_from, settle_copy, lose_copy, tick_each, event_happens, after}
 use Rattle.clnp_network.specs.Run.{Entry, entries_of, world_after}
-use Rattle.clnp_safety.proofs.Steps.{InjectedIsFine, Keeps, NotGivenIsFine, keeps-nothing, keeps-followed_by, keeps-comes_to, keeps-asks, keeps-give_each, keeps-deliver, keeps-injects, with_outside}
+use Rattle.std.proofs.lemmas.List.{append-nil}
+use Rattle.clnp_safety.specs.Growth.{IsFront}
+use Rattle.clnp_safety.proofs.Grows.{front-more}
+use Rattle.clnp_safety.proofs.Lines.{AnyLine}
+use Rattle.clnp_safety.proofs.Steps.{keeps-map, keeps-put_all_out, InjectedIsFine, Keeps, NotGivenIsFine, keeps-nothing, keeps-followed_by, keeps-comes_to, keeps-asks, keeps-give_each, keeps-deliver, keeps-injects, with_outside}
 
 -- what an event asks of a system is such as Comes says, and a frame from outside such as Brings says of its sender and octets
 abbrev pub GivesOnly : (Comes : Input → Type 0) (Brings : List ℕ → List ℕ → Type 0) → Event → Type 0
@@ -52,16 +57,21 @@ module _ (Comes : Input → Type 0) (asked : (from to octets : List ℕ) (ask : 
 pub any_events : (events : List Event) → AllByRecursion (GivesOnly AnyInput AnyFrame) events
 any_events events = asked_by_all AnyInput (λ from to octets ask. tt) (λ from to octets. tt) events
 
+-- the units of a world are more than some before
+abbrev GrowsFrom : List unit.Unit → (World → Type 0) → World → Type 0
+GrowsFrom units K w = K w × IsFront units w.units
+
 -- K holds of the world after each step of a system of one of which it holds, and Q of the lines, where what comes is such
 -- as Comes says, as all is that asks nothing where K holds; K doesn't go by the cursor, and the clock may go
 -- on, and frames come from outside
-pub record EachStepKeeps (Comes : Input → Type 0) (Brings : List ℕ → List ℕ → Type 0) (K : World → Type 0) (Q : Line → Type 0) : Type 0 where
-  pub steps : (w : World) (place : ℕ) (s : SystemState) (input : Input) → slice_get w.systems place ≡ Some s → Comes input → IsOfClock w input
+pub record EachStepKeeps (Comes : List unit.Unit → Input → Type 0) (Brings : List ℕ → List ℕ → Type 0) (K : World → Type 0) (Q : Line → Type 0) : Type 0 where
+  pub steps : (w : World) (place : ℕ) (s : SystemState) (input : Input) → slice_get w.systems place ≡ Some s → Comes w.units input → IsOfClock w input
       → K w → Keeps K Q (takes_effect w place (step s input))
-  pub frames : (w : World) (at : ℕ) (copy : Copy) → slice_get w.copies at ≡ Some copy → K w → (s : SystemState) → Comes (frame_to s copy)
-  pub moments : (now : ℕ) → Comes (MomentComes now)
-  pub restarts : Comes IsRestarted
-  pub congestion : (on : Bool) → Comes (IsCongested on)
+  pub frames : (w : World) (at : ℕ) (copy : Copy) → slice_get w.copies at ≡ Some copy → K w → (units : List unit.Unit) → IsFront w.units units
+      → (s : SystemState) → Comes units (frame_to s copy)
+  pub moments : (units : List unit.Unit) (now : ℕ) → Comes units (MomentComes now)
+  pub restarts : (units : List unit.Unit) → Comes units IsRestarted
+  pub congestion : (units : List unit.Unit) (on : Bool) → Comes units (IsCongested on)
   pub cursor : (w : World) (next : ℕ) → K w → K (record w { cursor = next })
   pub clock : (w : World) → K w → K (record w { clock = w.clock + 1 })
   pub outside : (w : World) (subnet : ℕ) (sender : List ℕ) (target : Target) (octets : List ℕ) → Brings sender octets → K w
@@ -69,8 +79,23 @@ pub record EachStepKeeps (Comes : Input → Type 0) (Brings : List ℕ → List 
   pub injected : InjectedIsFine Q
   pub fine : NotGivenIsFine Q
 
-module _ (Comes : Input → Type 0) (Brings : List ℕ → List ℕ → Type 0) (K : World → Type 0) (Q : Line → Type 0) (each : EachStepKeeps Comes Brings K Q) where
-  keeps-comes : (w : World) (place : ℕ) (input : Input) → Comes input → IsOfClock w input → K w → Keeps K Q (comes w place input)
+-- a system that takes a step adds the units that it makes
+put_out_makes : (units : List unit.Unit) (system : SystemState) (output : Output) (v : World) → v.units ≡ units
+    → Keeps (λ (later : World). later.units ≡ units) AnyLine (put_out system v output)
+put_out_makes units system (Notes note) v same = record { world = same; lines = (tt, tt) }
+put_out_makes units system (Transmits port target packet) v same = record { world = same; lines = (tt, tt) }
+put_out_makes units system (SendsEsis port target value) v same = record { world = same; lines = (tt, tt) }
+
+effect_makes : (w : World) (place : ℕ) (effect : Effect) → (takes_effect w place effect).world.units ≡ w.units ++ effect.units
+effect_makes w place effect =
+    let units : List unit.Unit = w.units ++ effect.units in
+    (keeps-put_all_out (λ (v : World). v.units ≡ units) AnyLine effect.after effect.outputs
+    (AllByRecursion-any (λ output. (v : World) → v.units ≡ units → Keeps (λ (later : World). later.units ≡ units) AnyLine (put_out effect.after v output))
+    (put_out_makes units effect.after) effect.outputs)
+    (with_effect w place effect) refl).world
+
+module _ (Comes : List unit.Unit → Input → Type 0) (Brings : List ℕ → List ℕ → Type 0) (K : World → Type 0) (Q : Line → Type 0) (each : EachStepKeeps Comes Brings K Q) where
+  keeps-comes : (w : World) (place : ℕ) (input : Input) → Comes w.units input → IsOfClock w input → K w → Keeps K Q (comes w place input)
   keeps-comes w place input may at k =
       keeps-comes_to K Q w place input (slice_get w.systems place) (λ none. k) (λ s there. each.steps w place s input there may at k)
 
@@ -78,15 +103,15 @@ module _ (Comes : Input → Type 0) (Brings : List ℕ → List ℕ → Type 0) 
   keeps-tick_each [] w k = keeps-nothing K Q w k
   keeps-tick_each (place ∷ places) w k =
       keeps-followed_by K Q K (comes w place (MomentComes w.clock)) (λ v. tick_each v places)
-      (keeps-comes w place (MomentComes w.clock) (each.moments w.clock) refl k) (keeps-tick_each places)
+      (keeps-comes w place (MomentComes w.clock) (each.moments w.units w.clock) refl k) (keeps-tick_each places)
 
-  keeps-event : (subnets : List Subnetwork) (limits : Limits) (w : World) (asked : Option Event) → ((event : Event) → asked ≡ Some event → GivesOnly Comes Brings event) → K w
+  keeps-event : (subnets : List Subnetwork) (limits : Limits) (w : World) (asked : Option Event) → ((event : Event) → asked ≡ Some event → GivesOnly (Comes w.units) Brings event) → K w
       → Keeps K Q (event_happens subnets limits w asked)
   keeps-event subnets limits w (Some (Deliver number system)) may k =
       keeps-deliver K Q each.fine limits w number system k
-      (λ copy e s there soon. each.steps w system s (frame_to s copy) there (each.frames w (number - 1) copy e k s) tt k)
-  keeps-event subnets limits w (Some (Restart system)) may k = keeps-comes w system IsRestarted each.restarts tt k
-  keeps-event subnets limits w (Some (Congest system on)) may k = keeps-comes w system (IsCongested on) (each.congestion on) tt k
+      (λ copy e s there soon. each.steps w system s (frame_to s copy) there (each.frames w (number - 1) copy e k w.units ([], sym (append-nil w.units)) s) tt k)
+  keeps-event subnets limits w (Some (Restart system)) may k = keeps-comes w system IsRestarted (each.restarts w.units) tt k
+  keeps-event subnets limits w (Some (Congest system on)) may k = keeps-comes w system (IsCongested on) (each.congestion w.units on) tt k
   keeps-event subnets limits w (Some (Send system from to body ask)) may k =
       keeps-asks K Q w system (AsksToSend from to (octets_of body) ask) k
       (keeps-comes w system (AsksToSend from to (octets_of body) ask) (may (Send system from to body ask) refl) tt k)
@@ -102,18 +127,28 @@ module _ (Comes : Input → Type 0) (Brings : List ℕ → List ℕ → Type 0) 
   keeps-settle : (limits : Limits) (w : World) (found : Option Copy) → slice_get w.copies w.cursor ≡ found → K w → Keeps K Q (settle_copy limits w found)
   keeps-settle limits w None e k = keeps-nothing K Q w k
   keeps-settle limits w (Some copy) e k =
-      keeps-give_each K Q each.fine limits (record { number = w.cursor + 1; copy = copy }) (addressees_from 0 copy w.systems)
-      (λ v place h s there soon. each.steps v place s (frame_to s copy) there (each.frames w w.cursor copy e k s) tt h) (record w { cursor = w.cursor + 1 })
-      (each.cursor w (w.cursor + 1) k)
+      let given : Numbered = record { number = w.cursor + 1; copy = copy } in
+      let places = addressees_from 0 copy w.systems in
+      let first : World = record w { cursor = w.cursor + 1 } in
+      keeps-map (GrowsFrom w.units K) K Q (give_each limits given first places) (λ v h. h.0)
+      (keeps-give_each (GrowsFrom w.units K) Q each.fine limits given places
+      (λ v place h s there soon.
+      let input = frame_to s copy in
+      let taken = each.steps v place s input there (each.frames w w.cursor copy e k v.units h.1 s) tt h.0 in
+      record {
+        world = (taken.world, subst (IsFront w.units) (sym (effect_makes v place (step s input))) (front-more w.units v.units (step s input).units h.1));
+        lines = taken.lines;
+      })
+      first (each.cursor w (w.cursor + 1) k, ([], sym (append-nil w.units))))
 
   keeps-lose : (w : World) (found : Option Copy) → K w → Keeps K Q (lose_copy w found)
   keeps-lose w None k = keeps-nothing K Q w k
   keeps-lose w (Some copy) k = keeps-nothing K Q (record w { cursor = w.cursor + 1 }) (each.cursor w (w.cursor + 1) k)
 
-  module _ (plan : Plan) (may : AllByRecursion (GivesOnly Comes Brings) plan.events) where
+  module _ (plan : Plan) (may : (units : List unit.Unit) → AllByRecursion (GivesOnly (Comes units) Brings) plan.events) where
     pub keeps-move : (w : World) (move : Move) → K w → Keeps K Q (after plan w move)
     keeps-move w (One place) k =
-        keeps-event plan.subnets plan.limits w (slice_get plan.events place) (λ event there. AllByRecursion-slice_get (GivesOnly Comes Brings) plan.events place event there may) k
+        keeps-event plan.subnets plan.limits w (slice_get plan.events place) (λ event there. AllByRecursion-slice_get (GivesOnly (Comes w.units) Brings) plan.events place event there (may w.units)) k
     keeps-move w SettleOne k = keeps-settle plan.limits w (slice_get w.copies w.cursor) refl k
     keeps-move w LoseOne k = keeps-lose w (slice_get w.copies w.cursor) k
     keeps-move w TickOne k = keeps-tick_each (range_with_len 0 (length w.systems)) (record w { clock = w.clock + 1 }) (each.clock w k)

@@ -8,7 +8,7 @@ ghost use Rattle.clnp_network.specs.World.{World, after, first_world};
 ghost use Rattle.clnp_network.specs.Run.{Entry, entries_of, full_weight, run, text_of, until_full, world_after};
 ghost use Rattle.clnp_network.specs.Safe.{CarriesRanges, EachIsFounded, EachWasSent, FramesAreUnbroken, HoldsUnitsApart, IdentifiersRest, IsHonest, IsSend, NoRefusal, IsWithinBudgets, IsWithinLifetimes, KeepsHeaders, NoInterference, NoneIsAlien, RedirectsChangeOneNextHop, TellsNoRule};
 ghost use Rattle.clnp_safety.specs.Growth.{IsFront, IsFullAt, IsWithinCopies};
-ghost use Rattle.clnp_safety.specs.Outside.{PdusAreUnbroken};
+ghost use Rattle.clnp_safety.specs.Outside.{CarriesRangesOrOutside, PdusAreUnbroken};
 ghost use Rattle.clnp_safety.specs.Owners.{IsByOwner};
 ghost use Rattle.clnp_safety.specs.Refusal.{LeavesNothing};
 ghost use Rattle.clnp_safety.specs.StepLaws.{StepLaws};
@@ -40,6 +40,15 @@ pub fn no_unit_meets_another()
 /// often it was cut, or an ES-IS value that a PDU can carry, and nothing behind its PDU.
 pub fn ranges_of_units_are_carried()
     ensures { (plan : Plan) → IsFit plan → IsClosed plan → (moves : List Move) → CarriesRanges (world_after plan (first_world plan) moves) }
+{
+    laws_of_steps();
+}
+
+/// Whatever frames come from outside, each frame of a run that carries nothing made outside carries a
+/// range of a unit that was made, however often it was cut, or an ES-IS value that a PDU can carry, and
+/// nothing behind its PDU.
+pub fn all_but_frames_from_outside_carry_ranges()
+    ensures { (plan : Plan) → IsFit plan → (moves : List Move) → CarriesRangesOrOutside (world_after plan (first_world plan) moves) }
 {
     laws_of_steps();
 }
