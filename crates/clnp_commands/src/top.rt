@@ -7,6 +7,7 @@ ghost use Rattle.scenario.specs.Grammar.{plan_of};
 ghost use Rattle.scenario.specs.Scenario.{IsClosed};
 ghost use Rattle.clnp_network.specs.World.{World, first_world};
 ghost use Rattle.clnp_network.specs.Run.{run, world_after};
+ghost use Rattle.clnp_safety.specs.Outside.{CarriesRangesOrOutside, PdusAreUnbroken};
 ghost use Rattle.clnp_network.specs.Safe.{CarriesRanges, EachIsFounded, FramesAreUnbroken, HoldsUnitsApart, IdentifiersRest, IsHonest, IsWithinBudgets, IsWithinLifetimes, NoInterference, NoneIsAlien, RedirectsChangeOneNextHop, TellsNoRule};
 ghost use Rattle.clnp_commands.specs.Words.{command_of, called, called_by, AppendsOutput, AppendsOutputFront, AppendsOutputParts, Excuses};
 ghost use Rattle.clnp_commands.specs.Sim.{most_input, ReadsWhole};
@@ -116,6 +117,14 @@ pub fn clnp_main<S: Source, K: Sink>(
     ensures held_apart { (text : List ℕ) → IfOk (plan_of text) (λ plan. IsClosed plan → (moves : List Move)
         → HoldsUnitsApart (world_after plan (first_world plan) moves)) }
 
+    // Whatever comes from outside, what each copy carries was made outside, or it is a range of a unit that
+    // was made, or an ES-IS value that a PDU can carry, with nothing behind its PDU; and what carries a
+    // packet or an ES-IS value breaks no rule of its protocol.
+    ensures traced { (text : List ℕ) → IfOk (plan_of text) (λ plan. (moves : List Move)
+        → CarriesRangesOrOutside (world_after plan (first_world plan) moves)) }
+    ensures obeyed { (text : List ℕ) → IfOk (plan_of text) (λ plan. (moves : List Move)
+        → PdusAreUnbroken (world_after plan (first_world plan) moves)) }
+
     // Two units of one maker with one identifier were made as long apart as an identifier rests, whatever
     // comes from outside.
     ensures rest { (text : List ℕ) → IfOk (plan_of text) (λ plan. (moves : List Move)
@@ -184,6 +193,10 @@ fn every_run_is_safe()
         → EachIsFounded plan (first_world plan) [] moves) }
     ensures redirects { (text : List ℕ) → IfOk (plan_of text) (λ plan. (w : World) → RedirectsChangeOneNextHop plan.limits w) }
     ensures known { (text : List ℕ) → IfOk (plan_of text) (λ plan. IsClosed plan → AllByRecursion (λ entry. NoneIsAlien entry.lines) (run plan)) }
+    ensures traced { (text : List ℕ) → IfOk (plan_of text) (λ plan. (moves : List Move)
+        → CarriesRangesOrOutside (world_after plan (first_world plan) moves)) }
+    ensures obeyed { (text : List ℕ) → IfOk (plan_of text) (λ plan. (moves : List Move)
+        → PdusAreUnbroken (world_after plan (first_world plan) moves)) }
     ensures lifetimes { (text : List ℕ) → IfOk (plan_of text) (λ plan. (moves : List Move)
         → IsWithinLifetimes (world_after plan (first_world plan) moves)) }
 {
@@ -200,6 +213,8 @@ fn every_run_is_safe()
     laws::a_redirect_changes_one_next_hop();
     laws::no_frame_is_alien();
     laws::hops_are_within_lifetimes();
+    laws::all_but_frames_from_outside_carry_ranges();
+    laws::no_pdu_breaks_a_rule();
 }
 
 /// Runs a command on a text.

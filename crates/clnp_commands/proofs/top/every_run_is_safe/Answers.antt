@@ -5,6 +5,7 @@ use Rattle.scenario.specs.declared.event.Move.{Move}
 use Rattle.clnp_network.specs.World.{first_world}
 use Rattle.clnp_network.specs.Run.{moves_made, run, world_after}
 use Rattle.clnp_network.specs.Safe.{CarriesRanges, EachIsFounded, FramesAreUnbroken, HoldsUnitsApart, IdentifiersRest, IsHonest, IsWithinBudgets, IsWithinLifetimes, NoInterference, NoneIsAlien, TellsNoRule}
+use Rattle.clnp_safety.specs.Outside.{CarriesRangesOrOutside, PdusAreUnbroken}
 use Rattle.clnp_commands.proofs.Fit.{of_fit}
 use Rattle.clnp_commands.proofs.top.every_run_is_safe.Goals as goal
 
@@ -60,3 +61,13 @@ pub returns-clause-founded : goal.returns-clause-founded
 returns-clause-founded c =
     of_fit (λ plan. IsClosed plan → (moves : List Move) → EachIsFounded plan (first_world plan) [] moves) c.accepted_is_fit.ensures
     c.reports_and_echoes_are_of_its_own.ensures
+
+pub returns-clause-traced : goal.returns-clause-traced
+returns-clause-traced c =
+    of_fit (λ plan. (moves : List Move) → CarriesRangesOrOutside (world_after plan (first_world plan) moves)) c.accepted_is_fit.ensures
+    c.all_but_frames_from_outside_carry_ranges.ensures
+
+pub returns-clause-obeyed : goal.returns-clause-obeyed
+returns-clause-obeyed c =
+    of_fit (λ plan. (moves : List Move) → PdusAreUnbroken (world_after plan (first_world plan) moves)) c.accepted_is_fit.ensures
+    c.no_pdu_breaks_a_rule.ensures
