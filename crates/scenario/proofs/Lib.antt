@@ -13,6 +13,7 @@ pub mod Asks
 pub mod Forms
 pub mod Addresses
 pub mod Outside
+pub mod Said
 pub mod Accepted
 pub mod Seeded
 pub mod Written
