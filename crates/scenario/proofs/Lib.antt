@@ -17,4 +17,5 @@ pub mod Said
 pub mod Accepted
 pub mod Seeded
 pub mod Written
+pub mod WrittenEvents
 mod Worked

@@ -1,5 +1,5 @@
 -- What an event line says are numbers, data and options that a line may say.
-use Rattle.std.proofs.Common.{◌≡◌, ℕ, ◌<◌, ◌≤◌, ◌&&◌, false, not, nat_le, List, [], ◌∷◌, length, codes, Option, None, Some, is_some, slice_get, Result, Ok, Err, IfOk, refl, arith}
+use Rattle.std.proofs.Common.{◌≡◌, ℕ, ◌&&◌, false, not, nat_le, List, [], ◌∷◌, length, codes, Option, None, Some, is_some, slice_get, Result, Ok, Err, IfOk, refl, arith}
 use Rattle.std.specs.List.{AllByRecursion}
 use Rattle.std.specs.Str.{bytes_eq}
 use Rattle.std.proofs.lemmas.Bool.{leb-true, and_parts, not-true}
@@ -14,8 +14,8 @@ use Rattle.scenario.specs.Scenario.{IsSaid, IsSaidBody, AreSaidOptions}
 use Rattle.scenario.specs.Words.{literal, has_prefix, after_prefix, digits_read, pattern_word, two_fields, declared_word, address_word, data_word, number_word, life_word, octets_behind, options_read, options_word, one_word, two_words, four_words, first_four, each_once}
 use Rattle.scenario.specs.Events.{wish_word, wish_words, wish_key, life_in, own_life, options_in, host_word, send_line, deliver_line, count_line, tick_line, restart_line, echo_line, router_word, on_word, congest_line, event_line}
 use Rattle.scenario.specs.declared.code.Code.TheVariants as bad
-use Rattle.scenario.specs.declared.event.Body.TheVariants.{Hex, Pattern}
-use Rattle.scenario.specs.declared.event.Event.TheVariants.{Deliver, Settle, Lose, Tick}
+use Rattle.scenario.specs.declared.event.Body.TheVariants.{Hex}
+use Rattle.scenario.specs.declared.event.Event.TheVariants.{Settle, Lose, Tick}
 use Rattle.scenario.specs.declared.wish.Wish.{Wish}
 use Rattle.scenario.specs.declared.wish.Wish.TheVariants.{Lasting, NoReport, Whole, Options}
 use Rattle.scenario.proofs.Injected.{inject_such}
@@ -118,12 +118,14 @@ send_said names systems words are =
     behind_result (address_word w.2) _ IsSaid (λ to _.
     behind_such (data_word w.3) _ IsSaidBody IsSaid (data_said w.3) (λ body body_is.
     behind_such (wish_words w.4) _ AreSaidWishes IsSaid (wishes_said w.4) (λ wishes said.
-    behind_wanted (each_once wish_key wishes) _ _ IsSaid (λ _.
-    (body_is, record {
-      life = life_among (own_life (slice_get systems system)) wishes
-          (own_is_within (slice_get systems system) (λ s there. AllByRecursion-slice_get IsSystem systems system s there are)) said;
-      options = options_among wishes said;
-    }))))))))
+    behind_wanted (each_once wish_key wishes) _ _ IsSaid (λ _. (
+      body_is,
+      record {
+        life = life_among (own_life (slice_get systems system)) wishes
+            (own_is_within (slice_get systems system) (λ s there. AllByRecursion-slice_get IsSystem systems system s there are)) said;
+        options = options_among wishes said;
+      },
+    ))))))))
 
 deliver_said : (names : List (List ℕ)) (words : List (List ℕ)) → IfOk (deliver_line names words) IsSaid
 unfolding deliver_line
