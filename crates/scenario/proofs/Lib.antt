@@ -18,4 +18,5 @@ pub mod Accepted
 pub mod Seeded
 pub mod Written
 pub mod WrittenEvents
+pub mod WrittenText
 mod Worked
