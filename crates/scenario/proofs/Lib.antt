@@ -4,6 +4,7 @@ pub mod Events
 pub mod Behind
 pub mod Apart
 pub mod Kept
+pub mod Prefixes
 pub mod Numbers
 pub mod Injected
 pub mod Placed

@@ -5,9 +5,9 @@ ghost use Rattle.scenario.specs.Grammar.{plan_of};
 ghost use Rattle.scenario.specs.Scenario.{IsFit, Plan};
 
 /// What the grammar accepts is fit to be run: its limits, settings and numbers are in their ranges,
-/// each system has the addresses, ports and routes that its role calls for, no name, address or SNPA on a
-/// subnetwork stands twice, and no prefix at a router, each port is on a declared subnetwork and has its
-/// MTU, each route leads out of a port that is there, events name declared systems, hosts alone are asked
+/// each name is a name of the grammar, each system has the addresses, ports and routes that its role calls for,
+/// no name, address or SNPA on a subnetwork stands twice, and no prefix at a router, each port is on a declared
+/// subnetwork and has its MTU, no two ports of a system are on one subnetwork, each prefix has up to 40 digits, each route leads out of a port that is there, events name declared systems, hosts alone are asked
 /// to send data units, routers alone are said to be congested, few ticks pass, each unit and each echo is
 /// asked for between addresses, a data unit with a lifetime that an octet holds and options in their form,
 /// and none with an option that an error report alone may have.
