@@ -16,4 +16,5 @@ pub mod Addresses
 pub mod Outside
 pub mod Accepted
 pub mod Seeded
+pub mod Written
 mod Worked
