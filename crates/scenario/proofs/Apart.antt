@@ -5,7 +5,8 @@ use Rattle.std.specs.Cmp.Lexicographic.{pointwise, nat_list_eq_equiv}
 use Rattle.std.proofs.lemmas.Bool.{true≢false}
 use Rattle.std.proofs.lemmas.List.Elements.{All-from_recursion}
 use Rattle.std.proofs.lemmas.List.Kept.{AllPairs-cons}
-use Rattle.clnp_base.proofs.Lists.{AllByRecursion-put, AllByRecursion-front}
+use Rattle.std.proofs.lemmas.Option.{slice_get_within, get_or_from_slice_get}
+use Rattle.clnp_base.proofs.Lists.{AllByRecursion-put, AllByRecursion-front, AllByRecursion-from_places}
 use Rattle.scenario.specs.Declarations.{DeclaredSystem, changed_at, is_among, with_address, with_port, NumberedPort, configuration_of}
 
 -- all addresses of some systems
@@ -29,6 +30,29 @@ pub distinct_of : {X : Type 0} (xs : List X) → AreApart xs → AllPairs (λ a 
 distinct_of [] h = λ i j d before within. absurd (omega (arith, within))
 distinct_of (x ∷ others) h =
     AllPairs-cons (λ a b. a ≢ b) x others (All-from_recursion (λ other. x ≢ other) others (weaker x others h.0)) (distinct_of others h.1)
+
+new_to : {X : Type 0} (x : X) (others : List X) → AllByRecursion (λ other. x ≢ other) others → IsNew x others
+new_to x [] h = tt
+new_to x (other ∷ others) h = ((h.0, λ e. h.0 (sym e)), new_to x others h.1)
+
+pub apart_of : {X : Type 0} (xs : List X) → AllPairs (λ a b. a ≢ b) xs → AreApart xs
+apart_of [] h = tt
+apart_of (x ∷ others) h = (
+  new_to x others (AllByRecursion-from_places (λ other. x ≢ other) others (λ i other at e.
+  h zero (suc i) x (omega arith) (omega (arith, slice_get_within others i other at)) (e ∙ sym (get_or_from_slice_get others i other x at)))),
+  apart_of others (λ i j d before within. h (suc i) (suc j) d (omega (arith, before)) (omega (arith, within))),
+)
+
+pub all_behind : {X : Type 0} (P : X → Type 0) (xs ys : List X) → AllByRecursion P (xs ++ ys) → AllByRecursion P ys
+all_behind P [] ys h = h
+all_behind P (x ∷ xs) ys h = all_behind P xs ys h.1
+
+-- what stands before one of them is other
+pub before_is_other : {X : Type 0} (front : List X) (x : X) (behind : List X) → AreApart (front ++ x ∷ behind) → AllByRecursion (λ other. other ≢ x) front
+before_is_other [] x behind h = tt
+before_is_other (first ∷ front) x behind h =
+    let others = all_behind (λ other. (first ≢ other) × (other ≢ first)) front (x ∷ behind) h.0 in
+    (others.0.0, before_is_other front x behind h.1)
 
 pub either_false : (a b : Bool) → (a || b) ≡ false → (a ≡ false) × (b ≡ false)
 either_false true b h = absurd (true≢false h)

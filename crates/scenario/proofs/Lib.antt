@@ -17,4 +17,8 @@ pub mod Outside
 pub mod Accepted
 pub mod Seeded
 pub mod Written
+pub mod WrittenSettings
+pub mod WrittenPrefixes
+pub mod Stages
+pub mod WrittenDeclarations
 mod Worked
