@@ -39,7 +39,7 @@ pub apart_of : {X : Type 0} (xs : List X) → AllPairs (λ a b. a ≢ b) xs → 
 apart_of [] h = tt
 apart_of (x ∷ others) h = (
   new_to x others (AllByRecursion-from_places (λ other. x ≢ other) others (λ i other at e.
-  h zero (suc i) x (omega arith) (omega (arith, slice_get_within others i other at)) (e ∙ sym (get_or_from_slice_get others i other x at)))),
+      h zero (suc i) x (omega arith) (omega (arith, slice_get_within others i other at)) (e ∙ sym (get_or_from_slice_get others i other x at)))),
   apart_of others (λ i j d before within. h (suc i) (suc j) d (omega (arith, before)) (omega (arith, within))),
 )
 

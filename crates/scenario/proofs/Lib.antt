@@ -20,5 +20,6 @@ pub mod Written
 pub mod WrittenSettings
 pub mod WrittenPrefixes
 pub mod Stages
+pub mod DeclaredLines
 pub mod WrittenDeclarations
 mod Worked

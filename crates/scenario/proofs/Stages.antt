@@ -1,21 +1,21 @@
 -- What the lines of a written scenario have declared so far.
-use Rattle.std.proofs.Common.{◌≡◌, ◌≢◌, inl, inr, ℕ, zero, suc, ◌+◌, ◌<◌, ◌≤◌, ◌==◌, ◌||◌, nat_lt, if◌then◌else◌, Bool, true, false, List, [], ◌∷◌, ◌++◌, map, take, drop, length, get_or, slice_get, AllPairs, Option, None, Some, is_some, refl, sym, ap, ◌∙◌, subst, arith, length-append, append_assoc}
-use Rattle.std.specs.List.{AllByRecursion, flat_map, list_any, list_all, insert, count_by, position, range_with_len, AllPass}
+use Rattle.std.proofs.Common.{◌≡◌, ◌≢◌, inl, inr, ℕ, zero, suc, ◌+◌, ◌<◌, ◌≤◌, ◌==◌, ◌||◌, nat_lt, if◌then◌else◌, Bool, true, false, List, [], ◌∷◌, ◌++◌, map, length, get_or, slice_get, AllPairs, Option, None, Some, is_some, refl, sym, ap, ◌∙◌, subst, arith, append_assoc}
+use Rattle.std.specs.List.{AllByRecursion, flat_map, list_any, list_all, insert, position, range_with_len}
 use Rattle.std.specs.Str.{bytes_eq}
 use Rattle.std.proofs.lemmas.Bool.{cases_eq, eq-eqb, ne_eqb, lt-ltb, or_right}
-use Rattle.std.proofs.lemmas.List.{append-nil, length-map, map-append, take_all, drop_all}
+use Rattle.std.proofs.lemmas.List.{append-nil, map-append, take_all, drop_all}
 use Rattle.std.proofs.lemmas.List.Elements.{All-from_recursion}
 use Rattle.std.proofs.lemmas.List.Folds.{list_any_none}
-use Rattle.std.proofs.lemmas.List.Sums.{sum_by-cons, list_all-from_AllPass}
+use Rattle.std.proofs.lemmas.List.Sums.{sum_by-cons}
 use Rattle.std.proofs.lemmas.List.Concat.{flat_map-append}
 use Rattle.std.proofs.lemmas.List.Quantifiers.{position-Some}
 use Rattle.clnp_base.proofs.Lists.{AllByRecursion-get_or, AllByRecursion-implies}
 use Rattle.forwarding.proofs.Prefixes.{other_from, same_from}
 use Rattle.clnp_plan.specs.Configuration.{SystemConfiguration}
 use Rattle.clnp_plan.specs.declared.config.PortConfig.{PortConfig}
-use Rattle.scenario.specs.Scenario.{Plan, Subnetwork}
+use Rattle.scenario.specs.Scenario.{Plan}
 use Rattle.scenario.specs.Words.{is_taken}
-use Rattle.scenario.specs.Declarations.{Declarations, DeclaredSystem, NumberedPort, is_among, changed_at, with_port, count_below, has_number, have_no_gap, configuration_of}
+use Rattle.scenario.specs.Declarations.{Declarations, DeclaredSystem, NumberedPort, is_among, changed_at, count_below, has_number, have_no_gap, configuration_of}
 use Rattle.scenario.proofs.Apart.{AreApart, apart_of, before_is_other}
 
 -- ports by their numbers, the first of which is given
@@ -65,7 +65,7 @@ all_between P (first ∷ done) later x h = all_between P done later x h.1
 
 -- what all systems have together, where those behind one have nothing yet
 module _ {X Y A : Type 0} (f : X → Y) (g : Y → List A) (h : X → List A) (bared : X → X)
-  (same : (x : X) → g (f x) ≡ h x) (nothing : (x : X) → h (bared x) ≡ []) where
+    (same : (x : X) → g (f x) ≡ h x) (nothing : (x : X) → h (bared x) ≡ []) where
   none_behind : (later : List X) → flat_map g (map f (map bared later)) ≡ []
   none_behind [] = refl
   none_behind (x ∷ later) = rw (same (bared x), nothing x) (none_behind later)

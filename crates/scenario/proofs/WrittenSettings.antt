@@ -1,5 +1,5 @@
 -- The settings of a system as they are written are read as these settings.
-use Rattle.std.proofs.Common.{◌≡◌, ℕ, ◌<◌, ◌≤◌, ◌^◌, Bool, true, false, List, [], ◌∷◌, codes, Result, Ok, refl, arith}
+use Rattle.std.proofs.Common.{◌≡◌, ℕ, ◌<◌, ◌^◌, Bool, true, false, List, [], ◌∷◌, codes, Ok, refl, arith}
 use Rattle.std.specs.List.{AllByRecursion}
 use Rattle.std.specs.Fmt.{decimal}
 use Rattle.clnp_plan.specs.Configuration.{AreSettings, IsWithin}
@@ -110,14 +110,32 @@ checksum_is_word false = spelled (codes "checksum=off") refl
 pub settings_are_words : (settings : Settings) → AreSettings settings → AllByRecursion IsWord (setting_texts settings)
 settings_are_words settings are = (
   keyed_word (codes "hello=") 0 600 settings.hello (spelled (codes "hello=") refl) (omega arith) are.hello,
-  (keyed_word (codes "suggest=") 0 32767 settings.suggest (spelled (codes "suggest=") refl) (omega arith) are.suggest,
-  (keyed_word (codes "rhold=") 0 65535 settings.rhold (spelled (codes "rhold=") refl) (omega arith) are.rhold,
-  (keyed_word (codes "slots=") 1 1024 settings.slots (spelled (codes "slots=") refl) (omega arith) are.slots,
-  (keyed_word (codes "segments=") 1 16384 settings.segments (spelled (codes "segments=") refl) (omega arith) are.segments,
-  (keyed_word (codes "budget=") 512 4194304 settings.budget (spelled (codes "budget=") refl) (omega arith) are.budget,
-  (keyed_word (codes "neighbours=") 1 1024 settings.neighbours (spelled (codes "neighbours=") refl) (omega arith) are.neighbours,
-  (keyed_word (codes "routers=") 1 64 settings.routers (spelled (codes "routers=") refl) (omega arith) are.routers,
-  (keyed_word (codes "redirects=") 1 1024 settings.redirects (spelled (codes "redirects=") refl) (omega arith) are.redirects,
-  (keyed_word (codes "life=") 1 255 settings.life (spelled (codes "life=") refl) (omega arith) are.life,
-  (checksum_is_word settings.sealed, tt)))))))))),
+  (
+    keyed_word (codes "suggest=") 0 32767 settings.suggest (spelled (codes "suggest=") refl) (omega arith) are.suggest,
+    (
+      keyed_word (codes "rhold=") 0 65535 settings.rhold (spelled (codes "rhold=") refl) (omega arith) are.rhold,
+      (
+        keyed_word (codes "slots=") 1 1024 settings.slots (spelled (codes "slots=") refl) (omega arith) are.slots,
+        (
+          keyed_word (codes "segments=") 1 16384 settings.segments (spelled (codes "segments=") refl) (omega arith) are.segments,
+          (
+            keyed_word (codes "budget=") 512 4194304 settings.budget (spelled (codes "budget=") refl) (omega arith) are.budget,
+            (
+              keyed_word (codes "neighbours=") 1 1024 settings.neighbours (spelled (codes "neighbours=") refl) (omega arith) are.neighbours,
+              (
+                keyed_word (codes "routers=") 1 64 settings.routers (spelled (codes "routers=") refl) (omega arith) are.routers,
+                (
+                  keyed_word (codes "redirects=") 1 1024 settings.redirects (spelled (codes "redirects=") refl) (omega arith) are.redirects,
+                  (
+                    keyed_word (codes "life=") 1 255 settings.life (spelled (codes "life=") refl) (omega arith) are.life,
+                    (checksum_is_word settings.sealed, tt),
+                  ),
+                ),
+              ),
+            ),
+          ),
+        ),
+      ),
+    ),
+  ),
 )
