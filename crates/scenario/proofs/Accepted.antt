@@ -20,14 +20,14 @@ use Rattle.scenario.proofs.Behind.{behind_result, behind_wanted, behind_such, be
 use Rattle.scenario.proofs.Apart.{addresses_of, distinct_of, configuration_addresses}
 use Rattle.scenario.proofs.Asks.{event_fair}
 use Rattle.scenario.proofs.Forms.{Laws, event_formed}
-use Rattle.scenario.proofs.Addresses.{ReadAddressed, configured_addresses, declared_addresses}
+use Rattle.scenario.proofs.Addresses.{ReadAddressed, configured_addresses, configured_prefixes, declared_addresses}
 use Rattle.scenario.proofs.Outside.{event_injected, words_stand}
 use Rattle.scenario.proofs.Said.{event_said}
 use Rattle.scenario.proofs.Placed.{AreAmong, event_placed}
 use Rattle.scenario.proofs.Roles.{HasItsRole, events_in_roles}
 use Rattle.scenario.proofs.Kept.{configuration_snpas, configurations_on}
 use Rattle.scenario.proofs.Lists.{configuration_names}
-use Rattle.scenario.proofs.Fit.{AreDeclared, declarations_fit, nothing_fit, configurations_fit}
+use Rattle.scenario.proofs.Fit.{AreDeclared, declarations_fit, nothing_fit, configurations_fit, configurations_named, configurations_apart}
 
 record AreFew (counts : Counts) : Type 0 where
   pub events : counts.events ≤ 100000
@@ -127,6 +127,10 @@ plan_fit laws lines =
       systems = configurations_fit declared fits;
       addresses = rw (configuration_addresses declared.value.systems) (distinct_of (addresses_of declared.value.systems) fits.fit.addresses);
       each_address = configured_addresses declared.value.systems are_declared.1;
+      named_subnets = fits.fit.named;
+      named_systems = configurations_named declared.value.systems fits.fit.systems;
+      different = configurations_apart declared.value.systems fits.fit.systems;
+      prefixes = configured_prefixes declared.value.systems are_declared.1;
       ticks = omega (arith, counted.ticks);
       few_events = omega (arith, counted.many);
       passed = omega (arith, counted.passed);

@@ -4,6 +4,7 @@ pub mod Events
 pub mod Behind
 pub mod Apart
 pub mod Kept
+pub mod Prefixes
 pub mod Numbers
 pub mod Injected
 pub mod Placed
@@ -19,4 +20,10 @@ pub mod Seeded
 pub mod Written
 pub mod WrittenEvents
 pub mod WrittenText
+pub mod WrittenSettings
+pub mod WrittenPrefixes
+pub mod Stages
+pub mod DeclaredLines
+pub mod WrittenDeclarations
+pub mod ReadBack
 mod Worked

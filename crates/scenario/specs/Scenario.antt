@@ -1,19 +1,22 @@
 -- What a scenario text says: how long things last, the subnetworks and systems that it declares, and its events.
-use Rattle.std.specs.Prelude.{◌≡◌, ℕ, false, ◌+◌, ◌/◌, ◌%◌, ◌==◌, ◌<◌, ◌≤◌, List, [], ◌∷◌, ◌++◌, map, filter, length, slice_get, replicate, sum, Some, option_map}
+use Rattle.std.specs.Prelude.{◌≡◌, ◌≢◌, ℕ, true, false, ◌+◌, ◌/◌, ◌%◌, ◌==◌, ◌<◌, ◌≤◌, List, [], ◌∷◌, ◌++◌, map, filter, length, slice_get, replicate, sum, Some, option_map, AllPairs}
 use Rattle.std.specs.List.{AllByRecursion, flat_map, range_with_len}
 use Rattle.hex.specs.Hex.{IsBytes}
 use Rattle.nsap.specs.Address.{IsAddress}
+use Rattle.nsap.specs.Prefix.{IsPrefix}
 use Rattle.nsap.specs.declared.target.Target.{Target}
 use Rattle.nsap.specs.declared.target.Target.TheVariants.{System, EndSystems, Routers}
 use Rattle.clnp_options.specs.Grammar.{FitsKind}
 use Rattle.clnp_options.specs.Parameter.{parameters}
 use Rattle.clnp_options.specs.Rules.{Accepts}
+use Rattle.forwarding.specs.declared.route.Route.{Route}
 use Rattle.clnp_plan.specs.Asking.{IsFormedAsk}
 use Rattle.clnp_plan.specs.Configuration.{AreDistinct, AreLimits, IsAddressed, IsSystem, IsWithin, SystemConfiguration}
 use Rattle.clnp_plan.specs.declared.ask.Ask.{Ask}
 use Rattle.clnp_plan.specs.declared.config.Limits.{Limits}
 use Rattle.clnp_plan.specs.declared.config.PortConfig.{PortConfig}
 use Rattle.clnp_plan.specs.declared.config.Role.TheVariants.{Host, Router}
+use Rattle.scenario.specs.Words.{is_name}
 use Rattle.scenario.specs.declared.event.Body.{Body}
 use Rattle.scenario.specs.declared.event.Body.TheVariants.{Hex, Pattern}
 use Rattle.scenario.specs.declared.event.Event.{Event}
@@ -154,6 +157,10 @@ IsOfRouter systems _ = Unit {0}
 abbrev pub IsOn : List Subnetwork → PortConfig → Type 0
 IsOn subnets port = option_map (λ (subnet : Subnetwork). subnet.mtu) (slice_get subnets port.subnet) ≡ Some port.mtu
 
+-- no two of some ports are on one subnetwork
+abbrev pub AreOnDifferent : List PortConfig → Type 0
+AreOnDifferent ports = AllPairs (λ a b. a ≢ b) (map (λ (port : PortConfig). port.subnet) ports)
+
 -- the addresses of a system's ports on a subnetwork
 abbrev pub snpas_of : ℕ → SystemConfiguration → List (List ℕ)
 snpas_of subnet system = map (λ port. port.snpa) (filter (λ port. port.subnet == subnet) system.ports)
@@ -162,6 +169,8 @@ snpas_of subnet system = map (λ port. port.snpa) (filter (λ port. port.subnet 
 pub record IsFit (plan : Plan) : Type 0 where
   pub limits : AreLimits plan.limits
   pub systems : AllByRecursion IsSystem plan.systems
+  pub named_subnets : AllByRecursion (λ (subnet : Subnetwork). is_name subnet.name ≡ true) plan.subnets
+  pub named_systems : AllByRecursion (λ (system : SystemConfiguration). is_name system.name ≡ true) plan.systems
   -- a name belongs to one subnetwork, and to one system
   pub subnet_names : AreDistinct (map (λ (subnet : Subnetwork). subnet.name) plan.subnets)
   pub system_names : AreDistinct (map (λ (system : SystemConfiguration). system.name) plan.systems)
@@ -171,6 +180,8 @@ pub record IsFit (plan : Plan) : Type 0 where
   -- an address of a port belongs to one port of its subnetwork
   pub snpas : (subnet : ℕ) → AreDistinct (flat_map (snpas_of subnet) plan.systems)
   pub ports : AllByRecursion (λ (system : SystemConfiguration). AllByRecursion (IsOn plan.subnets) system.ports) plan.systems
+  pub different : AllByRecursion (λ (system : SystemConfiguration). AreOnDifferent system.ports) plan.systems
+  pub prefixes : AllByRecursion (λ (system : SystemConfiguration). AllByRecursion (λ (route : Route). IsPrefix route.prefix) system.routes) plan.systems
   -- an address belongs to one system
   pub addresses : AreDistinct (flat_map (λ system. system.addresses) plan.systems)
   pub each_address : AllByRecursion IsAddressed plan.systems
