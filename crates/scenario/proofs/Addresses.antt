@@ -1,4 +1,5 @@
 -- Each address that lines declare for a system is one: its own, those of its ports, and those of the next systems on its routes.
+-- So is each prefix of a route.
 use Rattle.std.proofs.Common.{ℕ, ◌+◌, ◌&&◌, not, nat_le, nat_lt, List, [], ◌∷◌, map, length, slice_get, codes, is_some, IfOk}
 use Rattle.std.specs.List.{AllByRecursion, flat_map, list_all}
 use Rattle.std.specs.Str.{bytes_eq}
@@ -6,8 +7,9 @@ use Rattle.std.proofs.lemmas.List.Elements.{All-from_recursion}
 use Rattle.clnp_base.proofs.Lists.{AllByRecursion-mapped, AllByRecursion-push}
 use Rattle.clnp_base.specs.Text.{decimal_of, words_of}
 use Rattle.nsap.specs.Address.{IsAddress}
+use Rattle.nsap.specs.Prefix.{IsPrefix}
 use Rattle.forwarding.specs.declared.route.Route.{Route}
-use Rattle.clnp_plan.specs.Configuration.{IsAddressed, IsAddressedRoute}
+use Rattle.clnp_plan.specs.Configuration.{IsAddressed, IsAddressedRoute, SystemConfiguration}
 use Rattle.clnp_plan.specs.declared.config.PortConfig.{PortConfig}
 use Rattle.scenario.specs.Words.{wanted, name_word, declared_word, number_within, number_word, address_word, prefix_word, is_digits, is_taken, is_one_at_most, is_skipped, each_once, two_words, three_words, five_words, first_two, first_four}
 use Rattle.scenario.specs.Declarations.{Declarations, DeclaredSystem, NumberedPort, nothing_declared, subnet_names, system_names, with_address, with_port, count_below, is_among, has_port, snpas_on, mtu_at, takes_address, takes_port, limits_line, subnet_line, role_word, setting_words, key_of, settings_of, system_line, address_line, transit_word, port_line, router_word, port_word, has_route, takes_route, with_route, route_line, declaration_line, is_complete, configuration_of}
@@ -18,6 +20,7 @@ use Rattle.scenario.proofs.Apart.{addresses_of}
 use Rattle.scenario.proofs.Fit.{changed}
 use Rattle.scenario.proofs.Forms.{Laws, address_formed}
 use Rattle.scenario.proofs.Kept.{all_among}
+use Rattle.scenario.proofs.Prefixes.{prefix_formed}
 
 -- the address of a declared port is one
 abbrev pub IsAddressedPort : NumberedPort → Type 0
@@ -28,6 +31,7 @@ pub record HasAddresses (system : DeclaredSystem) : Type 0 where
   pub own : AllByRecursion IsAddress system.addresses
   pub ports : AllByRecursion IsAddressedPort system.ports
   pub routes : AllByRecursion IsAddressedRoute system.routes
+  pub prefixes : AllByRecursion (λ (route : Route). IsPrefix route.prefix) system.routes
 
 -- and all that each system has that was declared so far
 abbrev pub AreAddressed : Declarations → Type 0
@@ -63,7 +67,7 @@ system_has_none d words h =
     behind_wanted (not (is_taken (system_names d) name) && each_once key_of settings) _ _ AreAddressed (λ _.
     behind_wanted (nat_lt (length d.systems) 64) _ _ AreAddressed (λ _.
     let system : DeclaredSystem = record { name = name; role = role; settings = settings_of settings; addresses = []; ports = []; routes = [] } in
-    AllByRecursion-push HasAddresses d.systems system h (record { own = tt; ports = tt; routes = tt })))))))
+    AllByRecursion-push HasAddresses d.systems system h (record { own = tt; ports = tt; routes = tt; prefixes = tt })))))))
 
 address_is_one : Laws → (d : Declarations) (words : List (List ℕ)) → AreAddressed d → IfOk (address_line d words) AreAddressed
 unfolding address_line
@@ -74,7 +78,7 @@ address_is_one laws d words h =
     behind_wanted (not (is_among address (addresses_of d.systems))) _ _ AreAddressed (λ _.
     behind_wanted (takes_address (slice_get d.systems place)) _ _ AreAddressed (λ _.
     changed HasAddresses (with_address address) place d.systems h (λ system _ its.
-    record { own = AllByRecursion-push IsAddress system.addresses address its.own is; ports = its.ports; routes = its.routes }))))))
+    record { own = AllByRecursion-push IsAddress system.addresses address its.own is; ports = its.ports; routes = its.routes; prefixes = its.prefixes }))))))
 
 port_has_one : Laws → (d : Declarations) (words : List (List ℕ)) → AreAddressed d → IfOk (port_line d words) AreAddressed
 unfolding port_line
@@ -91,14 +95,14 @@ port_has_one laws d words h =
     behind_wanted (takes_port (slice_get d.systems place)) _ _ AreAddressed (λ _.
     let numbered : NumberedPort = record { number = number; port = record { subnet = subnet; snpa = snpa; transit = transit; mtu = mtu_at (slice_get d.subnets subnet) } } in
     changed HasAddresses (with_port numbered) place d.systems h (λ system _ its.
-    record { own = its.own; ports = all_among IsAddressedPort numbered (count_below number system.ports) system.ports is its.ports; routes = its.routes })))))))))))
+    record { own = its.own; ports = all_among IsAddressedPort numbered (count_below number system.ports) system.ports is its.ports; routes = its.routes; prefixes = its.prefixes })))))))))))
 
 route_has_two : Laws → (d : Declarations) (words : List (List ℕ)) → AreAddressed d → IfOk (route_line d words) AreAddressed
 unfolding route_line
 route_has_two laws d words h =
     behind_found (five_words words) _ _ AreAddressed (λ w _.
     behind_result (router_word d w.0) _ AreAddressed (λ place _.
-    behind_result (prefix_word w.1) _ AreAddressed (λ prefix _.
+    behind_such (prefix_word w.1) _ IsPrefix AreAddressed (prefix_formed w.1) (λ prefix formed.
     behind_result (port_word (slice_get d.systems place) w.2) _ AreAddressed (λ port _.
     behind_such (address_word w.3) _ IsAddress AreAddressed (address_formed laws w.3) (λ snpa first.
     behind_such (address_word w.4) _ IsAddress AreAddressed (address_formed laws w.4) (λ title second.
@@ -106,7 +110,12 @@ route_has_two laws d words h =
     behind_wanted (takes_route (slice_get d.systems place)) _ _ AreAddressed (λ _.
     let route : Route = record { prefix = prefix; port = port; snpa = snpa; title = title } in
     changed HasAddresses (with_route route) place d.systems h (λ system _ its.
-    record { own = its.own; ports = its.ports; routes = AllByRecursion-push IsAddressedRoute system.routes route its.routes (record { snpa = first; title = second }) })))))))))
+    record {
+      own = its.own;
+      ports = its.ports;
+      routes = AllByRecursion-push IsAddressedRoute system.routes route its.routes (record { snpa = first; title = second });
+      prefixes = AllByRecursion-push (λ (route : Route). IsPrefix route.prefix) system.routes route its.prefixes formed;
+    })))))))))
 
 line_keeps : Laws → (d : Declarations) (words : List (List ℕ)) → AreAddressed d → IfOk (declaration_line d words) AreAddressed
 unfolding declaration_line
@@ -147,3 +156,9 @@ system_addressed system its =
 
 pub configured_addresses : (systems : List DeclaredSystem) → AllByRecursion HasAddresses systems → AllByRecursion IsAddressed (map configuration_of systems)
 configured_addresses systems h = AllByRecursion-mapped HasAddresses IsAddressed configuration_of systems system_addressed h
+
+pub configured_prefixes : (systems : List DeclaredSystem) → AllByRecursion HasAddresses systems
+    → AllByRecursion (λ (system : SystemConfiguration). AllByRecursion (λ (route : Route). IsPrefix route.prefix) system.routes) (map configuration_of systems)
+configured_prefixes systems h =
+    AllByRecursion-mapped HasAddresses (λ (system : SystemConfiguration). AllByRecursion (λ (route : Route). IsPrefix route.prefix) system.routes) configuration_of systems
+    (λ system its. its.prefixes) h

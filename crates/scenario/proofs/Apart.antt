@@ -1,35 +1,58 @@
 -- Addresses of which no two are the same.
-use Rattle.std.proofs.Common.{◌≡◌, ◌≢◌, ℕ, zero, suc, ◌||◌, Bool, true, false, nat_eq, List, [], ◌∷◌, ◌++◌, map, refl, sym, ◌∙◌, ap, arith, append_assoc}
+use Rattle.std.proofs.Common.{◌≡◌, ◌≢◌, AllPairs, ℕ, zero, suc, ◌||◌, Bool, true, false, nat_eq, List, [], ◌∷◌, ◌++◌, map, refl, sym, ◌∙◌, ap, arith, append_assoc}
 use Rattle.std.specs.List.{AllByRecursion, flat_map}
 use Rattle.std.specs.Cmp.Lexicographic.{pointwise, nat_list_eq_equiv}
 use Rattle.std.proofs.lemmas.Bool.{true≢false}
 use Rattle.std.proofs.lemmas.List.Elements.{All-from_recursion}
 use Rattle.std.proofs.lemmas.List.Kept.{AllPairs-cons}
-use Rattle.clnp_base.proofs.Lists.{AllByRecursion-put, AllByRecursion-front}
-use Rattle.clnp_plan.specs.Configuration.{AreDistinct}
+use Rattle.std.proofs.lemmas.Option.{slice_get_within, get_or_from_slice_get}
+use Rattle.clnp_base.proofs.Lists.{AllByRecursion-put, AllByRecursion-front, AllByRecursion-from_places}
 use Rattle.scenario.specs.Declarations.{DeclaredSystem, changed_at, is_among, with_address, with_port, NumberedPort, configuration_of}
 
 -- all addresses of some systems
 abbrev pub addresses_of : List DeclaredSystem → List (List ℕ)
 addresses_of systems = flat_map (λ system. system.addresses) systems
 
--- an address is none of some
-abbrev pub IsNew : List ℕ → List (List ℕ) → Type 0
-IsNew address others = AllByRecursion (λ other. (address ≢ other) × (other ≢ address)) others
+-- an address, or what else there is of some kind, is none of some
+abbrev pub IsNew : {X : Type 0} → X → List X → Type 0
+IsNew x others = AllByRecursion (λ other. (x ≢ other) × (other ≢ x)) others
 
--- each address is none of those behind it
-abbrev pub AreApart : List (List ℕ) → Type 0
+-- each is none of those behind it
+abbrev pub AreApart : {X : Type 0} → List X → Type 0
 AreApart [] = Unit {0}
-AreApart (address ∷ others) = IsNew address others × AreApart others
+AreApart (x ∷ others) = IsNew x others × AreApart others
 
-weaker : (address : List ℕ) (others : List (List ℕ)) → IsNew address others → AllByRecursion (λ other. address ≢ other) others
-weaker address [] h = tt
-weaker address (other ∷ others) h = (h.0.0, weaker address others h.1)
+weaker : {X : Type 0} (x : X) (others : List X) → IsNew x others → AllByRecursion (λ other. x ≢ other) others
+weaker x [] h = tt
+weaker x (other ∷ others) h = (h.0.0, weaker x others h.1)
 
-pub distinct_of : (addresses : List (List ℕ)) → AreApart addresses → AreDistinct addresses
+pub distinct_of : {X : Type 0} (xs : List X) → AreApart xs → AllPairs (λ a b. a ≢ b) xs
 distinct_of [] h = λ i j d before within. absurd (omega (arith, within))
-distinct_of (address ∷ others) h =
-    AllPairs-cons (λ a b. a ≢ b) address others (All-from_recursion (λ other. address ≢ other) others (weaker address others h.0)) (distinct_of others h.1)
+distinct_of (x ∷ others) h =
+    AllPairs-cons (λ a b. a ≢ b) x others (All-from_recursion (λ other. x ≢ other) others (weaker x others h.0)) (distinct_of others h.1)
+
+new_to : {X : Type 0} (x : X) (others : List X) → AllByRecursion (λ other. x ≢ other) others → IsNew x others
+new_to x [] h = tt
+new_to x (other ∷ others) h = ((h.0, λ e. h.0 (sym e)), new_to x others h.1)
+
+pub apart_of : {X : Type 0} (xs : List X) → AllPairs (λ a b. a ≢ b) xs → AreApart xs
+apart_of [] h = tt
+apart_of (x ∷ others) h = (
+  new_to x others (AllByRecursion-from_places (λ other. x ≢ other) others (λ i other at e.
+      h zero (suc i) x (omega arith) (omega (arith, slice_get_within others i other at)) (e ∙ sym (get_or_from_slice_get others i other x at)))),
+  apart_of others (λ i j d before within. h (suc i) (suc j) d (omega (arith, before)) (omega (arith, within))),
+)
+
+pub all_behind : {X : Type 0} (P : X → Type 0) (xs ys : List X) → AllByRecursion P (xs ++ ys) → AllByRecursion P ys
+all_behind P [] ys h = h
+all_behind P (x ∷ xs) ys h = all_behind P xs ys h.1
+
+-- what stands before one of them is other
+pub before_is_other : {X : Type 0} (front : List X) (x : X) (behind : List X) → AreApart (front ++ x ∷ behind) → AllByRecursion (λ other. other ≢ x) front
+before_is_other [] x behind h = tt
+before_is_other (first ∷ front) x behind h =
+    let others = all_behind (λ other. (first ≢ other) × (other ≢ first)) front (x ∷ behind) h.0 in
+    (others.0.0, before_is_other front x behind h.1)
 
 pub either_false : (a b : Bool) → (a || b) ≡ false → (a ≡ false) × (b ≡ false)
 either_false true b h = absurd (true≢false h)
@@ -49,10 +72,10 @@ new_of address (other ∷ others) h =
 
 -- an address that is none of a list, anywhere in the list
 
-pub put : (xs : List (List ℕ)) (address : List ℕ) (ys : List (List ℕ)) → IsNew address (xs ++ ys) → AreApart (xs ++ ys) → AreApart (xs ++ address ∷ ys)
-put [] address ys new h = (new, h)
-put (x ∷ xs) address ys new h =
-    (AllByRecursion-put (λ other. (x ≢ other) × (other ≢ x)) xs address ys (new.0.1, new.0.0) h.0, put xs address ys new.1 h.1)
+pub put : {X : Type 0} (xs : List X) (y : X) (ys : List X) → IsNew y (xs ++ ys) → AreApart (xs ++ ys) → AreApart (xs ++ y ∷ ys)
+put [] y ys new h = (new, h)
+put (x ∷ xs) y ys new h =
+    (AllByRecursion-put (λ other. (x ≢ other) × (other ≢ x)) xs y ys (new.0.1, new.0.0) h.0, put xs y ys new.1 h.1)
 
 add : (front : List (List ℕ)) (address : List ℕ) (place : ℕ) (systems : List DeclaredSystem)
     → IsNew address (front ++ addresses_of systems) → AreApart (front ++ addresses_of systems)

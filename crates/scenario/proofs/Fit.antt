@@ -1,23 +1,23 @@
 -- Each scenario that the grammar accepts is fit: what its lines declare stays fit, line by line.
-use Rattle.std.proofs.Common.{◌≡◌, ℕ, zero, suc, ◌+◌, ◌<◌, ◌≤◌, ◌==◌, ◌&&◌, Bool, true, false, not, nat_le, nat_lt, List, [], ◌∷◌, ◌++◌, map, length, slice_get, codes, Option, Some, is_some, Ok, IfOk, refl, sym, subst, arith, length-append}
+use Rattle.std.proofs.Common.{◌≡◌, ℕ, zero, suc, ◌+◌, ◌<◌, ◌≤◌, ◌==◌, ◌&&◌, ◌||◌, Bool, true, false, not, nat_le, nat_lt, List, [], ◌∷◌, ◌++◌, map, length, slice_get, codes, Option, Some, is_some, Ok, IfOk, refl, sym, subst, arith, length-append}
 use Rattle.std.specs.List.{AllByRecursion, flat_map, list_all, list_any}
 use Rattle.std.specs.Str.{bytes_eq}
 use Rattle.std.proofs.lemmas.Bool.{leb-true, ltb-true, eqb-true, and_parts, not-true, true≢false}
 use Rattle.std.proofs.lemmas.List.{length-map, map-append}
 use Rattle.std.proofs.lemmas.List.Edits.{length-insert}
 use Rattle.std.proofs.lemmas.List.Sums.{count_by-le-length}
-use Rattle.clnp_base.proofs.Lists.{AllByRecursion-push}
+use Rattle.clnp_base.proofs.Lists.{AllByRecursion-mapped, AllByRecursion-push}
 use Rattle.clnp_base.specs.Text.{decimal_of, words_of}
 use Rattle.forwarding.specs.Distinct as prefixes
 use Rattle.forwarding.specs.declared.route.Route.{Route}
 use Rattle.forwarding.proofs.Prefixes.{AreDistinct-push}
-use Rattle.clnp_plan.specs.Configuration.{IsWithin, HasItsAddresses, HasItsPorts, HasItsRoutes, IsPort, IsSystem, AreSettings, AreLimits}
+use Rattle.clnp_plan.specs.Configuration.{IsWithin, HasItsAddresses, HasItsPorts, HasItsRoutes, IsPort, IsSystem, AreSettings, AreLimits, SystemConfiguration}
 use Rattle.clnp_plan.specs.declared.config.PortConfig.{PortConfig}
 use Rattle.clnp_plan.specs.declared.config.Role.{Role}
 use Rattle.clnp_plan.specs.declared.config.Role.TheVariants.{Host, Router}
 use Rattle.clnp_plan.specs.declared.config.Settings.{Settings}
-use Rattle.scenario.specs.Scenario.{Subnetwork, IsOn}
-use Rattle.scenario.specs.Words.{◌>>=◌, wanted, found, name_word, declared_word, number_within, number_word, number_behind, has_prefix, address_word, prefix_word, is_digits, is_taken, is_one_at_most, is_skipped, each_once, two_words, three_words, five_words, first_two, first_four}
+use Rattle.scenario.specs.Scenario.{Subnetwork, AreOnDifferent, IsOn}
+use Rattle.scenario.specs.Words.{◌>>=◌, wanted, found, is_name, name_word, declared_word, number_within, number_word, number_behind, has_prefix, address_word, prefix_word, is_digits, is_taken, is_one_at_most, is_skipped, each_once, two_words, three_words, five_words, first_two, first_four}
 use Rattle.scenario.specs.Declarations.{Declarations, DeclaredSystem, NumberedPort, nothing_declared, subnet_names, system_names, changed_at, with_address, with_port, is_among, most_addresses, most_ports, takes_address, takes_port, count_below, has_port, snpas_on, mtu_at, limits_of, limits_line, subnet_line, checksum_word, room_word, setting_word, setting_words, key_of, with_setting, settings_of, role_word, system_line, address_line, transit_word, port_line, is_router, is_router_at, router_word, has_number, has_numbered, port_word, has_route, takes_route, with_route, route_line, declaration_line, is_complete, have_no_gap, configuration_of}
 use Rattle.scenario.specs.Grammar.{ReadTo, is_line_of, declarations_from}
 use Rattle.scenario.specs.declared.code.Code.TheVariants as bad
@@ -25,7 +25,7 @@ use Rattle.scenario.specs.declared.setting.Setting.{Setting}
 use Rattle.scenario.specs.declared.setting.Setting.TheVariants.{Hello, Suggest, Checksum, Life, RedirectHold, Slots, Segments, Budget, Neighbours, Routers, Redirects}
 use Rattle.scenario.proofs.Behind.{behind_result, behind_line, behind_found, behind_wanted, behind_such, behind_line_such, wanted_holds, either_way, found_is_within, number_is_within, number_behind_is_within, declared_is_within}
 use Rattle.scenario.proofs.Apart.{addresses_of, AreApart, new_of, add_address, port_leaves, system_leaves, distinct_of, front_apart, back_apart}
-use Rattle.scenario.proofs.Kept.{map_leaves, all_leaves, length_leaves, empty_leaves, one_gets, one_more_name, AreOn, all_stay, mtu_is, port_gets, port_elsewhere, all_among}
+use Rattle.scenario.proofs.Kept.{map_leaves, all_leaves, length_leaves, empty_leaves, one_gets, one_more_name, AreOn, all_stay, mtu_is, subnets_of, on_one_more, configurations_different, port_gets, port_elsewhere, all_among}
 use Rattle.scenario.proofs.Numbers.{LeadOut, lead_on, lead_below}
 
 -- what the lines so far say of a system is within bounds
@@ -33,15 +33,18 @@ pub record IsDeclared (system : DeclaredSystem) : Type 0 where
   pub addresses : length system.addresses ≤ most_addresses system.role
   pub few_ports : length system.ports ≤ most_ports system.role
   pub ports : AllByRecursion (λ (numbered : NumberedPort). IsPort numbered.port) system.ports
+  pub different : AreApart (subnets_of system.ports)
   pub routes : HasItsRoutes system.role system.routes
   pub distinct_routes : prefixes.AreDistinct system.routes
   pub each_route : LeadOut system.ports system.routes
   pub settings : AreSettings system.settings
+  pub named : is_name system.name ≡ true
 
 -- what the lines so far declare is within bounds, and no address belongs to two systems
 pub record AreFit (d : Declarations) : Type 0 where
   pub limits : AreLimits (limits_of d.limits)
   pub subnets : AllByRecursion (λ (subnet : Subnetwork). IsWithin 512 65535 subnet.mtu) d.subnets
+  pub named : AllByRecursion (λ (subnet : Subnetwork). is_name subnet.name ≡ true) d.subnets
   pub systems : AllByRecursion IsDeclared d.systems
   pub addresses : AreApart (addresses_of d.systems)
   pub subnet_names : AreApart (map (λ (subnet : Subnetwork). subnet.name) d.subnets)
@@ -69,6 +72,7 @@ limits_fit d words h =
     record {
       limits = record { age = age_in; hold = hold_in; reuse = reuse_in; rests = leb-true (age + hold) reuse rests };
       subnets = h.subnets;
+      named = h.named;
       systems = h.systems;
       addresses = h.addresses;
       subnet_names = h.subnet_names;
@@ -79,11 +83,18 @@ limits_fit d words h =
       on = h.on;
     }))))))
 
+-- a word that is read as a name is one
+abbrev IsNamed : List ℕ → Type 0
+IsNamed name = is_name name ≡ true
+
+name_is : (word : List ℕ) → IfOk (name_word word) IsNamed
+name_is word = behind_wanted (is_name word) bad.Syntax (λ _. Ok word) IsNamed (λ is. is)
+
 pub subnet_fit : (d : Declarations) (words : List (List ℕ)) → AreFit d → IfOk (subnet_line d words) AreFit
 unfolding subnet_line
 subnet_fit d words h =
     behind_found (two_words words) _ _ AreFit (λ w _.
-    behind_result (name_word w.0) _ AreFit (λ name _.
+    behind_such (name_word w.0) _ IsNamed AreFit (name_is w.0) (λ name is_named.
     behind_wanted (is_digits w.1) _ _ AreFit (λ _.
     behind_wanted (not (is_taken (subnet_names d) name)) _ _ AreFit (λ free.
     behind_such (found (number_within 512 65535 (decimal_of w.1)) bad.Mtu) _ (IsWithin 512 65535) AreFit (found_is_within 512 65535 (decimal_of w.1) bad.Mtu) (λ mtu mtu_in.
@@ -92,6 +103,7 @@ subnet_fit d words h =
     record {
       limits = h.limits;
       subnets = AllByRecursion-push (λ (subnet : Subnetwork). IsWithin 512 65535 subnet.mtu) d.subnets subnet h.subnets mtu_in;
+      named = AllByRecursion-push (λ (subnet : Subnetwork). is_name subnet.name ≡ true) d.subnets subnet h.named is_named;
       systems = h.systems;
       addresses = h.addresses;
       subnet_names = rw (map-append (λ (subnet : Subnetwork). subnet.name) d.subnets (subnet ∷ []))
@@ -200,7 +212,7 @@ pub system_fit : (d : Declarations) (words : List (List ℕ)) → AreFit d → I
 unfolding system_line
 system_fit d words h =
     behind_found (first_two words) _ _ AreFit (λ w _.
-    behind_result (name_word w.0) _ AreFit (λ name _.
+    behind_such (name_word w.0) _ IsNamed AreFit (name_is w.0) (λ name is_named.
     behind_result (role_word w.1) _ AreFit (λ role _.
     behind_such (setting_words w.2) _ (λ settings. AllByRecursion SaysWithin settings) AreFit (words_fit w.2) (λ settings fits.
     behind_wanted (not (is_taken (system_names d) name) && each_once key_of settings) _ _ AreFit (λ once.
@@ -209,14 +221,17 @@ system_fit d words h =
     record {
       limits = h.limits;
       subnets = h.subnets;
+      named = h.named;
       systems = AllByRecursion-push IsDeclared d.systems system h.systems (record {
         addresses = (none_yet role).0;
         few_ports = (none_yet role).1;
         ports = tt;
+        different = tt;
         routes = no_routes_yet role;
         distinct_routes = tt;
         each_route = tt;
         settings = settings_fit settings fits;
+        named = is_named;
       });
       addresses = rw (system_leaves d.systems system refl) h.addresses;
       subnet_names = h.subnet_names;
@@ -248,14 +263,17 @@ address_fit d words h =
     record {
       limits = h.limits;
       subnets = h.subnets;
+      named = h.named;
       systems = changed IsDeclared (with_address address) place d.systems h.systems (λ system is fits. record {
         addresses = rw length-append (omega (arith, address_room (slice_get d.systems place) system is room));
         few_ports = fits.few_ports;
         ports = fits.ports;
+        different = fits.different;
         routes = fits.routes;
         distinct_routes = fits.distinct_routes;
         each_route = fits.each_route;
         settings = fits.settings;
+        named = fits.named;
       });
       addresses = add_address address place d.systems (not-true (is_among address (addresses_of d.systems)) new) h.addresses;
       subnet_names = h.subnet_names;
@@ -293,6 +311,10 @@ one_port_more numbered system room =
     rw (length-insert system.ports (count_below numbered.number system.ports) numbered
     (count_by-le-length (λ (other : NumberedPort). nat_lt other.number numbered.number) system.ports)) (omega (arith, room))
 
+no_such_port : (o : Option DeclaredSystem) (system : DeclaredSystem) (number subnet : ℕ) → o ≡ Some system → has_port number subnet o ≡ false
+    → list_any (λ (other : NumberedPort). (other.number == number) || (other.port.subnet == subnet)) system.ports ≡ false
+no_such_port o system number subnet e h = rw e at h
+
 pub port_fit : (d : Declarations) (words : List (List ℕ)) → AreFit d → IfOk (port_line d words) AreFit
 unfolding port_line
 port_fit d words h =
@@ -303,7 +325,7 @@ port_fit d words h =
     behind_such (declared_word (subnet_names d) w.2) _ (λ subnet. subnet < length (subnet_names d)) AreFit (declared_is_within (subnet_names d) w.2) (λ subnet within.
     behind_result (address_word w.3) _ AreFit (λ snpa _.
     behind_such (transit_word w.4) _ (IsWithin 1 255) AreFit (transit_fit w.4) (λ transit transit_in.
-    behind_wanted (not (has_port number subnet (slice_get d.systems place))) _ _ AreFit (λ _.
+    behind_wanted (not (has_port number subnet (slice_get d.systems place))) _ _ AreFit (λ elsewhere.
     behind_wanted (not (is_among snpa (flat_map (snpas_on subnet) d.systems))) _ _ AreFit (λ new.
     behind_wanted (takes_port (slice_get d.systems place)) _ _ AreFit (λ room.
     let numbered : NumberedPort = record { number = number; port = record { subnet = subnet; snpa = snpa; transit = transit; mtu = mtu_at (slice_get d.subnets subnet) } } in
@@ -311,15 +333,19 @@ port_fit d words h =
     record {
       limits = h.limits;
       subnets = h.subnets;
+      named = h.named;
       systems = changed IsDeclared (with_port numbered) place d.systems h.systems (λ system is fits. record {
         addresses = fits.addresses;
         few_ports = one_port_more numbered system (port_room (slice_get d.systems place) system is room);
         ports = all_among (λ (numbered : NumberedPort). IsPort numbered.port) numbered (count_below number system.ports) system.ports
             (record { transit = transit_in; mtu = mtu_fit d.subnets subnet h.subnets there }) fits.ports;
+        different = on_one_more numbered (count_below number system.ports) system.ports
+            (no_such_port (slice_get d.systems place) system number subnet is (not-true (has_port number subnet (slice_get d.systems place)) elsewhere)) fits.different;
         routes = fits.routes;
         distinct_routes = fits.distinct_routes;
         each_route = lead_on numbered (count_below number system.ports) system.ports system.routes fits.each_route;
         settings = fits.settings;
+        named = fits.named;
       });
       addresses = rw (port_leaves numbered place d.systems) h.addresses;
       subnet_names = h.subnet_names;
@@ -369,11 +395,13 @@ route_fits route o is there other room system e fits =
       addresses = fits.addresses;
       few_ports = fits.few_ports;
       ports = fits.ports;
+      different = fits.different;
       routes = one_route_more system.role system.routes route (is_the_router o system e is) (route_room o system e room);
       distinct_routes = AreDistinct-push system.routes route fits.distinct_routes (its_prefix o system route.prefix e other);
       each_route = AllByRecursion-push (λ (route : Route). has_number system.ports route.port ≡ true) system.routes route fits.each_route
           (its_port o system route.port e there);
       settings = fits.settings;
+      named = fits.named;
     }
 
 pub route_fit : (d : Declarations) (words : List (List ℕ)) → AreFit d → IfOk (route_line d words) AreFit
@@ -392,6 +420,7 @@ route_fit d words h =
     record {
       limits = h.limits;
       subnets = h.subnets;
+      named = h.named;
       systems = changed IsDeclared (with_route route) place d.systems h.systems
           (route_fits route (slice_get d.systems place) is there (not-true (has_route prefix (slice_get d.systems place)) other) room);
       addresses = rw (all_leaves (λ (system : DeclaredSystem). system.addresses) (with_route route) (λ system. refl) place d.systems) h.addresses;
@@ -438,6 +467,7 @@ nothing_fit =
         rests = omega arith;
       };
       subnets = tt;
+      named = tt;
       systems = tt;
       addresses = tt;
       subnet_names = tt;
@@ -487,3 +517,15 @@ systems_fit (system ∷ systems) h apart complete =
 -- the declared systems are what each system is
 pub configurations_fit : (r : ReadTo Declarations) → AreDeclared r → AllByRecursion IsSystem (map configuration_of r.value.systems)
 configurations_fit r h = systems_fit r.value.systems h.fit.systems h.fit.addresses h.complete
+
+-- each of their names is a name, and no two ports of one of them are on one subnetwork
+pub configurations_named : (systems : List DeclaredSystem) → AllByRecursion IsDeclared systems
+    → AllByRecursion (λ (system : SystemConfiguration). is_name system.name ≡ true) (map configuration_of systems)
+configurations_named systems =
+    AllByRecursion-mapped IsDeclared (λ (system : SystemConfiguration). is_name system.name ≡ true) configuration_of systems (λ system fits. fits.named)
+
+pub configurations_apart : (systems : List DeclaredSystem) → AllByRecursion IsDeclared systems
+    → AllByRecursion (λ (system : SystemConfiguration). AreOnDifferent system.ports) (map configuration_of systems)
+configurations_apart systems =
+    AllByRecursion-mapped IsDeclared (λ (system : SystemConfiguration). AreOnDifferent system.ports) configuration_of systems
+    (λ system fits. configurations_different system.ports fits.different)

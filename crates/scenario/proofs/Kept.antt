@@ -1,5 +1,5 @@
 -- What a list keeps where one of its elements changes or one more comes, and names that aren't taken.
-use Rattle.std.proofs.Common.{◌≡◌, ◌≢◌, ℕ, zero, suc, ◌+◌, ◌<◌, ◌≤◌, ◌==◌, Bool, true, false, if◌then◌else◌, nat_lt, List, [], ◌∷◌, ◌++◌, map, filter, take, drop, length, slice_get, None, Some, is_some, refl, sym, ap, ◌∙◌, subst, arith, append_assoc}
+use Rattle.std.proofs.Common.{◌≡◌, ◌≢◌, ℕ, zero, suc, ◌+◌, ◌<◌, ◌≤◌, ◌==◌, ◌||◌, Bool, true, false, if◌then◌else◌, nat_lt, List, [], ◌∷◌, ◌++◌, map, filter, take, drop, length, slice_get, None, Some, is_some, refl, sym, ap, ◌∙◌, subst, arith, append_assoc}
 use Rattle.std.specs.List.{AllByRecursion, flat_map, list_any, position_or_len, insert}
 use Rattle.std.specs.Option.{option_map}
 use Rattle.std.specs.Str.{bytes_eq}
@@ -7,15 +7,15 @@ use Rattle.std.proofs.lemmas.Bool.{true≢false}
 use Rattle.std.proofs.lemmas.List.{map-append, append-nil, take-append-drop}
 use Rattle.std.proofs.lemmas.List.Elements.{filter-append}
 use Rattle.std.proofs.lemmas.Slice.Eq.{bytes_eq-Decides}
-use Rattle.clnp_base.proofs.Choices.{not_below, below_not}
+use Rattle.clnp_base.proofs.Choices.{not_below, below_not, not_equal}
 use Rattle.clnp_base.proofs.Lists.{AllByRecursion-implies, AllByRecursion-mapped, AllByRecursion-put}
 use Rattle.clnp_base.proofs.Maps.{filter-map, map-map}
 use Rattle.clnp_plan.specs.Configuration.{SystemConfiguration}
 use Rattle.clnp_plan.specs.declared.config.PortConfig.{PortConfig}
-use Rattle.scenario.specs.Scenario.{Subnetwork, IsOn, snpas_of}
+use Rattle.scenario.specs.Scenario.{Subnetwork, AreOnDifferent, IsOn, snpas_of}
 use Rattle.scenario.specs.Words.{is_taken}
 use Rattle.scenario.specs.Declarations.{DeclaredSystem, NumberedPort, changed_at, mtu_at, snpas_on, count_below, with_port, configuration_of}
-use Rattle.scenario.proofs.Apart.{IsNew, AreApart, put, either_false}
+use Rattle.scenario.proofs.Apart.{IsNew, AreApart, distinct_of, put, either_false}
 
 pub map_leaves : {X A : Type 0} (f : X → A) (change : X → X) → ((x : X) → f (change x) ≡ f x) → (place : ℕ) (xs : List X)
     → map f (changed_at change place xs) ≡ map f xs
@@ -129,6 +129,31 @@ mtu_is [] k within = absurd (omega (arith, within))
 mtu_is (subnet ∷ subnets) zero within = refl
 mtu_is (subnet ∷ subnets) (suc k) within = mtu_is subnets k (omega (arith, within))
 
+-- the subnetworks of some ports
+abbrev pub subnets_of : List NumberedPort → List ℕ
+subnets_of ports = map (λ (numbered : NumberedPort). numbered.port.subnet) ports
+
+new_subnet : (number subnet : ℕ) (ports : List NumberedPort)
+    → list_any (λ (other : NumberedPort). (other.number == number) || (other.port.subnet == subnet)) ports ≡ false → IsNew subnet (subnets_of ports)
+new_subnet number subnet [] h = tt
+new_subnet number subnet (port ∷ ports) h =
+    let first = either_false ((port.number == number) || (port.port.subnet == subnet))
+    (list_any (λ (other : NumberedPort). (other.number == number) || (other.port.subnet == subnet)) ports) h in
+    let differ : port.port.subnet ≢ subnet = not_equal port.port.subnet subnet (either_false (port.number == number) (port.port.subnet == subnet) first.0).1 in
+    ((λ e. differ (sym e), differ), new_subnet number subnet ports first.1)
+
+-- one more port, on a subnetwork where none is
+pub on_one_more : (numbered : NumberedPort) (k : ℕ) (ports : List NumberedPort)
+    → list_any (λ (other : NumberedPort). (other.number == numbered.number) || (other.port.subnet == numbered.port.subnet)) ports ≡ false
+    → AreApart (subnets_of ports) → AreApart (subnets_of (insert ports k numbered))
+on_one_more numbered k ports none h =
+    let subnet : NumberedPort → ℕ = λ (n : NumberedPort). n.port.subnet in
+    let parts : map subnet ports ≡ map subnet (take k ports) ++ map subnet (drop k ports)
+    = ap (map subnet) (sym (take-append-drop k ports)) ∙ map-append subnet (take k ports) (drop k ports) in
+    rw (map-append subnet (take k ports) (numbered ∷ drop k ports))
+    (put (map subnet (take k ports)) numbered.port.subnet (map subnet (drop k ports))
+    (subst (IsNew numbered.port.subnet) parts (new_subnet numbered.number numbered.port.subnet ports none)) (subst AreApart parts h))
+
 -- the addresses of ports on a subnetwork
 
 abbrev snpas_in : ℕ → List NumberedPort → List (List ℕ)
@@ -174,6 +199,10 @@ all_among P numbered k ports own h =
     AllByRecursion-put P (take k ports) numbered (drop k ports) own (subst (AllByRecursion P) (sym (take-append-drop k ports)) h)
 
 -- the same of configurations
+
+pub configurations_different : (ports : List NumberedPort) → AreApart (subnets_of ports) → AreOnDifferent (map (λ (n : NumberedPort). n.port) ports)
+configurations_different ports h =
+    rw (map-map (λ (n : NumberedPort). n.port) (λ (port : PortConfig). port.subnet) ports) (distinct_of (subnets_of ports) h)
 
 configuration_ports : (q : ℕ) (ports : List NumberedPort)
     → map (λ (port : PortConfig). port.snpa) (filter (λ (port : PortConfig). port.subnet == q) (map (λ (n : NumberedPort). n.port) ports))

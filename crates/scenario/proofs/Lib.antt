@@ -4,6 +4,7 @@ pub mod Events
 pub mod Behind
 pub mod Apart
 pub mod Kept
+pub mod Prefixes
 pub mod Numbers
 pub mod Injected
 pub mod Placed
@@ -13,6 +14,16 @@ pub mod Asks
 pub mod Forms
 pub mod Addresses
 pub mod Outside
+pub mod Said
 pub mod Accepted
 pub mod Seeded
+pub mod Written
+pub mod WrittenEvents
+pub mod WrittenText
+pub mod WrittenSettings
+pub mod WrittenPrefixes
+pub mod Stages
+pub mod DeclaredLines
+pub mod WrittenDeclarations
+pub mod ReadBack
 mod Worked

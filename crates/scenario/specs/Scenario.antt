@@ -1,17 +1,22 @@
 -- What a scenario text says: how long things last, the subnetworks and systems that it declares, and its events.
-use Rattle.std.specs.Prelude.{◌≡◌, ℕ, false, ◌+◌, ◌/◌, ◌%◌, ◌==◌, ◌<◌, ◌≤◌, List, [], ◌∷◌, ◌++◌, map, filter, length, slice_get, replicate, sum, Some, option_map}
+use Rattle.std.specs.Prelude.{◌≡◌, ◌≢◌, ℕ, true, false, ◌+◌, ◌/◌, ◌%◌, ◌==◌, ◌<◌, ◌≤◌, List, [], ◌∷◌, ◌++◌, map, filter, length, slice_get, replicate, sum, Some, option_map, AllPairs}
 use Rattle.std.specs.List.{AllByRecursion, flat_map, range_with_len}
 use Rattle.hex.specs.Hex.{IsBytes}
 use Rattle.nsap.specs.Address.{IsAddress}
+use Rattle.nsap.specs.Prefix.{IsPrefix}
 use Rattle.nsap.specs.declared.target.Target.{Target}
 use Rattle.nsap.specs.declared.target.Target.TheVariants.{System, EndSystems, Routers}
 use Rattle.clnp_options.specs.Grammar.{FitsKind}
 use Rattle.clnp_options.specs.Parameter.{parameters}
+use Rattle.clnp_options.specs.Rules.{Accepts}
+use Rattle.forwarding.specs.declared.route.Route.{Route}
 use Rattle.clnp_plan.specs.Asking.{IsFormedAsk}
 use Rattle.clnp_plan.specs.Configuration.{AreDistinct, AreLimits, IsAddressed, IsSystem, IsWithin, SystemConfiguration}
+use Rattle.clnp_plan.specs.declared.ask.Ask.{Ask}
 use Rattle.clnp_plan.specs.declared.config.Limits.{Limits}
 use Rattle.clnp_plan.specs.declared.config.PortConfig.{PortConfig}
 use Rattle.clnp_plan.specs.declared.config.Role.TheVariants.{Host, Router}
+use Rattle.scenario.specs.Words.{is_name}
 use Rattle.scenario.specs.declared.event.Body.{Body}
 use Rattle.scenario.specs.declared.event.Body.TheVariants.{Hex, Pattern}
 use Rattle.scenario.specs.declared.event.Event.{Event}
@@ -58,6 +63,12 @@ abbrev pub ticks_of : Event → ℕ
 ticks_of (Tick count) = count
 ticks_of _ = 0
 
+-- the copies that an event settles or loses
+abbrev pub passed_by : Event → ℕ
+passed_by (Settle count) = count
+passed_by (Lose count) = count
+passed_by _ = 0
+
 -- an event that asks for a data unit asks for no option that an error report alone may have
 abbrev pub AsksFairly : Event → Type 0
 AsksFairly (Send system from to body ask) = FitsKind false (parameters ask.options)
@@ -97,6 +108,32 @@ abbrev pub InjectsInForm : ℕ → Event → Type 0
 InjectsInForm subnets (Inject subnet from to octets) = IsInjection subnets subnet from to octets
 InjectsInForm subnets _ = Unit {0}
 
+-- data that a line may say: octets, or at most 70,000 of a pattern that starts with an octet
+abbrev pub IsSaidBody : Body → Type 0
+IsSaidBody (Hex octets) = IsBytes octets
+IsSaidBody (Pattern len start) = (len ≤ 70000) × (start < 256)
+
+-- options that a line may say: at most 254 octets that the header of a data unit may have
+pub record AreSaidOptions (octets : List ℕ) : Type 0 where
+  pub bytes : IsBytes octets
+  pub few : length octets ≤ 254
+  pub accepted : Accepts false octets
+
+-- how a line may say that a unit is to be sent
+pub record IsSaidAsk (ask : Ask) : Type 0 where
+  pub life : IsWithin 1 255 ask.life
+  pub options : AreSaidOptions ask.options
+
+-- the numbers, the data and the options of an event are those that a line may say
+abbrev pub IsSaid : Event → Type 0
+IsSaid (Send system from to body ask) = IsSaidBody body × IsSaidAsk ask
+IsSaid (Echo system from to body) = IsSaidBody body
+IsSaid (Deliver copy system) = IsWithin 1 1000000000 copy
+IsSaid (Settle count) = IsWithin 1 100000 count
+IsSaid (Lose count) = IsWithin 1 100000 count
+IsSaid (Tick count) = IsWithin 1 65535 count
+IsSaid _ = Unit {0}
+
 -- no frame comes from outside
 abbrev pub InjectsNothing : Event → Type 0
 InjectsNothing (Inject subnet from to octets) = ⊥
@@ -120,6 +157,10 @@ IsOfRouter systems _ = Unit {0}
 abbrev pub IsOn : List Subnetwork → PortConfig → Type 0
 IsOn subnets port = option_map (λ (subnet : Subnetwork). subnet.mtu) (slice_get subnets port.subnet) ≡ Some port.mtu
 
+-- no two of some ports are on one subnetwork
+abbrev pub AreOnDifferent : List PortConfig → Type 0
+AreOnDifferent ports = AllPairs (λ a b. a ≢ b) (map (λ (port : PortConfig). port.subnet) ports)
+
 -- the addresses of a system's ports on a subnetwork
 abbrev pub snpas_of : ℕ → SystemConfiguration → List (List ℕ)
 snpas_of subnet system = map (λ port. port.snpa) (filter (λ port. port.subnet == subnet) system.ports)
@@ -128,6 +169,8 @@ snpas_of subnet system = map (λ port. port.snpa) (filter (λ port. port.subnet 
 pub record IsFit (plan : Plan) : Type 0 where
   pub limits : AreLimits plan.limits
   pub systems : AllByRecursion IsSystem plan.systems
+  pub named_subnets : AllByRecursion (λ (subnet : Subnetwork). is_name subnet.name ≡ true) plan.subnets
+  pub named_systems : AllByRecursion (λ (system : SystemConfiguration). is_name system.name ≡ true) plan.systems
   -- a name belongs to one subnetwork, and to one system
   pub subnet_names : AreDistinct (map (λ (subnet : Subnetwork). subnet.name) plan.subnets)
   pub system_names : AreDistinct (map (λ (system : SystemConfiguration). system.name) plan.systems)
@@ -137,6 +180,8 @@ pub record IsFit (plan : Plan) : Type 0 where
   -- an address of a port belongs to one port of its subnetwork
   pub snpas : (subnet : ℕ) → AreDistinct (flat_map (snpas_of subnet) plan.systems)
   pub ports : AllByRecursion (λ (system : SystemConfiguration). AllByRecursion (IsOn plan.subnets) system.ports) plan.systems
+  pub different : AllByRecursion (λ (system : SystemConfiguration). AreOnDifferent system.ports) plan.systems
+  pub prefixes : AllByRecursion (λ (system : SystemConfiguration). AllByRecursion (λ (route : Route). IsPrefix route.prefix) system.routes) plan.systems
   -- an address belongs to one system
   pub addresses : AreDistinct (flat_map (λ system. system.addresses) plan.systems)
   pub each_address : AllByRecursion IsAddressed plan.systems
@@ -149,3 +194,6 @@ pub record IsFit (plan : Plan) : Type 0 where
   -- routers alone are said to be congested
   pub congested : AllByRecursion (IsOfRouter plan.systems) plan.events
   pub injected : AllByRecursion (InjectsInForm (length plan.subnets)) plan.events
+  pub said : AllByRecursion IsSaid plan.events
+  pub few_events : length plan.events ≤ 100000
+  pub passed : sum (map passed_by plan.events) ≤ 10000000
