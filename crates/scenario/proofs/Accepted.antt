@@ -9,7 +9,7 @@ use Rattle.clnp_base.specs.Text.{lines_of, words_of}
 use Rattle.clnp_base.proofs.Lists.{AllByRecursion-implies}
 use Rattle.clnp_plan.specs.Configuration.{SystemConfiguration, IsSystem}
 use Rattle.clnp_plan.specs.declared.config.Limits.{Limits}
-use Rattle.scenario.specs.Scenario.{Plan, Subnetwork, IsFit, AsksFairly, AsksInForm, InjectsInForm, IsPlaced, IsFromHost, IsOfRouter, ticks_of}
+use Rattle.scenario.specs.Scenario.{Plan, Subnetwork, IsFit, AsksFairly, AsksInForm, InjectsInForm, IsPlaced, IsFromHost, IsOfRouter, IsSaid, passed_by, ticks_of}
 use Rattle.scenario.specs.Words.{is_skipped}
 use Rattle.scenario.specs.Declarations.{Declarations, DeclaredSystem, nothing_declared, limits_of, snpas_on, configuration_of}
 use Rattle.scenario.specs.Events.{event_line, counted, are_few, nothing_counted}
@@ -22,17 +22,23 @@ use Rattle.scenario.proofs.Asks.{event_fair}
 use Rattle.scenario.proofs.Forms.{Laws, event_formed}
 use Rattle.scenario.proofs.Addresses.{ReadAddressed, configured_addresses, configured_prefixes, declared_addresses}
 use Rattle.scenario.proofs.Outside.{event_injected, words_stand}
+use Rattle.scenario.proofs.Said.{event_said}
 use Rattle.scenario.proofs.Placed.{AreAmong, event_placed}
 use Rattle.scenario.proofs.Roles.{HasItsRole, events_in_roles}
 use Rattle.scenario.proofs.Kept.{configuration_snpas, configurations_on}
 use Rattle.scenario.proofs.Lists.{configuration_names}
 use Rattle.scenario.proofs.Fit.{AreDeclared, declarations_fit, nothing_fit, configurations_fit, configurations_named, configurations_apart}
 
-few_ticks : (counts : Counts) → are_few counts ≡ true → counts.ticks ≤ 1000000
-few_ticks counts h =
+record AreFew (counts : Counts) : Type 0 where
+  pub events : counts.events ≤ 100000
+  pub passed : counts.passed ≤ 10000000
+  pub ticks : counts.ticks ≤ 1000000
+
+few : (counts : Counts) → are_few counts ≡ true → AreFew counts
+few counts h =
     let p = and_parts (nat_le counts.events 100000) (nat_le counts.passed 10000000 && nat_le counts.ticks 1000000) h in
     let q = and_parts (nat_le counts.passed 10000000) (nat_le counts.ticks 1000000) p.1 in
-    leb-true counts.ticks 1000000 q.1
+    record { events = leb-true counts.events 100000 p.0; passed = leb-true counts.passed 10000000 q.0; ticks = leb-true counts.ticks 1000000 q.1 }
 
 -- an event that is counted, behind others
 record IsCounted (subnets names : List (List ℕ)) (counts : Counts) (event : Event) : Type 0 where
@@ -41,6 +47,7 @@ record IsCounted (subnets names : List (List ℕ)) (counts : Counts) (event : Ev
   pub formed : AsksInForm event
   pub placed : AreAmong names event
   pub injected : InjectsInForm (length subnets) event
+  pub said : IsSaid event
 
 both : {A E : Type 0} (r : Result A E) (P Q : A → Type 0) → IfOk r P → IfOk r Q → IfOk r (λ x. P x × Q x)
 both (Ok x) P Q p q = (p, q)
@@ -51,40 +58,51 @@ event_fit : Laws → (subnets names : List (List ℕ)) (systems : List SystemCon
 unfolding counted_event
 event_fit laws subnets names systems are counts line =
     let words : List (List ℕ) = words_of line in
-    behind_such (event_line subnets names systems words) _ (λ event. AsksFairly event × (AsksInForm event × (AreAmong names event × InjectsInForm (length subnets) event))) (IsCounted subnets names counts)
+    behind_such (event_line subnets names systems words) _ (λ event. IsSaid event × (AsksFairly event × (AsksInForm event × (AreAmong names event × InjectsInForm (length subnets) event)))) (IsCounted subnets names counts)
+    (both (event_line subnets names systems words) IsSaid (λ event. AsksFairly event × (AsksInForm event × (AreAmong names event × InjectsInForm (length subnets) event))) (event_said subnets names systems words are)
     (both (event_line subnets names systems words) AsksFairly (λ event. AsksInForm event × (AreAmong names event × InjectsInForm (length subnets) event)) (event_fair laws.options subnets names systems words)
     (both (event_line subnets names systems words) AsksInForm (λ event. AreAmong names event × InjectsInForm (length subnets) event) (event_formed laws subnets names systems words are)
     (both (event_line subnets names systems words) (AreAmong names) (InjectsInForm (length subnets)) (event_placed subnets names systems words)
-    (event_injected laws subnets names systems words (words_stand line))))) (λ event is.
-    behind_wanted (are_few (counted counts event)) _ _ (IsCounted subnets names counts) (λ few. record { few = few; fair = is.0; formed = is.1.0; placed = is.1.1.0; injected = is.1.1.1 }))
+    (event_injected laws subnets names systems words (words_stand line)))))) (λ event is.
+    behind_wanted (are_few (counted counts event)) _ _ (IsCounted subnets names counts)
+    (λ few. record { few = few; said = is.0; fair = is.1.0; formed = is.1.1.0; placed = is.1.1.1.0; injected = is.1.1.1.1 }))
 
--- events behind so many ticks
-record AreCounted (subnets names : List (List ℕ)) (before : ℕ) (events : List Event) : Type 0 where
-  pub ticks : before + sum (map ticks_of events) ≤ 1000000
+-- events behind those that were counted
+record AreCounted (subnets names : List (List ℕ)) (before : Counts) (events : List Event) : Type 0 where
+  pub many : before.events + length events ≤ 100000
+  pub passed : before.passed + sum (map passed_by events) ≤ 10000000
+  pub ticks : before.ticks + sum (map ticks_of events) ≤ 1000000
   pub fair : AllByRecursion AsksFairly events
   pub formed : AllByRecursion AsksInForm events
   pub placed : AllByRecursion (AreAmong names) events
   pub injected : AllByRecursion (InjectsInForm (length subnets)) events
+  pub said : AllByRecursion IsSaid events
 
 events_fit : Laws → (subnets names : List (List ℕ)) (systems : List SystemConfiguration) → AllByRecursion IsSystem systems → (n : ℕ) (counts : Counts) (lines : List (List ℕ))
-    → counts.ticks ≤ 1000000 → IfOk (events_from subnets names systems n counts lines) (AreCounted subnets names counts.ticks)
+    → AreFew counts → IfOk (events_from subnets names systems n counts lines) (AreCounted subnets names counts)
 unfolding events_from
 events_fit laws subnets names systems are n counts [] h = tt
 events_fit laws subnets names systems are n counts (line ∷ lines) h =
-    either_way (is_skipped line) _ _ (AreCounted subnets names counts.ticks) (events_fit laws subnets names systems are (n + 1) counts lines h)
-    (either_way (is_line_of (codes "end") (words_of line)) _ _ (AreCounted subnets names counts.ticks)
-    (behind_result (nothing_after (n + 1) lines) _ (AreCounted subnets names counts.ticks) (λ _ _. record { ticks = omega (arith, h); fair = tt; formed = tt; placed = tt; injected = tt }))
-    (behind_line_such n (counted_event subnets names systems counts (words_of line)) _ (IsCounted subnets names counts) (AreCounted subnets names counts.ticks)
+    either_way (is_skipped line) _ _ (AreCounted subnets names counts) (events_fit laws subnets names systems are (n + 1) counts lines h)
+    (either_way (is_line_of (codes "end") (words_of line)) _ _ (AreCounted subnets names counts)
+    (behind_result (nothing_after (n + 1) lines) _ (AreCounted subnets names counts) (λ _ _. record { many = omega (arith, h.events); passed = omega (arith, h.passed); ticks = omega (arith, h.ticks); fair = tt; formed = tt; placed = tt; injected = tt; said = tt }))
+    (behind_line_such n (counted_event subnets names systems counts (words_of line)) _ (IsCounted subnets names counts) (AreCounted subnets names counts)
     (event_fit laws subnets names systems are counts line) (λ event first.
-    behind_such (events_from subnets names systems (n + 1) (counted counts event) lines) _ (AreCounted subnets names (counts.ticks + ticks_of event)) (AreCounted subnets names counts.ticks)
-    (events_fit laws subnets names systems are (n + 1) (counted counts event) lines (few_ticks (counted counts event) first.few)) (λ others rest.
+    behind_such (events_from subnets names systems (n + 1) (counted counts event) lines) _ (AreCounted subnets names (counted counts event)) (AreCounted subnets names counts)
+    (events_fit laws subnets names systems are (n + 1) (counted counts event) lines (few (counted counts event) first.few)) (λ others rest.
     record {
+      many = omega (arith, rest.many);
+      passed = rw (sum_by-cons (λ x. x) (passed_by event) (map passed_by others)) (omega (arith, rest.passed));
       ticks = rw (sum_by-cons (λ x. x) (ticks_of event) (map ticks_of others)) (omega (arith, rest.ticks));
       fair = (first.fair, rest.fair);
       formed = (first.formed, rest.formed);
       placed = (first.placed, rest.placed);
       injected = (first.injected, rest.injected);
+      said = (first.said, rest.said);
     }))))
+
+none_counted : AreFew nothing_counted
+none_counted = record { events = omega arith; passed = omega arith; ticks = omega arith }
 
 plan_fit : Laws → (lines : List (List ℕ)) → IfOk (plan_at lines) IsFit
 unfolding plan_at
@@ -97,11 +115,11 @@ plan_fit laws lines =
     let systems : List SystemConfiguration = map configuration_of declared.value.systems in
     let names : List (List ℕ) = map (λ (system : DeclaredSystem). system.name) declared.value.systems in
     let subnets : List (List ℕ) = map (λ (subnet : Subnetwork). subnet.name) declared.value.subnets in
-    behind_such (events_from subnets names systems declared.number nothing_counted declared.lines) _ (λ events. AreCounted subnets names 0 events × AllByRecursion (HasItsRole systems) events) IsFit
-    (both (events_from subnets names systems declared.number nothing_counted declared.lines) (AreCounted subnets names 0) (AllByRecursion (HasItsRole systems))
-    (events_fit laws subnets names systems (configurations_fit declared fits) declared.number nothing_counted declared.lines (omega arith))
+    behind_such (events_from subnets names systems declared.number nothing_counted declared.lines) _ (λ events. AreCounted subnets names nothing_counted events × AllByRecursion (HasItsRole systems) events) IsFit
+    (both (events_from subnets names systems declared.number nothing_counted declared.lines) (AreCounted subnets names nothing_counted) (AllByRecursion (HasItsRole systems))
+    (events_fit laws subnets names systems (configurations_fit declared fits) declared.number nothing_counted declared.lines none_counted)
     (events_in_roles subnets names systems declared.number nothing_counted declared.lines)) (λ events are.
-    let counted : AreCounted subnets names 0 events = are.0 in
+    let counted : AreCounted subnets names nothing_counted events = are.0 in
     record {
       senders = AllByRecursion-implies (HasItsRole systems) (IsFromHost systems) (λ event role. role.0) events are.1;
       congested = AllByRecursion-implies (HasItsRole systems) (IsOfRouter systems) (λ event role. role.1) events are.1;
@@ -114,6 +132,9 @@ plan_fit laws lines =
       different = configurations_apart declared.value.systems fits.fit.systems;
       prefixes = configured_prefixes declared.value.systems are_declared.1;
       ticks = omega (arith, counted.ticks);
+      few_events = omega (arith, counted.many);
+      passed = omega (arith, counted.passed);
+      said = counted.said;
       asks = counted.fair;
       formed = counted.formed;
       injected = subst (λ n. AllByRecursion (InjectsInForm n) events) (length-map declared.value.subnets (λ (subnet : Subnetwork). subnet.name)) counted.injected;

@@ -14,6 +14,7 @@ pub mod Asks
 pub mod Forms
 pub mod Addresses
 pub mod Outside
+pub mod Said
 pub mod Accepted
 pub mod Seeded
 pub mod Written
@@ -22,4 +23,5 @@ pub mod WrittenPrefixes
 pub mod Stages
 pub mod DeclaredLines
 pub mod WrittenDeclarations
+pub mod WrittenEvents
 mod Worked

@@ -8,11 +8,11 @@ use Rattle.hex.specs.Hex.{IsBytes, decode_pairs}
 use Rattle.nsap.specs.Address.{IsAddress}
 use Rattle.nsap.specs.Text.{octets_of}
 use Rattle.clnp_base.proofs.Lists.{AllByRecursion-append, AllByRecursion-implies}
-use Rattle.clnp_plan.specs.Configuration.{SystemConfiguration}
+use Rattle.clnp_plan.specs.Configuration.{IsWithin, SystemConfiguration}
 use Rattle.clnp_plan.specs.declared.config.Role.TheVariants.{Host}
 use Rattle.scenario.specs.Grammar.{BadLine as Bad, plan_of, plan_at, events_from}
 use Rattle.scenario.specs.Declarations.{limits_line, subnet_line, room_word, setting_word, system_line, address_line, port_line, route_line, declaration_line}
-use Rattle.scenario.specs.Scenario.{Plan, IsFit, AsksFairly, AsksInForm, InjectsInForm, IsPlaced, IsFromHost, IsOfRouter, ticks_of}
+use Rattle.scenario.specs.Scenario.{Plan, IsFit, AsksFairly, AsksInForm, InjectsInForm, IsPlaced, IsFromHost, IsOfRouter, IsSaid, passed_by, ticks_of}
 use Rattle.scenario.specs.Refusal.{Refuses}
 use Rattle.scenario.specs.declared.fault.ScenarioRefusal.{ScenarioRefusal}
 use Rattle.scenario.specs.declared.fault.ScenarioRefusal.TheVariants.{BadLine}
@@ -22,6 +22,7 @@ use Rattle.scenario.specs.declared.event.Event.{Event}
 use Rattle.scenario.specs.declared.event.Event.TheVariants.{Send, Deliver, Settle, Lose, Tick, Restart, Echo}
 use Rattle.scenario.proofs.Asks.{none_fair}
 use Rattle.scenario.proofs.Forms.{none_formed, pattern_octets}
+use Rattle.scenario.proofs.Said.{no_options_said}
 
 -- The text of what is declared.
 abbrev pub declared_text : List ℕ
@@ -61,6 +62,7 @@ record IsGood (event : Event) : Type 0 where
   pub sender : IsFromHost the_systems event
   pub congested : IsOfRouter the_systems event
   pub injected : InjectsInForm 3 event
+  pub said : IsSaid event
   pub ticks : ticks_of event ≤ 200
 
 no_bytes : IsBytes []
@@ -104,103 +106,133 @@ host_placed number =
     (either IsHostPlace (number == 1) _ _ (record { within = omega arith; role = refl })
     (either IsHostPlace (number == 2) _ _ (record { within = omega arith; role = refl }) (record { within = omega arith; role = refl })))
 
-send_good : (from to len start : ℕ) → IsGood (Send (place_of from) (address_of from) (address_of to) (Pattern len start) usual_ask)
-send_good from to len start = record {
+-- a number within bounds
+within : (low high n : ℕ) → low ≤ n → n ≤ high → IsWithin low high n
+within low high n l m = record { least = l; most = m }
+
+send_good : (from to len start : ℕ) → len ≤ 70000 → start < 256 → IsGood (Send (place_of from) (address_of from) (address_of to) (Pattern len start) usual_ask)
+send_good from to len start short small = record {
   fair = none_fair;
   formed = record { source = host_addressed from; destination = host_addressed to; lifetime = omega arith; options = none_formed };
   placed = (host_placed from).within;
   sender = (host_placed from).role;
   congested = tt;
   injected = tt;
+  said = ((short, small), record { life = within 1 255 32 (omega arith) (omega arith); options = no_options_said });
   ticks = omega arith;
 }
 
-echo_good : (from to len start : ℕ) → IsGood (Echo (place_of from) (address_of from) (address_of to) (Pattern len start))
-echo_good from to len start = record {
+echo_good : (from to len start : ℕ) → len ≤ 70000 → start < 256 → IsGood (Echo (place_of from) (address_of from) (address_of to) (Pattern len start))
+echo_good from to len start short small = record {
   fair = tt;
   formed = (host_addressed from, host_addressed to, pattern_octets len start);
   placed = (host_placed from).within;
   sender = tt;
   congested = tt;
   injected = tt;
+  said = (short, small);
   ticks = omega arith;
 }
 
-delivery_good : (copy system : ℕ) → system < 6 → IsGood (Deliver copy system)
-delivery_good copy system h = record { fair = tt; formed = tt; placed = h; sender = tt; congested = tt; injected = tt; ticks = omega arith }
+delivery_good : (copy system : ℕ) → IsWithin 1 1000000000 copy → system < 6 → IsGood (Deliver copy system)
+delivery_good copy system said h = record { fair = tt; formed = tt; placed = h; sender = tt; congested = tt; injected = tt; said = said; ticks = omega arith }
 
 restart_good : (system : ℕ) → system < 6 → IsGood (Restart system)
-restart_good system h = record { fair = tt; formed = tt; placed = h; sender = tt; congested = tt; injected = tt; ticks = omega arith }
+restart_good system h = record { fair = tt; formed = tt; placed = h; sender = tt; congested = tt; injected = tt; said = tt; ticks = omega arith }
 
-loss_good : (count : ℕ) → IsGood (Lose count)
-loss_good count = record { fair = tt; formed = tt; placed = tt; sender = tt; congested = tt; injected = tt; ticks = omega arith }
+loss_good : (count : ℕ) → IsWithin 1 100000 count → IsGood (Lose count)
+loss_good count said = record { fair = tt; formed = tt; placed = tt; sender = tt; congested = tt; injected = tt; said = said; ticks = omega arith }
 
-settle_good : (count : ℕ) → IsGood (Settle count)
-settle_good count = record { fair = tt; formed = tt; placed = tt; sender = tt; congested = tt; injected = tt; ticks = omega arith }
+settle_good : (count : ℕ) → IsWithin 1 100000 count → IsGood (Settle count)
+settle_good count said = record { fair = tt; formed = tt; placed = tt; sender = tt; congested = tt; injected = tt; said = said; ticks = omega arith }
 
-ticks_good : (count : ℕ) → count ≤ 200 → IsGood (Tick count)
-ticks_good count h = record { fair = tt; formed = tt; placed = tt; sender = tt; congested = tt; injected = tt; ticks = h }
+ticks_good : (count : ℕ) → 1 ≤ count → count ≤ 200 → IsGood (Tick count)
+ticks_good count l h = record { fair = tt; formed = tt; placed = tt; sender = tt; congested = tt; injected = tt; said = within 1 65535 count l (omega arith); ticks = h }
 
 -- what is drawn at any state has this property
 abbrev Draws : {A : Type 0} → (A → Type 0) → Drawn A → Type 0
 Draws P drawn = (state : ℕ) → P (drawn state).0
 
+-- an event of a round passes few copies
 abbrev IsGoodIfAny : Option Event → Type 0
 IsGoodIfAny None = Unit {0}
-IsGoodIfAny (Some event) = IsGood event
+IsGoodIfAny (Some event) = IsGood event × (passed_by event ≤ 5)
 
 restart_drawn : Draws IsGoodIfAny a_restart
 restart_drawn state =
-    either (Draws IsGoodIfAny) ((pick 8 state).0 == 0) restart_of_one (only None) (λ next. restart_good _ (omega arith)) (λ next. tt) (pick 8 state).1
+    either (Draws IsGoodIfAny) ((pick 8 state).0 == 0) restart_of_one (only None) (λ next. (restart_good _ (omega arith), omega arith)) (λ next. tt) (pick 8 state).1
 
 send_drawn : Draws IsGoodIfAny a_send
 send_drawn state =
-    send_good (pick 4 state).0 (pick 4 (pick 4 state).1).0 (pick 6000 (pick 4 (pick 4 state).1).1).0 (pick 256 (pick 6000 (pick 4 (pick 4 state).1).1).1).0
+    (send_good (pick 4 state).0 (pick 4 (pick 4 state).1).0 (pick 6000 (pick 4 (pick 4 state).1).1).0 (pick 256 (pick 6000 (pick 4 (pick 4 state).1).1).1).0 (omega arith) (omega arith), omega arith)
 
 echo_drawn : Draws IsGoodIfAny an_echo
 echo_drawn state =
-    echo_good (pick 4 state).0 (pick 4 (pick 4 state).1).0 (pick 600 (pick 4 (pick 4 state).1).1).0 (pick 256 (pick 600 (pick 4 (pick 4 state).1).1).1).0
+    (echo_good (pick 4 state).0 (pick 4 (pick 4 state).1).0 (pick 600 (pick 4 (pick 4 state).1).1).0 (pick 256 (pick 600 (pick 4 (pick 4 state).1).1).1).0 (omega arith) (omega arith), omega arith)
 
 event_good : (kind : ℕ) → Draws IsGoodIfAny (event_of kind)
 unfolding event_of
 event_good kind =
     either (Draws IsGoodIfAny) (nat_lt kind 5) a_send _ send_drawn
     (either (Draws IsGoodIfAny) (kind == 5) an_echo _ echo_drawn
-    (either (Draws IsGoodIfAny) (kind == 6) a_delivery _ (λ state. delivery_good _ _ (omega arith))
-    (either (Draws IsGoodIfAny) (kind == 7) a_loss _ (λ state. loss_good _)
-    (either (Draws IsGoodIfAny) (kind == 8) some_ticks a_restart (λ state. ticks_good _ (omega arith)) restart_drawn))))
+    (either (Draws IsGoodIfAny) (kind == 6) a_delivery _ (λ state. (delivery_good _ _ (within 1 1000000000 _ (omega arith) (omega arith)) (omega arith), omega arith))
+    (either (Draws IsGoodIfAny) (kind == 7) a_loss _ (λ state. (loss_good _ (within 1 100000 _ (omega arith) (omega arith)), omega arith))
+    (either (Draws IsGoodIfAny) (kind == 8) some_ticks a_restart (λ state. (ticks_good _ (omega arith) (omega arith), omega arith)) restart_drawn))))
 
--- events that two networks can have, so many at most
-record AreGood (most : ℕ) (events : List Event) : Type 0 where
+-- events that two networks can have, so many at most, which pass so many copies at most
+record AreGood (most passes : ℕ) (events : List Event) : Type 0 where
   pub each : AllByRecursion IsGood events
   pub few : length events ≤ most
+  pub passed : sum (map passed_by events) ≤ passes
 
-one_or_two_good : (event : Option Event) (last : Event) → IsGoodIfAny event → IsGood last → AreGood 2 (one_or_two event last)
-one_or_two_good None last first good = record { each = (good, tt); few = omega arith }
-one_or_two_good (Some event) last first good = record { each = (first, (good, tt)); few = omega arith }
-
-round_good : Draws (AreGood 2) round
-unfolding round
-round_good state = one_or_two_good _ _ (event_good _ _) (settle_good _)
-
-more_good : (m n : ℕ) (xs ys : List Event) → AreGood m xs → AreGood n ys → AreGood (m + n) (xs ++ ys)
-more_good m n xs ys p q = record {
-  each = AllByRecursion-append IsGood xs ys p.each q.each;
-  few = rw (length-append xs ys) (omega (arith, p.few, q.few));
+one_or_two_good : (event : Option Event) (last : Event) → IsGoodIfAny event → IsGood last → passed_by last ≤ 30 → AreGood 2 35 (one_or_two event last)
+one_or_two_good None last first good few = record {
+  each = (good, tt);
+  few = omega arith;
+  passed = rw (sum_by-cons (λ x. x) (passed_by last) []) (omega arith);
+}
+one_or_two_good (Some event) last first good few = record {
+  each = (first.0, (good, tt));
+  few = omega arith;
+  passed = rw (sum_by-cons (λ x. x) (passed_by event) (passed_by last ∷ []), sum_by-cons (λ x. x) (passed_by last) []) (omega (arith, first.1, few));
 }
 
-rounds_good : (count : ℕ) → Draws (AreGood (2 * count)) (rounds count)
-unfolding rounds
-rounds_good zero state = record { each = tt; few = omega arith }
-rounds_good (suc count) state =
-    subst (λ most. AreGood most ((round state).0 ++ (rounds count (round state).1).0)) (omega arith)
-    (more_good 2 (2 * count) (round state).0 (rounds count (round state).1).0 (round_good state) (rounds_good count (round state).1))
+round_good : Draws (AreGood 2 35) round
+unfolding round
+round_good state = one_or_two_good _ _ (event_good _ _) (settle_good _ (within 1 100000 _ (omega arith) (omega arith))) (omega arith)
 
-storm_good : (seed : ℕ) → AreGood 605 (storm_events seed)
+passed_together : (xs ys : List Event) → sum (map passed_by (xs ++ ys)) ≡ sum (map passed_by xs) + sum (map passed_by ys)
+passed_together [] ys = omega arith
+passed_together (x ∷ xs) ys =
+    rw (sum_by-cons (λ x. x) (passed_by x) (map passed_by (xs ++ ys)), sum_by-cons (λ x. x) (passed_by x) (map passed_by xs), passed_together xs ys) (omega arith)
+
+more_good : (m n p q : ℕ) (xs ys : List Event) → AreGood m p xs → AreGood n q ys → AreGood (m + n) (p + q) (xs ++ ys)
+more_good m n p q xs ys f g = record {
+  each = AllByRecursion-append IsGood xs ys f.each g.each;
+  few = rw (length-append xs ys) (omega (arith, f.few, g.few));
+  passed = rw (passed_together xs ys) (omega (arith, f.passed, g.passed));
+}
+
+rounds_good : (count : ℕ) → Draws (AreGood (2 * count) (35 * count)) (rounds count)
+unfolding rounds
+rounds_good zero state = record { each = tt; few = omega arith; passed = omega arith }
+rounds_good (suc count) state =
+    let both = more_good 2 (2 * count) 35 (35 * count) (round state).0 (rounds count (round state).1).0 (round_good state) (rounds_good count (round state).1) in
+    record { each = both.each; few = omega (arith, both.few); passed = omega (arith, both.passed) }
+
+storm_good : (seed : ℕ) → AreGood 605 210540 (storm_events seed)
 storm_good seed =
-    more_good 2 603 (Tick 1 ∷ Settle 40 ∷ []) _ (record { each = (ticks_good 1 (omega arith), (settle_good 40, tt)); few = omega arith })
-    (more_good 600 3 (rounds 300 seed).0 _ (rounds_good 300 seed)
-    (record { each = (settle_good 100000, (ticks_good 200 (omega arith), (settle_good 100000, tt))); few = omega arith }))
+    more_good 2 603 40 210500 (Tick 1 ∷ Settle 40 ∷ []) _
+    (record { each = (ticks_good 1 (omega arith) (omega arith), (settle_good 40 (within 1 100000 40 (omega arith) (omega arith)), tt)); few = omega arith; passed = omega arith })
+    (more_good 600 3 10500 200000 (rounds 300 seed).0 _ (rounds_good 300 seed)
+    (record {
+      each = (settle_good 100000 all, (ticks_good 200 (omega arith) (omega arith), (settle_good 100000 all, tt)));
+      few = omega arith;
+      passed = omega arith;
+    }))
+  where
+    all : IsWithin 1 100000 100000
+    all = within 1 100000 100000 (omega arith) (omega arith)
 
 few_ticks : (events : List Event) → AllByRecursion IsGood events → sum (map ticks_of events) ≤ 200 * length events
 few_ticks [] good = omega arith
@@ -209,7 +241,7 @@ few_ticks (event ∷ events) good =
 
 storm_fit : (seed : ℕ) → IsFit (two_networks []) → IsFit (storm seed)
 storm_fit seed fit =
-    let good : AreGood 605 (storm_events seed) = storm_good seed in
+    let good : AreGood 605 210540 (storm_events seed) = storm_good seed in
     record {
       limits = fit.limits;
       systems = fit.systems;
@@ -233,6 +265,9 @@ storm_fit seed fit =
       senders = AllByRecursion-implies IsGood (IsFromHost the_systems) (λ event is. is.sender) (storm_events seed) good.each;
       congested = AllByRecursion-implies IsGood (IsOfRouter the_systems) (λ event is. is.congested) (storm_events seed) good.each;
       injected = AllByRecursion-implies IsGood (InjectsInForm 3) (λ event is. is.injected) (storm_events seed) good.each;
+      said = AllByRecursion-implies IsGood IsSaid (λ event is. is.said) (storm_events seed) good.each;
+      few_events = omega (arith, good.few);
+      passed = omega (arith, good.passed);
     }
 
 -- the parts of two networks and the events of a storm

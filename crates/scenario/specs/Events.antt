@@ -7,7 +7,7 @@ use Rattle.clnp_plan.specs.declared.ask.Ask.{Ask}
 use Rattle.clnp_plan.specs.declared.config.Role.{Role}
 use Rattle.clnp_plan.specs.declared.config.Role.TheVariants.{Host, Router}
 use Rattle.scenario.specs.Declarations.{is_router}
-use Rattle.scenario.specs.Scenario.{ticks_of}
+use Rattle.scenario.specs.Scenario.{passed_by, ticks_of}
 use Rattle.scenario.specs.Words.{◌>>=◌, wanted, found, literal, declared_word, number_word, address_word, data_word, life_word, options_word, target_word, frame_word, has_prefix, one_word, two_words, four_words, first_four, each_once}
 use Rattle.scenario.specs.declared.code.Code.{Code}
 use Rattle.scenario.specs.declared.code.Code.TheVariants as bad
@@ -186,12 +186,6 @@ event_line subnets names systems (keyword ∷ words) =
     else if bytes_eq keyword (codes "congest") then congest_line names systems words
     else if bytes_eq keyword (codes "inject") then inject_line subnets words
     else Err bad.Syntax
-
--- the copies that an event settles or loses
-abbrev pub passed_by : Event → ℕ
-passed_by (Settle count) = count
-passed_by (Lose count) = count
-passed_by _ = 0
 
 -- the counts with one more event
 abbrev pub counted : Counts → Event → Counts

@@ -9,8 +9,10 @@ use Rattle.nsap.specs.declared.target.Target.TheVariants.{System, EndSystems, Ro
 use Rattle.clnp_options.specs.Grammar.{FitsKind}
 use Rattle.clnp_options.specs.Parameter.{parameters}
 use Rattle.forwarding.specs.declared.route.Route.{Route}
+use Rattle.clnp_options.specs.Rules.{Accepts}
 use Rattle.clnp_plan.specs.Asking.{IsFormedAsk}
 use Rattle.clnp_plan.specs.Configuration.{AreDistinct, AreLimits, IsAddressed, IsSystem, IsWithin, SystemConfiguration}
+use Rattle.clnp_plan.specs.declared.ask.Ask.{Ask}
 use Rattle.clnp_plan.specs.declared.config.Limits.{Limits}
 use Rattle.clnp_plan.specs.declared.config.PortConfig.{PortConfig}
 use Rattle.clnp_plan.specs.declared.config.Role.TheVariants.{Host, Router}
@@ -61,6 +63,12 @@ abbrev pub ticks_of : Event → ℕ
 ticks_of (Tick count) = count
 ticks_of _ = 0
 
+-- the copies that an event settles or loses
+abbrev pub passed_by : Event → ℕ
+passed_by (Settle count) = count
+passed_by (Lose count) = count
+passed_by _ = 0
+
 -- an event that asks for a data unit asks for no option that an error report alone may have
 abbrev pub AsksFairly : Event → Type 0
 AsksFairly (Send system from to body ask) = FitsKind false (parameters ask.options)
@@ -99,6 +107,32 @@ pub record IsInjection (subnets subnet : ℕ) (from : List ℕ) (to : Target) (o
 abbrev pub InjectsInForm : ℕ → Event → Type 0
 InjectsInForm subnets (Inject subnet from to octets) = IsInjection subnets subnet from to octets
 InjectsInForm subnets _ = Unit {0}
+
+-- data that a line may say: octets, or at most 70,000 of a pattern that starts with an octet
+abbrev pub IsSaidBody : Body → Type 0
+IsSaidBody (Hex octets) = IsBytes octets
+IsSaidBody (Pattern len start) = (len ≤ 70000) × (start < 256)
+
+-- options that a line may say: at most 254 octets that the header of a data unit may have
+pub record AreSaidOptions (octets : List ℕ) : Type 0 where
+  pub bytes : IsBytes octets
+  pub few : length octets ≤ 254
+  pub accepted : Accepts false octets
+
+-- how a line may say that a unit is to be sent
+pub record IsSaidAsk (ask : Ask) : Type 0 where
+  pub life : IsWithin 1 255 ask.life
+  pub options : AreSaidOptions ask.options
+
+-- the numbers, the data and the options of an event are those that a line may say
+abbrev pub IsSaid : Event → Type 0
+IsSaid (Send system from to body ask) = IsSaidBody body × IsSaidAsk ask
+IsSaid (Echo system from to body) = IsSaidBody body
+IsSaid (Deliver copy system) = IsWithin 1 1000000000 copy
+IsSaid (Settle count) = IsWithin 1 100000 count
+IsSaid (Lose count) = IsWithin 1 100000 count
+IsSaid (Tick count) = IsWithin 1 65535 count
+IsSaid _ = Unit {0}
 
 -- no frame comes from outside
 abbrev pub InjectsNothing : Event → Type 0
@@ -160,3 +194,6 @@ pub record IsFit (plan : Plan) : Type 0 where
   -- routers alone are said to be congested
   pub congested : AllByRecursion (IsOfRouter plan.systems) plan.events
   pub injected : AllByRecursion (InjectsInForm (length plan.subnets)) plan.events
+  pub said : AllByRecursion IsSaid plan.events
+  pub few_events : length plan.events ≤ 100000
+  pub passed : sum (map passed_by plan.events) ≤ 10000000

@@ -1,7 +1,7 @@
 //! How many events came, and what they do together.
 ghost use Rattle.std.specs.Prelude.{◌≡◌, true};
-ghost use Rattle.scenario.specs.Events.{passed_by, counted, are_few, nothing_counted};
-ghost use Rattle.scenario.specs.Scenario.{ticks_of};
+ghost use Rattle.scenario.specs.Events.{counted, are_few, nothing_counted};
+ghost use Rattle.scenario.specs.Scenario.{passed_by, ticks_of};
 
 use crate::event::Event;
 
