@@ -18,10 +18,12 @@ pub mod Said
 pub mod Accepted
 pub mod Seeded
 pub mod Written
+pub mod WrittenEvents
+pub mod WrittenText
 pub mod WrittenSettings
 pub mod WrittenPrefixes
 pub mod Stages
 pub mod DeclaredLines
 pub mod WrittenDeclarations
-pub mod WrittenEvents
+pub mod ReadBack
 mod Worked

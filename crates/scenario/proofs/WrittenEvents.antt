@@ -452,7 +452,7 @@ event_read law subnets systems named_subnets named_systems (Inject subnet from t
     (address_word_read law from told.injected.sender) (target_word_read law to told.injected.target)
     (frame_word_read octets told.injected.bytes) told.injected.many.most
 
-keyword_is_word : (event : Event) → IsWord (keyword_of event)
+pub keyword_is_word : (event : Event) → IsWord (keyword_of event)
 keyword_is_word (Send system from to body ask) = spelled (codes "send") refl
 keyword_is_word (Deliver copy system) = spelled (codes "deliver") refl
 keyword_is_word (Settle count) = spelled (codes "settle") refl
@@ -463,7 +463,7 @@ keyword_is_word (Echo system from to body) = spelled (codes "echo") refl
 keyword_is_word (Congest system on) = spelled (codes "congest") refl
 keyword_is_word (Inject subnet from to octets) = spelled (codes "inject") refl
 
-others_are_words : (subnets : List Subnetwork) (systems : List SystemConfiguration) → AreNamed name_of_subnet subnets → AreNamed name_of_system systems
+pub others_are_words : (subnets : List Subnetwork) (systems : List SystemConfiguration) → AreNamed name_of_subnet subnets → AreNamed name_of_system systems
     → (event : Event) → IsTold subnets systems event → AllByRecursion IsWord (others_of subnets systems event)
 others_are_words subnets systems named_subnets named_systems (Send system from to body ask) told = (
   system_is_word systems system named_systems told.placed,

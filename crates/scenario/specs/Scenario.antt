@@ -8,8 +8,8 @@ use Rattle.nsap.specs.declared.target.Target.{Target}
 use Rattle.nsap.specs.declared.target.Target.TheVariants.{System, EndSystems, Routers}
 use Rattle.clnp_options.specs.Grammar.{FitsKind}
 use Rattle.clnp_options.specs.Parameter.{parameters}
-use Rattle.forwarding.specs.declared.route.Route.{Route}
 use Rattle.clnp_options.specs.Rules.{Accepts}
+use Rattle.forwarding.specs.declared.route.Route.{Route}
 use Rattle.clnp_plan.specs.Asking.{IsFormedAsk}
 use Rattle.clnp_plan.specs.Configuration.{AreDistinct, AreLimits, IsAddressed, IsSystem, IsWithin, SystemConfiguration}
 use Rattle.clnp_plan.specs.declared.ask.Ask.{Ask}

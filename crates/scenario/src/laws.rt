@@ -1,19 +1,29 @@
 //! Laws of the grammar. Each law is the clause of a function that does nothing.
 
 ghost use Rattle.std.specs.Prelude.{◌≡◌, ℕ, List, Ok};
+ghost use Rattle.scenario.specs.Canonical.{text_of};
 ghost use Rattle.scenario.specs.Grammar.{plan_of};
 ghost use Rattle.scenario.specs.Scenario.{IsFit, Plan};
 
 /// What the grammar accepts is fit to be run: its limits, settings and numbers are in their ranges,
 /// each name is a name of the grammar, each system has the addresses, ports and routes that its role calls for,
 /// no name, address or SNPA on a subnetwork stands twice, and no prefix at a router, each port is on a declared
-/// subnetwork and has its MTU, no two ports of a system are on one subnetwork, each prefix has up to 40 digits, each route leads out of a port that is there, events name declared systems, hosts alone are asked
-/// to send data units, routers alone are said to be congested, few ticks pass, each unit and each echo is
-/// asked for between addresses, a data unit with a lifetime that an octet holds and options in their form,
-/// and none with an option that an error report alone may have.
+/// subnetwork and has its MTU, no two ports of a system are on one subnetwork, each prefix has up to 40 digits,
+/// each route leads out of a port that is there, events name declared systems, hosts alone are asked to send data
+/// units, routers alone are said to be congested, each unit and each echo is asked for between addresses, a data
+/// unit with a lifetime that an octet holds and options in their form, and none with an option that an error report
+/// alone may have; events say only numbers, data and options that a line may say, they are few, few copies are
+/// settled and lost, and few ticks pass.
 pub fn accepted_is_fit()
     ensures { (text : List ℕ) (plan : Plan) → plan_of text ≡ Ok plan → IsFit plan }
 {
     clnp_options::laws::spelled_where_no_rule_is_broken();
     nsap::laws::read_is_address();
+}
+
+/// What is written of a scenario is read as that scenario.
+pub fn what_is_written_is_read()
+    ensures { (plan : Plan) → IsFit plan → plan_of (text_of plan) ≡ Ok plan }
+{
+    nsap::laws::text_reads_back();
 }

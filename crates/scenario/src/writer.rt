@@ -1,14 +1,16 @@
 //! The writer of scenario texts.
-ghost use Rattle.std.specs.Prelude.{◌≡◌, ◌++◌, ◌≤◌, codes, length, map, slice_get, OnOk, OnErr};
+ghost use Rattle.std.specs.Prelude.{◌≡◌, ◌++◌, ◌≤◌, codes, length, map, slice_get, Ok, OnOk, OnErr};
 ghost use Rattle.std.specs.List.{flat_map};
 ghost use Rattle.std.specs.Fmt.{decimal};
 ghost use Rattle.nsap.specs.Text.{hex_text};
 ghost use Rattle.clnp_plan.specs.Journal.{behind_space, line_of, on_word, target_word};
 ghost use Rattle.scenario.specs.Canonical as canonical;
 ghost use Rattle.scenario.specs.Canonical.{address_text, ask_words, belongings_text, event_text, limits_text, port_text, port_texts, route_text, subnet_text, system_text, text_of};
+ghost use Rattle.scenario.specs.Grammar.{plan_of};
 ghost use Rattle.scenario.specs.Lines.{word_text};
 
 use crate::event::{Body, Event};
+use crate::laws;
 use crate::line::{Word, push_line, push_words};
 use crate::plan::{Scenario, Subnet};
 use clnp_base::{NoMemory, push};
@@ -26,8 +28,11 @@ use std::alloc::Global;
 /// `NoMemory`; `out` is then as it was.
 pub fn write(alloc: Global, scenario: &Scenario, out: &mut Vec<u8>) -> Result<(), NoMemory>
     ensures written { OnOk result (out.new.items ≡ out.old.items ++ text_of scenario.now) }
+    ensures read_back { OnOk result (plan_of (text_of scenario.now) ≡ Ok scenario.now) }
     ensures same { OnErr result (out.new.items ≡ out.old.items) }
 {
+    laws::what_is_written_is_read();
+    scenario.is_fit();
     let mut text = Vec::new(alloc);
     push_scenario(scenario, &mut text)?;
     push(text.as_slice(), out)

@@ -1,0 +1,47 @@
+-- What is written of a scenario is read as that scenario.
+use Rattle.std.proofs.Common.{◌≡◌, ℕ, List, [], ◌∷◌, ◌++◌, length, codes, Ok, refl, sym, ap, ◌∙◌, append_assoc, arith}
+use Rattle.std.specs.List.{AllByRecursion, flat_map}
+use Rattle.clnp_base.specs.Text.{lines_of}
+use Rattle.clnp_plan.specs.Configuration.{SystemConfiguration}
+use Rattle.scenario.specs.Canonical.{declarations_text, event_text, text_of}
+use Rattle.scenario.specs.Events.{nothing_counted}
+use Rattle.scenario.specs.Grammar.{header_from, plan_of}
+use Rattle.scenario.specs.Scenario.{Plan, Subnetwork, IsFit, AsksInForm, InjectsInForm, IsPlaced, IsFromHost, IsOfRouter, IsSaid}
+use Rattle.scenario.specs.declared.event.Event.{Event}
+use Rattle.scenario.proofs.Accepted.{plan_is}
+use Rattle.scenario.proofs.Stages.{declared_of, configurations_again}
+use Rattle.scenario.proofs.Written.{ReadsBack}
+use Rattle.scenario.proofs.WrittenDeclarations.{declarations_read}
+use Rattle.scenario.proofs.WrittenEvents.{AreNamed, name_of_subnet, name_of_system, IsTold}
+use Rattle.scenario.proofs.WrittenText.{AreFewMore, events_read}
+
+header_read : (more : List ℕ) → header_from 1 (lines_of (codes "clnp-sim 1\n" ++ more)) ≡ Ok (record { value = tt; number = 2; lines = lines_of more })
+header_read more = refl
+
+told : (subnets : List Subnetwork) (systems : List SystemConfiguration) (events : List Event)
+    → AllByRecursion AsksInForm events → AllByRecursion (IsPlaced (length systems)) events
+    → AllByRecursion (IsFromHost systems) events → AllByRecursion (IsOfRouter systems) events
+    → AllByRecursion (InjectsInForm (length subnets)) events → AllByRecursion IsSaid events → AllByRecursion (IsTold subnets systems) events
+told subnets systems [] formed placed senders congested injected said = tt
+told subnets systems (event ∷ events) formed placed senders congested injected said = (
+  record { formed = formed.0; placed = placed.0; sender = senders.0; congested = congested.0; injected = injected.0; said = said.0 },
+  told subnets systems events formed.1 placed.1 senders.1 congested.1 injected.1 said.1,
+)
+
+regrouped : (header declared events lines end : List ℕ) → (((header ++ declared) ++ events) ++ lines) ++ end ≡ header ++ (declared ++ (events ++ (lines ++ end)))
+regrouped header declared events lines end = simp append_assoc
+
+pub what_is_written : ReadsBack → (plan : Plan) → IsFit plan → plan_of (text_of plan) ≡ Ok plan
+what_is_written law plan fit =
+    let lines : List ℕ = flat_map (event_text plan.subnets plan.systems) plan.events in
+    let rest : List ℕ = lines ++ codes "end\n" in
+    let behind : List ℕ = declarations_text plan ++ (codes "events\n" ++ rest) in
+    let declared = declarations_read law plan fit 2 rest in
+    let subnets : AreNamed name_of_subnet plan.subnets = record { distinct = fit.subnet_names; names = fit.named_subnets } in
+    let systems : AreNamed name_of_system plan.systems = record { distinct = fit.system_names; names = fit.named_systems } in
+    let few : AreFewMore nothing_counted plan.events = record { many = omega (arith, fit.few_events); passed = omega (arith, fit.passed); ticks = omega (arith, fit.ticks) } in
+    ap (λ (text : List ℕ). plan_of text) (regrouped (codes "clnp-sim 1\n") (declarations_text plan) (codes "events\n") lines (codes "end\n"))
+    ∙ plan_is (codes "clnp-sim 1\n" ++ behind) 2 declared.0 (lines_of behind) (lines_of rest) (declared_of plan) plan.limits plan.subnets plan.systems plan.events
+    (header_read behind) declared.1 refl refl (sym (configurations_again plan.systems))
+    (events_read law plan.subnets plan.systems subnets systems declared.0 nothing_counted plan.events
+    (told plan.subnets plan.systems plan.events fit.formed fit.places fit.senders fit.congested fit.injected fit.said) few)
