@@ -33,8 +33,8 @@ impl Subnet {
 /// What a text declares, and its events. A contract knows of each that it is fit to be run: its limits, settings
 /// and numbers are in their ranges, each system has what its role calls for, no name, address or SNPA on a
 /// subnetwork stands twice, and no prefix at a router, each port is on a declared subnetwork and has its MTU, each
-/// route leads out of a port that is there, events name declared systems, hosts alone are asked to send, and routers
-/// alone are said to be congested.
+/// route leads out of a port that is there, events name declared systems, hosts alone are asked to send, routers
+/// alone are said to be congested, and events are few and say only what a line may say.
 #[derive(Debug, Drop)]
 pub struct Scenario {
     pub(crate) limits: Limits,
