@@ -5,9 +5,8 @@ use Rattle.std.specs.Fmt.{decimal}
 use Rattle.std.proofs.lemmas.Bool.{cases_Bool, eq-eqb, ne_eqb, le-leb, lt-ltb}
 use Rattle.std.proofs.lemmas.List.{append-nil, length-map, map-append}
 use Rattle.std.proofs.lemmas.List.Elements.{filter-append, recursion_from_All}
-use Rattle.std.proofs.lemmas.Option.{slice_get-map}
+use Rattle.std.proofs.lemmas.Option.{slice_get_within}
 use Rattle.clnp_base.specs.Text.{lines_of, decimal_of, is_digit}
-use Rattle.clnp_base.proofs.Lists.{AllByRecursion-slice_get}
 use Rattle.clnp_base.proofs.Maps.{map-map}
 use Rattle.nsap.specs.Address.{IsAddress}
 use Rattle.nsap.specs.Prefix.{IsPrefix}
@@ -22,12 +21,13 @@ use Rattle.clnp_plan.specs.declared.config.Role.TheVariants.{Host, Router}
 use Rattle.scenario.specs.Scenario.{AreOnDifferent, IsFit, IsOn, Plan, Subnetwork, snpas_of}
 use Rattle.scenario.specs.Canonical.{address_text, belongings_text, declarations_text, limits_text, port_text, port_texts, prefix_text, role_text, route_text, setting_texts, subnet_name, subnet_text, system_text}
 use Rattle.scenario.specs.Words.{is_name, declared_word, number_within, is_digits}
-use Rattle.scenario.specs.Declarations.{Declarations, DeclaredSystem, NumberedPort, nothing_declared, subnet_names, system_names, changed_at, with_address, with_port, with_route, most_addresses, most_ports, snpas_on, mtu_at, role_word, is_router, is_complete}
+use Rattle.scenario.specs.Declarations.{Declarations, DeclaredSystem, NumberedPort, nothing_declared, system_names, changed_at, with_address, with_port, with_route, most_addresses, most_ports, snpas_on, mtu_at, role_word, is_router, is_complete}
 use Rattle.scenario.specs.Grammar.{declarations_from}
 use Rattle.scenario.specs.declared.code.Code.{Code}
 use Rattle.scenario.proofs.DeclaredLines.{GoesOn, stays, goes_through, line_goes, lines_go, limits_given, subnet_given, system_given, address_given, port_given, route_given}
 use Rattle.scenario.proofs.Stages.{numbered_from, declared_system, bare, declared_with, declared_of, changed_between, found_between, all_between, together, has_other, is_other, none_pass, not_among, not_taken, next_port, no_such_port, number_is_there, no_gap, length-numbered_from}
 use Rattle.scenario.proofs.Written.{IsWord, ReadsBack, address_is_word, address_word_read, decimal_is_word, decimal_digits, decimal_read, declared_word_read, name_is_word, spelled}
+use Rattle.scenario.proofs.WrittenEvents.{AreNamed, name_of_subnet, subnet_is_word, subnet_read}
 use Rattle.scenario.proofs.WrittenPrefixes.{prefix_is_word, prefix_read}
 use Rattle.scenario.proofs.WrittenSettings.{number_is_read, settings_in_order, settings_are_words, settings_once, settings_read}
 
@@ -288,13 +288,8 @@ module _ (law : ReadsBack) (plan : Plan) (fit : IsFit plan) where
         let on : IsOn plan.subnets port
         = all_between (IsOn plan.subnets) front behind port (subst (AllByRecursion (IsOn plan.subnets)) has (of_it (λ (system : SystemConfiguration). AllByRecursion (IsOn plan.subnets) system.ports) fit.ports)) in
         let subnet = there_with (slice_get plan.subnets port.subnet) port.mtu on in
-        let subnet_named : is_name subnet.0.name ≡ true
-        = AllByRecursion-slice_get (λ (subnet : Subnetwork). is_name subnet.name ≡ true) plan.subnets port.subnet subnet.0 subnet.1 fit.named_subnets in
-        let word : subnet_name (slice_get plan.subnets port.subnet) ≡ subnet.0.name = ap subnet_name subnet.1 in
-        let subnet_read : declared_word (subnet_names (so_far part)) (subnet_name (slice_get plan.subnets port.subnet)) ≡ Ok port.subnet
-        = ap (declared_word (subnet_names (so_far part))) word
-        ∙ declared_word_read (subnet_names (so_far part)) subnet.0.name port.subnet subnet_named fit.subnet_names
-        (slice_get-map (λ (subnet : Subnetwork). subnet.name) plan.subnets port.subnet ∙ ap (option_map (λ (subnet : Subnetwork). subnet.name)) subnet.1) in
+        let within : port.subnet < length plan.subnets = slice_get_within plan.subnets port.subnet subnet.0 subnet.1 in
+        let named : AreNamed name_of_subnet plan.subnets = record { distinct = fit.subnet_names; names = fit.named_subnets } in
         let long = ap length has ∙ length-append front (port ∷ behind) in
         let few = few_ports s.role s.ports its.ports in
         let all : flat_map (snpas_on port.subnet) (so_far part).systems ≡ flat_map (snpas_of port.subnet) done ++ snpas_of port.subnet part
@@ -309,13 +304,13 @@ module _ (law : ReadsBack) (plan : Plan) (fit : IsFit plan) where
           (
             number_is_word 0 7 number (omega arith) numbered,
             (
-              subst IsWord (sym word) (name_is_word subnet.0.name subnet_named),
+              subnet_is_word plan.subnets port.subnet named within,
               (address_is_word port.snpa formed, (number_is_word 1 255 port.transit (omega arith) sized.transit, tt)),
             ),
           ),
         )
         (port_given (so_far part) s.name (decimal number) (subnet_name (slice_get plan.subnets port.subnet)) (hex_text port.snpa) (decimal port.transit) (length done) number port (declared_system part)
-        (its_place part refl) (number_is_read 0 7 number (omega arith) numbered) subnet_read (address_word_read law port.snpa formed)
+        (its_place part refl) (number_is_read 0 7 number (omega arith) numbered) (subnet_read plan.subnets port.subnet named within) (address_word_read law port.snpa formed)
         (number_is_read 1 255 port.transit (omega arith) sized.transit) (at_its_place part)
         (no_such_port 0 number port.subnet front (omega (arith, at)) different)
         (not_among port.snpa (flat_map (snpas_on port.subnet) (so_far part).systems) (subst (AllByRecursion (λ other. other ≢ port.snpa)) (sym all) other))
