@@ -69,14 +69,14 @@ digits_octets : (read : Result (List ℕ) FromHexError) → ((octets : List ℕ)
 digits_octets (Ok octets) h = h octets refl
 digits_octets (Err e) h = tt
 
-hex_octets : (word : List ℕ) → IfOk (octets_behind (codes "hex:") word) IsBytes
-hex_octets word =
-    behind_result (after_prefix (codes "hex:") word) _ IsBytes (λ digits _. digits_octets (decode_of digits) (λ octets is. (decode_of-ok digits octets is).3))
+pub behind_octets : (key word : List ℕ) → IfOk (octets_behind key word) IsBytes
+behind_octets key word =
+    behind_result (after_prefix key word) _ IsBytes (λ digits _. digits_octets (decode_of digits) (λ octets is. (decode_of-ok digits octets is).3))
 
 data_octets : (word : List ℕ) → IfOk (data_word word) HasOctets
 data_octets word =
     either_way (has_prefix (codes "pat:") word) _ _ HasOctets (pattern_read word)
-    (behind_such (octets_behind (codes "hex:") word) (λ octets. Ok (Hex octets)) IsBytes HasOctets (hex_octets word) (λ octets are. are))
+    (behind_such (octets_behind (codes "hex:") word) (λ octets. Ok (Hex octets)) IsBytes HasOctets (behind_octets (codes "hex:") word) (λ octets are. are))
 
 -- Options and lifetimes.
 

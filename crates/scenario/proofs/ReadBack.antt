@@ -1,6 +1,7 @@
 -- What is written of a scenario is read as that scenario.
 use Rattle.std.proofs.Common.{◌≡◌, ℕ, List, [], ◌∷◌, ◌++◌, length, codes, Ok, refl, sym, ap, ◌∙◌, append_assoc, arith}
 use Rattle.std.specs.List.{AllByRecursion, flat_map}
+use Rattle.std.proofs.lemmas.Result.{IfOk-at_ok}
 use Rattle.clnp_base.specs.Text.{lines_of}
 use Rattle.clnp_plan.specs.Configuration.{SystemConfiguration}
 use Rattle.scenario.specs.Canonical.{declarations_text, event_text, text_of}
@@ -45,3 +46,15 @@ what_is_written law plan fit =
     (header_read behind) declared.1 refl refl (sym (configurations_again plan.systems))
     (events_read law plan.subnets plan.systems subnets systems declared.0 nothing_counted plan.events
     (told plan.subnets plan.systems plan.events fit.formed fit.places fit.senders fit.congested fit.injected fit.said) few)
+
+-- of a text that was read
+pub read_again : ((text : List ℕ) (plan : Plan) → plan_of text ≡ Ok plan → IsFit plan) → ((plan : Plan) → IsFit plan → plan_of (text_of plan) ≡ Ok plan)
+    → (text : List ℕ) (plan : Plan) → plan_of text ≡ Ok plan → plan_of (text_of plan) ≡ Ok plan
+read_again fit read text plan is = read plan (fit text plan is)
+
+-- two scenarios with one text are one
+pub one_text : ((plan : Plan) → IsFit plan → plan_of (text_of plan) ≡ Ok plan)
+    → (plan other : Plan) → IsFit plan → IsFit other → text_of plan ≡ text_of other → plan ≡ other
+one_text read plan other fit other_fit same =
+    let both : Ok plan ≡ Ok other = sym (read plan fit) ∙ (ap (λ (text : List ℕ). plan_of text) same ∙ read other other_fit) in
+    IfOk-at_ok (λ (p : Plan). plan ≡ p) both refl

@@ -1,35 +1,26 @@
 -- What an event line says are numbers, data and options that a line may say.
-use Rattle.std.proofs.Common.{◌≡◌, ℕ, ◌&&◌, false, not, nat_le, List, [], ◌∷◌, length, codes, Option, None, Some, is_some, slice_get, Result, Ok, Err, IfOk, refl, arith}
+use Rattle.std.proofs.Common.{◌≡◌, ℕ, ◌&&◌, false, not, nat_le, List, [], ◌∷◌, length, codes, Option, None, Some, is_some, slice_get, Ok, IfOk, refl, arith}
 use Rattle.std.specs.List.{AllByRecursion}
 use Rattle.std.specs.Str.{bytes_eq}
 use Rattle.std.proofs.lemmas.Bool.{leb-true, and_parts, not-true}
 use Rattle.clnp_base.proofs.Lists.{AllByRecursion-slice_get}
-use Rattle.hex.specs.Hex.{IsBytes, decode_of}
-use Rattle.hex.specs.declared.error.FromHexError.{FromHexError}
-use Rattle.hex.proofs.HexLemmas.{decode_of-ok}
+use Rattle.hex.specs.Hex.{IsBytes}
 use Rattle.clnp_options.specs.Parameter.{parameters_after, spelled}
 use Rattle.clnp_options.specs.Rules.{refusal, form_refusal, list_refusal, place_of_repeat, place_of}
 use Rattle.clnp_plan.specs.Configuration.{IsSystem, IsWithin, SystemConfiguration}
 use Rattle.scenario.specs.Scenario.{IsSaid, IsSaidBody, AreSaidOptions}
-use Rattle.scenario.specs.Words.{literal, has_prefix, after_prefix, digits_read, pattern_word, two_fields, declared_word, address_word, data_word, number_word, life_word, octets_behind, options_read, options_word, one_word, two_words, four_words, first_four, each_once}
+use Rattle.scenario.specs.Words.{literal, has_prefix, after_prefix, pattern_word, two_fields, declared_word, address_word, data_word, number_word, life_word, octets_behind, options_read, options_word, one_word, two_words, four_words, first_four, each_once}
 use Rattle.scenario.specs.Events.{wish_word, wish_words, wish_key, life_in, own_life, options_in, host_word, send_line, deliver_line, count_line, tick_line, restart_line, echo_line, router_word, on_word, congest_line, event_line}
 use Rattle.scenario.specs.declared.code.Code.TheVariants as bad
 use Rattle.scenario.specs.declared.event.Body.TheVariants.{Hex}
 use Rattle.scenario.specs.declared.event.Event.TheVariants.{Settle, Lose, Tick}
 use Rattle.scenario.specs.declared.wish.Wish.{Wish}
 use Rattle.scenario.specs.declared.wish.Wish.TheVariants.{Lasting, NoReport, Whole, Options}
+use Rattle.scenario.proofs.Forms.{behind_octets}
 use Rattle.scenario.proofs.Injected.{inject_such}
 use Rattle.scenario.proofs.Behind.{behind_result, behind_found, behind_wanted, behind_such, either_way, number_is_within, number_behind_is_within}
 
 -- Data.
-
-digits_bytes : (read : Result (List ℕ) FromHexError) → ((octets : List ℕ) → read ≡ Ok octets → IsBytes octets) → IfOk (digits_read read) IsBytes
-digits_bytes (Ok octets) h = h octets refl
-digits_bytes (Err e) h = tt
-
-octets_said : (key word : List ℕ) → IfOk (octets_behind key word) IsBytes
-octets_said key word =
-    behind_result (after_prefix key word) _ IsBytes (λ digits _. digits_bytes (decode_of digits) (λ octets is. (decode_of-ok digits octets is).3))
 
 pattern_said : (word : List ℕ) → IfOk (pattern_word word) IsSaidBody
 pattern_said word =
@@ -42,11 +33,11 @@ pattern_said word =
 data_said : (word : List ℕ) → IfOk (data_word word) IsSaidBody
 data_said word =
     either_way (has_prefix (codes "pat:") word) _ _ IsSaidBody (pattern_said word)
-    (behind_such (octets_behind (codes "hex:") word) (λ octets. Ok (Hex octets)) IsBytes IsSaidBody (octets_said (codes "hex:") word) (λ octets are. are))
+    (behind_such (octets_behind (codes "hex:") word) (λ octets. Ok (Hex octets)) IsBytes IsSaidBody (behind_octets (codes "hex:") word) (λ octets are. are))
 
 -- Options and lifetimes.
 
-no_bytes : IsBytes []
+pub no_bytes : IsBytes []
 no_bytes i = omega arith
 
 pub no_options_said : AreSaidOptions []
@@ -61,7 +52,7 @@ read_said octets bytes =
 
 options_said : (word : List ℕ) → IfOk (options_word word) AreSaidOptions
 options_said word =
-    behind_such (octets_behind (codes "opt=") word) options_read IsBytes AreSaidOptions (octets_said (codes "opt=") word) read_said
+    behind_such (octets_behind (codes "opt=") word) options_read IsBytes AreSaidOptions (behind_octets (codes "opt=") word) read_said
 
 abbrev IsSaidWish : Wish → Type 0
 IsSaidWish (Lasting life) = IsWithin 1 255 life

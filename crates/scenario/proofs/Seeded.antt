@@ -22,7 +22,7 @@ use Rattle.scenario.specs.declared.event.Event.{Event}
 use Rattle.scenario.specs.declared.event.Event.TheVariants.{Send, Deliver, Settle, Lose, Tick, Restart, Echo}
 use Rattle.scenario.proofs.Asks.{none_fair}
 use Rattle.scenario.proofs.Forms.{none_formed, pattern_octets}
-use Rattle.scenario.proofs.Said.{no_options_said}
+use Rattle.scenario.proofs.Said.{no_bytes, no_options_said}
 
 -- The text of what is declared.
 abbrev pub declared_text : List ℕ
@@ -64,9 +64,6 @@ record IsGood (event : Event) : Type 0 where
   pub injected : InjectsInForm 3 event
   pub said : IsSaid event
   pub ticks : ticks_of event ≤ 200
-
-no_bytes : IsBytes []
-no_bytes i = omega arith
 
 one_more_byte : (octet : ℕ) (octets : List ℕ) → octet < 256 → IsBytes octets → IsBytes (octet ∷ octets)
 one_more_byte octet octets small bytes zero = small

@@ -27,3 +27,12 @@ pub fn what_is_written_is_read()
 {
     nsap::laws::text_reads_back();
 }
+
+/// What is written of a scenario that was read is read as the same scenario, and no two scenarios are written alike.
+pub fn texts_and_scenarios()
+    ensures again { (text : List ℕ) (plan : Plan) → plan_of text ≡ Ok plan → plan_of (text_of plan) ≡ Ok plan }
+    ensures one_text { (plan other : Plan) → IsFit plan → IsFit other → text_of plan ≡ text_of other → plan ≡ other }
+{
+    accepted_is_fit();
+    what_is_written_is_read();
+}

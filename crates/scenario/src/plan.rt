@@ -34,7 +34,8 @@ impl Subnet {
 /// and numbers are in their ranges, each name is a name of the grammar, each system has what its role calls for, no
 /// name, address or SNPA on a subnetwork stands twice, and no prefix at a router, each port is on a declared subnetwork
 /// and has its MTU, no two ports of a system are on one subnetwork, each route leads out of a port that is there,
-/// events name declared systems, hosts alone are asked to send, and routers alone are said to be congested.
+/// events name declared systems, hosts alone are asked to send, routers alone are said to be congested, and events are
+/// few and say only what a line may say.
 #[derive(Debug, Drop)]
 pub struct Scenario {
     pub(crate) limits: Limits,
