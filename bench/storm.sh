@@ -1,7 +1,7 @@
 #!/usr/bin/env bash
 # Measures `clnp storm` beside a plain Rust program that runs the same scenarios and writes the same lines: the seeds 1
 # to 200, a process for each, the best of so many rounds of both, in turn. The time is that of the processor, over all
-# seeds; the peak is that of the largest process. It needs rustc.
+# seeds; the peak is that of the largest process. It needs rustc and GNU time.
 # usage: bench/storm.sh [ROUNDS [PROGRAM]]
 set -eu
 root="$(cd "$(dirname "$0")/.." && pwd)"
@@ -18,25 +18,30 @@ import os, subprocess, sys
 rounds, program, plain = int(sys.argv[1]), *sys.argv[2:4]
 
 def run(command):
-    """The seconds on the processor and the peak in KiB of a round, and what was written."""
-    seconds, peak, lines = 0, 0, b""
+    """The seconds on the processor of a round, and what was written."""
+    seconds, lines = 0, b""
     for seed in range(1, 201):
         process = subprocess.Popen([*command, str(seed)], stdout=subprocess.PIPE)
         lines += process.stdout.read()
-        _, status, used = os.wait4(process.pid, 0)
-        process.returncode = status
-        if status != 0:
-            sys.exit(f"{command} {seed} ended with {status}")
-        seconds, peak = seconds + used.ru_utime + used.ru_stime, max(peak, used.ru_maxrss)
-    return seconds, peak, lines
+        _, process.returncode, used = os.wait4(process.pid, 0)
+        if process.returncode != 0:
+            sys.exit(f"{command} {seed} ended with {process.returncode}")
+        seconds += used.ru_utime + used.ru_stime
+    return seconds, lines
 
-commands, best = [[program, "storm"], [plain]], [(float("inf"), 0, b"")] * 2
+def peak(command):
+    """The greatest peak in KiB of a process, as GNU time tells it: a process that Python starts would count Python's own."""
+    told = [subprocess.run(["time", "-f", "%M", *command, str(seed)], stdout=subprocess.DEVNULL, stderr=subprocess.PIPE, check=True)
+            for seed in range(1, 201)]
+    return max(int(one.stderr) for one in told)
+
+commands, best = [[program, "storm"], [plain]], [(float("inf"), b"")] * 2
 for _ in range(rounds):
     for at in range(2):
         best[at] = min(best[at], run(commands[at]))
-for name, (seconds, peak, _) in zip(["clnp", "plain Rust"], best):
-    print(f"  {name:10} {1000 * seconds:8.0f} ms  {5 * seconds:7.2f} ms each  peak {peak / 1024:6.1f} MiB")
-same = best[0][2] == best[1][2]
+for name, command, (seconds, _) in zip(["clnp", "plain Rust"], commands, best):
+    print(f"  {name:10} {1000 * seconds:8.0f} ms  {5 * seconds:7.2f} ms each  peak {peak(command) / 1024:6.1f} MiB")
+same = best[0][1] == best[1][1]
 print(f"  ratio {best[0][0] / best[1][0]:.2f}, {'the same lines' if same else 'LINES DIFFER'}")
 sys.exit(not same)
 PYTHON
