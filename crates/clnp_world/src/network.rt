@@ -11,6 +11,7 @@ use scenario::Scenario;
 use std::alloc::Global;
 
 mod giving;
+mod injecting;
 mod moves;
 mod outputs;
 mod sending;

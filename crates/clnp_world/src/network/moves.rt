@@ -6,12 +6,12 @@ ghost use Rattle.clnp_network.specs.World as network;
 ghost use Rattle.clnp_world.specs.Parts.{Follows, Holds, IsBehind, IsRunning, Puts, Shows};
 ghost use Rattle.clnp_systems.specs.Stands.{entity_of};
 ghost use Rattle.clnp_systems.specs.declared.system.System.{System};
-ghost use Rattle.scenario.specs.Scenario.{AsksFairly};
+ghost use Rattle.scenario.specs.Scenario.{AsksFairly, InjectsInForm};
 
 use super::Network;
 use clnp_base::NoMemory;
 use clnp_plan::{Limits, Note};
-use scenario::{Event, Move, Scenario};
+use scenario::{Event, Move, Scenario, Subnet};
 use std::alloc::Global;
 
 impl Network {
@@ -53,7 +53,10 @@ impl Network {
         scenario.is_fit();
         let limits = *scenario.limits();
         match mv {
-            Move::One(place) => self.event_at(alloc, limits, scenario.events(), *place, lines),
+            Move::One(place) => {
+                let subnets = scenario.subnets();
+                self.event_at(alloc, subnets, limits, scenario.events(), *place, lines)
+            }
             Move::SettleOne => self.settle_one(alloc, limits, lines),
             Move::LoseOne => {
                 self.lose_one();
@@ -67,6 +70,7 @@ impl Network {
     fn event_at(
         &mut self,
         alloc: Global,
+        subnets: &[Subnet],
         limits: Limits,
         events: &[Event],
         place: usize,
@@ -74,27 +78,31 @@ impl Network {
     ) -> Result<(), NoMemory>
         requires running { IsRunning self.old }
         requires fair { AllByRecursion AsksFairly events.now }
+        requires injected { AllByRecursion (InjectsInForm (length subnets.now)) events.now }
         ensures { OnOk result ((model : network.World) → Holds self.old model
-            → Follows self.new lines.old.items lines.new.items (network.event_happens limits model (slice_get events.now place))) }
+            → Follows self.new lines.old.items lines.new.items
+            (network.event_happens subnets.now limits model (slice_get events.now place))) }
     {
         if place >= events.len() {
             return Ok(());
         }
-        self.event_happens(alloc, limits, &events[place], lines)
+        self.event_happens(alloc, subnets, limits, &events[place], lines)
     }
 
     /// What an event of one move does.
     fn event_happens(
         &mut self,
         alloc: Global,
+        subnets: &[Subnet],
         limits: Limits,
         event: &Event,
         lines: &mut Vec<u8>,
     ) -> Result<(), NoMemory>
         requires running { IsRunning self.old }
         requires fair { AsksFairly event.now }
+        requires injected { InjectsInForm (length subnets.now) event.now }
         ensures { OnOk result ((model : network.World) → Holds self.old model
-            → Follows self.new lines.old.items lines.new.items (network.event_happens limits model (Some event.now))) }
+            → Follows self.new lines.old.items lines.new.items (network.event_happens subnets.now limits model (Some event.now))) }
     {
         match event {
             Event::Send {
@@ -117,6 +125,12 @@ impl Network {
             Event::Congest { system, on } => {
                 self.congest(alloc, usize::from(*system), *on, lines)
             }
+            Event::Inject {
+                subnet,
+                from,
+                to,
+                octets,
+            } => self.inject(alloc, subnets, *subnet, *from, *to, octets, lines),
             Event::Settle { .. } | Event::Lose { .. } | Event::Tick { .. } => Ok(()),
         }
     }

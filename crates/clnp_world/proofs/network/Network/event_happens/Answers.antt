@@ -12,7 +12,7 @@ pub returns-in-Send : goal.returns-in-Send
 returns-in-Send c =
     on_ok_weaker c.send.result (λ sends model h.
     subst (λ (event : Event). Follows c.send.new.self c.args.lines.now.items c.send.new.lines.items
-    (network.event_happens c.args.limits model (Some event))) (sym c.in-Send.is)
+    (network.event_happens c.args.subnets.now c.args.limits model (Some event))) (sym c.in-Send.is)
     (subst (λ (place : ℕ). Follows c.send.new.self c.args.lines.now.items c.send.new.lines.items
     (network.asks model place (AsksToSend c.in-Send.from c.in-Send.to (octets_of c.in-Send.body) c.in-Send.ask))) c.from.ensures
     (sends model h)))
