@@ -60,7 +60,7 @@ fn call(
     let words = word(alloc, command)?;
     let text = Vec::from_slice(alloc, text)?;
     let mut source = MemSource::new(text, 7, Vec::from_slice(alloc, read_fails)?);
-    let mut sink = MemSink::new(alloc, 1000, 7, Vec::from_slice(alloc, write_fails)?)?;
+    let mut sink = MemSink::new(alloc, 65_536, 7, Vec::from_slice(alloc, write_fails)?)?;
     let status = clnp_main(alloc, words.as_slice(), &mut source, &mut sink);
     Ok((status, sink))
 }
@@ -99,6 +99,59 @@ fn stops_where_the_source_fails(rt: HostRuntime) -> Result<(), Fail> {
     }
     let (status, _) = call(alloc, "check", VECTORS, &[8], &[])?;
     assert_eq!(rt; status, Status::Done);
+    Ok(())
+}
+
+/// A host that has no room for all segments of a unit, at its deadline too.
+const CROWDED: &[u8] = b"\
+clnp-sim 1
+subnet lan 512
+system a host hello=0
+system b host hello=0 budget=1010
+address a 47002702
+address b 47002701
+port a 0 lan 01
+port b 0 lan 02
+events
+send a 47002702 47002701 pat:2000:0 life=10
+deliver 1 b
+deliver 2 b
+deliver 3 b
+tick 10
+end
+";
+
+/// Its last line.
+const CROWDED_END: &[u8] = b"end 10 7\n";
+
+#[test]
+fn stops_where_the_sink_fails_in_a_long_journal(rt: HostRuntime) -> Result<(), Fail> {
+    let alloc = rt.alloc();
+    let (status, whole) = call(alloc, "sim", CROWDED, &[], &[])?;
+    assert_eq!(rt; status, Status::Done);
+    assert!(rt; whole.as_bytes().ends_with(CROWDED_END));
+    let calls = whole.as_bytes().len().div_ceil(7) as u64;
+    let mut front = 0usize;
+    for number in 1..=calls {
+        let (status, sink) = call(alloc, "sim", CROWDED, &[], &[number])?;
+        assert_eq!(rt; status, Status::WriteFault, "at call {number}");
+        assert_eq!(rt; sink.as_bytes().len(), front, "at call {number}");
+        assert!(rt; whole.as_bytes().starts_with(sink.as_bytes()));
+        front = front.saturating_add(7);
+    }
+    Ok(())
+}
+
+#[test]
+fn writes_nothing_where_the_source_of_a_scenario_fails(rt: HostRuntime) -> Result<(), Fail> {
+    let alloc = rt.alloc();
+    // One call more tells the end.
+    let calls = (CROWDED.len().div_ceil(7) as u64).saturating_add(1);
+    for number in 1..=calls {
+        let (status, sink) = call(alloc, "sim", CROWDED, &[number], &[])?;
+        assert_eq!(rt; status, Status::ReadFault, "at call {number}");
+        assert!(rt; sink.as_bytes().is_empty());
+    }
     Ok(())
 }
 
