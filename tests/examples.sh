@@ -1,6 +1,6 @@
 #!/usr/bin/env bash
 # Runs each example through the built program and compares what it writes with what stands beside it: the folders of
-# examples/ with a scenario.txt and its journal.txt, the capture, and the vectors, all of which pass.
+# examples/ with a scenario.txt and its journal.txt, the capture, the storms, and the vectors, all of which pass.
 set -u
 cd "$(dirname "$0")/.." || exit 2
 failed=0
@@ -17,6 +17,10 @@ for scenario in examples/*/scenario.txt; do
     compare "$(dirname "$scenario")/journal.txt" sim "$scenario"
 done
 compare examples/captures-shown.txt show examples/captures.txt
+if ! seq 1 20 | xargs -n 1 ./clnp storm | cmp - examples/storms.txt; then
+    echo "the storms aren't those of examples/storms.txt" >&2
+    failed=1
+fi
 if [ "$(./clnp check <examples/vectors.txt | tail -n 1)" != "passed $(grep -c -v -e '^#' -e '^$' examples/vectors.txt) failed 0" ]; then
     echo "not all of examples/vectors.txt pass" >&2
     failed=1

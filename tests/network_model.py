@@ -1,29 +1,19 @@
 """A plain model of the network: what hosts and routers do in a scenario, and the journal of it."""
 import collections
 
-from scenario_model import is_options
+from pdu_model import REASON, TYPES, Broken, options_from, read_clnp, read_esis, report_to, sealed
 
 MOST_WEIGHT = 268_435_456
+MOST_OCTETS = 64_512
 
 # whom a copy is for that is for a group
 GROUPS = {b"host": "es", b"router": "is"}
-
-TYPES = {"dt": 28, "er": 1, "erq": 30, "erp": 31}
-
-
-def sealed(header):
-    length, octets = len(header), list(header[:7] + bytes(2) + header[9:])
-    first = sum(octets) % 255
-    second = sum((length - at) * octet for at, octet in enumerate(octets)) % 255
-    octets[7] = ((length - 8) * first - second) % 255 or 255
-    octets[8] = (second - (length - 7) * first) % 255 or 255
-    return bytes(octets)
 
 
 def pdu(unit, life, offset, octets):
     """A PDU of a unit, with these octets of its data from an offset."""
     part = bytes([len(unit["to"])]) + unit["to"] + bytes([len(unit["from"])]) + unit["from"]
-    more = offset + len(octets) < len(unit["octets"])
+    more = offset + len(octets) < unit["length"]
     flags = (0x20 if unit["report"] else 0) | (0x40 if more else 0) | TYPES[unit["kind"]]
     if unit["id"] is not None:
         flags |= 0x80
@@ -36,7 +26,7 @@ def pdu(unit, life, offset, octets):
 
 def pieces(unit, offset, octets, mtu):
     """Offsets and octets of the PDUs in which a subnetwork takes these octets of a unit, where they may be cut."""
-    length = unit["total"] - len(unit["octets"])
+    length = unit["total"] - unit["length"]
     if length + len(octets) <= mtu:
         return [(offset, octets)]
     room = (mtu - length) // 8 * 8
@@ -44,26 +34,41 @@ def pieces(unit, offset, octets, mtu):
     return None if unit["id"] is None else cut
 
 
+def frame_from_outside(frame):
+    """What a frame carries that no system made, with the address to which it is reported where it is dropped."""
+    back = report_to(frame)
+    if frame[:1] not in (b"\x81", b"\x82"):
+        return dict(alien=True)
+    try:
+        return from_clnp(read_clnp(frame), back) if frame[0] == 0x81 else from_esis(read_esis(frame))
+    except Broken as broken:
+        if frame[0] == 0x82:
+            return dict(refused=f"badesis E{broken.rule} {broken.place:02x}")
+        return dict(broken=f"{broken.reason:02x} {broken.place:02x}", header=frame[:frame[1]] if back else None, back=back)
+
+
+def from_clnp(read, back):
+    """A PDU with the unit of which it is a part; of its octets those of the unit are known that it has."""
+    unit = {name: read[name] for name in ("kind", "life", "id", "total", "from", "to", "report", "options", "octets")}
+    unit.update(number=None, sealed=any(read["sum"]), length=read["total"] - len(read["header"]))
+    assert pdu(unit, read["life"], read["offset"], read["octets"]) == read["header"] + read["octets"]
+    return dict(unit=unit, **{name: read[name] for name in ("life", "offset", "octets", "header")}, back=back)
+
+
+def from_esis(read):
+    if read["kind"] == "rd":
+        return dict(redirect=dict(to=read["fields"][0], via=read["fields"][1], holding=read["hold"]))
+    role = b"host" if read["kind"] == "esh" else b"router"
+    return dict(hello=dict(role=role, addresses=read["fields"], holding=read["hold"], suggest=read["suggested"]))
+
+
 def request_of(octets):
     """The data of the echo request that these octets are, where they are one and nothing follows it."""
-    if len(octets) < 9 or not 9 <= octets[1] <= min(254, len(octets)) or octets[0] != 0x81 or octets[2] != 1:
+    try:
+        read = read_clnp(octets) if octets[:1] == b"\x81" else None
+    except Broken:
         return None
-    header, octets, is_cut, more = octets[:octets[1]], octets[octets[1]:], octets[4] & 0x80, octets[4] & 0x40
-    if header[4] & 31 != TYPES["erq"] or header[7:9] not in (bytes(2), sealed(header)[7:9]) or more and not is_cut:
-        return None
-    at = 9
-    for _ in range(2):
-        if at >= len(header) or not 1 <= header[at] <= 20:
-            return None
-        at += 1 + header[at]
-    if at > len(header) or int.from_bytes(header[5:7], "big") != len(header) + len(octets):
-        return None
-    if is_cut:
-        offset, total = (int.from_bytes(header[at + start:at + start + 2], "big") for start in (2, 4))
-        end, at = len(header) + offset + len(octets), at + 6
-        if at > len(header) or end > total or (end == total) == bool(more):
-            return None
-    return octets if is_options(header[at:]) else None
+    return read["octets"] if read and read["kind"] == "erq" and not read["rest"] else None
 
 
 def needs_identifier(source, destination, octets):
@@ -87,12 +92,7 @@ def hello(system):
 
 def options_of(octets):
     """The options that these octets spell: codes and values."""
-    options = []
-    while octets:
-        end = 2 + octets[1]
-        options.append((octets[0], octets[2:end]))
-        octets = octets[end:]
-    return options
+    return [(code, value) for _, code, value in options_from(octets, 1)[0]]
 
 
 def source_route(options):
@@ -117,6 +117,10 @@ def recorded(value, title):
     return value[:1] + bytes([last + 1]) + value[2:pointer - 1] + bytes([len(title)]) + title + value[last:]
 
 
+def shown(target):
+    return target if isinstance(target, str) else target.hex()
+
+
 def redirect(router, holding, to, via, title):
     """A router's redirect: where the next hop towards an address is, and its title unless it is that address itself."""
     part = b"".join(bytes([len(octets)]) + octets for octets in (to, via, title))
@@ -139,11 +143,13 @@ class Network:
         """A frame goes out on a port, to an address there or to a group."""
         port, target = hop
         subnet, snpa = system.ports[port]
-        copy = dict(subnet=subnet, sender=snpa, target=target, birth=birth, size=len(frame), **carried)
-        self.copies.append(copy)
+        self.adds(subnet, snpa, target, frame, birth, **carried)
+        self.note(system, f"tx {len(self.copies)} {port} {shown(target)} {frame.hex()}")
+
+    def adds(self, subnet, sender, target, frame, birth, **carried):
+        """A frame becomes the next copy."""
+        self.copies.append(dict(subnet=subnet, sender=sender, target=target, birth=birth, size=len(frame), **carried))
         self.weight += len(frame) + 64
-        shown = target if isinstance(target, str) else target.hex()
-        self.note(system, f"tx {len(self.copies)} {port} {shown} {frame.hex()}")
 
     def entries(self, copy, system):
         """The ports by which a copy comes to a system."""
@@ -160,10 +166,18 @@ class Network:
         port = self.entries(copy, system)[0]
         if self.clock > copy["birth"] + self.age:
             self.note(system, f"late {number_of_copy}")
+        elif "alien" in copy:
+            self.note(system, "alien")
+        elif "refused" in copy:
+            self.note(system, copy["refused"])
+        elif "broken" in copy:
+            self.discards(system, copy, copy["broken"])
         elif "hello" in copy:
             self.hears(system, (port, copy["sender"]), **copy["hello"])
         elif "redirect" in copy:
             self.hears_redirect(system, (port, copy["sender"]), **copy["redirect"])
+        elif copy["life"] == 0:
+            self.discards(system, copy, "a0 00")
         elif copy["unit"]["to"] in system.addresses:
             self.receive(system, copy)
             if copy["target"] == "es":
@@ -205,7 +219,10 @@ class Network:
     def keeps_in_mind(self, system, table, key, source, holding):
         entries = system.heard[table]
         limit = system.settings[{"es": b"neighbours", "is": b"routers", "rd": b"redirects"}[table]]
-        if key not in entries and len(entries) >= limit:
+        if holding == 0:
+            entries.pop(key, None)
+            answer = "zero"
+        elif key not in entries and len(entries) >= limit:
             answer = f"full {len(entries)}"
         else:
             answer = "again" if key in entries else "new"
@@ -236,24 +253,24 @@ class Network:
         is_complete, titles = source_route(options)
         if is_complete and titles[:1] != [own]:
             self.met["complete-route-elsewhere" if titles else "complete-route-exhausted"] += 1
-            return self.discards(router, copy, "93")
+            return self.discards(router, copy, "93 00")
         passed = 0
         while titles[:1] == [own]:
             passed, titles = passed + 1, titles[1:]
         target = titles[0] if titles else unit["to"]
         way = router.way(target, self.clock)
         if way is None:
-            return self.discards(router, copy, "92" if titles else "81")
+            return self.discards(router, copy, "92 00" if titles else "81 00")
         hop, title = way
         if is_complete and title not in (b"", target):
             self.met["complete-route-by-another-system"] += 1
-            return self.discards(router, copy, "93")
+            return self.discards(router, copy, "93 00")
         life = copy["life"] - router.transits[hop[0]]
         if life <= 0:
-            return self.discards(router, copy, "a0")
+            return self.discards(router, copy, "a0 00")
         options = b"".join(self.behind(router, code, value, passed * (1 + len(own))) for code, value in options)
         if not self.goes_on(router, hop, dict(unit, options=options), life, copy["birth"], copy["offset"], copy["octets"]):
-            return self.discards(router, copy, "05")
+            return self.discards(router, copy, "05 00")
         self.met[f"{'complete' if is_complete else 'partial'}-route-passed"] += passed
         self.met["led-to-a-neighbour" if title == b"" else "led-by-a-route"] += titles != []
         if titles:
@@ -296,25 +313,25 @@ class Network:
         cut = pieces(unit, offset, octets, self.text.subnets[system.ports[hop[0]][0]][1])
         if cut is None:
             return False
-        is_on_its_way, is_segment = life < unit["life"], len(octets) < len(unit["octets"])
+        is_on_its_way, is_segment = life < unit["life"], len(octets) < unit["length"]
         self.met["forwarded"] += is_on_its_way
         self.met["cut-again" if is_segment else "cut-on-the-way" if is_on_its_way else "cut"] += len(cut) > 1
         for start, part in cut:
             frame = pdu(unit, life, start, part)
-            header = frame[:len(frame) - len(part)]
-            self.puts(system, hop, frame, birth, unit=unit, life=life, offset=start, octets=part, header=header)
+            header, back = frame[:len(frame) - len(part)], report_to(frame)
+            self.puts(system, hop, frame, birth, unit=unit, life=life, offset=start, octets=part, header=header, back=back)
         return True
 
     def discards(self, system, copy, reason):
-        """A PDU is dropped, and its header goes back in an error report where one is wanted."""
-        self.note(system, f"drop {reason} 00")
-        if copy["unit"]["report"]:
-            option = b"\xc1\x02" + bytes.fromhex(reason) + b"\x00"
-            self.makes(system, "er", system.addresses[0], copy["unit"]["from"], copy["header"], options=option)
+        """A PDU is dropped for a reason at a place, and its header goes back in an error report where one is wanted."""
+        self.note(system, f"drop {reason}")
+        if copy["back"] is not None:
+            option = bytes([REASON, 2]) + bytes.fromhex(reason)
+            self.makes(system, "er", system.addresses[0], copy["back"], copy["header"], options=option)
 
     def receive(self, system, copy):
         self.met["came-over-a-router"] += copy["life"] < copy["unit"]["life"]
-        if len(copy["octets"]) == len(copy["unit"]["octets"]):
+        if len(copy["octets"]) == copy["unit"]["length"]:
             self.is_whole(system, copy["unit"])
         else:
             self.offer(system, copy)
@@ -324,7 +341,10 @@ class Network:
         if unit["kind"] == "dt":
             self.note(system, f"got {ends} {octets.hex() or '-'}")
         elif unit["kind"] == "er":
-            self.note(system, f"report {ends} {unit['options'][2]:02x} {unit['options'][3]:02x} {octets.hex() or '-'}")
+            [reason] = [value for code, value in options_of(unit["options"]) if code == REASON]
+            self.note(system, f"report {ends} {reason[0]:02x} {reason[1]:02x} {octets.hex() or '-'}")
+        elif unit["kind"] == "erq" and len(octets) > MOST_OCTETS:
+            self.note(system, f"refused too-long {len(octets)}")
         elif unit["kind"] == "erq":
             segment = needs_identifier(unit["to"], unit["from"], octets)
             self.makes(system, "erp", unit["to"], unit["from"], octets, segment=segment)
@@ -350,18 +370,18 @@ class Network:
         shape = (unit["kind"], unit["total"], len(copy["header"]))
         if there and there[0]["shape"] != shape:
             self.note(system, f"interference {identifier}")
-            self.discards(system, copy, "c0")
+            self.discards(system, copy, "c0 00")
         elif all(at in covered for at in places):
             self.note(system, f"repeat {identifier} {copy['offset']}")
         elif not there and len(system.buffers) >= settings[b"slots"]:
             self.note(system, f"noslot {len(system.buffers)}")
-            self.discards(system, copy, "03")
+            self.discards(system, copy, "03 00")
         elif system.held() + size > settings[b"budget"]:
             self.note(system, f"crowded {system.held()} {size}")
-            self.discards(system, copy, "03")
+            self.discards(system, copy, "03 00")
         elif system.kept() >= settings[b"segments"]:
             self.note(system, f"many {system.kept()}")
-            self.discards(system, copy, "03")
+            self.discards(system, copy, "03 00")
         else:
             if not there:
                 deadline = self.clock + min(self.hold, copy["life"])
@@ -371,9 +391,9 @@ class Network:
             buffer["kept"].append(copy)
             for at, octet in zip(places, copy["octets"]):
                 buffer["octets"].setdefault(at, octet)
-            if len(buffer["octets"]) == len(unit["octets"]):
+            if len(buffer["octets"]) == unit["length"]:
                 system.buffers.remove(buffer)
-                octets = bytes(buffer["octets"][at] for at in range(len(unit["octets"])))
+                octets = bytes(buffer["octets"][at] for at in range(unit["length"]))
                 self.is_whole(system, dict(unit, octets=octets))
             else:
                 self.note(system, f"held {identifier} {copy['offset']} {system.held()}")
@@ -381,7 +401,7 @@ class Network:
     def send(self, host, source, destination, octets, life, report, segment, options):
         if source not in host.addresses:
             return self.note(host, "refused not-mine 0")
-        if len(octets) > 64512:
+        if len(octets) > MOST_OCTETS:
             return self.note(host, f"refused too-long {len(octets)}")
         length = 11 + len(destination) + len(source) + len(options) + (6 if segment else 0)
         if length > 254:
@@ -391,7 +411,7 @@ class Network:
     def echo(self, system, source, destination, octets):
         if source not in system.addresses:
             return self.note(system, "refused not-mine 0")
-        if len(octets) > 64512:
+        if len(octets) > MOST_OCTETS:
             return self.note(system, f"refused too-long {len(octets)}")
         segment = needs_identifier(source, destination, octets)
         self.makes(system, "erq", source, destination, octets, report=True, segment=segment)
@@ -415,7 +435,8 @@ class Network:
         system.units += 1
         total = 11 + len(destination) + len(source) + len(options) + (6 if segment else 0) + len(octets)
         unit = {
-            "kind": kind, "number": system.units, "id": identifier, "total": total, "sealed": system.sealed,
+            "kind": kind, "number": system.units, "id": identifier, "total": total, "length": len(octets),
+            "sealed": system.sealed,
             "from": source, "to": destination, "octets": octets, "report": report, "options": options,
             "life": system.settings[b"life"] if life is None else life,
         }
@@ -446,7 +467,7 @@ class Network:
             system.buffers.remove(buffer)
             self.note(system, f"expired {buffer['key'][2]:04x} {system.held()}")
             for first in [segment for segment in buffer["kept"] if segment["offset"] == 0][:1]:
-                self.discards(system, first, "a1")
+                self.discards(system, first, "a1 00")
 
     def deliver(self, number_of_copy, system):
         if number_of_copy <= len(self.copies) and self.entries(self.copies[number_of_copy - 1], system):
@@ -465,6 +486,14 @@ class Network:
         system.starts(self.clock, self.clock + self.reuse)
         self.note(system, "restart")
 
+    def inject(self, subnet, sender, target, frame):
+        """A frame comes from outside on a subnetwork."""
+        carried = frame_from_outside(frame)
+        self.adds(subnet, sender, target, frame, self.clock, **carried)
+        self.met[f"injected-{next(iter(carried))}"] += 1
+        name = self.text.subnets[subnet][0].decode()
+        self.lines.append(f"{self.clock} - inject {len(self.copies)} {name} {sender.hex()} {shown(target)}")
+
     def congest(self, router, is_congested):
         router.congested = is_congested
         self.note(router, f"congest {'on' if is_congested else 'off'}")
@@ -478,6 +507,8 @@ class Network:
             return [lambda: self.deliver(event[1], self.text.systems[event[2]])]
         if event[0] == "congest":
             return [lambda: self.congest(self.text.systems[event[1]], event[2])]
+        if event[0] == "inject":
+            return [lambda: self.inject(*event[1:])]
         if event[0] == "restart":
             return [lambda: self.restart(self.text.systems[event[1]])]
         asked = self.send if event[0] == "send" else self.echo

@@ -1,8 +1,8 @@
 #!/usr/bin/env python3
 """Compares `clnp sim` with plain models of the scenario grammar and of the network, on random texts.
 
-Half of the texts are scenarios, the others have a few words or lines changed. For each one the program must
-write the models' journal, or refuse the models' line and code.
+Half of the texts are scenarios, the others have a few words or lines changed. In a third of them frames come from outside. For
+each one the program must write the models' journal, or refuse the models' line and code.
 
 usage: tests/networks.py [--program PATH | --try] [SEED [TEXTS]]
 
@@ -18,6 +18,7 @@ import subprocess
 import sys
 import tempfile
 
+from frames import Outside
 from network_model import Network
 from scenario_model import CODE_NAMES, Text, read
 
@@ -146,7 +147,10 @@ def random_scenario():
     everyone = [octets for others in known.values() for octets in others] + ["ab", "4700"]
     names = [name for name, _ in systems] or ["x"]
     events = random.choice([[], ["tick 1", "settle 40"], ["tick 1", "settle 40"]])
+    outside = Outside(there, snpas, known, everyone, lambda: random_options(routers[:1], routers or names, known, everyone))
+    is_open = bool(there) and random.random() < 0.35
     for _ in range(random.randint(0, 40)):
+        events += outside.lines() if is_open and random.random() < 0.4 else []
         events += random_echoes(names, known, everyone) if random.random() < 0.12 else []
         if len(hosts) > 1 and len(hosts) < len(there) and random.random() < 0.2:
             events += random_crossing(hosts, known)
@@ -299,7 +303,7 @@ def random_event(hosts, names, known, everyone):
 WORDS = """pat:3 pat:70001:0 pat:3:256 pat:x:1 opt= opt=c1020000 opt=cd opt=c5 slots=0 budget=511 tick suggest=1
 suggest=32768 suggest= hello=1 hello=601 hello= hello x 0 1 2 8 256 65536 511 70 end events host router r0 r1 life=0
 life=300 whole congest on off zz a.b 4 . * ** 4700* 47.0 route echo hex:1 hex -1 007 99999999999999999999999
-checksum=maybe h0 s0 H0
+checksum=maybe h0 s0 H0 inject es is ES eses 81 8
 abcdefghijklmnopq 012345678901234567890123456789012345678 01234567890123456789012345678901234567890""".split()
 MORE = "x whole life=3 noreport hello=0 hello=2 suggest=3 checksum=on opt=cd0101 slots=2 7".split()
 
@@ -343,7 +347,7 @@ def kinds_of(journal):
     """How often each kind of line stands in a journal, with a hearing's table and answer, a drop's reason, and the like."""
     lines = [line.split(" ") for line in journal.splitlines()]
     words = [line[2:] for line in lines if line[0] != "end"]
-    told = {"hear": [1, 3], "gone": [1], "ignored": [1], "drop": [1], "sent": [1], "refused": [1], "congest": [1]}
+    told = {"hear": [1, 3], "gone": [1], "ignored": [1], "drop": [1], "badesis": [1], "sent": [1], "refused": [1], "congest": [1]}
     return collections.Counter("-".join([line[0]] + [line[at] for at in told.get(line[0], [])]) for line in words)
 
 

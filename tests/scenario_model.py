@@ -1,6 +1,8 @@
 """A plain model of the grammar of scenario texts."""
 import re
 
+from pdu_model import is_options
+
 HEADER, SYNTAX, NUMBER, ADDRESS, UNKNOWN_NAME, DUP_NAME, DUP_ADDRESS, LIMITS, MTU, COUNT = range(1, 11)
 CODE_NAMES = {
     HEADER: "header", SYNTAX: "syntax", NUMBER: "number", ADDRESS: "address", UNKNOWN_NAME: "unknown-name",
@@ -64,57 +66,6 @@ def place(names, word):
 
 
 # ---- the text
-
-def is_route(value, titles_end):
-    """Whether whole titles of 1 to 20 octets fill the places of a value from 3 to before this one."""
-    at = 2
-    while at < titles_end - 1:
-        if not 1 <= value[at] <= 20:
-            return False
-        at += 1 + value[at]
-    return at == titles_end - 1
-
-
-def is_options(octets):
-    """Whether a header of a PDU that is no error report may have these options."""
-    at, codes = 0, []
-    while at < len(octets):
-        if at + 2 > len(octets) or at + 2 + octets[at + 1] > len(octets):
-            return False
-        code, value = octets[at], octets[at + 2:at + 2 + octets[at + 1]]
-        at += 2 + len(value)
-        if code == 0xCC:
-            continue
-        if code in codes:
-            return False
-        codes.append(code)
-        if code in (0xC5, 0xC3):
-            fine = len(value) >= 1 and value[0] >> 6 != 0
-        elif code == 0xC8:
-            titles, place_at = [], 2
-            fine = len(value) >= 2 and value[0] in (0, 1) and is_route(value, len(value) + 1)
-            while fine and place_at < len(value):
-                titles.append(place_at + 1)
-                place_at += 1 + value[place_at]
-            fine = fine and (value[1] in titles or value[1] > len(value))
-        elif code == 0xCB:
-            fine = len(value) >= 2 and value[0] in (0, 1) and (
-                value[1] == 255 or (3 <= value[1] <= len(value) + 1 and is_recorded(value)))
-        else:
-            fine = code == 0xCD and len(value) == 1
-        if not fine:
-            return False
-    return True
-
-
-def is_recorded(value):
-    at = 2
-    while at < value[1] - 1:
-        if not 1 <= value[at] <= 20 or at + 1 + value[at] > value[1] - 1:
-            return False
-        at += 1 + value[at]
-    return True
-
 
 class System:
     """A host or a router."""
@@ -282,6 +233,8 @@ class Text:
             want(self.systems[router].role == b"router", UNKNOWN_NAME)
             want(words[1] in (b"on", b"off"), SYNTAX)
             event = ("congest", router, words[1] == b"on")
+        elif keyword == b"inject":
+            event = self.inject(words)
         else:
             want(keyword in (b"settle", b"lose") and len(words) == 1, SYNTAX)
             passed = number(words[0], 1, 100_000)
@@ -313,6 +266,16 @@ class Text:
         lifetime = self.systems[host].settings[b"life"] if life is None else life
         report, segment = b"noreport" not in kinds, b"whole" not in kinds
         return ("send", host, source, destination, octets, lifetime, report, segment, options)
+
+
+    def inject(self, words):
+        want(len(words) == 4, SYNTAX)
+        subnet = place(self.subnet_names(), words[0])
+        sender = address(words[1])
+        target = words[2].decode() if words[2] in (b"es", b"is") else address(words[2])
+        want(re.fullmatch(rb"([0-9a-fA-F]{2})*", words[3]), ADDRESS)
+        want(len(words[3]) <= 2 * 70_000, COUNT)
+        return ("inject", subnet, sender, target, bytes.fromhex(words[3].decode()))
 
 
 def data(word):

@@ -186,3 +186,34 @@ fn makes_the_scenario_of_a_seed(rt: HostRuntime) -> Result<(), Fail> {
     };
     Ok(())
 }
+
+/// A text with a frame from outside of so many octets.
+fn injection(alloc: Global, octets: usize) -> Result<Vec<u8>, Fail> {
+    let mut text = Vec::from_slice(alloc, b"clnp-sim 1\nsubnet lan 512\nevents\ninject lan 05 is ")?;
+    for _ in 0..octets {
+        text.extend_from_slice(b"81")?;
+    }
+    text.extend_from_slice(b"\nend\n")?;
+    Ok(text)
+}
+
+#[test]
+fn reads_frames_of_70000_octets_and_no_more(rt: HostRuntime) -> Result<(), Fail> {
+    let text = injection(rt.alloc(), 70_000)?;
+    let Some(Ok(scenario)) = answer(rt.alloc(), &text) else {
+        assert!(rt; false);
+        return Ok(());
+    };
+    let [Event::Inject { octets, .. }] = scenario.events() else {
+        assert!(rt; false);
+        return Ok(());
+    };
+    assert_eq!(rt; octets.as_bytes().len(), 70_000);
+    let text = injection(rt.alloc(), 70_001)?;
+    let Some(Err(refusal)) = answer(rt.alloc(), &text) else {
+        assert!(rt; false);
+        return Ok(());
+    };
+    assert_eq!(rt; refusal, ScenarioRefusal::BadLine { line: 4, code: 10 });
+    Ok(())
+}

@@ -38,13 +38,38 @@ fn call(
     let words = word(alloc, command)?;
     let text = Vec::from_slice(alloc, text)?;
     let mut source = MemSource::new(text, 7, Vec::from_slice(alloc, read_fails)?);
-    let mut sink = MemSink::new(alloc, 1000, 7, Vec::from_slice(alloc, write_fails)?)?;
+    let mut sink = MemSink::new(alloc, 65_536, 7, Vec::from_slice(alloc, write_fails)?)?;
     let status = clnp_main(alloc, words.as_slice(), &mut source, &mut sink);
     Ok((status, sink))
 }
 
-/// Two hosts with little room: a unit in five pieces, of which the third isn't kept and the others never get whole.
-const CROWDED: &str = "\
+#[test]
+fn stops_where_the_sink_fails(rt: HostRuntime) -> Result<(), Fail> {
+    let alloc = rt.alloc();
+    for (command, text) in [("show", b"81\n".as_slice()), ("check", VECTORS)] {
+        let (status, sink) = call(alloc, command, text, &[], &[1])?;
+        assert_eq!(rt; status, Status::WriteFault, "at {command}");
+        assert!(rt; sink.as_bytes().is_empty());
+    }
+    Ok(())
+}
+
+#[test]
+fn stops_where_the_source_fails(rt: HostRuntime) -> Result<(), Fail> {
+    let alloc = rt.alloc();
+    // The vectors have 42 octets, so six calls give some and one more tells the end.
+    for number in 1..8u64 {
+        let (status, sink) = call(alloc, "check", VECTORS, &[number], &[])?;
+        assert_eq!(rt; status, Status::ReadFault, "at call {number}");
+        assert!(rt; sink.as_bytes().is_empty());
+    }
+    let (status, _) = call(alloc, "check", VECTORS, &[8], &[])?;
+    assert_eq!(rt; status, Status::Done);
+    Ok(())
+}
+
+/// A host that has no room for all segments of a unit, at its deadline too.
+const CROWDED: &[u8] = b"\
 clnp-sim 1
 subnet lan 512
 system a host hello=0
@@ -62,63 +87,37 @@ tick 10
 end
 ";
 
-/// A simulation over objects in memory that move at most seven octets a call, and fail at given calls. Answers the
-/// status, and the sink as it is afterwards.
-fn simulate(
-    alloc: Global,
-    read_fails: &[u64],
-    write_fails: &[u64],
-) -> Result<(Status, MemSink), Fail> {
-    let words = word(alloc, "sim")?;
-    let text = Vec::from_slice(alloc, CROWDED.as_bytes())?;
-    let mut source = MemSource::new(text, 7, Vec::from_slice(alloc, read_fails)?);
-    let mut sink = MemSink::new(alloc, 65_536, 7, Vec::from_slice(alloc, write_fails)?)?;
-    let status = clnp_main(alloc, words.as_slice(), &mut source, &mut sink);
-    Ok((status, sink))
-}
+/// Its last line.
+const CROWDED_END: &[u8] = b"end 10 7\n";
 
 #[test]
-fn stops_where_the_sink_fails(rt: HostRuntime) -> Result<(), Fail> {
+fn stops_where_the_sink_fails_in_a_long_journal(rt: HostRuntime) -> Result<(), Fail> {
     let alloc = rt.alloc();
-    let (status, whole) = simulate(alloc, &[], &[])?;
+    let (status, whole) = call(alloc, "sim", CROWDED, &[], &[])?;
     assert_eq!(rt; status, Status::Done);
-    let mut number = 1u64;
+    assert!(rt; whole.as_bytes().ends_with(CROWDED_END));
+    let calls = whole.as_bytes().len().div_ceil(7) as u64;
     let mut front = 0usize;
-    for _ in whole.as_bytes().chunks(7) {
-        let (status, sink) = simulate(alloc, &[], &[number])?;
+    for number in 1..=calls {
+        let (status, sink) = call(alloc, "sim", CROWDED, &[], &[number])?;
         assert_eq!(rt; status, Status::WriteFault, "at call {number}");
         assert_eq!(rt; sink.as_bytes().len(), front, "at call {number}");
         assert!(rt; whole.as_bytes().starts_with(sink.as_bytes()));
-        number = number.saturating_add(1);
         front = front.saturating_add(7);
-    }
-    assert!(rt; number > 1000);
-    let (status, _) = simulate(alloc, &[], &[number])?;
-    assert_eq!(rt; status, Status::Done);
-    for (command, text) in [("show", b"81\n".as_slice()), ("check", VECTORS)] {
-        let (status, sink) = call(alloc, command, text, &[], &[1])?;
-        assert_eq!(rt; status, Status::WriteFault, "at {command}");
-        assert!(rt; sink.as_bytes().is_empty());
     }
     Ok(())
 }
 
 #[test]
-fn stops_where_the_source_fails(rt: HostRuntime) -> Result<(), Fail> {
+fn writes_nothing_where_the_source_of_a_scenario_fails(rt: HostRuntime) -> Result<(), Fail> {
     let alloc = rt.alloc();
-    let mut number = 1u64;
-    // Each call but the last gives some octets, and the last tells the end.
-    for _ in CROWDED.as_bytes().chunks(7) {
-        let (status, sink) = simulate(alloc, &[number], &[])?;
+    // One call more tells the end.
+    let calls = (CROWDED.len().div_ceil(7) as u64).saturating_add(1);
+    for number in 1..=calls {
+        let (status, sink) = call(alloc, "sim", CROWDED, &[number], &[])?;
         assert_eq!(rt; status, Status::ReadFault, "at call {number}");
         assert!(rt; sink.as_bytes().is_empty());
-        number = number.saturating_add(1);
     }
-    let (status, _) = simulate(alloc, &[number], &[])?;
-    assert_eq!(rt; status, Status::ReadFault);
-    number = number.saturating_add(1);
-    let (status, _) = simulate(alloc, &[number], &[])?;
-    assert_eq!(rt; status, Status::Done);
     Ok(())
 }
 
