@@ -8,7 +8,7 @@ use Rattle.clnp_plan.specs.Journal.{Late}
 use Rattle.clnp_plan.specs.declared.config.Limits.{Limits}
 use Rattle.clnp_plan.specs.declared.config.Role.{Role}
 use Rattle.clnp_plan.specs.declared.config.Role.TheVariants.{Host, Router}
-use Rattle.scenario.specs.Scenario.{Plan, Subnetwork, octets_of, moves_of, moves_from, ticks_of}
+use Rattle.scenario.specs.Scenario.{Plan, Subnetwork, IsFit, octets_of, moves_of, moves_from, ticks_of}
 use Rattle.scenario.specs.declared.event.Event.{Event}
 use Rattle.scenario.specs.declared.event.Event.TheVariants.{Send, Echo, Deliver, Settle, Lose, Tick, Restart, Congest, Inject}
 use Rattle.scenario.specs.declared.event.Move.{Move}
@@ -21,7 +21,7 @@ use Rattle.clnp_network.specs.World.{World, Step, Copy, Numbered, after, first_w
 use Rattle.clnp_network.specs.Run.{moves_of_plan, world_after}
 use Rattle.clnp_world.specs.State.{WorldState}
 use Rattle.clnp_world.specs.Stands.{Stands}
-use Rattle.clnp_commands.specs.Time.{tick_of, ticks_in, HasFewTicks, HasTime}
+use Rattle.clnp_commands.specs.Time.{tick_of, ticks_in, HasTime}
 
 of_outputs : (system : SystemState) (w : World) (outputs : List Output) → (put_all_out system w outputs).world.clock ≡ w.clock
 of_outputs system w [] = refl
@@ -147,9 +147,9 @@ ticks_in_events place (event ∷ events) =
     omega (arith, ticks_in-append (moves_of place event) (moves_from (place + 1) events), ticks_in_event place event, sum_by-cons ticks_of event events, rest)
 
 -- few ticks pass in a scenario, so there is time for them all at its start
-pub time_at_first : (plan : Plan) (world : WorldState) → HasFewTicks plan → Stands world (first_world plan) → HasTime world (moves_of_plan plan)
-time_at_first plan world ticks stands =
-    let few : ticks_in (moves_of_plan plan) ≤ 1000000 = omega (arith, ticks_in_events 0 plan.events, sum-map ticks_of plan.events, ticks) in
+pub time_at_first : (plan : Plan) (world : WorldState) → IsFit plan → Stands world (first_world plan) → HasTime world (moves_of_plan plan)
+time_at_first plan world fit stands =
+    let few : ticks_in (moves_of_plan plan) ≤ 1000000 = omega (arith, ticks_in_events 0 plan.events, sum-map ticks_of plan.events, fit.ticks) in
     record {
       model = first_world plan;
       stands = stands;

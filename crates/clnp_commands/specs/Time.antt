@@ -1,6 +1,5 @@
 -- The ticks among moves, and the time that a simulated network has for them.
-use Rattle.std.specs.Prelude.{ℕ, ◌+◌, ◌<◌, ◌≤◌, ◌^◌, List, [], ◌∷◌, map, sum}
-use Rattle.scenario.specs.Scenario.{Plan, ticks_of}
+use Rattle.std.specs.Prelude.{ℕ, ◌+◌, ◌<◌, ◌^◌, List, [], ◌∷◌}
 use Rattle.scenario.specs.declared.event.Move.{Move}
 use Rattle.scenario.specs.declared.event.Move.TheVariants.{One, SettleOne, LoseOne, TickOne}
 use Rattle.clnp_network.specs.World as network
@@ -23,7 +22,3 @@ pub record HasTime (code : WorldState) (moves : List Move) : Type 0 where
   pub model : network.World
   pub stands : Stands code model
   pub early : model.clock + ticks_in moves + 1 < 2 ^ 62
-
--- few ticks pass in a scenario
-abbrev pub HasFewTicks : Plan → Type 0
-HasFewTicks plan = sum (map ticks_of plan.events) ≤ 1000000

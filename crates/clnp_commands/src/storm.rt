@@ -9,7 +9,7 @@ ghost use Rattle.clnp_network.specs.World as network;
 ghost use Rattle.clnp_network.specs.Run.{moves_of_plan, world_end};
 ghost use Rattle.clnp_world.specs.Stands.{Stands};
 ghost use Rattle.clnp_commands.specs.Play.{ComesTo};
-ghost use Rattle.clnp_commands.specs.Time.{HasFewTicks, HasTime};
+ghost use Rattle.clnp_commands.specs.Time.{HasTime};
 ghost use Rattle.clnp_commands.specs.Storm.{counts_in, counts_of, line_with, third_of};
 ghost use Rattle.clnp_commands.specs.Counting.{CountOf, SumOf, both, no_lines};
 
@@ -125,10 +125,10 @@ fn sum_up(
     scenario: &Scenario,
     line: &mut Vec<u8>,
 ) -> Result<(), WorldRefusal>
-    requires few { HasFewTicks scenario.now }
-    requires empty { line.old.items ≡ [] }
+    requires { line.old.items ≡ [] }
     ensures { SumOf seed scenario.now line.new.items result }
 {
+    scenario.is_fit();
     let Ok(mut world) = World::new(alloc, scenario) else {
         return Err(WorldRefusal::NoMemory);
     };

@@ -6,7 +6,7 @@ use Rattle.clnp_commands.proofs.Playing.{journal_stopped, journal_ended, set_out
 use Rattle.clnp_commands.proofs.sim.play.Goals as goal
 
 pub play_events-requires : goal.play_events-requires
-play_events-requires g c = time_at_first c.args.scenario.now c.in-Ok.world c.requires.ticks c.in-Ok.ensures
+play_events-requires g c = time_at_first c.args.scenario.now c.in-Ok.world c.requires c.in-Ok.ensures
 
 pub returns-in_err-play_events-in-Ok-clause-comes_to :
     goal.returns-in_err-play_events-in-Ok-clause-comes_to
