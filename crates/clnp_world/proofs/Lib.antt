@@ -5,5 +5,6 @@ pub mod PutSteps
 pub mod TakeSteps
 pub mod GiveSteps
 pub mod SendSteps
+pub mod InjectSteps
 pub mod TickSteps
 pub mod WorldSteps

@@ -94,10 +94,10 @@ wire_short packet h =
 esis_short : (value : EsisValue) → IsPdu value → length (spelling value) ≤ 70000
 esis_short value h = omega (arith, ap length (laid_out value).layout, h.header_fits)
 
-abbrev Carried : network.Copy → Type 0
+abbrev pub Carried : network.Copy → Type 0
 Carried copy = IsCarried copy.content
 
-abbrev Short : FrameCopy → Type 0
+abbrev pub Short : FrameCopy → Type 0
 Short copy = length copy.frame ≤ 70000
 
 copy_carried : (port : Option PortConfig) (target : Target) (maker : Maker) (birth : ℕ) (content : Content) → IsCarried content
@@ -118,6 +118,28 @@ copy_short : (port : Option PortConfig) (target : Target) (birth : ℕ) (frame :
 copy_short None target birth frame short = tt
 copy_short (Some port) target birth frame short = (short, tt)
 
+-- some copies are put behind the others
+pub shows_more : (old code : Network) (made : List network.Copy) (frames : List FrameCopy) → frames ≡ map frame_copy made
+    → AllByRecursion Carried made → AllByRecursion Born made → AllByRecursion Short frames
+    → PutsCopies old code frames → code ≡ record old { copies = code.copies; weight = code.weight }
+    → (model : network.World) → Shows old model → Shows code (record model { copies = model.copies ++ made })
+shows_more old code made frames seen good born short put others model h = record {
+  clock = ap (λ (w : Network). w.clock) others ∙ h.clock;
+  systems = subst (λ (nodes : List System). StandEach nodes model.systems) (ap (λ (w : Network). w.systems.items) (sym others)) h.systems;
+  copies = put.copies ∙ ap (λ (cs : List FrameCopy). cs ++ frames) h.copies
+      ∙ ap (λ (cs : List FrameCopy). map frame_copy model.copies ++ cs) seen
+      ∙ sym (map-append frame_copy model.copies made);
+  cursor = ap (λ (w : Network). w.cursor) others ∙ h.cursor;
+  carried = AllByRecursion-append Carried model.copies made h.carried good;
+  born = AllByRecursion-append Born model.copies made h.born born;
+  short = subst (λ (cs : List FrameCopy). AllByRecursion Short cs) (sym put.copies)
+      (AllByRecursion-append Short old.copies.items frames h.short short);
+  weight = put.weight ∙ ap (λ (n : ℕ). n + frames_weight frames) h.weight
+      ∙ ap (λ (cs : List FrameCopy). network.weight model + frames_weight cs) seen
+      ∙ ap (λ (n : ℕ). network.weight model + n) (frames_weight_is made)
+      ∙ sym (weight_append model made);
+}
+
 -- a frame that stands for what it carries
 puts_frame : (old code : Network) (before after : List ℕ) (port : ℕ) (target : Target) (maker : Maker) (birth : ℕ) (content : Content) (system : SystemState)
     → (model : network.World) → Shows old model → IsCarried content → IsBornWithUnit birth content → length (frame_of content) ≤ 70000
@@ -127,26 +149,10 @@ puts_frame : (old code : Network) (before after : List ℕ) (port : ℕ) (target
     → Puts code before after (network.sends_frame system model port target maker birth content)
 puts_frame old code before after port target maker birth content system model h good born few line put others =
     let at = slice_get system.configuration.ports port in
-    let made = network.copy_from at target maker birth content in
-    let seen : frame_copies at target birth (frame_of content) ≡ map frame_copy made = copy_seen at target maker birth content in
     record {
-      shows = record {
-        clock = ap (λ (w : Network). w.clock) others ∙ h.clock;
-        systems = subst (λ (nodes : List System). StandEach nodes model.systems) (ap (λ (w : Network). w.systems.items) (sym others)) h.systems;
-        copies = put.copies ∙ ap (λ (cs : List FrameCopy). cs ++ frame_copies at target birth (frame_of content)) h.copies
-            ∙ ap (λ (cs : List FrameCopy). map frame_copy model.copies ++ cs) seen
-            ∙ sym (map-append frame_copy model.copies made);
-        cursor = ap (λ (w : Network). w.cursor) others ∙ h.cursor;
-        carried = AllByRecursion-append Carried model.copies made h.carried (copy_carried at target maker birth content good);
-        born = AllByRecursion-append Born model.copies made h.born (copy_born at target maker birth content born);
-        short = subst (λ (cs : List FrameCopy). AllByRecursion Short cs) (sym put.copies)
-            (AllByRecursion-append Short old.copies.items (frame_copies at target birth (frame_of content)) h.short
-            (copy_short at target birth (frame_of content) few));
-        weight = put.weight ∙ ap (λ (n : ℕ). n + frames_weight (frame_copies at target birth (frame_of content))) h.weight
-            ∙ ap (λ (cs : List FrameCopy). network.weight model + frames_weight cs) seen
-            ∙ ap (λ (n : ℕ). network.weight model + n) (frames_weight_is made)
-            ∙ sym (weight_append model made);
-      };
+      shows = shows_more old code (network.copy_from at target maker birth content) (frame_copies at target birth (frame_of content))
+          (copy_seen at target maker birth content) (copy_carried at target maker birth content good)
+          (copy_born at target maker birth content born) (copy_short at target birth (frame_of content) few) put others model h;
       lines = line ∙ ap (λ (l : List ℕ). before ++ l)
           (sym (append-nil (line_text (Transmitted model.clock system.configuration.name (length model.copies + 1) port target (frame_of content)))));
     }
@@ -298,15 +304,13 @@ copies_past old ports own i port target birth frame e n past =
 
 pub copies_read : (old code : Network) (ports own : List PortConfig) (i port : ℕ) (at : PortConfig) (target : Target) (birth : ℕ) (frame : List ℕ)
     → ports ≡ own → i ≡ port → i < length ports → at ≡ get_or ports i at
-    → code.copies.items ≡ old.copies.items ++ record { subnet = at.subnet; sender = at.snpa; target = target; birth = birth; frame = frame } ∷ []
-    → code.weight ≡ old.weight + (length frame + 64)
+    → PutsCopies old code (record { subnet = at.subnet; sender = at.snpa; target = target; birth = birth; frame = frame } ∷ [])
     → PutsCopies old code (frame_copies (slice_get own port) target birth frame)
-copies_read old code ports own i port at target birth frame e n within read copies weight =
+copies_read old code ports own i port at target birth frame e n within read put =
     let one : slice_get own port ≡ Some at
     = subst (λ (ps : List PortConfig). slice_get ps port ≡ Some at) e
     (subst (λ (k : ℕ). slice_get ports k ≡ Some at) n (slice_get_read ports i at within read)) in
-    subst (λ (p : Option PortConfig). PutsCopies old code (frame_copies p target birth frame)) (sym one)
-    record { copies = copies; weight = weight ∙ omega arith }
+    subst (λ (p : Option PortConfig). PutsCopies old code (frame_copies p target birth frame)) (sym one) put
 
 -- A line of the code's words is the one of the model's.
 

@@ -5,7 +5,10 @@ ghost use Rattle.clnp_network.specs.World as network;
 ghost use Rattle.clnp_world.specs.Parts.{Follows, Holds};
 
 use super::Network;
+use crate::copy::FrameCopy;
 use clnp_base::{NoMemory, Octets};
+use clnp_plan::injection_text;
+use clnp_views::Frame;
 use nsap::{Snpa, Target};
 use scenario::Subnet;
 use std::alloc::Global;
@@ -14,19 +17,33 @@ impl Network {
     /// Puts a frame from outside on the subnetwork that was declared at a place, from an address there to a target.
     pub(super) fn inject(
         &mut self,
-        _alloc: Global,
-        _subnets: &[Subnet],
-        _subnet: u8,
-        _from: Snpa,
-        _to: Target,
-        _octets: &Octets,
-        _lines: &mut Vec<u8>,
+        alloc: Global,
+        subnets: &[Subnet],
+        subnet: u8,
+        from: Snpa,
+        to: Target,
+        octets: &Octets,
+        lines: &mut Vec<u8>,
     ) -> Result<(), NoMemory>
         requires bytes { IsBytes octets.now }
         requires few { length octets.now ≤ 70000 }
         ensures { OnOk result ((model : network.World) → Holds self.old model
             → Follows self.new lines.old.items lines.new.items (network.injects subnets.now model subnet from to octets.now)) }
     {
-        Err(NoMemory)
+        let place = usize::from(subnet);
+        if place >= subnets.len() {
+            return Ok(());
+        }
+        let name = subnets[place].name();
+        let number = self.copies.len() as u64 + 1;
+        injection_text(alloc, self.clock, number, name, &from, &to, lines)?;
+        let frame = Frame::copy(alloc, octets.as_bytes())?;
+        self.push_copy(FrameCopy {
+            subnet,
+            sender: from,
+            target: to,
+            birth: self.clock,
+            frame,
+        })
     }
 }

@@ -1,5 +1,5 @@
 //! What systems give out: frames become copies on a subnetwork, and notes lines.
-ghost use Rattle.std.specs.Prelude.{◌≡◌, ◌+◌, ◌<◌, ◌≤◌, ◌++◌, if◌then◌else◌, List, IfOk, IfSome, OnOk, Some, length, slice_get, vec_len};
+ghost use Rattle.std.specs.Prelude.{◌≡◌, ◌+◌, ◌<◌, ◌≤◌, ◌++◌, if◌then◌else◌, List, [], ◌∷◌, IfOk, IfSome, OnOk, Some, length, slice_get, vec_len};
 ghost use Rattle.clnp_machine.specs.Content.{Content};
 ghost use Rattle.clnp_machine.specs.Given.{GiveAllFor, GivesFor, body_of, frame_in};
 ghost use Rattle.clnp_machine.specs.System as machine;
@@ -155,15 +155,23 @@ impl Network {
             return Ok(());
         }
         let at = ports[number];
-        let Some(weight) = weight_with(self.weight, &frame) else {
-            return Err(NoMemory);
-        };
-        let copy = FrameCopy {
+        self.push_copy(FrameCopy {
             subnet: at.subnet,
             sender: at.snpa,
             target,
             birth,
             frame,
+        })
+    }
+
+    /// Puts a copy behind the others, and weighs it.
+    pub(super) fn push_copy(&mut self, copy: FrameCopy) -> Result<(), NoMemory>
+        ensures puts { OnOk result (PutsCopies self.old self.new (copy ∷ [])) }
+        ensures others { self.new ≡ record self.old { copies = self.new.copies; weight = self.new.weight } }
+        ensures more { vec_len self.old.copies ≤ vec_len self.new.copies }
+    {
+        let Some(weight) = weight_with(self.weight, &copy.frame) else {
+            return Err(NoMemory);
         };
         self.copies.push(copy)?;
         self.weight = weight;

@@ -1,5 +1,6 @@
 -- The port is read, or there is none at its number.
 use Rattle.std.proofs.Common.{◌∙◌, ap, arith}
+use Rattle.std.proofs.lemmas.Result.{on_ok_weaker}
 use Rattle.clnp_plan.specs.Configuration.{SystemConfiguration}
 use Rattle.clnp_world.proofs.PutSteps.{copies_past, copies_read}
 use Rattle.clnp_world.proofs.network.Network.put_copy.Goals as goal
@@ -10,8 +11,10 @@ returns-then-number-ports-clause-puts c = λ model system h there.
     (c.ports-ports.ensures ∙ ap (λ (s : SystemConfiguration). s.ports) (c.config_at.ensures model system h there)) (omega arith) (omega arith)
 
 pub returns-clause-puts : goal.returns-clause-puts
-returns-clause-puts c = λ model system h there.
-    copies_read c.args.self.now (record c.args.self.now { copies = c.push.new.self; weight = c.in-Some.weight }) c.ports-ports.result.now
-    system.configuration.ports c.from-number.result c.args.port c.index-ports-number.result c.args.target c.args.birth c.args.frame
+returns-clause-puts c =
+    on_ok_weaker c.push_copy.result (λ put model system h there.
+    copies_read c.args.self.now c.push_copy.new.self c.ports-ports.result.now system.configuration.ports c.from-number.result c.args.port
+    c.index-ports-number.result c.args.target c.args.birth c.args.frame
     (c.ports-ports.ensures ∙ ap (λ (s : SystemConfiguration). s.ports) (c.config_at.ensures model system h there)) (omega arith) (omega arith)
-    c.index-ports-number.is c.in_ok-push.ensures.items c.in-Some.ensures
+    c.index-ports-number.is put)
+    c.push_copy.ensures.puts

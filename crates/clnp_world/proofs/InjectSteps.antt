@@ -1,0 +1,62 @@
+-- What a network of the code stands for after a frame came from outside.
+use Rattle.std.proofs.Common.{◌≡◌, ◌≤◌, ◌+◌, ◌∙◌, ℕ, cond, Bool, true, false, List, [], ◌∷◌, ◌++◌, length, Option, Some, refl, sym, ap, subst, append-nil}
+use Rattle.std.specs.Prelude.{is_none, slice_get}
+use Rattle.hex.specs.Hex.{IsBytes}
+use Rattle.nsap.specs.declared.target.Target.{Target}
+use Rattle.esis_pdus.specs.Reading as esis_reading
+use Rattle.esis_pdus.specs.Rules.{why_refused}
+use Rattle.pdu_header.specs.Reading.{rest_of}
+use Rattle.clnp_plan.specs.Journal.{Injected, line_text}
+use Rattle.clnp_machine.specs.Content.{Esis, Labelled, Unlabelled, content_of, esis_value_in, is_accepted, packet_from_outside, value_in}
+use Rattle.clnp_machine.proofs.Outside.{content_carried, content_frame}
+use Rattle.clnp_network.specs.World as network
+use Rattle.scenario.specs.Scenario.{Subnetwork}
+use Rattle.clnp_world.specs.Seen.{frame_copy}
+use Rattle.clnp_world.specs.Stands.{IsBornWithUnit}
+use Rattle.clnp_world.specs.Parts.{Follows, Holds, PutsCopies}
+use Rattle.clnp_world.specs.declared.network.Network.{Network}
+use Rattle.clnp_world.specs.declared.copy.FrameCopy.{FrameCopy}
+use Rattle.clnp_world.proofs.PutSteps.{counted, shows_more}
+
+-- a unit from outside is made at the moment at which its frame comes
+born_outside : (number moment : ℕ) (octets : List ℕ) → IsBornWithUnit moment (content_of number moment octets)
+born_outside number moment octets = by_kind (is_accepted octets) (is_none (why_refused octets))
+  where
+    by_kind : (clnp esis : Bool) → IsBornWithUnit moment
+        (cond clnp (Labelled (packet_from_outside number moment (value_in octets)) (rest_of octets))
+        (cond esis (Esis (esis_value_in octets) (esis_reading.rest_of octets)) (Unlabelled octets)))
+    by_kind true esis = refl
+    by_kind false true = tt
+    by_kind false false = tt
+
+-- the copy of a frame from outside, as the code has it
+abbrev pub outside_copy : (subnet : ℕ) (sender : List ℕ) → Target → (birth : ℕ) (octets : List ℕ) → FrameCopy
+outside_copy subnet sender target birth octets =
+    record { subnet = subnet; sender = sender; target = target; birth = birth; frame = octets }
+
+-- the frame is the next copy on a subnetwork that was declared
+pub injects_there : (old code : Network) (before after : List ℕ) (subnets : List Subnetwork) (subnet number : ℕ) (declared : Subnetwork)
+    → (sender : List ℕ) (target : Target) (octets : List ℕ) → slice_get subnets subnet ≡ Some declared → IsBytes octets → length octets ≤ 70000
+    → number ≡ length old.copies.items
+    → after ≡ before ++ line_text (Injected old.clock (number + 1) declared.name sender target)
+    → PutsCopies old code (outside_copy subnet sender target old.clock octets ∷ [])
+    → code ≡ record old { copies = code.copies; weight = code.weight }
+    → (model : network.World) → Holds old model → Follows code before after (network.injects subnets model subnet sender target octets)
+injects_there old code before after subnets subnet number declared sender target octets there bytes few n line put others model h =
+    let next = length model.copies + 1 in
+    let made = network.copy_from_outside next model.clock subnet sender target octets in
+    let seen : outside_copy subnet sender target old.clock octets ≡ frame_copy made
+    = ap (λ (t : ℕ). outside_copy subnet sender target t octets) h.shows.clock
+    ∙ ap (λ (o : List ℕ). outside_copy subnet sender target model.clock o) (sym (content_frame next model.clock octets bytes)) in
+    let number_is : number + 1 ≡ next = ap (λ (k : ℕ). k + 1) (n ∙ counted old model h.shows) in
+    subst (λ (d : Option Subnetwork). Follows code before after (network.injects_on model subnet d sender target octets)) (sym there)
+    record {
+      holds = record {
+        shows = shows_more old code (made ∷ []) (outside_copy subnet sender target old.clock octets ∷ []) (ap (λ (c : FrameCopy). c ∷ []) seen)
+            (content_carried next model.clock octets bytes, tt) (born_outside next model.clock octets, tt) (few, tt) put others model h.shows;
+        current = h.current;
+      };
+      lines = line ∙ ap (λ (t : ℕ). before ++ line_text (Injected t (number + 1) declared.name sender target)) h.shows.clock
+          ∙ ap (λ (k : ℕ). before ++ line_text (Injected model.clock k declared.name sender target)) number_is
+          ∙ ap (λ (l : List ℕ). before ++ l) (sym (append-nil (line_text (Injected model.clock next declared.name sender target))));
+    }
