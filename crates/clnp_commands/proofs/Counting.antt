@@ -1,9 +1,10 @@
 -- Lines of texts that stand one behind the other, and their counts.
-use Rattle.std.proofs.Common.{◌≡◌, ℕ, ◌+◌, ◌==◌, ◌&&◌, Bool, true, false, if◌then◌else◌, List, [], ◌∷◌, ◌++◌, codes, length, refl, sym, ap, ◌∙◌, append_assoc, append-nil, length-append, arith}
+use Rattle.std.proofs.Common.{◌≡◌, ℕ, ◌+◌, ◌==◌, ◌&&◌, Bool, true, false, if◌then◌else◌, List, [], ◌∷◌, ◌++◌, codes, length, refl, subst, sym, ap, ◌∙◌, append_assoc, append-nil, length-append, arith}
 use Rattle.std.specs.List.{filter, flat_map}
 use Rattle.std.proofs.lemmas.List.Elements.{filter-append}
 use Rattle.std.proofs.lemmas.List.Concat.{flat_map-cons}
 use Rattle.clnp_base.specs.Text.{lines_of, onto_first, begins_with}
+use Rattle.nsap.specs.Text.{hex_text}
 use Rattle.clnp_plan.specs.Journal.{Line, Noted, Transmitted, Void, Late, Injected, line_of, line_text, behind_space, note_words, target_word, octets_word}
 use Rattle.std.specs.Fmt.{decimal}
 use Rattle.scenario.specs.Scenario.{Plan}
@@ -76,7 +77,8 @@ line_text-ends (Transmitted now name copy port target frame) =
     line_of-ends (decimal now) (name ∷ codes "tx" ∷ decimal copy ∷ decimal port ∷ target_word target ∷ octets_word frame ∷ [])
 line_text-ends (Void now name copy) = line_of-ends (decimal now) (name ∷ codes "void" ∷ decimal copy ∷ [])
 line_text-ends (Late now name copy) = line_of-ends (decimal now) (name ∷ codes "late" ∷ decimal copy ∷ [])
-line_text-ends (Injected now copy subnet sender target) = line_of-ends (decimal now) _
+line_text-ends (Injected now copy subnet sender target) =
+    line_of-ends (decimal now) (codes "-" ∷ codes "inject" ∷ decimal copy ∷ subnet ∷ hex_text sender ∷ target_word target ∷ [])
 
 lines_text-ends : (lines : List Line) → EndsLines (lines_text lines)
 lines_text-ends [] = ends-none
@@ -108,14 +110,30 @@ counts_in-append made more =
 pub counts_of-append : (made more : List ℕ) → EndsLines made → counts_of (made ++ more) ≡ both (counts_of made) (counts_of more)
 counts_of-append made more h = ap counts_in (h more) ∙ counts_in-append (lines_of made) (lines_of more)
 
-counts-same : (a b : Counts) → a.got ≡ b.got → a.reports ≡ b.reports → a.echoed ≡ b.echoed → a.drops ≡ b.drops → a.expired ≡ b.expired → a ≡ b
-counts-same a b p q r s t = cc
+-- the same counts
+counts-same : (g r e d x k s f o y : ℕ) → g ≡ k → r ≡ s → e ≡ f → d ≡ o → x ≡ y → Path Counts
+    (record { got = g; reports = r; echoed = e; drops = d; expired = x }) (record { got = k; reports = s; echoed = f; drops = o; expired = y })
+counts-same g r e d x k s f o y p q t u v = rw (p, q, t, u, v) refl
 
 pub both-none : (a : Counts) → both a no_lines ≡ a
-both-none a = counts-same (both a no_lines) a (omega arith) (omega arith) (omega arith) (omega arith) (omega arith)
+both-none a =
+    counts-same (a.got + 0) (a.reports + 0) (a.echoed + 0) (a.drops + 0) (a.expired + 0) a.got a.reports a.echoed a.drops a.expired
+    (omega arith) (omega arith) (omega arith) (omega arith) (omega arith)
 
 pub none-both : (a : Counts) → both no_lines a ≡ a
-none-both a = counts-same (both no_lines a) a (omega arith) (omega arith) (omega arith) (omega arith) (omega arith)
+none-both a =
+    counts-same (0 + a.got) (0 + a.reports) (0 + a.echoed) (0 + a.drops) (0 + a.expired) a.got a.reports a.echoed a.drops a.expired
+    (omega arith) (omega arith) (omega arith) (omega arith) (omega arith)
 
 pub both-assoc : (a b c : Counts) → both (both a b) c ≡ both a (both b c)
-both-assoc a b c = counts-same (both (both a b) c) (both a (both b c)) (omega arith) (omega arith) (omega arith) (omega arith) (omega arith)
+both-assoc a b c =
+    counts-same (a.got + b.got + c.got) (a.reports + b.reports + c.reports) (a.echoed + b.echoed + c.echoed) (a.drops + b.drops + c.drops) (a.expired + b.expired + c.expired)
+    (a.got + (b.got + c.got)) (a.reports + (b.reports + c.reports)) (a.echoed + (b.echoed + c.echoed)) (a.drops + (b.drops + c.drops)) (a.expired + (b.expired + c.expired))
+    (omega arith) (omega arith) (omega arith) (omega arith) (omega arith)
+
+-- a line and those behind it, before others
+pub next_line-counts : (line old others : List ℕ) (counts : Counts) → lines_of old ≡ line ∷ lines_of others
+    → both (both counts (counts_in (line ∷ []))) (counts_of others) ≡ both counts (counts_of old)
+next_line-counts line old others counts cut =
+    both-assoc counts (counts_in (line ∷ [])) (counts_of others)
+    ∙ ap (λ (t : Counts). both counts t) (sym (ap counts_in cut ∙ counts_in-append (line ∷ []) (lines_of others)))

@@ -6,9 +6,9 @@ use Rattle.std.specs.Str.{bytes_eq}
 use Rattle.clnp_base.specs.Text.{lines_of, words_of}
 use Rattle.scenario.specs.Scenario.{Plan}
 use Rattle.scenario.specs.Seeds.{storm}
-use Rattle.clnp_network.specs.World.{World}
 use Rattle.clnp_network.specs.Run.{journal, last_world, stopped_at}
 use Rattle.clnp_commands.specs.declared.storm.Counts.{Counts}
+use Rattle.clnp_commands.specs.declared.storm.Summary.{Summary}
 
 -- the third of some words; no octets where there are fewer
 abbrev pub third_of : List (List ℕ) → List ℕ
@@ -38,24 +38,36 @@ counts_in lines = record {
 abbrev pub counts_of : (text : List ℕ) → Counts
 counts_of text = counts_in (lines_of text)
 
--- the line of a run of the scenario of a seed: how many events it has, what its journal counts, and how many copies
--- were made till which moment
-abbrev pub line_with : (seed events : ℕ) → Counts → World → List ℕ
-line_with seed events counts last =
-    codes "storm " ++ (decimal seed
-    ++ (codes " events " ++ (decimal events
-    ++ (codes " copies " ++ (decimal (length last.copies)
-    ++ (codes " got " ++ (decimal counts.got
+abbrev pub counts_text : Counts → List ℕ
+counts_text counts =
+    codes " got " ++ (decimal counts.got
     ++ (codes " reports " ++ (decimal counts.reports
     ++ (codes " echoed " ++ (decimal counts.echoed
     ++ (codes " drops " ++ (decimal counts.drops
-    ++ (codes " expired " ++ (decimal counts.expired
-    ++ (codes " end " ++ (decimal last.clock
-    ++ (10 ∷ []))))))))))))))))))))
+    ++ (codes " expired " ++ decimal counts.expired))))))))
 
--- the line of a run of a plan that a seed makes
+-- the line of what a run comes to
+abbrev pub summary_text : Summary → List ℕ
+summary_text summary =
+    codes "storm " ++ (decimal summary.seed
+    ++ (codes " events " ++ (decimal summary.events
+    ++ (codes " copies " ++ (decimal summary.copies
+    ++ (counts_text summary.counts
+    ++ (codes " end " ++ (decimal summary.clock ++ (10 ∷ [])))))))))
+
+-- what the run of a plan comes to that a seed makes: how many events there are, how many copies were made, what the
+-- journal counts, and the last moment
+abbrev pub summary_of : (seed : ℕ) → Plan → Summary
+summary_of seed plan = record {
+  seed = seed;
+  events = length plan.events;
+  copies = length (last_world plan).copies;
+  counts = counts_of (journal plan);
+  clock = (last_world plan).clock;
+}
+
 abbrev pub line_of_run : (seed : ℕ) → Plan → List ℕ
-line_of_run seed plan = line_with seed (length plan.events) (counts_of (journal plan)) (last_world plan)
+line_of_run seed plan = summary_text (summary_of seed plan)
 
 -- the line of the run of the scenario of a seed
 unfoldable pub storm_line : (seed : ℕ) → List ℕ

@@ -1,16 +1,15 @@
 //! The command `storm`: what a run of the scenario of a seed counts.
-ghost use Rattle.std.specs.Prelude.{◌≡◌, ◌≤◌, ◌++◌, ◌+◌, [], ◌∷◌, Err, IfOk, IfSome, OnOk, if◌then◌else◌, length, replicate, Bool};
-ghost use Rattle.std.specs.Str.{bytes_eq};
+ghost use Rattle.std.specs.Prelude.{◌≡◌, ◌≤◌, ◌++◌, ◌+◌, [], ◌∷◌, IfSome, OnOk, if◌then◌else◌, replicate};
 ghost use Rattle.clnp_base.specs.Streams.{Rose};
 ghost use Rattle.clnp_base.specs.Text.{words_of};
 ghost use Rattle.scenario.specs.Scenario.{moves_of};
-ghost use Rattle.scenario.specs.Seeds as seeds;
 ghost use Rattle.clnp_network.specs.World as network;
 ghost use Rattle.clnp_network.specs.Run.{moves_of_plan, world_end};
 ghost use Rattle.clnp_world.specs.Stands.{Stands};
+ghost use Rattle.clnp_commands.specs.ByLine.{EndOf};
 ghost use Rattle.clnp_commands.specs.Play.{ComesTo};
 ghost use Rattle.clnp_commands.specs.Time.{HasTime};
-ghost use Rattle.clnp_commands.specs.Storm.{counts_in, counts_of, line_with, third_of};
+ghost use Rattle.clnp_commands.specs.Storm.{counts_in, counts_of, counts_text, summary_text, third_of};
 ghost use Rattle.clnp_commands.specs.Counting.{CountOf, SumOf, both, no_lines};
 
 use crate::command::Command;
@@ -60,6 +59,31 @@ impl Counts {
         Some(counts)
     }
 
+    /// These, and those of the journal's last line.
+    ///
+    /// `None` where memory is refused too.
+    fn with_end(self, alloc: Global, world: &World) -> Option<Counts>
+        ensures { (last : network.World) → Stands world.now last
+            → IfSome result (λ counts. counts ≡ both self (counts_of (world_end last))) }
+    {
+        let mut line = Vec::new(alloc);
+        match world.finish(alloc, &mut line) {
+            Ok(()) => self.with_text(line.as_slice()),
+            Err(NoMemory) => None,
+        }
+    }
+
+    /// Appends what is counted.
+    fn push(self, out: &mut Vec<u8>) -> Result<(), NoMemory>
+        ensures { OnOk result (out.new.items ≡ out.old.items ++ counts_text self) }
+    {
+        push_number(b" got ", self.got, out)?;
+        push_number(b" reports ", self.reports, out)?;
+        push_number(b" echoed ", self.echoed, out)?;
+        push_number(b" drops ", self.drops, out)?;
+        push_number(b" expired ", self.expired, out)
+    }
+
     /// These, and that of a line.
     fn with_line(self, line: &[u8]) -> Option<Counts>
         ensures { IfSome result (λ counts. counts ≡ both self (counts_in (line.now ∷ []))) }
@@ -98,6 +122,30 @@ fn third_word(line: &[u8]) -> &[u8]
     }
 }
 
+/// What a run of the scenario of a seed comes to.
+#[derive(Clone, Copy, Debug, PartialEq, Eq)]
+pub struct Summary {
+    pub seed: u64,
+    pub events: u64,
+    pub copies: u64,
+    pub counts: Counts,
+    pub clock: u64,
+}
+
+impl Summary {
+    /// Appends the line of it.
+    fn push(self, out: &mut Vec<u8>) -> Result<(), NoMemory>
+        ensures { OnOk result (out.new.items ≡ out.old.items ++ summary_text self) }
+    {
+        push_number(b"storm ", self.seed, out)?;
+        push_number(b" events ", self.events, out)?;
+        push_number(b" copies ", self.copies, out)?;
+        self.counts.push(out)?;
+        push_number(b" end ", self.clock, out)?;
+        push(b"\n", out)
+    }
+}
+
 /// Runs the scenario of a seed, and writes a line of what it comes to.
 pub fn storm<K: Sink>(alloc: Global, seed: u64, sink: &mut K) -> Status
     ensures later { K.faults sink.old ≤ K.faults sink.new }
@@ -107,75 +155,65 @@ pub fn storm<K: Sink>(alloc: Global, seed: u64, sink: &mut K) -> Status
     let Ok(scenario) = from_seed(alloc, seed) else {
         return Status::NoMemory;
     };
-    let mut line = Vec::new(alloc);
-    match sum_up(alloc, seed, &scenario, &mut line) {
-        Ok(()) => match write_all(sink, line.as_slice()) {
-            Ok(()) => Status::Done,
-            Err(_) => Status::WriteFault,
-        },
+    match sum_up(alloc, seed, &scenario) {
+        Ok(summary) => write_line(alloc, summary, sink),
         Err(WorldRefusal::WorldFull { octets }) => Status::WorldFull { octets },
         Err(WorldRefusal::NoMemory) => Status::NoMemory,
     }
 }
 
-/// Runs the scenario of a seed, and makes the line of what it comes to.
-fn sum_up(
-    alloc: Global,
-    seed: u64,
-    scenario: &Scenario,
-    line: &mut Vec<u8>,
-) -> Result<(), WorldRefusal>
-    requires { line.old.items ≡ [] }
-    ensures { SumOf seed scenario.now line.new.items result }
+/// Writes the line of a run.
+fn write_line<K: Sink>(alloc: Global, summary: Summary, sink: &mut K) -> Status
+    ensures later { K.faults sink.old ≤ K.faults sink.new }
+    ensures written { EndOf (summary_text summary) (K.written sink.old) (K.written sink.new) result }
+    ensures failed { result ≡ Status.WriteFault → Rose (K.faults sink.old) (K.faults sink.new) }
+{
+    let mut line = Vec::new(alloc);
+    if summary.push(&mut line).is_err() {
+        return Status::NoMemory;
+    }
+    match write_all(sink, line.as_slice()) {
+        Ok(()) => Status::Done,
+        Err(_) => Status::WriteFault,
+    }
+}
+
+/// Runs the scenario of a seed, and sums up what it comes to.
+fn sum_up(alloc: Global, seed: u64, scenario: &Scenario) -> Result<Summary, WorldRefusal>
+    ensures { SumOf seed scenario.now result }
 {
     scenario.is_fit();
     let Ok(mut world) = World::new(alloc, scenario) else {
         return Err(WorldRefusal::NoMemory);
     };
-    let mut block = Vec::new(alloc);
     let mut counts = Counts::none();
-    count_events(alloc, scenario, &mut world, &mut block, &mut counts)?;
-    match push_end(alloc, seed, scenario, &world, counts, line) {
-        Ok(()) => Ok(()),
-        Err(NoMemory) => Err(WorldRefusal::NoMemory),
+    count_events(alloc, scenario, &mut world, &mut counts)?;
+    match counts.with_end(alloc, &world) {
+        Some(counts) => Ok(Summary {
+            seed,
+            events: scenario.events().len() as u64,
+            copies: world.copies(),
+            counts,
+            clock: world.clock(),
+        }),
+        None => Err(WorldRefusal::NoMemory),
     }
 }
 
-/// Counts the journal's last line too, and appends the line of the run.
-fn push_end(
-    alloc: Global,
-    seed: u64,
-    scenario: &Scenario,
-    world: &World,
-    counts: Counts,
-    line: &mut Vec<u8>,
-) -> Result<(), NoMemory>
-    ensures { (last : network.World) → Stands world.now last
-        → OnOk result (line.new.items ≡ line.old.items ++ line_with seed (length scenario.now.events) (both counts (counts_of (world_end last))) last) }
-{
-    let mut end = Vec::new(alloc);
-    world.finish(alloc, &mut end)?;
-    let Some(counts) = counts.with_text(end.as_slice()) else {
-        return Err(NoMemory);
-    };
-    push_line(seed, scenario, world, counts, line)
-}
-
-
-/// Makes the moves of all events and counts their lines, each move's in a cleared block.
+/// Makes the moves of all events and counts their lines; nothing is kept but one move's lines.
 fn count_events(
     alloc: Global,
     scenario: &Scenario,
     world: &mut World,
-    block: &mut Vec<u8>,
     counts: &mut Counts,
 ) -> Result<(), WorldRefusal>
     requires { HasTime world.old (moves_of_plan scenario.now) }
     ensures { (model : network.World) → Stands world.old model
         → CountOf scenario.now model (moves_of_plan scenario.now) world.new counts.old counts.new result }
 {
+    let mut block = Vec::new(alloc);
     for (place, event) in scenario.events().iter().enumerate() {
-        count_event(alloc, scenario, place, event, world, block, counts)?;
+        count_event(alloc, scenario, place, event, world, &mut block, counts)?;
     }
     Ok(())
 }
@@ -250,27 +288,4 @@ fn count_move(
         }
         None => Err(WorldRefusal::NoMemory),
     }
-}
-
-/// Appends the line of a run.
-fn push_line(
-    seed: u64,
-    scenario: &Scenario,
-    world: &World,
-    counts: Counts,
-    line: &mut Vec<u8>,
-) -> Result<(), NoMemory>
-    ensures { (last : network.World) → Stands world.now last
-        → OnOk result (line.new.items ≡ line.old.items ++ line_with seed (length scenario.now.events) counts last) }
-{
-    push_number(b"storm ", seed, line)?;
-    push_number(b" events ", scenario.events().len() as u64, line)?;
-    push_number(b" copies ", world.copies(), line)?;
-    push_number(b" got ", counts.got, line)?;
-    push_number(b" reports ", counts.reports, line)?;
-    push_number(b" echoed ", counts.echoed, line)?;
-    push_number(b" drops ", counts.drops, line)?;
-    push_number(b" expired ", counts.expired, line)?;
-    push_number(b" end ", world.clock(), line)?;
-    push(b"\n", line)
 }

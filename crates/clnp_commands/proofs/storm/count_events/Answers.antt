@@ -25,7 +25,7 @@ returns-in_err-count_event c = λ model stands.
     let is : c.event-item.result ≡ get_or events c.loop-place.place c.event-item.result = rw c.events-event-items.ensures at c.event-item.is in
     let p = err_from_is_err_and c.from_residual.result c.from_residual.ensures.1 in
     let counted = c.loop-place.invariant model stands in
-    rw (p.1, p.2) (count_stopped c.args.scenario.now model _ _ _ _ _ _ _ _ _ c.in_err-count_event.field-0.0
+    rw (p.1, p.2) (count_stopped c.args.scenario.now model _ _ _ _ _ _ _ c.in_err-count_event.field-0.0
     (moves_from_next events c.loop-place.place c.event-item.result within is) counted
     (c.in_err-count_event.ensures _ counted.stands))
 

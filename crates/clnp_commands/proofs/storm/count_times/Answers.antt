@@ -18,7 +18,7 @@ pub returns-in_err-count_move : goal.returns-in_err-count_move
 returns-in_err-count_move c = λ model stands.
     let p = err_from_is_err_and c.from_residual.result c.from_residual.ensures.1 in
     let counted = c.loop-made.invariant model stands in
-    rw (p.1, p.2) (count_stopped c.args.scenario.now model _ _ _ _ _ _ _ _ _ c.in_err-count_move.field-0.0
+    rw (p.1, p.2) (count_stopped c.args.scenario.now model _ _ _ _ _ _ _ c.in_err-count_move.field-0.0
     (replicate_next c.loop-made._made c.args.times c.args.mv.now (omega arith)) counted
     (c.in_err-count_move.ensures _ counted.stands))
 
