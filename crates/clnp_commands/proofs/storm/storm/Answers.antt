@@ -8,5 +8,6 @@ returns-in-Ok-sum_up-clause-comes_to g c =
 
 pub returns-in-Err-WorldFull-clause-comes_to : goal.returns-in-Err-WorldFull-clause-comes_to
 returns-in-Err-WorldFull-clause-comes_to g c =
-    storm_full c.args.seed c.in-Ok.scenario c.in-Err-WorldFull.octets (g.K.Sink.written c.args.sink.now) c.in-Ok.ensures
-    (rw c.in-Err-WorldFull.field-0-is at c.in-Err-WorldFull.ensures)
+    rw c.in-Err-WorldFull.field-0-is
+    (storm_full c.args.seed c.in-Ok.scenario c.in-Err-WorldFull.octets (g.K.Sink.written c.args.sink.now) c.in-Ok.ensures
+    (rw c.in-Err-WorldFull.field-0-is at c.in-Err-WorldFull.ensures))
