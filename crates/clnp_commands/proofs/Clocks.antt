@@ -3,20 +3,21 @@ use Rattle.std.proofs.Common.{◌≡◌, ℕ, ◌+◌, ◌-◌, ◌^◌, ◌<◌
 use Rattle.std.specs.Prelude.{replicate, slice_get}
 use Rattle.std.specs.List.{range_with_len, sum_by}
 use Rattle.std.proofs.lemmas.List.Sums.{sum-map, sum_by-cons}
+use Rattle.nsap.specs.declared.target.Target.{Target}
 use Rattle.clnp_plan.specs.Journal.{Late}
 use Rattle.clnp_plan.specs.declared.config.Limits.{Limits}
 use Rattle.clnp_plan.specs.declared.config.Role.{Role}
 use Rattle.clnp_plan.specs.declared.config.Role.TheVariants.{Host, Router}
-use Rattle.scenario.specs.Scenario.{Plan, IsFit, octets_of, moves_of, moves_from, ticks_of}
+use Rattle.scenario.specs.Scenario.{Plan, Subnetwork, IsFit, octets_of, moves_of, moves_from, ticks_of}
 use Rattle.scenario.specs.declared.event.Event.{Event}
-use Rattle.scenario.specs.declared.event.Event.TheVariants.{Send, Echo, Deliver, Settle, Lose, Tick, Restart, Congest}
+use Rattle.scenario.specs.declared.event.Event.TheVariants.{Send, Echo, Deliver, Settle, Lose, Tick, Restart, Congest, Inject}
 use Rattle.scenario.specs.declared.event.Move.{Move}
 use Rattle.scenario.specs.declared.event.Move.TheVariants.{One, SettleOne, LoseOne, TickOne}
 use Rattle.clnp_machine.specs.System.{SystemState, Input, AsksForEcho, AsksToSend, MomentComes, IsRestarted, IsCongested, Output, Transmits, SendsEsis, Notes, Effect}
 use Rattle.clnp_machine.specs.Unit.{DeclaredAt}
 use Rattle.clnp_machine.specs.Content.{Labelled, Esis}
 use Rattle.clnp_machine.specs.Step.{step}
-use Rattle.clnp_network.specs.World.{World, Step, Copy, Numbered, after, first_world, sends_frame, put_all_out, with_effect, takes_effect, comes_to, comes, asks_role, asks_system, frame_to, writes, is_late, give_to, give, give_each, addressees_from, settle_copy, lose_copy, deliver_to, deliver_at, is_addressee, is_void, tick_each, event_happens}
+use Rattle.clnp_network.specs.World.{World, Step, Copy, Numbered, after, first_world, sends_frame, put_all_out, with_effect, takes_effect, comes_to, comes, asks_role, asks_system, frame_to, writes, is_late, give_to, give, give_each, addressees_from, settle_copy, lose_copy, deliver_to, deliver_at, is_addressee, is_void, tick_each, event_happens, injects_on}
 use Rattle.clnp_network.specs.Run.{moves_of_plan, world_after}
 use Rattle.clnp_world.specs.State.{WorldState}
 use Rattle.clnp_world.specs.Stands.{Stands}
@@ -87,20 +88,26 @@ of_ticking w (place ∷ places) =
     of_ticking (comes w place (MomentComes w.clock)).world places
     ∙ of_system w place (MomentComes w.clock) (slice_get w.systems place)
 
-of_event : (limits : Limits) (w : World) (event : Option Event) → (event_happens limits w event).world.clock ≡ w.clock
-of_event limits w None = refl
-of_event limits w (Some (Settle count)) = refl
-of_event limits w (Some (Lose count)) = refl
-of_event limits w (Some (Tick count)) = refl
-of_event limits w (Some (Deliver copy system)) = of_delivery_at limits w copy system (slice_get w.systems system)
-of_event limits w (Some (Restart system)) = of_system w system IsRestarted (slice_get w.systems system)
-of_event limits w (Some (Congest system on)) = of_system w system (IsCongested on) (slice_get w.systems system)
-of_event limits w (Some (Echo system from to body)) = of_system w system (AsksForEcho from to (octets_of body)) (slice_get w.systems system)
-of_event limits w (Some (Send system from to body ask)) =
+of_injecting : (w : World) (subnet : ℕ) (found : Option Subnetwork) (sender : List ℕ) (target : Target) (octets : List ℕ)
+    → (injects_on w subnet found sender target octets).world.clock ≡ w.clock
+of_injecting w subnet None sender target octets = refl
+of_injecting w subnet (Some declared) sender target octets = refl
+
+of_event : (subnets : List Subnetwork) (limits : Limits) (w : World) (event : Option Event) → (event_happens subnets limits w event).world.clock ≡ w.clock
+of_event subnets limits w None = refl
+of_event subnets limits w (Some (Settle count)) = refl
+of_event subnets limits w (Some (Lose count)) = refl
+of_event subnets limits w (Some (Tick count)) = refl
+of_event subnets limits w (Some (Deliver copy system)) = of_delivery_at limits w copy system (slice_get w.systems system)
+of_event subnets limits w (Some (Restart system)) = of_system w system IsRestarted (slice_get w.systems system)
+of_event subnets limits w (Some (Congest system on)) = of_system w system (IsCongested on) (slice_get w.systems system)
+of_event subnets limits w (Some (Echo system from to body)) = of_system w system (AsksForEcho from to (octets_of body)) (slice_get w.systems system)
+of_event subnets limits w (Some (Send system from to body ask)) =
     of_asking w system (AsksToSend from to (octets_of body) ask) (slice_get w.systems system)
+of_event subnets limits w (Some (Inject subnet from to octets)) = of_injecting w subnet (slice_get subnets subnet) from to octets
 
 pub clock_after : (plan : Plan) (w : World) (move : Move) → (after plan w move).world.clock ≡ w.clock + tick_of move
-clock_after plan w (One place) = omega (arith, of_event plan.limits w (slice_get plan.events place))
+clock_after plan w (One place) = omega (arith, of_event plan.subnets plan.limits w (slice_get plan.events place))
 clock_after plan w SettleOne = omega (arith, of_settling plan.limits w (slice_get w.copies w.cursor))
 clock_after plan w LoseOne = omega (arith, of_losing w (slice_get w.copies w.cursor))
 clock_after plan w TickOne = of_ticking (record w { clock = w.clock + 1 }) (range_with_len 0 (length w.systems))
@@ -131,6 +138,7 @@ ticks_in_event place (Deliver copy system) = refl
 ticks_in_event place (Restart system) = refl
 ticks_in_event place (Congest system on) = refl
 ticks_in_event place (Echo system from to body) = refl
+ticks_in_event place (Inject subnet from to octets) = refl
 
 ticks_in_events : (place : ℕ) (events : List Event) → ticks_in (moves_from place events) ≡ sum_by ticks_of events
 ticks_in_events place [] = refl

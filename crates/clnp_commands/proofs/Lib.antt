@@ -1,6 +1,8 @@
 pub mod Playing
 pub mod Runs
 pub mod Clocks
+pub mod Counting
+pub mod Storms
 pub mod Fit
 pub mod Lines
 pub mod ByLine

@@ -169,7 +169,7 @@ journal_stopped plan a b (stop.WorldFull octets) q = (
 )
 
 -- the journal of a scenario in whose run the network is never full
-journal_whole : (plan : Plan) → stopped_at plan ≡ None
+pub journal_whole : (plan : Plan) → stopped_at plan ≡ None
     → journal plan ≡ text_of plan (first_world plan) (moves_of_plan plan) ++ world_end (world_after plan (first_world plan) (moves_of_plan plan))
 journal_whole plan room =
     ap (λ (made : List Move). text_of plan (first_world plan) made ++ ending (stopped_at plan) (world_after plan (first_world plan) made))

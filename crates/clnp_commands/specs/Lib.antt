@@ -6,4 +6,6 @@ pub mod Check
 pub mod ByLine
 pub mod Time
 pub mod Play
+pub mod Storm
+pub mod Counting
 pub mod Exit

@@ -1,6 +1,5 @@
 //! The command `check`: a file of vectors judged line by line.
 ghost use Rattle.std.specs.Prelude.{◌≡◌, ◌≤◌, ◌<◌, ◌+◌, ℕ, List, [], ◌∷◌, ◌++◌, length, Option, Err, IfOk, OnOk, OnErr};
-ghost use Rattle.std.specs.Fmt.{decimal};
 ghost use Rattle.clnp_base.specs.Streams.{Rose};
 ghost use Rattle.hex.specs.Hex.{IsBytes};
 ghost use Rattle.captures.specs.Vectors.{Judges};
@@ -11,9 +10,10 @@ ghost use Rattle.clnp_commands.specs.ByLine.{checking, first_checked, PushOf, Mi
 
 use crate::block::{LineStop, refuse, write_block, write_full_block};
 use crate::command::Command;
+use crate::number::push_number;
 use crate::status::Status;
 use captures::{LineRefusal, Verdict, check_line, laws};
-use clnp_base::{NoMemory, Sink, next_line, push, push_decimal};
+use clnp_base::{NoMemory, Sink, next_line, push};
 use std::alloc::Global;
 
 /// How many vectors passed and how many failed, at most 16,777,216 together.
@@ -162,15 +162,7 @@ fn write_end<K: Sink>(tally: Tally, block: &mut Vec<u8>, sink: &mut K) -> Status
 fn push_tally(tally: Tally, block: &mut Vec<u8>) -> Result<(), NoMemory>
     ensures { OnOk result (block.new.items ≡ block.old.items ++ tally_text tally) }
 {
-    push_number(b"passed ", tally.passed, block)?;
-    push_number(b" failed ", tally.failed, block)?;
+    push_number(b"passed ", u64::from(tally.passed), block)?;
+    push_number(b" failed ", u64::from(tally.failed), block)?;
     push(b"\n", block)
-}
-
-/// Appends a label, and a number in decimal digits.
-fn push_number(label: &[u8], number: u32, block: &mut Vec<u8>) -> Result<(), NoMemory>
-    ensures { OnOk result (block.new.items ≡ block.old.items ++ (label.now ++ decimal number)) }
-{
-    push(label, block)?;
-    push_decimal(u64::from(number), block)
 }

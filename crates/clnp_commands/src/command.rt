@@ -1,8 +1,10 @@
 //! The commands of the program.
 ghost use Rattle.std.specs.Prelude.{◌≡◌, map, string_bytes};
-ghost use Rattle.clnp_commands.specs.Words.{command_named, command_of};
+ghost use Rattle.clnp_commands.specs.Words.{command_named, command_of, reads, storm_of};
 
-/// A command of the program. Its name stands alone on the command line.
+use clnp_base::decimal;
+
+/// A command of the program. The name of one that reads an input stands alone on the command line.
 #[derive(Clone, Copy, Debug, PartialEq, Eq)]
 pub enum Command {
     /// Writes the journal of a scenario.
@@ -11,6 +13,8 @@ pub enum Command {
     Show,
     /// Judges vectors.
     Check,
+    /// Counts what a run of the scenario of a seed comes to.
+    Storm { seed: u64 },
 }
 
 impl Command {
@@ -20,13 +24,28 @@ impl Command {
     {
         match words {
             [] => Err(0),
+            [word, others @ ..] if word.as_str() == "storm" => Command::storm(others),
             [word] => Command::named(word.as_str()).ok_or(0),
             [word, ..] if Command::named(word.as_str()).is_some() => Err(1),
             _ => Err(0),
         }
     }
 
-    /// The command of this name.
+    /// The storm that the words behind its name are, or the first place at which they are none.
+    fn storm(others: &[String]) -> Result<Command, usize>
+        ensures { result ≡ storm_of (map string_bytes others.now) }
+    {
+        let [word, behind @ ..] = others else {
+            return Err(1);
+        };
+        match decimal(word.as_bytes()) {
+            Some(seed) if behind.is_empty() => Ok(Command::Storm { seed }),
+            Some(_) => Err(2),
+            None => Err(1),
+        }
+    }
+
+    /// The command of this name that reads an input.
     fn named(word: &str) -> Option<Command>
         ensures { result ≡ command_named word.now }
     {
@@ -38,6 +57,16 @@ impl Command {
             Some(Command::Check)
         } else {
             None
+        }
+    }
+
+    /// Whether the command reads an input.
+    pub fn reads(self) -> bool
+        ensures { result ≡ reads self }
+    {
+        match self {
+            Command::Sim | Command::Show | Command::Check => true,
+            Command::Storm { .. } => false,
         }
     }
 }

@@ -1,15 +1,17 @@
 //! The commands of the program `clnp`: words and input in, output and a status out.
 //!
 //! [`clnp_main`] is the top call. It simulates a connectionless network (ISO/IEC 8473, RFC 994),
-//! shows its frames as text, and judges vectors of frames.
+//! shows its frames as text, judges vectors of frames, and counts what a storm of events comes to.
 #![tactic(auto)]
 
 mod block;
 mod check;
 mod command;
+mod number;
 mod show;
 mod sim;
 mod status;
+mod storm;
 mod top;
 
 pub use command::Command;

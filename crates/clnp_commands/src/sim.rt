@@ -131,7 +131,8 @@ fn play_event<K: Sink>(
         | Event::Echo { .. }
         | Event::Deliver { .. }
         | Event::Restart { .. }
-        | Event::Congest { .. } => play_move(
+        | Event::Congest { .. }
+        | Event::Inject { .. } => play_move(
             alloc,
             scenario,
             &Move::One(place),

@@ -1,5 +1,5 @@
 //! The top call: words and input in, output and a status out.
-ghost use Rattle.std.specs.Prelude.{◌≡◌, ◌<◌, ◌≤◌, ◌⊎◌, ◌↔◌, ℕ, List, [], length, map, IfSome, IfOk, Ok, Err, string_bytes};
+ghost use Rattle.std.specs.Prelude.{◌≡◌, ◌<◌, ◌≤◌, ◌⊎◌, ◌↔◌, ℕ, false, List, [], length, map, IfSome, IfOk, OnOk, Ok, Err, string_bytes};
 ghost use Rattle.std.specs.List.{AllByRecursion};
 ghost use Rattle.std.specs.Io.KnownBytes.{Consumes, Keeps};
 ghost use Rattle.clnp_base.specs.Streams.{Rose};
@@ -9,8 +9,8 @@ ghost use Rattle.clnp_network.specs.World.{World, first_world};
 ghost use Rattle.clnp_network.specs.Run.{run, world_after};
 ghost use Rattle.clnp_safety.specs.Outside.{CarriesRangesOrOutside, PdusAreUnbroken};
 ghost use Rattle.clnp_network.specs.Safe.{CarriesRanges, EachIsFounded, FramesAreUnbroken, HoldsUnitsApart, IdentifiersRest, IsHonest, IsWithinBudgets, IsWithinLifetimes, NoInterference, NoneIsAlien, RedirectsChangeOneNextHop, TellsNoRule};
-ghost use Rattle.clnp_commands.specs.Words.{command_of, called, called_by, AppendsOutput, AppendsOutputFront, AppendsOutputParts, Excuses};
-ghost use Rattle.clnp_commands.specs.Sim.{most_input, ReadsWhole};
+ghost use Rattle.clnp_commands.specs.Words.{command_of, called, called_by, reads, AppendsOutput, AppendsOutputFront, AppendsOutputParts, Excuses, Reads};
+ghost use Rattle.clnp_commands.specs.Sim.{most_input};
 ghost use Rattle.clnp_commands.specs.Play.{ComesTo};
 
 use crate::check::check;
@@ -18,6 +18,7 @@ use crate::command::Command;
 use crate::show::show;
 use crate::sim::sim;
 use crate::status::Status;
+use crate::storm::storm;
 use clnp_base::{ReadStop, Sink, Source, read_all};
 use clnp_safety::laws;
 use scenario::Move;
@@ -31,7 +32,8 @@ const MOST_INPUT: usize = 16_777_216;
 /// `sim` reads a scenario text and writes its journal. Nothing is written before the whole text
 /// was accepted. `show` reads a capture and writes a line for each of its frames, up to the first
 /// bad line. `check` reads vectors and writes the verdict on each, up to the first bad line, and at
-/// the end how many passed and how many failed.
+/// the end how many passed and how many failed. `storm` reads nothing: it runs the scenario that its
+/// seed makes, and writes one line of what the run's journal counts.
 pub fn clnp_main<S: Source, K: Sink>(
     alloc: Global,
     words: &[String],
@@ -52,11 +54,17 @@ pub fn clnp_main<S: Source, K: Sink>(
     ensures untouched { (at : ℕ) → result ≡ Status.BadWords at
         → Keeps (S.left source.old) (S.left source.new) × Keeps (K.written sink.old) (K.written sink.new) }
 
+    // A storm leaves the source as it is, and wherever from it would come, its answer is the one that
+    // its seed calls for, but for want of memory and for faults of the sink that came in this call.
+    ensures storm { (seed : ℕ) → command_of (map string_bytes words.now) ≡ Ok (Command.Storm seed)
+        → (source.new ≡ source.old)
+        × ((result ≡ called_by (Command.Storm seed) []) ⊎ Excuses ⊥ (Rose (K.faults sink.old) (K.faults sink.new)) result) }
+
     // Done: all was read, and the output that the command and the text call for was written: the
     // journal of the run of the scenario that the text is, or the shown lines of a capture, or the
-    // verdicts on vectors and their counts.
+    // verdicts on vectors and their counts, or the line of a storm.
     ensures done { result ≡ Status.Done → (command : Command) × (command_of (map string_bytes words.now) ≡ Ok command)
-        × ((text : List ℕ) × ReadsWhole (S.left source.old) (S.left source.new) text
+        × ((text : List ℕ) × Reads command (S.left source.old) (S.left source.new) text
         × (called_by command text ≡ Status.Done) × AppendsOutput command text (K.written sink.old) (K.written sink.new)) }
 
     // Too long: more octets came, and nothing was written.
@@ -68,15 +76,15 @@ pub fn clnp_main<S: Source, K: Sink>(
     // scenario.
     ensures bad_input { (line code : ℕ) → result ≡ Status.BadInput line code
         → (command : Command) × (command_of (map string_bytes words.now) ≡ Ok command)
-        × ((text : List ℕ) × ReadsWhole (S.left source.old) (S.left source.new) text
+        × ((text : List ℕ) × Reads command (S.left source.old) (S.left source.new) text
         × (called_by command text ≡ Status.BadInput line code)
         × AppendsOutput command text (K.written sink.old) (K.written sink.new)) }
 
     // World full: all was read, and the journal of the scenario that the text is was written, up to
-    // the move before which the copies weighed so much.
+    // the move before which the copies weighed so much. Of a storm nothing was written.
     ensures world_full { (octets : ℕ) → result ≡ Status.WorldFull octets
         → (command : Command) × (command_of (map string_bytes words.now) ≡ Ok command)
-        × ((text : List ℕ) × ReadsWhole (S.left source.old) (S.left source.new) text
+        × ((text : List ℕ) × Reads command (S.left source.old) (S.left source.new) text
         × (called_by command text ≡ Status.WorldFull octets)
         × AppendsOutput command text (K.written sink.old) (K.written sink.new)) }
 
@@ -87,14 +95,14 @@ pub fn clnp_main<S: Source, K: Sink>(
     // Write fault: the sink failed in this call, and has a front of what would have been written.
     ensures write_fault { result ≡ Status.WriteFault → Rose (K.faults sink.old) (K.faults sink.new)
         × ((command : Command) × (command_of (map string_bytes words.now) ≡ Ok command)
-        × ((text : List ℕ) × ReadsWhole (S.left source.old) (S.left source.new) text
+        × ((text : List ℕ) × Reads command (S.left source.old) (S.left source.new) text
         × AppendsOutputFront command text (K.written sink.old) (K.written sink.new))) }
 
     // No memory: nothing was written, or the journal of some of the moves, or what some of the
     // lines of a capture or of a file of vectors call for.
     ensures no_memory { result ≡ Status.NoMemory → Keeps (K.written sink.old) (K.written sink.new)
         ⊎ ((command : Command) × (command_of (map string_bytes words.now) ≡ Ok command)
-        × ((text : List ℕ) × ReadsWhole (S.left source.old) (S.left source.new) text
+        × ((text : List ℕ) × Reads command (S.left source.old) (S.left source.new) text
         × AppendsOutputParts command text (K.written sink.old) (K.written sink.new))) }
 
     // Where no frame comes from outside, each data unit that the run of a scenario hands up is one that
@@ -165,7 +173,7 @@ pub fn clnp_main<S: Source, K: Sink>(
         Err(at) => return Status::BadWords { at },
     };
     let mut text = Vec::new(alloc);
-    match read_all(alloc, source, MOST_INPUT, &mut text) {
+    match read_input(alloc, command, source, &mut text) {
         Ok(()) => obey(alloc, command, text.as_slice(), sink),
         Err(ReadStop::Failed) => Status::ReadFault,
         Err(ReadStop::TooLong) => Status::TooLong,
@@ -217,7 +225,29 @@ fn every_run_is_safe()
     laws::no_pdu_breaks_a_rule();
 }
 
-/// Runs a command on a text.
+/// Reads the input of a command that reads one.
+fn read_input<S: Source>(
+    alloc: Global,
+    command: Command,
+    source: &mut S,
+    text: &mut Vec<u8>,
+) -> Result<(), ReadStop>
+    requires { text.old.items ≡ [] }
+    ensures later { S.faults source.old ≤ S.faults source.new }
+    ensures reads { OnOk result (Reads command (S.left source.old) (S.left source.new) text.new.items) }
+    ensures within { OnOk result (length text.new.items ≤ most_input) }
+    ensures too_long { result ≡ Err ReadStop.TooLong → (came : List ℕ) × Consumes (S.left source.old) (S.left source.new) came
+        × (most_input < length came) }
+    ensures failed { result ≡ Err ReadStop.Failed → Rose (S.faults source.old) (S.faults source.new) }
+    ensures untouched { reads command ≡ false → (source.new ≡ source.old) × (result ≡ Ok tt) }
+{
+    if !command.reads() {
+        return Ok(());
+    }
+    read_all(alloc, source, MOST_INPUT, text)
+}
+
+/// Runs a command on the text of its input.
 fn obey<K: Sink>(alloc: Global, command: Command, text: &[u8], sink: &mut K) -> Status
     requires { length text.now ≤ most_input }
     ensures later { K.faults sink.old ≤ K.faults sink.new }
@@ -228,5 +258,6 @@ fn obey<K: Sink>(alloc: Global, command: Command, text: &[u8], sink: &mut K) -> 
         Command::Sim => sim(alloc, text, sink),
         Command::Show => show(alloc, text, sink),
         Command::Check => check(alloc, text, sink),
+        Command::Storm { seed } => storm(alloc, seed, sink),
     }
 }

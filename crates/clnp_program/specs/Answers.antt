@@ -1,13 +1,13 @@
 -- What a call of the program comes to.
-use Rattle.std.specs.Prelude.{◌≡◌, ℕ, ◌⊎◌, List, Option, None, Some, IfSome, Ok}
+use Rattle.std.specs.Prelude.{◌≡◌, ℕ, ◌⊎◌, List, [], Option, None, Some, IfSome, Ok}
 use Rattle.std.specs.Io.KnownBytes.{Appends, Keeps}
 use Rattle.clnp_base.specs.Streams.{AppendsFront}
 use Rattle.clnp_commands.specs.declared.command.Command.{Command}
+use Rattle.clnp_commands.specs.declared.command.Command.TheVariants.{Storm}
 use Rattle.clnp_commands.specs.declared.status.Status.{Status}
 use Rattle.clnp_commands.specs.declared.status.Status.TheVariants.{Done, BadInput, WriteFault}
 use Rattle.clnp_commands.specs.Exit.{exit_number}
-use Rattle.clnp_commands.specs.Sim.{ReadsWhole}
-use Rattle.clnp_commands.specs.Words.{AppendsOutput, AppendsOutputFront, called, command_of, Excuses}
+use Rattle.clnp_commands.specs.Words.{AppendsOutput, AppendsOutputFront, called, called_by, command_of, Excuses, Reads}
 use Rattle.clnp_program.specs.Texts.{information, said}
 
 -- A text about the program: it was written and all is done, or the sink failed in this call and has a front of it.
@@ -15,19 +15,26 @@ abbrev pub Informs : List ℕ → Option (List ℕ) → Option (List ℕ) → Ty
 Informs text before after rose status =
     ((status ≡ Done) × Appends before after text) ⊎ ((status ≡ WriteFault) × (rose × AppendsFront before after text))
 
--- The output that a command and all of the input call for was written.
+-- The output that a command and all of its input call for was written.
 pub record Outputs (words : List (List ℕ)) (left_before left_after before after : Option (List ℕ)) : Type 0 where
   pub command : Command
   pub named : command_of words ≡ Ok command
   pub text : List ℕ
-  pub reads : ReadsWhole left_before left_after text
+  pub reads : Reads command left_before left_after text
   pub appends : AppendsOutput command text before after
+
+-- A storm: no octet was read, and the answer is the one that its seed calls for, but for want of memory and a fault of the
+-- sink that came in this call.
+pub record Storms (seed : ℕ) (left_before left_after : Option (List ℕ)) (write_rose : Type 0) (status : Status) : Type 0 where
+  pub keeps : Keeps left_before left_after
+  pub answer : (status ≡ called_by (Storm seed) []) ⊎ Excuses ⊥ write_rose status
 
 -- A command: where the source tells its octets, the answer is the one that words and octets call for, but for want of
 -- memory and faults that came in this call; and at Done and at a bad line the output that is called for was written.
 pub record Obeys (words : List (List ℕ)) (left_before left_after before after : Option (List ℕ)) (read_rose write_rose : Type 0) (status : Status) : Type 0 where
   pub answer : IfSome left_before (λ text. (status ≡ called (command_of words) text) ⊎ Excuses read_rose write_rose status)
   pub done : status ≡ Done → Outputs words left_before left_after before after
+  pub storm : (seed : ℕ) → command_of words ≡ Ok (Storm seed) → Storms seed left_before left_after write_rose status
   pub bad_input : (line code : ℕ) → status ≡ BadInput line code → Outputs words left_before left_after before after
 
 -- what the words come to: a text about the program, with no octet read; or a command

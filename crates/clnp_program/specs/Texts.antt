@@ -11,7 +11,7 @@ unfoldable pub version_text : List ℕ
 version_text = codes "clnp 0.1.0\n"
 
 unfoldable pub help_text : List ℕ
-help_text = codes "clnp simulates a connectionless network (ISO/IEC 8473, RFC 994).\n\n  clnp sim < SCENARIO    reads a scenario and writes its journal\n  clnp show < CAPTURE    reads frames in hexadecimal digits and writes a line for each\n  clnp check < VECTORS   reads frames with the lines expected of show and writes which pass\n  clnp --help            writes this text\n  clnp --version         writes the version\n\nExit numbers:\n  0  done\n  1  the words are no command\n  2  the input has more than 16,777,216 octets\n  3  the input isn't a scenario, or has a bad line\n  4  the frames of the simulated network weigh 268,435,456 octets or more\n  5  standard input failed\n  6  standard output failed\n  8  no memory\n\nA scenario, in which the host a sends two octets to the host b:\n\n  clnp-sim 1\n  subnet lan 1500\n  system a host hello=0\n  system b host hello=0\n  address a 47002702\n  address b 47002701\n  port a 0 lan 01\n  port b 0 lan 02\n  events\n  send a 47002702 47002701 hex:6869 life=10 whole\n  settle 1\n  end\n"
+help_text = codes "clnp simulates a connectionless network (ISO/IEC 8473, RFC 994).\n\n  clnp sim < SCENARIO    reads a scenario and writes its journal\n  clnp show < CAPTURE    reads frames in hexadecimal digits and writes a line for each\n  clnp check < VECTORS   reads frames with the lines expected of show and writes which pass\n  clnp storm SEED        runs the scenario that the seed makes and writes a line of what it counts\n  clnp --help            writes this text\n  clnp --version         writes the version\n\nExit numbers:\n  0  done\n  1  the words are no command\n  2  the input has more than 16,777,216 octets\n  3  the input isn't a scenario, or has a bad line\n  4  the frames of the simulated network weigh 268,435,456 octets or more\n  5  standard input failed\n  6  standard output failed\n  8  no memory\n\nA scenario, in which the host a sends two octets to the host b:\n\n  clnp-sim 1\n  subnet lan 1500\n  system a host hello=0\n  system b host hello=0\n  address a 47002702\n  address b 47002701\n  port a 0 lan 01\n  port b 0 lan 02\n  events\n  send a 47002702 47002701 hex:6869 life=10 whole\n  settle 1\n  end\n"
 
 -- the text that a word asks for about the program itself
 abbrev pub information_on : List ℕ → Option (List ℕ)
@@ -43,7 +43,7 @@ code_name code =
 
 -- the forms of words that are commands, said behind bad words
 abbrev pub wanted : List ℕ
-wanted = codes "clnp: wanted: clnp sim < SCENARIO, clnp show < CAPTURE, or clnp check < VECTORS\n"
+wanted = codes "clnp: wanted: clnp sim < SCENARIO, clnp show < CAPTURE, clnp check < VECTORS, or clnp storm SEED\n"
 
 -- the line of a fault, and behind that of bad words which words are commands
 abbrev pub fault_text : Fault → List ℕ

@@ -98,7 +98,7 @@ fn write_bad_words<K: Sink>(at: usize, errors: &mut K) -> Result<(), Failed>
     write_number(
         b"clnp: bad words at ",
         at as u64,
-        b"\nclnp: wanted: clnp sim < SCENARIO, clnp show < CAPTURE, or clnp check < VECTORS\n",
+        b"\nclnp: wanted: clnp sim < SCENARIO, clnp show < CAPTURE, clnp check < VECTORS, or clnp storm SEED\n",
         errors,
     )
 }

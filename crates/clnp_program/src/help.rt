@@ -10,6 +10,7 @@ clnp simulates a connectionless network (ISO/IEC 8473, RFC 994).
   clnp sim < SCENARIO    reads a scenario and writes its journal
   clnp show < CAPTURE    reads frames in hexadecimal digits and writes a line for each
   clnp check < VECTORS   reads frames with the lines expected of show and writes which pass
+  clnp storm SEED        runs the scenario that the seed makes and writes a line of what it counts
   clnp --help            writes this text
   clnp --version         writes the version
 

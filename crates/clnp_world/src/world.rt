@@ -125,6 +125,13 @@ impl World {
         self.network.clock
     }
 
+    /// How many copies of frames were made.
+    pub fn copies(&self) -> u64
+        ensures { (model : network.World) → Stands self.now model → result ≡ length model.copies }
+    {
+        self.network.copies.len() as u64
+    }
+
     /// What the copies weigh: the octets of their frames, and 64 for each.
     pub fn weight(&self) -> u64
         ensures { (model : network.World) → Stands self.now model → result ≡ network.weight model }
