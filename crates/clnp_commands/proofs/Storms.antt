@@ -98,9 +98,11 @@ summary_is seed events copies clock plan code counts all c with_end events_are c
     let of_all : all ≡ counts_of (journal plan) =
     with_end ∙ (ap (λ (t : Counts). both t (counts_of (world_end last))) of_moves
     ∙ sym (ap counts_of (journal_whole plan c.room)
-    ∙ counts_of-append (text_of plan first moves) (world_end last) (text_of-ends plan first moves))) in
-    (c.room, made_of seed events copies clock (length plan.events) (length (last_world plan).copies) (last_world plan).clock all (counts_of (journal plan))
-    events_are (copies_are ∙ ap (λ (w : network.World). length w.copies) same) (clock_is ∙ ap (λ (w : network.World). w.clock) same) of_all)
+    ∙ counts_of-append (text_of plan first moves) (world_end last) (text_of-ends plan first moves))) in (
+      c.room,
+      made_of seed events copies clock (length plan.events) (length (last_world plan).copies) (last_world plan).clock all (counts_of (journal plan))
+          events_are (copies_are ∙ ap (λ (w : network.World). length w.copies) same) (clock_is ∙ ap (λ (w : network.World). w.clock) same) of_all,
+    )
 
 -- ---- what a storm comes to
 
