@@ -189,7 +189,10 @@ fn makes_the_scenario_of_a_seed(rt: HostRuntime) -> Result<(), Fail> {
 
 /// A text with a frame from outside of so many octets.
 fn injection(alloc: Global, octets: usize) -> Result<Vec<u8>, Fail> {
-    let mut text = Vec::from_slice(alloc, b"clnp-sim 1\nsubnet lan 512\nevents\ninject lan 05 is ")?;
+    let mut text = Vec::from_slice(
+        alloc,
+        b"clnp-sim 1\nsubnet lan 512\nevents\ninject lan 05 is ",
+    )?;
     for _ in 0..octets {
         text.extend_from_slice(b"81")?;
     }
