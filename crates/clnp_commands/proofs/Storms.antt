@@ -1,5 +1,5 @@
 -- The moves of a run whose lines are counted, and the scenario of a seed.
-use Rattle.std.proofs.Common.{◌≡◌, ℕ, true, false, inl, List, [], ◌∷◌, ◌++◌, Option, None, Some, Result, Ok, Err, refl, subst, sym, ap, ◌∙◌, append-nil}
+use Rattle.std.proofs.Common.{◌≡◌, ℕ, true, false, inl, List, [], ◌∷◌, ◌++◌, Option, None, Some, Ok, refl, subst, sym, ap, ◌∙◌, append-nil}
 use Rattle.std.specs.Prelude.{length}
 use Rattle.std.specs.Io.KnownBytes.{Appends, Keeps}
 use Rattle.std.proofs.KnownBytes.{Appends-nil}
@@ -9,7 +9,7 @@ use Rattle.scenario.specs.Seeds.{storm}
 use Rattle.scenario.specs.declared.event.Move.{Move}
 use Rattle.clnp_network.specs.World as network
 use Rattle.clnp_network.specs.World.{after, first_world, is_full, weight}
-use Rattle.clnp_network.specs.Run.{ending, full_weight, journal, last_world, lines_text, moves_of_plan, stopped_at, text_of, until_full, world_after, world_end}
+use Rattle.clnp_network.specs.Run.{full_weight, journal, last_world, lines_text, moves_of_plan, stopped_at, text_of, world_after, world_end}
 use Rattle.clnp_world.specs.State.{WorldState}
 use Rattle.clnp_world.specs.Stands.{Stands}
 use Rattle.clnp_world.specs.declared.world.WorldRefusal.{WorldRefusal}
@@ -98,9 +98,11 @@ summary_is seed events copies clock plan code counts all c with_end events_are c
     let of_all : all ≡ counts_of (journal plan) =
     with_end ∙ (ap (λ (t : Counts). both t (counts_of (world_end last))) of_moves
     ∙ sym (ap counts_of (journal_whole plan c.room)
-    ∙ counts_of-append (text_of plan first moves) (world_end last) (text_of-ends plan first moves))) in
-    (c.room, made_of seed events copies clock (length plan.events) (length (last_world plan).copies) (last_world plan).clock all (counts_of (journal plan))
-    events_are (copies_are ∙ ap (λ (w : network.World). length w.copies) same) (clock_is ∙ ap (λ (w : network.World). w.clock) same) of_all)
+    ∙ counts_of-append (text_of plan first moves) (world_end last) (text_of-ends plan first moves))) in (
+      c.room,
+      made_of seed events copies clock (length plan.events) (length (last_world plan).copies) (last_world plan).clock all (counts_of (journal plan))
+          events_are (copies_are ∙ ap (λ (w : network.World). length w.copies) same) (clock_is ∙ ap (λ (w : network.World). w.clock) same) of_all,
+    )
 
 -- ---- what a storm comes to
 

@@ -132,14 +132,7 @@ fn play_event<K: Sink>(
         | Event::Deliver { .. }
         | Event::Restart { .. }
         | Event::Congest { .. }
-        | Event::Inject { .. } => play_move(
-            alloc,
-            scenario,
-            &Move::One(place),
-            world,
-            block,
-            sink,
-        ),
+        | Event::Inject { .. } => play_move(alloc, scenario, &Move::One(place), world, block, sink),
     }
 }
 

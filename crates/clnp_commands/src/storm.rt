@@ -59,9 +59,23 @@ impl Counts {
         Some(counts)
     }
 
+    /// These, and that of a line.
+    fn with_line(self, line: &[u8]) -> Option<Counts>
+        ensures { IfSome result (λ counts. counts ≡ both self (counts_in (line.now ∷ []))) }
+    {
+        let kind = third_word(line);
+        Some(Counts {
+            got: with_one(self.got, kind == b"got".as_slice())?,
+            reports: with_one(self.reports, kind == b"report".as_slice())?,
+            echoed: with_one(self.echoed, kind == b"echoed".as_slice())?,
+            drops: with_one(self.drops, kind == b"drop".as_slice())?,
+            expired: with_one(self.expired, kind == b"expired".as_slice())?,
+        })
+    }
+
     /// These, and those of the journal's last line.
     ///
-    /// `None` where memory is refused too.
+    /// `None` where memory is refused, or a count would pass 2^64 - 1.
     fn with_end(self, alloc: Global, world: &World) -> Option<Counts>
         ensures { (last : network.World) → Stands world.now last
             → IfSome result (λ counts. counts ≡ both self (counts_of (world_end last))) }
@@ -82,20 +96,6 @@ impl Counts {
         push_number(b" echoed ", self.echoed, out)?;
         push_number(b" drops ", self.drops, out)?;
         push_number(b" expired ", self.expired, out)
-    }
-
-    /// These, and that of a line.
-    fn with_line(self, line: &[u8]) -> Option<Counts>
-        ensures { IfSome result (λ counts. counts ≡ both self (counts_in (line.now ∷ []))) }
-    {
-        let kind = third_word(line);
-        Some(Counts {
-            got: with_one(self.got, kind == b"got".as_slice())?,
-            reports: with_one(self.reports, kind == b"report".as_slice())?,
-            echoed: with_one(self.echoed, kind == b"echoed".as_slice())?,
-            drops: with_one(self.drops, kind == b"drop".as_slice())?,
-            expired: with_one(self.expired, kind == b"expired".as_slice())?,
-        })
     }
 }
 

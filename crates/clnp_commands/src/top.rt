@@ -50,15 +50,16 @@ pub fn clnp_main<S: Source, K: Sink>(
     ensures untouched { (at : ℕ) → result ≡ Status.BadWords at
         → Keeps (S.left source.old) (S.left source.new) × Keeps (K.written sink.old) (K.written sink.new) }
 
-    // A storm leaves the source as it is, and wherever from it would come, its answer is the one that
-    // its seed calls for, but for want of memory and for faults of the sink that came in this call.
+    // A storm leaves the source as it is; and whether or not the source tells its octets, the answer
+    // is the one that the seed calls for, but for want of memory and for faults of the sink that came
+    // in this call.
     ensures storm { (seed : ℕ) → command_of (map string_bytes words.now) ≡ Ok (Command.Storm seed)
         → (source.new ≡ source.old)
         × ((result ≡ called_by (Command.Storm seed) []) ⊎ Excuses ⊥ (Rose (K.faults sink.old) (K.faults sink.new)) result) }
 
-    // Done: all was read, and the output that the command and the text call for was written: the
-    // journal of the run of the scenario that the text is, or the shown lines of a capture, or the
-    // verdicts on vectors and their counts, or the line of a storm.
+    // Done: all was read, but by a storm nothing, and the output that the command and the text call
+    // for was written: the journal of the run of the scenario that the text is, or the shown lines of
+    // a capture, or the verdicts on vectors and their counts, or the line of a storm.
     ensures done { result ≡ Status.Done → (command : Command) × (command_of (map string_bytes words.now) ≡ Ok command)
         × ((text : List ℕ) × Reads command (S.left source.old) (S.left source.new) text
         × (called_by command text ≡ Status.Done) × AppendsOutput command text (K.written sink.old) (K.written sink.new)) }
@@ -77,7 +78,7 @@ pub fn clnp_main<S: Source, K: Sink>(
         × AppendsOutput command text (K.written sink.old) (K.written sink.new)) }
 
     // World full: all was read, and the journal of the scenario that the text is was written, up to
-    // the move before which the copies weighed so much. Of a storm nothing was written.
+    // the move before which the copies weighed so much; but by a storm nothing was read or written.
     ensures world_full { (octets : ℕ) → result ≡ Status.WorldFull octets
         → (command : Command) × (command_of (map string_bytes words.now) ≡ Ok command)
         × ((text : List ℕ) × Reads command (S.left source.old) (S.left source.new) text
