@@ -6,6 +6,7 @@ ghost use Rattle.clnp_base.specs.Streams.{Rose};
 ghost use Rattle.scenario.specs.Grammar.{plan_of};
 ghost use Rattle.clnp_network.specs.World.{World, first_world};
 ghost use Rattle.clnp_network.specs.Run.{run, world_after};
+ghost use Rattle.clnp_network.specs.Safe.{CarriesRanges, EachIsFounded, FramesAreUnbroken, HoldsUnitsApart, IdentifiersRest, IsHonest, IsWithinBudgets, IsWithinLifetimes, NoInterference, NoneIsAlien, RedirectsChangeOneNextHop, TellsNoRule};
 ghost use Rattle.clnp_commands.specs.Words.{command_of, called, called_by, reads, AppendsOutput, AppendsOutputFront, AppendsOutputParts, Excuses, Reads};
 ghost use Rattle.clnp_commands.specs.Sim.{most_input};
 ghost use Rattle.clnp_commands.specs.Play.{ComesTo};
@@ -17,6 +18,7 @@ use crate::sim::sim;
 use crate::status::Status;
 use crate::storm::storm;
 use clnp_base::{ReadStop, Sink, Source, read_all};
+use clnp_safety::laws;
 use scenario::Move;
 use std::alloc::Global;
 
@@ -101,7 +103,56 @@ pub fn clnp_main<S: Source, K: Sink>(
         ⊎ ((command : Command) × (command_of (map string_bytes words.now) ≡ Ok command)
         × ((text : List ℕ) × Reads command (S.left source.old) (S.left source.new) text
         × AppendsOutputParts command text (K.written sink.old) (K.written sink.new))) }
+
+    // Each data unit that the run of a scenario hands up is one that was sent before in that run.
+    ensures safe { (text : List ℕ) → IfOk (plan_of text) (λ plan. IsHonest plan (run plan)) }
+
+    // In no run of a scenario does a segment meet another unit's in a buffer.
+    ensures apart { (text : List ℕ) → IfOk (plan_of text) (λ plan. AllByRecursion (λ entry. NoInterference entry.lines) (run plan)) }
+
+    // After whatever moves of a scenario no system holds more octets for reassembly than its budget.
+    ensures bounded { (text : List ℕ) → IfOk (plan_of text) (λ plan. (moves : List Move)
+        → IsWithinBudgets (world_after plan (first_world plan) moves)) }
+
+    // After whatever moves of a scenario each copy carries a range of a unit that was made, or an ES-IS
+    // value that a PDU can carry, with nothing behind its PDU; each reassembly buffer holds segments of
+    // one such unit, and two units of one maker with one identifier were made as long apart as an
+    // identifier rests.
+    ensures carried { (text : List ℕ) → IfOk (plan_of text) (λ plan. (moves : List Move)
+        → CarriesRanges (world_after plan (first_world plan) moves)) }
+    ensures held_apart { (text : List ℕ) → IfOk (plan_of text) (λ plan. (moves : List Move)
+        → HoldsUnitsApart (world_after plan (first_world plan) moves)) }
+    ensures rest { (text : List ℕ) → IfOk (plan_of text) (λ plan. (moves : List Move)
+        → IdentifiersRest plan.limits.reuse (world_after plan (first_world plan) moves)) }
+
+    // After whatever moves of a scenario the frame of each copy begins with 0x81, and no rule of PDUs
+    // refuses it; or it begins with 0x82, and no rule of ES-IS PDUs does.
+    ensures unbroken { (text : List ℕ) → IfOk (plan_of text) (λ plan. (moves : List Move)
+        → FramesAreUnbroken (world_after plan (first_world plan) moves)) }
+
+    // No line of a run says that a frame was discarded for a rule of PDUs, or broke one of ES-IS PDUs.
+    ensures unrefused { (text : List ℕ) → IfOk (plan_of text) (λ plan.
+        AllByRecursion (λ entry. AllByRecursion TellsNoRule entry.lines) (run plan)) }
+
+    // What a line of a scenario's moves says of error reports and echo replies that came to a system is
+    // founded on what the system made: a report's data are the header of a packet of a unit of its own;
+    // a reply answers a request that it made since its last restart, and an owner of its source made it.
+    ensures founded { (text : List ℕ) → IfOk (plan_of text) (λ plan. (moves : List Move)
+        → EachIsFounded plan (first_world plan) [] moves) }
+
+    // Wherever a copy that carries a redirect is given to a system, its next hop towards each address
+    // but the redirect's destination is as before, and each other system is as it was.
+    ensures redirects { (text : List ℕ) → IfOk (plan_of text) (λ plan. (w : World) → RedirectsChangeOneNextHop plan.limits w) }
+
+    // No line of a run notes a frame of no protocol.
+    ensures known { (text : List ℕ) → IfOk (plan_of text) (λ plan. AllByRecursion (λ entry. NoneIsAlien entry.lines) (run plan)) }
+
+    // After whatever moves of a scenario hops and lifetime of each packet are together at most the
+    // lifetime of its unit.
+    ensures lifetimes { (text : List ℕ) → IfOk (plan_of text) (λ plan. (moves : List Move)
+        → IsWithinLifetimes (world_after plan (first_world plan) moves)) }
 {
+    every_run_is_safe();
     let command = match Command::of(words) {
         Ok(command) => command,
         Err(at) => return Status::BadWords { at },
@@ -113,6 +164,44 @@ pub fn clnp_main<S: Source, K: Sink>(
         Err(ReadStop::TooLong) => Status::TooLong,
         Err(ReadStop::NoMemory) => Status::NoMemory,
     }
+}
+
+/// What is so of the run of the scenario that a text is, and of whatever moves of it.
+fn every_run_is_safe()
+    ensures safe { (text : List ℕ) → IfOk (plan_of text) (λ plan. IsHonest plan (run plan)) }
+    ensures apart { (text : List ℕ) → IfOk (plan_of text) (λ plan. AllByRecursion (λ entry. NoInterference entry.lines) (run plan)) }
+    ensures bounded { (text : List ℕ) → IfOk (plan_of text) (λ plan. (moves : List Move)
+        → IsWithinBudgets (world_after plan (first_world plan) moves)) }
+    ensures carried { (text : List ℕ) → IfOk (plan_of text) (λ plan. (moves : List Move)
+        → CarriesRanges (world_after plan (first_world plan) moves)) }
+    ensures held_apart { (text : List ℕ) → IfOk (plan_of text) (λ plan. (moves : List Move)
+        → HoldsUnitsApart (world_after plan (first_world plan) moves)) }
+    ensures rest { (text : List ℕ) → IfOk (plan_of text) (λ plan. (moves : List Move)
+        → IdentifiersRest plan.limits.reuse (world_after plan (first_world plan) moves)) }
+    ensures unbroken { (text : List ℕ) → IfOk (plan_of text) (λ plan. (moves : List Move)
+        → FramesAreUnbroken (world_after plan (first_world plan) moves)) }
+    ensures unrefused { (text : List ℕ) → IfOk (plan_of text) (λ plan.
+        AllByRecursion (λ entry. AllByRecursion TellsNoRule entry.lines) (run plan)) }
+    ensures founded { (text : List ℕ) → IfOk (plan_of text) (λ plan. (moves : List Move)
+        → EachIsFounded plan (first_world plan) [] moves) }
+    ensures redirects { (text : List ℕ) → IfOk (plan_of text) (λ plan. (w : World) → RedirectsChangeOneNextHop plan.limits w) }
+    ensures known { (text : List ℕ) → IfOk (plan_of text) (λ plan. AllByRecursion (λ entry. NoneIsAlien entry.lines) (run plan)) }
+    ensures lifetimes { (text : List ℕ) → IfOk (plan_of text) (λ plan. (moves : List Move)
+        → IsWithinLifetimes (world_after plan (first_world plan) moves)) }
+{
+    scenario::laws::accepted_is_fit();
+    laws::handed_up_was_sent();
+    laws::no_unit_meets_another();
+    laws::budgets_are_kept();
+    laws::ranges_of_units_are_carried();
+    laws::units_are_held_apart();
+    laws::identifiers_rest();
+    laws::no_frame_breaks_a_rule();
+    laws::no_frame_is_refused();
+    laws::reports_and_echoes_are_of_its_own();
+    laws::a_redirect_changes_one_next_hop();
+    laws::no_frame_is_alien();
+    laws::hops_are_within_lifetimes();
 }
 
 /// Reads the input of a command that reads one.
