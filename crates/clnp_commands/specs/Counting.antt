@@ -1,5 +1,5 @@
 -- What the parts of the command `storm` come to: counting the lines of moves, and summing a run up.
-use Rattle.std.specs.Prelude.{◌≡◌, ℕ, ◌+◌, List, Option, None, Some, Result, Ok, Err}
+use Rattle.std.specs.Prelude.{◌≡◌, ℕ, ◌+◌, List, None, Some, Result, Ok, Err}
 use Rattle.scenario.specs.Scenario.{Plan}
 use Rattle.scenario.specs.declared.event.Move.{Move}
 use Rattle.clnp_network.specs.World as network
