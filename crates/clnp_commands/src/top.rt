@@ -4,7 +4,9 @@ ghost use Rattle.std.specs.List.{AllByRecursion};
 ghost use Rattle.std.specs.Io.KnownBytes.{Consumes, Keeps};
 ghost use Rattle.clnp_base.specs.Streams.{Rose};
 ghost use Rattle.scenario.specs.Grammar.{plan_of};
+ghost use Rattle.scenario.specs.Canonical.{text_of};
 ghost use Rattle.scenario.specs.Scenario.{IsClosed};
+ghost use Rattle.scenario.specs.Seeds as seeds;
 ghost use Rattle.clnp_network.specs.World.{World, first_world};
 ghost use Rattle.clnp_network.specs.Run.{run, world_after};
 ghost use Rattle.clnp_safety.specs.Outside.{CarriesRangesOrOutside, PdusAreUnbroken};
@@ -106,6 +108,10 @@ pub fn clnp_main<S: Source, K: Sink>(
         × ((text : List ℕ) × Reads command (S.left source.old) (S.left source.new) text
         × AppendsOutputParts command text (K.written sink.old) (K.written sink.new))) }
 
+    // What is said below of scenario texts is so of storms too: the scenario of each seed is that of a
+    // text, and no frame comes from outside in it.
+    ensures storms { (seed : ℕ) → (plan_of (text_of (seeds.storm seed)) ≡ Ok (seeds.storm seed)) × IsClosed (seeds.storm seed) }
+
     // Where no frame comes from outside, each data unit that the run of a scenario hands up is one that
     // was sent before in that run.
     ensures safe { (text : List ℕ) → IfOk (plan_of text) (λ plan. IsClosed plan → IsHonest plan (run plan)) }
@@ -184,6 +190,7 @@ pub fn clnp_main<S: Source, K: Sink>(
 
 /// What is so of the run of the scenario that a text is, and of whatever moves of it.
 fn every_run_is_safe()
+    ensures storms { (seed : ℕ) → (plan_of (text_of (seeds.storm seed)) ≡ Ok (seeds.storm seed)) × IsClosed (seeds.storm seed) }
     ensures safe { (text : List ℕ) → IfOk (plan_of text) (λ plan. IsClosed plan → IsHonest plan (run plan)) }
     ensures apart { (text : List ℕ) → IfOk (plan_of text) (λ plan. IsClosed plan → AllByRecursion (λ entry. NoInterference entry.lines) (run plan)) }
     ensures bounded { (text : List ℕ) → IfOk (plan_of text) (λ plan. (moves : List Move)
@@ -210,6 +217,7 @@ fn every_run_is_safe()
         → IsWithinLifetimes (world_after plan (first_world plan) moves)) }
 {
     scenario::laws::accepted_is_fit();
+    scenario::laws::storms_are_scenarios();
     laws::handed_up_was_sent();
     laws::no_unit_meets_another();
     laws::budgets_are_kept();

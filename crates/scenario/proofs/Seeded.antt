@@ -12,7 +12,7 @@ use Rattle.clnp_plan.specs.Configuration.{IsWithin, SystemConfiguration}
 use Rattle.clnp_plan.specs.declared.config.Role.TheVariants.{Host}
 use Rattle.scenario.specs.Grammar.{BadLine as Bad, plan_of, plan_at, events_from}
 use Rattle.scenario.specs.Declarations.{limits_line, subnet_line, room_word, setting_word, system_line, address_line, port_line, route_line, declaration_line}
-use Rattle.scenario.specs.Scenario.{Plan, IsFit, AsksFairly, AsksInForm, InjectsInForm, IsPlaced, IsFromHost, IsOfRouter, IsSaid, passed_by, ticks_of}
+use Rattle.scenario.specs.Scenario.{Plan, IsFit, AsksFairly, AsksInForm, InjectsInForm, IsPlaced, IsFromHost, IsOfRouter, IsSaid, passed_by, ticks_of, InjectsNothing, IsClosed}
 use Rattle.scenario.specs.Refusal.{Refuses}
 use Rattle.scenario.specs.declared.fault.ScenarioRefusal.{ScenarioRefusal}
 use Rattle.scenario.specs.declared.fault.ScenarioRefusal.TheVariants.{BadLine}
@@ -62,6 +62,7 @@ record IsGood (event : Event) : Type 0 where
   pub sender : IsFromHost the_systems event
   pub congested : IsOfRouter the_systems event
   pub injected : InjectsInForm 3 event
+  pub closed : InjectsNothing event
   pub said : IsSaid event
   pub ticks : ticks_of event ≤ 200
 
@@ -115,6 +116,7 @@ send_good from to len start short small = record {
   sender = (host_placed from).role;
   congested = tt;
   injected = tt;
+  closed = tt;
   said = ((short, small), record { life = within 1 255 32 (omega arith) (omega arith); options = no_options_said });
   ticks = omega arith;
 }
@@ -127,24 +129,25 @@ echo_good from to len start short small = record {
   sender = tt;
   congested = tt;
   injected = tt;
+  closed = tt;
   said = (short, small);
   ticks = omega arith;
 }
 
 delivery_good : (copy system : ℕ) → IsWithin 1 1000000000 copy → system < 6 → IsGood (Deliver copy system)
-delivery_good copy system said h = record { fair = tt; formed = tt; placed = h; sender = tt; congested = tt; injected = tt; said = said; ticks = omega arith }
+delivery_good copy system said h = record { fair = tt; formed = tt; placed = h; sender = tt; congested = tt; injected = tt; closed = tt; said = said; ticks = omega arith }
 
 restart_good : (system : ℕ) → system < 6 → IsGood (Restart system)
-restart_good system h = record { fair = tt; formed = tt; placed = h; sender = tt; congested = tt; injected = tt; said = tt; ticks = omega arith }
+restart_good system h = record { fair = tt; formed = tt; placed = h; sender = tt; congested = tt; injected = tt; closed = tt; said = tt; ticks = omega arith }
 
 loss_good : (count : ℕ) → IsWithin 1 100000 count → IsGood (Lose count)
-loss_good count said = record { fair = tt; formed = tt; placed = tt; sender = tt; congested = tt; injected = tt; said = said; ticks = omega arith }
+loss_good count said = record { fair = tt; formed = tt; placed = tt; sender = tt; congested = tt; injected = tt; closed = tt; said = said; ticks = omega arith }
 
 settle_good : (count : ℕ) → IsWithin 1 100000 count → IsGood (Settle count)
-settle_good count said = record { fair = tt; formed = tt; placed = tt; sender = tt; congested = tt; injected = tt; said = said; ticks = omega arith }
+settle_good count said = record { fair = tt; formed = tt; placed = tt; sender = tt; congested = tt; injected = tt; closed = tt; said = said; ticks = omega arith }
 
 ticks_good : (count : ℕ) → 1 ≤ count → count ≤ 200 → IsGood (Tick count)
-ticks_good count l h = record { fair = tt; formed = tt; placed = tt; sender = tt; congested = tt; injected = tt; said = within 1 65535 count l (omega arith); ticks = h }
+ticks_good count l h = record { fair = tt; formed = tt; placed = tt; sender = tt; congested = tt; injected = tt; closed = tt; said = within 1 65535 count l (omega arith); ticks = h }
 
 -- what is drawn at any state has this property
 abbrev Draws : {A : Type 0} → (A → Type 0) → Drawn A → Type 0
@@ -236,7 +239,7 @@ few_ticks [] good = omega arith
 few_ticks (event ∷ events) good =
     rw (sum_by-cons (λ x. x) (ticks_of event) (map ticks_of events)) (omega (arith, good.0.ticks, few_ticks events good.1))
 
-storm_fit : (seed : ℕ) → IsFit (two_networks []) → IsFit (storm seed)
+pub storm_fit : (seed : ℕ) → IsFit (two_networks []) → IsFit (storm seed)
 storm_fit seed fit =
     let good : AreGood 605 210540 (storm_events seed) = storm_good seed in
     record {
@@ -266,6 +269,10 @@ storm_fit seed fit =
       few_events = omega (arith, good.few);
       passed = omega (arith, good.passed);
     }
+
+-- no frame comes from outside in a storm
+pub storm_closed : (seed : ℕ) → IsClosed (storm seed)
+storm_closed seed = AllByRecursion-implies IsGood InjectsNothing (λ event is. is.closed) (storm_events seed) (storm_good seed).each
 
 -- the parts of two networks and the events of a storm
 pub parts_fit : (seed : ℕ) (networks : Plan) (events : List Event) → networks ≡ two_networks [] → events ≡ storm_events seed → IsFit networks

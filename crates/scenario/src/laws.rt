@@ -3,7 +3,8 @@
 ghost use Rattle.std.specs.Prelude.{◌≡◌, ℕ, List, Ok};
 ghost use Rattle.scenario.specs.Canonical.{text_of};
 ghost use Rattle.scenario.specs.Grammar.{plan_of};
-ghost use Rattle.scenario.specs.Scenario.{IsFit, Plan};
+ghost use Rattle.scenario.specs.Scenario.{IsClosed, IsFit, Plan};
+ghost use Rattle.scenario.specs.Seeds.{storm};
 
 /// What the grammar accepts is fit to be run: its limits, settings and numbers are in their ranges,
 /// each name is a name of the grammar, each system has the addresses, ports and routes that its role calls for,
@@ -32,6 +33,17 @@ pub fn what_is_written_is_read()
 pub fn texts_and_scenarios()
     ensures again { (text : List ℕ) (plan : Plan) → plan_of text ≡ Ok plan → plan_of (text_of plan) ≡ Ok plan }
     ensures one_text { (plan other : Plan) → IsFit plan → IsFit other → text_of plan ≡ text_of other → plan ≡ other }
+{
+    accepted_is_fit();
+    what_is_written_is_read();
+}
+
+/// The scenario of each seed is fit to be run, no frame comes from outside in it, and what is written of it is read as
+/// that scenario: so what is so of each text that is a scenario is so of storms.
+pub fn storms_are_scenarios()
+    ensures fit { (seed : ℕ) → IsFit (storm seed) }
+    ensures closed { (seed : ℕ) → IsClosed (storm seed) }
+    ensures text { (seed : ℕ) → plan_of (text_of (storm seed)) ≡ Ok (storm seed) }
 {
     accepted_is_fit();
     what_is_written_is_read();

@@ -71,3 +71,6 @@ pub returns-clause-obeyed : goal.returns-clause-obeyed
 returns-clause-obeyed c =
     of_fit (λ plan. (moves : List Move) → PdusAreUnbroken (world_after plan (first_world plan) moves)) c.accepted_is_fit.ensures
     c.no_pdu_breaks_a_rule.ensures
+
+pub returns-clause-storms : goal.returns-clause-storms
+returns-clause-storms c seed = (c.storms_are_scenarios.ensures.text seed, c.storms_are_scenarios.ensures.closed seed)
