@@ -7,7 +7,7 @@ use Rattle.clnp_commands.specs.declared.command.Command.TheVariants.{Storm}
 use Rattle.clnp_commands.specs.declared.status.Status.{Status}
 use Rattle.clnp_commands.specs.declared.status.Status.TheVariants.{Done, BadInput, WriteFault}
 use Rattle.clnp_commands.specs.Exit.{exit_number}
-use Rattle.clnp_commands.specs.Words.{AppendsOutput, AppendsOutputFront, called, called_by, command_of, Excuses, Reads}
+use Rattle.clnp_commands.specs.Words.{AppendsOutput, called, called_by, command_of, Excuses, Reads}
 use Rattle.clnp_program.specs.Texts.{information, said}
 
 -- A text about the program: it was written and all is done, or the sink failed in this call and has a front of it.
