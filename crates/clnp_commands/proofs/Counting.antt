@@ -1,6 +1,8 @@
 -- Lines of texts that stand one behind the other, and their counts.
-use Rattle.std.proofs.Common.{◌≡◌, ℕ, ◌+◌, ◌==◌, ◌&&◌, Bool, true, false, if◌then◌else◌, List, [], ◌∷◌, ◌++◌, codes, length, refl, subst, sym, ap, ◌∙◌, append_assoc, length-append, arith}
-use Rattle.std.specs.List.{filter, flat_map}
+use Rattle.std.proofs.Common.{◌≡◌, ℕ, zero, suc, ◌+◌, ◌≤◌, ◌==◌, ◌&&◌, Bool, true, false, if◌then◌else◌, Option, None, Some, List, [], ◌∷◌, ◌++◌, codes, length, refl, subst, sym, ap, ◌∙◌, append_assoc, length-append}
+use Rattle.std.specs.Prelude.{replicate}
+use Rattle.std.specs.List.{AllByRecursion, filter, flat_map}
+use Rattle.std.proofs.lemmas.Option.{slice_get_past}
 use Rattle.std.proofs.lemmas.List.Elements.{filter-append}
 use Rattle.std.proofs.lemmas.List.Concat.{flat_map-cons}
 use Rattle.clnp_base.specs.Text.{lines_of, onto_first, begins_with}
@@ -9,11 +11,16 @@ use Rattle.clnp_plan.specs.Journal.{Line, Noted, Transmitted, Void, Late, Inject
 use Rattle.std.specs.Fmt.{decimal}
 use Rattle.scenario.specs.Scenario.{Plan}
 use Rattle.scenario.specs.declared.event.Move.{Move}
-use Rattle.clnp_network.specs.World.{World, after}
-use Rattle.clnp_network.specs.Run.{lines_text, text_of}
-use Rattle.clnp_commands.specs.declared.storm.Counts.{Counts}
+use Rattle.scenario.specs.declared.event.Move.TheVariants.{SettleOne}
+use Rattle.clnp_network.specs.World.{Copy, Step, World, after, is_full, nothing, settle_copy, weight}
+use Rattle.clnp_network.specs.Run.{full_weight, lines_text, text_of, world_after}
+use Rattle.clnp_world.specs.Lines.{both, no_lines, tally}
+use Rattle.clnp_world.specs.declared.lines.Counts.{Counts}
+use Rattle.clnp_world.proofs.LineSteps.{both-assoc, none-both, tally-append}
 use Rattle.clnp_commands.specs.Storm.{count_of, counts_in, counts_of, is_of_kind}
-use Rattle.clnp_commands.specs.Counting.{both, no_lines}
+use Rattle.clnp_commands.specs.Counting.{tally_of}
+use Rattle.clnp_commands.proofs.KindWords.{IsNamed, line_counts}
+use Rattle.clnp_commands.proofs.Named.{AreNamed, AreNamedSubnets, names_after}
 
 -- the lines of a text are followed by those of the text behind it
 abbrev pub EndsLines : List ℕ → Type 0
@@ -110,30 +117,58 @@ counts_in-append made more =
 pub counts_of-append : (made more : List ℕ) → EndsLines made → counts_of (made ++ more) ≡ both (counts_of made) (counts_of more)
 counts_of-append made more h = ap counts_in (h more) ∙ counts_in-append (lines_of made) (lines_of more)
 
--- the same counts
-counts-same : (g r e d x k s f o y : ℕ) → g ≡ k → r ≡ s → e ≡ f → d ≡ o → x ≡ y → Path Counts
-    (record { got = g; reports = r; echoed = e; drops = d; expired = x }) (record { got = k; reports = s; echoed = f; drops = o; expired = y })
-counts-same g r e d x k s f o y p q t u v = rw (p, q, t, u, v) refl
+-- what is counted of the text of some lines is what is counted of the lines
+pub lines_counts : (lines : List Line) → AllByRecursion IsNamed lines → counts_of (lines_text lines) ≡ tally lines
+lines_counts [] h = refl
+lines_counts (line ∷ lines) h =
+    ap (λ (t : List ℕ). counts_of t) (flat_map-cons line_text line lines)
+    ∙ (counts_of-append (line_text line) (lines_text lines) (line_text-ends line)
+    ∙ (ap (λ (c : Counts). both c (counts_of (lines_text lines))) (line_counts line h.0)
+    ∙ (ap (λ (c : Counts). both (tally (line ∷ [])) c) (lines_counts lines h.1)
+    ∙ sym (tally-append (line ∷ []) lines))))
 
-pub both-none : (a : Counts) → both a no_lines ≡ a
-both-none a =
-    counts-same (a.got + 0) (a.reports + 0) (a.echoed + 0) (a.drops + 0) (a.expired + 0) a.got a.reports a.echoed a.drops a.expired
-    (omega arith) (omega arith) (omega arith) (omega arith) (omega arith)
+-- so it is of the text of moves
+pub moves_counts : (plan : Plan) (w : World) (moves : List Move) → AreNamedSubnets plan.subnets → AreNamed w
+    → counts_of (text_of plan w moves) ≡ tally_of plan w moves
+moves_counts plan w [] named h = refl
+moves_counts plan w (move ∷ moves) named h =
+    let step : Step = after plan w move in
+    let names = names_after plan w move named h in
+    counts_of-append (lines_text step.lines) (text_of plan step.world moves) (lines_text-ends step.lines)
+    ∙ (ap (λ (c : Counts). both c (counts_of (text_of plan step.world moves))) (lines_counts step.lines names.lines)
+    ∙ ap (λ (c : Counts). both (tally step.lines) c) (moves_counts plan step.world moves named names.world))
 
-pub none-both : (a : Counts) → both no_lines a ≡ a
-none-both a =
-    counts-same (0 + a.got) (0 + a.reports) (0 + a.echoed) (0 + a.drops) (0 + a.expired) a.got a.reports a.echoed a.drops a.expired
-    (omega arith) (omega arith) (omega arith) (omega arith) (omega arith)
+-- ---- moves one behind the other
 
-pub both-assoc : (a b c : Counts) → both (both a b) c ≡ both a (both b c)
-both-assoc a b c =
-    counts-same (a.got + b.got + c.got) (a.reports + b.reports + c.reports) (a.echoed + b.echoed + c.echoed) (a.drops + b.drops + c.drops) (a.expired + b.expired + c.expired)
-    (a.got + (b.got + c.got)) (a.reports + (b.reports + c.reports)) (a.echoed + (b.echoed + c.echoed)) (a.drops + (b.drops + c.drops)) (a.expired + (b.expired + c.expired))
-    (omega arith) (omega arith) (omega arith) (omega arith) (omega arith)
+pub tally_of-append : (plan : Plan) (w : World) (made more : List Move)
+    → tally_of plan w (made ++ more) ≡ both (tally_of plan w made) (tally_of plan (world_after plan w made) more)
+tally_of-append plan w [] more = sym (none-both (tally_of plan w more))
+tally_of-append plan w (move ∷ made) more =
+    let step : Step = after plan w move in
+    ap (λ (c : Counts). both (tally step.lines) c) (tally_of-append plan step.world made more)
+    ∙ sym (both-assoc (tally step.lines) (tally_of plan step.world made) (tally_of plan (world_after plan step.world made) more))
 
--- a line and those behind it, before others
-pub next_line-counts : (line old others : List ℕ) (counts : Counts) → lines_of old ≡ line ∷ lines_of others
-    → both (both counts (counts_in (line ∷ []))) (counts_of others) ≡ both counts (counts_of old)
-next_line-counts line old others counts cut =
-    both-assoc counts (counts_in (line ∷ [])) (counts_of others)
-    ∙ ap (λ (t : Counts). both counts t) (sym (ap counts_in cut ∙ counts_in-append (line ∷ []) (lines_of others)))
+-- ---- copies that are all settled
+
+-- to settle a copy where none is left changes nothing
+pub settled_after : (plan : Plan) (w : World) → length w.copies ≤ w.cursor → after plan w SettleOne ≡ nothing w
+settled_after plan w past = ap (λ (copy : Option Copy). settle_copy plan.limits w copy) (slice_get_past w.copies w.cursor past)
+
+-- however often
+pub record IsStill (plan : Plan) (w : World) (moves : List Move) : Type 0 where
+  pub room : full_weight plan w moves ≡ None
+  pub world : world_after plan w moves ≡ w
+  pub counted : tally_of plan w moves ≡ no_lines
+
+pub still_settled : (plan : Plan) (w : World) (times : ℕ) → is_full w ≡ false → length w.copies ≤ w.cursor → IsStill plan w (replicate times SettleOne)
+still_settled plan w zero room past = record { room = refl; world = refl; counted = refl }
+still_settled plan w (suc times) room past =
+    let h = still_settled plan w times room past in
+    let same = settled_after plan w past in
+    record {
+      room = ap (λ (full : Bool). if full then Some (weight w) else full_weight plan (after plan w SettleOne).world (replicate times SettleOne)) room
+          ∙ (ap (λ (s : Step). full_weight plan s.world (replicate times SettleOne)) same ∙ h.room);
+      world = ap (λ (s : Step). world_after plan s.world (replicate times SettleOne)) same ∙ h.world;
+      counted = ap (λ (s : Step). both (tally s.lines) (tally_of plan s.world (replicate times SettleOne))) same
+          ∙ (ap (λ (c : Counts). both no_lines c) h.counted ∙ none-both no_lines);
+    }

@@ -20,7 +20,7 @@ text_of-append plan w (move ∷ made) more =
     ∙ sym (append_assoc (lines_text (after plan w move).lines) (text_of plan (after plan w move).world made) (text_of plan (world_after plan (after plan w move).world made) more))
 
 -- where the network isn't full before any of some moves, it isn't before the first nor before the others
-not_full : (full : Bool) (weighs : ℕ) (rest : Option ℕ) → (if full then Some weighs else rest) ≡ None → (full ≡ false) × (rest ≡ None)
+pub not_full : (full : Bool) (weighs : ℕ) (rest : Option ℕ) → (if full then Some weighs else rest) ≡ None → (full ≡ false) × (rest ≡ None)
 not_full true weighs rest h = absurd (cc)
 not_full false weighs rest h = (refl, h)
 

@@ -1,20 +1,24 @@
 -- The moves of a run whose lines are counted, and the scenario of a seed.
-use Rattle.std.proofs.Common.{◌≡◌, ℕ, true, false, inl, List, [], ◌∷◌, ◌++◌, Option, None, Some, Ok, refl, subst, sym, ap, ◌∙◌, append-nil}
-use Rattle.std.specs.Prelude.{length}
+use Rattle.std.proofs.Common.{◌≡◌, ℕ, ◌+◌, ◌-◌, ◌<◌, ◌≤◌, nat_le, true, false, inl, List, [], ◌∷◌, ◌++◌, Option, None, Some, Ok, refl, subst, sym, ap, ◌∙◌, append-nil, append_assoc}
+use Rattle.std.specs.Prelude.{length, replicate}
+use Rattle.std.proofs.lemmas.Bool.{leb-true}
 use Rattle.std.specs.Io.KnownBytes.{Appends, Keeps}
 use Rattle.std.proofs.KnownBytes.{Appends-nil}
 use Rattle.clnp_base.specs.Streams.{AppendsFront}
-use Rattle.scenario.specs.Scenario.{Plan}
+use Rattle.scenario.specs.Scenario.{IsFit, Plan}
 use Rattle.scenario.specs.Seeds.{storm}
 use Rattle.scenario.specs.declared.event.Move.{Move}
+use Rattle.scenario.specs.declared.event.Move.TheVariants.{SettleOne}
 use Rattle.clnp_network.specs.World as network
-use Rattle.clnp_network.specs.World.{after, first_world, is_full, weight}
-use Rattle.clnp_network.specs.Run.{full_weight, journal, last_world, lines_text, moves_of_plan, stopped_at, text_of, world_after, world_end}
+use Rattle.clnp_network.specs.World.{Step, after, first_world, is_full, weight}
+use Rattle.clnp_network.specs.Run.{full_weight, journal, last_world, moves_of_plan, stopped_at, text_of, world_after, world_end}
 use Rattle.clnp_world.specs.State.{WorldState}
 use Rattle.clnp_world.specs.Stands.{Stands}
 use Rattle.clnp_world.specs.declared.world.WorldRefusal.{WorldRefusal}
 use Rattle.clnp_world.specs.declared.world.WorldRefusal.TheVariants as refusal
-use Rattle.clnp_commands.specs.declared.storm.Counts.{Counts}
+use Rattle.clnp_world.specs.Lines.{both, no_lines, tally}
+use Rattle.clnp_world.specs.declared.lines.Counts.{Counts}
+use Rattle.clnp_world.proofs.LineSteps.{both-assoc, both-none, none-both}
 use Rattle.clnp_commands.specs.declared.storm.Summary.{Summary}
 use Rattle.clnp_commands.specs.declared.command.Command.TheVariants.{Storm}
 use Rattle.clnp_commands.specs.declared.status.Status.{Status}
@@ -23,10 +27,12 @@ use Rattle.clnp_commands.specs.ByLine.{EndOf}
 use Rattle.clnp_commands.specs.Words.{run_status}
 use Rattle.clnp_commands.specs.Play.{ComesTo}
 use Rattle.clnp_commands.specs.Storm.{counts_of, line_of_run, line_unless, storm_line, storm_stopped_at, summary_text}
-use Rattle.clnp_commands.specs.Counting.{both, no_lines, Counted, StopsAt, SumOf}
-use Rattle.clnp_commands.proofs.Counting.{both-assoc, both-none, none-both, counts_of-append, text_of-ends}
+use Rattle.clnp_commands.specs.Counting.{Counted, StopsAt, SumOf, tally_of}
+use Rattle.clnp_commands.proofs.Counting.{counts_of-append, moves_counts, settled_after, still_settled, tally_of-append, text_of-ends}
+use Rattle.clnp_commands.proofs.KindWords.{end_counts}
+use Rattle.clnp_commands.proofs.Named.{names_first, names_subnets}
 use Rattle.clnp_commands.proofs.Playing.{journal_whole}
-use Rattle.clnp_commands.proofs.Runs.{world_after-append, text_of-append, full_weight-behind, full_stays, until_full-all}
+use Rattle.clnp_commands.proofs.Runs.{world_after-append, full_weight-behind, full_stays, not_full, replicate_next, until_full-all}
 
 module _ (plan : Plan) (model : network.World) where
   -- no move was made yet
@@ -46,11 +52,9 @@ module _ (plan : Plan) (model : network.World) where
     stands = rw (world_after-append plan model made more) d.stands;
     counted =
         d.counted
-        ∙ (ap (λ (t : Counts). both t (counts_of (text_of plan (world_after plan model made) more))) c.counted
-        ∙ (both-assoc old (counts_of (text_of plan model made)) (counts_of (text_of plan (world_after plan model made) more))
-        ∙ ap (λ (t : Counts). both old t)
-        (sym (ap counts_of (text_of-append plan model made more)
-        ∙ counts_of-append (text_of plan model made) (text_of plan (world_after plan model made) more) (text_of-ends plan model made)))));
+        ∙ (ap (λ (t : Counts). both t (tally_of plan (world_after plan model made) more)) c.counted
+        ∙ (both-assoc old (tally_of plan model made) (tally_of plan (world_after plan model made) more)
+        ∙ ap (λ (t : Counts). both old t) (sym (tally_of-append plan model made more))));
   }
 
   -- counting stopped in the moves that come next, of all that were to be made
@@ -64,44 +68,80 @@ module _ (plan : Plan) (model : network.World) where
   count_stopped all made next later between old middle refusal.NoMemory split c d = tt
 
   -- one move was made
-  pub count_one : (move : Move) (code : WorldState) (text : List ℕ) (old new : Counts) → is_full model ≡ false
-      → Stands code (after plan model move).world → text ≡ lines_text (after plan model move).lines → new ≡ both old (counts_of text)
+  pub count_one : (move : Move) (code : WorldState) (old new : Counts) → is_full model ≡ false
+      → Stands code (after plan model move).world → new ≡ both old (tally (after plan model move).lines)
       → Counted plan model (move ∷ []) code old new
-  count_one move code text old new room stands lines counted = record {
+  count_one move code old new room stands counted = record {
     room = rw room refl;
     stands = stands;
-    counted = counted ∙ ap (λ (t : List ℕ). both old (counts_of t)) (lines ∙ sym (append-nil (lines_text (after plan model move).lines)));
+    counted = counted ∙ ap (λ (t : Counts). both old t) (sym (both-none (tally (after plan model move).lines)));
   }
+
+  -- no copy was left to settle, so to settle once is to settle often
+  pub count_settled : (code : WorldState) (old new : Counts) (times : ℕ) → length model.copies ≤ model.cursor
+      → Counted plan model (SettleOne ∷ []) code old new → Counted plan model (SettleOne ∷ replicate times SettleOne) code old new
+  count_settled code old new times past c =
+      let same = settled_after plan model past in
+      let room : is_full model ≡ false = (not_full (is_full model) (weight model) None c.room).0 in
+      let still = still_settled plan model times room past in
+      let world : (after plan model SettleOne).world ≡ model = ap (λ (s : Step). s.world) same in
+      count_more (SettleOne ∷ []) (replicate times SettleOne) code code old new new c
+      (subst (λ (w : network.World). Counted plan w (replicate times SettleOne) code new new) (sym world)
+      record {
+        room = still.room;
+        stands = subst (λ (w : network.World). Stands code w) (sym still.world) (subst (λ (w : network.World). Stands code w) world c.stands);
+        counted = sym (ap (λ (t : Counts). both new t) still.counted ∙ both-none new);
+      })
 
   -- the network is full before the move
   pub count_full : (move : Move) (octets : ℕ) → is_full model ≡ true → octets ≡ weight model → full_weight plan model (move ∷ []) ≡ Some octets
   count_full move octets full is = rw (full, is) refl
 
+-- so many times the same move is made, where after some of them no copy is left to settle
+pub count_rest : (plan : Plan) (model : network.World) (move : Move) (made times : ℕ) (between code : WorldState) (old middle new : Counts)
+    → made < times → move ≡ SettleOne
+    → nat_le (length (world_after plan model (replicate made move)).copies) (world_after plan model (replicate made move)).cursor ≡ true
+    → Counted plan model (replicate made move) between old middle
+    → Counted plan (world_after plan model (replicate made move)) (move ∷ []) code middle new
+    → Counted plan model (replicate times move) code old new
+count_rest plan model move made times between code old middle new within is settled so_far one =
+    let w : network.World = world_after plan model (replicate made move) in
+    let past : length w.copies ≤ w.cursor = leb-true (length w.copies) w.cursor settled in
+    let rest : List Move = replicate (times - (made + 1)) move in
+    let all : Counted plan w (move ∷ rest) code middle new =
+    subst (λ (m : Move). Counted plan w (m ∷ replicate (times - (made + 1)) m) code middle new) (sym is)
+    (count_settled plan w code middle new (times - (made + 1)) past (subst (λ (m : Move). Counted plan w (m ∷ []) code middle new) is one)) in
+    subst (λ (moves : List Move). Counted plan model moves code old new)
+    (sym (replicate_next made times move within ∙ append_assoc (replicate made move) (move ∷ []) rest))
+    (count_more plan model (replicate made move) (move ∷ rest) between code old middle new so_far all)
+
 made_of : (seed e c t events copies clock : ℕ) (a counts : Counts) → e ≡ events → c ≡ copies → t ≡ clock → a ≡ counts → Path Summary
     (record { seed = seed; events = e; copies = c; counts = a; clock = t }) (record { seed = seed; events = events; copies = copies; counts = counts; clock = clock })
 made_of seed e c t events copies clock a counts p q r s = rw (p, q, r, s) refl
 
--- a run that wasn't stopped: the lines of all moves and the journal's last line are counted
-pub summary_is : (seed events copies clock : ℕ) (plan : Plan) (code : WorldState) (counts all : Counts)
+-- a run that wasn't stopped: the lines of all moves are counted, and the journal's last line counts for nothing
+pub summary_is : (seed events copies clock : ℕ) (plan : Plan) (code : WorldState) (counts : Counts) → IsFit plan
     → (c : Counted plan (first_world plan) (moves_of_plan plan) code no_lines counts)
-    → all ≡ both counts (counts_of (world_end (world_after plan (first_world plan) (moves_of_plan plan))))
     → events ≡ length plan.events
     → copies ≡ length (world_after plan (first_world plan) (moves_of_plan plan)).copies
     → clock ≡ (world_after plan (first_world plan) (moves_of_plan plan)).clock
-    → SumOf seed plan (Ok (record { seed = seed; events = events; copies = copies; counts = all; clock = clock }))
-summary_is seed events copies clock plan code counts all c with_end events_are copies_are clock_is =
+    → SumOf seed plan (Ok (record { seed = seed; events = events; copies = copies; counts = counts; clock = clock }))
+summary_is seed events copies clock plan code counts fit c events_are copies_are clock_is =
     let moves : List Move = moves_of_plan plan in
     let first : network.World = first_world plan in
     let last : network.World = world_after plan first moves in
     let same : last ≡ last_world plan = ap (world_after plan first) (sym (until_full-all plan first moves c.room)) in
-    let of_moves : counts ≡ counts_of (text_of plan first moves) = c.counted ∙ none-both (counts_of (text_of plan first moves)) in
-    let of_all : all ≡ counts_of (journal plan) =
-    with_end ∙ (ap (λ (t : Counts). both t (counts_of (world_end last))) of_moves
-    ∙ sym (ap counts_of (journal_whole plan c.room)
-    ∙ counts_of-append (text_of plan first moves) (world_end last) (text_of-ends plan first moves))) in (
+    let of_moves : counts ≡ counts_of (text_of plan first moves) =
+    c.counted ∙ (none-both (tally_of plan first moves) ∙ sym (moves_counts plan first moves (names_subnets plan fit) (names_first plan fit))) in
+    let of_all : counts_of (journal plan) ≡ counts_of (text_of plan first moves) =
+    ap counts_of (journal_whole plan c.room)
+    ∙ (counts_of-append (text_of plan first moves) (world_end last) (text_of-ends plan first moves)
+    ∙ (ap (λ (t : Counts). both (counts_of (text_of plan first moves)) t) (end_counts last.clock (length last.copies))
+    ∙ both-none (counts_of (text_of plan first moves)))) in (
       c.room,
-      made_of seed events copies clock (length plan.events) (length (last_world plan).copies) (last_world plan).clock all (counts_of (journal plan))
-          events_are (copies_are ∙ ap (λ (w : network.World). length w.copies) same) (clock_is ∙ ap (λ (w : network.World). w.clock) same) of_all,
+      made_of seed events copies clock (length plan.events) (length (last_world plan).copies) (last_world plan).clock counts (counts_of (journal plan))
+          events_are (copies_are ∙ ap (λ (w : network.World). length w.copies) same) (clock_is ∙ ap (λ (w : network.World). w.clock) same)
+          (of_moves ∙ sym of_all),
     )
 
 -- ---- what a storm comes to

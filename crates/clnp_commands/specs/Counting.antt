@@ -1,35 +1,29 @@
 -- What the parts of the command `storm` come to: counting the lines of moves, and summing a run up.
-use Rattle.std.specs.Prelude.{◌≡◌, ℕ, ◌+◌, List, None, Some, Result, Ok, Err}
+use Rattle.std.specs.Prelude.{◌≡◌, ℕ, List, [], ◌∷◌, None, Some, Result, Ok, Err}
 use Rattle.scenario.specs.Scenario.{Plan}
 use Rattle.scenario.specs.declared.event.Move.{Move}
 use Rattle.clnp_network.specs.World as network
-use Rattle.clnp_network.specs.Run.{text_of, world_after, full_weight, moves_of_plan, stopped_at}
+use Rattle.clnp_network.specs.World.{after}
+use Rattle.clnp_network.specs.Run.{world_after, full_weight, moves_of_plan, stopped_at}
+use Rattle.clnp_world.specs.Lines.{both, no_lines, tally}
 use Rattle.clnp_world.specs.State.{WorldState}
 use Rattle.clnp_world.specs.Stands.{Stands}
 use Rattle.clnp_world.specs.declared.world.WorldRefusal.{WorldRefusal}
 use Rattle.clnp_world.specs.declared.world.WorldRefusal.TheVariants as refusal
-use Rattle.clnp_commands.specs.declared.storm.Counts.{Counts}
+use Rattle.clnp_world.specs.declared.lines.Counts.{Counts}
 use Rattle.clnp_commands.specs.declared.storm.Summary.{Summary}
-use Rattle.clnp_commands.specs.Storm.{counts_of, summary_of}
+use Rattle.clnp_commands.specs.Storm.{summary_of}
 
-abbrev pub no_lines : Counts
-no_lines = record { got = 0; reports = 0; echoed = 0; drops = 0; expired = 0 }
+-- what is counted of the lines of some moves
+abbrev pub tally_of : Plan → network.World → List Move → Counts
+tally_of plan w [] = no_lines
+tally_of plan w (move ∷ moves) = both (tally (after plan w move).lines) (tally_of plan (after plan w move).world moves)
 
--- what is counted of two parts of a text
-abbrev pub both : Counts → Counts → Counts
-both a b = record {
-  got = a.got + b.got;
-  reports = a.reports + b.reports;
-  echoed = a.echoed + b.echoed;
-  drops = a.drops + b.drops;
-  expired = a.expired + b.expired;
-}
-
--- the moves were made, before none of them was the network full, and the lines of their text were counted
+-- the moves were made, before none of them was the network full, and their lines were counted
 pub record Counted (plan : Plan) (model : network.World) (moves : List Move) (code : WorldState) (old new : Counts) : Type 0 where
   pub room : full_weight plan model moves ≡ None
   pub stands : Stands code (world_after plan model moves)
-  pub counted : new ≡ both old (counts_of (text_of plan model moves))
+  pub counted : new ≡ both old (tally_of plan model moves)
 
 -- why moves weren't all made and counted: the network was full before one of them, or memory was refused
 abbrev pub StopsAt : Plan → network.World → List Move → WorldRefusal → Type 0

@@ -7,7 +7,7 @@ use Rattle.clnp_base.specs.Text.{lines_of, words_of}
 use Rattle.scenario.specs.Scenario.{Plan}
 use Rattle.scenario.specs.Seeds.{storm}
 use Rattle.clnp_network.specs.Run.{journal, last_world, stopped_at}
-use Rattle.clnp_commands.specs.declared.storm.Counts.{Counts}
+use Rattle.clnp_world.specs.declared.lines.Counts.{Counts}
 use Rattle.clnp_commands.specs.declared.storm.Summary.{Summary}
 
 -- the third of some words; no octets where there are fewer

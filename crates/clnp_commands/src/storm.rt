@@ -1,126 +1,23 @@
 //! The command `storm`: what a run of the scenario of a seed counts.
-ghost use Rattle.std.specs.Prelude.{◌≡◌, ◌≤◌, ◌++◌, ◌+◌, [], ◌∷◌, IfSome, OnOk, if◌then◌else◌, replicate};
+ghost use Rattle.std.specs.Prelude.{◌≡◌, ◌≤◌, ◌++◌, [], ◌∷◌, OnOk, replicate};
 ghost use Rattle.clnp_base.specs.Streams.{Rose};
-ghost use Rattle.clnp_base.specs.Text.{words_of};
 ghost use Rattle.scenario.specs.Scenario.{moves_of};
 ghost use Rattle.clnp_network.specs.World as network;
-ghost use Rattle.clnp_network.specs.Run.{moves_of_plan, world_end};
+ghost use Rattle.clnp_network.specs.Run.{moves_of_plan};
 ghost use Rattle.clnp_world.specs.Stands.{Stands};
 ghost use Rattle.clnp_commands.specs.ByLine.{EndOf};
 ghost use Rattle.clnp_commands.specs.Play.{ComesTo};
 ghost use Rattle.clnp_commands.specs.Time.{HasTime};
-ghost use Rattle.clnp_commands.specs.Storm.{counts_in, counts_of, counts_text, summary_text, third_of};
-ghost use Rattle.clnp_commands.specs.Counting.{CountOf, SumOf, both, no_lines};
+ghost use Rattle.clnp_commands.specs.Storm.{counts_text, summary_text};
+ghost use Rattle.clnp_commands.specs.Counting.{CountOf, SumOf};
 
 use crate::command::Command;
 use crate::number::push_number;
 use crate::status::Status;
-use clnp_base::{NoMemory, Sink, next_line, next_word, push, write_all};
-use clnp_world::{World, WorldRefusal};
+use clnp_base::{NoMemory, Sink, push, write_all};
+use clnp_world::{Counts, World, WorldRefusal};
 use scenario::{Event, Move, Scenario, from_seed};
 use std::alloc::Global;
-
-/// How many lines of some kinds a journal has.
-#[derive(Clone, Copy, Debug, PartialEq, Eq)]
-pub struct Counts {
-    pub got: u64,
-    pub reports: u64,
-    pub echoed: u64,
-    pub drops: u64,
-    pub expired: u64,
-}
-
-impl Counts {
-    /// Those of no lines.
-    fn none() -> Counts
-        ensures { result ≡ no_lines }
-    {
-        Counts {
-            got: 0,
-            reports: 0,
-            echoed: 0,
-            drops: 0,
-            expired: 0,
-        }
-    }
-
-    /// These, and those of a text.
-    ///
-    /// `None` where a count would pass 2^64 - 1.
-    fn with_text(self, text: &[u8]) -> Option<Counts>
-        ensures { IfSome result (λ counts. counts ≡ both self (counts_of text.now)) }
-    {
-        let mut counts = self;
-        let mut left = text;
-        while let Some((line, others)) = next_line(left) {
-            counts = counts.with_line(line)?;
-            left = others;
-        }
-        Some(counts)
-    }
-
-    /// These, and that of a line.
-    fn with_line(self, line: &[u8]) -> Option<Counts>
-        ensures { IfSome result (λ counts. counts ≡ both self (counts_in (line.now ∷ []))) }
-    {
-        let kind = third_word(line);
-        Some(Counts {
-            got: with_one(self.got, kind == b"got".as_slice())?,
-            reports: with_one(self.reports, kind == b"report".as_slice())?,
-            echoed: with_one(self.echoed, kind == b"echoed".as_slice())?,
-            drops: with_one(self.drops, kind == b"drop".as_slice())?,
-            expired: with_one(self.expired, kind == b"expired".as_slice())?,
-        })
-    }
-
-    /// These, and those of the journal's last line.
-    ///
-    /// `None` where memory is refused, or a count would pass 2^64 - 1.
-    fn with_end(self, alloc: Global, world: &World) -> Option<Counts>
-        ensures { (last : network.World) → Stands world.now last
-            → IfSome result (λ counts. counts ≡ both self (counts_of (world_end last))) }
-    {
-        let mut line = Vec::new(alloc);
-        match world.finish(alloc, &mut line) {
-            Ok(()) => self.with_text(line.as_slice()),
-            Err(NoMemory) => None,
-        }
-    }
-
-    /// Appends what is counted.
-    fn push(self, out: &mut Vec<u8>) -> Result<(), NoMemory>
-        ensures { OnOk result (out.new.items ≡ out.old.items ++ counts_text self) }
-    {
-        push_number(b" got ", self.got, out)?;
-        push_number(b" reports ", self.reports, out)?;
-        push_number(b" echoed ", self.echoed, out)?;
-        push_number(b" drops ", self.drops, out)?;
-        push_number(b" expired ", self.expired, out)
-    }
-}
-
-/// The count, and one more where there is one.
-fn with_one(count: u64, one: bool) -> Option<u64>
-    ensures { IfSome result (λ counted. counted ≡ count + (if one then 1 else 0)) }
-{
-    count.checked_add(u64::from(one))
-}
-
-/// The third word of a line; no octets where it has fewer.
-fn third_word(line: &[u8]) -> &[u8]
-    ensures { result.now ≡ third_of (words_of line.now) }
-{
-    let Some((_, behind_first)) = next_word(line) else {
-        return &[];
-    };
-    let Some((_, behind_second)) = next_word(behind_first) else {
-        return &[];
-    };
-    match next_word(behind_second) {
-        Some((third, _)) => third,
-        None => &[],
-    }
-}
 
 /// What a run of the scenario of a seed comes to.
 #[derive(Clone, Copy, Debug, PartialEq, Eq)]
@@ -140,10 +37,21 @@ impl Summary {
         push_number(b"storm ", self.seed, out)?;
         push_number(b" events ", self.events, out)?;
         push_number(b" copies ", self.copies, out)?;
-        self.counts.push(out)?;
+        push_counts(&self.counts, out)?;
         push_number(b" end ", self.clock, out)?;
         push(b"\n", out)
     }
+}
+
+/// Appends what is counted.
+fn push_counts(counts: &Counts, out: &mut Vec<u8>) -> Result<(), NoMemory>
+    ensures { OnOk result (out.new.items ≡ out.old.items ++ counts_text counts.now) }
+{
+    push_number(b" got ", counts.got, out)?;
+    push_number(b" reports ", counts.reports, out)?;
+    push_number(b" echoed ", counts.echoed, out)?;
+    push_number(b" drops ", counts.drops, out)?;
+    push_number(b" expired ", counts.expired, out)
 }
 
 /// Runs the scenario of a seed, and writes a line of what it comes to.
@@ -188,19 +96,16 @@ fn sum_up(alloc: Global, seed: u64, scenario: &Scenario) -> Result<Summary, Worl
     };
     let mut counts = Counts::none();
     count_events(alloc, scenario, &mut world, &mut counts)?;
-    match counts.with_end(alloc, &world) {
-        Some(counts) => Ok(Summary {
-            seed,
-            events: scenario.events().len() as u64,
-            copies: world.copies(),
-            counts,
-            clock: world.clock(),
-        }),
-        None => Err(WorldRefusal::NoMemory),
-    }
+    Ok(Summary {
+        seed,
+        events: scenario.events().len() as u64,
+        copies: world.copies(),
+        counts,
+        clock: world.clock(),
+    })
 }
 
-/// Makes the moves of all events and counts their lines; nothing is kept but one move's lines.
+/// Makes the moves of all events and counts their lines.
 fn count_events(
     alloc: Global,
     scenario: &Scenario,
@@ -211,9 +116,8 @@ fn count_events(
     ensures { (model : network.World) → Stands world.old model
         → CountOf scenario.now model (moves_of_plan scenario.now) world.new counts.old counts.new result }
 {
-    let mut block = Vec::new(alloc);
     for (place, event) in scenario.events().iter().enumerate() {
-        count_event(alloc, scenario, place, event, world, &mut block, counts)?;
+        count_event(alloc, scenario, place, event, world, counts)?;
     }
     Ok(())
 }
@@ -225,7 +129,6 @@ fn count_event(
     place: usize,
     event: &Event,
     world: &mut World,
-    block: &mut Vec<u8>,
     counts: &mut Counts,
 ) -> Result<(), WorldRefusal>
     requires { HasTime world.old (moves_of place event.now) }
@@ -243,7 +146,7 @@ fn count_event(
         | Event::Congest { .. }
         | Event::Inject { .. } => (Move::One(place), 1),
     };
-    count_times(alloc, scenario, &mv, times, world, block, counts)
+    count_times(alloc, scenario, &mv, times, world, counts)
 }
 
 /// Makes one move so many times and counts the lines.
@@ -253,7 +156,6 @@ fn count_times(
     mv: &Move,
     times: u32,
     world: &mut World,
-    block: &mut Vec<u8>,
     counts: &mut Counts,
 ) -> Result<(), WorldRefusal>
     requires { HasTime world.old (replicate times mv.now) }
@@ -261,7 +163,12 @@ fn count_times(
         → CountOf scenario.now model (replicate times mv.now) world.new counts.old counts.new result }
 {
     for _made in 0..times {
-        count_move(alloc, scenario, mv, world, block, counts)?;
+        let settled = world.is_settled();
+        count_move(alloc, scenario, mv, world, counts)?;
+        // To settle a copy where none is left changes nothing, however often.
+        if settled && matches!(mv, Move::SettleOne) {
+            return Ok(());
+        }
     }
     Ok(())
 }
@@ -272,20 +179,11 @@ fn count_move(
     scenario: &Scenario,
     mv: &Move,
     world: &mut World,
-    block: &mut Vec<u8>,
     counts: &mut Counts,
 ) -> Result<(), WorldRefusal>
     requires { HasTime world.old (mv.now ∷ []) }
     ensures { (model : network.World) → Stands world.old model
         → CountOf scenario.now model (mv.now ∷ []) world.new counts.old counts.new result }
 {
-    block.clear();
-    world.step(alloc, scenario, mv, block)?;
-    match counts.with_text(block.as_slice()) {
-        Some(counted) => {
-            *counts = counted;
-            Ok(())
-        }
-        None => Err(WorldRefusal::NoMemory),
-    }
+    world.count_step(alloc, scenario, mv, counts)
 }

@@ -4,13 +4,14 @@ use Rattle.std.specs.Prelude.{slice_get}
 use Rattle.std.specs.List.{AllByRecursion}
 use Rattle.std.proofs.lemmas.List.{take_all}
 use Rattle.std.proofs.lemmas.Option.{slice_get_past}
-use Rattle.clnp_plan.specs.Journal.{Void, Late, line_text}
+use Rattle.clnp_plan.specs.Journal.{Void, Late}
 use Rattle.clnp_plan.specs.declared.config.Limits.{Limits}
 use Rattle.clnp_machine.specs.Content.{IsCarried}
 use Rattle.clnp_machine.specs.System.{FrameComes, SystemState}
 use Rattle.clnp_machine.specs.Step.{step}
 use Rattle.clnp_network.specs.World as network
-use Rattle.clnp_network.specs.Run.{lines_text}
+use Rattle.clnp_world.specs.Lines.{Gains}
+use Rattle.clnp_world.specs.declared.lines.Lines.{Lines}
 use Rattle.clnp_world.specs.Seen.{frame_copy}
 use Rattle.clnp_world.specs.Parts.{Shows, Holds, IsRunning, Follows}
 use Rattle.clnp_world.specs.Stands.{IsBornWithUnit}
@@ -61,12 +62,12 @@ copy_there code model at h within =
     let same = counted code model h in
     slice_get_some model.copies at (omega arith)
 
-pub follows_nothing : (code : Network) (lines : List ℕ) (model : network.World) → Holds code model → Follows code lines lines (network.nothing model)
+pub follows_nothing : (code : Network) (lines : Lines) (model : network.World) → Holds code model → Follows code lines lines (network.nothing model)
 follows_nothing code lines model h =
     let part = puts_nothing code model lines h.shows in record { holds = h; lines = part.lines }
 
-follows_then : (code : Network) (before between after : List ℕ) (part : network.Step) (next : network.World → network.Step)
-    → between ≡ before ++ lines_text part.lines → Follows code between after (next part.world)
+follows_then : (code : Network) (before between after : Lines) (part : network.Step) (next : network.World → network.Step)
+    → Gains before between part.lines → Follows code between after (next part.world)
     → Follows code before after (network.followed_by part next)
 follows_then code before between after part next e h =
     let both = puts_then code before between after part next e (record { shows = h.holds.shows; lines = h.lines }) in
@@ -83,10 +84,10 @@ TellsLate code limits at answer =
     (model : network.World) (copy : network.Copy) → Shows code model → slice_get model.copies at ≡ Some copy
     → answer ≡ network.is_late limits model copy
 
-pub gives_late : (code : Network) (before after : List ℕ) (limits : Limits) (number at place : ℕ) → place < length code.systems.items
+pub gives_late : (code : Network) (before after : Lines) (limits : Limits) (number at place : ℕ) → place < length code.systems.items
     → TellsLate code limits at true
     → ((model : network.World) (system : SystemState) → Shows code model → slice_get model.systems place ≡ Some system
-    → after ≡ before ++ line_text (Late model.clock system.configuration.name number))
+    → Gains before after (Late model.clock system.configuration.name number ∷ []))
     → (model : network.World) (copy : network.Copy) → Holds code model → slice_get model.copies at ≡ Some copy
     → Follows code before after (network.give limits (numbered number copy) model place)
 gives_late code before after limits number at place within tells writes model copy h there =
@@ -97,7 +98,7 @@ gives_late code before after limits number at place within tells writes model co
     (network.takes_effect model place (step system.0 (network.frame_to system.0 copy))))) (tells model copy h.shows there)
     record { holds = h; lines = part.lines })
 
-pub gives_now : (old code : Network) (before after : List ℕ) (limits : Limits) (number at place : ℕ) → place < length old.systems.items
+pub gives_now : (old code : Network) (before after : Lines) (limits : Limits) (number at place : ℕ) → place < length old.systems.items
     → TellsLate old limits at false
     → ((model : network.World) (copy : network.Copy) (system : SystemState) → Holds old model → slice_get model.copies at ≡ Some copy
     → slice_get model.systems place ≡ Some system
@@ -114,7 +115,7 @@ gives_now old code before after limits number at place within tells hands model 
 -- One copy for each of its addressees.
 
 -- what the code has given of a copy, to the systems below a place, is what the model has
-abbrev pub Gives : Network → Network → List ℕ → List ℕ → Limits → ℕ → ℕ → Type 0
+abbrev pub Gives : Network → Network → Lines → Lines → Limits → ℕ → ℕ → Type 0
 Gives start code before after limits at place =
     (model : network.World) (copy : network.Copy) → Holds start model → slice_get model.copies at ≡ Some copy
     → Follows code before after (network.give_each limits (numbered (at + 1) copy) model (network.addressees_from 0 copy (take place model.systems)))
@@ -125,11 +126,11 @@ TellsAddressee code at place answer =
     (model : network.World) (copy : network.Copy) (system : SystemState) → Shows code model → slice_get model.copies at ≡ Some copy
     → slice_get model.systems place ≡ Some system → answer ≡ network.is_addressee copy system.configuration
 
-pub gives_none : (code : Network) (lines : List ℕ) (limits : Limits) (at : ℕ) → Gives code code lines lines limits at 0
+pub gives_none : (code : Network) (lines : Lines) (limits : Limits) (at : ℕ) → Gives code code lines lines limits at 0
 gives_none code lines limits at model copy h there = follows_nothing code lines model h
 
 -- while it is given, the network stands for one of the model
-pub still_running : (start code : Network) (before after : List ℕ) (limits : Limits) (at place : ℕ) → IsRunning start → at < length start.copies.items
+pub still_running : (start code : Network) (before after : Lines) (limits : Limits) (at place : ℕ) → IsRunning start → at < length start.copies.items
     → Gives start code before after limits at place → IsRunning code
 still_running start code before after limits at place running within so_far =
     let model = running.0 in
@@ -151,7 +152,7 @@ same_configuration (x ∷ xs) (z ∷ ys) (suc i) y e at =
     same_configuration xs ys i y tail at
 
 -- whether the copy is for the system at the place, when those before it have it
-tells_then : (start mid : Network) (before between : List ℕ) (limits : Limits) (at place : ℕ) (answer : Bool) (model : network.World) (copy : network.Copy) (system : SystemState)
+tells_then : (start mid : Network) (before between : Lines) (limits : Limits) (at place : ℕ) (answer : Bool) (model : network.World) (copy : network.Copy) (system : SystemState)
     → Gives start mid before between limits at place → TellsAddressee mid at place answer
     → Holds start model → slice_get model.copies at ≡ Some copy → slice_get model.systems place ≡ Some system
     → answer ≡ network.is_addressee copy system.configuration
@@ -164,7 +165,7 @@ tells_then start mid before between limits at place answer model copy system so_
     tells w.world copy now.0 part.holds.shows (copy-give_each limits given model ps at copy there) now.1
     ∙ ap (λ c. network.is_addressee copy c) now.2
 
-pub gives_more : (start mid code : Network) (before between after : List ℕ) (limits : Limits) (at place : ℕ)
+pub gives_more : (start mid code : Network) (before between after : Lines) (limits : Limits) (at place : ℕ)
     → Gives start mid before between limits at place → place < length start.systems.items → TellsAddressee mid at place true
     → ((model : network.World) (copy : network.Copy) → Holds mid model → slice_get model.copies at ≡ Some copy
     → Follows code between after (network.give limits (numbered (at + 1) copy) model place))
@@ -183,7 +184,7 @@ gives_more start mid code before between after limits at place so_far within tel
     (follows_then code before between after w (λ v. network.give limits given v place) front.lines
     (next w.world copy front.holds (copy-give_each limits given model ps at copy there)))
 
-pub gives_skip : (start code : Network) (before after : List ℕ) (limits : Limits) (at place : ℕ)
+pub gives_skip : (start code : Network) (before after : Lines) (limits : Limits) (at place : ℕ)
     → Gives start code before after limits at place → place < length start.systems.items → TellsAddressee code at place false
     → Gives start code before after limits at (place + 1)
 gives_skip start code before after limits at place so_far within tells model copy h there =
@@ -196,7 +197,7 @@ gives_skip start code before after limits at place so_far within tells model cop
     subst (λ (qs : List ℕ). Follows code before after (network.give_each limits (numbered (at + 1) copy) model qs)) (sym same) front
 
 -- the same where the code's names differ, as after an `if`
-pub gives_more_as : (start mid given code : Network) (before between lines after : List ℕ) (limits : Limits) (at place : ℕ)
+pub gives_more_as : (start mid given code : Network) (before between lines after : Lines) (limits : Limits) (at place : ℕ)
     → Gives start mid before between limits at place → place < length start.systems.items → TellsAddressee mid at place true
     → code ≡ given → after ≡ lines
     → ((model : network.World) (copy : network.Copy) → Holds mid model → slice_get model.copies at ≡ Some copy
@@ -204,19 +205,19 @@ pub gives_more_as : (start mid given code : Network) (before between lines after
     → Gives start code before after limits at (place + 1)
 gives_more_as start mid given code before between lines after limits at place so_far within tells same_code same_lines next =
     subst (λ (w : Network). Gives start w before after limits at (place + 1)) (sym same_code)
-    (subst (λ (l : List ℕ). Gives start given before l limits at (place + 1)) (sym same_lines)
+    (subst (λ (l : Lines). Gives start given before l limits at (place + 1)) (sym same_lines)
     (gives_more start mid given before between lines limits at place so_far within tells next))
 
-pub gives_skip_as : (start mid code : Network) (before between after : List ℕ) (limits : Limits) (at place : ℕ)
+pub gives_skip_as : (start mid code : Network) (before between after : Lines) (limits : Limits) (at place : ℕ)
     → Gives start mid before between limits at place → place < length start.systems.items → TellsAddressee mid at place false
     → code ≡ mid → after ≡ between
     → Gives start code before after limits at (place + 1)
 gives_skip_as start mid code before between after limits at place so_far within tells same_code same_lines =
     subst (λ (w : Network). Gives start w before after limits at (place + 1)) (sym same_code)
-    (subst (λ (l : List ℕ). Gives start mid before l limits at (place + 1)) (sym same_lines)
+    (subst (λ (l : Lines). Gives start mid before l limits at (place + 1)) (sym same_lines)
     (gives_skip start mid before between limits at place so_far within tells))
 
-pub gives_all : (start code : Network) (before after : List ℕ) (limits : Limits) (at place : ℕ)
+pub gives_all : (start code : Network) (before after : Lines) (limits : Limits) (at place : ℕ)
     → Gives start code before after limits at place → length start.systems.items ≤ place
     → (model : network.World) (copy : network.Copy) → Holds start model → slice_get model.copies at ≡ Some copy
     → Follows code before after (network.give_each limits (numbered (at + 1) copy) model (network.addressees_from 0 copy model.systems))
@@ -244,7 +245,7 @@ moves_on code model h = record {
 }
 
 -- the copy at the cursor is given
-pub settles : (old code : Network) (before after : List ℕ) (limits : Limits) → old.cursor < length old.copies.items
+pub settles : (old code : Network) (before after : Lines) (limits : Limits) → old.cursor < length old.copies.items
     → ((model : network.World) (copy : network.Copy) → Holds (record old { cursor = old.cursor + 1 }) model → slice_get model.copies old.cursor ≡ Some copy
     → Follows code before after (network.give_each limits (numbered (old.cursor + 1) copy) model (network.addressees_from 0 copy model.systems)))
     → (model : network.World) → Holds old model → Follows code before after (network.settle_one limits model)
@@ -267,12 +268,12 @@ delivered limits model number at place system found at_is here there =
     ∙ ap (λ (c : Option network.Copy). network.deliver_to limits model number place c system) there
 
 -- the line of a copy that isn't there for the system at the place is written
-abbrev pub WritesVoid : Network → List ℕ → List ℕ → ℕ → ℕ → Type 0
+abbrev pub WritesVoid : Network → Lines → Lines → ℕ → ℕ → Type 0
 WritesVoid code before after number place =
     (model : network.World) (system : SystemState) → Shows code model → slice_get model.systems place ≡ Some system
-    → after ≡ before ++ line_text (Void model.clock system.configuration.name number)
+    → Gains before after (Void model.clock system.configuration.name number ∷ [])
 
-void_follows : (code : Network) (before after : List ℕ) (number place : ℕ) (model : network.World) (system : SystemState)
+void_follows : (code : Network) (before after : Lines) (number place : ℕ) (model : network.World) (system : SystemState)
     → WritesVoid code before after number place → Holds code model → slice_get model.systems place ≡ Some system
     → Follows code before after (network.is_void model system number)
 void_follows code before after number place model system writes h here =
@@ -280,7 +281,7 @@ void_follows code before after number place model system writes h here =
     record { holds = h; lines = part.lines }
 
 -- there is no system at the place
-pub delivers_nowhere : (code : Network) (lines : List ℕ) (limits : Limits) (number place : ℕ) → length code.systems.items ≤ place
+pub delivers_nowhere : (code : Network) (lines : Lines) (limits : Limits) (number place : ℕ) → length code.systems.items ≤ place
     → (model : network.World) → Holds code model → Follows code lines lines (network.deliver limits model number place)
 delivers_nowhere code lines limits number place past model h =
     let same = each_length code.systems.items model.systems h.shows.systems in
@@ -289,7 +290,7 @@ delivers_nowhere code lines limits number place past model h =
     (follows_nothing code lines model h)
 
 -- there is no such copy
-pub delivers_none : (code : Network) (before after : List ℕ) (limits : Limits) (number at place : ℕ) → at ≡ number - 1 → place < length code.systems.items
+pub delivers_none : (code : Network) (before after : Lines) (limits : Limits) (number at place : ℕ) → at ≡ number - 1 → place < length code.systems.items
     → length code.copies.items ≤ at → WritesVoid code before after number place
     → (model : network.World) → Holds code model → Follows code before after (network.deliver limits model number place)
 delivers_none code before after limits number at place at_is within past writes model h =
@@ -300,7 +301,7 @@ delivers_none code before after limits number at place at_is within past writes 
     (void_follows code before after number place model system.0 writes h system.1)
 
 -- the copy isn't for the system
-pub delivers_other : (code : Network) (before after : List ℕ) (limits : Limits) (number at place : ℕ) → at ≡ number - 1 → place < length code.systems.items
+pub delivers_other : (code : Network) (before after : Lines) (limits : Limits) (number at place : ℕ) → at ≡ number - 1 → place < length code.systems.items
     → at < length code.copies.items → TellsAddressee code at place false → WritesVoid code before after number place
     → (model : network.World) → Holds code model → Follows code before after (network.deliver limits model number place)
 delivers_other code before after limits number at place at_is within within' tells writes model h =
@@ -312,7 +313,7 @@ delivers_other code before after limits number at place at_is within within' tel
     (void_follows code before after number place model system.0 writes h system.1))
 
 -- the copy is for the system
-pub delivers : (old code : Network) (before after : List ℕ) (limits : Limits) (number at place : ℕ) → at ≡ number - 1 → place < length old.systems.items
+pub delivers : (old code : Network) (before after : Lines) (limits : Limits) (number at place : ℕ) → at ≡ number - 1 → place < length old.systems.items
     → at < length old.copies.items → TellsAddressee old at place true
     → ((model : network.World) (copy : network.Copy) → Holds old model → slice_get model.copies at ≡ Some copy
     → Follows code before after (network.give limits (numbered number copy) model place))

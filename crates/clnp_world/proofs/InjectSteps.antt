@@ -1,16 +1,18 @@
 -- What a network of the code stands for after a frame came from outside.
-use Rattle.std.proofs.Common.{◌≡◌, ◌≤◌, ◌+◌, ◌∙◌, ℕ, cond, Bool, true, false, List, [], ◌∷◌, ◌++◌, length, Option, Some, refl, sym, ap, subst, append-nil}
+use Rattle.std.proofs.Common.{◌≡◌, ◌≤◌, ◌+◌, ◌∙◌, ℕ, cond, Bool, true, false, List, [], ◌∷◌, length, Option, Some, refl, sym, ap, subst}
 use Rattle.std.specs.Prelude.{is_none, slice_get}
 use Rattle.hex.specs.Hex.{IsBytes}
 use Rattle.nsap.specs.declared.target.Target.{Target}
 use Rattle.esis_pdus.specs.Reading as esis_reading
 use Rattle.esis_pdus.specs.Rules.{why_refused}
 use Rattle.pdu_header.specs.Reading.{rest_of}
-use Rattle.clnp_plan.specs.Journal.{Injected, line_text}
+use Rattle.clnp_plan.specs.Journal.{Injected, Line}
 use Rattle.clnp_machine.specs.Content.{Esis, Labelled, Unlabelled, content_of, esis_value_in, is_accepted, packet_from_outside, value_in}
 use Rattle.clnp_machine.proofs.Outside.{content_carried, content_frame}
 use Rattle.clnp_network.specs.World as network
 use Rattle.scenario.specs.Scenario.{Subnetwork}
+use Rattle.clnp_world.specs.Lines.{Gains}
+use Rattle.clnp_world.specs.declared.lines.Lines.{Lines}
 use Rattle.clnp_world.specs.Seen.{frame_copy}
 use Rattle.clnp_world.specs.Stands.{IsBornWithUnit}
 use Rattle.clnp_world.specs.Parts.{Follows, Holds, PutsCopies}
@@ -35,10 +37,10 @@ outside_copy subnet sender target birth octets =
     record { subnet = subnet; sender = sender; target = target; birth = birth; frame = octets }
 
 -- the frame is the next copy on a subnetwork that was declared
-pub injects_there : (old code : Network) (before after : List ℕ) (subnets : List Subnetwork) (subnet number : ℕ) (declared : Subnetwork)
+pub injects_there : (old code : Network) (before after : Lines) (subnets : List Subnetwork) (subnet number : ℕ) (declared : Subnetwork)
     → (sender : List ℕ) (target : Target) (octets : List ℕ) → slice_get subnets subnet ≡ Some declared → IsBytes octets → length octets ≤ 70000
     → number ≡ length old.copies.items
-    → after ≡ before ++ line_text (Injected old.clock (number + 1) declared.name sender target)
+    → Gains before after (Injected old.clock (number + 1) declared.name sender target ∷ [])
     → PutsCopies old code (outside_copy subnet sender target old.clock octets ∷ [])
     → code ≡ record old { copies = code.copies; weight = code.weight }
     → (model : network.World) → Holds old model → Follows code before after (network.injects subnets model subnet sender target octets)
@@ -56,7 +58,7 @@ injects_there old code before after subnets subnet number declared sender target
             (content_carried next model.clock octets bytes, tt) (born_outside next model.clock octets, tt) (few, tt) put others model h.shows;
         current = h.current;
       };
-      lines = line ∙ ap (λ (t : ℕ). before ++ line_text (Injected t (number + 1) declared.name sender target)) h.shows.clock
-          ∙ ap (λ (k : ℕ). before ++ line_text (Injected model.clock k declared.name sender target)) number_is
-          ∙ ap (λ (l : List ℕ). before ++ l) (sym (append-nil (line_text (Injected model.clock next declared.name sender target))));
+      lines = subst (λ (l : Line). Gains before after (l ∷ []))
+          (ap (λ (t : ℕ). Injected t (number + 1) declared.name sender target) h.shows.clock
+          ∙ ap (λ (k : ℕ). Injected model.clock k declared.name sender target) number_is) line;
     }

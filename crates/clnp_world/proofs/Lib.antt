@@ -1,5 +1,6 @@
 pub mod ListSteps
 pub mod ModelSteps
+pub mod LineSteps
 pub mod EachSteps
 pub mod PutSteps
 pub mod TakeSteps

@@ -1,5 +1,5 @@
 -- What a network of the code shows after a note was written or a frame put on a subnetwork.
-use Rattle.std.proofs.Common.{◌≡◌, ℕ, ◌+◌, ◌<◌, ◌≤◌, inl, inr, cond, Bool, List, [], ◌∷◌, ◌++◌, length, map, get_or, Option, Some, None, refl, sym, ap, ◌∙◌, subst, append-nil, append_assoc, length-append, arith}
+use Rattle.std.proofs.Common.{◌≡◌, ℕ, ◌+◌, ◌<◌, ◌≤◌, inl, inr, cond, Bool, List, [], ◌∷◌, ◌++◌, length, map, get_or, Option, Some, None, refl, sym, ap, ◌∙◌, subst, append-nil, length-append, arith}
 use Rattle.std.specs.Prelude.{slice_get, sum}
 use Rattle.std.specs.List.{AllByRecursion}
 use Rattle.std.proofs.lemmas.List.{length-map, map-append}
@@ -17,15 +17,16 @@ use Rattle.clnp_plan.specs.declared.note.Note.{Note}
 use Rattle.clnp_plan.specs.declared.output.Output as output
 use Rattle.clnp_plan.specs.declared.output.Output.TheVariants.{Transmit, Note as Told}
 use Rattle.clnp_plan.specs.declared.output.Sending.{Sending}
-use Rattle.clnp_plan.specs.Journal.{Noted, Transmitted, Line, line_text}
+use Rattle.clnp_plan.specs.Journal.{Noted, Transmitted, Line}
 use Rattle.clnp_machine.specs.Unit as unit
 use Rattle.clnp_machine.specs.Unit.{DeclaredAt, Maker, Packet, value_of, wire, IsCarriable}
 use Rattle.clnp_machine.specs.Content.{Content, Esis, IsCarried, Labelled, Unlabelled, frame_of}
 use Rattle.clnp_machine.specs.System.{SystemState, Output, Transmits, SendsEsis, Notes}
 use Rattle.clnp_network.specs.World as network
-use Rattle.clnp_network.specs.Run.{lines_text}
 use Rattle.clnp_systems.specs.declared.system.System.{System}
 use Rattle.clnp_machine.specs.Given.{CarriesUnit, GiveAllFor, GivesFor, frame_in}
+use Rattle.clnp_world.specs.Lines.{Gains}
+use Rattle.clnp_world.specs.declared.lines.Lines.{Lines}
 use Rattle.clnp_world.specs.Seen.{frame_copy, frame_copies, frames_weight}
 use Rattle.clnp_world.specs.Stands.{IsBornWithUnit, StandEach}
 use Rattle.clnp_world.specs.Parts.{Shows, Puts, PutsCopies}
@@ -33,28 +34,24 @@ use Rattle.clnp_world.specs.declared.network.Network.{Network}
 use Rattle.clnp_world.specs.declared.copy.FrameCopy.{FrameCopy}
 use Rattle.clnp_base.proofs.Lists.{AllByRecursion-append}
 use Rattle.clnp_world.proofs.ListSteps.{slice_get_read}
-use Rattle.clnp_world.proofs.ModelSteps.{lines_text-append, put_all_out-push, systems-put_all_out}
+use Rattle.clnp_world.proofs.LineSteps.{gains_nothing, gains_more}
+use Rattle.clnp_world.proofs.ModelSteps.{put_all_out-push, systems-put_all_out}
 
 -- nothing happens
-pub puts_nothing : (code : Network) (model : network.World) (lines : List ℕ) → Shows code model → Puts code lines lines (network.nothing model)
-puts_nothing code model lines h = record { shows = h; lines = sym (append-nil lines) }
+pub puts_nothing : (code : Network) (model : network.World) (lines : Lines) → Shows code model → Puts code lines lines (network.nothing model)
+puts_nothing code model lines h = record { shows = h; lines = gains_nothing lines }
 
 -- one part, and then the next
-pub puts_then : (code : Network) (before between after : List ℕ) (part : network.Step) (next : network.World → network.Step)
-    → between ≡ before ++ lines_text part.lines → Puts code between after (next part.world)
+pub puts_then : (code : Network) (before between after : Lines) (part : network.Step) (next : network.World → network.Step)
+    → Gains before between part.lines → Puts code between after (next part.world)
     → Puts code before after (network.followed_by part next)
-puts_then code before between after part next e h = record {
-  shows = h.shows;
-  lines = h.lines ∙ ap (λ (t : List ℕ). t ++ lines_text (next part.world).lines) e
-      ∙ append_assoc before (lines_text part.lines) (lines_text (next part.world).lines)
-      ∙ ap (λ (t : List ℕ). before ++ t) (sym (lines_text-append part.lines (next part.world).lines));
-}
+puts_then code before between after part next e h =
+    record { shows = h.shows; lines = gains_more before between after part.lines (next part.world).lines e h.lines }
 
 -- nothing changes but that a line is written
-pub puts_line : (code : Network) (before after : List ℕ) (model : network.World) (line : Line) → Shows code model → after ≡ before ++ line_text line
+pub puts_line : (code : Network) (before after : Lines) (model : network.World) (line : Line) → Shows code model → Gains before after (line ∷ [])
     → Puts code before after (network.writes model line)
-puts_line code before after model line h e =
-    record { shows = h; lines = e ∙ ap (λ (l : List ℕ). before ++ l) (sym (append-nil (line_text line))) }
+puts_line code before after model line h e = record { shows = h; lines = e }
 
 -- Weights.
 
@@ -141,9 +138,9 @@ shows_more old code made frames seen good born short put others model h = record
 }
 
 -- a frame that stands for what it carries
-puts_frame : (old code : Network) (before after : List ℕ) (port : ℕ) (target : Target) (maker : Maker) (birth : ℕ) (content : Content) (system : SystemState)
+puts_frame : (old code : Network) (before after : Lines) (port : ℕ) (target : Target) (maker : Maker) (birth : ℕ) (content : Content) (system : SystemState)
     → (model : network.World) → Shows old model → IsCarried content → IsBornWithUnit birth content → length (frame_of content) ≤ 70000
-    → after ≡ before ++ line_text (Transmitted model.clock system.configuration.name (length model.copies + 1) port target (frame_of content))
+    → Gains before after (Transmitted model.clock system.configuration.name (length model.copies + 1) port target (frame_of content) ∷ [])
     → PutsCopies old code (frame_copies (slice_get system.configuration.ports port) target birth (frame_of content))
     → code ≡ record old { copies = code.copies; weight = code.weight }
     → Puts code before after (network.sends_frame system model port target maker birth content)
@@ -153,8 +150,7 @@ puts_frame old code before after port target maker birth content system model h 
       shows = shows_more old code (network.copy_from at target maker birth content) (frame_copies at target birth (frame_of content))
           (copy_seen at target maker birth content) (copy_carried at target maker birth content good)
           (copy_born at target maker birth content born) (copy_short at target birth (frame_of content) few) put others model h;
-      lines = line ∙ ap (λ (l : List ℕ). before ++ l)
-          (sym (append-nil (line_text (Transmitted model.clock system.configuration.name (length model.copies + 1) port target (frame_of content)))));
+      lines = line;
     }
 
 -- the moment at which the copy of a frame was born, where what came was born at another
@@ -168,10 +164,10 @@ as_old came (Esis value following) u born same = absurd same
 as_old came (Unlabelled octets) u born same = absurd same
 
 -- the frame of a packet
-sends_packet : (old code : Network) (before after : List ℕ) (sending : Sending) (frame : List ℕ) (birth port : ℕ) (target : Target) (packet : Packet)
+sends_packet : (old code : Network) (before after : Lines) (sending : Sending) (frame : List ℕ) (birth port : ℕ) (target : Target) (packet : Packet)
     → frame ≡ frame_in sending
     → (model : network.World) (system : SystemState) → Shows old model
-    → after ≡ before ++ line_text (Transmitted model.clock system.configuration.name (length model.copies + 1) sending.port sending.to frame)
+    → Gains before after (Transmitted model.clock system.configuration.name (length model.copies + 1) sending.port sending.to frame ∷ [])
     → PutsCopies old code (frame_copies (slice_get system.configuration.ports sending.port) sending.to birth frame)
     → code ≡ record old { copies = code.copies; weight = code.weight }
     → sending.port ≡ port → sending.to ≡ target → frame_in sending ≡ wire packet → IsCarriable packet → birth ≡ packet.unit.made
@@ -185,10 +181,10 @@ sends_packet old code before after sending frame birth port target packet frame_
     puts_frame old code before after port target packet.unit.maker packet.unit.made (Labelled packet []) system model h carriable refl few line' put' others
 
 -- the frame that a sending is stands for an output of the model
-sends : (old code : Network) (before after : List ℕ) (came birth : ℕ) (content : Content) (sending : Sending) (frame : List ℕ) (other : Output)
+sends : (old code : Network) (before after : Lines) (came birth : ℕ) (content : Content) (sending : Sending) (frame : List ℕ) (other : Output)
     → frame ≡ frame_in sending → birth ≡ birth_of sending came old.clock
     → (model : network.World) (system : SystemState) → Shows old model
-    → after ≡ before ++ line_text (Transmitted model.clock system.configuration.name (length model.copies + 1) sending.port sending.to frame)
+    → Gains before after (Transmitted model.clock system.configuration.name (length model.copies + 1) sending.port sending.to frame ∷ [])
     → PutsCopies old code (frame_copies (slice_get system.configuration.ports sending.port) sending.to birth frame)
     → code ≡ record old { copies = code.copies; weight = code.weight } → IsBornWithUnit came content
     → GivesFor old.clock content (Transmit sending) other → Puts code before after (network.put_out system model other)
@@ -213,10 +209,10 @@ sends old code before after came birth content sending frame (SendsEsis port tar
     puts_frame old code before after port target (DeclaredAt system.place) model.clock (Esis value []) system model h gives.pdu tt few line' put' others
 
 -- an output that is a frame stands for one of the model
-pub puts_transmission : (old code : Network) (before after : List ℕ) (place came birth : ℕ) (sending : Sending) (frame : List ℕ) (out : output.Output)
+pub puts_transmission : (old code : Network) (before after : Lines) (place came birth : ℕ) (sending : Sending) (frame : List ℕ) (out : output.Output)
     → out ≡ Transmit sending → frame ≡ frame_in sending → birth ≡ birth_of sending came old.clock
     → ((model : network.World) (system : SystemState) → Shows old model → slice_get model.systems place ≡ Some system
-    → after ≡ before ++ line_text (Transmitted model.clock system.configuration.name (length model.copies + 1) sending.port sending.to frame))
+    → Gains before after (Transmitted model.clock system.configuration.name (length model.copies + 1) sending.port sending.to frame ∷ []))
     → ((model : network.World) (system : SystemState) → Shows old model → slice_get model.systems place ≡ Some system
     → PutsCopies old code (frame_copies (slice_get system.configuration.ports sending.port) sending.to birth frame))
     → code ≡ record old { copies = code.copies; weight = code.weight }
@@ -228,17 +224,17 @@ puts_transmission old code before after place came birth sending frame out is fr
     (copies model system h there) others born (subst (λ (o : output.Output). GivesFor old.clock content o other) is gives)
 
 -- an output that is a note stands for one of the model
-tells : (code : Network) (before after : List ℕ) (content : Content) (note : Note) (other : Output) (model : network.World) (system : SystemState) → Shows code model
-    → after ≡ before ++ line_text (Noted model.clock system.configuration.name note)
+tells : (code : Network) (before after : Lines) (content : Content) (note : Note) (other : Output) (model : network.World) (system : SystemState) → Shows code model
+    → Gains before after (Noted model.clock system.configuration.name note ∷ [])
     → GivesFor code.clock content (Told note) other → Puts code before after (network.put_out system model other)
 tells code before after content note (Transmits port target packet) model system h line gives = absurd gives
 tells code before after content note (SendsEsis port target value) model system h line gives = absurd gives
 tells code before after content note (Notes told) model system h line gives =
     puts_line code before after model (Noted model.clock system.configuration.name told) h (rw gives at line)
 
-pub puts_note : (code : Network) (before after : List ℕ) (place came : ℕ) (note : Note) (out : output.Output) → out ≡ Told note
+pub puts_note : (code : Network) (before after : Lines) (place came : ℕ) (note : Note) (out : output.Output) → out ≡ Told note
     → ((model : network.World) (system : SystemState) → Shows code model → slice_get model.systems place ≡ Some system
-    → after ≡ before ++ line_text (Noted model.clock system.configuration.name note))
+    → Gains before after (Noted model.clock system.configuration.name note ∷ []))
     → (model : network.World) (system : SystemState) (content : Content) (other : Output) → Shows code model
     → slice_get model.systems place ≡ Some system → IsBornWithUnit came content
     → GivesFor code.clock content out other → Puts code before after (network.put_out system model other)
@@ -264,18 +260,18 @@ no_outputs moment content [] h = refl
 no_outputs moment content (other ∷ others) h = absurd h
 
 -- what the code has put out of a system's outputs is what the model has, where the system was given what was born at a moment
-abbrev pub PutsOut : Network → Network → List ℕ → List ℕ → (place came : ℕ) → List output.Output → Type 0
+abbrev pub PutsOut : Network → Network → Lines → Lines → (place came : ℕ) → List output.Output → Type 0
 PutsOut start code before after place came outputs =
     (model : network.World) (system : SystemState) (content : Content) (others : List Output) → Shows start model
     → slice_get model.systems place ≡ Some system → IsBornWithUnit came content
     → GiveAllFor start.clock content outputs others → Puts code before after (network.put_all_out system model others)
 
-pub puts_none : (code : Network) (lines : List ℕ) (place came : ℕ) → PutsOut code code lines lines place came []
+pub puts_none : (code : Network) (lines : Lines) (place came : ℕ) → PutsOut code code lines lines place came []
 puts_none code lines place came model system content others h there born gives =
     subst (λ (os : List Output). Puts code lines lines (network.put_all_out system model os)) (sym (no_outputs code.clock content others gives))
     (puts_nothing code model lines h)
 
-pub puts_more : (start mid code : Network) (before between after : List ℕ) (place came : ℕ) (outputs : List output.Output) (out : output.Output)
+pub puts_more : (start mid code : Network) (before between after : Lines) (place came : ℕ) (outputs : List output.Output) (out : output.Output)
     → PutsOut start mid before between place came outputs → mid.clock ≡ start.clock
     → ((model : network.World) (system : SystemState) (content : Content) (other : Output) → Shows mid model
     → slice_get model.systems place ≡ Some system → IsBornWithUnit came content
@@ -314,11 +310,11 @@ copies_read old code ports own i port at target birth frame e n within read put 
 
 -- A line of the code's words is the one of the model's.
 
-pub same_transmission : (before after : List ℕ) (t u : ℕ) (name own : List ℕ) (n m port : ℕ) (target : Target) (frame octets : List ℕ)
-    → t ≡ u → name ≡ own → n ≡ m → octets ≡ frame → after ≡ before ++ line_text (Transmitted t name (n + 1) port target octets)
-    → after ≡ before ++ line_text (Transmitted u own (m + 1) port target frame)
+pub same_transmission : (before after : Lines) (t u : ℕ) (name own : List ℕ) (n m port : ℕ) (target : Target) (frame octets : List ℕ)
+    → t ≡ u → name ≡ own → n ≡ m → octets ≡ frame → Gains before after (Transmitted t name (n + 1) port target octets ∷ [])
+    → Gains before after (Transmitted u own (m + 1) port target frame ∷ [])
 same_transmission before after t u name own n m port target frame octets a b c d e =
-    e ∙ ap (λ (l : Line). before ++ line_text l) (same a b c d)
+    subst (λ (l : Line). Gains before after (l ∷ [])) (same a b c d) e
   where
     same : t ≡ u → name ≡ own → n ≡ m → octets ≡ frame → Transmitted t name (n + 1) port target octets ≡ Transmitted u own (m + 1) port target frame
     same a b c d = cc

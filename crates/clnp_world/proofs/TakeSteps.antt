@@ -1,5 +1,5 @@
 -- What a network of the code stands for after one of its systems took a step.
-use Rattle.std.proofs.Common.{◌≡◌, ℕ, ◌<◌, ◌≤◌, List, [], ◌∷◌, ◌++◌, length, Option, Some, refl, sym, ◌∙◌, subst, arith}
+use Rattle.std.proofs.Common.{◌≡◌, ℕ, ◌<◌, ◌≤◌, List, [], ◌∷◌, length, Option, Some, refl, sym, ◌∙◌, subst, arith}
 use Rattle.std.specs.Prelude.{slice_get}
 use Rattle.std.specs.Vec.{with_item}
 use Rattle.std.proofs.lemmas.Option.{slice_get_past, slice_get_within as within_get}
@@ -8,7 +8,7 @@ use Rattle.clnp_plan.specs.declared.ask.SendRefusal.TheVariants as refusal
 use Rattle.clnp_plan.specs.declared.note.Note.{Note}
 use Rattle.clnp_plan.specs.declared.output.Output as output
 use Rattle.clnp_plan.specs.declared.output.Output.TheVariants.{Note as Told}
-use Rattle.clnp_plan.specs.Journal.{Noted, line_text}
+use Rattle.clnp_plan.specs.Journal.{Noted}
 use Rattle.clnp_machine.specs.System as machine
 use Rattle.clnp_machine.specs.System.{SystemState, Input, Notes, Effect}
 use Rattle.clnp_machine.specs.Step.{step}
@@ -22,6 +22,8 @@ use Rattle.system_entity.specs.State.{SystemEntityState}
 use Rattle.system_entity.specs.Stands.{IsLeftBy}
 use Rattle.local_entity.specs.Local.{IsWhy, refusal_note}
 use Rattle.clnp_systems.specs.Stands.{entity_of}
+use Rattle.clnp_world.specs.Lines.{Gains}
+use Rattle.clnp_world.specs.declared.lines.Lines.{Lines}
 use Rattle.clnp_world.specs.Parts.{Shows, Holds, Puts, Follows}
 use Rattle.clnp_world.specs.Stands.{IsBornWithUnit}
 use Rattle.clnp_world.specs.declared.network.Network.{Network}
@@ -66,7 +68,7 @@ abbrev no_frame : Content
 no_frame = Unlabelled []
 
 -- a system takes a step, and what it gives out is put out
-pub takes : (old code : Network) (before after : List ℕ) (place came : ℕ) (content : Content) (node : System) (outputs : List output.Output) (effect : Effect)
+pub takes : (old code : Network) (before after : Lines) (place came : ℕ) (content : Content) (node : System) (outputs : List output.Output) (effect : Effect)
     → place < length old.systems.items → clnp_systems.Stands node effect.after → IsBornWithUnit came content
     → AppendsFor old.clock content [] outputs effect.outputs
     → PutsOut (with_node old place node) code before after place came outputs
@@ -79,7 +81,7 @@ takes old code before after place came content node outputs effect within stands
     (subst (λ (os : List output.Output). GiveAllFor old.clock content os effect.outputs) (sym gives.appended) gives.give_all)
 
 -- the system at a place does something, whatever its moment
-pub does_put : (old code : Network) (before after : List ℕ) (place came : ℕ) (input : Input) (node new : System) (outputs : List output.Output)
+pub does_put : (old code : Network) (before after : Lines) (place came : ℕ) (input : Input) (node new : System) (outputs : List output.Output)
     → slice_get old.systems.items place ≡ Some node
     → ((s : SystemState) → clnp_systems.Stands node s → clnp_systems.Stands new (step s input).after)
     → ((s : SystemState) → clnp_systems.Stands node s → Appends old.clock [] outputs (step s input).outputs)
@@ -93,7 +95,7 @@ does_put old code before after place came input node new outputs here stands giv
     (appends_for old.clock no_frame [] outputs (step there.system input).outputs (gives there.system there.stands)) puts model h)
 
 -- the same at the clock's moment
-pub takes_now : (old code : Network) (before after : List ℕ) (place came : ℕ) (content : Content) (node new : System) (outputs : List output.Output)
+pub takes_now : (old code : Network) (before after : Lines) (place came : ℕ) (content : Content) (node new : System) (outputs : List output.Output)
     → (effect : Effect) (system : SystemState)
     → slice_get old.systems.items place ≡ Some node → clnp_systems.Stands new effect.after → IsBornWithUnit came content
     → AppendsFor (entity_of node).moment content [] outputs effect.outputs
@@ -114,7 +116,7 @@ takes_now old code before after place came content node new outputs effect syste
     }
 
 -- the system at a place does something
-pub does_follow : (old code : Network) (before after : List ℕ) (place came : ℕ) (input : Input) (node new : System) (outputs : List output.Output)
+pub does_follow : (old code : Network) (before after : Lines) (place came : ℕ) (input : Input) (node new : System) (outputs : List output.Output)
     → slice_get old.systems.items place ≡ Some node
     → ((s : SystemState) → clnp_systems.Stands node s → clnp_systems.Stands new (step s input).after)
     → ((s : SystemState) → clnp_systems.Stands node s → Appends (entity_of node).moment [] outputs (step s input).outputs)
@@ -130,7 +132,7 @@ does_follow old code before after place came input node new outputs here stands 
     (moment there.system) puts model h there.at)
 
 -- there is no system at the place
-pub does_nothing : (code : Network) (lines : List ℕ) (place : ℕ) (input : Input) → length code.systems.items ≤ place
+pub does_nothing : (code : Network) (lines : Lines) (place : ℕ) (input : Input) → length code.systems.items ≤ place
     → (model : network.World) → Holds code model → Follows code lines lines (network.comes model place input)
 does_nothing code lines place input past model h =
     let same = each_length code.systems.items model.systems h.shows.systems in
@@ -140,12 +142,12 @@ does_nothing code lines place input past model h =
     record { holds = h; lines = part.lines }
 
 -- the line of a note of the system at a place is written
-abbrev pub WritesNote : Network → List ℕ → List ℕ → ℕ → Note → Type 0
+abbrev pub WritesNote : Network → Lines → Lines → ℕ → Note → Type 0
 WritesNote code before after place note =
     (model : network.World) (system : SystemState) → Shows code model → slice_get model.systems place ≡ Some system
-    → after ≡ before ++ line_text (Noted model.clock system.configuration.name note)
+    → Gains before after (Noted model.clock system.configuration.name note ∷ [])
 
-pub note_alone : (code : Network) (before after : List ℕ) (place came : ℕ) (note : Note) → WritesNote code before after place note
+pub note_alone : (code : Network) (before after : Lines) (place came : ℕ) (note : Note) → WritesNote code before after place note
     → PutsOut code code before after place came (Told note ∷ [])
 note_alone code before after place came note writes =
     puts_more code code code before before after place came [] (Told note) (puts_none code before place came) refl

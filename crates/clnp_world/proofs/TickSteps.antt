@@ -9,6 +9,7 @@ use Rattle.clnp_machine.proofs.Deeds.{step_moment}
 use Rattle.clnp_network.specs.World as network
 use Rattle.clnp_systems.specs.declared.system.System.{System}
 use Rattle.clnp_systems.specs.Stands.{entity_of}
+use Rattle.clnp_world.specs.declared.lines.Lines.{Lines}
 use Rattle.clnp_world.specs.Stands.{IsCurrent}
 use Rattle.clnp_world.specs.Parts.{Shows, IsBehind, Holds, Puts, Follows}
 use Rattle.clnp_world.specs.declared.network.Network.{Network}
@@ -68,19 +69,19 @@ ticked_at w place system there h =
     (systems-put_all_out effect.after v effect.outputs) (clock-put_all_out effect.after v effect.outputs))
 
 -- the code's network after the ticks of the systems below a place
-pub record Ticked (code : Network) (before after : List ℕ) (part : network.Step) (place : ℕ) : Type 0 where
+pub record Ticked (code : Network) (before after : Lines) (part : network.Step) (place : ℕ) : Type 0 where
   pub puts : Puts code before after part
   pub are : AreTicked part.world place
 
-abbrev pub TicksTo : Network → Network → List ℕ → List ℕ → ℕ → Type 0
+abbrev pub TicksTo : Network → Network → Lines → Lines → ℕ → Type 0
 TicksTo start code before after place =
     (model : network.World) → Shows start model → IsBehind model → Ticked code before after (network.tick_each model (range_with_len 0 place)) place
 
-pub ticks_none : (code : Network) (lines : List ℕ) → TicksTo code code lines lines 0
+pub ticks_none : (code : Network) (lines : Lines) → TicksTo code code lines lines 0
 ticks_none code lines model h behind =
     record { puts = puts_nothing code model lines h; are = record { behind = behind; current = tt } }
 
-pub ticks_more : (start mid code : Network) (before between after : List ℕ) (place : ℕ) → TicksTo start mid before between place
+pub ticks_more : (start mid code : Network) (before between after : Lines) (place : ℕ) → TicksTo start mid before between place
     → place < length mid.systems.items
     → ((model : network.World) → Shows mid model → Puts code between after (tick_at model place))
     → TicksTo start code before after (place + 1)
@@ -96,7 +97,7 @@ ticks_more start mid code before between after place so_far within next model h 
     }
 
 -- no system's moment is ahead of the clock
-pub not_ahead : (start code : Network) (before after : List ℕ) (place : ℕ) → (model : network.World) × Shows start model × IsBehind model
+pub not_ahead : (start code : Network) (before after : Lines) (place : ℕ) → (model : network.World) × Shows start model × IsBehind model
     → TicksTo start code before after place
     → (at : ℕ) (node : System) → slice_get code.systems.items at ≡ Some node → (entity_of node).moment ≤ code.clock
 not_ahead start code before after place running so_far at node here =
@@ -108,7 +109,7 @@ not_ahead start code before after place running so_far at node here =
     = AllByRecursion-slice_get (λ (s : SystemState). s.moment ≤ w.world.clock) w.world.systems at there.system there.at part.are.behind in
     omega (arith, there.stands.parts.moment, part.puts.shows.clock)
 
-pub ticks_all : (start code : Network) (before after : List ℕ) (place : ℕ) → TicksTo start code before after place
+pub ticks_all : (start code : Network) (before after : Lines) (place : ℕ) → TicksTo start code before after place
     → place ≡ length start.systems.items → length code.systems.items ≡ length start.systems.items
     → (model : network.World) → Shows start model → IsBehind model
     → Follows code before after (network.tick_each model (range_with_len 0 (length model.systems)))

@@ -1,3 +1,4 @@
+pub mod Lines
 pub mod Seen
 pub mod State
 pub mod Stands

@@ -4,10 +4,12 @@ use Rattle.std.specs.List.{AllByRecursion}
 use Rattle.clnp_machine.specs.System.{SystemState}
 use Rattle.clnp_network.specs.World as network
 use Rattle.clnp_network.specs.Run.{lines_text}
+use Rattle.clnp_world.specs.Lines.{Gains}
 use Rattle.clnp_world.specs.Seen.{frames_weight}
 use Rattle.clnp_world.specs.State.{NetworkState}
 use Rattle.clnp_world.specs.Stands as seen
 use Rattle.clnp_world.specs.declared.copy.FrameCopy.{FrameCopy}
+use Rattle.clnp_world.specs.declared.lines.Lines.{Lines}
 use Rattle.clnp_world.specs.declared.network.Network.{Network}
 
 -- what a contract sees of the network of the code
@@ -36,14 +38,19 @@ abbrev pub IsRunning : Network → Type 0
 IsRunning code = (model : network.World) × Holds code model
 
 -- the network and its lines are those after a part of a move, whatever the moments of its systems
-pub record Puts (code : Network) (before after : List ℕ) (part : network.Step) : Type 0 where
+pub record Puts (code : Network) (before after : Lines) (part : network.Step) : Type 0 where
   pub shows : Shows code part.world
-  pub lines : after ≡ before ++ lines_text part.lines
+  pub lines : Gains before after part.lines
 
 -- the network and its lines are those after a part of a move
-pub record Follows (code : Network) (before after : List ℕ) (part : network.Step) : Type 0 where
+pub record Follows (code : Network) (before after : Lines) (part : network.Step) : Type 0 where
   pub holds : Holds code part.world
-  pub lines : after ≡ before ++ lines_text part.lines
+  pub lines : Gains before after part.lines
+
+-- the network and a journal's text are those after a part of a move
+pub record FollowsIn (code : Network) (before after : List ℕ) (part : network.Step) : Type 0 where
+  pub holds : Holds code part.world
+  pub text : after ≡ before ++ lines_text part.lines
 
 -- some copies were put behind the others, and weighed
 pub record PutsCopies (before after : Network) (made : List FrameCopy) : Type 0 where

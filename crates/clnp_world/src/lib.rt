@@ -2,8 +2,10 @@
 #![tactic(auto)]
 
 mod copy;
+mod lines;
 mod network;
 mod world;
 
+pub use lines::Counts;
 pub use scenario::Move;
 pub use world::{World, WorldRefusal};

@@ -1,5 +1,5 @@
 //! The network that a caller moves: each move whole or not at all.
-ghost use Rattle.std.specs.Prelude.{◌≡◌, ◌+◌, ◌<◌, ◌≤◌, ◌^◌, ℕ, ◌++◌, IfErr, IfNone, IfOk, IfSome, Err, MatchOption, OnOk, OnErr, Some, length, slice_get, true};
+ghost use Rattle.std.specs.Prelude.{◌≡◌, ◌+◌, ◌<◌, ◌≤◌, ◌^◌, ℕ, ◌++◌, IfErr, IfNone, IfOk, IfSome, Err, MatchOption, OnOk, OnErr, Some, false, length, nat_le, slice_get, true};
 ghost use Rattle.clnp_machine.specs.System.{SystemState};
 ghost use Rattle.clnp_network.specs.Run.{lines_text, world_end};
 ghost use Rattle.clnp_network.specs.World as network;
@@ -7,11 +7,13 @@ ghost use Rattle.clnp_plan.specs.declared.config.Role.TheVariants as role;
 ghost use Rattle.clnp_systems.specs.Stands.{configuration_of};
 ghost use Rattle.clnp_systems.specs.declared.system.System.{System};
 ghost use Rattle.clnp_systems.specs.declared.system.System.TheVariants as variant;
+ghost use Rattle.clnp_world.specs.Lines.{both, tally};
 ghost use Rattle.clnp_world.specs.Stands.{IsDeclared, IsLeftBy, Stands, TellsFull};
 ghost use Rattle.clnp_world.specs.declared.world.WorldRefusal.TheVariants.{NoMemory as WantsMemory};
 ghost use Rattle.end_system.specs.Stands as end_system;
 ghost use Rattle.router.specs.Stands as router_stands;
 
+use crate::lines::Counts;
 use crate::network::Network;
 use clnp_base::NoMemory;
 use clnp_plan::push_end;
@@ -40,8 +42,8 @@ pub enum WorldRefusal {
 pub struct World {
     network: Network,
     spent: bool,
-    /// The lines of the last move.
-    lines: Vec<u8>,
+    /// Room for the lines of a move.
+    room: Vec<u8>,
 }
 
 impl Model for World {
@@ -70,7 +72,7 @@ impl World {
         Ok(World {
             network,
             spent: false,
-            lines: Vec::new(alloc),
+            room: Vec::new(alloc),
         })
     }
 
@@ -98,16 +100,10 @@ impl World {
         ensures left { IfErr result (λ e. IsLeftBy e self.old self.new) }
         ensures refused { self.old.spent ≡ true → result ≡ Err WantsMemory }
     {
-        if self.spent {
-            return Err(WorldRefusal::NoMemory);
-        }
-        let octets = self.network.weight;
-        if octets >= MOST_WEIGHT {
-            return Err(WorldRefusal::WorldFull { octets });
-        }
+        self.may_move()?;
         match self
             .network
-            .write_move(alloc, scenario, mv, &mut self.lines, journal)
+            .write_move(alloc, scenario, mv, &mut self.room, journal)
         {
             Ok(()) => Ok(()),
             Err(NoMemory) => {
@@ -115,6 +111,63 @@ impl World {
                 Err(WorldRefusal::NoMemory)
             }
         }
+    }
+
+    /// Makes one move, and counts its lines: what [`World::step`] would write is written nowhere.
+    ///
+    /// # Errors
+    ///
+    /// Those of [`World::step`], where it answers them; the counts are then as they were. `NoMemory` also where a count
+    /// would pass 2^64 - 1.
+    pub fn count_step(
+        &mut self,
+        alloc: Global,
+        scenario: &Scenario,
+        mv: &Move,
+        counts: &mut Counts,
+    ) -> Result<(), WorldRefusal>
+        requires { self.old.network.clock + 1 < 2 ^ 62 }
+        ensures stands { OnOk result ((model : network.World) → Stands self.old model
+            → Stands self.new (network.after scenario.now model mv.now).world) }
+        ensures counted { OnOk result ((model : network.World) → Stands self.old model
+            → counts.new ≡ both counts.old (tally (network.after scenario.now model mv.now).lines)) }
+        ensures full { (model : network.World) → Stands self.old model → TellsFull model result }
+        ensures same { OnErr result (counts.new ≡ counts.old) }
+        ensures left { IfErr result (λ e. IsLeftBy e self.old self.new) }
+        ensures refused { self.old.spent ≡ true → result ≡ Err WantsMemory }
+    {
+        self.may_move()?;
+        match self.network.count_move(alloc, scenario, mv, counts) {
+            Ok(()) => Ok(()),
+            Err(NoMemory) => {
+                self.spent = true;
+                Err(WorldRefusal::NoMemory)
+            }
+        }
+    }
+
+    /// Whether a move may be made: memory was never refused, and the copies don't weigh too much.
+    fn may_move(&self) -> Result<(), WorldRefusal>
+        ensures spent { OnOk result (self.now.spent ≡ false) }
+        ensures full { (model : network.World) → Stands self.now model → TellsFull model result }
+        ensures left { IfErr result (λ e. IsLeftBy e self.now self.now) }
+        ensures refused { self.now.spent ≡ true → result ≡ Err WantsMemory }
+    {
+        if self.spent {
+            return Err(WorldRefusal::NoMemory);
+        }
+        let octets = self.network.weight;
+        if octets >= MOST_WEIGHT {
+            return Err(WorldRefusal::WorldFull { octets });
+        }
+        Ok(())
+    }
+
+    /// Whether each copy was settled or lost: to settle or to lose one more changes nothing then.
+    pub fn is_settled(&self) -> bool
+        ensures { (model : network.World) → Stands self.now model → result ≡ nat_le (length model.copies) model.cursor }
+    {
+        self.network.cursor >= self.network.copies.len()
     }
 
     /// The clock, in ticks of 500 ms.

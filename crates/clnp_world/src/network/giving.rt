@@ -1,15 +1,17 @@
 //! Copies that are given to the systems that they are for.
-ghost use Rattle.std.specs.Prelude.{◌≡◌, ◌+◌, ◌<◌, ◌≤◌, ◌++◌, OnOk, Some, slice_get, vec_len};
+ghost use Rattle.std.specs.Prelude.{◌≡◌, ◌+◌, ◌<◌, ◌≤◌, ◌∷◌, [], OnOk, Some, slice_get, vec_len};
 ghost use Rattle.clnp_machine.specs.System.{SystemState};
 ghost use Rattle.clnp_machine.specs.Step.{step};
 ghost use Rattle.clnp_network.specs.World as network;
-ghost use Rattle.clnp_plan.specs.Journal.{Late, Void, line_text};
+ghost use Rattle.clnp_plan.specs.Journal.{Late, Void};
+ghost use Rattle.clnp_world.specs.Lines.{Gains};
 ghost use Rattle.clnp_world.specs.Parts.{Follows, Holds, IsRunning, Shows};
 
 use super::Network;
 use crate::copy::{first_port, is_addressee, is_to_group};
+use crate::lines::Lines;
 use clnp_base::NoMemory;
-use clnp_plan::{Limits, late_text, void_text};
+use clnp_plan::Limits;
 use std::alloc::Global;
 
 impl Network {
@@ -21,11 +23,11 @@ impl Network {
         limits: Limits,
         number: u32,
         place: usize,
-        lines: &mut Vec<u8>,
+        lines: &mut Lines,
     ) -> Result<(), NoMemory>
         requires { IsRunning self.old }
         ensures { OnOk result ((model : network.World) → Holds self.old model
-            → Follows self.new lines.old.items lines.new.items (network.deliver limits model number place)) }
+            → Follows self.new lines.old lines.new (network.deliver limits model number place)) }
     {
         if place >= self.systems.len() {
             return Ok(());
@@ -45,11 +47,11 @@ impl Network {
         &mut self,
         alloc: Global,
         limits: Limits,
-        lines: &mut Vec<u8>,
+        lines: &mut Lines,
     ) -> Result<(), NoMemory>
         requires { IsRunning self.old }
         ensures { OnOk result ((model : network.World) → Holds self.old model
-            → Follows self.new lines.old.items lines.new.items (network.settle_one limits model)) }
+            → Follows self.new lines.old lines.new (network.settle_one limits model)) }
     {
         let at = self.cursor;
         if at >= self.copies.len() {
@@ -65,13 +67,13 @@ impl Network {
         alloc: Global,
         limits: Limits,
         at: usize,
-        lines: &mut Vec<u8>,
+        lines: &mut Lines,
     ) -> Result<(), NoMemory>
         requires at_in { at < vec_len self.old.copies }
         requires running { IsRunning self.old }
         ensures { OnOk result ((model : network.World) (copy : network.Copy) → Holds self.old model
             → slice_get model.copies at ≡ Some copy
-            → Follows self.new lines.old.items lines.new.items
+            → Follows self.new lines.old lines.new
             (network.give_each limits (record { number = at + 1; copy = copy }) model (network.addressees_from 0 copy model.systems))) }
     {
         let number = at as u64 + 1;
@@ -113,14 +115,14 @@ impl Network {
         number: u64,
         at: usize,
         place: usize,
-        lines: &mut Vec<u8>,
+        lines: &mut Lines,
     ) -> Result<(), NoMemory>
         requires at_in { at < vec_len self.old.copies }
         requires place_in { place < vec_len self.old.systems }
         requires running { IsRunning self.old }
         ensures follows { OnOk result ((model : network.World) (copy : network.Copy) → Holds self.old model
             → slice_get model.copies at ≡ Some copy
-            → Follows self.new lines.old.items lines.new.items (network.give limits (record { number = number; copy = copy }) model place)) }
+            → Follows self.new lines.old lines.new (network.give limits (record { number = number; copy = copy }) model place)) }
         ensures systems { vec_len self.new.systems ≡ vec_len self.old.systems }
         ensures copies { vec_len self.old.copies ≤ vec_len self.new.copies }
     {
@@ -146,14 +148,14 @@ impl Network {
         alloc: Global,
         at: usize,
         place: usize,
-        lines: &mut Vec<u8>,
+        lines: &mut Lines,
     ) -> Result<(), NoMemory>
         requires at_in { at < vec_len self.old.copies }
         requires place_in { place < vec_len self.old.systems }
         requires running { IsRunning self.old }
         ensures follows { OnOk result ((model : network.World) (copy : network.Copy) (system : SystemState) → Holds self.old model
             → slice_get model.copies at ≡ Some copy → slice_get model.systems place ≡ Some system
-            → Follows self.new lines.old.items lines.new.items (network.takes_effect model place (step system (network.frame_to system copy)))) }
+            → Follows self.new lines.old lines.new (network.takes_effect model place (step system (network.frame_to system copy)))) }
         ensures systems { vec_len self.new.systems ≡ vec_len self.old.systems }
         ensures copies { vec_len self.old.copies ≤ vec_len self.new.copies }
     {
@@ -166,37 +168,37 @@ impl Network {
         self.put_all_out(alloc, place, birth, outputs, lines)
     }
 
-    /// Appends the line of a copy that isn't there for the system at a place.
+    /// The line of a copy that isn't there for the system at a place.
     fn write_void(
         &self,
         alloc: Global,
         number: u32,
         place: usize,
-        lines: &mut Vec<u8>,
+        lines: &mut Lines,
     ) -> Result<(), NoMemory>
         requires { place < vec_len self.now.systems }
         ensures { OnOk result ((model : network.World) (system : SystemState) → Shows self.now model
             → slice_get model.systems place ≡ Some system
-            → lines.new.items ≡ lines.old.items ++ line_text (Void model.clock system.configuration.name number)) }
+            → Gains lines.old lines.new (Void model.clock system.configuration.name number ∷ [])) }
     {
         let name = self.config_at(place).name();
-        void_text(alloc, self.clock, name, number, lines)
+        lines.void(alloc, self.clock, name, number)
     }
 
-    /// Appends the line of a copy that is too old for the system at a place.
+    /// The line of a copy that is too old for the system at a place.
     fn write_late(
         &self,
         alloc: Global,
         number: u64,
         place: usize,
-        lines: &mut Vec<u8>,
+        lines: &mut Lines,
     ) -> Result<(), NoMemory>
         requires { place < vec_len self.now.systems }
         ensures { OnOk result ((model : network.World) (system : SystemState) → Shows self.now model
             → slice_get model.systems place ≡ Some system
-            → lines.new.items ≡ lines.old.items ++ line_text (Late model.clock system.configuration.name number)) }
+            → Gains lines.old lines.new (Late model.clock system.configuration.name number ∷ [])) }
     {
         let name = self.config_at(place).name();
-        late_text(alloc, self.clock, name, number, lines)
+        lines.late(alloc, self.clock, name, number)
     }
 }

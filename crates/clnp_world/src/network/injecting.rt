@@ -6,8 +6,8 @@ ghost use Rattle.clnp_world.specs.Parts.{Follows, Holds};
 
 use super::Network;
 use crate::copy::FrameCopy;
+use crate::lines::Lines;
 use clnp_base::{NoMemory, Octets};
-use clnp_plan::injection_text;
 use clnp_views::Frame;
 use nsap::{Snpa, Target};
 use scenario::Subnet;
@@ -23,12 +23,12 @@ impl Network {
         from: Snpa,
         to: Target,
         octets: &Octets,
-        lines: &mut Vec<u8>,
+        lines: &mut Lines,
     ) -> Result<(), NoMemory>
         requires bytes { IsBytes octets.now }
         requires few { length octets.now ≤ 70000 }
         ensures { OnOk result ((model : network.World) → Holds self.old model
-            → Follows self.new lines.old.items lines.new.items (network.injects subnets.now model subnet from to octets.now)) }
+            → Follows self.new lines.old lines.new (network.injects subnets.now model subnet from to octets.now)) }
     {
         let place = usize::from(subnet);
         if place >= subnets.len() {
@@ -36,7 +36,7 @@ impl Network {
         }
         let name = subnets[place].name();
         let number = self.copies.len() as u64 + 1;
-        injection_text(alloc, self.clock, number, name, &from, &to, lines)?;
+        lines.injection(alloc, self.clock, number, name, &from, &to)?;
         let frame = Frame::copy(alloc, octets.as_bytes())?;
         self.push_copy(FrameCopy {
             subnet,

@@ -3,52 +3,86 @@ ghost use Rattle.std.specs.Prelude.{◌≡◌, ◌+◌, ◌<◌, ◌≤◌, ◌^
 ghost use Rattle.std.specs.List.{AllByRecursion, range_with_len};
 ghost use Rattle.clnp_machine.specs.System.{IsRestarted, IsCongested, MomentComes};
 ghost use Rattle.clnp_network.specs.World as network;
-ghost use Rattle.clnp_world.specs.Parts.{Follows, Holds, IsBehind, IsRunning, Puts, Shows};
+ghost use Rattle.clnp_world.specs.Lines.{both, tally};
+ghost use Rattle.clnp_world.specs.Parts.{Follows, FollowsIn, Holds, IsBehind, IsRunning, Puts, Shows};
 ghost use Rattle.clnp_systems.specs.Stands.{entity_of};
 ghost use Rattle.clnp_systems.specs.declared.system.System.{System};
 ghost use Rattle.scenario.specs.Scenario.{AsksFairly, InjectsInForm};
 
 use super::Network;
+use crate::lines::{Counts, Lines};
 use clnp_base::NoMemory;
 use clnp_plan::{Limits, Note};
 use scenario::{Event, Move, Scenario, Subnet};
 use std::alloc::Global;
+use std::mem;
 
 impl Network {
     /// Makes one move, and appends its lines to the journal, all of them or none. Until the move is made they stand in
-    /// `lines`, whose room serves every move.
+    /// `room`, which serves every move.
     pub(crate) fn write_move(
         &mut self,
         alloc: Global,
         scenario: &Scenario,
         mv: &Move,
-        lines: &mut Vec<u8>,
+        room: &mut Vec<u8>,
         journal: &mut Vec<u8>,
     ) -> Result<(), NoMemory>
         requires clock { self.old.clock + 1 < 2 ^ 62 }
         requires running { IsRunning self.old }
         ensures follows { OnOk result ((model : network.World) → Holds self.old model
-            → Follows self.new journal.old.items journal.new.items (network.after scenario.now model mv.now)) }
+            → FollowsIn self.new journal.old.items journal.new.items (network.after scenario.now model mv.now)) }
         ensures same { OnErr result (journal.new.items ≡ journal.old.items) }
     {
-        lines.clear();
-        self.make_move(alloc, scenario, mv, lines)?;
-        journal.extend_from_slice(lines.as_slice())?;
+        let mut text = mem::replace(room, Vec::new(alloc));
+        text.clear();
+        let mut lines = Lines::Written(text);
+        self.make_move(alloc, scenario, mv, &mut lines)?;
+        let Lines::Written(text) = lines else {
+            return Err(NoMemory);
+        };
+        journal.extend_from_slice(text.as_slice())?;
+        *room = text;
         Ok(())
     }
 
-    /// Makes one move, and appends its lines.
+    /// Makes one move, and counts its lines, all of them or none.
+    pub(crate) fn count_move(
+        &mut self,
+        alloc: Global,
+        scenario: &Scenario,
+        mv: &Move,
+        counts: &mut Counts,
+    ) -> Result<(), NoMemory>
+        requires clock { self.old.clock + 1 < 2 ^ 62 }
+        requires running { IsRunning self.old }
+        ensures follows { OnOk result ((model : network.World) → Holds self.old model
+            → Holds self.new (network.after scenario.now model mv.now).world) }
+        ensures counted { OnOk result ((model : network.World) → Holds self.old model
+            → counts.new ≡ both counts.old (tally (network.after scenario.now model mv.now).lines)) }
+        ensures same { OnErr result (counts.new ≡ counts.old) }
+    {
+        let mut lines = Lines::Counted(*counts);
+        self.make_move(alloc, scenario, mv, &mut lines)?;
+        let Lines::Counted(counted) = lines else {
+            return Err(NoMemory);
+        };
+        *counts = counted;
+        Ok(())
+    }
+
+    /// Makes one move, and its lines.
     fn make_move(
         &mut self,
         alloc: Global,
         scenario: &Scenario,
         mv: &Move,
-        lines: &mut Vec<u8>,
+        lines: &mut Lines,
     ) -> Result<(), NoMemory>
         requires clock { self.old.clock + 1 < 2 ^ 62 }
         requires running { IsRunning self.old }
         ensures { OnOk result ((model : network.World) → Holds self.old model
-            → Follows self.new lines.old.items lines.new.items (network.after scenario.now model mv.now)) }
+            → Follows self.new lines.old lines.new (network.after scenario.now model mv.now)) }
     {
         scenario.is_fit();
         let limits = *scenario.limits();
@@ -74,13 +108,13 @@ impl Network {
         limits: Limits,
         events: &[Event],
         place: usize,
-        lines: &mut Vec<u8>,
+        lines: &mut Lines,
     ) -> Result<(), NoMemory>
         requires running { IsRunning self.old }
         requires fair { AllByRecursion AsksFairly events.now }
         requires injected { AllByRecursion (InjectsInForm (length subnets.now)) events.now }
         ensures { OnOk result ((model : network.World) → Holds self.old model
-            → Follows self.new lines.old.items lines.new.items
+            → Follows self.new lines.old lines.new
             (network.event_happens subnets.now limits model (slice_get events.now place))) }
     {
         if place >= events.len() {
@@ -96,13 +130,13 @@ impl Network {
         subnets: &[Subnet],
         limits: Limits,
         event: &Event,
-        lines: &mut Vec<u8>,
+        lines: &mut Lines,
     ) -> Result<(), NoMemory>
         requires running { IsRunning self.old }
         requires fair { AsksFairly event.now }
         requires injected { InjectsInForm (length subnets.now) event.now }
         ensures { OnOk result ((model : network.World) → Holds self.old model
-            → Follows self.new lines.old.items lines.new.items (network.event_happens subnets.now limits model (Some event.now))) }
+            → Follows self.new lines.old lines.new (network.event_happens subnets.now limits model (Some event.now))) }
     {
         match event {
             Event::Send {
@@ -138,7 +172,7 @@ impl Network {
     /// Passes over the copy at the cursor: it is given to nobody.
     fn lose_one(&mut self)
         ensures { (model : network.World) → Holds self.old model
-            → (lines : List ℕ) → Follows self.new lines lines (network.lose_one model) }
+            → (lines : Lines) → Follows self.new lines lines (network.lose_one model) }
     {
         if self.cursor >= self.copies.len() {
             return;
@@ -147,9 +181,9 @@ impl Network {
     }
 
     /// Restarts the system at a place.
-    fn restart(&mut self, alloc: Global, place: usize, lines: &mut Vec<u8>) -> Result<(), NoMemory>
+    fn restart(&mut self, alloc: Global, place: usize, lines: &mut Lines) -> Result<(), NoMemory>
         ensures { OnOk result ((model : network.World) → Holds self.old model
-            → Follows self.new lines.old.items lines.new.items (network.comes model place IsRestarted)) }
+            → Follows self.new lines.old lines.new (network.comes model place IsRestarted)) }
     {
         if place >= self.systems.len() {
             return Ok(());
@@ -164,10 +198,10 @@ impl Network {
         alloc: Global,
         place: usize,
         on: bool,
-        lines: &mut Vec<u8>,
+        lines: &mut Lines,
     ) -> Result<(), NoMemory>
         ensures { OnOk result ((model : network.World) → Holds self.old model
-            → Follows self.new lines.old.items lines.new.items (network.comes model place (IsCongested on))) }
+            → Follows self.new lines.old lines.new (network.comes model place (IsCongested on))) }
     {
         if place >= self.systems.len() {
             return Ok(());
@@ -177,22 +211,22 @@ impl Network {
     }
 
     /// One tick passes.
-    fn tick_one(&mut self, alloc: Global, lines: &mut Vec<u8>) -> Result<(), NoMemory>
+    fn tick_one(&mut self, alloc: Global, lines: &mut Lines) -> Result<(), NoMemory>
         requires clock { self.old.clock + 1 < 2 ^ 62 }
         requires running { IsRunning self.old }
         ensures { OnOk result ((model : network.World) → Holds self.old model
-            → Follows self.new lines.old.items lines.new.items (network.tick_one model)) }
+            → Follows self.new lines.old lines.new (network.tick_one model)) }
     {
         self.clock += 1;
         self.tick_each(alloc, lines)
     }
 
     /// The clock's moment comes to each system, in the order of the declarations.
-    fn tick_each(&mut self, alloc: Global, lines: &mut Vec<u8>) -> Result<(), NoMemory>
+    fn tick_each(&mut self, alloc: Global, lines: &mut Lines) -> Result<(), NoMemory>
         requires clock { self.old.clock < 2 ^ 62 }
         requires running { (model : network.World) × Shows self.old model × IsBehind model }
         ensures { OnOk result ((model : network.World) → Shows self.old model → IsBehind model
-            → Follows self.new lines.old.items lines.new.items (network.tick_each model (range_with_len 0 (length model.systems)))) }
+            → Follows self.new lines.old lines.new (network.tick_each model (range_with_len 0 (length model.systems)))) }
     {
         for place in 0..self.systems.len() {
             self.tick_system(alloc, place, lines)?;
@@ -205,13 +239,13 @@ impl Network {
         &mut self,
         alloc: Global,
         place: usize,
-        lines: &mut Vec<u8>,
+        lines: &mut Lines,
     ) -> Result<(), NoMemory>
         requires clock { self.old.clock < 2 ^ 62 }
         requires place_in { place < vec_len self.old.systems }
         requires later { (system : System) → slice_get self.old.systems.items place ≡ Some system → (entity_of system).moment ≤ self.old.clock }
         ensures puts { OnOk result ((model : network.World) → Shows self.old model
-            → Puts self.new lines.old.items lines.new.items (network.comes model place (MomentComes model.clock))) }
+            → Puts self.new lines.old lines.new (network.comes model place (MomentComes model.clock))) }
         ensures systems { vec_len self.new.systems ≡ vec_len self.old.systems }
         ensures clock { self.new.clock ≡ self.old.clock }
     {

@@ -5,15 +5,17 @@ ghost use Rattle.clnp_machine.specs.Given.{GiveAllFor, GivesFor, body_of, frame_
 ghost use Rattle.clnp_machine.specs.System as machine;
 ghost use Rattle.clnp_machine.specs.System.{SystemState};
 ghost use Rattle.clnp_network.specs.World as network;
-ghost use Rattle.clnp_plan.specs.Journal.{Noted, Transmitted, line_text};
+ghost use Rattle.clnp_plan.specs.Journal.{Noted, Transmitted};
+ghost use Rattle.clnp_world.specs.Lines.{Gains};
 ghost use Rattle.clnp_world.specs.Parts.{Puts, PutsCopies, Shows};
 ghost use Rattle.clnp_world.specs.Seen.{frame_copies};
 ghost use Rattle.clnp_world.specs.Stands.{IsBornWithUnit};
 
 use super::Network;
 use crate::copy::FrameCopy;
+use crate::lines::Lines;
 use clnp_base::NoMemory;
-use clnp_plan::{Note, Output, Sending, SystemConfig, journal_text, transmission_text};
+use clnp_plan::{Note, Output, Sending, SystemConfig};
 use clnp_views::Frame;
 use nsap::Target;
 use std::alloc::Global;
@@ -30,13 +32,13 @@ impl Network {
         place: usize,
         came: u64,
         outputs: Vec<Output>,
-        lines: &mut Vec<u8>,
+        lines: &mut Lines,
     ) -> Result<(), NoMemory>
         requires { place < vec_len self.old.systems }
         ensures puts { OnOk result ((model : network.World) (system : SystemState) (content : Content) (others : List machine.Output)
             → Shows self.old model → slice_get model.systems place ≡ Some system → IsBornWithUnit came content
             → GiveAllFor self.old.clock content outputs.items others
-            → Puts self.new lines.old.items lines.new.items (network.put_all_out system model others)) }
+            → Puts self.new lines.old lines.new (network.put_all_out system model others)) }
         ensures systems { self.new.systems ≡ self.old.systems }
         ensures clock { self.new.clock ≡ self.old.clock }
         ensures copies { vec_len self.old.copies ≤ vec_len self.new.copies }
@@ -55,13 +57,13 @@ impl Network {
         place: usize,
         came: u64,
         output: Output,
-        lines: &mut Vec<u8>,
+        lines: &mut Lines,
     ) -> Result<(), NoMemory>
         requires { place < vec_len self.old.systems }
         ensures puts { OnOk result ((model : network.World) (system : SystemState) (content : Content) (other : machine.Output)
             → Shows self.old model → slice_get model.systems place ≡ Some system → IsBornWithUnit came content
             → GivesFor self.old.clock content output other
-            → Puts self.new lines.old.items lines.new.items (network.put_out system model other)) }
+            → Puts self.new lines.old lines.new (network.put_out system model other)) }
         ensures systems { self.new.systems ≡ self.old.systems }
         ensures clock { self.new.clock ≡ self.old.clock }
         ensures copies { vec_len self.old.copies ≤ vec_len self.new.copies }
@@ -77,23 +79,23 @@ impl Network {
         }
     }
 
-    /// Appends the line of a note of the system at a place.
+    /// The line of a note of the system at a place.
     pub(super) fn write_note(
         &self,
         alloc: Global,
         place: usize,
         note: &Note,
-        lines: &mut Vec<u8>,
+        lines: &mut Lines,
     ) -> Result<(), NoMemory>
         requires { place < vec_len self.now.systems }
         ensures { OnOk result ((model : network.World) (system : SystemState) → Shows self.now model
             → slice_get model.systems place ≡ Some system
-            → lines.new.items ≡ lines.old.items ++ line_text (Noted model.clock system.configuration.name note.now)) }
+            → Gains lines.old lines.new (Noted model.clock system.configuration.name note.now ∷ [])) }
     {
-        journal_text(alloc, self.clock, self.config_at(place).name(), note, lines)
+        lines.note(alloc, self.clock, self.config_at(place).name(), note)
     }
 
-    /// Appends the line of a frame that the system at a place transmits as the next copy.
+    /// The line of a frame that the system at a place transmits as the next copy.
     fn write_transmission(
         &self,
         alloc: Global,
@@ -101,26 +103,17 @@ impl Network {
         port: u8,
         target: Target,
         frame: &Frame,
-        lines: &mut Vec<u8>,
+        lines: &mut Lines,
     ) -> Result<(), NoMemory>
         requires { place < vec_len self.now.systems }
         ensures { OnOk result ((model : network.World) (system : SystemState) → Shows self.now model
             → slice_get model.systems place ≡ Some system
-            → lines.new.items ≡ lines.old.items ++ line_text (Transmitted model.clock system.configuration.name
-            (length model.copies + 1) port target frame.now)) }
+            → Gains lines.old lines.new (Transmitted model.clock system.configuration.name
+            (length model.copies + 1) port target frame.now ∷ [])) }
     {
         let name = self.config_at(place).name();
         let number = self.copies.len() as u64 + 1;
-        transmission_text(
-            alloc,
-            self.clock,
-            name,
-            number,
-            port,
-            target,
-            frame.bytes(),
-            lines,
-        )
+        lines.transmission(alloc, self.clock, name, number, port, target, frame.bytes())
     }
 
     /// The moment at which the copy of a frame that a system sends was born, where that of the frame that it was given

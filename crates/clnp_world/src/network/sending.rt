@@ -10,6 +10,7 @@ ghost use Rattle.scenario.specs.Scenario.{octets_of};
 ghost use Rattle.scenario.specs.declared.event.Body.TheVariants.{Pattern};
 
 use super::Network;
+use crate::lines::Lines;
 use clnp_base::NoMemory;
 use clnp_plan::{Ask, Note, SendRefusal, Why};
 use clnp_systems::System;
@@ -27,11 +28,11 @@ impl Network {
         to: Address,
         body: &Body,
         ask: &Ask,
-        lines: &mut Vec<u8>,
+        lines: &mut Lines,
     ) -> Result<(), NoMemory>
         requires { FitsKind false (parameters ask.now.options) }
         ensures { OnOk result ((model : network.World) → Holds self.old model
-            → Follows self.new lines.old.items lines.new.items
+            → Follows self.new lines.old lines.new
             (network.asks model place (AsksToSend from to (octets_of body.now) ask.now))) }
     {
         match body {
@@ -54,11 +55,11 @@ impl Network {
         to: Address,
         body: &[u8],
         ask: &Ask,
-        lines: &mut Vec<u8>,
+        lines: &mut Lines,
     ) -> Result<(), NoMemory>
         requires { FitsKind false (parameters ask.now.options) }
         ensures { OnOk result ((model : network.World) → Holds self.old model
-            → Follows self.new lines.old.items lines.new.items
+            → Follows self.new lines.old lines.new
             (network.asks model place (AsksToSend from to body.now ask.now))) }
     {
         if place >= self.systems.len() {
@@ -91,10 +92,10 @@ impl Network {
         from: Address,
         to: Address,
         body: &Body,
-        lines: &mut Vec<u8>,
+        lines: &mut Lines,
     ) -> Result<(), NoMemory>
         ensures { OnOk result ((model : network.World) → Holds self.old model
-            → Follows self.new lines.old.items lines.new.items
+            → Follows self.new lines.old lines.new
             (network.comes model place (AsksForEcho from to (octets_of body.now)))) }
     {
         match body {
@@ -114,10 +115,10 @@ impl Network {
         from: Address,
         to: Address,
         body: &[u8],
-        lines: &mut Vec<u8>,
+        lines: &mut Lines,
     ) -> Result<(), NoMemory>
         ensures { OnOk result ((model : network.World) → Holds self.old model
-            → Follows self.new lines.old.items lines.new.items
+            → Follows self.new lines.old lines.new
             (network.comes model place (AsksForEcho from to body.now))) }
     {
         if place >= self.systems.len() {

@@ -10,16 +10,16 @@ use Rattle.clnp_world.proofs.TakeSteps.{with_node, does_follow, does_nothing, no
 use Rattle.clnp_world.proofs.network.Network.congest.Goals as goal
 
 pub returns-then-place-len : goal.returns-then-place-len
-returns-then-place-len c = does_nothing c.args.self.now c.args.lines.now.items c.args.place (IsCongested c.args.on) (omega (arith, c.args.self.now.systems.ok.0))
+returns-then-place-len c = does_nothing c.args.self.now c.args.lines.now c.args.place (IsCongested c.args.on) (omega (arith, c.args.self.now.systems.ok.0))
 
 pub returns : goal.returns
 returns c =
     let old = c.args.self.now in
     let mid = with_node old c.args.place c.congest.new.self in
     on_ok_weaker c.write_note.result (λ writes.
-    does_follow old mid c.args.lines.now.items c.write_note.new.lines.items c.args.place old.clock (IsCongested c.args.on) c.index_mut.result.now c.congest.new.self
+    does_follow old mid c.args.lines.now c.write_note.new.lines c.args.place old.clock (IsCongested c.args.on) c.index_mut.result.now c.congest.new.self
     (Told (Congest c.args.on) ∷ [])
     (slice_get_read old.systems.items c.args.place c.index_mut.result.now (omega (arith, old.systems.ok.0)) c.index_mut.ensures.value)
     c.congest.ensures.stands (λ s _. gives_note (entity_of c.index_mut.result.now).moment (Congest c.args.on)) (λ s. refl)
-    (note_alone mid c.args.lines.now.items c.write_note.new.lines.items c.args.place old.clock (Congest c.args.on) writes))
+    (note_alone mid c.args.lines.now c.write_note.new.lines c.args.place old.clock (Congest c.args.on) writes))
     c.write_note.ensures

@@ -8,13 +8,13 @@ use Rattle.clnp_world.proofs.network.Network.deliver.Goals as goal
 
 pub returns-then-place-len : goal.returns-then-place-len
 returns-then-place-len c =
-    delivers_nowhere c.args.self.now c.args.lines.now.items c.args.limits c.args.number c.args.place (omega (arith, c.args.self.now.systems.ok.0))
+    delivers_nowhere c.args.self.now c.args.lines.now c.args.limits c.args.number c.args.place (omega (arith, c.args.self.now.systems.ok.0))
 
 pub returns-then-at-len : goal.returns-then-at-len
 returns-then-at-len c =
     let old = c.args.self.now in
     on_ok_weaker c.write_void.result
-    (delivers_none old c.args.lines.now.items c.write_void.new.lines.items c.args.limits c.args.number c.saturating_sub-at.result c.args.place
+    (delivers_none old c.args.lines.now c.write_void.new.lines c.args.limits c.args.number c.saturating_sub-at.result c.args.place
     (omega arith) (omega (arith, old.systems.ok.0)) (omega (arith, old.copies.ok.0)))
     c.write_void.ensures
 
@@ -23,7 +23,7 @@ returns-then-not-is_for c =
     let old = c.args.self.now in
     let tells = λ (b : Bool). TellsAddressee old c.saturating_sub-at.result c.args.place b in
     on_ok_weaker c.write_void-then-not-is_for.result
-    (delivers_other old c.args.lines.now.items c.write_void-then-not-is_for.new.lines.items c.args.limits c.args.number c.saturating_sub-at.result
+    (delivers_other old c.args.lines.now c.write_void-then-not-is_for.new.lines c.args.limits c.args.number c.saturating_sub-at.result
     c.args.place (omega arith) (omega (arith, old.systems.ok.0)) (omega (arith, old.copies.ok.0))
     (subst tells c.if-not-is_for.true c.is_for.ensures))
     c.write_void-then-not-is_for.ensures
@@ -33,8 +33,8 @@ returns c =
     let old = c.args.self.now in
     let tells = λ (b : Bool). TellsAddressee old c.saturating_sub-at.result c.args.place b in
     on_ok_weaker c.give.result (λ gives.
-    delivers old c.give.new.self c.args.lines.now.items c.give.new.lines.items c.args.limits c.args.number c.saturating_sub-at.result c.args.place
+    delivers old c.give.new.self c.args.lines.now c.give.new.lines c.args.limits c.args.number c.saturating_sub-at.result c.args.place
     (omega arith) (omega (arith, old.systems.ok.0)) (omega (arith, old.copies.ok.0)) (subst tells c.if-not-is_for.false c.is_for.ensures)
-    (λ model copy h there. subst (λ (n : ℕ). Follows c.give.new.self c.args.lines.now.items c.give.new.lines.items
+    (λ model copy h there. subst (λ (n : ℕ). Follows c.give.new.self c.args.lines.now c.give.new.lines
     (network.give c.args.limits (numbered n copy) model c.args.place)) c.from.ensures (gives model copy h there)))
     c.give.ensures.follows

@@ -15,7 +15,7 @@ use Rattle.clnp_world.proofs.network.Network.echo_octets.Goals as goal
 
 pub returns-then-place-len : goal.returns-then-place-len
 returns-then-place-len c =
-    does_nothing c.args.self.now c.args.lines.now.items c.args.place (AsksForEcho c.args.from c.args.to c.args.body.now)
+    does_nothing c.args.self.now c.args.lines.now c.args.place (AsksForEcho c.args.from c.args.to c.args.body.now)
     (omega (arith, c.args.self.now.systems.ok.0))
 
 pub returns-in-Ok : goal.returns-in-Ok
@@ -24,7 +24,7 @@ returns-in-Ok c =
     let node = c.index_mut.result.now in
     let input : Input = AsksForEcho c.args.from c.args.to c.args.body.now in
     on_ok_weaker c.put_all_out.result
-    (does_follow old c.put_all_out.new.self c.args.lines.now.items c.put_all_out.new.lines.items c.args.place old.clock input node
+    (does_follow old c.put_all_out.new.self c.args.lines.now c.put_all_out.new.lines c.args.place old.clock input node
     c.echo.new.self c.echo.new.out.items
     (slice_get_read old.systems.items c.args.place node (omega (arith, old.systems.ok.0)) c.index_mut.ensures.value) c.in-Ok.ensures.stands
     (λ s stands. from_none (entity_of node).moment c.new-outputs.result.items c.echo.new.out.items (step s input).outputs c.new-outputs.ensures.items
@@ -42,12 +42,12 @@ returns-in_ok-note-in-Err c =
     let why = λ (s : SystemState) (stands : entity.Stands (entity_of node) s). says_why c.in-Err.refusal note
     (refusal s (request_unit s c.args.from c.args.to c.args.body.now)) said (c.in-Err.ensures.answer s stands) in
     on_ok_weaker c.write_note.result (λ writes.
-    does_follow old mid c.args.lines.now.items c.write_note.new.lines.items c.args.place old.clock
+    does_follow old mid c.args.lines.now c.write_note.new.lines c.args.place old.clock
     (AsksForEcho c.args.from c.args.to c.args.body.now) node c.echo.new.self (Told note ∷ [])
     (slice_get_read old.systems.items c.args.place node (omega (arith, old.systems.ok.0)) c.index_mut.ensures.value)
     (λ s stands. refused_echo_stands s c.args.from c.args.to c.args.body.now note node c.echo.new.self (why s stands)
     (leaves_same c.in-Err.refusal note (entity_of node) (entity_of c.echo.new.self) said c.in-Err.ensures.left) stands)
     (λ s stands. refused_echo_gives s c.args.from c.args.to c.args.body.now note (entity_of node).moment (why s stands))
     (λ s. step_moment s (AsksForEcho c.args.from c.args.to c.args.body.now))
-    (note_alone mid c.args.lines.now.items c.write_note.new.lines.items c.args.place old.clock note writes))
+    (note_alone mid c.args.lines.now c.write_note.new.lines c.args.place old.clock note writes))
     c.write_note.ensures

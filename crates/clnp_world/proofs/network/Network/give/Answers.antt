@@ -8,7 +8,7 @@ pub returns-then-is_late-clause-follows : goal.returns-then-is_late-clause-follo
 returns-then-is_late-clause-follows c =
     let old = c.args.self.now in
     on_ok_weaker c.write_late.result
-    (gives_late old c.args.lines.now.items c.write_late.new.lines.items c.args.limits c.args.number c.args.at c.args.place
+    (gives_late old c.args.lines.now c.write_late.new.lines c.args.limits c.args.number c.args.at c.args.place
     (omega (arith, old.systems.ok.0)) (subst (λ (b : Bool). TellsLate old c.args.limits c.args.at b) c.if-is_late.true c.is_late.ensures))
     c.write_late.ensures
 
@@ -16,6 +16,6 @@ pub returns-clause-follows : goal.returns-clause-follows
 returns-clause-follows c =
     let old = c.args.self.now in
     on_ok_weaker c.hand.result
-    (gives_now old c.hand.new.self c.args.lines.now.items c.hand.new.lines.items c.args.limits c.args.number c.args.at c.args.place
+    (gives_now old c.hand.new.self c.args.lines.now c.hand.new.lines c.args.limits c.args.number c.args.at c.args.place
     (omega (arith, old.systems.ok.0)) (subst (λ (b : Bool). TellsLate old c.args.limits c.args.at b) c.if-is_late.false c.is_late.ensures))
     c.hand.ensures.follows

@@ -1,5 +1,5 @@
 -- One system after another is looked at.
-use Rattle.std.proofs.Common.{◌∙◌, ◌≡◌, ◌≤◌, ℕ, Bool, Vec, Global, ap, sym, subst, arith, vec_len}
+use Rattle.std.proofs.Common.{◌∙◌, ◌≡◌, ◌≤◌, Bool, sym, subst, arith, vec_len}
 use Rattle.clnp_world.specs.declared.network.Network.{Network}
 use Rattle.clnp_world.proofs.GiveSteps.{TellsAddressee, gives_more_as, gives_skip_as, gives_all, still_running}
 use Rattle.clnp_world.proofs.network.Network.give_each.Goals as goal
@@ -7,7 +7,7 @@ use Rattle.clnp_world.proofs.network.Network.give_each.Goals.{then-is_for+in_ok-
 
 pub give-requires-clause-running : goal.give-requires-clause-running
 give-requires-clause-running c =
-    still_running c.args.self.now c.loop-place.self c.args.lines.now.items c.loop-place.lines.items c.args.limits c.args.at c.loop-place.place
+    still_running c.args.self.now c.loop-place.self c.args.lines.now c.loop-place.lines c.args.limits c.args.at c.loop-place.place
     c.requires.running (omega (arith, c.args.self.now.copies.ok.0)) c.loop-place.invariant.gives
 
 pub loop-place-preserved : goal.loop-place-preserved
@@ -16,19 +16,19 @@ loop-place-preserved c =
     let tells = λ (b : Bool). TellsAddressee c.loop-place.self c.args.at c.loop-place.place b in
     elim c.if-is_for.branch [
       | then-is_for+in_ok-give w ↦ record {
-        gives = gives_more_as old c.loop-place.self w.give.new.self c.if-is_for.self c.args.lines.now.items c.loop-place.lines.items
-            w.give.new.lines.items c.if-is_for.lines.items c.args.limits c.args.at c.loop-place.place c.loop-place.invariant.gives
+        gives = gives_more_as old c.loop-place.self w.give.new.self c.if-is_for.self c.args.lines.now c.loop-place.lines
+            w.give.new.lines c.if-is_for.lines c.args.limits c.args.at c.loop-place.place c.loop-place.invariant.gives
             (omega (arith, old.systems.ok.0)) (subst tells w.if-is_for.true c.is_for.ensures) w.self-is
-            (ap (λ (v : Vec ℕ Global). v.items) w.lines-is) w.in_ok-give.ensures.follows;
+            w.lines-is w.in_ok-give.ensures.follows;
         systems = subst (λ (v : Network). vec_len v.systems ≡ vec_len old.systems) (sym w.self-is)
             (w.in_ok-give.ensures.systems ∙ c.loop-place.invariant.systems);
         copies = subst (λ (v : Network). vec_len old.copies ≤ vec_len v.copies) (sym w.self-is) (omega (arith, w.in_ok-give.ensures.copies));
       }
       | else-is_for w ↦ record {
-        gives = gives_skip_as old c.loop-place.self c.if-is_for.self c.args.lines.now.items c.loop-place.lines.items c.if-is_for.lines.items
+        gives = gives_skip_as old c.loop-place.self c.if-is_for.self c.args.lines.now c.loop-place.lines c.if-is_for.lines
             c.args.limits c.args.at c.loop-place.place c.loop-place.invariant.gives
             (omega (arith, old.systems.ok.0)) (subst tells w.if-is_for.false c.is_for.ensures) w.self-is
-            (ap (λ (v : Vec ℕ Global). v.items) w.lines-is);
+            w.lines-is;
         systems = subst (λ (v : Network). vec_len v.systems ≡ vec_len old.systems) (sym w.self-is) c.loop-place.invariant.systems;
         copies = subst (λ (v : Network). vec_len old.copies ≤ vec_len v.copies) (sym w.self-is) c.loop-place.invariant.copies;
       }
@@ -36,5 +36,5 @@ loop-place-preserved c =
 
 pub returns : goal.returns
 returns c =
-    gives_all c.args.self.now c.loop-place.self c.args.lines.now.items c.loop-place.lines.items c.args.limits c.args.at c.loop-place.place
+    gives_all c.args.self.now c.loop-place.self c.args.lines.now c.loop-place.lines c.args.limits c.args.at c.loop-place.place
     c.loop-place.invariant.gives (omega (arith, c.args.self.now.systems.ok.0))

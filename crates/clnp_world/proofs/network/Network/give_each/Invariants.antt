@@ -4,7 +4,7 @@ use Rattle.clnp_world.proofs.network.Network.give_each.Given as goal
 
 abbrev pub invariant-loop-place : goal.invariant-loop-place
 invariant-loop-place l = record {
-  gives : Gives l.initial.self l.self l.initial.lines.items l.lines.items l.limits l.at l.place;
+  gives : Gives l.initial.self l.self l.initial.lines l.lines l.limits l.at l.place;
   systems : vec_len l.self.systems ≡ vec_len l.initial.self.systems;
   copies : vec_len l.initial.self.copies ≤ vec_len l.self.copies;
 }

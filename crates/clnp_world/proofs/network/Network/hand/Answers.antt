@@ -32,7 +32,7 @@ returns-clause-follows c =
     same c.is_to_group-group.ensures in
     let octets = ap (λ (f : FrameCopy). f.frame) (sym same) in
     let stands = each_at old.systems.items model.systems c.args.place node system h.shows.systems here there in
-    takes_now old c.put_all_out.new.self c.args.lines.now.items c.put_all_out.new.lines.items c.args.place seen.birth copy.content node c.frame.new.self c.frame.new.out.items
+    takes_now old c.put_all_out.new.self c.args.lines.now c.put_all_out.new.lines c.args.place seen.birth copy.content node c.frame.new.self c.frame.new.out.items
     effect system here (subst (λ (i : Input). clnp_systems.Stands c.frame.new.self (step system i).after) comes
     (c.in_ok-frame.ensures.stands system copy.content stands carried octets)) born
     (from_none_for (entity_of node).moment copy.content c.new-outputs.result.items c.frame.new.out.items effect.outputs c.new-outputs.ensures.items

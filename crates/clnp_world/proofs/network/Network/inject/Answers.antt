@@ -1,8 +1,9 @@
 -- The frame becomes the next copy, and its line is written.
-use Rattle.std.proofs.Common.{◌≡◌, ◌+◌, ◌∙◌, ℕ, [], ◌∷◌, ◌++◌, List, Some, ap, subst, arith}
+use Rattle.std.proofs.Common.{◌≡◌, ◌+◌, ◌∙◌, ℕ, [], ◌∷◌, List, Some, subst, arith}
 use Rattle.std.specs.Prelude.{slice_get}
 use Rattle.std.proofs.lemmas.Result.{on_ok_weaker}
-use Rattle.clnp_plan.specs.Journal.{Injected, line_text}
+use Rattle.clnp_plan.specs.Journal.{Injected}
+use Rattle.clnp_world.specs.Lines.{Gains}
 use Rattle.clnp_world.specs.Parts.{PutsCopies}
 use Rattle.clnp_world.proofs.InjectSteps.{injects_there, outside_copy}
 use Rattle.clnp_world.proofs.ListSteps.{slice_get_read}
@@ -14,10 +15,10 @@ returns c =
     let declared = c.index-subnets-place.result in
     let there = subst (λ (place : ℕ). slice_get c.args.subnets.now place ≡ Some declared) c.from-place.ensures
     (slice_get_read c.args.subnets.now c.from-place.result declared (omega arith) c.index-subnets-place.is) in
-    let line = c.in_ok-injection_text.ensures.written
-    ∙ ap (λ (name : List ℕ). c.args.lines.now.items ++ line_text (Injected old.clock (c.len.result + 1) name c.args.from c.args.to)) c.name-name.ensures in
+    let line = subst (λ (name : List ℕ). Gains c.args.lines.now c.injection.new.self (Injected old.clock (c.len.result + 1) name c.args.from c.args.to ∷ []))
+    c.name-name.ensures c.in_ok-injection.ensures in
     on_ok_weaker c.push_copy.result (λ put.
-    injects_there old c.push_copy.new.self c.args.lines.now.items c.injection_text.new.out.items c.args.subnets.now c.args.subnet c.len.result
+    injects_there old c.push_copy.new.self c.args.lines.now c.injection.new.self c.args.subnets.now c.args.subnet c.len.result
     declared c.args.from c.args.to c.args.octets.now there c.requires.bytes c.requires.few (omega (arith, c.len.ensures, old.copies.ok.0)) line
     (subst (λ (frame : List ℕ). PutsCopies old c.push_copy.new.self (outside_copy c.args.subnet c.args.from c.args.to old.clock frame ∷ []))
     (c.in_ok-frame.ensures ∙ c.as_bytes.ensures) put)

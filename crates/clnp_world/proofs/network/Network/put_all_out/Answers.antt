@@ -10,7 +10,7 @@ use Rattle.clnp_world.proofs.network.Network.put_all_out.Goals as goal
 
 pub loop-output-init : goal.loop-output-init
 loop-output-init c = record {
-  puts = puts_none c.args.self.now c.args.lines.now.items c.args.place c.args.came;
+  puts = puts_none c.args.self.now c.args.lines.now c.args.place c.args.came;
   systems = refl;
   clock = refl;
   copies = omega arith;
@@ -18,8 +18,8 @@ loop-output-init c = record {
 
 pub loop-output-preserved : goal.loop-output-preserved
 loop-output-preserved c = record {
-  puts = puts_more c.args.self.now c.loop-output.self c.put_out.new.self c.args.lines.now.items c.loop-output.lines.items
-      c.put_out.new.lines.items c.args.place c.args.came c.loop-output.yielded c.in-Some.output c.loop-output.invariant.puts
+  puts = puts_more c.args.self.now c.loop-output.self c.put_out.new.self c.args.lines.now c.loop-output.lines
+      c.put_out.new.lines c.args.place c.args.came c.loop-output.yielded c.in-Some.output c.loop-output.invariant.puts
       c.loop-output.invariant.clock c.in_ok-put_out.ensures.puts;
   systems = c.in_ok-put_out.ensures.systems ∙ c.loop-output.invariant.systems;
   clock = c.in_ok-put_out.ensures.clock ∙ c.loop-output.invariant.clock;

@@ -18,7 +18,7 @@ use Rattle.clnp_world.proofs.network.Network.send_octets.Goals as goal
 
 pub returns-then-place-len : goal.returns-then-place-len
 returns-then-place-len c =
-    asks_nobody c.args.self.now c.args.lines.now.items c.args.place (AsksToSend c.args.from c.args.to c.args.body.now c.args.ask.now)
+    asks_nobody c.args.self.now c.args.lines.now c.args.place (AsksToSend c.args.from c.args.to c.args.body.now c.args.ask.now)
     (omega (arith, c.args.self.now.systems.ok.0))
 
 pub returns-in-Router : goal.returns-in-Router
@@ -26,8 +26,8 @@ returns-in-Router c =
     let old = c.args.self.now in
     let here = slice_get_read old.systems.items c.args.place c.index_mut.result.now (omega (arith, old.systems.ok.0)) c.index_mut.ensures.value
     ∙ ap Some c.in-Router.is in
-    written_back old c.args.lines.now.items c.args.place (AsksToSend c.args.from c.args.to c.args.body.now c.args.ask.now)
-    (variant.Router c.in-Router.router) here (asks_router old c.args.lines.now.items c.args.place
+    written_back old c.args.lines.now c.args.place (AsksToSend c.args.from c.args.to c.args.body.now c.args.ask.now)
+    (variant.Router c.in-Router.router) here (asks_router old c.args.lines.now c.args.place
     (AsksToSend c.args.from c.args.to c.args.body.now c.args.ask.now) (variant.Router c.in-Router.router) here
     (ap (λ (system : SystemConfiguration). system.role) (sym c.config.ensures.config) ∙ c.config.ensures.role))
 
@@ -40,9 +40,9 @@ returns-in-Ok c =
     let here = slice_get_read old.systems.items c.args.place c.index_mut.result.now (omega (arith, old.systems.ok.0)) c.index_mut.ensures.value
     ∙ ap Some c.in-Host.is in
     on_ok_weaker c.put_all_out.result (λ puts.
-    asks_host old c.put_all_out.new.self c.args.lines.now.items c.put_all_out.new.lines.items c.args.place input node here
+    asks_host old c.put_all_out.new.self c.args.lines.now c.put_all_out.new.lines c.args.place input node here
     (ap (λ (system : SystemConfiguration). system.role) (sym c.config-in-Host.ensures.config) ∙ c.config-in-Host.ensures.role)
-    (does_follow old c.put_all_out.new.self c.args.lines.now.items c.put_all_out.new.lines.items c.args.place old.clock input node
+    (does_follow old c.put_all_out.new.self c.args.lines.now c.put_all_out.new.lines c.args.place old.clock input node
     (variant.Host c.send.new.self) c.send.new.out.items here c.in-Ok.ensures.stands
     (λ s stands. from_none host.entity.moment c.new-outputs.result.items c.send.new.out.items (step s input).outputs c.new-outputs.ensures.items
     (c.in-Ok.ensures.outputs s stands))
@@ -62,14 +62,14 @@ returns-in_ok-note-in-Err c =
     let why = λ (s : SystemState) (stands : entity.Stands host.entity s). says_why c.in-Err.refusal note
     (refusal s (unit_of s Dt c.args.from c.args.to c.args.body.now c.args.ask.now)) said (c.in-Err.ensures.answer s stands) in
     on_ok_weaker c.write_note.result (λ writes.
-    asks_host old mid c.args.lines.now.items c.write_note.new.lines.items c.args.place
+    asks_host old mid c.args.lines.now c.write_note.new.lines c.args.place
     (AsksToSend c.args.from c.args.to c.args.body.now c.args.ask.now) node here
     (ap (λ (system : SystemConfiguration). system.role) (sym c.config-in-Host.ensures.config) ∙ c.config-in-Host.ensures.role)
-    (does_follow old mid c.args.lines.now.items c.write_note.new.lines.items c.args.place old.clock
+    (does_follow old mid c.args.lines.now c.write_note.new.lines c.args.place old.clock
     (AsksToSend c.args.from c.args.to c.args.body.now c.args.ask.now) node (variant.Host c.send.new.self) (Told note ∷ []) here
     (λ s stands. refused_stands s c.args.from c.args.to c.args.body.now c.args.ask.now note host.entity c.send.new.self.entity (why s stands)
     (leaves_same c.in-Err.refusal note host.entity c.send.new.self.entity said c.in-Err.ensures.left) stands)
     (λ s stands. refused_gives s c.args.from c.args.to c.args.body.now c.args.ask.now note host.entity.moment (why s stands))
     (λ s. step_moment s (AsksToSend c.args.from c.args.to c.args.body.now c.args.ask.now))
-    (note_alone mid c.args.lines.now.items c.write_note.new.lines.items c.args.place old.clock note writes)))
+    (note_alone mid c.args.lines.now c.write_note.new.lines c.args.place old.clock note writes)))
     c.write_note.ensures

@@ -12,6 +12,6 @@ give_each-requires-clause-running c =
 pub returns : goal.returns
 returns c =
     on_ok_weaker c.give_each.result
-    (settles c.args.self.now c.give_each.new.self c.args.lines.now.items c.give_each.new.lines.items c.args.limits
+    (settles c.args.self.now c.give_each.new.self c.args.lines.now c.give_each.new.lines c.args.limits
     (omega (arith, c.args.self.now.copies.ok.0)))
     c.give_each.ensures

@@ -14,9 +14,9 @@ returns-clause-puts c =
     let old = c.args.self.now in
     let node = c.index_mut.result.now in
     on_ok_weaker c.put_all_out.result (λ puts model h.
-    subst (λ (now : ℕ). Puts c.put_all_out.new.self c.args.lines.now.items c.put_all_out.new.lines.items
+    subst (λ (now : ℕ). Puts c.put_all_out.new.self c.args.lines.now c.put_all_out.new.lines
     (network.comes model c.args.place (MomentComes now))) h.clock
-    (does_put old c.put_all_out.new.self c.args.lines.now.items c.put_all_out.new.lines.items c.args.place old.clock (MomentComes old.clock)
+    (does_put old c.put_all_out.new.self c.args.lines.now c.put_all_out.new.lines c.args.place old.clock (MomentComes old.clock)
     node c.tick.new.self c.tick.new.out.items
     (slice_get_read old.systems.items c.args.place node (omega (arith, old.systems.ok.0)) c.index_mut.ensures.value)
     c.in_ok-tick.ensures.stands

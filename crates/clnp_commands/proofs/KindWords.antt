@@ -1,0 +1,421 @@
+-- The third word of a journal's line says of what kind it is.
+use Rattle.std.proofs.Common.{◌≡◌, ℕ, zero, suc, ◌/◌, ◌%◌, ◌<◌, ◌≤◌, ◌==◌, Bool, true, false, inl, inr, List, [], ◌∷◌, ◌++◌, codes, length, slice_index, cond, Option, None, Some, refl, sym, ap, subst, ◌∙◌, append_assoc, arith}
+use Rattle.std.specs.List.{AllByRecursion, filter, flat_map}
+use Rattle.std.specs.Str.{bytes_eq}
+use Rattle.std.specs.Fmt.{decimal, digits, digits_onto, digit_glyph}
+use Rattle.std.proofs.Math.ListN.{get_or-eq_default}
+use Rattle.std.proofs.lemmas.Bool.{lt-ltb, cases_lt, ne_eqb}
+use Rattle.hex.specs.Hex.{encode_with, lower_digits}
+use Rattle.nsap.specs.Text.{hex_text}
+use Rattle.nsap.specs.declared.target.Target.{Target}
+use Rattle.nsap.specs.declared.target.Target.TheVariants.{System, EndSystems, Routers}
+use Rattle.pdu_header.specs.Spelling.{pair_of}
+use Rattle.pdu_header.specs.declared.kind.Kind.{Kind}
+use Rattle.pdu_header.specs.declared.kind.Kind.TheVariants.{Dt, Er, Erq, Erp}
+use Rattle.esis_tables.specs.declared.fact.Heard.{Heard}
+use Rattle.esis_tables.specs.declared.fact.Heard.TheVariants as heard
+use Rattle.esis_tables.specs.declared.fact.TableKind.{TableKind}
+use Rattle.esis_tables.specs.declared.fact.TableKind.TheVariants as table
+use Rattle.clnp_base.specs.Text.{ends_word, lines_of, onto_first, words_of}
+use Rattle.clnp_base.proofs.Lists.{AllByRecursion-append, AllByRecursion-implies}
+use Rattle.clnp_plan.specs.Journal.{Line, Noted, Transmitted, Void, Late, Injected, behind_space, heard_words, identifier_word, ignored_word, kind_word, line_of, line_text, note_words, octet_word, octets_word, on_word, rule_word, table_word, target_word, why_word}
+use Rattle.clnp_plan.specs.declared.note.Note.{Note}
+use Rattle.clnp_plan.specs.declared.note.Note.TheVariants.{Sent, Refused, Got, Report, Echoed, Stray, Discard, Held, Repeat, Crowded, Many, NoSlot, Interference, Expired, NotMine, Alien, BadEsis, Hear, Gone, Ignored, Restart, Congest}
+use Rattle.clnp_plan.specs.declared.note.Why.{Why}
+use Rattle.clnp_plan.specs.declared.note.Why.TheVariants as why
+use Rattle.scenario.proofs.Written.{IsWord, digit_plain, spelled}
+use Rattle.clnp_world.specs.Lines.{first_of, how_many, kind_of, no_lines, tally}
+use Rattle.clnp_commands.specs.Storm.{count_of, counts_of, is_of_kind, third_of}
+
+-- ---- lines
+
+-- a character that ends no line
+abbrev pub IsWithin : ℕ → Type 0
+IsWithin c = ((c == 10) ≡ false) × ((c == 13) ≡ false)
+
+abbrev pub IsInLine : List ℕ → Type 0
+IsInLine word = AllByRecursion IsWithin word
+
+lines_of-line : (text more : List ℕ) → IsInLine text → lines_of (text ++ (10 ∷ more)) ≡ text ∷ lines_of more
+lines_of-line [] more h = refl
+lines_of-line (c ∷ cs) more h = rw (h.0.0, h.0.1) (ap (λ lines. onto_first c lines) (lines_of-line cs more h.1))
+
+-- a line without its end
+abbrev front_of : List ℕ → List (List ℕ) → List ℕ
+front_of first others = first ++ flat_map behind_space others
+
+others_in_line : (others : List (List ℕ)) → AllByRecursion IsInLine others → IsInLine (flat_map behind_space others)
+others_in_line [] h = tt
+others_in_line (word ∷ others) h =
+    AllByRecursion-append IsWithin (behind_space word) (flat_map behind_space others) ((refl, refl), h.0) (others_in_line others h.1)
+
+one_line : (first : List ℕ) (others : List (List ℕ)) → IsInLine first → AllByRecursion IsInLine others
+    → lines_of (line_of first others) ≡ front_of first others ∷ []
+one_line first others is are =
+    ap lines_of (sym (append_assoc first (flat_map behind_space others) (codes "\n")))
+    ∙ lines_of-line (front_of first others) [] (AllByRecursion-append IsWithin first (flat_map behind_space others) is (others_in_line others are))
+
+-- ---- words
+
+plain_within : (c : ℕ) → 32 < c → IsWithin c
+plain_within c h = (ne_eqb c 10 (omega arith), ne_eqb c 13 (omega arith))
+
+pub word_in_line : (word : List ℕ) → IsWord word → IsInLine word
+word_in_line word is = AllByRecursion-implies (λ c. 32 < c) IsWithin plain_within word is.plain
+
+word_next : (c d : ℕ) (ds : List ℕ) → (c == 32) ≡ false → (d == 32) ≡ false → words_of (c ∷ (d ∷ ds)) ≡ onto_first c (words_of (d ∷ ds))
+word_next c d ds f g = rw (f, g) refl
+
+word_cut : (c : ℕ) (cs rest : List ℕ) → 32 < c → AllByRecursion (λ d. 32 < d) cs → ends_word rest ≡ true
+    → words_of (c ∷ (cs ++ rest)) ≡ (c ∷ cs) ∷ words_of rest
+word_cut c [] rest p h e = rw (ne_eqb c 32 (omega arith), e) refl
+word_cut c (d ∷ ds) rest p h e =
+    word_next c d (ds ++ rest) (ne_eqb c 32 (omega arith)) (ne_eqb d 32 (omega (arith, h.0)))
+    ∙ ap (λ words. onto_first c words) (word_cut d ds rest h.0 h.1 e)
+
+first_word : (word rest : List ℕ) → IsWord word → ends_word rest ≡ true → words_of (word ++ rest) ≡ word ∷ words_of rest
+first_word [] rest is e = absurd (omega (arith, is.some))
+first_word (c ∷ cs) rest is e = word_cut c cs rest is.plain.0 is.plain.1 e
+
+ends_behind : (others : List (List ℕ)) → ends_word (flat_map behind_space others) ≡ true
+ends_behind [] = refl
+ends_behind (word ∷ others) = refl
+
+third_word : (first second third : List ℕ) (others : List (List ℕ)) → IsWord first → IsWord second → IsWord third
+    → third_of (words_of (front_of first (second ∷ third ∷ others))) ≡ third
+third_word first second third others is_first is_second is_third =
+    let behind_third = flat_map behind_space others in
+    let behind_second = flat_map behind_space (third ∷ others) in
+    ap third_of
+    (first_word first (flat_map behind_space (second ∷ third ∷ others)) is_first refl
+    ∙ ap (λ words. first ∷ words)
+    (first_word second behind_second is_second refl
+    ∙ ap (λ words. second ∷ words) (first_word third behind_third is_third (ends_behind others))))
+
+-- ---- numbers and octets
+
+-- a digit
+abbrev IsDigit : ℕ → Type 0
+IsDigit c = (32 < c) × (c < 58)
+
+glyph_digit : (d : ℕ) → d < 10 → IsDigit (digit_glyph false d)
+glyph_digit d h = rw (lt-ltb d 10 h) (omega arith, omega arith)
+
+digits_all : (k n : ℕ) (acc : List ℕ) → AllByRecursion IsDigit acc → AllByRecursion IsDigit (digits_onto k 10 false n acc)
+digits_all zero n acc h = h
+digits_all (suc k) n acc h =
+    let g = digit_glyph false (n % 10) in
+    let more : AllByRecursion IsDigit (g ∷ acc) = (glyph_digit (n % 10) (omega arith), h) in
+    elim (n / 10 == 0) as (λ b. AllByRecursion IsDigit (cond b (g ∷ acc) (digits_onto k 10 false (n / 10) (g ∷ acc))))
+    [ true ↦ more | false ↦ digits_all k (n / 10) (g ∷ acc) more ]
+
+digits_some : (k n : ℕ) (acc : List ℕ) → 0 < length acc → 0 < length (digits_onto k 10 false n acc)
+digits_some zero n acc h = h
+digits_some (suc k) n acc h =
+    let g = digit_glyph false (n % 10) in
+    elim (n / 10 == 0) as (λ b. 0 < length (cond b (g ∷ acc) (digits_onto k 10 false (n / 10) (g ∷ acc))))
+    [ true ↦ omega arith | false ↦ digits_some k (n / 10) (g ∷ acc) (omega arith) ]
+
+digits_first : (k n : ℕ) → 0 < length (digits_onto (suc k) 10 false n [])
+digits_first k n =
+    let g = digit_glyph false (n % 10) in
+    elim (n / 10 == 0) as (λ b. 0 < length (cond b (g ∷ []) (digits_onto k 10 false (n / 10) (g ∷ []))))
+    [ true ↦ omega arith | false ↦ digits_some k (n / 10) (g ∷ []) (omega arith) ]
+
+decimal_all : (n : ℕ) → AllByRecursion IsDigit (decimal n)
+unfolding digits
+decimal_all n = digits_all 64 n [] tt
+
+decimal_word : (n : ℕ) → IsWord (decimal n)
+unfolding digits
+decimal_word n = record {
+  some = digits_first 63 n;
+  plain = AllByRecursion-implies IsDigit (λ c. 32 < c) (λ c d. d.0) (decimal n) (decimal_all n);
+}
+
+decimal_in_line : (n : ℕ) → IsInLine (decimal n)
+decimal_in_line n = word_in_line (decimal n) (decimal_word n)
+
+hex_digit_within : (d : ℕ) → IsWithin (slice_index lower_digits d)
+hex_digit_within d =
+    elim (cases_lt d 16) [
+      | inl small ↦ plain_within (slice_index lower_digits d) (digit_plain d small)
+      | inr past ↦ subst IsWithin (sym (get_or-eq_default lower_digits 0 past)) (refl, refl)
+    ]
+
+hex_in_line : (octets : List ℕ) → IsInLine (hex_text octets)
+unfolding encode_with
+hex_in_line [] = tt
+hex_in_line (octet ∷ octets) = (hex_digit_within (octet / 16), (hex_digit_within (octet % 16), hex_in_line octets))
+
+-- ---- the words of a note
+
+octets_in_line : (octets : List ℕ) → IsInLine (octets_word octets)
+octets_in_line [] = ((refl, refl), tt)
+octets_in_line (octet ∷ octets) = hex_in_line (octet ∷ octets)
+
+identifier_in_line : (identifier : Option ℕ) → IsInLine (identifier_word identifier)
+identifier_in_line None = ((refl, refl), tt)
+identifier_in_line (Some identifier) = hex_in_line (pair_of identifier)
+
+kind_in_line : (kind : Kind) → IsInLine (kind_word kind)
+kind_in_line Dt = word_in_line (codes "dt") (spelled (codes "dt") refl)
+kind_in_line Er = word_in_line (codes "er") (spelled (codes "er") refl)
+kind_in_line Erq = word_in_line (codes "erq") (spelled (codes "erq") refl)
+kind_in_line Erp = word_in_line (codes "erp") (spelled (codes "erp") refl)
+
+why_in_line : (reason : Why) → IsInLine (why_word reason)
+why_in_line why.NotMine = word_in_line (codes "not-mine") (spelled (codes "not-mine") refl)
+why_in_line why.TooLong = word_in_line (codes "too-long") (spelled (codes "too-long") refl)
+why_in_line why.Quiet = word_in_line (codes "quiet") (spelled (codes "quiet") refl)
+why_in_line why.IdsBusy = word_in_line (codes "ids-busy") (spelled (codes "ids-busy") refl)
+
+table_in_line : (kind : TableKind) → IsInLine (table_word kind)
+table_in_line table.Es = word_in_line (codes "es") (spelled (codes "es") refl)
+table_in_line table.Is = word_in_line (codes "is") (spelled (codes "is") refl)
+table_in_line table.Rd = word_in_line (codes "rd") (spelled (codes "rd") refl)
+
+heard_in_line : (came : Heard) → AllByRecursion IsInLine (heard_words came)
+heard_in_line heard.New = (word_in_line (codes "new") (spelled (codes "new") refl), tt)
+heard_in_line heard.Again = (word_in_line (codes "again") (spelled (codes "again") refl), tt)
+heard_in_line heard.Zero = (word_in_line (codes "zero") (spelled (codes "zero") refl), tt)
+heard_in_line (heard.Full entries) = (word_in_line (codes "full") (spelled (codes "full") refl), (decimal_in_line entries, tt))
+
+ignored_in_line : (rd : Bool) → IsInLine (ignored_word rd)
+ignored_in_line true = word_in_line (codes "rd") (spelled (codes "rd") refl)
+ignored_in_line false = word_in_line (codes "ish") (spelled (codes "ish") refl)
+
+on_in_line : (on : Bool) → IsInLine (on_word on)
+on_in_line true = word_in_line (codes "on") (spelled (codes "on") refl)
+on_in_line false = word_in_line (codes "off") (spelled (codes "off") refl)
+
+pub target_in_line : (target : Target) → IsInLine (target_word target)
+target_in_line (System snpa) = hex_in_line snpa
+target_in_line EndSystems = word_in_line (codes "es") (spelled (codes "es") refl)
+target_in_line Routers = word_in_line (codes "is") (spelled (codes "is") refl)
+
+-- the words of a line behind the moment and the name: its kind, and others
+record Words (words : List (List ℕ)) (kind : List ℕ) : Type 0 where
+  pub others : List (List ℕ)
+  pub split : words ≡ kind ∷ others
+  pub is_word : IsWord kind
+  pub in_line : AllByRecursion IsInLine others
+
+note_is : (note : Note) → Words (note_words note) (first_of (note_words note))
+note_is (Sent kind unit id from to len) = record {
+  others = kind_word kind ∷ decimal unit ∷ identifier_word id ∷ hex_text from ∷ hex_text to ∷ decimal len ∷ [];
+  split = refl;
+  is_word = spelled (codes "sent") refl;
+  in_line = (kind_in_line kind, (decimal_in_line unit, (identifier_in_line id, (hex_in_line from, (hex_in_line to, (decimal_in_line len, tt))))));
+}
+note_is (Refused reason value) = record {
+  others = why_word reason ∷ decimal value ∷ [];
+  split = refl;
+  is_word = spelled (codes "refused") refl;
+  in_line = (why_in_line reason, (decimal_in_line value, tt));
+}
+note_is (Got from to octets) = record {
+  others = hex_text from ∷ hex_text to ∷ octets_word octets ∷ [];
+  split = refl;
+  is_word = spelled (codes "got") refl;
+  in_line = (hex_in_line from, (hex_in_line to, (octets_in_line octets, tt)));
+}
+note_is (Report from to reason place octets) = record {
+  others = hex_text from ∷ hex_text to ∷ octet_word reason ∷ octet_word place ∷ octets_word octets ∷ [];
+  split = refl;
+  is_word = spelled (codes "report") refl;
+  in_line = (hex_in_line from, (hex_in_line to, (hex_in_line (reason ∷ []), (hex_in_line (place ∷ []), (octets_in_line octets, tt)))));
+}
+note_is (Echoed from to unit) = record {
+  others = hex_text from ∷ hex_text to ∷ decimal unit ∷ [];
+  split = refl;
+  is_word = spelled (codes "echoed") refl;
+  in_line = (hex_in_line from, (hex_in_line to, (decimal_in_line unit, tt)));
+}
+note_is (Stray from to) = record {
+  others = hex_text from ∷ hex_text to ∷ [];
+  split = refl;
+  is_word = spelled (codes "stray") refl;
+  in_line = (hex_in_line from, (hex_in_line to, tt));
+}
+note_is (Discard reason place) = record {
+  others = octet_word reason ∷ octet_word place ∷ [];
+  split = refl;
+  is_word = spelled (codes "drop") refl;
+  in_line = (hex_in_line (reason ∷ []), (hex_in_line (place ∷ []), tt));
+}
+note_is (Held id offset held) = record {
+  others = hex_text (pair_of id) ∷ decimal offset ∷ decimal held ∷ [];
+  split = refl;
+  is_word = spelled (codes "held") refl;
+  in_line = (hex_in_line (pair_of id), (decimal_in_line offset, (decimal_in_line held, tt)));
+}
+note_is (Repeat id offset) = record {
+  others = hex_text (pair_of id) ∷ decimal offset ∷ [];
+  split = refl;
+  is_word = spelled (codes "repeat") refl;
+  in_line = (hex_in_line (pair_of id), (decimal_in_line offset, tt));
+}
+note_is (Crowded held size) = record {
+  others = decimal held ∷ decimal size ∷ [];
+  split = refl;
+  is_word = spelled (codes "crowded") refl;
+  in_line = (decimal_in_line held, (decimal_in_line size, tt));
+}
+note_is (Many kept) = record {
+  others = decimal kept ∷ [];
+  split = refl;
+  is_word = spelled (codes "many") refl;
+  in_line = (decimal_in_line kept, tt);
+}
+note_is (NoSlot live) = record {
+  others = decimal live ∷ [];
+  split = refl;
+  is_word = spelled (codes "noslot") refl;
+  in_line = (decimal_in_line live, tt);
+}
+note_is (Interference id) = record {
+  others = hex_text (pair_of id) ∷ [];
+  split = refl;
+  is_word = spelled (codes "interference") refl;
+  in_line = (hex_in_line (pair_of id), tt);
+}
+note_is (Expired id held) = record {
+  others = hex_text (pair_of id) ∷ decimal held ∷ [];
+  split = refl;
+  is_word = spelled (codes "expired") refl;
+  in_line = (hex_in_line (pair_of id), (decimal_in_line held, tt));
+}
+note_is (NotMine to) = record {
+  others = hex_text to ∷ [];
+  split = refl;
+  is_word = spelled (codes "notmine") refl;
+  in_line = (hex_in_line to, tt);
+}
+note_is Alien = record { others = []; split = refl; is_word = spelled (codes "alien") refl; in_line = tt }
+note_is (BadEsis rule place) = record {
+  others = rule_word rule ∷ octet_word place ∷ [];
+  split = refl;
+  is_word = spelled (codes "badesis") refl;
+  in_line = (((refl, refl), decimal_in_line rule), (hex_in_line (place ∷ []), tt));
+}
+note_is (Hear kind key came) = record {
+  others = table_word kind ∷ hex_text key ∷ heard_words came;
+  split = refl;
+  is_word = spelled (codes "hear") refl;
+  in_line = (table_in_line kind, (hex_in_line key, heard_in_line came));
+}
+note_is (Gone kind key) = record {
+  others = table_word kind ∷ hex_text key ∷ [];
+  split = refl;
+  is_word = spelled (codes "gone") refl;
+  in_line = (table_in_line kind, (hex_in_line key, tt));
+}
+note_is (Ignored rd) = record {
+  others = ignored_word rd ∷ [];
+  split = refl;
+  is_word = spelled (codes "ignored") refl;
+  in_line = (ignored_in_line rd, tt);
+}
+note_is Restart = record { others = []; split = refl; is_word = spelled (codes "restart") refl; in_line = tt }
+note_is (Congest on) = record {
+  others = on_word on ∷ [];
+  split = refl;
+  is_word = spelled (codes "congest") refl;
+  in_line = (on_in_line on, tt);
+}
+
+-- ---- what is counted of a line
+
+-- the system that a line names has a word for its name, and the subnetwork's name is within the line
+abbrev pub IsNamed : Line → Type 0
+IsNamed (Noted now name note) = IsWord name
+IsNamed (Transmitted now name copy port target frame) = IsWord name
+IsNamed (Void now name copy) = IsWord name
+IsNamed (Late now name copy) = IsWord name
+IsNamed (Injected now copy subnet sender target) = IsInLine subnet
+
+-- the line as it is read
+record IsLine (line : Line) : Type 0 where
+  pub front : List ℕ
+  pub lines : lines_of (line_text line) ≡ front ∷ []
+  pub third : third_of (words_of front) ≡ kind_of line
+
+is_line : (line : Line) (first second kind : List ℕ) (others : List (List ℕ)) → line_text line ≡ line_of first (second ∷ kind ∷ others)
+    → kind_of line ≡ kind → IsWord first → IsWord second → IsWord kind → AllByRecursion IsInLine others → IsLine line
+is_line line first second kind others text kind_is is_first is_second is_kind in_line = record {
+  front = front_of first (second ∷ kind ∷ others);
+  lines = ap lines_of text ∙ one_line first (second ∷ kind ∷ others) (word_in_line first is_first)
+      (word_in_line second is_second, (word_in_line kind is_kind, in_line));
+  third = third_word first second kind others is_first is_second is_kind ∙ sym kind_is;
+}
+
+each_line : (line : Line) → IsNamed line → IsLine line
+each_line (Noted now name note) named =
+    let words = note_is note in
+    is_line (Noted now name note) (decimal now) name (first_of (note_words note)) words.others
+    (ap (λ (ws : List (List ℕ)). line_of (decimal now) (name ∷ ws)) words.split) refl (decimal_word now) named words.is_word words.in_line
+each_line (Transmitted now name copy port target frame) named =
+    is_line (Transmitted now name copy port target frame) (decimal now) name (codes "tx")
+    (decimal copy ∷ decimal port ∷ target_word target ∷ octets_word frame ∷ []) refl refl (decimal_word now) named (spelled (codes "tx") refl)
+    (decimal_in_line copy, (decimal_in_line port, (target_in_line target, (octets_in_line frame, tt))))
+each_line (Void now name copy) named =
+    is_line (Void now name copy) (decimal now) name (codes "void") (decimal copy ∷ []) refl refl (decimal_word now) named (spelled (codes "void") refl)
+    (decimal_in_line copy, tt)
+each_line (Late now name copy) named =
+    is_line (Late now name copy) (decimal now) name (codes "late") (decimal copy ∷ []) refl refl (decimal_word now) named (spelled (codes "late") refl)
+    (decimal_in_line copy, tt)
+each_line (Injected now copy subnet sender target) named =
+    is_line (Injected now copy subnet sender target) (decimal now) (codes "-") (codes "inject")
+    (decimal copy ∷ subnet ∷ hex_text sender ∷ target_word target ∷ []) refl refl (decimal_word now) (spelled (codes "-") refl) (spelled (codes "inject") refl)
+    (decimal_in_line copy, (named, (hex_in_line sender, (target_in_line target, tt))))
+
+-- two tests that answer the same pass as many
+one_counted : {A B : Type 0} (p : A → Bool) (q : B → Bool) (x : A) (y : B) → p x ≡ q y → length (filter p (x ∷ [])) ≡ length (filter q (y ∷ []))
+one_counted p q x y e = rw e (elim (q y) as (λ b. length (cond b (x ∷ []) []) ≡ length (cond b (y ∷ []) [])) [ true ↦ refl | false ↦ refl ])
+
+counted_as : (kind : List ℕ) (line : Line) → IsLine line → count_of kind (lines_of (line_text line)) ≡ how_many kind (line ∷ [])
+counted_as kind line is =
+    ap (λ (lines : List (List ℕ)). count_of kind lines) is.lines
+    ∙ one_counted (is_of_kind kind) (λ (l : Line). bytes_eq (kind_of l) kind) is.front line (ap (λ (word : List ℕ). bytes_eq word kind) is.third)
+
+-- what is counted of a line's text is what is counted of the line
+pub line_counts : (line : Line) → IsNamed line → counts_of (line_text line) ≡ tally (line ∷ [])
+line_counts line named =
+    let is = each_line line named in
+    rw (
+      counted_as (codes "got") line is,
+      counted_as (codes "report") line is,
+      counted_as (codes "echoed") line is,
+      counted_as (codes "drop") line is,
+      counted_as (codes "expired") line is,
+    ) refl
+
+-- the last line of a journal is of none of the kinds, since its third word is a number
+
+not_a_number : (word : List ℕ) (k : ℕ) (ks : List ℕ) → AllByRecursion IsDigit word → 58 ≤ k → bytes_eq word (k ∷ ks) ≡ false
+not_a_number [] k ks h e = refl
+not_a_number (c ∷ cs) k ks h e = rw (ne_eqb c k (omega (arith, h.0.1))) refl
+
+none_counted : {A : Type 0} (p : A → Bool) (x : A) → p x ≡ false → length (filter p (x ∷ [])) ≡ 0
+none_counted p x e = rw e refl
+
+end_uncounted : (now copies k : ℕ) (ks : List ℕ) → 58 ≤ k → count_of (k ∷ ks) (lines_of (line_of (codes "end") (decimal now ∷ decimal copies ∷ []))) ≡ 0
+end_uncounted now copies k ks e =
+    let front = front_of (codes "end") (decimal now ∷ decimal copies ∷ []) in
+    let third = third_word (codes "end") (decimal now) (decimal copies) [] (spelled (codes "end") refl) (decimal_word now) (decimal_word copies) in
+    ap (λ (lines : List (List ℕ)). count_of (k ∷ ks) lines)
+    (one_line (codes "end") (decimal now ∷ decimal copies ∷ []) (word_in_line (codes "end") (spelled (codes "end") refl))
+    (decimal_in_line now, (decimal_in_line copies, tt)))
+    ∙ none_counted (is_of_kind (k ∷ ks)) front
+    (ap (λ (word : List ℕ). bytes_eq word (k ∷ ks)) third ∙ not_a_number (decimal copies) k ks (decimal_all copies) e)
+
+pub end_counts : (now copies : ℕ) → counts_of (line_of (codes "end") (decimal now ∷ decimal copies ∷ [])) ≡ no_lines
+end_counts now copies =
+    rw (
+      end_uncounted now copies 103 (codes "ot") (omega arith),
+      end_uncounted now copies 114 (codes "eport") (omega arith),
+      end_uncounted now copies 101 (codes "choed") (omega arith),
+      end_uncounted now copies 100 (codes "rop") (omega arith),
+      end_uncounted now copies 101 (codes "xpired") (omega arith),
+    ) refl

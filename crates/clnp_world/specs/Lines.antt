@@ -1,0 +1,56 @@
+-- What the lines of a move come to: their text, or what is counted of them.
+use Rattle.std.specs.Prelude.{◌≡◌, ℕ, ◌+◌, List, [], ◌∷◌, ◌++◌, codes, length}
+use Rattle.std.specs.List.{filter}
+use Rattle.std.specs.Str.{bytes_eq}
+use Rattle.clnp_plan.specs.Journal.{Line, Noted, Transmitted, Void, Late, Injected, note_words}
+use Rattle.clnp_network.specs.Run.{lines_text}
+use Rattle.clnp_world.specs.declared.lines.Counts.{Counts}
+use Rattle.clnp_world.specs.declared.lines.Lines.{Lines}
+use Rattle.clnp_world.specs.declared.lines.Lines.TheVariants.{Written, Counted}
+
+-- the first of some words; no octets where there is none
+abbrev pub first_of : List (List ℕ) → List ℕ
+first_of [] = []
+first_of (first ∷ others) = first
+
+-- the word of a line that says of what kind it is, behind the moment and the name
+abbrev pub kind_of : Line → List ℕ
+kind_of (Noted now name note) = first_of (note_words note)
+kind_of (Transmitted now name copy port target frame) = codes "tx"
+kind_of (Void now name copy) = codes "void"
+kind_of (Late now name copy) = codes "late"
+kind_of (Injected now copy subnet sender target) = codes "inject"
+
+-- how many of some lines are of a kind
+abbrev pub how_many : (kind : List ℕ) → List Line → ℕ
+how_many kind lines = length (filter (λ line. bytes_eq (kind_of line) kind) lines)
+
+-- what is counted of some lines
+abbrev pub tally : List Line → Counts
+tally lines = record {
+  got = how_many (codes "got") lines;
+  reports = how_many (codes "report") lines;
+  echoed = how_many (codes "echoed") lines;
+  drops = how_many (codes "drop") lines;
+  expired = how_many (codes "expired") lines;
+}
+
+abbrev pub no_lines : Counts
+no_lines = record { got = 0; reports = 0; echoed = 0; drops = 0; expired = 0 }
+
+-- what is counted of some lines and of others
+abbrev pub both : Counts → Counts → Counts
+both a b = record {
+  got = a.got + b.got;
+  reports = a.reports + b.reports;
+  echoed = a.echoed + b.echoed;
+  drops = a.drops + b.drops;
+  expired = a.expired + b.expired;
+}
+
+-- some lines came to what there was: their text stands behind it, or they were counted
+abbrev pub Gains : (before after : Lines) → List Line → Type 0
+Gains (Written before) (Written after) lines = after.items ≡ before.items ++ lines_text lines
+Gains (Counted before) (Counted after) lines = after ≡ both before (tally lines)
+Gains (Written before) (Counted after) lines = ⊥
+Gains (Counted before) (Written after) lines = ⊥

@@ -1,0 +1,167 @@
+//! Where the lines of a move go.
+ghost use Rattle.std.specs.Prelude.{◌≡◌, ◌+◌, ◌∷◌, ℕ, List, [], IfSome, OnOk};
+ghost use Rattle.clnp_plan.specs.Journal.{Injected, Late, Noted, Transmitted, Void};
+ghost use Rattle.clnp_world.specs.Lines.{Gains, both, no_lines, tally};
+
+use clnp_base::NoMemory;
+use clnp_plan::{Note, injection_text, journal_text, late_text, transmission_text, void_text};
+use nsap::{Snpa, Target};
+use std::alloc::Global;
+
+/// How many lines of some kinds a journal has.
+#[derive(Clone, Copy, Debug, PartialEq, Eq)]
+pub struct Counts {
+    pub got: u64,
+    pub reports: u64,
+    pub echoed: u64,
+    pub drops: u64,
+    pub expired: u64,
+}
+
+impl Counts {
+    /// Those of no lines.
+    pub fn none() -> Counts
+        ensures { result ≡ no_lines }
+    {
+        Counts {
+            got: 0,
+            reports: 0,
+            echoed: 0,
+            drops: 0,
+            expired: 0,
+        }
+    }
+
+    /// These, and that of a note; none where no number is so great, and so no memory.
+    fn with_note(self, note: &Note) -> Option<Counts>
+        ensures { IfSome result (λ counts. (now : ℕ) (name : List ℕ) → counts ≡ both self (tally (Noted now name note.now ∷ []))) }
+    {
+        match note {
+            Note::Got { .. } => Some(Counts {
+                got: self.got.checked_add(1)?,
+                ..self
+            }),
+            Note::Report { .. } => Some(Counts {
+                reports: self.reports.checked_add(1)?,
+                ..self
+            }),
+            Note::Echoed { .. } => Some(Counts {
+                echoed: self.echoed.checked_add(1)?,
+                ..self
+            }),
+            Note::Discard { .. } => Some(Counts {
+                drops: self.drops.checked_add(1)?,
+                ..self
+            }),
+            Note::Expired { .. } => Some(Counts {
+                expired: self.expired.checked_add(1)?,
+                ..self
+            }),
+            _ => Some(self),
+        }
+    }
+}
+
+/// Where the lines of a move go.
+#[derive(Debug, Drop)]
+pub(crate) enum Lines {
+    /// Their text, behind that of others.
+    Written(Vec<u8>),
+    /// How many they are of some kinds, and no text.
+    Counted(Counts),
+}
+
+impl Lines {
+    /// A system's note.
+    pub(crate) fn note(
+        &mut self,
+        alloc: Global,
+        now: u64,
+        name: &[u8],
+        note: &Note,
+    ) -> Result<(), NoMemory>
+        ensures { OnOk result (Gains self.old self.new (Noted now name.now note.now ∷ [])) }
+    {
+        match self {
+            Lines::Written(text) => journal_text(alloc, now, name, note, text),
+            Lines::Counted(counts) => match counts.with_note(note) {
+                Some(counted) => {
+                    *counts = counted;
+                    Ok(())
+                }
+                None => Err(NoMemory),
+            },
+        }
+    }
+
+    /// A frame that a system transmits on a port, as the copy with a number.
+    pub(crate) fn transmission(
+        &mut self,
+        alloc: Global,
+        now: u64,
+        name: &[u8],
+        copy: u64,
+        port: u8,
+        target: Target,
+        frame: &[u8],
+    ) -> Result<(), NoMemory>
+        ensures { OnOk result (Gains self.old self.new (Transmitted now name.now copy port target frame.now ∷ [])) }
+    {
+        match self {
+            Lines::Written(text) => {
+                transmission_text(alloc, now, name, copy, port, target, frame, text)
+            }
+            Lines::Counted(_) => Ok(()),
+        }
+    }
+
+    /// A copy that isn't there for a system to be given.
+    pub(crate) fn void(
+        &mut self,
+        alloc: Global,
+        now: u64,
+        name: &[u8],
+        copy: u32,
+    ) -> Result<(), NoMemory>
+        ensures { OnOk result (Gains self.old self.new (Void now name.now copy ∷ [])) }
+    {
+        match self {
+            Lines::Written(text) => void_text(alloc, now, name, copy, text),
+            Lines::Counted(_) => Ok(()),
+        }
+    }
+
+    /// A copy that is too old for a system to be given.
+    pub(crate) fn late(
+        &mut self,
+        alloc: Global,
+        now: u64,
+        name: &[u8],
+        copy: u64,
+    ) -> Result<(), NoMemory>
+        ensures { OnOk result (Gains self.old self.new (Late now name.now copy ∷ [])) }
+    {
+        match self {
+            Lines::Written(text) => late_text(alloc, now, name, copy, text),
+            Lines::Counted(_) => Ok(()),
+        }
+    }
+
+    /// A frame from outside that becomes the copy with a number on a subnetwork.
+    pub(crate) fn injection(
+        &mut self,
+        alloc: Global,
+        now: u64,
+        copy: u64,
+        subnet: &[u8],
+        sender: &Snpa,
+        target: &Target,
+    ) -> Result<(), NoMemory>
+        ensures { OnOk result (Gains self.old self.new (Injected now copy subnet.now sender.now target.now ∷ [])) }
+    {
+        match self {
+            Lines::Written(text) => injection_text(alloc, now, copy, subnet, sender, target, text),
+            Lines::Counted(_) => Ok(()),
+        }
+    }
+}
