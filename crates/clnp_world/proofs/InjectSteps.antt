@@ -7,8 +7,7 @@ use Rattle.esis_pdus.specs.Reading as esis_reading
 use Rattle.esis_pdus.specs.Rules.{why_refused}
 use Rattle.pdu_header.specs.Reading.{rest_of}
 use Rattle.clnp_plan.specs.Journal.{Injected, Line}
-use Rattle.clnp_machine.specs.Content.{Esis, Labelled, Unlabelled, content_of, esis_value_in, is_accepted, packet_from_outside, value_in}
-use Rattle.clnp_machine.proofs.Outside.{content_carried, content_frame}
+use Rattle.clnp_machine.specs.Content.{Esis, IsCarried, Labelled, Unlabelled, content_of, esis_value_in, frame_of, is_accepted, packet_from_outside, value_in}
 use Rattle.clnp_network.specs.World as network
 use Rattle.scenario.specs.Scenario.{Subnetwork}
 use Rattle.clnp_world.specs.Lines.{Gains}
@@ -37,25 +36,27 @@ outside_copy subnet sender target birth octets =
     record { subnet = subnet; sender = sender; target = target; birth = birth; frame = octets }
 
 -- the frame is the next copy on a subnetwork that was declared
-pub injects_there : (old code : Network) (before after : Lines) (subnets : List Subnetwork) (subnet number : ℕ) (declared : Subnetwork)
+pub injects_there : (spells : (number moment : ℕ) (octets : List ℕ) → IsBytes octets → frame_of (content_of number moment octets) ≡ octets)
+    → (carries : (number moment : ℕ) (octets : List ℕ) → IsBytes octets → IsCarried (content_of number moment octets))
+    → (old code : Network) (before after : Lines) (subnets : List Subnetwork) (subnet number : ℕ) (declared : Subnetwork)
     → (sender : List ℕ) (target : Target) (octets : List ℕ) → slice_get subnets subnet ≡ Some declared → IsBytes octets → length octets ≤ 70000
     → number ≡ length old.copies.items
     → Gains before after (Injected old.clock (number + 1) declared.name sender target ∷ [])
     → PutsCopies old code (outside_copy subnet sender target old.clock octets ∷ [])
     → code ≡ record old { copies = code.copies; weight = code.weight }
     → (model : network.World) → Holds old model → Follows code before after (network.injects subnets model subnet sender target octets)
-injects_there old code before after subnets subnet number declared sender target octets there bytes few n line put others model h =
+injects_there spells carries old code before after subnets subnet number declared sender target octets there bytes few n line put others model h =
     let next = length model.copies + 1 in
     let made = network.copy_from_outside next model.clock subnet sender target octets in
     let seen : outside_copy subnet sender target old.clock octets ≡ frame_copy made
     = ap (λ (t : ℕ). outside_copy subnet sender target t octets) h.shows.clock
-    ∙ ap (λ (o : List ℕ). outside_copy subnet sender target model.clock o) (sym (content_frame next model.clock octets bytes)) in
+    ∙ ap (λ (o : List ℕ). outside_copy subnet sender target model.clock o) (sym (spells next model.clock octets bytes)) in
     let number_is : number + 1 ≡ next = ap (λ (k : ℕ). k + 1) (n ∙ counted old model h.shows) in
     subst (λ (d : Option Subnetwork). Follows code before after (network.injects_on model subnet d sender target octets)) (sym there)
     record {
       holds = record {
         shows = shows_more old code (made ∷ []) (outside_copy subnet sender target old.clock octets ∷ []) (ap (λ (c : FrameCopy). c ∷ []) seen)
-            (content_carried next model.clock octets bytes, tt) (born_outside next model.clock octets, tt) (few, tt) put others model h.shows;
+            (carries next model.clock octets bytes, tt) (born_outside next model.clock octets, tt) (few, tt) put others model h.shows;
         current = h.current;
       };
       lines = subst (λ (l : Line). Gains before after (l ∷ []))

@@ -1,5 +1,5 @@
-//! Tests of the public calls of the crates from a system's entity up to a whole call of the program:
-//! worked examples, and a happy path of each call that takes memory. A module for each crate.
+//! Tests of the public calls of the local entity, the simulated network, the commands and the program: worked examples,
+//! and a happy path of each call that takes memory. A module for each crate.
 #![tactic(auto)]
 
 #[cfg(test)]

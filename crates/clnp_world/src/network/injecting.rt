@@ -34,6 +34,7 @@ impl Network {
         if place >= subnets.len() {
             return Ok(());
         }
+        clnp_machine::laws::octets_have_a_content();
         let name = subnets[place].name();
         let number = self.copies.len() as u64 + 1;
         lines.injection(alloc, self.clock, number, name, &from, &to)?;

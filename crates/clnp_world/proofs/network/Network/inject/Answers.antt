@@ -18,7 +18,7 @@ returns c =
     let line = subst (λ (name : List ℕ). Gains c.args.lines.now c.injection.new.self (Injected old.clock (c.len.result + 1) name c.args.from c.args.to ∷ []))
     c.name-name.ensures c.in_ok-injection.ensures in
     on_ok_weaker c.push_copy.result (λ put.
-    injects_there old c.push_copy.new.self c.args.lines.now c.injection.new.self c.args.subnets.now c.args.subnet c.len.result
+    injects_there c.octets_have_a_content.ensures.frame c.octets_have_a_content.ensures.carried old c.push_copy.new.self c.args.lines.now c.injection.new.self c.args.subnets.now c.args.subnet c.len.result
     declared c.args.from c.args.to c.args.octets.now there c.requires.bytes c.requires.few (omega (arith, c.len.ensures, old.copies.ok.0)) line
     (subst (λ (frame : List ℕ). PutsCopies old c.push_copy.new.self (outside_copy c.args.subnet c.args.from c.args.to old.clock frame ∷ []))
     (c.in_ok-frame.ensures ∙ c.as_bytes.ensures) put)
