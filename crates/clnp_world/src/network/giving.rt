@@ -14,6 +14,9 @@ use clnp_base::NoMemory;
 use clnp_plan::Limits;
 use std::alloc::Global;
 
+/// Room for as many outputs is made before a frame comes to a system; most frames call for no more.
+const FEW_OUTPUTS: usize = 2;
+
 impl Network {
     /// Gives the copy with a number to the system at a place, where it is for it; else a line says that
     /// there is none for it.
@@ -163,7 +166,7 @@ impl Network {
         let copy = &self.copies[at];
         let birth = copy.birth;
         let group = is_to_group(copy);
-        let mut outputs = Vec::new(alloc);
+        let mut outputs = Vec::with_capacity(alloc, FEW_OUTPUTS)?;
         self.systems[place].frame(alloc, port, copy.sender, group, &copy.frame, &mut outputs)?;
         self.put_all_out(alloc, place, birth, outputs, lines)
     }

@@ -43,7 +43,7 @@ impl Network {
         ensures clock { self.new.clock ≡ self.old.clock }
         ensures copies { vec_len self.old.copies ≤ vec_len self.new.copies }
     {
-        for output in outputs {
+        for output in &outputs {
             self.put_out(alloc, place, came, output, lines)?;
         }
         Ok(())
@@ -56,24 +56,24 @@ impl Network {
         alloc: Global,
         place: usize,
         came: u64,
-        output: Output,
+        output: &Output,
         lines: &mut Lines,
     ) -> Result<(), NoMemory>
         requires { place < vec_len self.old.systems }
         ensures puts { OnOk result ((model : network.World) (system : SystemState) (content : Content) (other : machine.Output)
             → Shows self.old model → slice_get model.systems place ≡ Some system → IsBornWithUnit came content
-            → GivesFor self.old.clock content output other
+            → GivesFor self.old.clock content output.now other
             → Puts self.new lines.old lines.new (network.put_out system model other)) }
         ensures systems { self.new.systems ≡ self.old.systems }
         ensures clock { self.new.clock ≡ self.old.clock }
         ensures copies { vec_len self.old.copies ≤ vec_len self.new.copies }
     {
         match output {
-            Output::Note(note) => self.write_note(alloc, place, &note, lines),
+            Output::Note(note) => self.write_note(alloc, place, note, lines),
             Output::Transmit(sending) => {
-                let frame = frame_of(alloc, &sending)?;
+                let frame = frame_of(alloc, sending)?;
                 self.write_transmission(alloc, place, sending.port, sending.to, &frame, lines)?;
-                let birth = self.birth_of(&sending, came);
+                let birth = self.birth_of(sending, came);
                 self.put_copy(place, sending.port, sending.to, birth, frame)
             }
         }

@@ -153,9 +153,9 @@ fn refusal_note(refusal: SendRefusal) -> Result<Note, NoMemory>
 fn pattern(alloc: Global, len: u32, start: u8) -> Result<Vec<u8>, NoMemory>
     ensures { IfOk result (λ octets. octets.items ≡ octets_of (Pattern len start)) }
 {
-    let mut octets = Vec::new(alloc);
+    let mut octets = vec![in alloc; 0u8; len as usize]?;
     for place in 0..len {
-        octets.push(pattern_octet(place, start))?;
+        octets[place as usize] = pattern_octet(place, start);
     }
     Ok(octets)
 }

@@ -35,8 +35,8 @@ returns-clause-follows c =
     takes_now old c.put_all_out.new.self c.args.lines.now c.put_all_out.new.lines c.args.place seen.birth copy.content node c.frame.new.self c.frame.new.out.items
     effect system here (subst (λ (i : Input). clnp_systems.Stands c.frame.new.self (step system i).after) comes
     (c.in_ok-frame.ensures.stands system copy.content stands carried octets)) born
-    (from_none_for (entity_of node).moment copy.content c.new-outputs.result.items c.frame.new.out.items effect.outputs c.new-outputs.ensures.items
-    (subst (λ (i : Input). AppendsFor (entity_of node).moment copy.content c.new-outputs.result.items c.frame.new.out.items (step system i).outputs) comes
+    (from_none_for (entity_of node).moment copy.content c.in_ok-outputs.outputs.items c.frame.new.out.items effect.outputs c.in_ok-outputs.ensures.items
+    (subst (λ (i : Input). AppendsFor (entity_of node).moment copy.content c.in_ok-outputs.outputs.items c.frame.new.out.items (step system i).outputs) comes
     (c.in_ok-frame.ensures.outputs system copy.content stands carried octets)))
     (step_moment system input) puts model h there)
     c.put_all_out.ensures.puts

@@ -6,14 +6,14 @@ use Rattle.clnp_world.proofs.network.Network.put_out.Goals as goal
 pub returns-in-Note-clause-puts : goal.returns-in-Note-clause-puts
 returns-in-Note-clause-puts c =
     on_ok_weaker c.write_note.result
-    (puts_note c.args.self.now c.args.lines.now c.write_note.new.lines c.args.place c.args.came c.in-Note.note c.args.output c.in-Note.is)
+    (puts_note c.args.self.now c.args.lines.now c.write_note.new.lines c.args.place c.args.came c.in-Note.note c.args.output.now c.in-Note.is)
     c.write_note.ensures
 
 pub returns-in_ok-write_transmission-in-Transmit-clause-puts : goal.returns-in_ok-write_transmission-in-Transmit-clause-puts
 returns-in_ok-write_transmission-in-Transmit-clause-puts c =
     on_ok_weaker c.put_copy.result (λ put.
     puts_transmission c.args.self.now c.put_copy.new.self c.args.lines.now c.write_transmission.new.lines c.args.place
-    c.args.came c.birth_of-birth.result c.in-Transmit.sending c.in_ok-frame-in-Transmit.frame c.args.output c.in-Transmit.is
+    c.args.came c.birth_of-birth.result c.in-Transmit.sending c.in_ok-frame-in-Transmit.frame c.args.output.now c.in-Transmit.is
     c.in_ok-frame-in-Transmit.ensures c.birth_of-birth.ensures
     c.in_ok-write_transmission-in-Transmit.ensures put c.put_copy.ensures.others)
     c.put_copy.ensures.puts
