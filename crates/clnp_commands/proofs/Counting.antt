@@ -1,8 +1,6 @@
 -- Lines of texts that stand one behind the other, and their counts.
-use Rattle.std.proofs.Common.{◌≡◌, ℕ, zero, suc, ◌+◌, ◌≤◌, ◌==◌, ◌&&◌, Bool, true, false, if◌then◌else◌, Option, None, Some, List, [], ◌∷◌, ◌++◌, codes, length, refl, subst, sym, ap, ◌∙◌, append_assoc, length-append}
-use Rattle.std.specs.Prelude.{replicate}
+use Rattle.std.proofs.Common.{◌≡◌, ℕ, ◌+◌, ◌==◌, ◌&&◌, Bool, true, false, if◌then◌else◌, List, [], ◌∷◌, ◌++◌, codes, length, refl, subst, sym, ap, ◌∙◌, append_assoc, length-append}
 use Rattle.std.specs.List.{AllByRecursion, filter, flat_map}
-use Rattle.std.proofs.lemmas.Option.{slice_get_past}
 use Rattle.std.proofs.lemmas.List.Elements.{filter-append}
 use Rattle.std.proofs.lemmas.List.Concat.{flat_map-cons}
 use Rattle.clnp_base.specs.Text.{lines_of, onto_first, begins_with}
@@ -11,10 +9,9 @@ use Rattle.clnp_plan.specs.Journal.{Line, Noted, Transmitted, Void, Late, Inject
 use Rattle.std.specs.Fmt.{decimal}
 use Rattle.scenario.specs.Scenario.{Plan}
 use Rattle.scenario.specs.declared.event.Move.{Move}
-use Rattle.scenario.specs.declared.event.Move.TheVariants.{SettleOne}
-use Rattle.clnp_network.specs.World.{Copy, Step, World, after, is_full, nothing, settle_copy, weight}
-use Rattle.clnp_network.specs.Run.{full_weight, lines_text, text_of, world_after}
-use Rattle.clnp_world.specs.Lines.{both, no_lines, tally}
+use Rattle.clnp_network.specs.World.{Step, World, after}
+use Rattle.clnp_network.specs.Run.{lines_text, text_of, world_after}
+use Rattle.clnp_world.specs.Lines.{both, tally}
 use Rattle.clnp_world.specs.declared.lines.Counts.{Counts}
 use Rattle.clnp_world.proofs.LineSteps.{both-assoc, none-both, tally-append}
 use Rattle.clnp_commands.specs.Storm.{count_of, counts_in, counts_of, is_of_kind}
@@ -147,28 +144,3 @@ tally_of-append plan w (move ∷ made) more =
     let step : Step = after plan w move in
     ap (λ (c : Counts). both (tally step.lines) c) (tally_of-append plan step.world made more)
     ∙ sym (both-assoc (tally step.lines) (tally_of plan step.world made) (tally_of plan (world_after plan step.world made) more))
-
--- ---- copies that are all settled
-
--- to settle a copy where none is left changes nothing
-pub settled_after : (plan : Plan) (w : World) → length w.copies ≤ w.cursor → after plan w SettleOne ≡ nothing w
-settled_after plan w past = ap (λ (copy : Option Copy). settle_copy plan.limits w copy) (slice_get_past w.copies w.cursor past)
-
--- however often
-pub record IsStill (plan : Plan) (w : World) (moves : List Move) : Type 0 where
-  pub room : full_weight plan w moves ≡ None
-  pub world : world_after plan w moves ≡ w
-  pub counted : tally_of plan w moves ≡ no_lines
-
-pub still_settled : (plan : Plan) (w : World) (times : ℕ) → is_full w ≡ false → length w.copies ≤ w.cursor → IsStill plan w (replicate times SettleOne)
-still_settled plan w zero room past = record { room = refl; world = refl; counted = refl }
-still_settled plan w (suc times) room past =
-    let h = still_settled plan w times room past in
-    let same = settled_after plan w past in
-    record {
-      room = ap (λ (full : Bool). if full then Some (weight w) else full_weight plan (after plan w SettleOne).world (replicate times SettleOne)) room
-          ∙ (ap (λ (s : Step). full_weight plan s.world (replicate times SettleOne)) same ∙ h.room);
-      world = ap (λ (s : Step). world_after plan s.world (replicate times SettleOne)) same ∙ h.world;
-      counted = ap (λ (s : Step). both (tally s.lines) (tally_of plan s.world (replicate times SettleOne))) same
-          ∙ (ap (λ (c : Counts). both no_lines c) h.counted ∙ none-both no_lines);
-    }

@@ -4,6 +4,7 @@ pub mod Clocks
 pub mod KindWords
 pub mod Named
 pub mod Counting
+pub mod Still
 pub mod Storms
 pub mod Fit
 pub mod Lines

@@ -1,7 +1,6 @@
 -- The moves of a run whose lines are counted, and the scenario of a seed.
-use Rattle.std.proofs.Common.{◌≡◌, ℕ, ◌+◌, ◌-◌, ◌<◌, ◌≤◌, nat_le, true, false, inl, List, [], ◌∷◌, ◌++◌, Option, None, Some, Ok, refl, subst, sym, ap, ◌∙◌, append-nil, append_assoc}
+use Rattle.std.proofs.Common.{◌≡◌, ℕ, ◌+◌, ◌-◌, ◌<◌, nat_le, true, false, inl, List, [], ◌∷◌, ◌++◌, Option, None, Some, Ok, refl, subst, sym, ap, ◌∙◌, append-nil}
 use Rattle.std.specs.Prelude.{length, replicate}
-use Rattle.std.proofs.lemmas.Bool.{leb-true}
 use Rattle.std.specs.Io.KnownBytes.{Appends, Keeps}
 use Rattle.std.proofs.KnownBytes.{Appends-nil}
 use Rattle.clnp_base.specs.Streams.{AppendsFront}
@@ -28,11 +27,12 @@ use Rattle.clnp_commands.specs.Words.{run_status}
 use Rattle.clnp_commands.specs.Play.{ComesTo}
 use Rattle.clnp_commands.specs.Storm.{counts_of, line_of_run, line_unless, storm_line, storm_stopped_at, summary_text}
 use Rattle.clnp_commands.specs.Counting.{Counted, StopsAt, SumOf, tally_of}
-use Rattle.clnp_commands.proofs.Counting.{counts_of-append, moves_counts, settled_after, still_settled, tally_of-append, text_of-ends}
+use Rattle.clnp_commands.proofs.Counting.{counts_of-append, moves_counts, tally_of-append, text_of-ends}
 use Rattle.clnp_commands.proofs.KindWords.{end_counts}
 use Rattle.clnp_commands.proofs.Named.{names_first, names_subnets}
 use Rattle.clnp_commands.proofs.Playing.{journal_whole}
-use Rattle.clnp_commands.proofs.Runs.{world_after-append, full_weight-behind, full_stays, not_full, replicate_next, until_full-all}
+use Rattle.clnp_commands.proofs.Still.{rests, rests_room}
+use Rattle.clnp_commands.proofs.Runs.{world_after-append, full_weight-behind, full_stays, replicate_next, until_full-all}
 
 module _ (plan : Plan) (model : network.World) where
   -- no move was made yet
@@ -77,22 +77,6 @@ module _ (plan : Plan) (model : network.World) where
     counted = counted ∙ ap (λ (t : Counts). both old t) (sym (both-none (tally (after plan model move).lines)));
   }
 
-  -- no copy was left to settle, so to settle once is to settle often
-  pub count_settled : (code : WorldState) (old new : Counts) (times : ℕ) → length model.copies ≤ model.cursor
-      → Counted plan model (SettleOne ∷ []) code old new → Counted plan model (SettleOne ∷ replicate times SettleOne) code old new
-  count_settled code old new times past c =
-      let same = settled_after plan model past in
-      let room : is_full model ≡ false = (not_full (is_full model) (weight model) None c.room).0 in
-      let still = still_settled plan model times room past in
-      let world : (after plan model SettleOne).world ≡ model = ap (λ (s : Step). s.world) same in
-      count_more (SettleOne ∷ []) (replicate times SettleOne) code code old new new c
-      (subst (λ (w : network.World). Counted plan w (replicate times SettleOne) code new new) (sym world)
-      record {
-        room = still.room;
-        stands = subst (λ (w : network.World). Stands code w) (sym still.world) (subst (λ (w : network.World). Stands code w) world c.stands);
-        counted = sym (ap (λ (t : Counts). both new t) still.counted ∙ both-none new);
-      })
-
   -- the network is full before the move
   pub count_full : (move : Move) (octets : ℕ) → is_full model ≡ true → octets ≡ weight model → full_weight plan model (move ∷ []) ≡ Some octets
   count_full move octets full is = rw (full, is) refl
@@ -104,16 +88,16 @@ pub count_rest : (plan : Plan) (model : network.World) (move : Move) (made times
     → Counted plan model (replicate made move) between old middle
     → Counted plan (world_after plan model (replicate made move)) (move ∷ []) code middle new
     → Counted plan model (replicate times move) code old new
-count_rest plan model move made times between code old middle new within is settled so_far one =
-    let w : network.World = world_after plan model (replicate made move) in
-    let past : length w.copies ≤ w.cursor = leb-true (length w.copies) w.cursor settled in
-    let rest : List Move = replicate (times - (made + 1)) move in
-    let all : Counted plan w (move ∷ rest) code middle new =
-    subst (λ (m : Move). Counted plan w (m ∷ replicate (times - (made + 1)) m) code middle new) (sym is)
-    (count_settled plan w code middle new (times - (made + 1)) past (subst (λ (m : Move). Counted plan w (m ∷ []) code middle new) is one)) in
-    subst (λ (moves : List Move). Counted plan model moves code old new)
-    (sym (replicate_next made times move within ∙ append_assoc (replicate made move) (move ∷ []) rest))
-    (count_more plan model (replicate made move) (move ∷ rest) between code old middle new so_far all)
+count_rest plan model move made times between code old middle new within is settled before one =
+    let front : List Move = replicate made move in
+    let so_far : Counted plan model (front ++ move ∷ []) code old new = count_more plan model front (move ∷ []) between code old middle new before one in
+    let r = rests plan model front move (times - (made + 1)) is settled in
+    subst (λ (moves : List Move). Counted plan model moves code old new) (sym (replicate_next made times move within))
+    (count_more plan model (front ++ move ∷ []) (replicate (times - (made + 1)) move) code code old new new so_far record {
+      room = rests_room plan model front move (times - (made + 1)) r before.room so_far.room;
+      stands = subst (λ (w : network.World). Stands code w) (sym r.still.world) so_far.stands;
+      counted = sym (ap (λ (t : Counts). both new t) r.still.counted ∙ both-none new);
+    })
 
 made_of : (seed e c t events copies clock : ℕ) (a counts : Counts) → e ≡ events → c ≡ copies → t ≡ clock → a ≡ counts → Path Summary
     (record { seed = seed; events = e; copies = c; counts = a; clock = t }) (record { seed = seed; events = events; copies = copies; counts = counts; clock = clock })

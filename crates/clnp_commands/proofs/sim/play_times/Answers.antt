@@ -1,10 +1,14 @@
-use Rattle.std.proofs.Common.{arith, append-nil, append_assoc}
+use Rattle.std.proofs.Common.{◌≡◌, ◌<◌, ◌∙◌, sym, arith, append-nil, append_assoc}
+use Rattle.std.proofs.lemmas.Bool.{true≢false}
+use Rattle.scenario.specs.declared.event.Move.TheVariants.{SettleOne}
 use Rattle.std.proofs.lemmas.List.{replicate_more}
 use Rattle.std.proofs.lemmas.Result.{err_from_is_err_and}
 use Rattle.clnp_commands.proofs.Playing.{stopped_next}
 use Rattle.clnp_commands.proofs.Clocks.{time_for_next}
 use Rattle.clnp_commands.proofs.Runs.{replicate_next, world_after-append}
+use Rattle.clnp_commands.proofs.Still.{plays_rest, stands_rest}
 use Rattle.clnp_commands.proofs.sim.play_times.Goals as goal
+use Rattle.clnp_commands.proofs.sim.play_times.Goals.{in-SettleOne, in_default}
 
 pub loop-made-init : goal.loop-made-init
 loop-made-init g c = (λ model stands. stands, λ model past before u. rw append-nil u, omega arith)
@@ -31,3 +35,27 @@ loop-made-preserved g c = (
       (c.in_ok-play_move.ensures.comes_to model _ before (c.loop-made.invariant.1 model past before u)),
   omega (arith, c.loop-made.invariant.2, c.in_ok-play_move.ensures.later),
 )
+
+pub returns-then-matches-clause-stands : goal.returns-then-matches-clause-stands
+returns-then-matches-clause-stands g c = λ model stands.
+    let within : c.loop-made._made < c.args.count = omega arith in
+    let is : c.args.mv.now ≡ SettleOne =
+    elim c.match-matches.branch [
+      | in-SettleOne w ↦ w.in-SettleOne.is
+      | in_default w ↦ absurd (true≢false (sym c.if-matches.true ∙ w.matches-is))
+    ] in
+    let so_far = c.loop-made.invariant.0 model stands in
+    stands_rest c.args.scenario.now model c.args.mv.now c.loop-made._made c.args.count _ within is
+    (sym (c.is_settled-settled.ensures _ so_far) ∙ c.if-settled.true) (c.in_ok-play_move.ensures.stands _ so_far)
+
+pub returns-then-matches-clause-comes_to : goal.returns-then-matches-clause-comes_to
+returns-then-matches-clause-comes_to g c = λ model past before u.
+    let within : c.loop-made._made < c.args.count = omega arith in
+    let is : c.args.mv.now ≡ SettleOne =
+    elim c.match-matches.branch [
+      | in-SettleOne w ↦ w.in-SettleOne.is
+      | in_default w ↦ absurd (true≢false (sym c.if-matches.true ∙ w.matches-is))
+    ] in
+    let so_far = c.loop-made.invariant.1 model past before u in
+    plays_rest c.args.scenario.now model past c.args.mv.now c.loop-made._made c.args.count _ _ before _ _ _ _ within is
+    (sym (c.is_settled-settled.ensures _ so_far.stands) ∙ c.if-settled.true) so_far (c.in_ok-play_move.ensures.comes_to model _ before so_far)

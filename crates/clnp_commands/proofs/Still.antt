@@ -1,0 +1,123 @@
+-- Moves that settle a copy where none is left: they change nothing, however many they are.
+use Rattle.std.proofs.Common.{◌≡◌, ℕ, zero, suc, ◌+◌, ◌-◌, ◌<◌, ◌≤◌, nat_le, Bool, false, true, if◌then◌else◌, Option, None, Some, List, [], ◌∷◌, ◌++◌, length, refl, subst, sym, ap, ◌∙◌, append-nil, append_assoc}
+use Rattle.std.specs.Prelude.{replicate}
+use Rattle.std.proofs.lemmas.Bool.{leb-true}
+use Rattle.std.proofs.lemmas.Option.{slice_get_past}
+use Rattle.scenario.specs.Scenario.{Plan}
+use Rattle.scenario.specs.declared.event.Move.{Move}
+use Rattle.scenario.specs.declared.event.Move.TheVariants.{SettleOne}
+use Rattle.clnp_network.specs.World.{Copy, Step, World, after, is_full, nothing, settle_copy, weight}
+use Rattle.clnp_network.specs.Run.{full_weight, lines_text, text_of, world_after}
+use Rattle.clnp_world.specs.Lines.{both, no_lines, tally}
+use Rattle.clnp_world.specs.State.{WorldState}
+use Rattle.clnp_world.specs.Stands.{Stands}
+use Rattle.clnp_world.specs.declared.lines.Counts.{Counts}
+use Rattle.clnp_world.proofs.LineSteps.{none-both}
+use Rattle.clnp_commands.specs.Counting.{tally_of}
+use Rattle.clnp_commands.specs.Play.{UnderWay}
+use Rattle.clnp_commands.proofs.Runs.{full_weight-behind, not_full, replicate_next, text_of-append, world_after-append}
+
+-- to settle a copy where none is left changes nothing
+pub settled_after : (plan : Plan) (w : World) → length w.copies ≤ w.cursor → after plan w SettleOne ≡ nothing w
+settled_after plan w past = ap (λ (copy : Option Copy). settle_copy plan.limits w copy) (slice_get_past w.copies w.cursor past)
+
+-- however often
+pub record IsStill (plan : Plan) (w : World) (moves : List Move) : Type 0 where
+  pub world : world_after plan w moves ≡ w
+  pub text : text_of plan w moves ≡ []
+  pub counted : tally_of plan w moves ≡ no_lines
+  -- nor does the network get full
+  pub room : is_full w ≡ false → full_weight plan w moves ≡ None
+
+still_settled : (plan : Plan) (w : World) (times : ℕ) → length w.copies ≤ w.cursor → IsStill plan w (replicate times SettleOne)
+still_settled plan w zero past = record { world = refl; text = refl; counted = refl; room = λ _. refl }
+still_settled plan w (suc times) past =
+    let h = still_settled plan w times past in
+    let same = settled_after plan w past in
+    record {
+      world = ap (λ (s : Step). world_after plan s.world (replicate times SettleOne)) same ∙ h.world;
+      text = ap (λ (s : Step). lines_text s.lines ++ text_of plan s.world (replicate times SettleOne)) same ∙ h.text;
+      counted = ap (λ (s : Step). both (tally s.lines) (tally_of plan s.world (replicate times SettleOne))) same
+          ∙ (ap (λ (c : Counts). both no_lines c) h.counted ∙ none-both no_lines);
+      room = λ not_full.
+          ap (λ (full : Bool). if full then Some (weight w) else full_weight plan (after plan w SettleOne).world (replicate times SettleOne)) not_full
+          ∙ (ap (λ (s : Step). full_weight plan s.world (replicate times SettleOne)) same ∙ h.room not_full);
+    }
+
+-- The same move is made some times, and once more, and no copy was left to settle before that: the world is as it was, and
+-- the others are still.
+pub record Rests (plan : Plan) (model : World) (front : List Move) (move : Move) (times : ℕ) : Type 0 where
+  pub same : world_after plan model (front ++ move ∷ []) ≡ world_after plan model front
+  pub still : IsStill plan (world_after plan model (front ++ move ∷ [])) (replicate times move)
+
+pub rests : (plan : Plan) (model : World) (front : List Move) (move : Move) (times : ℕ) → move ≡ SettleOne
+    → nat_le (length (world_after plan model front).copies) (world_after plan model front).cursor ≡ true → Rests plan model front move times
+rests plan model front move times is settled =
+    let w : World = world_after plan model front in
+    let past : length w.copies ≤ w.cursor = leb-true (length w.copies) w.cursor settled in
+    let same : world_after plan model (front ++ move ∷ []) ≡ w
+    = world_after-append plan model front (move ∷ [])
+    ∙ (ap (λ (m : Move). (after plan w m).world) is ∙ ap (λ (s : Step). s.world) (settled_after plan w past)) in
+    record {
+      same = same;
+      still = subst (λ (m : Move). IsStill plan (world_after plan model (front ++ move ∷ [])) (replicate times m)) (sym is)
+          (subst (λ (v : World). IsStill plan v (replicate times SettleOne)) (sym same) (still_settled plan w times past));
+    }
+
+-- where the network wasn't full before any of the moves so far, it isn't before the others
+pub rests_room : (plan : Plan) (model : World) (front : List Move) (move : Move) (times : ℕ) (r : Rests plan model front move times)
+    → full_weight plan model front ≡ None → full_weight plan model (front ++ move ∷ []) ≡ None
+    → full_weight plan (world_after plan model (front ++ move ∷ [])) (replicate times move) ≡ None
+rests_room plan model front move times r before room =
+    let w : World = world_after plan model front in
+    let here : full_weight plan w (move ∷ []) ≡ None = sym (full_weight-behind plan model front (move ∷ []) before) ∙ room in
+    let not : is_full w ≡ false = (not_full (is_full w) (weight w) None here).0 in
+    r.still.room (ap is_full r.same ∙ not)
+
+-- moves that are played
+
+pub stands_rest : (plan : Plan) (model : World) (move : Move) (made times : ℕ) (code : WorldState) → made < times → move ≡ SettleOne
+    → nat_le (length (world_after plan model (replicate made move)).copies) (world_after plan model (replicate made move)).cursor ≡ true
+    → Stands code (world_after plan (world_after plan model (replicate made move)) (move ∷ []))
+    → Stands code (world_after plan model (replicate times move))
+stands_rest plan model move made times code within is settled stands =
+    let front : List Move = replicate made move in
+    let r = rests plan model front move (times - (made + 1)) is settled in
+    subst (λ (w : World). Stands code w)
+    (sym (ap (world_after plan model) (replicate_next made times move within)
+    ∙ (world_after-append plan model (front ++ move ∷ []) (replicate (times - (made + 1)) move)
+    ∙ (r.still.world ∙ world_after-append plan model front (move ∷ [])))))
+    stands
+
+pub plays_rest : (plan : Plan) (model : World) (past : List Move) (move : Move) (made times : ℕ) (between code : WorldState) (a b c : Option (List ℕ)) (block new : List ℕ)
+    → made < times → move ≡ SettleOne
+    → nat_le (length (world_after plan model (past ++ replicate made move)).copies) (world_after plan model (past ++ replicate made move)).cursor ≡ true
+    → UnderWay plan model (past ++ replicate made move) between a b block
+    → UnderWay plan model ((past ++ replicate made move) ++ move ∷ []) code a c new
+    → UnderWay plan model (past ++ replicate times move) code a c new
+plays_rest plan model past move made times between code a b c block new within is settled before u =
+    let front : List Move = past ++ replicate made move in
+    let so_far : List Move = front ++ move ∷ [] in
+    let rest : List Move = replicate (times - (made + 1)) move in
+    let r = rests plan model front move (times - (made + 1)) is settled in
+    let all : so_far ++ rest ≡ past ++ replicate times move
+    = ap (λ (t : List Move). t ++ rest) (append_assoc past (replicate made move) (move ∷ []))
+    ∙ (append_assoc past (replicate made move ++ move ∷ []) rest
+    ∙ ap (λ (t : List Move). past ++ t) (sym (replicate_next made times move within))) in
+    let here : world_after plan (world_after plan model u.made) u.waiting ≡ world_after plan model so_far
+    = sym (ap (world_after plan model) u.split ∙ world_after-append plan model u.made u.waiting) in
+    let none : text_of plan (world_after plan (world_after plan model u.made) u.waiting) rest ≡ []
+    = ap (λ (w : World). text_of plan w rest) here ∙ r.still.text in
+    subst (λ (moves : List Move). UnderWay plan model moves code a c new) all
+    record {
+      made = u.made;
+      waiting = u.waiting ++ rest;
+      split = ap (λ (t : List Move). t ++ rest) u.split ∙ append_assoc u.made u.waiting rest;
+      room = full_weight-behind plan model so_far rest u.room ∙ rests_room plan model front move (times - (made + 1)) r before.room u.room;
+      stands = subst (λ (w : World). Stands code w) (sym (world_after-append plan model so_far rest ∙ r.still.world)) u.stands;
+      appended = u.appended;
+      waits = u.waits
+          ∙ sym (text_of-append plan (world_after plan model u.made) u.waiting rest
+          ∙ (ap (λ (t : List ℕ). text_of plan (world_after plan model u.made) u.waiting ++ t) none
+          ∙ append-nil (text_of plan (world_after plan model u.made) u.waiting)));
+    }
