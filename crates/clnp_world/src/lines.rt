@@ -11,10 +11,15 @@ use std::alloc::Global;
 /// How many lines of some kinds a journal has.
 #[derive(Clone, Copy, Debug, PartialEq, Eq)]
 pub struct Counts {
+    /// Units handed up.
     pub got: u64,
+    /// Error reports told.
     pub reports: u64,
+    /// Echo requests that were answered.
     pub echoed: u64,
+    /// PDUs dropped.
     pub drops: u64,
+    /// Reassembly buffers whose time ended.
     pub expired: u64,
 }
 

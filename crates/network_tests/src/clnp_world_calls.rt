@@ -1,5 +1,5 @@
 use clnp_base::lines;
-use clnp_world::{Move, World, WorldRefusal};
+use clnp_world::{Counts, Move, World, WorldRefusal};
 use scenario::{Scenario, read};
 use std::alloc::Global;
 use std::process::Abort;
@@ -81,6 +81,57 @@ end 1 1
             .is_some_and(|host| host.config().name() == b"a".as_slice())
     );
     assert!(rt; world.host(2).is_none());
+    Ok(())
+}
+
+/// Makes a move of a network that has time left, and counts its lines.
+fn count_step(
+    rt: &impl Abort,
+    alloc: Global,
+    world: &mut World,
+    scenario: &Scenario,
+    mv: &Move,
+    counts: &mut Counts,
+) -> Result<(), WorldRefusal> {
+    assert!(rt; world.clock() < 1_000_000);
+    world.count_step(alloc, scenario, mv, counts)
+}
+
+#[test]
+fn lines_are_counted(rt: HostRuntime) -> Result<(), Fail> {
+    let alloc = rt.alloc();
+    let mut text = Vec::from_slice(alloc, FRONT)?;
+    text.extend_from_slice(b"send a 47002702 47002701 hex:6869 life=10 whole\nend\n")?;
+    let scenario = scenario(&rt, alloc, &text);
+    let mut world = World::new(alloc, &scenario)?;
+    let mut counts = Counts::none();
+    assert!(rt; world.is_settled());
+    assert_eq!(rt;
+        count_step(
+            &rt,
+            alloc,
+            &mut world,
+            &scenario,
+            &Move::One(0),
+            &mut counts
+        ),
+        Ok(())
+    );
+    assert_eq!(rt; counts, Counts::none());
+    assert!(rt; !world.is_settled());
+    assert_eq!(rt;
+        count_step(
+            &rt,
+            alloc,
+            &mut world,
+            &scenario,
+            &Move::SettleOne,
+            &mut counts
+        ),
+        Ok(())
+    );
+    assert_eq!(rt; counts.got, 1);
+    assert!(rt; world.is_settled());
     Ok(())
 }
 

@@ -38,6 +38,7 @@ impl Network {
         text.clear();
         let mut lines = Lines::Written(text);
         self.make_move(alloc, scenario, mv, &mut lines)?;
+        // Lines that are written stay so.
         let Lines::Written(text) = lines else {
             return Err(NoMemory);
         };
@@ -64,6 +65,7 @@ impl Network {
     {
         let mut lines = Lines::Counted(*counts);
         self.make_move(alloc, scenario, mv, &mut lines)?;
+        // Lines that are counted stay so.
         let Lines::Counted(counted) = lines else {
             return Err(NoMemory);
         };
