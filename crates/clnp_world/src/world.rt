@@ -165,7 +165,8 @@ impl World {
 
     /// Whether each copy was settled or lost: to settle or to lose one more changes nothing then.
     pub fn is_settled(&self) -> bool
-        ensures { (model : network.World) → Stands self.now model → result ≡ nat_le (length model.copies) model.cursor }
+        ensures settled { result ≡ nat_le (length self.now.network.copies) self.now.network.cursor }
+        ensures stands { (model : network.World) → Stands self.now model → result ≡ nat_le (length model.copies) model.cursor }
     {
         self.network.cursor >= self.network.copies.len()
     }

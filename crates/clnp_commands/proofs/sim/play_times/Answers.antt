@@ -46,7 +46,7 @@ returns-then-matches-clause-stands g c = λ model stands.
     ] in
     let so_far = c.loop-made.invariant.0 model stands in
     stands_rest c.args.scenario.now model c.args.mv.now c.loop-made._made c.args.count _ within is
-    (sym (c.is_settled-settled.ensures _ so_far) ∙ c.if-settled.true) (c.in_ok-play_move.ensures.stands _ so_far)
+    (sym (c.is_settled-settled.ensures.stands _ so_far) ∙ c.if-settled.true) (c.in_ok-play_move.ensures.stands _ so_far)
 
 pub returns-then-matches-clause-comes_to : goal.returns-then-matches-clause-comes_to
 returns-then-matches-clause-comes_to g c = λ model past before u.
@@ -58,4 +58,4 @@ returns-then-matches-clause-comes_to g c = λ model past before u.
     ] in
     let so_far = c.loop-made.invariant.1 model past before u in
     plays_rest c.args.scenario.now model past c.args.mv.now c.loop-made._made c.args.count _ _ before _ _ _ _ within is
-    (sym (c.is_settled-settled.ensures _ so_far.stands) ∙ c.if-settled.true) so_far (c.in_ok-play_move.ensures.comes_to model _ before so_far)
+    (sym (c.is_settled-settled.ensures.stands _ so_far.stands) ∙ c.if-settled.true) so_far (c.in_ok-play_move.ensures.comes_to model _ before so_far)

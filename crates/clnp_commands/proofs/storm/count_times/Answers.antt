@@ -41,4 +41,4 @@ returns-then-matches c = λ model stands.
       | in_default w ↦ absurd (true≢false (sym c.if-matches.true ∙ w.matches-is))
     ] in
     count_rest c.args.scenario.now model c.args.mv.now c.loop-made._made c.args.times _ _ _ _ _ within is
-    (sym (c.is_settled-settled.ensures _ counted.stands) ∙ c.if-settled.true) counted (c.in_ok-count_move.ensures _ counted.stands)
+    (sym (c.is_settled-settled.ensures.stands _ counted.stands) ∙ c.if-settled.true) counted (c.in_ok-count_move.ensures _ counted.stands)
