@@ -1,6 +1,8 @@
 -- Tests, choices and options.
-use Rattle.std.proofs.Common.{◌≡◌, ◌≢◌, ℕ, ◌≤◌, ◌==◌, nat_lt, Bool, true, false, Option, None, Some, is_some, if◌then◌else◌, refl, sym, arith}
+use Rattle.std.proofs.Common.{◌≡◌, ◌≢◌, ℕ, ◌<◌, ◌≤◌, ◌==◌, nat_lt, Bool, true, false, Option, None, Some, is_some, if◌then◌else◌, refl, sym, arith, ⊎_elim}
 use Rattle.std.specs.Option.{option_or}
+use Rattle.std.specs.Prelude.{◌↔◌}
+use Rattle.std.proofs.lemmas.Bool.{le-ltb, lt-ltb, cases_lt}
 use Rattle.std.proofs.lemmas.Bool.Decides.{nat_tests}
 
 pub same_true : (b c : Bool) → (b ≡ true → c ≡ true) → (c ≡ true → b ≡ true) → b ≡ c
@@ -60,3 +62,9 @@ module _ {A : Type 0} where
   is_some-option_or (Some x) (Some y) c d h k = refl
   is_some-option_or (Some x) None c d h k = cc
   is_some-option_or None (Some y) c d h k = cc
+
+-- a flag that is clear exactly where two numbers are equal says whether the first is below
+pub flag_is : (more : Bool) (a b : ℕ) → a ≤ b → (more ≡ false) ↔ (a ≡ b) → more ≡ nat_lt a b
+flag_is false a b h iff = let e = iff.0 refl in sym (le-ltb a b (omega arith))
+flag_is true a b h iff =
+    ⊎_elim (λ (k : a < b). sym (lt-ltb a b k)) (λ (k : b ≤ a). let e : true ≡ false = iff.1 (omega arith) in cc) (cases_lt a b)

@@ -48,7 +48,8 @@ inline-laid most len cells piece h room =
 
 -- ---- a part that begins at an index was written by as many octets
 
-length-put : (at : ℕ) (cells piece : List ℕ) → at + length piece ≤ length cells → length (put_mid at (length piece) cells piece) ≡ length cells
+-- a part written by as many octets keeps the number of cells
+pub length-put : (at : ℕ) (cells piece : List ℕ) → at + length piece ≤ length cells → length (put_mid at (length piece) cells piece) ≡ length cells
 length-put at cells piece h =
     omega (arith, length-append (take at cells) (piece ++ drop (length piece) (drop at cells)), length-append piece (drop (length piece) (drop at cells)), length-drop (length piece) (drop at cells), length-drop at cells, length-take-le at cells (omega arith))
 

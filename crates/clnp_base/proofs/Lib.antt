@@ -4,10 +4,13 @@ pub mod Filters
 pub mod Found
 pub mod Hexadecimal
 pub mod Laid
+pub mod ListSteps
 pub mod Lists
 pub mod Maps
+pub mod Pairwise
 pub mod Pouring
 pub mod Ranges
 pub mod Reading
+pub mod SameOctets
 pub mod Sums
 pub mod Supplying

@@ -74,7 +74,7 @@ without_return-other (x ∷ (y ∷ ys)) c n = ap (λ (l : List ℕ). x ∷ l) (w
 words_of-end : (c d : ℕ) (ds : List ℕ) (n : ℕ) → (c == 32) ≡ false → (d == 32) ≡ true → n ≡ 1 → words_of (c ∷ (d ∷ ds)) ≡ take n (c ∷ (d ∷ ds)) ∷ words_of (drop n (c ∷ (d ∷ ds)))
 words_of-end c d ds n f t z = rw z (simp (f, t))
 
-words_of-next : (c d : ℕ) (ds : List ℕ) → (c == 32) ≡ false → (d == 32) ≡ false → words_of (c ∷ (d ∷ ds)) ≡ onto_first c (words_of (d ∷ ds))
+pub words_of-next : (c d : ℕ) (ds : List ℕ) → (c == 32) ≡ false → (d == 32) ≡ false → words_of (c ∷ (d ∷ ds)) ≡ onto_first c (words_of (d ∷ ds))
 words_of-next c d ds f g = rw (f, g) refl
 
 words_of-inside : (c d : ℕ) (ds : List ℕ) (n m : ℕ) → (c == 32) ≡ false → (d == 32) ≡ false → n ≡ m + 1

@@ -10,7 +10,7 @@ use std::alloc::Global;
 use std::marker::Model;
 
 /// A source in memory: it gives at most so many octets a call, and fails at given calls.
-#[derive(Debug, Drop)]
+#[derive(Drop)]
 pub struct MemSource {
     octets: Vec<u8>,
     at: usize,
@@ -84,7 +84,7 @@ impl Source for MemSource {
 
 /// A sink in memory: it has room for so many octets, takes at most so many a call, and fails at
 /// given calls and where it is full.
-#[derive(Debug, Drop)]
+#[derive(Drop)]
 pub struct MemSink {
     taken: Vec<u8>,
     room: usize,

@@ -8,7 +8,7 @@ use std::io::{Read, Write};
 
 /// A source over a reader of the machine's. It tells what the reader tells, and counts its
 /// errors, an interruption too.
-#[derive(Debug, Drop)]
+#[derive(Drop)]
 pub struct StdSource<R> {
     reader: R,
     faults: u64,
@@ -57,7 +57,7 @@ impl<R: Read> Source for StdSource<R> {
 
 /// A sink over a writer of the machine's. It tells what the writer tells, and counts its
 /// errors, an interruption and a write that takes nothing of a piece with octets too.
-#[derive(Debug, Drop)]
+#[derive(Drop)]
 pub struct StdSink<W> {
     writer: W,
     faults: u64,

@@ -56,7 +56,7 @@ pub fn words(line: &[u8]) -> WordIter<'_>
 }
 
 /// The lines of a text that are left.
-#[derive(Debug, Drop)]
+#[derive(Drop)]
 pub struct LineIter<'a> {
     text: &'a [u8],
 }
@@ -71,7 +71,7 @@ impl<'a> Model for LineIter<'a> {
 }
 
 /// The words of a line that are left.
-#[derive(Debug, Drop)]
+#[derive(Drop)]
 pub struct WordIter<'a> {
     line: &'a [u8],
 }

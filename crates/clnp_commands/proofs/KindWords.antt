@@ -23,9 +23,10 @@ use Rattle.clnp_plan.specs.declared.note.Note.{Note}
 use Rattle.clnp_plan.specs.declared.note.Note.TheVariants.{Sent, Refused, Got, Report, Echoed, Stray, Discard, Held, Repeat, Crowded, Many, NoSlot, Interference, Expired, NotMine, Alien, BadEsis, Hear, Gone, Ignored, Restart, Congest}
 use Rattle.clnp_plan.specs.declared.note.Why.{Why}
 use Rattle.clnp_plan.specs.declared.note.Why.TheVariants as why
-use Rattle.scenario.proofs.Written.{IsWord, digit_plain, spelled}
+use Rattle.scenario.proofs.Written.{IsWord, digit_plain, spelled, ends_behind}
 use Rattle.clnp_world.specs.Lines.{first_of, how_many, kind_of, no_lines, tally}
 use Rattle.clnp_commands.specs.Storm.{count_of, counts_of, is_of_kind, third_of}
+use Rattle.clnp_base.proofs.Reading.{words_of-next}
 
 -- ---- lines
 
@@ -63,23 +64,16 @@ plain_within c h = (ne_eqb c 10 (omega arith), ne_eqb c 13 (omega arith))
 pub word_in_line : (word : List ℕ) → IsWord word → IsInLine word
 word_in_line word is = AllByRecursion-implies (λ c. 32 < c) IsWithin plain_within word is.plain
 
-word_next : (c d : ℕ) (ds : List ℕ) → (c == 32) ≡ false → (d == 32) ≡ false → words_of (c ∷ (d ∷ ds)) ≡ onto_first c (words_of (d ∷ ds))
-word_next c d ds f g = rw (f, g) refl
-
 word_cut : (c : ℕ) (cs rest : List ℕ) → 32 < c → AllByRecursion (λ d. 32 < d) cs → ends_word rest ≡ true
     → words_of (c ∷ (cs ++ rest)) ≡ (c ∷ cs) ∷ words_of rest
 word_cut c [] rest p h e = rw (ne_eqb c 32 (omega arith), e) refl
 word_cut c (d ∷ ds) rest p h e =
-    word_next c d (ds ++ rest) (ne_eqb c 32 (omega arith)) (ne_eqb d 32 (omega (arith, h.0)))
+    words_of-next c d (ds ++ rest) (ne_eqb c 32 (omega arith)) (ne_eqb d 32 (omega (arith, h.0)))
     ∙ ap (λ words. onto_first c words) (word_cut d ds rest h.0 h.1 e)
 
 first_word : (word rest : List ℕ) → IsWord word → ends_word rest ≡ true → words_of (word ++ rest) ≡ word ∷ words_of rest
 first_word [] rest is e = absurd (omega (arith, is.some))
 first_word (c ∷ cs) rest is e = word_cut c cs rest is.plain.0 is.plain.1 e
-
-ends_behind : (others : List (List ℕ)) → ends_word (flat_map behind_space others) ≡ true
-ends_behind [] = refl
-ends_behind (word ∷ others) = refl
 
 third_word : (first second third : List ℕ) (others : List (List ℕ)) → IsWord first → IsWord second → IsWord third
     → third_of (words_of (front_of first (second ∷ third ∷ others))) ≡ third

@@ -21,7 +21,7 @@ use Rattle.clnp_machine.specs.System.{SystemState, AsksToSend, AsksForEcho, Inpu
 use Rattle.clnp_machine.proofs.Deeds.{step_itself}
 use Rattle.clnp_network.specs.World as network
 use Rattle.clnp_network.specs.World.{World, Step, after, first_world}
-use Rattle.clnp_world.proofs.ListSteps.{all_set}
+use Rattle.clnp_base.proofs.ListSteps.{all_set}
 use Rattle.clnp_commands.proofs.KindWords.{IsInLine, IsNamed, word_in_line}
 
 abbrev IsNamedSystem : SystemState → Type 0

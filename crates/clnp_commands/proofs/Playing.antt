@@ -16,7 +16,7 @@ use Rattle.clnp_commands.specs.declared.sim.Stop.{Stop}
 use Rattle.clnp_commands.specs.declared.sim.Stop.TheVariants as stop
 use Rattle.clnp_commands.specs.ByLine.{FlushOf}
 use Rattle.clnp_commands.specs.Play.{FullOf, PieceOf, UnderWay, StopOf, JournalStopOf, JournalOf}
-use Rattle.clnp_commands.proofs.Runs.{world_after-append, text_of-append, full_weight-behind, full_stays, until_full-all, until_full-behind, until_full-longer}
+use Rattle.clnp_commands.proofs.Runs.{world_after-append, text_of-append, full_weight-behind, full_stays, all_are_made, until_full-behind, until_full-longer}
 
 -- a front of what comes behind something that was written whole
 pub front-behind : (a b c : Option (List ℕ)) (piece more : List ℕ) → Appends a b piece → AppendsFront b c more → AppendsFront a c (piece ++ more)
@@ -101,7 +101,7 @@ module _ (plan : Plan) (model : network.World) (past : List Move) (code : WorldS
   -- a front of the block was written
   pub cut_short : (c : Option (List ℕ)) → UnderWay plan model past code a b block → AppendsFront b c block → StopOf plan model past a c stop.WriteFault
   cut_short c u p =
-      rw (until_full-all plan model past u.room, text_so_far u) (front-behind a b c (text_of plan model u.made) block u.appended p)
+      rw (all_are_made plan model past u.room, text_so_far u) (front-behind a b c (text_of plan model u.made) block u.appended p)
 
   -- writing the block where it is full
   pub block_written : (E : Type 0) (c : Option (List ℕ)) (new : List ℕ) (x : Unit {0}) → UnderWay plan model past code a b block
@@ -173,7 +173,7 @@ pub journal_whole : (plan : Plan) → stopped_at plan ≡ None
     → journal plan ≡ text_of plan (first_world plan) (moves_of_plan plan) ++ world_end (world_after plan (first_world plan) (moves_of_plan plan))
 journal_whole plan room =
     ap (λ (made : List Move). text_of plan (first_world plan) made ++ ending (stopped_at plan) (world_after plan (first_world plan) made))
-    (until_full-all plan (first_world plan) (moves_of_plan plan) room)
+    (all_are_made plan (first_world plan) (moves_of_plan plan) room)
     ∙ ap (λ (stop : Option ℕ). text_of plan (first_world plan) (moves_of_plan plan) ++ ending stop (world_after plan (first_world plan) (moves_of_plan plan))) room
 
 -- the journal where moves are under way that are all: what is written, the block, and the last line
@@ -193,7 +193,7 @@ journal_ended plan code a b c block (Err stop.WriteFault) u q = rw (journal_spli
 journal_ended plan code a b c block (Err stop.NoMemory) u q = record {
   made = u.made;
   later = u.waiting;
-  all = until_full-all plan (first_world plan) (moves_of_plan plan) u.room ∙ u.split;
+  all = all_are_made plan (first_world plan) (moves_of_plan plan) u.room ∙ u.split;
   appended = Appends-kept a b c _ u.appended q;
 }
 journal_ended plan code a b c block (Err (stop.WorldFull octets)) u q = absurd q

@@ -8,6 +8,7 @@ use Rattle.scenario.specs.declared.event.Event.{Event}
 use Rattle.scenario.specs.declared.event.Move.{Move}
 use Rattle.clnp_network.specs.World.{World, after, is_full, weight}
 use Rattle.clnp_network.specs.Run.{full_weight, lines_text, text_of, until_full, world_after}
+pub use Rattle.clnp_safety.proofs.Stops.{all_are_made}
 
 pub world_after-append : (plan : Plan) (w : World) (made more : List Move) → world_after plan w (made ++ more) ≡ world_after plan (world_after plan w made) more
 world_after-append plan w [] more = refl
@@ -40,13 +41,6 @@ full_weight-behind plan w (move ∷ made) more h =
     let room = not_full (is_full w) (weight w) (full_weight plan (after plan w move).world made) h in
     ap (λ (full : Bool). if full then Some (weight w) else full_weight plan (after plan w move).world (made ++ more)) room.0
     ∙ full_weight-behind plan (after plan w move).world made more room.1
-
-pub until_full-all : (plan : Plan) (w : World) (moves : List Move) → full_weight plan w moves ≡ None → until_full plan w moves ≡ moves
-until_full-all plan w [] h = refl
-until_full-all plan w (move ∷ moves) h =
-    let room = not_full (is_full w) (weight w) (full_weight plan (after plan w move).world moves) h in
-    ap (λ (full : Bool). if full then [] else move ∷ until_full plan (after plan w move).world moves) room.0
-    ∙ ap (λ (t : List Move). move ∷ t) (until_full-all plan (after plan w move).world moves room.1)
 
 longer_by_one : (full : Bool) (move : Move) (made all : List Move) → (rest : List Move) × (all ≡ made ++ rest)
     → (rest : List Move) × ((if full then [] else move ∷ all) ≡ (if full then [] else move ∷ made) ++ rest)

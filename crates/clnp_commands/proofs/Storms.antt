@@ -32,7 +32,7 @@ use Rattle.clnp_commands.proofs.KindWords.{end_counts}
 use Rattle.clnp_commands.proofs.Named.{names_first, names_subnets}
 use Rattle.clnp_commands.proofs.Playing.{journal_whole}
 use Rattle.clnp_commands.proofs.Still.{rests, rests_room}
-use Rattle.clnp_commands.proofs.Runs.{world_after-append, full_weight-behind, full_stays, replicate_next, until_full-all}
+use Rattle.clnp_commands.proofs.Runs.{world_after-append, full_weight-behind, full_stays, replicate_next, all_are_made}
 
 module _ (plan : Plan) (model : network.World) where
   -- no move was made yet
@@ -114,7 +114,7 @@ summary_is seed events copies clock plan code counts fit c events_are copies_are
     let moves : List Move = moves_of_plan plan in
     let first : network.World = first_world plan in
     let last : network.World = world_after plan first moves in
-    let same : last ≡ last_world plan = ap (world_after plan first) (sym (until_full-all plan first moves c.room)) in
+    let same : last ≡ last_world plan = ap (world_after plan first) (sym (all_are_made plan first moves c.room)) in
     let of_moves : counts ≡ counts_of (text_of plan first moves) =
     c.counted ∙ (none-both (tally_of plan first moves) ∙ sym (moves_counts plan first moves (names_subnets plan fit) (names_first plan fit))) in
     let of_all : counts_of (journal plan) ≡ counts_of (text_of plan first moves) =

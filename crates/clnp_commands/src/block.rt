@@ -19,7 +19,7 @@ const SYNTAX: u8 = 2;
 const COUNT: u8 = 10;
 
 /// Why a command stopped at a line.
-#[derive(Clone, Copy, Debug, PartialEq, Eq)]
+#[derive(Clone, Copy, PartialEq, Eq)]
 pub enum LineStop {
     /// The line is bad, with the code of what it breaks.
     BadLine { code: u8 },

@@ -17,7 +17,7 @@ use clnp_base::{NoMemory, Sink, next_line, push};
 use std::alloc::Global;
 
 /// How many vectors passed and how many failed, at most 16,777,216 together.
-#[derive(Clone, Copy, Debug, PartialEq, Eq)]
+#[derive(Clone, Copy, PartialEq, Eq)]
 pub struct Tally {
     pub passed: u32,
     pub failed: u32,

@@ -5,7 +5,7 @@ ghost use Rattle.clnp_commands.specs.Words.{command_named, command_of, reads, st
 use clnp_base::decimal;
 
 /// A command of the program. The name of one that reads an input stands alone on the command line.
-#[derive(Clone, Copy, Debug, PartialEq, Eq)]
+#[derive(Clone, Copy, PartialEq, Eq)]
 pub enum Command {
     /// Writes the journal of a scenario.
     Sim,

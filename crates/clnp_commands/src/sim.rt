@@ -45,7 +45,7 @@ fn few_lines()
 {}
 
 /// Why the writing of a journal stopped.
-#[derive(Clone, Copy, Debug, PartialEq, Eq)]
+#[derive(Clone, Copy, PartialEq, Eq)]
 enum Stop {
     /// The copies weigh too much: so many octets.
     WorldFull { octets: u64 },

@@ -20,7 +20,7 @@ use scenario::{Event, Move, Scenario, from_seed};
 use std::alloc::Global;
 
 /// What a run of the scenario of a seed comes to.
-#[derive(Clone, Copy, Debug, PartialEq, Eq)]
+#[derive(Clone, Copy, PartialEq, Eq)]
 pub struct Summary {
     pub seed: u64,
     pub events: u64,

@@ -322,8 +322,8 @@ told_after s port snpa = go (is_silent s)
     go true = refl
     go false = refl
 
-answered_after : (heard : Effect) (place : Place) → (answers_new heard place).after ≡ heard.after
-answered_after heard place = go (list_any tells_new heard.outputs)
+pub answers_itself : (heard : Effect) (place : Place) → (answers_new heard place).after ≡ heard.after
+answers_itself heard place = go (list_any tells_new heard.outputs)
   where
     go : (test : Bool) → (if test then tells_of_itself heard.after place.port place.snpa else idles heard.after).after ≡ heard.after
     go true = told_after heard.after place.port place.snpa
@@ -335,7 +335,7 @@ again_end_system Host s place holding addresses = none_left sends_frame _ (hears
 again_end_system Router s place holding addresses =
     let heard = hears_each s addresses place holding in
     let P : SystemState → Type 0 = λ t. filter sends_frame (answers_new (hears_each t addresses place holding) place).outputs ≡ [] in
-    subst P (sym (answered_after heard place))
+    subst P (sym (answers_itself heard place))
     (answered_no_more (hears_each heard.after addresses place holding) place (hears_notes heard.after addresses place holding)
     (none_new place holding heard.after addresses (all_known place holding s addresses)))
 
@@ -366,7 +366,7 @@ again_intermediate_system : (role : Role) (s : SystemState) (place : Place) (hol
 again_intermediate_system Host s place holding title timer =
     let heard = hears s Is title place holding in
     let t = (answers_new heard place).after in
-    let known = subst (RouterKnown place holding title) (sym (answered_after heard place)) (becomes_known (esis_limits s) s.moment Is place holding title s.facts) in
+    let known = subst (RouterKnown place holding title) (sym (answers_itself heard place)) (becomes_known (esis_limits s) s.moment Is place holding title s.facts) in
     again_known (follows t timer) place holding title timer (known_followed place holding title t timer known)
 again_intermediate_system Router s place holding title timer = refl
 

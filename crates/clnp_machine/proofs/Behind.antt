@@ -11,13 +11,13 @@ use Rattle.pdu_header.specs.Grammar.{IsPdu, IsSegment}
 use Rattle.pdu_header.specs.Headers.{with_lifetime, with_options}
 use Rattle.pdu_header.specs.Spelling.{header_length, segmentation_octets}
 use Rattle.pdu_header.specs.Value.{PduValue, SegmentationPart}
-use Rattle.pdu_header.proofs.Changed.{header_length-is}
 use Rattle.clnp_machine.specs.EditLaws.{EditLaws}
 use Rattle.clnp_machine.specs.Esis.{first_of, title_of}
 use Rattle.clnp_machine.specs.Step.{forwarded, is_named, most_titles, noting_congestion, options_behind, passing_own}
 use Rattle.clnp_machine.specs.System.{SystemState}
 use Rattle.clnp_machine.specs.Unit.{IsCarriable, Packet, more_follows, segmentation_of, value_of, value_with, whole_packet}
 use Rattle.clnp_machine.specs.Local.{header_size}
+use Rattle.clnp_machine.proofs.Headers.{header_length-is, segment_kept}
 
 -- A property of options that are kept where the system isn't named, and changed where it is.
 one_passed : (P : List Parameter → Type 0) (s : SystemState) (options deeper : List Parameter) (title : Option (List ℕ)) → P options
@@ -103,9 +103,6 @@ module _ (laws : EditLaws) (s : SystemState) where
       ≡ with_options (options_behind s p.options) (with_lifetime (p.lifetime - loss) (value_of p))
   behind_value p loss h = value_with_options p loss (options_behind s p.options) (behind_form p.options h.pdu.options)
 
-  segment_kept : (v : PduValue) (life : ℕ) (part : Option SegmentationPart) → IsSegment v part → IsSegment (with_lifetime life v) part
-  segment_kept v life None h = h
-  segment_kept v life (Some part) h = record { identifier = h.identifier; offset = h.offset; total = h.total; range = h.range }
 
   lowered_pdu : (v : PduValue) (life : ℕ) → life < 256 → IsPdu v → IsPdu (with_lifetime life v)
   lowered_pdu v life few is =

@@ -18,7 +18,7 @@ use Rattle.reassembly.specs.Buffer as buffer
 use Rattle.reassembly.specs.Buffer.{Answer, Buffer, held, size_of}
 use Rattle.esis_pdus.specs.Rules.{why_refused}
 use Rattle.esis_tables.specs.declared.fact.Place.{Place}
-use Rattle.esis_tables.proofs.Addresses.{same-itself}
+use Rattle.clnp_base.proofs.SameOctets.{same-itself}
 use Rattle.clnp_plan.specs.Configuration.{SystemConfiguration}
 use Rattle.clnp_plan.specs.declared.ask.Ask.{Ask}
 use Rattle.clnp_plan.specs.declared.note.Note.{Note}
@@ -85,7 +85,7 @@ made_in-append [] ys = refl
 made_in-append (Tells told ∷ xs) ys = made_in-append xs ys
 made_in-append (Sends u ∷ xs) ys = ap (λ us. u ∷ us) (made_in-append xs ys)
 
-reuse_kept : (s : SystemState) (identifier : Option ℕ) → (with_use s identifier).reuse ≡ s.identifiers.reuse
+pub reuse_kept : (s : SystemState) (identifier : Option ℕ) → (with_use s identifier).reuse ≡ s.identifiers.reuse
 reuse_kept s None = refl
 reuse_kept s (Some identifier) = refl
 

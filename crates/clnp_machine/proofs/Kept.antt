@@ -11,8 +11,7 @@ use Rattle.reassembly.specs.Arrival.{Arrival, are_covered, same_key}
 use Rattle.reassembly.specs.Buffer.{Answer, Buffer, Crowded, Held, Many, NoSlot, Repeat, Whole, after, answer, answer_of, buffer_of, clashes, due, held, is_whole_in, kept, kept_in, opened_by, refusal, sooner, soonest, with_kept, without}
 use Rattle.clnp_machine.specs.Unit.{Packet}
 use Rattle.clnp_machine.specs.Told.{TellsNoInterference, WasThereOrTakes}
-use Rattle.reassembly.proofs.Shared.{held-with_kept, kept_or_not, may_be_kept}
-use Rattle.reassembly.proofs.Shared.{same_key-refl}
+use Rattle.reassembly.proofs.Shared.{held-with_kept, kept_or_not, may_be_kept, same_key-refl}
 
 pub all_contained : {X : Type 0} (xs : List X) → AllByRecursion (Contains xs) xs
 all_contained xs = recursion_from_All (Contains xs) xs (λ i d within. All-contains_itself xs i d within)

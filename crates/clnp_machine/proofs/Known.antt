@@ -12,17 +12,12 @@ use Rattle.esis_tables.specs.declared.fact.TableKind.{TableKind}
 use Rattle.esis_tables.specs.declared.fact.TableKind.TheVariants.{Es, Is, Rd}
 use Rattle.esis_tables.specs.Fact.{Fact, after, answer, current, currents, end_of, has_key, hearing, is_held, is_noted, latest, limit_of, same_table, while_held}
 use Rattle.esis_tables.specs.Keeps.{AreDistinct, without}
-use Rattle.esis_tables.proofs.Addresses.{same_from, same-itself}
-use Rattle.esis_tables.proofs.Current.{currents-there}
+use Rattle.clnp_base.proofs.SameOctets.{same_from, same-itself}
+use Rattle.esis_tables.proofs.Current.{currents-there, same_table-itself}
 use Rattle.esis_tables.proofs.Histories.{distinct-latest, last_of-other, last_of-there}
 use Rattle.clnp_plan.specs.declared.note.Note.TheVariants.{Hear}
 use Rattle.clnp_machine.specs.System.{SystemState, Notes}
 use Rattle.clnp_machine.specs.Esis.{esis_limits, hears, hears_each, tells_new}
-
-same_kind : (table : TableKind) → same_table table table ≡ true
-same_kind Es = refl
-same_kind Is = refl
-same_kind Rd = refl
 
 -- among facts of different keys there is at most one of a key
 
@@ -84,7 +79,7 @@ module _ (limits : EsisLimits) (now : ℕ) (table : TableKind) (place : Place) (
 
   current_now : (key : List ℕ) (facts : List Fact) → (holding == 0) ≡ false → is_some (current now table key (facts ++ heard key ∷ [])) ≡ true
   current_now key facts lasts =
-      ap (λ o. is_some (while_held now o)) (last_of-there table key facts (heard key) (same_kind table) (same-itself key))
+      ap (λ o. is_some (while_held now o)) (last_of-there table key facts (heard key) (same_table-itself table) (same-itself key))
       ∙ ap (λ b. is_some (if b then Some (heard key) else None)) (held_now key lasts)
 
   pushed : (key other : List ℕ) (facts : List Fact) → IsKnown key facts → IsKnown key (facts ++ heard other ∷ [])
@@ -102,7 +97,7 @@ module _ (limits : EsisLimits) (now : ℕ) (table : TableKind) (place : Place) (
       again_pushed lasts again =
           elim (cases_Bool (has_key key (heard other))) [
             | inl its ↦
-                ap (λ o. is_some (while_held now o)) (last_of-there table key facts (heard other) (same_kind table) its)
+                ap (λ o. is_some (while_held now o)) (last_of-there table key facts (heard other) (same_table-itself table) its)
                 ∙ ap (λ b. is_some (if b then Some (heard other) else None)) (held_now other lasts)
             | inr not_its ↦ ap (λ o. is_some (while_held now o)) (last_of-other table key facts (heard other) not_its) ∙ again
           ]
@@ -110,7 +105,7 @@ module _ (limits : EsisLimits) (now : ℕ) (table : TableKind) (place : Place) (
       full_pushed : (holding == 0) ≡ false → nat_le (limit_of table limits) (length (currents now table facts)) ≡ true
           → nat_le (limit_of table limits) (length (currents now table (facts ++ heard other ∷ []))) ≡ true
       full_pushed lasts full =
-          let there = ap length (currents-there now (heard other) facts (same_kind table)) in
+          let there = ap length (currents-there now (heard other) facts (same_table-itself table)) in
           let long = length-append (without other (currents now table facts)) (filter (is_held now) (heard other ∷ [])) in
           let one : length (filter (is_held now) (heard other ∷ [])) ≡ 1 = ap (λ b. length (if b then heard other ∷ [] else [])) (held_now other lasts) in
           let few = one_less other (is_held now) (latest table facts) (distinct-latest table facts) in

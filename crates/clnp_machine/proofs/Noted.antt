@@ -83,7 +83,7 @@ first_sent_ends : (s : SystemState) (u : unit.Unit) (hop : Option Hop) → AllBy
 first_sent_ends s u None = (unknown, tt)
 first_sent_ends s u (Some hop) = sent_ends hop (slice_get s.configuration.ports hop.port) u
 
-output_notes : (P Q : Note → Type 0) → ((note : Note) → P note → Q note) → (output : Output) → NotesOnly P output → NotesOnly Q output
+pub output_notes : (P Q : Note → Type 0) → ((note : Note) → P note → Q note) → (output : Output) → NotesOnly P output → NotesOnly Q output
 output_notes P Q f (Transmits port target packet) h = tt
 output_notes P Q f (SendsEsis port target value) h = tt
 output_notes P Q f (Notes note) h = f note h

@@ -11,7 +11,6 @@ use Rattle.pdu_header.specs.Spelling.{header_length, spelling}
 use Rattle.pdu_header.specs.Grammar.{BeginsWith, IsPdu}
 use Rattle.pdu_header.specs.Rules.{octet, refusal}
 use Rattle.pdu_header.specs.Reading.{rest_of}
-use Rattle.pdu_header.proofs.Frames.{front, nothing_spelled, other_protocol}
 use Rattle.esis_pdus.specs.declared.pdu.EsisRefusal.{EsisRefusal}
 use Rattle.esis_pdus.specs.Grammar as esis
 use Rattle.esis_pdus.specs.Reading as esis_reading
@@ -22,6 +21,7 @@ use Rattle.esis_pdus.proofs.Frames as esis_frames
 use Rattle.clnp_machine.specs.Unit.{IsCarriable, value_of}
 use Rattle.clnp_machine.specs.Content.{Content, Labelled, Esis, Unlabelled, IsCarried, content_of, esis_value_in, frame_of, is_accepted, packet_from_outside, value_in}
 use Rattle.clnp_machine.proofs.Pieces.{with_parts}
+use Rattle.clnp_machine.proofs.Headers.{front, nothing_spelled, other_protocol}
 
 follows : (end all : ℕ) (more : Bool) → end ≤ all → (more ≡ false → end ≡ all) → (end ≡ all → more ≡ false) → nat_lt end all ≡ more
 follows end all true within ends last = grind (arith, nat_tests)

@@ -7,8 +7,6 @@ use Rattle.clnp_options.specs.Parameter.{spelled}
 use Rattle.pdu_header.specs.Value.{SegmentationPart, PduValue}
 use Rattle.pdu_header.specs.Spelling.{header, header_length, segment_length, segmentation_octets}
 use Rattle.pdu_header.specs.Grammar.{IsPdu}
-use Rattle.pdu_header.proofs.Changed.{header_length-is}
-use Rattle.pdu_header.proofs.Written.{length-header}
 use Rattle.segmenter.specs.Range.{Range}
 use Rattle.segmenter.specs.Cut as segmenter
 use Rattle.segmenter.specs.Cut.{Piece, data_room, ranges, segment, segments, uncut}
@@ -18,6 +16,7 @@ use Rattle.segmenter.proofs.Segments.{segment_is_pdu}
 use Rattle.segmenter.proofs.Tiles.{tiles_within}
 use Rattle.clnp_machine.specs.Steps.{AreCarriable}
 use Rattle.clnp_machine.specs.Unit.{IsCarriable, Packet, cut, more_follows, piece_of, pieces, segmentation_of, value_of, value_with, wire}
+use Rattle.clnp_machine.proofs.Headers.{header_length-is, length-header}
 
 -- ---- one piece
 

@@ -13,8 +13,6 @@ use Rattle.pdu_header.specs.Reading.{address_at}
 use Rattle.pdu_header.specs.Rules.{header_of, header_size as size_of_header, source_place}
 use Rattle.pdu_header.specs.Spelling.{header, segmentation_octets, type_code}
 use Rattle.pdu_header.specs.Value.{PduValue, SegmentationPart}
-use Rattle.pdu_header.proofs.Frames.{is_front}
-use Rattle.pdu_header.proofs.Read.{read_as}
 use Rattle.error_reports.specs.Report.{source_of}
 use Rattle.echo.specs.Reply.{part_of, plain_length, reply_of}
 use Rattle.echo.proofs.Lengths.{head_is}
@@ -30,6 +28,7 @@ use Rattle.clnp_machine.specs.Told.{SpellsPdus}
 use Rattle.clnp_machine.proofs.Deeds.{AllSuch, carried_in, leads_step, reply_unit}
 use Rattle.clnp_machine.proofs.Making.{total_is}
 use Rattle.clnp_machine.proofs.Pieces.{with_parts}
+use Rattle.clnp_machine.proofs.Headers.{is_front, read_as}
 
 -- a packet's PDU stands at the front of its frame
 pub begins : (p : Packet) (following : List ℕ) → IsCarriable p → BeginsWith (wire p ++ following) (value_of p) following

@@ -374,7 +374,7 @@ content_known s place to_group (Esis value following) address carried knows =
     heard_known s.configuration.role s place value.holding value.body (suggested value.body value.options) knows address carried.addresses
 content_known s place to_group (Unlabelled octets) address carried knows = subst AtAddresses (sym (octets_are s octets).heard.facts) knows
 
-says_known : (s : SystemState) → KnowsAddresses s → KnowsAddresses (says_hello s).after
+pub says_known : (s : SystemState) → KnowsAddresses s → KnowsAddresses (says_hello s).after
 says_known s knows = go (not (is_silent s) && nat_le s.next_hello s.moment)
   where
     go : (test : Bool)

@@ -19,8 +19,6 @@ use Rattle.pdu_header.specs.Grammar.{IsSegment, is_report}
 use Rattle.pdu_header.specs.Rules.{extent_refusal, header_of, header_size as size_of_header, is_bad_address, is_reportable, octet, source_place, type_of, wants_report}
 use Rattle.pdu_header.specs.Value.{PduValue, SegmentationPart}
 use Rattle.pdu_header.proofs.Accepted.{within}
-use Rattle.pdu_header.proofs.Changed.{header_length-is}
-use Rattle.pdu_header.proofs.Read.{read_as}
 use Rattle.pdu_header.proofs.Spelled.{address_is, octets_of_take}
 use Rattle.error_reports.specs.Report.{reason_option, source_of}
 use Rattle.error_reports.proofs.Lengths.{four}
@@ -49,6 +47,7 @@ use Rattle.clnp_machine.proofs.Behind.{behind_carriable, first_is}
 use Rattle.clnp_machine.proofs.Passing.{Onward, packet_does, redirects_are}
 use Rattle.clnp_machine.proofs.Pieces.{cut_carriable}
 use Rattle.clnp_machine.proofs.Reporting.{header_in, kept_carriable, source_is}
+use Rattle.clnp_machine.proofs.Headers.{header_length-is, read_as}
 
 each_sent : (hop : Hop) (packets : List Packet) → AllByRecursion IsCarriable packets
     → AllByRecursion SendsCarriable (map (λ packet. Transmits hop.port hop.target packet) packets)

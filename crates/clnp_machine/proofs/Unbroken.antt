@@ -1,12 +1,12 @@
 -- A frame that carries a packet or an ES-IS value that a PDU can carry breaks no rule.
 use Rattle.std.proofs.Common.{refl, ℕ, List, ◌++◌}
-use Rattle.pdu_header.proofs.Frames.{is_front}
 use Rattle.esis_pdus.specs.Grammar as esis
 use Rattle.esis_pdus.specs.Spelling.{spelling}
 use Rattle.esis_pdus.specs.Value.{EsisValue}
 use Rattle.esis_pdus.proofs.Frames as esis_frames
 use Rattle.clnp_machine.specs.Unit.{Packet, IsCarriable, value_of, wire}
 use Rattle.clnp_machine.specs.Steps.{BreaksNoEsisRule, BreaksNoRule}
+use Rattle.clnp_machine.proofs.Headers.{is_front}
 
 -- a frame of such a packet breaks no rule
 pub carriable_unbroken : (p : Packet) (following : List ℕ) → IsCarriable p → BreaksNoRule (wire p ++ following)

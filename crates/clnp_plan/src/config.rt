@@ -68,7 +68,7 @@ pub struct Settings {
 
 /// What a scenario says of one system: its name, whether it is a host or a router, its addresses,
 /// of which the first is its title, its ports, its routes and its settings.
-#[derive(Debug, Drop)]
+#[derive(Drop)]
 pub struct SystemConfig {
     name: Vec<u8>,
     role: Role,

@@ -29,7 +29,7 @@ use Rattle.clnp_machine.specs.Steps.{OnlyHellos, RestartsNothing, moment_after}
 use Rattle.clnp_machine.proofs.Passing.{packet_does}
 use Rattle.clnp_safety.specs.StepLaws.{StepLaws}
 use Rattle.clnp_safety.proofs.Deeds.{IsWhole, all_whole, discard_is_like, discard_reports}
-use Rattle.clnp_safety.proofs.Hellos.{hellos_then}
+use Rattle.clnp_safety.proofs.Hellos.{only_then}
 use Rattle.clnp_safety.proofs.SendAsked.{idle_of}
 use Rattle.clnp_safety.proofs.Ticking.{tick_reports}
 
@@ -184,7 +184,7 @@ module _ (laws : StepLaws) where
   moment_draws s now =
       let ticked = tick s now in
       let forgotten = forgets s.moment ticked.after in
-      let only = hellos_then ticked.after forgotten says_hello (laws.hellos.forgotten ticked.after s.moment) (laws.hellos.said forgotten.after) in
+      let only = only_then ticked.after forgotten says_hello (laws.hellos.forgotten ticked.after s.moment) (laws.hellos.said forgotten.after) in
       let later : Effect = then_does forgotten says_hello in
       draws_no_more now s.identifiers ticked.after.identifiers later.after.identifiers (made_in ticked.actions) later.units only.rest.identifiers only.units
       (inl (record { identifiers = expire_keeps (length s.buffers) (at_moment now s); whole = all_whole (made_in ticked.actions) (tick_reports laws s now) }))

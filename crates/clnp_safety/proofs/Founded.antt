@@ -5,7 +5,7 @@ use Rattle.std.specs.Prelude.{◌&&◌}
 use Rattle.std.proofs.lemmas.Bool.{and_parts}
 use Rattle.std.proofs.lemmas.List.Folds.{list_any-from_Any}
 use Rattle.std.proofs.lemmas.Option.{same_Some, slice_get_within}
-use Rattle.std.proofs.lemmas.Slice.Eq.{bytes_eq-Decides}
+use Rattle.clnp_base.proofs.SameOctets.{same_from, same-itself}
 use Rattle.pdu_header.specs.declared.kind.Kind.TheVariants.{Er, Erp}
 use Rattle.echo.specs.Match.{echoes}
 use Rattle.scenario.specs.Scenario.{IsFit, Plan}
@@ -23,14 +23,12 @@ use Rattle.clnp_safety.proofs.BufferOffers.{unit_sound}
 use Rattle.clnp_safety.proofs.SendAsked.{own_address}
 use Rattle.clnp_safety.proofs.Units.{different_makers}
 
-same_octets : (a b : List ℕ) → bytes_eq a b ≡ true → a ≡ b
-same_octets a b e = (bytes_eq-Decides a b).0 e
 
 -- an address of a declaration is one of the system's own
 pub owned : (s : SystemState) (address : List ℕ) → Contains s.configuration.addresses address → is_own s address ≡ true
 owned s address there =
     list_any-from_Any (λ other. bytes_eq other address) s.configuration.addresses
-    (there.0, address, there.1, there.2, (bytes_eq-Decides address address).1 refl)
+    (there.0, address, there.1, there.2, same-itself address)
 
 module _ (laws : StepLaws) (plan : Plan) (fit : IsFit plan) (past : List Entry) (w : World) (h : WorldIsSound plan past w) where
   -- the system at a place of a world, as it is declared
@@ -79,8 +77,8 @@ module _ (laws : StepLaws) (plan : Plan) (fit : IsFit plan) (past : List Entry) 
         reply_is_founded erp answers =
             let parts = and_parts (bytes_eq request.destination u.source) (bytes_eq request.source u.destination && echoes request.octets u.octets) answers in
             let rest = and_parts (bytes_eq request.source u.destination) (echoes request.octets u.octets) parts.1 in
-            let to : request.destination ≡ u.source = same_octets request.destination u.source parts.0 in
-            let from : request.source ≡ u.destination = same_octets request.source u.destination rest.0 in
+            let to : request.destination ≡ u.source = same_from request.destination u.source parts.0 in
+            let from : request.source ≡ u.destination = same_from request.source u.destination rest.0 in
             let at = declared_at place s.configuration declared in
             let owner = declared_at it.place it.owner.system it.owner.there in
             record {

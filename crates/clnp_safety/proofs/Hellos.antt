@@ -16,25 +16,7 @@ use Rattle.clnp_safety.specs.StepLaws.{StepLaws}
 use Rattle.clnp_safety.proofs.Deeds.{DeedIsSound, IsHonest, MayDo, RepliesInOctets, like_is_sound, like_rest}
 use Rattle.clnp_safety.proofs.Lines.{quiet_is_honest}
 use Rattle.clnp_safety.proofs.Told.{hellos_note, outputs_note}
-
--- one exchange of hellos, and then the next
-pub hellos_then : (s : SystemState) (effect : Effect) (next : SystemState → Effect) → OnlyHellos s effect → OnlyHellos effect.after (next effect.after)
-    → OnlyHellos s (then_does effect next)
-hellos_then s effect next first second = record {
-  rest = record {
-    place = second.rest.place ∙ first.rest.place;
-    configuration = second.rest.configuration ∙ first.rest.configuration;
-    hold = second.rest.hold ∙ first.rest.hold;
-    moment = second.rest.moment ∙ first.rest.moment;
-    count = second.rest.count ∙ first.rest.count;
-    identifiers = second.rest.identifiers ∙ first.rest.identifiers;
-    buffers = second.rest.buffers ∙ first.rest.buffers;
-    pending = second.rest.pending ∙ first.rest.pending;
-    congested = second.rest.congested ∙ first.rest.congested;
-  };
-  outputs = AllByRecursion-append IsOfHellos effect.outputs (next effect.after).outputs first.outputs second.outputs;
-  units = ap (λ us. us ++ (next effect.after).units) first.units ∙ second.units;
-}
+pub use Rattle.clnp_machine.proofs.Hellos.{only_then}
 
 module _ (plan : Plan) (past : List Entry) (w : World) (name : List ℕ) (units : List unit.Unit) (now place : ℕ) where
   -- what it leaves is sound beside the units that are made in it, and what it notes is honest

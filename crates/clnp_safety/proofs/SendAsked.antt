@@ -1,7 +1,7 @@
 -- The unit that is asked for, where it isn't refused.
 use Rattle.std.proofs.Common.{◌≡◌, ℕ, Bool, true, false, List, Option, None, Some, option_map, Contains, refl, ap, subst, ◌∙◌, sym, bytes_eq}
 use Rattle.std.proofs.lemmas.List.Folds.{Any-from_list_any}
-use Rattle.std.proofs.lemmas.Slice.Eq.{bytes_eq-Decides}
+use Rattle.clnp_base.proofs.SameOctets.{same_from}
 use Rattle.pdu_header.specs.declared.kind.Kind.{Kind}
 use Rattle.clnp_plan.specs.declared.ask.Ask.{Ask}
 use Rattle.clnp_machine.specs.Identifiers.{NotDrawn, next, not_drawn}
@@ -17,7 +17,7 @@ use Rattle.clnp_safety.proofs.SendUnits.{IsDrawn, IsNew}
 pub own_address : (s : SystemState) (address : List ℕ) → is_own s address ≡ true → Contains s.configuration.addresses address
 own_address s address own =
     let found = Any-from_list_any (λ other. bytes_eq other address) s.configuration.addresses own in
-    let same : found.1 ≡ address = (bytes_eq-Decides found.1 address).0 found.4 in
+    let same : found.1 ≡ address = same_from found.1 address found.4 in
     subst (Contains s.configuration.addresses) same (found.0, found.2, found.3)
 
 pub idle_of : (outcome : Option NotDrawn) → option_map not_drawn_note outcome ≡ None → outcome ≡ None

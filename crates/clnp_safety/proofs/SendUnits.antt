@@ -14,6 +14,7 @@ use Rattle.clnp_network.specs.Safe.{Rests}
 use Rattle.clnp_safety.specs.Invariant.{Owns, EachRests, AreUsesUntil, IsInUses, BufferIsSound, SystemIsSound}
 use Rattle.clnp_safety.proofs.Units.{buffer_later}
 use Rattle.clnp_safety.proofs.Uses.{made_long_ago, uses_after, used_before, used_now}
+use Rattle.clnp_machine.proofs.Deeds.{reuse_kept}
 
 -- the identifier of a unit is the next one of the system, and may be drawn
 pub record IsDrawn (now : ℕ) (s : SystemState) (identifier : ℕ) : Type 0 where
@@ -28,10 +29,6 @@ pub record IsNew (plan : Plan) (now place : ℕ) (s : SystemState) (u : unit.Uni
   pub drawn : (identifier : ℕ) → u.identifier ≡ Some identifier → IsDrawn now s identifier
 
 -- The uses after it.
-
-reuse_kept : (s : SystemState) (identifier : Option ℕ) → (with_use s identifier).reuse ≡ s.identifiers.reuse
-reuse_kept s None = refl
-reuse_kept s (Some identifier) = refl
 
 uses_kept : (now : ℕ) (s : SystemState) (identifier : Option ℕ) → s.moment ≡ now → AreUsesUntil now s.identifiers.uses
     → AreUsesUntil now (with_use s identifier).uses

@@ -10,8 +10,7 @@ use Rattle.scenario.specs.Scenario.{Plan}
 use Rattle.reassembly.specs.declared.segment.Key.{Key}
 use Rattle.reassembly.specs.Arrival.{same_key}
 use Rattle.reassembly.specs.Buffer.{Buffer, due, first_carried, held, is_whole, size_of, without}
-use Rattle.reassembly.proofs.Shared.{due_is, none_due}
-use Rattle.reassembly.proofs.Shared.{same_key-refl}
+use Rattle.reassembly.proofs.Shared.{due_is, none_due, same_key-refl}
 use Rattle.clnp_machine.specs.Identifiers.{Use}
 use Rattle.clnp_machine.specs.Unit as unit
 use Rattle.clnp_machine.specs.Unit.{DeclaredAt, Packet}

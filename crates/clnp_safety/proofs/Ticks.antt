@@ -23,13 +23,10 @@ use Rattle.clnp_safety.proofs.Deeds.{IsHonest, quiet_action, reports_are_sound, 
 use Rattle.clnp_safety.proofs.Lines.{LineIs}
 use Rattle.clnp_safety.proofs.Steps.{Keeps, keeps-nothing, keeps-followed_by, keeps-comes_to}
 use Rattle.clnp_safety.proofs.Effects.{IsSoundWith, notes_are_steady, others_stand, pending_after, step_keeps}
-use Rattle.clnp_safety.proofs.Hellos.{EffectIsSound, deed_is_sound, hellos_then, then_hellos}
+use Rattle.clnp_safety.proofs.Hellos.{EffectIsSound, deed_is_sound, only_then, then_hellos}
 use Rattle.clnp_safety.proofs.Ticking.{tick_is_sound, tick_reports}
 use Rattle.clnp_safety.proofs.Moves.{IsSoundAt, sound_at_clock}
-
--- a hello that is said leaves what was heard
-hello_knows : (s : SystemState) → KnowsAddresses s → KnowsAddresses (says_hello s).after
-hello_knows s known = elim (cases_Bool (not (is_silent s) && nat_le s.next_hello s.moment)) [ inl due ↦ rw due known | inr early ↦ rw early known ]
+use Rattle.clnp_machine.proofs.Said.{says_known}
 
 -- what comes of a moment
 moment_is_sound : StepLaws → (plan : Plan) (past : List Entry) (w : World) (name : List ℕ) (units : List unit.Unit) (before now place : ℕ) (s : SystemState) → before ≤ now
@@ -48,8 +45,8 @@ moment_is_sound laws plan past w name units before now place s later sound rest 
       tells = AllByRecursion-implies (TellsOnly NoteIsQuiet) (TellsOnly (IsHonest plan past w name)) (quiet_action plan past w name) ticked.actions
           (laws.deeds.tick s now);
     }))
-    (hellos_then ticked.after forgotten says_hello (laws.hellos.forgotten ticked.after s.moment) (laws.hellos.said forgotten.after))
-    (hello_knows ticked.after)
+    (only_then ticked.after forgotten says_hello (laws.hellos.forgotten ticked.after s.moment) (laws.hellos.said forgotten.after))
+    (says_known ticked.after)
 
 module _ (laws : StepLaws) (plan : Plan) (fit : IsFit plan) (past : List Entry) (w : World) (now : ℕ) (later : w.clock ≤ now) where
   -- the moment has come to the systems before a place, and to none from there on

@@ -10,11 +10,7 @@ use Rattle.clnp_machine.specs.Step.{outputs_of}
 use Rattle.clnp_machine.specs.Steps.{IsOfHellos, NotesOnly}
 use Rattle.clnp_machine.specs.Told.{IsToldBy, NoteIsQuiet, TellsOnly}
 use Rattle.clnp_safety.specs.StepLaws.{StepLaws}
-
-output_notes : (P Q : Note → Type 0) → ((note : Note) → P note → Q note) → (output : Output) → NotesOnly P output → NotesOnly Q output
-output_notes P Q f (Transmits port target packet) h = tt
-output_notes P Q f (SendsEsis port target value) h = tt
-output_notes P Q f (Notes note) h = f note h
+use Rattle.clnp_machine.proofs.Noted.{output_notes}
 
 told_is : (Q : Note → Type 0) → ((note : Note) → NoteIsQuiet note → Q note) → (actions : List Action) → AllByRecursion (TellsOnly Q) actions
     → (note : Note) → IsToldBy actions note → Q note

@@ -9,25 +9,13 @@ use Rattle.std.proofs.lemmas.List.Quantifiers.{all_pairs_push}
 use Rattle.clnp_machine.specs.Identifiers.{Use, Identifiers, NotDrawn, IsQuiet, last_use, next, busy, not_drawn, after_use}
 use Rattle.clnp_machine.specs.Unit as unit
 use Rattle.clnp_safety.specs.Invariant.{AreUsesUntil, IsInUses}
+use Rattle.clnp_machine.proofs.Resting.{busy_rested, moment_for, moment_there, past_quiet}
 
 abbrev InOrder : Use → Use → Type 0
 InOrder earlier later = earlier.moment ≤ later.moment
 
--- the moment of a use, where it is one of this identifier
-abbrev moment_for : ℕ → Use → Option ℕ
-moment_for identifier given = cond (nat_eq given.identifier identifier) (Some given.moment) None
-
-busy_rested : (now reuse used : ℕ) → busy now reuse (Some used) ≡ None → used + reuse ≤ now
-busy_rested now reuse used idle = grind (arith, nat_tests)
-
-past_quiet : (now quiet : ℕ) (later : Option NotDrawn) → cond (nat_lt now quiet) (Some (IsQuiet quiet)) later ≡ None → (quiet ≤ now) × (later ≡ None)
-past_quiet now quiet later idle = grind (arith, nat_tests)
-
 moment_is : (identifier latest : ℕ) (given : Use) → moment_for identifier given ≡ Some latest → given.moment ≡ latest
 moment_is identifier latest given found = grind (arith, nat_tests)
-
-moment_there : (identifier : ℕ) (given : Use) → given.identifier ≡ identifier → moment_for identifier given ≡ Some given.moment
-moment_there identifier given same = grind (arith, nat_tests)
 
 last_step : (identifier moment latest : ℕ) (first : Use) (found : Option ℕ) → moment ≤ first.moment → (found ≡ Some latest → moment ≤ latest)
     → option_or found (moment_for identifier first) ≡ Some latest → moment ≤ latest

@@ -11,7 +11,7 @@ use std::rc::RcSlice;
 /// A frame: octets that several owners may share, and that none of them changes.
 ///
 /// A contract sees it as the list of its octets.
-#[derive(Debug, Drop)]
+#[derive(Drop)]
 pub struct Frame {
     octets: RcSlice<u8>,
 }

@@ -9,7 +9,7 @@ use std::marker::Model;
 /// A view of a frame: a range of its octets, without a copy of them.
 ///
 /// A contract sees it as the frame's octets and the range.
-#[derive(Debug, Drop)]
+#[derive(Drop)]
 pub struct View {
     frame: Frame,
     from: usize,

@@ -8,7 +8,7 @@ use Rattle.clnp_machine.specs.System.{SystemState}
 use Rattle.clnp_systems.specs.declared.system.System.{System}
 use Rattle.clnp_systems.specs.Stands as clnp_systems
 use Rattle.clnp_world.specs.Stands.{StandEach}
-use Rattle.clnp_world.proofs.ListSteps.{slice_get_read}
+use Rattle.clnp_base.proofs.ListSteps.{slice_get_read}
 
 pub each_length : (nodes : List System) (systems : List SystemState) → StandEach nodes systems → length nodes ≡ length systems
 each_length [] [] h = refl

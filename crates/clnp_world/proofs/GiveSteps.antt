@@ -18,7 +18,7 @@ use Rattle.clnp_world.specs.Stands.{IsBornWithUnit}
 use Rattle.clnp_world.specs.declared.network.Network.{Network}
 use Rattle.clnp_world.specs.declared.copy.FrameCopy.{FrameCopy}
 use Rattle.clnp_base.proofs.Lists.{AllByRecursion-slice_get, slice_get_some}
-use Rattle.clnp_world.proofs.ListSteps.{slice_get_read, slice_get_map}
+use Rattle.clnp_base.proofs.ListSteps.{slice_get_read, slice_get_map}
 use Rattle.clnp_world.proofs.EachSteps.{each_length}
 use Rattle.clnp_world.proofs.ModelSteps.{configuration_of, configurations-give_each, copy-give_each, give_each-push, addressees_from-take}
 use Rattle.clnp_world.proofs.PutSteps.{Born, puts_nothing, puts_line, puts_then, counted}

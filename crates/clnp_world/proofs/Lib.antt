@@ -1,4 +1,3 @@
-pub mod ListSteps
 pub mod ModelSteps
 pub mod LineSteps
 pub mod EachSteps

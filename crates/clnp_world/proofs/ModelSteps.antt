@@ -14,11 +14,11 @@ use Rattle.clnp_machine.specs.Content.{Content, Esis, Labelled}
 use Rattle.clnp_machine.specs.Unit.{DeclaredAt, Maker}
 use Rattle.clnp_machine.specs.System.{SystemState, MomentComes, Output, Transmits, SendsEsis, Notes, Effect, first_state}
 use Rattle.clnp_machine.specs.Step.{step}
-use Rattle.clnp_machine.proofs.Deeds.{step_itself}
 use Rattle.clnp_network.specs.World as network
 use Rattle.clnp_network.specs.Run.{lines_text}
 use Rattle.clnp_world.specs.Stands.{IsCurrent}
-use Rattle.clnp_world.proofs.ListSteps.{slice_get_front, take_push, map_set, all_set, range_push}
+use Rattle.clnp_base.proofs.ListSteps.{slice_get_front, take_push, map_set, all_set, range_push}
+pub use Rattle.clnp_machine.proofs.Deeds.{step_itself, step_moment}
 
 pub lines_text-append : (xs ys : List Line) → lines_text (xs ++ ys) ≡ lines_text xs ++ lines_text ys
 lines_text-append xs ys = flat_map-append line_text xs ys

@@ -24,7 +24,7 @@ use Rattle.clnp_world.specs.Stands.{StandEach}
 use Rattle.clnp_world.specs.declared.network.Network.{Network}
 use Rattle.clnp_world.proofs.EachSteps.{each_length}
 use Rattle.clnp_world.proofs.GiveSteps.{follows_nothing}
-use Rattle.clnp_world.proofs.ListSteps.{set_same}
+use Rattle.clnp_base.proofs.Lists.{slice_set-same}
 use Rattle.clnp_world.proofs.TakeSteps.{gives_note, is_there, with_node}
 
 -- the system's refusal is noted, and nothing else changes
@@ -110,7 +110,7 @@ pub written_back : (old : Network) (lines : Lines) (place : ℕ) (asked : Input)
     → (model : network.World) → Holds old model → Follows (with_node old place node) lines lines (network.asks model place asked)
 written_back old lines place asked node here follows model h =
     let part = follows model h in
-    let same : slice_set old.systems.items place node ≡ old.systems.items = set_same old.systems.items place node here in
+    let same : slice_set old.systems.items place node ≡ old.systems.items = slice_set-same old.systems.items place node here in
     record {
       holds = record {
         shows = record {

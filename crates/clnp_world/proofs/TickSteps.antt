@@ -5,7 +5,6 @@ use Rattle.std.specs.List.{AllByRecursion, range_with_len}
 use Rattle.std.proofs.lemmas.List.{take_all}
 use Rattle.clnp_machine.specs.System.{SystemState, MomentComes, Effect}
 use Rattle.clnp_machine.specs.Step.{step}
-use Rattle.clnp_machine.proofs.Deeds.{step_moment}
 use Rattle.clnp_network.specs.World as network
 use Rattle.clnp_systems.specs.declared.system.System.{System}
 use Rattle.clnp_systems.specs.Stands.{entity_of}
@@ -14,9 +13,9 @@ use Rattle.clnp_world.specs.Stands.{IsCurrent}
 use Rattle.clnp_world.specs.Parts.{Shows, IsBehind, Holds, Puts, Follows}
 use Rattle.clnp_world.specs.declared.network.Network.{Network}
 use Rattle.clnp_base.proofs.Lists.{AllByRecursion-implies, AllByRecursion-slice_get, slice_get_some}
-use Rattle.clnp_world.proofs.ListSteps.{all_set, all_take_set}
+use Rattle.clnp_base.proofs.ListSteps.{all_set, all_take_set}
 use Rattle.clnp_world.proofs.EachSteps.{each_length}
-use Rattle.clnp_world.proofs.ModelSteps.{tick_at, tick_each-more, systems-put_all_out, clock-put_all_out}
+use Rattle.clnp_world.proofs.ModelSteps.{tick_at, tick_each-more, systems-put_all_out, clock-put_all_out, step_moment}
 use Rattle.clnp_world.proofs.PutSteps.{puts_nothing, puts_then}
 use Rattle.clnp_world.proofs.TakeSteps.{is_there}
 

@@ -57,7 +57,7 @@ fn writes_whole_pieces(rt: HostRuntime) -> Result<(), Fail> {
 }
 
 /// A reader and a writer that take and give nothing.
-#[derive(Drop)]
+#[derive(Debug, Drop)]
 struct Broken;
 
 impl Read for Broken {

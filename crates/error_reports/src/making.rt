@@ -13,7 +13,7 @@ use nsap::Address;
 use pdu_header::{Header, Kind, Parts, ReportTo, reportable};
 
 /// The error report of a frame's discard.
-#[derive(Clone, Copy, Debug, PartialEq, Eq)]
+#[derive(Clone, Copy, PartialEq, Eq)]
 pub struct MadeReport {
     /// Its destination: the discarded PDU's source.
     pub to: Address,

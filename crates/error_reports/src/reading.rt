@@ -15,7 +15,7 @@ use pdu_header::{Kind, Pdu};
 const REASON: u8 = 0xc1;
 
 /// What an error report tells.
-#[derive(Clone, Copy, Debug, PartialEq, Eq)]
+#[derive(Clone, Copy, PartialEq, Eq)]
 pub struct Told<'a> {
     /// The reason for discard (ISO 8473, section 7.9.5).
     pub reason: u8,
@@ -26,7 +26,7 @@ pub struct Told<'a> {
 }
 
 /// A PDU that is no error report.
-#[derive(Clone, Copy, Debug, PartialEq, Eq)]
+#[derive(Clone, Copy, PartialEq, Eq)]
 pub struct NotReport;
 
 /// What a PDU, as `decode` finds it, tells of a discard (ISO 8473, section 7.9).

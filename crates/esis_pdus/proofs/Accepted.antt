@@ -14,6 +14,7 @@ use Rattle.esis_pdus.specs.declared.pdu.EsisRefusal.TheVariants.{Broken}
 use Rattle.esis_pdus.specs.Fields.{is_field, is_address_list}
 use Rattle.esis_pdus.specs.Timer.{place_of_wrong_timer}
 use Rattle.esis_pdus.specs.Rules.{variable_part, is_esh, is_ish, is_rd, is_redirection, options_part, options_place, frame_rules, first_broken, header_refusal}
+use Rattle.esis_pdus.proofs.Shape.{HasHeader, good_size}
 
 -- a header breaks no rule
 pub record IsAccepted (head : List ℕ) : Type 0 where
@@ -78,16 +79,6 @@ accepting head h =
     (option_or-none _ _ _
     (passing 8 _ _ (test_passing _ _ h.esh) (passing 9 _ _ (test_passing _ _ h.ish) (passing 10 _ _ (test_passing _ _ h.rd) refl)))
     (passing 11 _ _ h.fill (passing 12 _ _ h.timer refl)))
-
--- a header lies at the front of the frame
-pub record HasHeader (frame : List ℕ) : Type 0 where
-  pub long : 9 ≤ length frame
-  pub size : 9 ≤ header_size frame
-  pub not_reserved : header_size frame ≢ 255
-  pub within : header_size frame ≤ length frame
-
-good_size : (n : ℕ) → (nat_lt n 9 || n == 255) ≡ false → (9 ≤ n) × (n ≢ 255)
-good_size n h = (grind (arith, nat_tests), λ e. grind (arith, nat_tests))
 
 size_good : (n : ℕ) → 9 ≤ n → n ≢ 255 → (nat_lt n 9 || n == 255) ≡ false
 size_good n h k = grind (arith, nat_tests)

@@ -6,7 +6,6 @@ use Rattle.std.proofs.lemmas.List.{take_at, drop_at, get_or_append_left}
 use Rattle.clnp_base.proofs.Choices.{option_or-parts, option_or-none}
 use Rattle.hex.specs.Hex.{IsBytes}
 use Rattle.fletcher.specs.Checksum.{octet, IsSealed, sealed}
-use Rattle.fletcher.proofs.ChecksumLaws.{sealed_is}
 use Rattle.clnp_options.specs.Parameter.{Parameter, parameters, spelled}
 use Rattle.pdu_header.specs.Spelling.{pair_of}
 use Rattle.pdu_header.specs.Rules.{pair_at, header_size, header_of, has_right_checksum}
@@ -20,9 +19,9 @@ use Rattle.esis_pdus.specs.Rules.{variable_part, options_part, options_place, he
 use Rattle.esis_pdus.specs.Reading.{body_of, value_of, rest_of}
 use Rattle.esis_pdus.proofs.FieldFacts.{bytes_of_take}
 use Rattle.esis_pdus.proofs.Options.{options_again, options_read, options_fill}
-use Rattle.esis_pdus.proofs.Accepted.{IsAccepted, accepted, accepting, HasHeader, has_header, header_here}
+use Rattle.esis_pdus.proofs.Accepted.{IsAccepted, accepted, accepting, has_header, header_here}
 use Rattle.esis_pdus.proofs.Bodies.{has_body, reads_body}
-use Rattle.esis_pdus.proofs.Shape.{nine_bare, same_layout, sealing_again, bare_again, sealed_layout, pair_is_zero, pair_is_used, pair_again, pair_of_octets, checksum_parts, unused_is_right, sealed_is_right}
+use Rattle.esis_pdus.proofs.Shape.{nine_bare, same_layout, sealing_again, bare_again, sealed_layout, pair_is_zero, pair_is_used, pair_again, pair_of_octets, right_from_test, unused_passes, sealed_passes, HasHeader, length_of_header, octet_of_header, sealed_is}
 
 -- ---- what is spelled breaks no rule, and is read again
 
@@ -47,7 +46,7 @@ laid_out v = by_flag v.sealed refl
           x = shape.0;
           y = shape.1;
           layout = shape.2;
-          checksum = sealed_is_right head is;
+          checksum = sealed_passes head is;
           sealed_is = pair_is_used head is.octet_8 ∙ sym e;
         })
     by_flag false e =
@@ -57,7 +56,7 @@ laid_out v = by_flag v.sealed refl
           x = 0;
           y = 0;
           layout = refl;
-          checksum = unused_is_right head refl refl;
+          checksum = unused_passes head refl refl;
           sealed_is = pair_is_zero head refl refl ∙ sym e;
         })
 
@@ -141,7 +140,7 @@ bare_is head h =
 pub header_is : (head : List ℕ) → IsHeader head → head ≡ spelling.spelling (value_of head)
 header_is head h =
     let bare = nine_bare head h.long ∙ sym (bare_is head h) in
-    elim (checksum_parts head h.accepted.checksum) [
+    elim (right_from_test head h.accepted.checksum) [
       | inl unused ↦ rw (pair_is_zero head unused.0 unused.1) (bare_again head (unsealed (value_of head)) bare unused.0 unused.1)
       | inr sealed ↦ rw (pair_is_used head sealed.octet_8) (sealing_again head (unsealed (value_of head)) h.long (h.bytes 7) (h.bytes 8) bare sealed)
     ]
@@ -160,12 +159,6 @@ spelled_as head h =
     }
 
 -- ---- frames
-
-pub length_of_header : (frame : List ℕ) → HasHeader frame → length (header_of frame) ≡ header_size frame
-length_of_header frame h = length-take-le (header_size frame) frame h.within
-
-pub octet_of_header : (frame : List ℕ) (i : ℕ) → HasHeader frame → i < 9 → get_or (header_of frame) i 0 ≡ get_or frame i 0
-octet_of_header frame i h low = get_or-take (header_size frame) frame i 0 (omega (arith, h.size))
 
 pub header_stands : (frame : List ℕ) → IsBytes frame → octet frame 1 ≡ 0x82 → refusal frame ≡ None → IsHeader (header_of frame)
 unfolding refusal

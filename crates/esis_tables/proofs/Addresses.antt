@@ -2,7 +2,7 @@
 use Rattle.std.proofs.Common.{◌≡◌, ℕ, true, false, List, refl, sym, ap, ◌∙◌, Ordering}
 use Rattle.std.proofs.lemmas.Bool.{false_from_ne_true, true≢false}
 use Rattle.std.proofs.lemmas.Cmp.{nat_list_cmp_total, tied_itself}
-use Rattle.std.proofs.lemmas.Slice.Eq.{bytes_eq-Decides}
+use Rattle.clnp_base.proofs.SameOctets.{same_from}
 use Rattle.std.specs.Cmp.Lexicographic.{slice_cmp, texts_ties}
 use Rattle.std.specs.Ordering.{nat_cmp, is_lt, is_eq, ordering_reverse}
 use Rattle.std.specs.declared.cmp.Ordering.TheVariants.{Less, Equal, Greater}
@@ -26,18 +26,6 @@ before-trans a b c ab bc =
 pub before-back : (a b : List ℕ) → is_before a b ≡ true → is_before b a ≡ false
 before-back a b ab =
     ap is_lt (nat_list_cmp_total.antisymm b a ∙ ap ordering_reverse (less_from (slice_cmp nat_cmp a b) ab))
-
-pub same-itself : (a : List ℕ) → bytes_eq a a ≡ true
-same-itself a = (bytes_eq-Decides a a).1 refl
-
-pub same_from : (a b : List ℕ) → bytes_eq a b ≡ true → a ≡ b
-same_from a b h = (bytes_eq-Decides a b).0 h
-
-pub same-back : (a b : List ℕ) → bytes_eq a b ≡ true → bytes_eq b a ≡ true
-same-back a b h = (bytes_eq-Decides b a).1 (sym (same_from a b h))
-
-pub other-back : (a b : List ℕ) → bytes_eq a b ≡ false → bytes_eq b a ≡ false
-other-back a b h = false_from_ne_true (bytes_eq b a) (λ t. true≢false (sym (same-back b a t) ∙ h))
 
 -- an address that is before another isn't the same
 pub before-other : (a b : List ℕ) → is_before a b ≡ true → bytes_eq a b ≡ false

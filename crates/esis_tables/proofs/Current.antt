@@ -7,6 +7,7 @@ use Rattle.esis_tables.specs.declared.fact.EsisLimits.{EsisLimits}
 use Rattle.esis_tables.specs.declared.fact.Heard.{Heard}
 use Rattle.esis_tables.specs.declared.fact.Heard.TheVariants.{New, Again, Zero, Full}
 use Rattle.esis_tables.specs.declared.fact.TableKind.{TableKind}
+use Rattle.esis_tables.specs.declared.fact.TableKind.TheVariants.{Es, Is, Rd}
 use Rattle.esis_tables.specs.Fact.{Fact, after, answer, current, currents, end_of, has_key, is_held, is_noted, latest, limit_of, same_table, while_held}
 use Rattle.esis_tables.specs.Gone.{ended_keys, gone_keys, key_of}
 use Rattle.esis_tables.specs.Keeps.{AreDistinct, Keeps, answer_of, kept_after, kept_with, without}
@@ -17,6 +18,11 @@ use Rattle.esis_tables.proofs.Histories.{distinct-latest, find_latest, latest-el
 use Rattle.esis_tables.proofs.Ranks.{distinct-key}
 use Rattle.esis_tables.proofs.Rising.{all_filter, all_weaker, filter_all, filter_none}
 use Rattle.esis_tables.proofs.Sorting.{length-sorted}
+
+pub same_table-itself : (table : TableKind) → same_table table table ≡ true
+same_table-itself Es = refl
+same_table-itself Is = refl
+same_table-itself Rd = refl
 
 filter_both : (p q : Fact → Bool) → ((fact : Fact) → p fact ≡ true → q fact ≡ true) → (facts : List Fact)
     → filter p (filter q facts) ≡ filter p facts

@@ -6,7 +6,7 @@ use Rattle.std.specs.Option.{option_or}
 use Rattle.esis_tables.specs.declared.fact.TableKind.{TableKind}
 use Rattle.esis_tables.specs.Fact.{Fact, has_key, is_about, last_of, latest, same_table}
 use Rattle.esis_tables.specs.Keeps.{AreDistinct, without}
-use Rattle.esis_tables.proofs.Addresses.{same_from, same-back, other-back}
+use Rattle.clnp_base.proofs.SameOctets.{same_from, same-back, other-back}
 
 or_none : (o : Option Fact) → option_or o None ≡ o
 or_none None = refl

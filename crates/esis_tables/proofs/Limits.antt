@@ -10,12 +10,7 @@ use Rattle.esis_tables.specs.declared.fact.TableKind.TheVariants.{Es, Is, Rd}
 use Rattle.esis_tables.specs.Claims.{NeverFall, heard_all}
 use Rattle.esis_tables.specs.Fact.{Fact, after, answer, current, currents, end_of, has_key, is_held, is_noted, limit_of, same_table}
 use Rattle.esis_tables.specs.Keeps.{without}
-use Rattle.esis_tables.proofs.Current.{after-elsewhere, currents-there, found_current, fewer_later}
-
-same_table-itself : (table : TableKind) → same_table table table ≡ true
-same_table-itself Es = refl
-same_table-itself Is = refl
-same_table-itself Rd = refl
+use Rattle.esis_tables.proofs.Current.{after-elsewhere, currents-there, found_current, fewer_later, same_table-itself}
 
 same_table-from : (a b : TableKind) → same_table a b ≡ true → a ≡ b
 same_table-from Es Es h = refl

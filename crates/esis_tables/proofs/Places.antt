@@ -12,8 +12,10 @@ use Rattle.std.specs.declared.cmp.Ordering.TheVariants.{Equal}
 use Rattle.esis_tables.specs.declared.table.Entry.{Entry}
 use Rattle.esis_tables.specs.Order.{is_before, put_in, IsRising}
 use Rattle.esis_tables.specs.State.{IsAt, IsGap, key_in}
-use Rattle.esis_tables.proofs.Addresses.{same_from, same_from_equal, before-back, before-other, other-back}
+use Rattle.clnp_base.proofs.SameOctets.{same_from, other-back}
+use Rattle.esis_tables.proofs.Addresses.{before-back, before-other, same_from_equal}
 use Rattle.esis_tables.proofs.Rising.{NoneHas, filter_all, all_weaker}
+use Rattle.clnp_base.proofs.Lists.{AllByRecursion-slice_get}
 
 module _ {X : Type 0} (key : X → List ℕ) where
   pub sorted_from_rising : (xs : List X) → IsRising key xs → IsSortedByKey key (slice_cmp nat_cmp) xs
@@ -29,11 +31,6 @@ module _ {X : Type 0} (key : X → List ℕ) where
       all_weaker (λ y. is_before (key x) (key y) ≡ true) (λ y. bytes_eq (key y) k ≡ false)
       (λ y before. subst (λ j. bytes_eq (key y) j ≡ false) (same_from (key x) k same) (other-back (key x) (key y) (before-other (key x) (key y) before))) xs rising.0
 
-  pub all_at : (P : X → Type 0) (xs : List X) (i : ℕ) (x : X) → AllByRecursion P xs → slice_get xs i ≡ Some x → P x
-  all_at P [] i x all there = absurd (cc)
-  all_at P (y ∷ ys) zero x all there = let e : y ≡ x = cc in subst P e all.0
-  all_at P (y ∷ ys) (suc i) x all there = all_at P ys i x all.1 there
-
   -- an item that comes before one of this key has another key
   other_before : (x y : X) (k : List ℕ) → is_before (key x) (key y) ≡ true → bytes_eq (key y) k ≡ true → bytes_eq (key x) k ≡ false
   other_before x y k before same = subst (λ j. bytes_eq (key x) j ≡ false) (same_from (key y) k same) (before-other (key x) (key y) before)
@@ -48,7 +45,7 @@ module _ {X : Type 0} (key : X → List ℕ) where
       let behind : NoneHas key k ys = others_behind y ys k rising here in
       rw here (sym (filter_all (λ z. not (bytes_eq (key z) k)) ys (all_weaker (λ z. bytes_eq (key z) k ≡ false) (λ z. not (bytes_eq (key z) k) ≡ true) (λ z e. ap not e) ys behind)))
   remove_is (y ∷ ys) (suc i) x k rising there same =
-      let before = all_at (λ z. is_before (key y) (key z) ≡ true) ys i x rising.0 there in
+      let before = AllByRecursion-slice_get (λ z. is_before (key y) (key z) ≡ true) ys i x there rising.0 in
       let other = other_before y x k before same in
       rw other (ap (λ l. y ∷ l) (remove_is ys i x k rising.1 there same))
 
@@ -60,7 +57,7 @@ module _ {X : Type 0} (key : X → List ℕ) where
       let here : bytes_eq (key y) k ≡ true = subst (λ z. bytes_eq (key z) k ≡ true) (sym e) same in
       rw here there
   find_is (y ∷ ys) (suc i) x k rising there same =
-      let before = all_at (λ z. is_before (key y) (key z) ≡ true) ys i x rising.0 there in
+      let before = AllByRecursion-slice_get (λ z. is_before (key y) (key z) ≡ true) ys i x there rising.0 in
       let other = other_before y x k before same in
       rw other (find_is ys i x k rising.1 there same)
 

@@ -6,7 +6,7 @@ use Rattle.esis_tables.specs.declared.table.Entry.{Entry}
 use Rattle.esis_tables.specs.Fact.{Fact, has_key}
 use Rattle.esis_tables.specs.Keeps.{entries_of, AreDistinct, without}
 use Rattle.esis_tables.specs.State.{entry_for, key_in, is_of, raised, closed}
-use Rattle.esis_tables.proofs.Addresses.{same_from}
+use Rattle.clnp_base.proofs.SameOctets.{same_from}
 use Rattle.esis_tables.proofs.Rising.{Differ, NoneHas, filter_all, all_weaker}
 use Rattle.esis_tables.proofs.Steps.{with_rank}
 

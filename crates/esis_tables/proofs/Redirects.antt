@@ -8,8 +8,8 @@ use Rattle.esis_tables.specs.declared.fact.TableKind.{TableKind}
 use Rattle.esis_tables.specs.declared.fact.TableKind.TheVariants.{Es, Is, Rd}
 use Rattle.esis_tables.specs.Fact.{Fact, after, answer, current, currents, end_of, has_key, is_about, is_held, is_noted, last_of, same_table, while_held}
 use Rattle.esis_tables.specs.NextHop.{last, next_hop, place_of}
-use Rattle.esis_tables.proofs.Addresses.{same_from, same-itself}
-use Rattle.esis_tables.proofs.Current.{after-elsewhere}
+use Rattle.clnp_base.proofs.SameOctets.{same_from, same-itself}
+use Rattle.esis_tables.proofs.Current.{after-elsewhere, same_table-itself}
 use Rattle.esis_tables.proofs.Histories.{last_of-elsewhere, last_of-other}
 
 -- a property of the facts that a hearing doesn't change
@@ -53,11 +53,6 @@ last_is : (table : TableKind) (key : List ℕ) (earlier later : List Fact) (fact
 last_is table key [] later fact found = found
 last_is table key (first ∷ earlier) later fact found =
     ap (λ o. option_or o (cond (is_about table key first) (Some first) None)) (last_is table key earlier later fact found)
-
-same_table-itself : (table : TableKind) → same_table table table ≡ true
-same_table-itself Es = refl
-same_table-itself Is = refl
-same_table-itself Rd = refl
 
 pub holds_until : (earlier later : List Fact) (fact : Fact) (now : ℕ)
     → AllByRecursion (λ other. is_about fact.table fact.key other ≡ false) later → now < end_of fact

@@ -4,7 +4,8 @@ use Rattle.std.proofs.lemmas.Bool.{cases_Bool, cond_both}
 use Rattle.std.specs.List.{AllByRecursion, filter}
 use Rattle.std.specs.Str.{bytes_eq}
 use Rattle.esis_tables.specs.Order.{is_before, put_in, IsRising}
-use Rattle.esis_tables.proofs.Addresses.{before-trans, after-other, other-back}
+use Rattle.clnp_base.proofs.SameOctets.{other-back}
+use Rattle.esis_tables.proofs.Addresses.{before-trans, after-other}
 
 pub all_weaker : {X : Type 0} (P Q : X → Type 0) → ((x : X) → P x → Q x) → (xs : List X) → AllByRecursion P xs → AllByRecursion Q xs
 all_weaker P Q f [] h = tt

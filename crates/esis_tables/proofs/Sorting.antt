@@ -5,7 +5,7 @@ use Rattle.std.specs.List.{AllByRecursion, filter, find, list_any}
 use Rattle.std.specs.Option.{option_to_list}
 use Rattle.std.specs.Str.{bytes_eq}
 use Rattle.esis_tables.specs.Order.{is_before, put_in, in_order, IsRising}
-use Rattle.esis_tables.proofs.Addresses.{same_from, other-back}
+use Rattle.clnp_base.proofs.SameOctets.{same_from, other-back}
 use Rattle.esis_tables.proofs.Rising.{NoneHas, Differ, length-put_in, put_in-rising, filter-put_in, all_put_in, filter_none}
 
 module _ {X : Type 0} (key : X → List ℕ) where

@@ -2,7 +2,7 @@
 use nsap::{Address, Snpa};
 
 /// The most keys that each table keeps at a time.
-#[derive(Clone, Copy, Debug, PartialEq, Eq)]
+#[derive(Clone, Copy, PartialEq, Eq)]
 pub struct EsisLimits {
     /// End systems.
     pub neighbours: u16,

@@ -17,7 +17,7 @@ use std::alloc::Global;
 use std::marker::Model;
 
 /// What a table keeps of a key: what was heard of it last.
-#[derive(Clone, Copy, Debug)]
+#[derive(Clone, Copy)]
 pub struct Entry {
     key: Address,
     place: Place,
@@ -30,7 +30,7 @@ pub struct Entry {
 /// The keys of one kind, sorted.
 ///
 /// A contract sees what the table keeps; `Keeps` says which facts these are.
-#[derive(Debug, Drop)]
+#[derive(Drop)]
 pub struct Table {
     limit: u16,
     entries: Vec<Entry>,

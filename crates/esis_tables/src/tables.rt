@@ -20,7 +20,7 @@ use std::alloc::Global;
 /// gives it.
 ///
 /// A contract sees three tables; `Stands` says for which facts they stand, and which keys are left to be flushed.
-#[derive(Debug, Drop)]
+#[derive(Drop)]
 pub struct Tables {
     systems: Table,
     routers: Table,

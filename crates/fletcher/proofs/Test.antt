@@ -4,29 +4,24 @@ use Rattle.std.specs.Prelude.{◌↔◌, IsTrue}
 use Rattle.std.proofs.lemmas.Bool.Decides.{nat_tests}
 use Rattle.fletcher.specs.Checksum.{octet, IsSealed, IsRight, has_right_checksum}
 use Rattle.fletcher.specs.Laws.{HasChecksum}
+use Rattle.std.proofs.lemmas.Bool.{eqb-true, eqb-false}
 
-is_equal : (a b : ℕ) → (a == b) ≡ true → a ≡ b
-is_equal a b h = grind (arith, nat_tests)
-
-not_equal : (a b : ℕ) → (a == b) ≡ false → a ≢ b
-not_equal a b h = λ e. grind (arith, nat_tests)
-
-right_from_test : (head : List ℕ) → has_right_checksum head ≡ true → IsRight head
+pub right_from_test : (head : List ℕ) → has_right_checksum head ≡ true → IsRight head
 right_from_test head h = by_octet_8 (octet head 8 == 0) refl
   where
     by_octet_8 : (b : Bool) → (octet head 8 == 0) ≡ b → IsRight head
-    by_octet_8 true e = inl (is_equal _ _ e, grind (arith, nat_tests))
+    by_octet_8 true e = inl (eqb-true _ _ e, grind (arith, nat_tests))
     by_octet_8 false e = inr (record {
-      octet_8 = not_equal _ _ e;
+      octet_8 = eqb-false _ _ e;
       octet_9 = λ z. grind (arith, nat_tests);
       sum = grind (arith, nat_tests);
       weighted_sum = grind (arith, nat_tests);
     })
 
-unused_passes : (head : List ℕ) → octet head 8 ≡ 0 → octet head 9 ≡ 0 → has_right_checksum head ≡ true
+pub unused_passes : (head : List ℕ) → octet head 8 ≡ 0 → octet head 9 ≡ 0 → has_right_checksum head ≡ true
 unused_passes head x y = grind (arith, nat_tests)
 
-sealed_passes : (head : List ℕ) → IsSealed head → has_right_checksum head ≡ true
+pub sealed_passes : (head : List ℕ) → IsSealed head → has_right_checksum head ≡ true
 sealed_passes head h =
     let octet_8 : octet head 8 ≢ 0 = h.octet_8 in
     let octet_9 : octet head 9 ≢ 0 = h.octet_9 in

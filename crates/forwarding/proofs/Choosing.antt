@@ -11,7 +11,8 @@ use Rattle.nsap.specs.Prefix.{digits_of}
 use Rattle.forwarding.specs.declared.route.Route.{Route}
 use Rattle.forwarding.specs.Distinct.{AreDistinct, has_prefix}
 use Rattle.forwarding.specs.Longest.{IsLongest, is_covering, longer, longest, most_digits}
-use Rattle.forwarding.proofs.Prefixes.{found_by_prefix, found_within, none_passes, same_from, same_from_equal}
+use Rattle.clnp_base.proofs.SameOctets.{same_from, same_from_equal}
+use Rattle.forwarding.proofs.Prefixes.{found_by_prefix, found_within, none_passes}
 
 -- ---- the most digits
 

@@ -17,7 +17,8 @@ use Rattle.forwarding.specs.Distinct.{has_prefix}
 use Rattle.forwarding.specs.Longest.{longest}
 use Rattle.forwarding.specs.Stands.{Stands}
 use Rattle.forwarding.proofs.Choosing.{NoneAt, longest_at}
-use Rattle.forwarding.proofs.Prefixes.{AreDistinct-push, is_some-find, other_from, same_from}
+use Rattle.clnp_base.proofs.SameOctets.{other_from, same_from}
+use Rattle.forwarding.proofs.Prefixes.{AreDistinct-push, is_some-find}
 
 -- whether a route of this prefix was there
 pub was_there : (routes : Routes) (list : List Route) (prefix : List ℕ) (n : ℕ) (map : BTreeMap (List ℕ) Route) (old : Option Route)

@@ -6,7 +6,7 @@ use Rattle.std.specs.Option.{is_some}
 use Rattle.std.specs.Str.{bytes_eq}
 use Rattle.std.proofs.lemmas.Bool.{cases_Bool, cases_order, false_from_ne_true, true≢false}
 use Rattle.std.proofs.lemmas.Option.{none-some, same_Some, slice_get_within}
-use Rattle.std.proofs.lemmas.Slice.Eq.{bytes_eq-Decides}
+use Rattle.clnp_base.proofs.SameOctets.{other_from, other-back, same_from, same_from_equal}
 use Rattle.std.proofs.lemmas.Grind.{common_steps}
 use Rattle.std.proofs.lemmas.List.{length-take}
 use Rattle.clnp_base.proofs.Filters.{find-no_position, find-position}
@@ -14,18 +14,6 @@ use Rattle.clnp_base.proofs.Found.{contains_any, find_any}
 use Rattle.clnp_base.proofs.Lists.{AllByRecursion-contains, AllByRecursion-push, AllByRecursion-slice_get}
 use Rattle.forwarding.specs.declared.route.Route.{Route}
 use Rattle.forwarding.specs.Distinct.{AreDistinct, IsTwice, has_prefix}
-
-pub same_from : (a b : List ℕ) → bytes_eq a b ≡ true → a ≡ b
-same_from a b h = (bytes_eq-Decides a b).0 h
-
-pub same_from_equal : (a b : List ℕ) → a ≡ b → bytes_eq a b ≡ true
-same_from_equal a b h = (bytes_eq-Decides a b).1 h
-
-pub other_from : (a b : List ℕ) → (a ≡ b → ⊥) → bytes_eq a b ≡ false
-other_from a b differ = false_from_ne_true (bytes_eq a b) (λ t. differ (same_from a b t))
-
-pub other-back : (a b : List ℕ) → bytes_eq a b ≡ false → bytes_eq b a ≡ false
-other-back a b h = other_from b a (λ same. true≢false (sym (same_from_equal a b (sym same)) ∙ h))
 
 pub is_some-find : (test : Route → Bool) (routes : List Route) → is_some (find test routes) ≡ list_any test routes
 is_some-find test [] = refl

@@ -21,7 +21,7 @@ const LENGTHS: usize = 41;
 /// Configured routes, no two of one prefix.
 ///
 /// A contract sees for which list of routes they stand. Their order in that list means nothing.
-#[derive(Debug, Drop)]
+#[derive(Drop)]
 pub struct Routes {
     /// The routes of each length of prefix, by prefix.
     by_length: [BTreeMap<Prefix, Route>; LENGTHS],

@@ -8,8 +8,9 @@ use Rattle.reassembly.specs.declared.table.TableLimits.{TableLimits}
 use Rattle.reassembly.specs.Arrival.{Arrival, data_len, same_key, same_shape}
 use Rattle.reassembly.specs.Buffer.{Answer, Buffer, Whole, after, answer, answer_of, buffer_of, clashes, is_whole, refusal, with_kept}
 use Rattle.reassembly.specs.State.{IsWholeSlot, Names, Stands, TableState}
-use Rattle.reassembly.proofs.Shared.{made_whole, refusal_not_whole, same_key-like, same_key-true}
 use Rattle.clnp_base.proofs.Choices.{if_none}
+use Rattle.std.proofs.lemmas.Option.{same_Some}
+use Rattle.local_entity.proofs.Buffers.{made_whole, refusal_not_whole, same_key-like, same_key-true}
 
 same_data_len : (a b : Shape) → same_shape a b ≡ true → data_len a ≡ data_len b
 same_data_len a b same =
@@ -20,15 +21,12 @@ same_data_len a b same =
     omega arith
 
 module _ {C : Type 0} where
-  same_buffer : (a b : Buffer C) → Some a ≡ Some b → a ≡ b
-  same_buffer a b e = cc
-
   key_found : (key : Key) (buffers : List (Buffer C)) (buffer : Buffer C) → buffer_of key buffers ≡ Some buffer → buffer.key ≡ key
   key_found key [] buffer found = absurd (cc)
   key_found key (first ∷ others) buffer found =
       elim (cases_Bool (same_key first.key key)) [
         | inl same ↦
-            subst (λ (b : Buffer C). b.key ≡ key) (same_buffer first buffer (rw same at found)) (same_key-true first.key key same)
+            subst (λ (b : Buffer C). b.key ≡ key) (same_Some first buffer (rw same at found)) (same_key-true first.key key same)
         | inr other ↦ key_found key others buffer (rw other at found)
       ]
 
@@ -37,11 +35,11 @@ module _ {C : Type 0} where
       → clashes (buffer_of arrival.key buffers) arrival.shape ≡ false → buffer_of arrival.key (with_kept limits now arrival buffers) ≡ Some buffer
       → data_len buffer.shape ≡ data_len arrival.shape
   data_len-with limits now arrival [] buffer fits found =
-      let e = same_buffer _ buffer (rw (same_key-like arrival.key arrival.key refl) at found) in
+      let e = same_Some _ buffer (rw (same_key-like arrival.key arrival.key refl) at found) in
       ap (λ (b : Buffer C). data_len b.shape) (sym e)
   data_len-with limits now arrival (first ∷ others) buffer fits found =
       elim (cases_Bool (same_key first.key arrival.key)) [
-        | inl same ↦ (let e = same_buffer (record first { kept = first.kept ++ arrival ∷ [] }) buffer (rw same at (rw same at found)) in
+        | inl same ↦ (let e = same_Some (record first { kept = first.kept ++ arrival ∷ [] }) buffer (rw same at (rw same at found)) in
             ap (λ (b : Buffer C). data_len b.shape) (sym e)
             ∙ same_data_len first.shape arrival.shape (not-false (same_shape first.shape arrival.shape) (rw same at fits)))
         | inr other ↦ data_len-with limits now arrival others buffer (rw other at fits) (rw other at (rw other at found))

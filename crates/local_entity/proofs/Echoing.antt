@@ -54,7 +54,7 @@ pub reply_is : (s : SystemState) (source destination octets shown : List ℕ) (a
 reply_is s source destination octets shown ask same asked =
     ap (λ (l : List ℕ). make s Erp destination source l ask) same ∙ ap (make s Erp destination source octets) asked
 
-says_why : (e : SendRefusal) (note : Note) (answer : Option Note) → refusal_note e ≡ Some note → IsWhy e answer → answer ≡ Some note
+pub says_why : (e : SendRefusal) (note : Note) (answer : Option Note) → refusal_note e ≡ Some note → IsWhy e answer → answer ≡ Some note
 says_why send.NotMine note answer said why = why ∙ said
 says_why (send.TooLong octets) note answer said why = why ∙ said
 says_why (send.IdsBusy used) note answer said why = why ∙ said

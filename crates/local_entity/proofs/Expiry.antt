@@ -12,7 +12,6 @@ use Rattle.reassembly.specs.Buffer.{Buffer, due, first_carried, without, without
 use Rattle.reassembly.specs.Mapped.{map_buffer, map_buffers}
 use Rattle.reassembly.specs.State as table
 use Rattle.reassembly.specs.State.{TableState}
-use Rattle.reassembly.proofs.Shared.{first_carried-mapped}
 use Rattle.clnp_plan.specs.declared.note.Note.TheVariants.{Expired as Ended}
 use Rattle.clnp_machine.specs.Unit.{Packet, wire}
 use Rattle.clnp_machine.specs.Content.{Labelled, frame_of}
@@ -26,6 +25,7 @@ use Rattle.local_entity.specs.Local.{Appends, Stands}
 use Rattle.local_entity.proofs.Offering.{stands_with}
 use Rattle.local_entity.proofs.Offers.{all_without}
 use Rattle.local_entity.proofs.Shown.{due_shown, without_shown}
+use Rattle.local_entity.proofs.Buffers.{first_carried-mapped}
 
 -- ---- one after another
 

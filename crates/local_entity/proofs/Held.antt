@@ -3,11 +3,11 @@ use Rattle.std.proofs.Common.{◌≡◌, ℕ, List, sym, ap, ◌∙◌}
 use Rattle.clnp_views.specs.Extent.{Extent, seen}
 use Rattle.reassembly.specs.Buffer.{Buffer, held}
 use Rattle.reassembly.specs.State as table
-use Rattle.reassembly.proofs.Shared.{held-mapped}
 use Rattle.clnp_machine.specs.Unit.{wire}
 use Rattle.clnp_machine.specs.System.{SystemState}
 use Rattle.local_entity.specs.State.{EntityState}
 use Rattle.local_entity.specs.Local.{Stands}
+use Rattle.local_entity.proofs.Buffers.{held-mapped}
 
 -- the frames that are held are those of the packets
 pub held_of : (local : EntityState) (octets : ℕ) → ((buffers : List (Buffer Extent)) → table.Stands local.table buffers → octets ≡ held buffers)

@@ -6,15 +6,15 @@ use Rattle.std.proofs.lemmas.Bool.{and_parts, cases_Bool, leb-true, ltb-true}
 use Rattle.clnp_base.proofs.Lists.{get_or-behind_part}
 use Rattle.clnp_base.proofs.Maps.{map-agree}
 use Rattle.pdu_header.specs.Spelling.{header, header_length}
-use Rattle.pdu_header.proofs.Written.{length-header}
 use Rattle.clnp_views.specs.Extent.{Extent, seen}
 use Rattle.reassembly.specs.Arrival.{Arrival, data_len, earliest, has, octet_in}
 use Rattle.reassembly.specs.Buffer.{Buffer, data_of, octet_by}
 use Rattle.reassembly.specs.Mapped.{map_arrival, map_buffer}
-use Rattle.reassembly.proofs.Shared.{data_of-mapped}
 use Rattle.clnp_machine.specs.Unit.{Packet, value_of, wire, IsCarriable}
 use Rattle.clnp_machine.specs.Local.{octet_of, offered}
 use Rattle.clnp_machine.specs.Local.{IsAsOffered}
+use Rattle.local_entity.proofs.Buffers.{data_of-mapped}
+use Rattle.local_entity.proofs.Parts.{length-header}
 
 -- the octet at a place of the unit's data, in a segment that carries its PDU's octets
 abbrev pub octet_at : Arrival (List ℕ) → ℕ → ℕ

@@ -1,3 +1,4 @@
+pub mod Buffers
 pub mod Uses
 pub mod Pools
 pub mod Rest

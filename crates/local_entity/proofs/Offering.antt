@@ -15,7 +15,6 @@ use Rattle.reassembly.specs.Buffer.{Answer, Buffer, after, answer, buffer_of, da
 use Rattle.reassembly.specs.Mapped.{map_buffer}
 use Rattle.reassembly.specs.State as table
 use Rattle.reassembly.specs.State.{IsReady, TableState, said, was_kept}
-use Rattle.reassembly.proofs.Shared.{none_due-after, none_due-without, none_whole-after, none_whole-released}
 use Rattle.clnp_options.specs.Parameter.{Parameter}
 use Rattle.pdu_header.specs.declared.kind.Kind.{Kind}
 use Rattle.pdu_header.specs.declared.kind.Kind.TheVariants.{Dt, Er, Erq, Erp}
@@ -34,6 +33,7 @@ use Rattle.local_entity.specs.Receipt.{IsShown, with_answer}
 use Rattle.local_entity.proofs.Joined.{data_shown}
 use Rattle.local_entity.proofs.Offers.{AllKept, all_after, all_found, all_without}
 use Rattle.local_entity.proofs.Shown.{Show, after_shown, answer_shown, buffer_of_shown, without_shown}
+use Rattle.local_entity.proofs.Buffers.{none_due-after, none_due-without, none_whole-after, none_whole-released}
 
 -- the entity with another table stands for the system with other buffers
 pub stands_with : (local : EntityState) (later : TableState) (s : SystemState) → Stands local s → later.limits ≡ local.table.limits

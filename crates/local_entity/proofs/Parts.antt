@@ -6,7 +6,7 @@ use Rattle.clnp_options.specs.Rules.{IsWellFormed}
 use Rattle.pdu_header.specs.declared.pdu.SegPart.{SegPart}
 use Rattle.pdu_header.specs.declared.header.HeaderRefusal.TheVariants.{HeaderTooLong}
 use Rattle.pdu_header.specs.Parts.{too_long}
-use Rattle.pdu_header.proofs.Written.{options_spelled}
+pub use Rattle.pdu_header.proofs.Written.{length-header, options_spelled}
 
 -- options have as many octets as they spell
 pub options_size : (octets options : List ℕ) → octets ≡ options → IsWellFormed octets → length (spelled (parameters options)) ≡ length octets

@@ -11,7 +11,6 @@ use Rattle.pdu_header.specs.Grammar.{BeginsWith, FitsUnit, IsSegment}
 use Rattle.pdu_header.specs.Spelling.{header, header_length, type_code}
 use Rattle.pdu_header.specs.Value.{PduValue, SegmentationPart}
 use Rattle.pdu_header.specs.View.{part_value, pdu_value}
-use Rattle.pdu_header.proofs.Written.{length-header}
 use Rattle.reassembly.specs.Arrival.{arrival_of}
 use Rattle.reassembly.specs.Mapped.{map_arrival}
 use Rattle.reassembly.specs.Offered.{MayCome}
@@ -21,6 +20,7 @@ use Rattle.clnp_machine.specs.Content.{Labelled}
 use Rattle.clnp_machine.specs.System.{SystemState}
 use Rattle.clnp_machine.specs.Local.{hand_up, identifier_in, is_all, offer, offered, receive}
 use Rattle.local_entity.specs.Receipt.{IsShown, segment_in, segment_part}
+use Rattle.local_entity.proofs.Parts.{length-header}
 
 -- the PDU at the front of a frame is that of the packet with whose octets the frame begins
 pub value_is : CarriesOnePacket → (frame : List ℕ) (v : PduValue) (rest : List ℕ) → BeginsWith frame v rest → (p : Packet) (following : List ℕ) → IsCarriable p

@@ -7,15 +7,10 @@ use Rattle.std.specs.Option.{option_or}
 use Rattle.clnp_machine.specs.Identifiers.{Use, Identifiers, NotDrawn, IsQuiet, last_use, next, busy, not_drawn, after_drawing, drawn, opening}
 use Rattle.local_entity.specs.Apart.{IsLater, AreApart, drawn_at}
 use Rattle.local_entity.proofs.Uses.{moment_for, moment_there}
-
-busy_rested : (now reuse used : ℕ) → busy now reuse (Some used) ≡ None → used + reuse ≤ now
-busy_rested now reuse used idle = grind (arith, nat_tests)
+use Rattle.local_entity.proofs.Uses.{busy_rested, past_quiet}
 
 pub quiet_time : (now : ℕ) (ids : Identifiers) → now < ids.quiet → not_drawn now ids ≡ Some (IsQuiet ids.quiet)
 quiet_time now ids early = grind (arith, nat_tests)
-
-past_quiet : (now quiet : ℕ) (later : Option NotDrawn) → cond (nat_lt now quiet) (Some (IsQuiet quiet)) later ≡ None → (quiet ≤ now) × (later ≡ None)
-past_quiet now quiet later idle = grind (arith, nat_tests)
 
 pub quiet_over : (now : ℕ) (ids : Identifiers) → not_drawn now ids ≡ None → ids.quiet ≤ now
 quiet_over now ids idle = (past_quiet now ids.quiet (busy now ids.reuse (last_use (next ids) ids.uses)) idle).0

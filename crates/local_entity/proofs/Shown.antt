@@ -8,8 +8,8 @@ use Rattle.reassembly.specs.declared.table.TableLimits.{TableLimits}
 use Rattle.reassembly.specs.Arrival.{Arrival}
 use Rattle.reassembly.specs.Buffer.{Buffer, after, answer, buffer_of, due, held, without}
 use Rattle.reassembly.specs.Mapped.{map_arrival, map_buffer, map_buffers}
-use Rattle.reassembly.proofs.Shared.{after-mapped, answer-mapped, buffer_of-mapped, due-mapped, held-mapped, without-mapped}
 use Rattle.clnp_machine.specs.Unit.{Packet, wire}
+use Rattle.local_entity.proofs.Buffers.{after-mapped, answer-mapped, buffer_of-mapped, due-mapped, held-mapped, without-mapped}
 
 -- the buffers show the octets of others
 abbrev pub Show : List (Buffer Extent) → List (Buffer Packet) → Type 0

@@ -8,7 +8,6 @@ use Rattle.reassembly.specs.Arrival.{same_key}
 use Rattle.reassembly.specs.Buffer.{Buffer, due, is_whole, without, without_due}
 use Rattle.reassembly.specs.State as table
 use Rattle.reassembly.specs.State.{IsReady, TableState}
-use Rattle.reassembly.proofs.Shared.{due_is, none_whole-without_due, same_key-like}
 use Rattle.clnp_machine.specs.System.{SystemState}
 use Rattle.clnp_machine.specs.Local.{Deed, at_moment, expire, tick}
 use Rattle.local_entity.specs.declared.action.Action.{Action}
@@ -17,6 +16,7 @@ use Rattle.local_entity.specs.Local.{Appends, Stands}
 use Rattle.local_entity.proofs.Appending.{appends-more}
 use Rattle.local_entity.proofs.Expiry.{expire-ended, expire-moment, expire-more, none_due}
 use Rattle.local_entity.proofs.Shown.{length_shown}
+use Rattle.local_entity.proofs.Buffers.{due_is, none_whole-without_due, same_key-like}
 
 -- at another moment it stands for the same
 at_that_moment : (local : EntityState) (s : SystemState) (now : ℕ) → Stands local s → Stands local (at_moment now s)

@@ -9,9 +9,9 @@ use Rattle.reassembly.specs.Arrival.{Arrival, are_covered, arrival_of, data_len,
 use Rattle.reassembly.specs.Buffer.{Buffer, Whole, after, answer, but_last, buffer_of, holding, is_whole, undone, with_kept}
 use Rattle.reassembly.specs.Ending.{is_empty, without_last}
 use Rattle.reassembly.specs.State.{Stands, TableState, opening_of, segments_of}
-use Rattle.reassembly.proofs.LawBuffers.{but_last-push}
-use Rattle.reassembly.proofs.Shared.{made_whole, same_key-like}
 use Rattle.local_entity.proofs.Completed.{completed}
+use Rattle.std.proofs.lemmas.Option.{same_Some}
+use Rattle.local_entity.proofs.Buffers.{made_whole, same_key-like, but_last-push}
 
 module _ {C : Type 0} where
   has_place : (arrival : Arrival C) (n place : ℕ) → are_covered (arrival ∷ []) 0 n ≡ true → place < n → has place arrival ≡ true
@@ -27,9 +27,6 @@ module _ {C : Type 0} where
       let low = leb-true arrival.offset 0 first.0 in
       let high = ltb-true arrival.len (arrival.offset + arrival.len) last.1 in
       omega arith
-
-  same_buffer : (a b : Buffer C) → Some a ≡ Some b → a ≡ b
-  same_buffer a b e = cc
 
   not_alone : (buffer : Buffer C) (arrival : Arrival C) → buffer.kept ≡ arrival ∷ [] → data_len buffer.shape ≡ data_len arrival.shape
       → arrival.len < data_len arrival.shape → is_whole buffer ≡ true → ⊥
@@ -47,11 +44,11 @@ module _ {C : Type 0} where
       → buffer_of arrival.key (with_kept limits now arrival buffers) ≡ Some buffer → data_len buffer.shape ≡ data_len arrival.shape
       → is_whole buffer ≡ true → arrival.len < data_len arrival.shape → undone arrival.key (with_kept limits now arrival buffers) ≡ buffers
   undone_with limits now arrival [] buffer found size whole part =
-      let e = same_buffer _ buffer (rw (same_key-like arrival.key arrival.key refl) at found) in
+      let e = same_Some _ buffer (rw (same_key-like arrival.key arrival.key refl) at found) in
       absurd (not_alone buffer arrival (ap (λ (b : Buffer C). b.kept) (sym e)) size part whole)
   undone_with limits now arrival (first ∷ others) buffer found size whole part =
       elim (cases_Bool (same_key first.key arrival.key)) [
-        | inl same ↦ (let e = same_buffer (record first { kept = first.kept ++ arrival ∷ [] }) buffer (rw same at (rw same at found)) in
+        | inl same ↦ (let e = same_Some (record first { kept = first.kept ++ arrival ∷ [] }) buffer (rw same at (rw same at found)) in
             rw (same, same) (ap (λ (front : List (Buffer C)). front ++ others) (by first.kept refl e)))
         | inr other ↦ rw (other, other) (ap (λ (rest : List (Buffer C)). first ∷ rest)
             (undone_with limits now arrival others buffer (rw other at (rw other at found)) size whole part))

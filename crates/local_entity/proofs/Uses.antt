@@ -4,10 +4,7 @@ use Rattle.std.proofs.lemmas.Bool.Decides.{eqb_tells}
 use Rattle.std.specs.Option.{option_or}
 use Rattle.clnp_base.proofs.Choices.{option_or-assoc, option_or-nothing}
 use Rattle.clnp_machine.specs.Identifiers.{Use, last_use}
-
--- the moment of a use, where it is one of this identifier
-abbrev pub moment_for : ℕ → Use → Option ℕ
-moment_for identifier given = if given.identifier == identifier then Some given.moment else None
+pub use Rattle.clnp_machine.proofs.Resting.{busy_rested, moment_for, moment_there, past_quiet}
 
 pub last_use-push : (identifier : ℕ) (uses : List Use) (given : Use)
     → last_use identifier (uses ++ given ∷ []) ≡ option_or (moment_for identifier given) (last_use identifier uses)
@@ -15,9 +12,6 @@ last_use-push identifier [] given = option_or-nothing (moment_for identifier giv
 last_use-push identifier (first ∷ later) given =
     ap (λ found. option_or found (moment_for identifier first)) (last_use-push identifier later given)
     ∙ option_or-assoc (moment_for identifier given) (last_use identifier later) (moment_for identifier first)
-
-pub moment_there : (identifier : ℕ) (given : Use) → given.identifier ≡ identifier → moment_for identifier given ≡ Some given.moment
-moment_there identifier given same = grind (arith, eqb_tells given.identifier identifier)
 
 pub moment_elsewhere : (identifier : ℕ) (given : Use) → given.identifier ≢ identifier → moment_for identifier given ≡ None
 moment_elsewhere identifier given other = grind (arith, eqb_tells given.identifier identifier)

@@ -9,7 +9,7 @@ use error_reports::read;
 use pdu_header::{Kind, Pdu};
 
 /// What a unit is for, once it is whole.
-#[derive(Clone, Copy, Debug, PartialEq, Eq)]
+#[derive(Clone, Copy, PartialEq, Eq)]
 pub enum Purpose {
     /// Its data are handed up.
     Data,

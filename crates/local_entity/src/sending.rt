@@ -24,7 +24,7 @@ use nsap::Target;
 use segmenter::{Cut, Cuts, NotPermitted};
 
 /// Where a PDU goes next: the number of a port, and whom a frame is for on its subnetwork.
-#[derive(Clone, Copy, Debug, PartialEq, Eq)]
+#[derive(Clone, Copy, PartialEq, Eq)]
 pub struct Hop {
     pub port: u8,
     pub target: Target,

@@ -122,7 +122,7 @@ fn writes_nothing_where_the_source_of_a_scenario_fails(rt: HostRuntime) -> Resul
 }
 
 /// A sink that counts the octets that it takes, and keeps none.
-#[derive(Debug, Drop)]
+#[derive(Drop)]
 struct Counter {
     octets: u64,
 }

@@ -9,24 +9,10 @@ use Rattle.hex.proofs.HexLemmas.{IsDigits-lower_digits, decode_of-encode_lower, 
 use Rattle.nsap.specs.Address.{IsAddress, address_of}
 use Rattle.nsap.specs.Text.{address_spelled, bad_digit, hex_text, is_dot, may_stand, octets_of, octets_or_fault, without_dots}
 use Rattle.nsap.proofs.TextFacts.{read_good}
+use Rattle.nsap.proofs.Digits.{digit_no_dot, digit_may_stand}
 
 abbrev digit : ℕ → Type 0
 digit c = is_hex_digit c ≡ true
-
--- a hexadecimal digit is no dot
-digit_no_dot : (c d : ℕ) → hex_digit_value c ≡ Some d → is_dot c ≡ false
-digit_no_dot c d digit =
-    elim (cases_eq c 46) [
-      | inl dot ↦ let none : hex_digit_value c ≡ None = ap hex_digit_value dot in cc (digit, none)
-      | inr other ↦ ne_eqb c 46 other
-    ]
-
--- a hexadecimal digit may stand in a text
-digit_may_stand : (c d : ℕ) → hex_digit_value c ≡ Some d → may_stand c ≡ true
-digit_may_stand c d digit =
-    let no = digit_no_dot c d digit in
-    let yes : is_hex_digit c ≡ true = ap is_some digit in
-    rw (no, yes) refl
 
 -- the hexadecimal text has no bad character
 pub no_bad_digit : (i : ℕ) (octets : List ℕ) → IsBytes octets

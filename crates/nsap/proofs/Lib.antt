@@ -1,3 +1,4 @@
+pub mod Digits
 pub mod HexTextFacts
 pub mod PrefixFacts
 pub mod PrefixTexts

@@ -5,6 +5,7 @@ use Rattle.std.proofs.lemmas.List.{length-map, length-take-le, take_all}
 use Rattle.hex.specs.Hex.{IsBytes}
 use Rattle.nsap.specs.Address.{IsAddress}
 use Rattle.nsap.specs.Prefix.{IsPrefix, digit_value, digits_of}
+use Rattle.nsap.proofs.Digits.{values_small}
 
 pub length-digits_of : (octets : List ℕ) → length (digits_of octets) ≡ 2 * length octets
 length-digits_of [] = refl
@@ -34,14 +35,6 @@ pub IsPrefix-whole : (items octets digits : List ℕ) (i : ℕ) → digits ≡ d
     → items ≡ octets → IsAddress octets → IsPrefix digits
 IsPrefix-whole items octets digits i so_far end same address =
     subst IsPrefix (sym (so_far ∙ ap digits_of (take_all i items end ∙ same))) (IsPrefix-digits_of octets address)
-
-value_small : (c : ℕ) → digit_value c < 16
-value_small c = grind arith
-
-values_small : (digits : List ℕ) (i : ℕ) → slice_index (map digit_value digits) i < 16
-values_small [] i = omega arith
-values_small (digit ∷ rest) zero = value_small digit
-values_small (digit ∷ rest) (suc i) = values_small rest i
 
 -- the values of at most forty digits
 pub IsPrefix-values : (digits values : List ℕ) (n : ℕ) → n ≤ 40 → length digits ≡ 40 → values ≡ map digit_value (take n digits)

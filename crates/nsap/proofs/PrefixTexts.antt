@@ -11,6 +11,7 @@ use Rattle.nsap.specs.Address.{IsAddress}
 use Rattle.nsap.specs.Prefix.{covers, digit_value, digits_of, is_star, prefix_of, prefix_or_fault, prefix_spelled}
 use Rattle.nsap.specs.Text.{hex_text, without_dots}
 use Rattle.nsap.proofs.HexTextFacts.{no_bad_digit, no_dots}
+use Rattle.nsap.proofs.Digits.{spelled_few}
 
 -- the digits that are written of octets are worth the digits of these
 values_of_octets : (octets : List ℕ) → IsBytes octets → map digit_value (encode_with lower_digits octets) ≡ digits_of octets
@@ -28,10 +29,6 @@ not_star : (octets : List ℕ) → is_star (hex_text octets) ≡ false
 not_star octets = false_from_ne_true (is_star (hex_text octets)) (λ star.
     let same = ap length ((bytes_eq-Decides (hex_text octets) (codes "*")).0 star) in
     omega (arith, same, length-encode_with lower_digits octets))
-
--- at most forty digits spell a prefix
-spelled_few : (digits : List ℕ) → length digits ≤ 40 → prefix_spelled digits ≡ Ok (map digit_value digits)
-spelled_few digits few = grind (arith)
 
 prefix_known : (digits values : List ℕ) → length digits ≤ 40 → map digit_value digits ≡ values → prefix_spelled digits ≡ Ok values
 prefix_known digits values few are = spelled_few digits few ∙ (rw are refl)

@@ -2,7 +2,7 @@
 use crate::snpa::Snpa;
 
 /// Whom a PDU is given to on a subnetwork (ISO 9542).
-#[derive(Clone, Copy, Debug, PartialEq, Eq)]
+#[derive(Clone, Copy, PartialEq, Eq)]
 pub enum Target {
     /// One system, at its point of attachment.
     System(Snpa),

@@ -114,25 +114,3 @@ range_is_good size total data_end false h =
     let same : data_end ≡ total - size = h.ends.0 refl in
     let holds : size ≤ total = h.holds_header in
     grind (arith, nat_tests)
-
--- the checksum isn't in use, or it is right
-pub checksum_parts : (head : List ℕ) → has_right_checksum head ≡ true → ((octet head 8 ≡ 0) × (octet head 9 ≡ 0)) ⊎ IsSealed head
-checksum_parts head h = by_octet_8 (octet head 8 == 0) refl
-  where
-    by_octet_8 : (b : Bool) → (octet head 8 == 0) ≡ b → ((octet head 8 ≡ 0) × (octet head 9 ≡ 0)) ⊎ IsSealed head
-    by_octet_8 true e = inl (is_equal _ _ e, grind (arith, nat_tests))
-    by_octet_8 false e = inr (record {
-      octet_8 = not_equal _ _ e;
-      octet_9 = λ z. grind (arith, nat_tests);
-      sum = grind (arith, nat_tests);
-      weighted_sum = grind (arith, nat_tests);
-    })
-
-pub unused_is_right : (head : List ℕ) → octet head 8 ≡ 0 → octet head 9 ≡ 0 → has_right_checksum head ≡ true
-unused_is_right head x y = grind (arith, nat_tests)
-
-pub sealed_is_right : (head : List ℕ) → IsSealed head → has_right_checksum head ≡ true
-sealed_is_right head h =
-    let octet_8 : octet head 8 ≢ 0 = h.octet_8 in
-    let octet_9 : octet head 9 ≢ 0 = h.octet_9 in
-    grind (arith, nat_tests, h.sum, h.weighted_sum)

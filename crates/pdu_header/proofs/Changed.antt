@@ -4,7 +4,6 @@ use Rattle.std.specs.Prelude.{◌⊎◌, if◌then◌else◌, bit_and, bit_or, s
 use Rattle.std.proofs.lemmas.List.{get_or-append-add, get_or-set_other}
 use Rattle.clnp_base.proofs.Lists.{set_pair}
 use Rattle.fletcher.specs.Checksum.{octet}
-use Rattle.fletcher.proofs.ChecksumLaws.{sealed_other}
 use Rattle.clnp_options.specs.Parameter.{spelled}
 use Rattle.pdu_header.specs.Value.{SegmentationPart, PduValue}
 use Rattle.pdu_header.specs.Spelling.{pair_of, counted, flags_and_type, header, header_length, segment_length, segmentation_octets, unsealed_header}
@@ -13,6 +12,7 @@ use Rattle.pdu_header.specs.Parts.{FitsRange, checked}
 use Rattle.pdu_header.specs.Headers.{SpellsHeader, MayCarry, with_lifetime, with_segment, at_offset, with_pair}
 use Rattle.pdu_header.proofs.Written.{length-header}
 use Rattle.pdu_header.proofs.MoreFlag.{flags_changed}
+use Rattle.pdu_header.proofs.Shape.{sealed_other}
 
 -- a change in the octets but the checksum, which is adjusted
 abbrev pub Changes : List ℕ → List ℕ → (List ℕ → List ℕ) → Type 0
@@ -20,7 +20,7 @@ Changes old new change = (is_sealed : Bool) (plain : List ℕ) → octet plain 8
 
 -- ---- the lifetime
 
-segment_kept : (v : PduValue) (life : ℕ) (part : Option SegmentationPart) → IsSegment v part → IsSegment (with_lifetime life v) part
+pub segment_kept : (v : PduValue) (life : ℕ) (part : Option SegmentationPart) → IsSegment v part → IsSegment (with_lifetime life v) part
 segment_kept v life None h = h
 segment_kept v life (Some part) h = record {
   identifier = h.identifier;

@@ -5,6 +5,7 @@ use Rattle.std.proofs.lemmas.Grind.{common_steps}
 use Rattle.pdu_header.specs.Spelling.{counted, pair_of}
 use Rattle.pdu_header.specs.Rules.{octet, pair_at}
 use Rattle.pdu_header.specs.Reading.{address_at}
+use Rattle.pdu_header.proofs.Shape.{pair_again, pair_of_octets}
 
 -- each is an octet
 abbrev pub AreOctets : List ℕ → Type 0
@@ -46,9 +47,6 @@ pub record HasPair (head : List ℕ) (place n : ℕ) (rest : List ℕ) : Type 0 
   pub behind : drop (place + 1) head ≡ rest
   pub within : place + 1 + length rest ≡ length head
 
-pub pair_again : (high low n : ℕ) → n < 2 ^ 16 → pair_of n ≡ high ∷ low ∷ [] → 256 * high + low ≡ n
-pair_again high low n fits e = omega (arith, ap (λ xs. get_or xs 0 0) e, ap (λ xs. get_or xs 1 0) e)
-
 pub pair_here : (head : List ℕ) (i place n : ℕ) (rest : List ℕ) → place ≡ i + 1 → n < 2 ^ 16 → drop i head ≡ pair_of n ++ rest
     → HasPair head place n rest
 pair_here head i place n rest at fits e =
@@ -79,9 +77,6 @@ address_split head i place at low high =
           ∙ ap (λ xs. length (address_at head place) ∷ xs) parts,
       size,
     )
-
-pub pair_of_octets : (high low : ℕ) → high < 256 → low < 256 → pair_of (256 * high + low) ≡ high ∷ low ∷ []
-pair_of_octets high low at_high at_low = grind (arith, common_steps)
 
 pub pair_split : (head : List ℕ) (i place : ℕ) → AreOctets head → place ≡ i + 1 → place + 1 ≤ length head
     → drop i head ≡ pair_of (pair_at head place) ++ drop (place + 1) head

@@ -9,11 +9,7 @@ use Rattle.clnp_options.specs.Parameter.{Parameter, parameters, spelled}
 use Rattle.clnp_options.specs.Rules.{Accepts, IsWellFormed}
 use Rattle.clnp_base.specs.Inline.{IsInline, len_again}
 use Rattle.pdu_header.specs.Headers.{IsEdited}
-
--- a part written by as many octets keeps the number of cells
-pub length-put : (at : ℕ) (cells piece : List ℕ) → at + length piece ≤ length cells → length (put_mid at (length piece) cells piece) ≡ length cells
-length-put at cells piece h =
-    omega (arith, length-append (take at cells) (piece ++ drop (length piece) (drop at cells)), length-append piece (drop (length piece) (drop at cells)), length-drop (length piece) (drop at cells), length-drop at cells, length-take-le at cells (omega arith))
+use Rattle.clnp_base.proofs.Laid.{length-put}
 
 pub held_push : (len count : ℕ) (cells piece new : List ℕ) → IsInline 254 len cells → count ≡ length piece → len + length piece ≤ 254 → new ≡ piece → IsInline 254 (len + length piece) (put_mid len count cells new)
 held_push len count cells piece new h e room n =

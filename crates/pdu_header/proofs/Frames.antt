@@ -13,18 +13,9 @@ use Rattle.pdu_header.proofs.Fields.{AreOctets}
 use Rattle.clnp_base.proofs.Choices.{below_not, equal_is, if_none, none_if, not_below, not_equal, option_or-none, option_or-parts}
 use Rattle.pdu_header.proofs.Accepted.{accepted, accepting}
 use Rattle.pdu_header.proofs.Flags.{report_of_kind}
+use Rattle.pdu_header.proofs.Shape.{HasHeader, good_size, length_of_header, octet_of_header}
 use Rattle.pdu_header.proofs.Spelled.{IsHeader, octets_of_take, header_is, spelled_as}
 use Rattle.pdu_header.proofs.Read.{read_as}
-
--- a header lies at the front of the frame
-pub record HasHeader (frame : List ℕ) : Type 0 where
-  pub long : 9 ≤ length frame
-  pub size : 9 ≤ header_size frame
-  pub not_reserved : header_size frame ≢ 255
-  pub within : header_size frame ≤ length frame
-
-pub good_size : (n : ℕ) → (nat_lt n 9 || n == 255) ≡ false → (9 ≤ n) × (n ≢ 255)
-good_size n h = (grind (arith, nat_tests), λ e. grind (arith, nat_tests))
 
 pub has_header : (frame : List ℕ) → extent_refusal frame ≡ None → HasHeader frame
 unfolding extent_refusal
@@ -46,12 +37,6 @@ header_here frame h =
     let not_reserved : header_size frame ≢ 255 = h.not_reserved in
     let reserved : (nat_lt (header_size frame) 9 || header_size frame == 255) ≡ false = grind (arith, nat_tests) in
     none_if _ _ _ (below_not _ _ h.long) (none_if _ _ _ reserved (none_if _ _ _ (below_not _ _ h.within) refl))
-
-pub length_of_header : (frame : List ℕ) → HasHeader frame → length (header_of frame) ≡ header_size frame
-length_of_header frame h = length-take-le (header_size frame) frame h.within
-
-pub octet_of_header : (frame : List ℕ) (i : ℕ) → HasHeader frame → i < 9 → get_or (header_of frame) i 0 ≡ get_or frame i 0
-octet_of_header frame i h low = get_or-take (header_size frame) frame i 0 (omega (arith, h.size))
 
 -- the header of a frame that breaks no rule
 pub header_stands : (frame : List ℕ) → AreOctets frame → octet frame 1 ≡ 0x81 → refusal frame ≡ None → IsHeader (header_of frame) (length frame)

@@ -3,7 +3,6 @@ use Rattle.std.proofs.Common.{◌≡◌, ℕ, ◌+◌, ◌-◌, ◌*◌, ◌^◌
 use Rattle.std.specs.Prelude.{nat_lt}
 use Rattle.nsap.specs.Address.{IsAddress}
 use Rattle.fletcher.specs.Checksum.{IsSealed, sealed}
-use Rattle.fletcher.proofs.ChecksumLaws.{sealed_is}
 use Rattle.clnp_options.specs.Parameter.{Parameter, parameters, spelled}
 use Rattle.pdu_header.specs.declared.kind.Kind.{Kind}
 use Rattle.pdu_header.specs.declared.kind.Kind.TheVariants.{Dt}
@@ -16,11 +15,11 @@ use Rattle.pdu_header.specs.Spelling.{counted, pair_of, segmentation_octets, var
 use Rattle.pdu_header.specs.Grammar.{is_report, IsSegment, IsPdu}
 use Rattle.pdu_header.specs.Rules.{octet, pair_at, type_of, kind_of, is_segmented, has_more, has_right_checksum, wants_report, source_place, part_place, options_place, segment_size, is_bad_address, data_size, is_unfit_range, is_bad_range, options_part}
 use Rattle.pdu_header.specs.Reading.{address_at, segmentation_at, value_of}
-use Rattle.pdu_header.proofs.Fields.{HasAddress, address_here, pair_here, pair_again}
+use Rattle.pdu_header.proofs.Fields.{HasAddress, address_here, pair_here}
 use Rattle.clnp_base.proofs.Choices.{below_not}
-use Rattle.pdu_header.proofs.Accepted.{IsAccepted, within_is, range_is_good, unused_is_right, sealed_is_right}
+use Rattle.pdu_header.proofs.Accepted.{IsAccepted, within_is, range_is_good}
 use Rattle.pdu_header.proofs.Flags.{kind_read, kind_of_code, code_is_small, report_of_code, AreFlags, flags_read}
-use Rattle.pdu_header.proofs.Shape.{sealed_layout, pair_is_zero, pair_is_used}
+use Rattle.pdu_header.proofs.Shape.{sealed_layout, pair_is_zero, pair_is_used, pair_again, unused_passes, sealed_passes, sealed_is}
 
 -- how the header of a value is laid out
 pub record IsLaidOut (head : List ℕ) (v : PduValue) : Type 0 where
@@ -43,7 +42,7 @@ laid_out v = by_flag v.sealed refl
           x = shape.0;
           y = shape.1;
           layout = shape.2;
-          checksum = sealed_is_right head is;
+          checksum = sealed_passes head is;
           sealed_is = pair_is_used head is.octet_8 ∙ sym e;
         })
     by_flag false e =
@@ -53,7 +52,7 @@ laid_out v = by_flag v.sealed refl
           x = 0;
           y = 0;
           layout = refl;
-          checksum = unused_is_right head refl refl;
+          checksum = unused_passes head refl refl;
           sealed_is = pair_is_zero head refl refl ∙ sym e;
         })
 

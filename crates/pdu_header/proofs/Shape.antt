@@ -1,9 +1,13 @@
 -- A header as its nine octets and what follows them, with a checksum and without.
-use Rattle.std.proofs.Common.{◌≡◌, ◌≢◌, ℕ, ◌<◌, ◌≤◌, ◌==◌, not, true, false, List, ◌∷◌, ◌++◌, length, drop, get_or, refl, sym, ◌∙◌, ap, arith}
+use Rattle.std.proofs.Common.{◌≡◌, ◌≢◌, ℕ, ◌+◌, ◌*◌, ◌^◌, ◌<◌, ◌≤◌, ◌==◌, ◌||◌, nat_lt, not, true, false, List, [], ◌∷◌, ◌++◌, length, take, drop, get_or, length-take-le, get_or-take, refl, sym, ◌∙◌, ap, arith}
 use Rattle.std.proofs.lemmas.Bool.Decides.{nat_tests}
+use Rattle.std.proofs.lemmas.Grind.{common_steps}
 use Rattle.fletcher.specs.Checksum.{IsSealed, sealed, with_checksum, without_checksum}
-use Rattle.fletcher.proofs.ChecksumLaws.{sealed_shares, sealed_of_bare, with_checksum_same}
-use Rattle.pdu_header.specs.Rules.{octet, pair_at}
+-- whether a checksum is right, as it is tested
+pub use Rattle.fletcher.proofs.Test.{right_from_test, unused_passes, sealed_passes}
+use Rattle.pdu_header.specs.Spelling.{pair_of}
+use Rattle.pdu_header.specs.Rules.{octet, pair_at, header_of, header_size}
+pub use Rattle.fletcher.proofs.ChecksumLaws.{length-sealed, sealed_is, sealed_of_bare, sealed_other, sealed_shares, with_checksum_same}
 
 pub nine_bare : (head : List ℕ) → 9 ≤ length head
     → without_checksum head
@@ -41,3 +45,25 @@ pair_is_zero head x y = grind (arith, nat_tests)
 
 pub pair_is_used : (head : List ℕ) → octet head 8 ≢ 0 → not (pair_at head 8 == 0) ≡ true
 pair_is_used head x = grind (arith, nat_tests)
+
+pub pair_again : (high low n : ℕ) → n < 2 ^ 16 → pair_of n ≡ high ∷ low ∷ [] → 256 * high + low ≡ n
+pair_again high low n fits e = omega (arith, ap (λ xs. get_or xs 0 0) e, ap (λ xs. get_or xs 1 0) e)
+
+pub pair_of_octets : (high low : ℕ) → high < 256 → low < 256 → pair_of (256 * high + low) ≡ high ∷ low ∷ []
+pair_of_octets high low at_high at_low = grind (arith, common_steps)
+
+-- a header lies at the front of the frame
+pub record HasHeader (frame : List ℕ) : Type 0 where
+  pub long : 9 ≤ length frame
+  pub size : 9 ≤ header_size frame
+  pub not_reserved : header_size frame ≢ 255
+  pub within : header_size frame ≤ length frame
+
+pub good_size : (n : ℕ) → (nat_lt n 9 || n == 255) ≡ false → (9 ≤ n) × (n ≢ 255)
+good_size n h = (grind (arith, nat_tests), λ e. grind (arith, nat_tests))
+
+pub length_of_header : (frame : List ℕ) → HasHeader frame → length (header_of frame) ≡ header_size frame
+length_of_header frame h = length-take-le (header_size frame) frame h.within
+
+pub octet_of_header : (frame : List ℕ) (i : ℕ) → HasHeader frame → i < 9 → get_or (header_of frame) i 0 ≡ get_or frame i 0
+octet_of_header frame i h low = get_or-take (header_size frame) frame i 0 (omega (arith, h.size))

@@ -11,10 +11,10 @@ use Rattle.pdu_header.specs.Spelling.{counted, pair_of, segmentation_octets, var
 use Rattle.pdu_header.specs.Grammar.{IsSegment, Spells}
 use Rattle.pdu_header.specs.Rules.{octet, pair_at, type_of, is_segmented, has_more, wants_report, source_place, part_place, options_place, segment_size, data_size, is_bad_range, options_part}
 use Rattle.pdu_header.specs.Reading.{address_at, segmentation_at, value_of}
-use Rattle.pdu_header.proofs.Fields.{AreOctets, address_split, pair_split, pair_of_octets}
-use Rattle.pdu_header.proofs.Accepted.{IsAccepted, IsWithin, within, good_range, checksum_parts}
+use Rattle.pdu_header.proofs.Fields.{AreOctets, address_split, pair_split}
+use Rattle.pdu_header.proofs.Accepted.{IsAccepted, IsWithin, within, good_range}
 use Rattle.pdu_header.proofs.Flags.{code_of_kind, report_of_kind, flags_again, flags_octet}
-use Rattle.pdu_header.proofs.Shape.{nine_bare, same_layout, sealing_again, bare_again, pair_is_zero, pair_is_used}
+use Rattle.pdu_header.proofs.Shape.{nine_bare, same_layout, sealing_again, bare_again, pair_is_zero, pair_is_used, pair_of_octets, right_from_test}
 
 pub octets_of_drop : (xs : List ℕ) (n : ℕ) → AreOctets xs → AreOctets (drop n xs)
 octets_of_drop xs n h = λ i. grind (arith, common_steps, h (n + i))
@@ -106,7 +106,7 @@ bare_is head body n h fills =
 pub header_is : (head body : List ℕ) (n : ℕ) → IsHeader head n → length body ≡ data_size head → head ≡ header (value_of head body)
 header_is head body n h fills =
     let bare = nine_bare head h.long ∙ sym (bare_is head body n h fills) in
-    elim (checksum_parts head h.accepted.checksum) [
+    elim (right_from_test head h.accepted.checksum) [
       | inl unused ↦ rw (pair_is_zero head unused.0 unused.1) (bare_again head (unsealed_header (value_of head body)) bare unused.0 unused.1)
       | inr sealed ↦ rw (pair_is_used head sealed.octet_8) (sealing_again head (unsealed_header (value_of head body)) h.long (h.bytes 7) (h.bytes 8) bare sealed)
     ]

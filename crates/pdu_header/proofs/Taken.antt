@@ -6,9 +6,9 @@ use Rattle.std.proofs.lemmas.List.{set-get_or, get_or-drop, length-drop, drop_al
 use Rattle.std.proofs.lemmas.List.Edits.{paste_none, paste_more, paste_all}
 use Rattle.std.proofs.lemmas.Grind.{common_steps}
 use lib.Seq.{paste}
-use Rattle.fletcher.proofs.ChecksumLaws.{length-sealed}
 use Rattle.pdu_header.specs.Parts.{checked}
 use Rattle.pdu_header.proofs.Changed.{octet_in}
+use Rattle.pdu_header.proofs.Shape.{length-sealed}
 
 -- the octets of the copy stand from `start` up to the index
 abbrev pub taken : List ℕ → List ℕ → ℕ → ℕ → List ℕ

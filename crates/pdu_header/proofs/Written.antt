@@ -2,7 +2,6 @@
 use Rattle.std.proofs.Common.{◌≡◌, ◌∙◌, refl, sym, ap, subst, ℕ, ◌+◌, ◌≤◌, Bool, true, false, is_some, Option, None, Some, List, [], ◌∷◌, ◌++◌, length, arith, length-append, append_assoc}
 use Rattle.std.specs.Prelude.{option_map}
 use Rattle.fletcher.specs.Checksum.{sealed}
-use Rattle.fletcher.proofs.ChecksumLaws.{length-sealed}
 use Rattle.clnp_options.specs.Parameter.{parameters, spelled}
 use Rattle.clnp_options.specs.Rules.{IsWellFormed}
 use Rattle.clnp_options.proofs.Agree.{forms_of}
@@ -14,6 +13,7 @@ use Rattle.pdu_header.specs.Grammar.{IsSegment, IsPdu, Spells}
 use Rattle.pdu_header.specs.Parts.{AreFit, AreNumbers, AreTyped, FitsSegment, parts_length, parts_value}
 use Rattle.pdu_header.specs.View.{part_value}
 use Rattle.pdu_header.specs.Headers.{IsHeader, SpellsHeader}
+use Rattle.pdu_header.proofs.Shape.{length-sealed}
 
 pub spelled_again : (options : List ℕ) → IsWellFormed options → spelled (parameters options) ≡ options
 spelled_again options h = sym (forms_of options h).octets

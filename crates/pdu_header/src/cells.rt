@@ -14,7 +14,7 @@ use crate::layout::MOST_HEADER;
 use std::marker::Model;
 
 /// Octets of a header. The cells past them are 0, so that one list of octets is one value.
-#[derive(Clone, Copy, PartialEq, Eq, Debug)]
+#[derive(Clone, Copy, PartialEq, Eq)]
 pub struct Cells {
     len: usize,
     octets: [u8; MOST_HEADER],

@@ -37,7 +37,7 @@ pub enum HeaderRefusal {
 ///
 /// A contract sees it as the list of its octets. They are the header of the PDUs that have a certain
 /// value; of the data the header tells the length alone.
-#[derive(Clone, Copy, PartialEq, Eq, Debug)]
+#[derive(Clone, Copy, PartialEq, Eq)]
 pub struct Header {
     cells: Cells,
 }

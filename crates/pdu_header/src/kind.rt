@@ -4,7 +4,7 @@ ghost use Rattle.pdu_header.specs.Rules as rules;
 ghost use Rattle.std.specs.Prelude.{◌≡◌};
 
 /// The kind of a PDU (ISO 8473, section 7.2.7; the echo PDUs by RFC 1575, section 4).
-#[derive(Clone, Copy, Debug, PartialEq, Eq)]
+#[derive(Clone, Copy, PartialEq, Eq)]
 pub enum Kind {
     /// Data.
     Dt,

@@ -4,7 +4,7 @@ use clnp_options::OptionList;
 use nsap::Address;
 
 /// What a header is made from (ISO 8473, section 7).
-#[derive(Clone, Copy, Debug)]
+#[derive(Clone, Copy)]
 pub struct Parts {
     /// The kind.
     pub kind: Kind,

@@ -2,7 +2,7 @@ use crate::kind::Kind;
 use nsap::Address;
 
 /// The segmentation part of a header (ISO 8473, section 7.4).
-#[derive(Clone, Copy, Debug, PartialEq, Eq)]
+#[derive(Clone, Copy, PartialEq, Eq)]
 pub struct SegPart {
     /// The data unit identifier, which all segments of a unit share.
     pub id: u16,
@@ -13,7 +13,7 @@ pub struct SegPart {
 }
 
 /// A PDU that stands at the front of a frame.
-#[derive(Clone, Copy, Debug)]
+#[derive(Clone, Copy)]
 pub struct Pdu<'a> {
     /// The kind.
     pub kind: Kind,
@@ -64,7 +64,7 @@ pub enum Refusal {
 }
 
 /// Where an error report goes, and how much of the frame it carries.
-#[derive(Clone, Copy, Debug, PartialEq, Eq)]
+#[derive(Clone, Copy, PartialEq, Eq)]
 pub struct ReportTo {
     /// The discarded PDU's source, to which the report goes.
     pub from: Address,

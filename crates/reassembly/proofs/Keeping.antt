@@ -18,7 +18,8 @@ use Rattle.reassembly.specs.State.{KeepsSegments, MayKeep, Stands, TableState, o
 use Rattle.reassembly.proofs.Keys.{same_key-like, same_key-sym}
 use Rattle.reassembly.proofs.Slots.{no_segments, openings_of-other, openings_of-same, slot_missing, slot_there}
 use Rattle.reassembly.proofs.Standing.{buffer_missing, buffer_there, of_found}
-use Rattle.reassembly.proofs.Opened.{all_at, all_push, openings_with-none, openings_with-some}
+use Rattle.reassembly.proofs.Opened.{all_push, openings_with-none, openings_with-some}
+use Rattle.clnp_base.proofs.Lists.{AllByRecursion-slice_get}
 
 -- the buffer has the segments of its key among these
 abbrev pub Keeps : List Segment → Buffer Extent → Type 0
@@ -161,7 +162,7 @@ pub none_or_one : (key : Key) (openings : List Opening) (slot : Option ℕ)
 none_or_one key openings None distinct e = inl (slot_missing key 0 openings e)
 none_or_one key openings (Some slot) distinct e =
     let there = slot_there key 0 slot openings e in
-    let one = all_at (λ (opening : Opening). openings_of opening.key openings ≡ 1) openings there.at there.opening distinct there.stands_at in
+    let one = AllByRecursion-slice_get (λ (opening : Opening). openings_of opening.key openings ≡ 1) openings there.at there.opening there.stands_at distinct in
     inr (subst (λ (k : Key). openings_of k openings ≡ 1) there.key_is one)
 
 -- the buffer of the segment's key, if there is one, is that of a unit of its shape

@@ -9,6 +9,7 @@ use Rattle.reassembly.specs.Buffer.{Buffer, buffer_of, refusal, with_kept, after
 use Rattle.reassembly.specs.Claims.{StaysWithDeadline, NoneIsEmpty}
 use Rattle.reassembly.proofs.Keys.{same_key-refl}
 use Rattle.reassembly.proofs.LawKept.{kept_or_not}
+use Rattle.std.proofs.lemmas.Option.{same_Some}
 
 module _ {C : Type 0} where
   -- the buffer of a key as it was, found among later buffers
@@ -17,9 +18,6 @@ module _ {C : Type 0} where
     pub found : buffer_of key later ≡ Some now
     pub opened : now.opened ≡ buffer.opened
     pub deadline : now.deadline ≡ buffer.deadline
-
-  same_buffer : (a b : Buffer C) → Some a ≡ Some b → a ≡ b
-  same_buffer a b e = cc
 
   there_with_kept : (limits : TableLimits) (now : ℕ) (arrival : Arrival C) (key : Key) (buffers : List (Buffer C)) (buffer : Buffer C)
       → buffer_of key buffers ≡ Some buffer → IsThere key (with_kept limits now arrival buffers) buffer
@@ -30,7 +28,7 @@ module _ {C : Type 0} where
             rw same
             (elim (cases_Bool (same_key first.key key)) [
               | inl is ↦
-                  let s = same_buffer first buffer (rw is at e) in
+                  let s = same_Some first buffer (rw is at e) in
                   record {
                     now = record first { kept = first.kept ++ arrival ∷ [] };
                     found = rw is;

@@ -6,6 +6,7 @@ use Rattle.std.proofs.lemmas.Bool.{cases_Bool, leb-true, leb-false, lt-leb}
 use Rattle.std.proofs.lemmas.List.Elements.{All-nil, All-cons, All-head, All-tail, All-weaker}
 use Rattle.reassembly.specs.Buffer.{Buffer, due, sooner}
 use Rattle.reassembly.specs.Claims.{IsDue}
+use Rattle.std.proofs.lemmas.Option.{same_Some}
 
 module _ {C : Type 0} where
   -- the due buffer of a list, where the first's time hasn't ended and where it has
@@ -32,9 +33,6 @@ module _ {C : Type 0} where
   due_of_none now (buffer ∷ others) all =
       due_later now buffer others (lt-leb buffer.deadline now (All-head (λ (b : Buffer C). now < b.deadline) buffer others all))
       ∙ due_of_none now others (All-tail (λ (b : Buffer C). now < b.deadline) buffer others all)
-
-  same_buffer : (a b : Buffer C) → Some a ≡ Some b → a ≡ b
-  same_buffer a b e = cc
 
   -- the due buffer of the others, with one that is later before them
   put_before : (now : ℕ) (buffer : Buffer C) (others : List (Buffer C)) (ended : Buffer C)
@@ -90,7 +88,7 @@ module _ {C : Type 0} where
       elim (cases_Bool (nat_le buffer.deadline now)) [
         | inl is ↦
             due_by now buffer others ended (due now others) refl (leb-true buffer.deadline now is)
-            (same_buffer (sooner buffer (due now others)) ended (sym (due_here now buffer others is) ∙ e))
+            (same_Some (sooner buffer (due now others)) ended (sym (due_here now buffer others is) ∙ e))
             (λ other f. due_is now others other f)
         | inr lasts ↦
             let is = due_is now others ended (sym (due_later now buffer others lasts) ∙ e) in

@@ -20,11 +20,6 @@ module _ {X : Type 0} where
   all_push P [] y all last = (last, tt)
   all_push P (x ∷ xs) y all last = (all.0, all_push P xs y all.1 last)
 
-  pub all_at : (P : X → Type 0) (xs : List X) (i : ℕ) (x : X) → AllByRecursion P xs → slice_get xs i ≡ Some x → P x
-  all_at P [] i x all e = absurd (cc)
-  all_at P (y ∷ ys) zero x all e = let f : y ≡ x = cc in subst P f all.0
-  all_at P (y ∷ ys) (suc i) x all e = all_at P ys i x all.1 e
-
   pub slice_get_push : (xs : List X) (y : X) → slice_get (xs ++ y ∷ []) (length xs) ≡ Some y
   slice_get_push [] y = refl
   slice_get_push (x ∷ xs) y = slice_get_push xs y

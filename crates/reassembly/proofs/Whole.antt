@@ -11,7 +11,7 @@ use Rattle.reassembly.specs.Offered.{openings_of}
 use Rattle.reassembly.specs.State.{Names, Stands, TableState, opening_of}
 use Rattle.reassembly.proofs.Keys.{same_key-like}
 use Rattle.reassembly.proofs.Slots.{openings_of-other, openings_of-same}
-use Rattle.reassembly.proofs.Opened.{all_at}
+use Rattle.clnp_base.proofs.Lists.{AllByRecursion-slice_get}
 
 -- an opening in the list is one of its key
 pub some_at : (openings : List Opening) (slot : ℕ) (opening : Opening) → slice_get openings slot ≡ Some opening → 1 ≤ openings_of opening.key openings
@@ -51,7 +51,7 @@ pub named_there : (table : TableState) (buffers : List (Buffer Extent)) (buffer 
     → buffer_of buffer.key buffers ≡ Some buffer → Names table slot buffer.key → slice_get table.openings slot ≡ Some (opening_of buffer)
 named_there table buffers buffer slot stands distinct found named =
     let one = subst (λ (k : Key). openings_of k table.openings ≡ 1) named.key_is
-    (all_at (λ (opening : Opening). openings_of opening.key table.openings ≡ 1) table.openings slot named.opening distinct named.stands_at) in
+    (AllByRecursion-slice_get (λ (opening : Opening). openings_of opening.key table.openings ≡ 1) table.openings slot named.opening named.stands_at distinct) in
     named.stands_at ∙ ap (λ (opening : Opening). Some opening)
     (opening_there buffer.key buffers slot named.opening buffer
     (subst (λ (openings : List Opening). openings_of buffer.key openings ≡ 1) stands.openings one) found

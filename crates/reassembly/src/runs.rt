@@ -10,7 +10,7 @@ use std::alloc::Global;
 use std::marker::Model;
 
 /// Places of a unit's data that stand side by side: a hole, or a piece that one kept segment fills.
-#[derive(Clone, Copy, Debug)]
+#[derive(Clone, Copy)]
 pub struct Run {
     pub from: u16,
     /// The place behind the last one.
@@ -22,7 +22,7 @@ pub struct Run {
 /// The runs of each open unit, in the order of their openings.
 ///
 /// A contract sees a list of runs for each unit, and for how many units and runs there is room.
-#[derive(Debug, Drop)]
+#[derive(Drop)]
 pub struct Runs {
     /// How many runs each unit has.
     counts: Vec<usize>,

@@ -9,7 +9,7 @@ use nsap::Address;
 
 /// What the segments of one data unit share: its addresses, and the data unit identifier
 /// (ISO/IEC 8473, sections 7.3 and 7.4).
-#[derive(Clone, Copy, Debug, PartialEq, Eq)]
+#[derive(Clone, Copy, PartialEq, Eq)]
 pub struct Key {
     pub from: Address,
     pub to: Address,
@@ -26,7 +26,7 @@ impl Key {
 }
 
 /// What must agree in all segments of a unit.
-#[derive(Clone, Copy, Debug, PartialEq, Eq)]
+#[derive(Clone, Copy, PartialEq, Eq)]
 pub struct Shape {
     /// The octets of the initial PDU: header and data of the unit (section 7.4.3).
     pub total: u16,
@@ -47,7 +47,7 @@ impl Shape {
 }
 
 /// A segment of a data unit.
-#[derive(Debug, Drop)]
+#[derive(Drop)]
 pub struct Segment {
     pub key: Key,
     pub shape: Shape,

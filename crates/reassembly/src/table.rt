@@ -21,7 +21,7 @@ use std::marker::Model;
 mod ending;
 
 /// The numbers that a table keeps to.
-#[derive(Clone, Copy, Debug, PartialEq, Eq)]
+#[derive(Clone, Copy, PartialEq, Eq)]
 pub struct TableLimits {
     /// The most buffers at a time.
     pub slots: u16,
@@ -34,11 +34,11 @@ pub struct TableLimits {
 }
 
 /// A buffer's place in its table, until the buffer is taken out.
-#[derive(Clone, Copy, Debug, PartialEq, Eq)]
+#[derive(Clone, Copy, PartialEq, Eq)]
 pub struct SlotNo(pub usize);
 
 /// What comes of a segment that is offered.
-#[derive(Clone, Copy, Debug, PartialEq, Eq)]
+#[derive(Clone, Copy, PartialEq, Eq)]
 pub enum Accept {
     /// It is kept, and its unit isn't whole yet.
     Held,
@@ -57,7 +57,7 @@ pub enum Accept {
 }
 
 /// A buffer whose time has ended.
-#[derive(Debug, Drop)]
+#[derive(Drop)]
 pub struct Expired {
     pub key: Key,
     /// The PDU of the earliest segment at the beginning of the unit, if one came.
@@ -65,7 +65,7 @@ pub struct Expired {
 }
 
 /// A buffer that is open.
-#[derive(Clone, Copy, Debug)]
+#[derive(Clone, Copy)]
 pub struct Opening {
     key: Key,
     shape: Shape,
@@ -77,7 +77,7 @@ pub struct Opening {
 /// they came, and for each open one the runs of its places.
 ///
 /// A contract sees what the table keeps; `Stands` says which buffers it stands for.
-#[derive(Debug, Drop)]
+#[derive(Drop)]
 pub struct Table {
     limits: TableLimits,
     openings: Vec<Opening>,

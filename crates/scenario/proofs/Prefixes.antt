@@ -8,14 +8,7 @@ use Rattle.nsap.specs.declared.fault.NsapFault.{NsapFault}
 use Rattle.nsap.specs.declared.fault.NsapFault.TheVariants.{TooManyDigits}
 use Rattle.scenario.specs.Words.{address_read, prefix_word}
 use Rattle.scenario.proofs.Behind.{either_way}
-
-value_small : (c : ℕ) → digit_value c < 16
-value_small c = grind arith
-
-values_small : (digits : List ℕ) (i : ℕ) → slice_index (map digit_value digits) i < 16
-values_small [] i = omega arith
-values_small (digit ∷ rest) zero = value_small digit
-values_small (digit ∷ rest) (suc i) = values_small rest i
+use Rattle.nsap.proofs.Digits.{values_small}
 
 no_digits : IsPrefix []
 no_digits = record { few = omega arith; small = λ i. omega arith }

@@ -10,7 +10,7 @@ use Rattle.std.proofs.lemmas.List.Sums.{sum_by-cons}
 use Rattle.std.proofs.lemmas.List.Concat.{flat_map-append}
 use Rattle.std.proofs.lemmas.List.Quantifiers.{position-Some}
 use Rattle.clnp_base.proofs.Lists.{AllByRecursion-get_or, AllByRecursion-implies}
-use Rattle.forwarding.proofs.Prefixes.{other_from, same_from}
+use Rattle.clnp_base.proofs.SameOctets.{other_from, same_from}
 use Rattle.clnp_plan.specs.Configuration.{SystemConfiguration}
 use Rattle.clnp_plan.specs.declared.config.PortConfig.{PortConfig}
 use Rattle.scenario.specs.Scenario.{Plan}

@@ -29,6 +29,7 @@ use Rattle.scenario.specs.Scenario.{IsTarget}
 use Rattle.scenario.specs.Words.{◌>>=◌, wanted, found, is_letter, is_letter_or_digit, is_name, declared_word, number_within, number_word, address_read, address_word, after_prefix, digits_read, has_prefix, target_word, frame_word, octets_behind, number_behind, is_skipped}
 use Rattle.scenario.specs.declared.code.Code.{Code}
 use Rattle.scenario.specs.declared.code.Code.TheVariants as bad
+use Rattle.clnp_base.proofs.Reading.{words_of-next}
 
 -- ---- words of a line
 
@@ -56,17 +57,14 @@ pub spelled : (word : List ℕ) → is_spelled word ≡ true → IsWord word
 spelled [] h = absurd (true≢false (sym h))
 spelled (c ∷ cs) h = record { some = omega arith; plain = plain_all (c ∷ cs) h }
 
-words_next : (c d : ℕ) (ds : List ℕ) → (c == 32) ≡ false → (d == 32) ≡ false → words_of (c ∷ (d ∷ ds)) ≡ onto_first c (words_of (d ∷ ds))
-words_next c d ds f g = rw (f, g) refl
-
 -- a word and what follows it, to the next space
 word_cut : (c : ℕ) (cs rest : List ℕ) → IsPlain c → AllByRecursion IsPlain cs → ends_word rest ≡ true → words_of (c ∷ (cs ++ rest)) ≡ (c ∷ cs) ∷ words_of rest
 word_cut c [] rest p h e = rw (ne_eqb c 32 (omega arith), e) refl
 word_cut c (d ∷ ds) rest p h e =
-    words_next c d (ds ++ rest) (ne_eqb c 32 (omega arith)) (ne_eqb d 32 (omega (arith, h.0)))
+    words_of-next c d (ds ++ rest) (ne_eqb c 32 (omega arith)) (ne_eqb d 32 (omega (arith, h.0)))
     ∙ ap (λ words. onto_first c words) (word_cut d ds rest h.0 h.1 e)
 
-ends_behind : (others : List (List ℕ)) → ends_word (flat_map behind_space others) ≡ true
+pub ends_behind : (others : List (List ℕ)) → ends_word (flat_map behind_space others) ≡ true
 ends_behind [] = refl
 ends_behind (word ∷ others) = refl
 

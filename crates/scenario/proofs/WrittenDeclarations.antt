@@ -13,7 +13,7 @@ use Rattle.nsap.specs.Prefix.{IsPrefix}
 use Rattle.nsap.specs.Text.{hex_text}
 use Rattle.forwarding.specs.Distinct as prefixes
 use Rattle.forwarding.specs.declared.route.Route.{Route}
-use Rattle.forwarding.proofs.Prefixes.{other-back}
+use Rattle.clnp_base.proofs.SameOctets.{other-back}
 use Rattle.clnp_plan.specs.Configuration.{AreLimits, HasItsAddresses, HasItsPorts, HasItsRoutes, IsAddressed, IsAddressedRoute, IsPort, IsSystem, IsWithin, SystemConfiguration}
 use Rattle.clnp_plan.specs.declared.config.PortConfig.{PortConfig}
 use Rattle.clnp_plan.specs.declared.config.Role.{Role}

@@ -11,6 +11,7 @@ use Rattle.nsap.specs.Text.{bad_digit, is_dot, may_stand, without_dots}
 use Rattle.scenario.specs.Canonical.{prefix_text}
 use Rattle.scenario.specs.Words.{address_read, prefix_word}
 use Rattle.scenario.proofs.Written.{IsPlain, IsWord, digit_plain, spelled}
+use Rattle.nsap.proofs.Digits.{digit_no_dot, digit_may_stand, spelled_few}
 
 -- the character of a digit
 abbrev shown : ℕ → ℕ
@@ -20,12 +21,6 @@ shown digit = slice_index lower_digits digit
 not_star : (c d : ℕ) → hex_digit_value c ≡ Some d → (c == 42) ≡ false
 not_star c d h = grind (arith)
 
-no_dot : (c d : ℕ) → hex_digit_value c ≡ Some d → is_dot c ≡ false
-no_dot c d h = grind (arith)
-
-stands : (c d : ℕ) → hex_digit_value c ≡ Some d → may_stand c ≡ true
-stands c d h = grind (arith)
-
 are_worth : (digits : List ℕ) → ((i : ℕ) → slice_index digits i < 16) → map digit_value (map shown digits) ≡ digits
 are_worth [] small = refl
 are_worth (digit ∷ digits) small =
@@ -34,15 +29,12 @@ are_worth (digit ∷ digits) small =
 none_bad : (i : ℕ) (digits : List ℕ) → ((i : ℕ) → slice_index digits i < 16) → position_from (λ c. not (may_stand c)) i (map shown digits) ≡ None
 none_bad i [] small = refl
 none_bad i (digit ∷ digits) small =
-    rw (stands (shown digit) digit (IsDigits-lower_digits digit (small 0))) (none_bad (i + 1) digits (λ k. small (suc k)))
+    rw (digit_may_stand (shown digit) digit (IsDigits-lower_digits digit (small 0))) (none_bad (i + 1) digits (λ k. small (suc k)))
 
 none_dotted : (digits : List ℕ) → ((i : ℕ) → slice_index digits i < 16) → without_dots (map shown digits) ≡ map shown digits
 none_dotted [] small = refl
 none_dotted (digit ∷ digits) small =
-    rw (no_dot (shown digit) digit (IsDigits-lower_digits digit (small 0))) (ap (λ (rest : List ℕ). shown digit ∷ rest) (none_dotted digits (λ k. small (suc k))))
-
-spelled_few : (digits : List ℕ) → length digits ≤ 40 → prefix_spelled digits ≡ Ok (map digit_value digits)
-spelled_few digits few = rw (le-leb (length digits) 40 few) refl
+    rw (digit_no_dot (shown digit) digit (IsDigits-lower_digits digit (small 0))) (ap (λ (rest : List ℕ). shown digit ∷ rest) (none_dotted digits (λ k. small (suc k))))
 
 pub prefix_read : (digits : List ℕ) → IsPrefix digits → prefix_word (prefix_text digits) ≡ Ok digits
 prefix_read [] is = refl

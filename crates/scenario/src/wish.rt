@@ -15,7 +15,7 @@ use clnp_plan::Ask;
 use std::alloc::Global;
 
 /// A wish for a unit that is sent.
-#[derive(Clone, Copy, Debug)]
+#[derive(Clone, Copy)]
 pub(crate) enum Wish {
     /// Its lifetime in ticks of 500 ms.
     Lasting(u8),

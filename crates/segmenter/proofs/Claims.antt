@@ -12,8 +12,9 @@ use Rattle.segmenter.specs.Cut.{Piece, cut, data_room, nth_range, ranges, segmen
 use Rattle.segmenter.specs.Pieces.{FillUp, Fits, KeepsUnit, marks, ranges_of}
 use Rattle.clnp_base.proofs.Lists.{AllByRecursion-map_any, AllByRecursion-mapped, length_part}
 use Rattle.segmenter.proofs.Quotients.{Ends, ends_all, ends_begins, ends_full, ends_next, ranges_tile, room_is_eights, room_is_full, room_fits}
-use Rattle.segmenter.proofs.Segments.{header_length-segment, more_is, segment_is_pdu, unit_fits}
+use Rattle.segmenter.proofs.Segments.{header_length-segment, segment_is_pdu, unit_fits}
 use Rattle.segmenter.proofs.Tiles.{tiles_partition, tiles_within}
+use Rattle.clnp_base.proofs.Choices.{flag_is}
 
 pub cut_gives : (v : PduValue) (mtu : ℕ) (Q : List Piece → Type 0) → (segment_length v ≤ mtu → Q (uncut v ∷ [])) → ((part : SegmentationPart) → v.segmentation ≡ Some part → Q (segments v mtu part)) → IfSome (cut v mtu) Q
 cut_gives v mtu Q one many = go (nat_le (segment_length v) mtu) v.segmentation refl refl
@@ -129,5 +130,5 @@ pieces_say_more v mtu h m =
     (λ part has.
     let fits = unit_fits v part has h in
     marks_from v part room (length v.body) 0 ((length v.body + room - 1) / room) fits.range.within
-    (more_is v.more (part.offset + length v.body) (part.total - header_length v) fits.range.within fits.range.ends)
+    (flag_is v.more (part.offset + length v.body) (part.total - header_length v) fits.range.within fits.range.ends)
     (ends_all room (length v.body) (omega arith)))

@@ -11,16 +11,12 @@ use Rattle.pdu_header.specs.Headers.{at_offset, with_segment}
 use Rattle.segmenter.specs.Range.{Range}
 use Rattle.segmenter.specs.Cut.{segment, whole_range}
 use Rattle.clnp_base.proofs.Lists.{length_part, part_of_part}
+use Rattle.clnp_base.proofs.Choices.{flag_is}
 
 -- ---- the flag that more follows
 
 pub last_ends : (a b : ℕ) → a ≤ b → (nat_lt a b ≡ false) ↔ (a ≡ b)
 last_ends a b h = ((λ e. let k = ltb-false a b e in omega arith), (λ e. le-ltb a b (omega arith)))
-
-pub more_is : (more : Bool) (a b : ℕ) → a ≤ b → (more ≡ false) ↔ (a ≡ b) → more ≡ nat_lt a b
-more_is false a b h iff = let e = iff.0 refl in sym (le-ltb a b (omega arith))
-more_is true a b h iff =
-    ⊎_elim (λ (k : a < b). sym (lt-ltb a b k)) (λ (k : b ≤ a). let e : true ≡ false = iff.1 (omega arith) in cc) (cases_lt a b)
 
 -- ---- a segment
 
@@ -83,7 +79,7 @@ pub whole_is_segment : (v : PduValue) (part : SegmentationPart) → v.segmentati
 whole_is_segment v part has h =
     let fits = unit_fits v part has h in
     let more : v.more ≡ nat_lt (part.offset + 0 + length v.body) (part.total - header_length v) =
-    rw (add-zero part.offset) (more_is v.more (part.offset + length v.body) (part.total - header_length v) fits.range.within fits.range.ends) in
+    rw (add-zero part.offset) (flag_is v.more (part.offset + length v.body) (part.total - header_length v) fits.range.within fits.range.ends) in
     let own : v ≡ with_segment part v.more v.body v = ap (λ o. record v { segmentation = o }) has in
     own ∙ same_segment v part part.offset (part.offset + 0) v.more _ v.body _ (omega arith) more (sym (take_all (length v.body) v.body (omega arith)))
 

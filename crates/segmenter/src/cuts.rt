@@ -20,7 +20,7 @@ pub struct NotPermitted {
 }
 
 /// A piece of a PDU: its header, and its data as `len` octets from place `from` of the PDU's data.
-#[derive(Clone, Copy, Debug, PartialEq, Eq)]
+#[derive(Clone, Copy, PartialEq, Eq)]
 pub struct Cut {
     /// The piece's header.
     pub head: Header,

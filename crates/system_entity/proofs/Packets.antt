@@ -5,8 +5,8 @@ use Rattle.std.proofs.lemmas.List.{take_all}
 use Rattle.pdu_header.specs.Value.{SegmentationPart, PduValue}
 use Rattle.pdu_header.specs.Spelling.{header_length, spelling}
 use Rattle.pdu_header.specs.Grammar.{BeginsWith, IsPdu, IsSegment}
-use Rattle.segmenter.proofs.Segments.{more_is}
 use Rattle.clnp_machine.specs.Unit.{IsCarriable, Outside, Packet, more_follows, value_of, value_with, wire}
+use Rattle.clnp_base.proofs.Choices.{flag_is}
 
 abbrev identifier_of : Option SegmentationPart → Option ℕ
 identifier_of part = option_map (λ p. p.identifier) part
@@ -60,7 +60,7 @@ same_more v (Some part) e h =
     ap (λ (n : ℕ). nat_lt (n + length v.body) (total_of v.segmentation - header_length (value_with (packet_of v) false))) (ap (λ (o : Option SegmentationPart). offset_of o) e)
     ∙ ap (λ (n : ℕ). nat_lt (part.offset + length v.body) (n - header_length (value_with (packet_of v) false))) (ap (λ (o : Option SegmentationPart). total_of o) e)
     ∙ ap (λ (n : ℕ). nat_lt (part.offset + length v.body) (part.total - n)) (same_header v)
-    ∙ sym (more_is v.more (part.offset + length v.body) (part.total - header_length v) h.range.within h.range.ends)
+    ∙ sym (flag_is v.more (part.offset + length v.body) (part.total - header_length v) h.range.within h.range.ends)
 
 same_body : (v : PduValue) → take (length v.body) (drop (offset_of v.segmentation - offset_of v.segmentation) v.body) ≡ v.body
 same_body v =

@@ -45,7 +45,7 @@ mod steps;
 use steps::{has_content, pass_pieces, routes_of, tell_way};
 
 /// What came of a frame.
-#[derive(Clone, Copy, Debug, PartialEq, Eq)]
+#[derive(Clone, Copy, PartialEq, Eq)]
 pub enum Arrival {
     /// All was done that is to be done.
     Done,
@@ -59,7 +59,7 @@ pub enum Arrival {
 /// `NoMemory`.
 ///
 /// A contract says by `Stands` which states of a system it stands for.
-#[derive(Debug, Drop)]
+#[derive(Drop)]
 pub struct SystemEntity {
     local: Local,
     esis: EsisEntity,

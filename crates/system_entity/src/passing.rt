@@ -9,7 +9,7 @@ use nsap::Address;
 use pdu_header::{Header, Pdu, SegPart};
 
 /// A PDU with a lifetime left for an address that isn't the system's: all that is needed so that it goes on.
-#[derive(Clone, Copy, Debug, PartialEq, Eq)]
+#[derive(Clone, Copy, PartialEq, Eq)]
 pub struct Passing {
     /// The destination.
     pub to: Address,

@@ -11,7 +11,7 @@ use nsap::{Address, Snpa, Target};
 
 /// The next system on a router's way to an address: one's port to its subnetwork, its address there, and its title where it is
 /// reached by a route.
-#[derive(Clone, Copy, Debug, PartialEq, Eq)]
+#[derive(Clone, Copy, PartialEq, Eq)]
 pub struct Way {
     pub port: u8,
     pub snpa: Snpa,

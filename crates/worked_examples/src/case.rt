@@ -4,7 +4,7 @@ use clnp_base::decimal;
 use std::alloc::{AllocError, Global};
 
 /// A call of the program, and what it must come to.
-#[derive(Debug, Drop)]
+#[derive(Drop)]
 pub struct Case<'a> {
     /// No octets before the first case of a file.
     pub name: &'a [u8],

@@ -13,14 +13,14 @@ const ROOM: usize = 1_000_000;
 const PIECE: usize = 4096;
 
 /// How many cases came to what they must, and how many didn't.
-#[derive(Clone, Copy, Debug, PartialEq, Eq)]
+#[derive(Clone, Copy, PartialEq, Eq)]
 pub struct Tally {
     pub passed: u64,
     pub failed: u64,
 }
 
 /// What a call came to.
-#[derive(Debug, Drop)]
+#[derive(Drop)]
 struct Outcome {
     number: u8,
     output: Vec<u8>,

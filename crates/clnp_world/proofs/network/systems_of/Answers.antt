@@ -5,7 +5,7 @@ use Rattle.clnp_network.specs.World as network
 use Rattle.clnp_systems.specs.declared.system.System.{System}
 use Rattle.clnp_world.specs.Stands.{StandEach}
 use Rattle.clnp_world.proofs.EachSteps.{each_push}
-use Rattle.clnp_world.proofs.ListSteps.{slice_get_read}
+use Rattle.clnp_base.proofs.ListSteps.{slice_get_read}
 use Rattle.clnp_world.proofs.ModelSteps.{states_from-take}
 use Rattle.clnp_world.proofs.network.systems_of.Goals as goal
 

@@ -1,7 +1,7 @@
 -- The system stands for the system at its place.
 use Rattle.std.proofs.Common.{◌∙◌, arith}
 use Rattle.clnp_world.proofs.EachSteps.{each_at}
-use Rattle.clnp_world.proofs.ListSteps.{slice_get_read}
+use Rattle.clnp_base.proofs.ListSteps.{slice_get_read}
 use Rattle.clnp_world.proofs.network.Network.config_at.Goals as goal
 
 pub returns : goal.returns

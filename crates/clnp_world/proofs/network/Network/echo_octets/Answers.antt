@@ -5,13 +5,13 @@ use Rattle.clnp_plan.specs.declared.output.Output.TheVariants.{Note as Told}
 use Rattle.clnp_machine.specs.Local.{refusal, request_unit}
 use Rattle.clnp_machine.specs.Step.{step}
 use Rattle.clnp_machine.specs.System.{SystemState, Input, AsksForEcho}
-use Rattle.clnp_machine.proofs.Deeds.{step_moment}
 use Rattle.system_entity.specs.Stands as entity
 use Rattle.clnp_systems.specs.Stands.{entity_of}
-use Rattle.clnp_world.proofs.ListSteps.{slice_get_read}
+use Rattle.clnp_base.proofs.ListSteps.{slice_get_read}
 use Rattle.clnp_world.proofs.SendSteps.{refused_echo_gives, refused_echo_stands}
 use Rattle.clnp_world.proofs.TakeSteps.{with_node, does_follow, does_nothing, note_alone, from_none, leaves_same, says_why}
 use Rattle.clnp_world.proofs.network.Network.echo_octets.Goals as goal
+use Rattle.clnp_world.proofs.ModelSteps.{step_moment}
 
 pub returns-then-place-len : goal.returns-then-place-len
 returns-then-place-len c =

@@ -4,7 +4,6 @@ use Rattle.std.proofs.lemmas.Result.{on_ok_weaker}
 use Rattle.clnp_machine.specs.Given.{AppendsFor}
 use Rattle.clnp_machine.specs.System.{Input}
 use Rattle.clnp_machine.specs.Step.{step}
-use Rattle.clnp_machine.proofs.Deeds.{step_moment}
 use Rattle.clnp_network.specs.World as network
 use Rattle.clnp_systems.specs.Stands as clnp_systems
 use Rattle.clnp_systems.specs.Stands.{entity_of}
@@ -12,9 +11,10 @@ use Rattle.clnp_world.specs.declared.copy.FrameCopy.{FrameCopy}
 use Rattle.clnp_world.proofs.EachSteps.{each_at}
 use Rattle.clnp_world.specs.Stands.{IsBornWithUnit}
 use Rattle.clnp_world.proofs.GiveSteps.{born_at, came, copy_at, carried_at}
-use Rattle.clnp_world.proofs.ListSteps.{slice_get_read}
+use Rattle.clnp_base.proofs.ListSteps.{slice_get_read}
 use Rattle.clnp_world.proofs.TakeSteps.{takes_now, from_none_for}
 use Rattle.clnp_world.proofs.network.Network.hand.Goals as goal
+use Rattle.clnp_world.proofs.ModelSteps.{step_moment}
 
 pub returns-clause-follows : goal.returns-clause-follows
 returns-clause-follows c =

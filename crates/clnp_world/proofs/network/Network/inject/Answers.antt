@@ -6,7 +6,7 @@ use Rattle.clnp_plan.specs.Journal.{Injected}
 use Rattle.clnp_world.specs.Lines.{Gains}
 use Rattle.clnp_world.specs.Parts.{PutsCopies}
 use Rattle.clnp_world.proofs.InjectSteps.{injects_there, outside_copy}
-use Rattle.clnp_world.proofs.ListSteps.{slice_get_read}
+use Rattle.clnp_base.proofs.ListSteps.{slice_get_read}
 use Rattle.clnp_world.proofs.network.Network.inject.Goals as goal
 
 pub returns : goal.returns

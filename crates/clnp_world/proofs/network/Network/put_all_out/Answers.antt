@@ -3,7 +3,7 @@ use Rattle.std.proofs.Common.{◌≡◌, ◌∙◌, List, sym, refl, arith, subs
 use Rattle.std.proofs.lemmas.List.{take_all}
 use Rattle.clnp_plan.specs.declared.output.Output.{Output}
 use Rattle.clnp_machine.specs.Given.{GiveAllFor}
-use Rattle.clnp_world.proofs.ListSteps.{slice_get_read, take_push}
+use Rattle.clnp_base.proofs.ListSteps.{slice_get_read, take_push}
 use Rattle.clnp_world.proofs.PutSteps.{PutsOut, puts_none, puts_more}
 use Rattle.clnp_world.proofs.network.Network.put_all_out.Goals as goal
 

@@ -5,7 +5,7 @@ use Rattle.clnp_plan.specs.declared.note.Note.TheVariants.{Restart}
 use Rattle.clnp_plan.specs.declared.output.Output.TheVariants.{Note as Told}
 use Rattle.clnp_machine.specs.System.{IsRestarted}
 use Rattle.clnp_systems.specs.Stands.{entity_of}
-use Rattle.clnp_world.proofs.ListSteps.{slice_get_read}
+use Rattle.clnp_base.proofs.ListSteps.{slice_get_read}
 use Rattle.clnp_world.proofs.TakeSteps.{with_node, does_follow, does_nothing, note_alone, gives_note}
 use Rattle.clnp_world.proofs.network.Network.restart.Goals as goal
 

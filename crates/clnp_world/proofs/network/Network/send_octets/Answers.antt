@@ -7,14 +7,14 @@ use Rattle.clnp_machine.specs.System.{SystemState, Input, AsksToSend}
 use Rattle.clnp_machine.specs.Step.{step}
 use Rattle.clnp_machine.specs.Local.{refusal, unit_of}
 use Rattle.pdu_header.specs.declared.kind.Kind.TheVariants.{Dt}
-use Rattle.clnp_machine.proofs.Deeds.{step_moment}
 use Rattle.system_entity.specs.Stands as entity
 use Rattle.clnp_systems.specs.declared.system.System.{System}
 use Rattle.clnp_systems.specs.declared.system.System.TheVariants as variant
-use Rattle.clnp_world.proofs.ListSteps.{slice_get_read}
+use Rattle.clnp_base.proofs.ListSteps.{slice_get_read}
 use Rattle.clnp_world.proofs.SendSteps.{refused_stands, refused_gives, asks_host, asks_nobody, asks_router, written_back}
 use Rattle.clnp_world.proofs.TakeSteps.{with_node, does_follow, note_alone, from_none, leaves_same, says_why}
 use Rattle.clnp_world.proofs.network.Network.send_octets.Goals as goal
+use Rattle.clnp_world.proofs.ModelSteps.{step_moment}
 
 pub returns-then-place-len : goal.returns-then-place-len
 returns-then-place-len c =

@@ -5,7 +5,7 @@ use Rattle.clnp_machine.specs.System.{MomentComes}
 use Rattle.clnp_machine.specs.Step.{step}
 use Rattle.clnp_network.specs.World as network
 use Rattle.clnp_world.specs.Parts.{Puts}
-use Rattle.clnp_world.proofs.ListSteps.{slice_get_read}
+use Rattle.clnp_base.proofs.ListSteps.{slice_get_read}
 use Rattle.clnp_world.proofs.TakeSteps.{does_put, from_none}
 use Rattle.clnp_world.proofs.network.Network.tick_system.Goals as goal
 

@@ -5,7 +5,6 @@ use Rattle.clnp_options.specs.Parameter.{parameters}
 use Rattle.pdu_header.specs.Grammar.{BeginsWith}
 use Rattle.pdu_header.specs.Value.{PduValue}
 use Rattle.pdu_header.specs.View.{pdu_value}
-use Rattle.pdu_header.proofs.Written.{length-header}
 use Rattle.reassembly.specs.declared.segment.Segment.{Segment}
 use Rattle.reassembly.specs.Offered.{MayCome}
 use Rattle.clnp_machine.specs.Content.{Labelled}
@@ -14,6 +13,7 @@ use Rattle.local_entity.specs.Local.{Appends, Stands}
 use Rattle.local_entity.specs.Receipt.{IsShown, purpose_of}
 use Rattle.local_entity.proofs.Receiving.{is_shown, may_come, receives_segment, receives_whole, value_is}
 use Rattle.local_entity.proofs.local.Local.receive.Goals as goal
+use Rattle.local_entity.proofs.Parts.{length-header}
 
 pub unreachable-requires : goal.unreachable-requires
 unreachable-requires c =

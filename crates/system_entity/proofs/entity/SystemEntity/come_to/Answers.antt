@@ -1,12 +1,12 @@
 -- Buffers end, what was heard is forgotten, and a hello may be due.
 use Rattle.std.proofs.Common.{◌≡◌, ◌∙◌, ℕ, ◌≤◌, sym, subst, ◌++◌}
 use Rattle.std.specs.List.{AllByRecursion}
-use Rattle.clnp_machine.specs.Given.{Appends}
+use Rattle.clnp_machine.specs.Given.{Appends, Gives}
 use Rattle.clnp_machine.specs.Esis.{forgets, says_hello}
 use Rattle.clnp_machine.specs.Local.{at_moment, tick}
 use Rattle.clnp_machine.specs.Step.{effect_of}
 use Rattle.clnp_machine.specs.System.{SystemState, then_does}
-use Rattle.clnp_machine.proofs.Given.{appends_both}
+use Rattle.clnp_base.proofs.Pairwise.{appends_both}
 use Rattle.system_entity.specs.Deeds.{IsFresh}
 use Rattle.system_entity.specs.State.{SystemEntityState}
 use Rattle.system_entity.specs.Stands.{PartsStand, PartsStandSince}
@@ -61,5 +61,5 @@ returns-clause-outputs c = λ s h.
     let second = c.in_ok-tick-2.ensures.outputs t s.moment stands.esis configuration now (subst (λ (m : ℕ). s.moment ≤ m) now stands.since) in
     appends_fresh c.args.now c.new-outputs.result.items c.tick-2.new.out.items c.args.out.now.items c.append.new.self.items
     ((effect_of deed).outputs ++ (then_does (forgets s.moment t) says_hello).outputs) c.new-outputs.ensures.items c.in_ok-append.ensures.items
-    (appends_both c.args.now c.new-outputs.result.items c.give_out.new.out.items c.tick-2.new.out.items (effect_of deed).outputs
+    (appends_both (Gives c.args.now) c.new-outputs.result.items c.give_out.new.out.items c.tick-2.new.out.items (effect_of deed).outputs
     (then_does (forgets s.moment t) says_hello).outputs first second)
