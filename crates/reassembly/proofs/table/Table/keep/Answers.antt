@@ -7,13 +7,13 @@ use Rattle.reassembly.specs.Offered.{openings_of}
 use Rattle.reassembly.specs.State.{Names, Stands, TableState, said, segments_of}
 use Rattle.std.specs.Prelude.{slice_get, slice_set}
 use Rattle.std.proofs.lemmas.Option.{slice_get_within}
-use Rattle.clnp_base.proofs.Lists.{slice_get_some}
+use Rattle.clnp_base.proofs.Lists.{AllByRecursion-slice_get, slice_get_some}
 use Rattle.reassembly.specs.declared.runs.Run.{Run}
 use Rattle.reassembly.specs.Index.{IsIndexOf}
 use Rattle.reassembly.specs.Runs.{filled}
 use Rattle.reassembly.proofs.Indexing.{gap_tells_cover, kept_index, total_few}
 use Rattle.reassembly.proofs.Keeping.{answer_with, none_or_one, stands_with}
-use Rattle.reassembly.proofs.Opened.{sound_more, all_at}
+use Rattle.reassembly.proofs.Opened.{sound_more}
 use Rattle.reassembly.proofs.table.Table.keep.Goals as goal
 use Rattle.reassembly.proofs.table.Table.keep.Goals.{then-has_gap, else-has_gap}
 
@@ -51,7 +51,7 @@ group-requires c =
       slice_get_within t.openings.items c.slot_for-slot.result named.opening named.stands_at,
       c.self.invariant.3.index_is.number,
     )) in
-    let shaped = all_at (λ (o : Opening). o.shape.head_len < o.shape.total) t.openings.items c.slot_for-slot.result named.opening c.self.invariant.0.shaped named.stands_at in
+    let shaped = AllByRecursion-slice_get (λ (o : Opening). o.shape.head_len < o.shape.total) t.openings.items c.slot_for-slot.result named.opening named.stands_at c.self.invariant.0.shaped in
     let number : c.len-index.result ≡ length t.segments.items = omega arith in
     let kept = kept_index t.segments.items t.openings.items t.runs.groups c.args.segment c.slot_for-slot.result named.opening group.0 c.args.segment.offset c.end.result
     c.self.invariant.3.index_is c.self.invariant.0.distinct named.stands_at group.1 named.key_is (omega (arith, shaped)) refl c.end.ensures.end in
@@ -67,8 +67,8 @@ invariant_of-self c =
     let segments : t.segments.items ≡ c.args.self.now.segments = ap (λ (t : TableState). t.segments) (c.self.view_is ∙ c.slot_for-slot.ensures.opened) in
     let named = subst (λ (t : TableState). Names t c.slot_for-slot.result c.args.segment.key) (sym c.self.view_is) c.slot_for-slot.ensures.named in
     let one = subst (λ key. openings_of key t.openings.items ≡ 1) named.key_is
-    (all_at (λ (opening : Opening). openings_of opening.key t.openings.items ≡ 1) t.openings.items c.slot_for-slot.result named.opening
-    c.self.invariant.0.distinct named.stands_at) in
+    (AllByRecursion-slice_get (λ (opening : Opening). openings_of opening.key t.openings.items ≡ 1) t.openings.items c.slot_for-slot.result named.opening
+    named.stands_at c.self.invariant.0.distinct) in
     let held = c.self.invariant.0.held_is in
     let len = c.frame_len.ensures.len in
     let budget : t.held + length c.args.segment.pdu.frame ≤ t.limits.budget = rw (held, segments, limits) c.requires.room.within_budget in
@@ -78,7 +78,7 @@ invariant_of-self c =
       slice_get_within t.openings.items c.slot_for-slot.result named.opening named.stands_at,
       c.self.invariant.3.index_is.number,
     )) in
-    let shaped = all_at (λ (o : Opening). o.shape.head_len < o.shape.total) t.openings.items c.slot_for-slot.result named.opening c.self.invariant.0.shaped named.stands_at in
+    let shaped = AllByRecursion-slice_get (λ (o : Opening). o.shape.head_len < o.shape.total) t.openings.items c.slot_for-slot.result named.opening named.stands_at c.self.invariant.0.shaped in
     let number : c.len-index.result ≡ length t.segments.items = omega arith in
     let kept = kept_index t.segments.items t.openings.items t.runs.groups c.args.segment c.slot_for-slot.result named.opening group.0 c.args.segment.offset c.end.result
     c.self.invariant.3.index_is c.self.invariant.0.distinct named.stands_at group.1 named.key_is (omega (arith, shaped)) refl c.end.ensures.end in
@@ -112,7 +112,7 @@ returns-clause-answered c buffers stands =
       slice_get_within t.openings.items c.slot_for-slot.result named.opening named.stands_at,
       c.self.invariant.3.index_is.number,
     )) in
-    let shaped = all_at (λ (o : Opening). o.shape.head_len < o.shape.total) t.openings.items c.slot_for-slot.result named.opening c.self.invariant.0.shaped named.stands_at in
+    let shaped = AllByRecursion-slice_get (λ (o : Opening). o.shape.head_len < o.shape.total) t.openings.items c.slot_for-slot.result named.opening named.stands_at c.self.invariant.0.shaped in
     let number : c.len-index.result ≡ length t.segments.items = omega arith in
     let kept = kept_index t.segments.items t.openings.items t.runs.groups c.args.segment c.slot_for-slot.result named.opening group.0 c.args.segment.offset c.end.result
     c.self.invariant.3.index_is c.self.invariant.0.distinct named.stands_at group.1 named.key_is (omega (arith, shaped)) refl c.end.ensures.end in
