@@ -7,7 +7,6 @@ pub mod Laid
 pub mod ListSteps
 pub mod Lists
 pub mod Maps
-pub mod Pairwise
 pub mod Pouring
 pub mod Ranges
 pub mod Reading

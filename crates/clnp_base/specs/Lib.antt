@@ -2,6 +2,5 @@ pub mod Cuts
 pub mod Hexadecimal
 pub mod Inline
 pub mod Memory
-pub mod Pairwise
 pub mod Streams
 pub mod Text

@@ -13,11 +13,11 @@ use Rattle.clnp_network.specs.World.{Step, World, after}
 use Rattle.clnp_network.specs.Run.{lines_text, text_of, world_after}
 use Rattle.clnp_world.specs.Lines.{both, tally}
 use Rattle.clnp_world.specs.declared.lines.Counts.{Counts}
-use Rattle.clnp_world.proofs.LineSteps.{both-assoc, none-both, tally-append}
 use Rattle.clnp_commands.specs.Storm.{count_of, counts_in, counts_of, is_of_kind}
 use Rattle.clnp_commands.specs.Counting.{tally_of}
 use Rattle.clnp_commands.proofs.KindWords.{IsNamed, line_counts}
 use Rattle.clnp_commands.proofs.Named.{AreNamed, AreNamedSubnets, names_after}
+pub use Rattle.clnp_world.proofs.LineSteps.{both-assoc, both-none, none-both, tally-append}
 
 -- the lines of a text are followed by those of the text behind it
 abbrev pub EndsLines : List ℕ → Type 0

@@ -12,10 +12,10 @@ use Rattle.clnp_world.specs.Lines.{both, no_lines, tally}
 use Rattle.clnp_world.specs.State.{WorldState}
 use Rattle.clnp_world.specs.Stands.{Stands}
 use Rattle.clnp_world.specs.declared.lines.Counts.{Counts}
-use Rattle.clnp_world.proofs.LineSteps.{none-both}
 use Rattle.clnp_commands.specs.Counting.{tally_of}
 use Rattle.clnp_commands.specs.Play.{UnderWay}
 use Rattle.clnp_commands.proofs.Runs.{full_weight-behind, not_full, replicate_next, text_of-append, world_after-append}
+use Rattle.clnp_commands.proofs.Counting.{none-both}
 
 -- to settle a copy where none is left changes nothing
 pub settled_after : (plan : Plan) (w : World) → length w.copies ≤ w.cursor → after plan w SettleOne ≡ nothing w

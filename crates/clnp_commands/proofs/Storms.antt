@@ -17,7 +17,6 @@ use Rattle.clnp_world.specs.declared.world.WorldRefusal.{WorldRefusal}
 use Rattle.clnp_world.specs.declared.world.WorldRefusal.TheVariants as refusal
 use Rattle.clnp_world.specs.Lines.{both, no_lines, tally}
 use Rattle.clnp_world.specs.declared.lines.Counts.{Counts}
-use Rattle.clnp_world.proofs.LineSteps.{both-assoc, both-none, none-both}
 use Rattle.clnp_commands.specs.declared.storm.Summary.{Summary}
 use Rattle.clnp_commands.specs.declared.command.Command.TheVariants.{Storm}
 use Rattle.clnp_commands.specs.declared.status.Status.{Status}
@@ -27,7 +26,7 @@ use Rattle.clnp_commands.specs.Words.{run_status}
 use Rattle.clnp_commands.specs.Play.{ComesTo}
 use Rattle.clnp_commands.specs.Storm.{counts_of, line_of_run, line_unless, storm_line, storm_stopped_at, summary_text}
 use Rattle.clnp_commands.specs.Counting.{Counted, StopsAt, SumOf, tally_of}
-use Rattle.clnp_commands.proofs.Counting.{counts_of-append, moves_counts, tally_of-append, text_of-ends}
+use Rattle.clnp_commands.proofs.Counting.{counts_of-append, moves_counts, tally_of-append, text_of-ends, both-assoc, both-none, none-both}
 use Rattle.clnp_commands.proofs.KindWords.{end_counts}
 use Rattle.clnp_commands.proofs.Named.{names_first, names_subnets}
 use Rattle.clnp_commands.proofs.Playing.{journal_whole}

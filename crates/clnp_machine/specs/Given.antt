@@ -1,6 +1,5 @@
 -- The outputs of a system of the code, and those of the model.
 use Rattle.std.specs.Prelude.{◌≡◌, ◌⊎◌, ℕ, true, false, List, [], ◌∷◌, ◌++◌, Option, None, Some}
-use Rattle.clnp_base.specs.Pairwise.{Pairwise, AppendsPairwise}
 use Rattle.nsap.specs.declared.target.Target.{Target}
 use Rattle.clnp_views.specs.Extent.{Extent, seen}
 use Rattle.esis_pdus.specs.Grammar as esis
@@ -51,11 +50,16 @@ Gives moment (Note note) (machine.SendsEsis port target value) = ⊥
 Gives moment (Transmit sending) (machine.Notes told) = ⊥
 
 abbrev pub GiveAll : ℕ → List Output → List machine.Output → Type 0
-GiveAll moment = Pairwise (Gives moment)
+GiveAll moment [] [] = Unit {0}
+GiveAll moment (output ∷ outputs) (other ∷ others) = Gives moment output other × GiveAll moment outputs others
+GiveAll moment [] (other ∷ others) = ⊥
+GiveAll moment (output ∷ outputs) [] = ⊥
 
 -- outputs that are these ones of the model were appended
-abbrev pub Appends : ℕ → List Output → List Output → List machine.Output → Type 0
-Appends moment = AppendsPairwise (Gives moment)
+pub record Appends (moment : ℕ) (before after : List Output) (others : List machine.Output) : Type 0 where
+  pub outputs : List Output
+  pub appended : after ≡ before ++ outputs
+  pub give_all : GiveAll moment outputs others
 
 -- Frames that go on.
 
@@ -74,19 +78,24 @@ pub record IsSentOnFor (came : Content) (sending : Sending) (port : ℕ) (target
   pub carriable : IsCarriable packet
   pub unit : CarriesUnit came packet.unit
 
-abbrev pub GoesOnFor : Content → Output → machine.Output → Type 0
-GoesOnFor came (Transmit sending) (machine.Transmits port target packet) = IsSentOnFor came sending port target packet
-GoesOnFor came (Transmit sending) (machine.SendsEsis port target value) = ⊥
-GoesOnFor came (Transmit sending) (machine.Notes told) = ⊥
-GoesOnFor came (Note note) other = ⊥
-
--- where a frame came, an output of the code is one of the model, whatever came or as what goes on of it
+-- where a frame came, an output of the code is one of the model
 abbrev pub GivesFor : ℕ → Content → Output → machine.Output → Type 0
-GivesFor moment came output other = Gives moment output other ⊎ GoesOnFor came output other
+GivesFor moment came (Note note) (machine.Notes told) = note ≡ told
+GivesFor moment came (Transmit sending) (machine.Transmits port target packet) =
+    IsSentFor moment sending port target packet ⊎ IsSentOnFor came sending port target packet
+GivesFor moment came (Transmit sending) (machine.SendsEsis port target value) = IsSentForEsis sending port target value
+GivesFor moment came (Note note) (machine.Transmits port target packet) = ⊥
+GivesFor moment came (Note note) (machine.SendsEsis port target value) = ⊥
+GivesFor moment came (Transmit sending) (machine.Notes told) = ⊥
 
 abbrev pub GiveAllFor : ℕ → Content → List Output → List machine.Output → Type 0
-GiveAllFor moment came = Pairwise (GivesFor moment came)
+GiveAllFor moment came [] [] = Unit {0}
+GiveAllFor moment came (output ∷ outputs) (other ∷ others) = GivesFor moment came output other × GiveAllFor moment came outputs others
+GiveAllFor moment came [] (other ∷ others) = ⊥
+GiveAllFor moment came (output ∷ outputs) [] = ⊥
 
 -- outputs that are these ones of the model, where a frame came, were appended
-abbrev pub AppendsFor : ℕ → Content → List Output → List Output → List machine.Output → Type 0
-AppendsFor moment came = AppendsPairwise (GivesFor moment came)
+pub record AppendsFor (moment : ℕ) (came : Content) (before after : List Output) (others : List machine.Output) : Type 0 where
+  pub outputs : List Output
+  pub appended : after ≡ before ++ outputs
+  pub give_all : GiveAllFor moment came outputs others

@@ -188,8 +188,7 @@ sends : (old code : Network) (before after : Lines) (came birth : ℕ) (content 
     → PutsCopies old code (frame_copies (slice_get system.configuration.ports sending.port) sending.to birth frame)
     → code ≡ record old { copies = code.copies; weight = code.weight } → IsBornWithUnit came content
     → GivesFor old.clock content (Transmit sending) other → Puts code before after (network.put_out system model other)
-sends old code before after came birth content sending frame (Notes note) frame_is birth_is model system h line put others born (inl told) = absurd told
-sends old code before after came birth content sending frame (Notes note) frame_is birth_is model system h line put others born (inr on) = absurd on
+sends old code before after came birth content sending frame (Notes note) frame_is birth_is model system h line put others born gives = absurd gives
 sends old code before after came birth content sending frame (Transmits port target packet) frame_is birth_is model system h line put others born (inl first) =
     let now = birth_is ∙ ap (λ (b : Bool). cond b came old.clock) first.first in
     sends_packet old code before after sending frame birth port target packet frame_is model system h line put others
@@ -198,8 +197,7 @@ sends old code before after came birth content sending frame (Transmits port tar
     let before_now = birth_is ∙ ap (λ (b : Bool). cond b came old.clock) on.forwarded in
     sends_packet old code before after sending frame birth port target packet frame_is model system h line put others
     on.port_is on.target_is on.octets on.carriable (before_now ∙ as_old came content packet.unit born on.unit)
-sends old code before after came birth content sending frame (SendsEsis port target value) frame_is birth_is model system h line put others born (inr on) = absurd on
-sends old code before after came birth content sending frame (SendsEsis port target value) frame_is birth_is model system h line put others born (inl gives) =
+sends old code before after came birth content sending frame (SendsEsis port target value) frame_is birth_is model system h line put others born gives =
     let octets : frame ≡ spelling value ++ [] = frame_is ∙ gives.octets ∙ sym (append-nil (spelling value)) in
     let port_is : sending.port ≡ port = gives.port_is in
     let target_is : sending.to ≡ target = gives.target_is in
@@ -229,12 +227,9 @@ puts_transmission old code before after place came birth sending frame out is fr
 tells : (code : Network) (before after : Lines) (content : Content) (note : Note) (other : Output) (model : network.World) (system : SystemState) → Shows code model
     → Gains before after (Noted model.clock system.configuration.name note ∷ [])
     → GivesFor code.clock content (Told note) other → Puts code before after (network.put_out system model other)
-tells code before after content note (Transmits port target packet) model system h line (inl told) = absurd told
-tells code before after content note (Transmits port target packet) model system h line (inr on) = absurd on
-tells code before after content note (SendsEsis port target value) model system h line (inl told) = absurd told
-tells code before after content note (SendsEsis port target value) model system h line (inr on) = absurd on
-tells code before after content note (Notes told) model system h line (inr on) = absurd on
-tells code before after content note (Notes told) model system h line (inl gives) =
+tells code before after content note (Transmits port target packet) model system h line gives = absurd gives
+tells code before after content note (SendsEsis port target value) model system h line gives = absurd gives
+tells code before after content note (Notes told) model system h line gives =
     puts_line code before after model (Noted model.clock system.configuration.name told) h (rw gives at line)
 
 pub puts_note : (code : Network) (before after : Lines) (place came : ℕ) (note : Note) (out : output.Output) → out ≡ Told note

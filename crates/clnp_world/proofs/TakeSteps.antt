@@ -1,5 +1,5 @@
 -- What a network of the code stands for after one of its systems took a step.
-use Rattle.std.proofs.Common.{◌≡◌, ℕ, ◌<◌, ◌≤◌, List, [], ◌∷◌, length, Option, Some, refl, sym, ◌∙◌, subst, arith, inl}
+use Rattle.std.proofs.Common.{◌≡◌, ℕ, ◌<◌, ◌≤◌, List, [], ◌∷◌, length, Option, Some, refl, sym, ◌∙◌, subst, arith}
 use Rattle.std.specs.Prelude.{slice_get}
 use Rattle.std.specs.Vec.{with_item}
 use Rattle.std.proofs.lemmas.Option.{slice_get_past, slice_get_within as within_get}
@@ -16,7 +16,8 @@ use Rattle.clnp_network.specs.World as network
 use Rattle.clnp_systems.specs.declared.system.System.{System}
 use Rattle.clnp_systems.specs.Stands as clnp_systems
 use Rattle.clnp_machine.specs.Content.{Content, Unlabelled}
-use Rattle.clnp_machine.specs.Given.{Appends, AppendsFor, GiveAllFor, Gives, GivesFor}
+use Rattle.clnp_machine.specs.Given.{Appends, AppendsFor, GiveAllFor}
+use Rattle.clnp_machine.proofs.Given.{appends_for}
 use Rattle.system_entity.specs.State.{SystemEntityState}
 use Rattle.system_entity.specs.Stands.{IsLeftBy}
 use Rattle.local_entity.specs.Local.{IsWhy, refusal_note}
@@ -30,7 +31,6 @@ use Rattle.clnp_base.proofs.Lists.{AllByRecursion-slice_get, slice_get-set, slic
 use Rattle.clnp_world.proofs.EachSteps.{each_length, each_at, each_set}
 use Rattle.clnp_world.proofs.ModelSteps.{current-takes_effect}
 use Rattle.clnp_world.proofs.PutSteps.{PutsOut, puts_none, puts_more, puts_note, puts_nothing}
-use Rattle.clnp_base.proofs.Pairwise.{appends_weaker}
 pub use Rattle.local_entity.proofs.Echoing.{says_why}
 
 -- the network with a system in the place of another
@@ -79,7 +79,7 @@ takes old code before after place came content node outputs effect within stands
     puts (network.with_effect model place effect) effect.after content effect.outputs
     (shows_with old place node model effect h stands)
     (slice_get-set model.systems place effect.after (omega arith)) born
-    (subst (λ (os : List output.Output). GiveAllFor old.clock content os effect.outputs) (sym gives.appended) gives.pairwise)
+    (subst (λ (os : List output.Output). GiveAllFor old.clock content os effect.outputs) (sym gives.appended) gives.give_all)
 
 -- the system at a place does something, whatever its moment
 pub does_put : (old code : Network) (before after : Lines) (place came : ℕ) (input : Input) (node new : System) (outputs : List output.Output)
@@ -93,7 +93,7 @@ does_put old code before after place came input node new outputs here stands giv
     subst (λ (s : Option SystemState). Puts code before after (network.comes_to model place input s)) (sym there.at)
     (takes old code before after place came no_frame new outputs (step there.system input) (within_get old.systems.items place node here)
     (stands there.system there.stands) tt
-    (appends_weaker (Gives old.clock) (GivesFor old.clock no_frame) (λ output other gives. inl gives) [] outputs (step there.system input).outputs (gives there.system there.stands)) puts model h)
+    (appends_for old.clock no_frame [] outputs (step there.system input).outputs (gives there.system there.stands)) puts model h)
 
 -- the same at the clock's moment
 pub takes_now : (old code : Network) (before after : Lines) (place came : ℕ) (content : Content) (node new : System) (outputs : List output.Output)
@@ -129,7 +129,7 @@ does_follow old code before after place came input node new outputs here stands 
     subst (λ (s : Option SystemState). Follows code before after (network.comes_to model place input s)) (sym there.at)
     (takes_now old code before after place came no_frame node new outputs (step there.system input) there.system here
     (stands there.system there.stands) tt
-    (appends_weaker (Gives (entity_of node).moment) (GivesFor (entity_of node).moment no_frame) (λ output other gives. inl gives) [] outputs (step there.system input).outputs (gives there.system there.stands))
+    (appends_for (entity_of node).moment no_frame [] outputs (step there.system input).outputs (gives there.system there.stands))
     (moment there.system) puts model h there.at)
 
 -- there is no system at the place
@@ -156,7 +156,7 @@ note_alone code before after place came note writes =
 
 -- a note that is given out
 pub gives_note : (moment : ℕ) (note : Note) → Appends moment [] (Told note ∷ []) (Notes note ∷ [])
-gives_note moment note = record { added = Told note ∷ []; appended = refl; pairwise = (refl, tt) }
+gives_note moment note = record { outputs = Told note ∷ []; appended = refl; give_all = (refl, tt) }
 
 -- a refusal that is noted leaves the system as it was
 pub leaves_same : (e : SendRefusal) (note : Note) (before after : SystemEntityState) → refusal_note e ≡ Some note → IsLeftBy e before after → after ≡ before

@@ -10,19 +10,19 @@ use Rattle.esis_tables.specs.declared.fact.TableKind.TheVariants.{Is}
 use Rattle.clnp_plan.specs.declared.config.Role.TheVariants.{Host}
 use Rattle.clnp_plan.specs.declared.output.Output.{Output}
 use Rattle.clnp_machine.specs.Esis.{answers_new, esis_heard, follows, hears, is_silent, tells_new, tells_of_itself}
-use Rattle.clnp_machine.specs.Given.{Appends, Gives}
+use Rattle.clnp_machine.specs.Given.{Appends}
 use Rattle.clnp_machine.specs.System as machine
 use Rattle.clnp_machine.specs.System.{Effect, SystemState, idles, then_does}
-use Rattle.clnp_base.proofs.Pairwise.{appends_both}
 use Rattle.esis_entity.specs.Does.{Does, Hears}
 use Rattle.esis_entity.specs.Stands.{Stands}
 use Rattle.esis_entity.specs.State.{EsisState}
 pub use Rattle.clnp_machine.proofs.Answering.{answers_itself}
+pub use Rattle.clnp_machine.proofs.Given.{appends_both, appends_none}
 
 pub does_then : (moment : ℕ) (middle entity : EsisState) (before mid after : List Output) (effect : Effect) (next : SystemState → Effect)
     → Does moment middle before mid effect → Does moment entity mid after (next effect.after) → Does moment entity before after (then_does effect next)
 does_then moment middle entity before mid after effect next h k =
-    record { stands = k.stands; appends = appends_both (Gives moment) before mid after effect.outputs (next effect.after).outputs h.appends k.appends }
+    record { stands = k.stands; appends = appends_both moment before mid after effect.outputs (next effect.after).outputs h.appends k.appends }
 
 -- ---- to tell of itself changes nothing
 
@@ -48,7 +48,7 @@ does_answer moment entity before mid after new heard place h told =
     let same : (answer (list_any tells_new heard.outputs)).after ≡ heard.after = answered_after (list_any tells_new heard.outputs) heard.after place in
     record {
       stands = subst (λ (s : SystemState). Stands entity s) (sym same) h.does.stands;
-      appends = appends_both (Gives moment) before mid after heard.outputs (answer (list_any tells_new heard.outputs)).outputs h.does.appends
+      appends = appends_both moment before mid after heard.outputs (answer (list_any tells_new heard.outputs)).outputs h.does.appends
           (subst (λ (b : Bool). Appends moment mid after (answer b).outputs) h.new_is told);
     }
 

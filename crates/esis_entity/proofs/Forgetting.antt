@@ -8,9 +8,9 @@ use Rattle.esis_tables.specs.Stands as heard
 use Rattle.esis_tables.specs.Stands.{FlushesFirst}
 use Rattle.clnp_plan.specs.declared.output.Output.{Output}
 use Rattle.clnp_machine.specs.Esis.{gone_note}
-use Rattle.clnp_machine.specs.Given.{Appends, GiveAll, Gives}
+use Rattle.clnp_machine.specs.Given.{Appends, GiveAll}
 use Rattle.clnp_machine.specs.System as machine
-use Rattle.clnp_base.proofs.Pairwise.{appends_none, appends_both}
+use Rattle.esis_entity.proofs.Effects.{appends_none, appends_both}
 
 -- ---- how many are noted
 
@@ -23,7 +23,7 @@ given_length moment (output ∷ outputs) [] h = absurd h
 pub appended_length : (moment : ℕ) (before after : List Output) (others : List machine.Output) → Appends moment before after others
     → length after ≡ length before + length others
 appended_length moment before after others h =
-    omega (arith, given_length moment h.added others h.pairwise, length-append before h.added, ap length h.appended)
+    omega (arith, given_length moment h.outputs others h.give_all, length-append before h.outputs, ap length h.appended)
 
 -- ---- keys
 
@@ -38,7 +38,7 @@ pub record ForgotSoFar (moment now : ℕ) (tables : Tables) (before after : List
 pub none_forgotten : (moment now : ℕ) (tables : Tables) (list : List Output) (facts : List Fact) (all : List Gone) → heard.Stands tables facts now all
     → ForgotSoFar moment now tables list list facts all
 none_forgotten moment now tables list facts all stands =
-    record { done = []; left = all; stands = stands; are = refl; appends = appends_none (Gives moment) list list refl }
+    record { done = []; left = all; stands = stands; are = refl; appends = appends_none moment list list refl }
 
 pub one_forgotten : (moment now : ℕ) (tables later : Tables) (before mid after : List Output) (key : Gone) (answer : Option Gone) (facts : List Fact) (all : List Gone)
     → ForgotSoFar moment now tables before mid facts all → answer ≡ Some key
@@ -53,7 +53,7 @@ one_forgotten moment now tables later before mid after key answer facts all h is
       stands = first.2;
       are = h.are ∙ ap (λ (list : List Gone). h.done ++ list) first.1 ∙ sym (append_assoc h.done (key ∷ []) first.0);
       appends = subst (λ (list : List machine.Output). Appends moment before after list) (sym (map-append gone_note h.done (key ∷ [])))
-          (appends_both (Gives moment) before mid after (map gone_note h.done) (gone_note key ∷ []) h.appends noted);
+          (appends_both moment before mid after (map gone_note h.done) (gone_note key ∷ []) h.appends noted);
     }
 
 -- nothing is left

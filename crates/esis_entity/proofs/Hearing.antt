@@ -8,13 +8,13 @@ use Rattle.esis_tables.specs.declared.fact.Place.{Place}
 use Rattle.esis_tables.specs.declared.fact.TableKind.TheVariants.{Es}
 use Rattle.clnp_plan.specs.declared.output.Output.{Output}
 use Rattle.clnp_machine.specs.Esis.{hears, hears_each, tells_new}
-use Rattle.clnp_machine.specs.Given.{Appends, Gives}
+use Rattle.clnp_machine.specs.Given.{Appends}
 use Rattle.clnp_machine.specs.System as machine
 use Rattle.clnp_machine.specs.System.{Effect, SystemState}
-use Rattle.clnp_base.proofs.Pairwise.{appends_none, appends_both}
 use Rattle.esis_entity.specs.Does.{Hears}
 use Rattle.esis_entity.specs.Stands.{Stands}
 use Rattle.esis_entity.specs.State.{EsisState}
+use Rattle.esis_entity.proofs.Effects.{appends_none, appends_both}
 
 -- what was heard so far, and is left to be heard, is the whole
 pub record HeardSoFar (moment : ℕ) (entity : EsisState) (before after : List Output) (new : Bool) (place : Place) (hold : ℕ) (left : List (List ℕ))
@@ -36,7 +36,7 @@ none_heard moment entity list place hold left s stands at =
       done = [];
       stands = stands;
       moment_is = at;
-      appends = appends_none (Gives moment) list list refl;
+      appends = appends_none moment list list refl;
       new_is = refl;
       after_is = refl;
       outputs_are = refl;
@@ -54,7 +54,7 @@ one_heard moment entity later before mid after new one place hold address left w
       done = h.done ++ heard.outputs;
       stands = k.does.stands;
       moment_is = h.moment_is;
-      appends = appends_both (Gives moment) before mid after h.done heard.outputs h.appends k.does.appends;
+      appends = appends_both moment before mid after h.done heard.outputs h.appends k.does.appends;
       new_is =
           ap (λ (b : Bool). b || one) h.new_is ∙ ap (λ (b : Bool). list_any tells_new h.done || b) k.new_is
           ∙ sym (list_any-append tells_new h.done heard.outputs);

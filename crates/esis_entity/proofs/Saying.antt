@@ -5,10 +5,10 @@ use Rattle.std.proofs.lemmas.List.FromFn.{map-range_with_len_more}
 use Rattle.nsap.specs.declared.target.Target.{Target}
 use Rattle.clnp_plan.specs.declared.output.Output.{Output}
 use Rattle.clnp_machine.specs.Esis.{hearers, hello_everywhere, own_hello}
-use Rattle.clnp_machine.specs.Given.{Appends, Gives}
+use Rattle.clnp_machine.specs.Given.{Appends}
 use Rattle.clnp_machine.specs.System as machine
 use Rattle.clnp_machine.specs.System.{SendsEsis, SystemState}
-use Rattle.clnp_base.proofs.Pairwise.{appends_both}
+use Rattle.esis_entity.proofs.Effects.{appends_both}
 
 abbrev says : SystemState → ℕ → machine.Output
 says s port = SendsEsis port (hearers s.configuration.role) (own_hello s)
@@ -20,7 +20,7 @@ pub one_said : (moment : ℕ) (before mid after : List Output) (s : SystemState)
 one_said moment before mid after s port to h k is =
     let said : Appends moment mid after (says s port ∷ []) = subst (λ (t : Target). Appends moment mid after (SendsEsis port t (own_hello s) ∷ [])) is k in
     subst (λ (list : List machine.Output). Appends moment before after list) (sym (map-range_with_len_more (says s) 0 port port (omega arith)))
-    (appends_both (Gives moment) before mid after (map (says s) (range_with_len 0 port)) (says s port ∷ []) h said)
+    (appends_both moment before mid after (map (says s) (range_with_len 0 port)) (says s port ∷ []) h said)
 
 pub all_said : (moment : ℕ) (before after : List Output) (s : SystemState) (port : ℕ) → port ≡ length s.configuration.ports
     → Appends moment before after (map (λ port. SendsEsis port (hearers s.configuration.role) (own_hello s)) (range_with_len 0 port))

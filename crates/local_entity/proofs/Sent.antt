@@ -122,9 +122,9 @@ unit_is_sent u hop port head body len result cuts before after made e say ok lea
     let p : Packet = whole_packet u in
     let h : IsCarriable p = whole_carriable u made.spells.pdu first in
     record {
-      added = map (transmission false hop body) cuts;
+      outputs = map (transmission false hop body) cuts;
       appended = written;
-      pairwise = cuts_are_sent p (segmenter.cut (value_of p) port.mtu) (cut p port.mtu) body u.made hop (segment_length (value_of p)) result cuts
+      give_all = cuts_are_sent p (segmenter.cut (value_of p) port.mtu) (cut p port.mtu) body u.made hop (segment_length (value_of p)) result cuts
           (cut_both p port.mtu h least) (say (value_of p) made.spells (unit_length u body made.shown len e)) ok
           (made.shown ∙ sym (whole_body u)) made.whole refl;
     }
@@ -139,9 +139,9 @@ unit_is_dropped u hop port head body len result refused before after made e say 
     let p : Packet = whole_packet u in
     let h : IsCarriable p = whole_carriable u made.spells.pdu first in
     record {
-      added = Noted (Discard (reason_code SegmentationNotPermitted) 0) ∷ [];
+      outputs = Noted (Discard (reason_code SegmentationNotPermitted) 0) ∷ [];
       appended = written;
-      pairwise = none_is_sent p (segmenter.cut (value_of p) port.mtu) (cut p port.mtu) u.made hop (segment_length (value_of p)) result refused
+      give_all = none_is_sent p (segmenter.cut (value_of p) port.mtu) (cut p port.mtu) u.made hop (segment_length (value_of p)) result refused
           (cut_both p port.mtu h least) (say (value_of p) made.spells (unit_length u body made.shown len e)) err;
     }
 

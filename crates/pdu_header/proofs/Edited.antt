@@ -8,7 +8,6 @@ use Rattle.clnp_options.specs.Grammar.{FitsKind}
 use Rattle.clnp_options.specs.Rules.{Accepts, IsWellFormed}
 use Rattle.clnp_options.specs.Edits.{target_of}
 use Rattle.clnp_options.proofs.Parts.{parameters-of_spelled}
-use Rattle.clnp_options.proofs.Agree.{forms_of, well_formed_from, spells_of, accepts_from}
 use Rattle.pdu_header.specs.declared.kind.Kind.{Kind}
 use Rattle.pdu_header.specs.declared.kind.Kind.TheVariants.{Dt, Er, Erq, Erp}
 use Rattle.pdu_header.specs.Value.{SegmentationPart, PduValue}
@@ -19,6 +18,7 @@ use Rattle.pdu_header.specs.Parts.{checked}
 use Rattle.pdu_header.specs.Headers.{SpellsHeader, IsEdited, with_options}
 use Rattle.pdu_header.proofs.Written.{length-header}
 use Rattle.pdu_header.proofs.Changed.{Changes, header_length-is}
+use Rattle.pdu_header.proofs.Fields.{forms_of, well_formed_from, spells_of, accepts_from}
 
 -- what stands before the options, with these octets as its checksum
 abbrev pub before_options : PduValue → ℕ → ℕ → List ℕ

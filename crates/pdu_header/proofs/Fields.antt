@@ -6,6 +6,7 @@ use Rattle.pdu_header.specs.Spelling.{counted, pair_of}
 use Rattle.pdu_header.specs.Rules.{octet, pair_at}
 use Rattle.pdu_header.specs.Reading.{address_at}
 use Rattle.pdu_header.proofs.Shape.{pair_again, pair_of_octets}
+pub use Rattle.clnp_options.proofs.Agree.{accepted_anywhere, accepts_from, forms_of, parameters-Forms, spells_of, well_formed_from}
 
 -- each is an octet
 abbrev pub AreOctets : List ℕ → Type 0

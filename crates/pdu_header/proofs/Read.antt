@@ -8,14 +8,13 @@ use Rattle.pdu_header.specs.declared.kind.Kind.{Kind}
 use Rattle.pdu_header.specs.declared.kind.Kind.TheVariants.{Dt}
 use Rattle.clnp_options.specs.Rules.{refusal as options_refusal}
 use Rattle.clnp_options.specs.Grammar.{FitsKind}
-use Rattle.clnp_options.proofs.Agree.{accepts_from, accepted_anywhere, parameters-Forms}
 use Rattle.pdu_header.specs.Value.{SegmentationPart, PduValue}
 use Rattle.pdu_header.specs.Layout.{type_code}
 use Rattle.pdu_header.specs.Spelling.{counted, pair_of, segmentation_octets, variable_part, header_length, segment_length, flags_and_type, unsealed_header, header}
 use Rattle.pdu_header.specs.Grammar.{is_report, IsSegment, IsPdu}
 use Rattle.pdu_header.specs.Rules.{octet, pair_at, type_of, kind_of, is_segmented, has_more, has_right_checksum, wants_report, source_place, part_place, options_place, segment_size, is_bad_address, data_size, is_unfit_range, is_bad_range, options_part}
 use Rattle.pdu_header.specs.Reading.{address_at, segmentation_at, value_of}
-use Rattle.pdu_header.proofs.Fields.{HasAddress, address_here, pair_here}
+use Rattle.pdu_header.proofs.Fields.{HasAddress, address_here, pair_here, accepts_from, accepted_anywhere, parameters-Forms}
 use Rattle.clnp_base.proofs.Choices.{below_not}
 use Rattle.pdu_header.proofs.Accepted.{IsAccepted, within_is, range_is_good}
 use Rattle.pdu_header.proofs.Flags.{kind_read, kind_of_code, code_is_small, report_of_code, AreFlags, flags_read}

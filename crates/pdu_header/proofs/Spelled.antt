@@ -6,12 +6,11 @@ use Rattle.std.proofs.lemmas.Grind.{common_steps}
 use Rattle.nsap.specs.Address.{IsAddress}
 use Rattle.clnp_options.specs.Parameter.{parameters}
 use Rattle.clnp_options.specs.Grammar.{FitsKind, Spells as SpellsOptions}
-use Rattle.clnp_options.proofs.Agree.{spells_of, accepted_anywhere}
 use Rattle.pdu_header.specs.Spelling.{counted, pair_of, segmentation_octets, variable_part, header_length, segment_length, flags_and_type, unsealed_header, header}
 use Rattle.pdu_header.specs.Grammar.{IsSegment, Spells}
 use Rattle.pdu_header.specs.Rules.{octet, pair_at, type_of, is_segmented, has_more, wants_report, source_place, part_place, options_place, segment_size, data_size, is_bad_range, options_part}
 use Rattle.pdu_header.specs.Reading.{address_at, segmentation_at, value_of}
-use Rattle.pdu_header.proofs.Fields.{AreOctets, address_split, pair_split}
+use Rattle.pdu_header.proofs.Fields.{AreOctets, address_split, pair_split, spells_of, accepted_anywhere}
 use Rattle.pdu_header.proofs.Accepted.{IsAccepted, IsWithin, within, good_range}
 use Rattle.pdu_header.proofs.Flags.{code_of_kind, report_of_kind, flags_again, flags_octet}
 use Rattle.pdu_header.proofs.Shape.{nine_bare, same_layout, sealing_again, bare_again, pair_is_zero, pair_is_used, pair_of_octets, right_from_test}

@@ -4,7 +4,6 @@ use Rattle.std.specs.Prelude.{option_map}
 use Rattle.fletcher.specs.Checksum.{sealed}
 use Rattle.clnp_options.specs.Parameter.{parameters, spelled}
 use Rattle.clnp_options.specs.Rules.{IsWellFormed}
-use Rattle.clnp_options.proofs.Agree.{forms_of}
 use Rattle.pdu_header.specs.declared.pdu.SegPart.{SegPart}
 use Rattle.pdu_header.specs.declared.parts.Parts.{Parts}
 use Rattle.pdu_header.specs.Value.{SegmentationPart, PduValue}
@@ -14,6 +13,7 @@ use Rattle.pdu_header.specs.Parts.{AreFit, AreNumbers, AreTyped, FitsSegment, pa
 use Rattle.pdu_header.specs.View.{part_value}
 use Rattle.pdu_header.specs.Headers.{IsHeader, SpellsHeader}
 use Rattle.pdu_header.proofs.Shape.{length-sealed}
+use Rattle.pdu_header.proofs.Fields.{forms_of}
 
 pub spelled_again : (options : List ℕ) → IsWellFormed options → spelled (parameters options) ≡ options
 spelled_again options h = sym (forms_of options h).octets

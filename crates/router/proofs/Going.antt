@@ -32,6 +32,7 @@ use Rattle.system_entity.specs.declared.passing.Passing.{Passing}
 use Rattle.system_entity.specs.declared.way.Way.{Way}
 use Rattle.system_entity.specs.Ways.{machine_way, way_option}
 use Rattle.router.specs.Onward.{GoesOn, life_left, way_hop}
+pub use Rattle.clnp_machine.proofs.Given.{appends_for, appends_for_both, appends_none}
 
 -- ---- the way, and its port
 

@@ -9,14 +9,14 @@ use Rattle.clnp_machine.specs.System.{SystemState}
 use Rattle.clnp_machine.specs.Local as local
 use Rattle.clnp_machine.specs.Local.{Sends, Tells}
 use Rattle.clnp_machine.specs.Step.{outputs_of}
-use Rattle.clnp_machine.specs.Given.{Appends, Gives}
-use Rattle.clnp_base.proofs.Pairwise.{appends_both, appends_none}
+use Rattle.clnp_machine.specs.Given.{Appends}
 use Rattle.local_entity.specs.declared.action.Action.{Action}
 use Rattle.local_entity.specs.Local.{Does, DoAll}
 use Rattle.local_entity.specs.Local as entity
 use Rattle.system_entity.specs.Deeds.{IsFresh}
 use Rattle.system_entity.specs.State.{SystemEntityState}
 use Rattle.system_entity.specs.Stands.{PartsStandSince}
+pub use Rattle.clnp_machine.proofs.Given.{appends_both, appends_none, appends_note}
 
 -- some actions of the model, and the last of them, apart
 pub record DoLast (actions : List Action) (action : Action) (others : List local.Action) : Type 0 where
@@ -58,7 +58,7 @@ GivesOut here before after actions =
     → AllByRecursion (IsFresh s.moment) others → Appends s.moment before after (flat_map (outputs_of s) others)
 
 pub gives_none : (here : SystemEntityState) (list : List Output) → GivesOut here list list []
-gives_none here list s since [] stands all fresh = appends_none (Gives s.moment) list list refl
+gives_none here list s since [] stands all fresh = appends_none s.moment list list refl
 gives_none here list s since (other ∷ others) stands all fresh = absurd all
 
 pub gives_more : (here : SystemEntityState) (before mid after : List Output) (actions : List Action) (action : Action)
@@ -69,7 +69,7 @@ pub gives_more : (here : SystemEntityState) (before mid after : List Output) (ac
 gives_more here before mid after actions action so_far next s since others stands all fresh =
     let r = do_last actions action others all in
     let parts = all_last s.moment r.front r.last (subst (λ (list : List local.Action). AllByRecursion (IsFresh s.moment) list) r.are fresh) in
-    let both = appends_both (Gives s.moment) before mid after (flat_map (outputs_of s) r.front) (outputs_of s r.last)
+    let both = appends_both s.moment before mid after (flat_map (outputs_of s) r.front) (outputs_of s r.last)
     (so_far s since r.front stands r.do_front parts.0) (next s since r.last stands r.does parts.1) in
     let joined : flat_map (outputs_of s) others ≡ flat_map (outputs_of s) r.front ++ outputs_of s r.last =
     ap (λ (list : List local.Action). flat_map (outputs_of s) list) r.are ∙ flat_map-append (outputs_of s) r.front (r.last ∷ [])
@@ -86,5 +86,5 @@ all_done fresh actions others none h =
 pub appends_fresh : (moment : ℕ) (fresh list before after : List Output) (others : List machine.Output) → fresh ≡ [] → after ≡ before ++ list
     → Appends moment fresh list others → Appends moment before after others
 appends_fresh moment fresh list before after others none written h =
-    let all : list ≡ h.added = h.appended ∙ ap (λ (start : List Output). start ++ h.added) none in
-    record { added = h.added; appended = written ∙ ap (λ (outputs : List Output). before ++ outputs) all; pairwise = h.pairwise }
+    let all : list ≡ h.outputs = h.appended ∙ ap (λ (start : List Output). start ++ h.outputs) none in
+    record { outputs = h.outputs; appended = written ∙ ap (λ (outputs : List Output). before ++ outputs) all; give_all = h.give_all }

@@ -3,9 +3,9 @@ use Rattle.std.proofs.Common.{◌≡◌, refl, subst, List, None, Some}
 use Rattle.std.specs.Prelude.{slice_get}
 use Rattle.std.proofs.lemmas.Result.{on_ok_weaker}
 use Rattle.clnp_plan.specs.declared.config.PortConfig.{PortConfig}
-use Rattle.clnp_machine.specs.Given.{Appends, Gives}
+use Rattle.clnp_machine.specs.Given.{Appends}
 use Rattle.clnp_machine.specs.System.{Output}
-use Rattle.clnp_base.proofs.Pairwise.{appends_one}
+use Rattle.clnp_machine.proofs.Given.{appends_note}
 use Rattle.local_entity.proofs.Sent.{port_at, port_missing, sent_by, sent_by_none}
 use Rattle.local_entity.proofs.sending.send_unit.Goals as goal
 
@@ -17,7 +17,7 @@ returns-in_default-get c =
     (port_missing c.ports.result.now c.in-Some.hop.port c.from.result c.from.ensures c.in_default-get.ensures.lookup.0) in
     subst (λ (others : List Output). Appends u.made c.args.out.now.items c.note-in_default-get.new.out.items others)
     (sent_by_none s u c.in-Some.hop c.args.hop c.args.config.now same c.in-Some.is none)
-    (appends_one (Gives u.made) c.args.out.now.items c.note-in_default-get.new.out.items _ _ written refl))
+    (appends_note u.made c.args.out.now.items c.note-in_default-get.new.out.items _ _ written refl))
     c.note-in_default-get.ensures
 
 pub returns : goal.returns

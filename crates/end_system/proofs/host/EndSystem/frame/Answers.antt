@@ -6,10 +6,10 @@ use Rattle.clnp_plan.specs.Configuration.{SystemConfiguration}
 use Rattle.clnp_plan.specs.declared.note.Note.TheVariants.{NotMine}
 use Rattle.clnp_plan.specs.declared.output.Output.{Output}
 use Rattle.clnp_plan.specs.declared.output.Output.TheVariants.{Note}
-use Rattle.clnp_machine.specs.Given.{Appends, Gives}
+use Rattle.clnp_machine.specs.Given.{Appends}
 use Rattle.clnp_machine.specs.Step.{content_comes}
 use Rattle.clnp_machine.specs.System.{Effect}
-use Rattle.clnp_base.proofs.Pairwise.{appends_one}
+use Rattle.clnp_machine.proofs.Given.{appends_note}
 use Rattle.system_entity.specs.Comes.{ComesOf, LeavesAsItWas}
 use Rattle.system_entity.specs.Stands as entity
 use Rattle.system_entity.specs.State.{SystemEntityState}
@@ -63,5 +63,5 @@ returns-in-Passes-clause-outputs c =
     let written = noted ∙ ap (λ (outputs : List Output). outputs ++ Note (NotMine c.in-Passes.passing.to) ∷ []) left.1 in
     subst (λ (effect : Effect). Appends moment c.args.out.now.items c.note.new.out.items effect.outputs)
     (sym (passed s place c.args.group content c.in-Passes.passing other role))
-    (appends_one (Gives moment) c.args.out.now.items c.note.new.out.items _ _ written refl))
+    (appends_note moment c.args.out.now.items c.note.new.out.items (NotMine c.in-Passes.passing.to) (NotMine c.in-Passes.passing.to) written refl))
     c.note.ensures.noted

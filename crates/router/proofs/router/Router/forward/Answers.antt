@@ -1,14 +1,13 @@
 -- The pieces go on under their own headers, over the data in the frame, and then the redirect, if there is one.
-use Rattle.std.proofs.Common.{◌≡◌, ◌∙◌, sym, ap, subst, ℕ, true, List, ◌++◌, length, map, inl}
+use Rattle.std.proofs.Common.{◌≡◌, ◌∙◌, sym, ap, subst, ℕ, true, List, ◌++◌, length, map}
 use Rattle.std.proofs.lemmas.Result.{on_ok_weaker}
 use Rattle.clnp_views.specs.Extent.{Extent, part, seen, whole}
 use Rattle.clnp_machine.specs.Content.{Labelled}
-use Rattle.clnp_machine.specs.Given.{Appends, AppendsFor, GivesFor, Gives}
+use Rattle.clnp_machine.specs.Given.{Appends, AppendsFor}
 use Rattle.clnp_machine.specs.Local.{discard}
 use Rattle.clnp_machine.specs.Step.{effect_of, options_behind, redirects}
 use Rattle.clnp_machine.specs.System.{Effect, Output, SystemState}
 use Rattle.clnp_machine.specs.Unit.{value_of}
-use Rattle.clnp_base.proofs.Pairwise.{appends_both, appends_weaker}
 use Rattle.local_entity.specs.Sending.{transmission}
 use Rattle.local_entity.specs.declared.sending.Hop.{Hop}
 use Rattle.system_entity.specs.Stands as entity
@@ -16,7 +15,7 @@ use Rattle.system_entity.specs.State.{SystemEntityState}
 use Rattle.system_entity.specs.Ways.{machine_way}
 use Rattle.router.specs.Onward.{way_hop}
 use Rattle.router.specs.State.{RouterState}
-use Rattle.router.proofs.Going.{data_in, hop_is}
+use Rattle.router.proofs.Going.{data_in, hop_is, appends_for, appends_for_both}
 use Rattle.router.proofs.Passing.{onward}
 use Rattle.router.proofs.router.Router.forward.Goals as goal
 
@@ -35,7 +34,7 @@ returns-in-Err-clause-outputs c =
     on_ok_weaker c.discard.result (λ dropped s p following h carriable has frame.
     let stands = subst (λ (router : RouterState). entity.Stands router.entity s) (sym c.self.view_is) h in
     let is = c.in-Err.ensures.goes s c.args.came.now p following h carriable has in
-    appends_weaker (Gives s.moment) (GivesFor s.moment (Labelled p following)) (λ output other gives. inl gives) c.args.out.now.items c.discard.new.out.items (onward s c.args.came.now p following).outputs
+    appends_for s.moment (Labelled p following) c.args.out.now.items c.discard.new.out.items (onward s c.args.came.now p following).outputs
     (subst (λ (others : List Output). Appends s.moment c.args.out.now.items c.discard.new.out.items others)
     (ap (λ (reason : ℕ). (effect_of (discard s (Labelled p following) reason 0)).outputs) c.code.ensures ∙ sym (ap (λ (e : Effect). e.outputs) is))
     (dropped s (Labelled p following) stands carriable (sym frame))))
@@ -62,16 +61,16 @@ returns-in_default-clause-outputs c = λ s p following h carriable has frame.
     let hop : c.hop.result ≡ way_hop way = hop_is c.hop.result way c.hop.ensures in
     let first : AppendsFor s.moment (Labelled p following) c.args.out.now.items c.pass_on.new.out.items goes.pieces =
     record {
-      added = map (transmission true (way_hop way) body) c.in-Ok.field-0.cuts;
+      outputs = map (transmission true (way_hop way) body) c.in-Ok.field-0.cuts;
       appended = subst (λ (to : Hop). c.pass_on.new.out.items ≡ c.args.out.now.items ++ map (transmission true to body) c.in-Ok.field-0.cuts) hop
           c.in_ok-pass_on-in-Ok.ensures.given;
-      pairwise = goes.given body shown (ap length shown ∙ has.len);
+      give_all = goes.given body shown (ap length shown ∙ has.len);
     } in
-    let second = appends_weaker (Gives s.moment) (GivesFor s.moment (Labelled p following)) (λ output other gives. inl gives) c.pass_on.new.out.items c.redirect.new.out.items
+    let second = appends_for s.moment (Labelled p following) c.pass_on.new.out.items c.redirect.new.out.items
     (redirects s c.args.came.now p (options_behind s p.options) (machine_way way))
     (c.in_default.ensures.outputs s p (options_behind s p.options)
     (subst (λ (e : SystemEntityState). entity.Stands e s) (sym c.in_ok-pass_on-in-Ok.ensures.same) stands) has goes.towards_title) in
     subst (λ (others : List Output). AppendsFor s.moment (Labelled p following) c.args.out.now.items c.redirect.new.out.items others)
     (sym goes.outputs)
-    (appends_both (GivesFor s.moment (Labelled p following)) c.args.out.now.items c.pass_on.new.out.items c.redirect.new.out.items goes.pieces
+    (appends_for_both s.moment (Labelled p following) c.args.out.now.items c.pass_on.new.out.items c.redirect.new.out.items goes.pieces
     (redirects s c.args.came.now p (options_behind s p.options) (machine_way way)) first second)

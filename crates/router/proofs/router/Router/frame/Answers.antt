@@ -1,11 +1,11 @@
 -- What its entity leaves to it is forwarded.
-use Rattle.std.proofs.Common.{◌∙◌, sym, ap, subst, ℕ, List, inl}
+use Rattle.std.proofs.Common.{◌∙◌, sym, ap, subst, ℕ, List}
 use Rattle.std.proofs.lemmas.Result.{on_ok_weaker}
 use Rattle.esis_tables.specs.declared.fact.Place.{Place}
 use Rattle.clnp_plan.specs.Configuration.{SystemConfiguration}
 use Rattle.clnp_plan.specs.declared.output.Output.{Output}
 use Rattle.clnp_machine.specs.Content.{Content, Labelled, frame_of}
-use Rattle.clnp_machine.specs.Given.{Appends, AppendsFor, Gives, GivesFor}
+use Rattle.clnp_machine.specs.Given.{Appends, AppendsFor}
 use Rattle.clnp_machine.specs.Step.{content_comes}
 use Rattle.clnp_machine.specs.System as machine
 use Rattle.clnp_machine.specs.System.{SystemState}
@@ -16,7 +16,7 @@ use Rattle.system_entity.specs.declared.entity.Arrival.{Arrival}
 use Rattle.router.specs.State.{RouterState}
 use Rattle.router.proofs.Passing.{onward, passed_after, passed_outputs}
 use Rattle.router.proofs.router.Router.frame.Goals as goal
-use Rattle.clnp_base.proofs.Pairwise.{appends_weaker}
+use Rattle.router.proofs.Going.{appends_for}
 
 pub returns-in-Done-clause-stands : goal.returns-in-Done-clause-stands
 returns-in-Done-clause-stands c = λ s content h carried frame.
@@ -32,7 +32,7 @@ returns-in-Done-clause-outputs c = λ s content h carried frame.
     let place : Place = record { port = c.args.port; snpa = c.args.from } in
     let done = subst (λ (arrival : Arrival). ComesOf arrival s place c.args.group content
     c.frame.new.self c.args.out.now.items c.frame.new.out.items) c.in-Done.is (c.in_ok-frame.ensures.comes s content stands carried frame) in
-    appends_weaker (Gives c.args.self.now.entity.moment) (GivesFor c.args.self.now.entity.moment content) (λ output other gives. inl gives) c.args.out.now.items c.frame.new.out.items (content_comes s place c.args.group content).outputs
+    appends_for c.args.self.now.entity.moment content c.args.out.now.items c.frame.new.out.items (content_comes s place c.args.group content).outputs
     (subst (λ (moment : ℕ). Appends moment c.args.out.now.items c.frame.new.out.items (content_comes s place c.args.group content).outputs)
     (sym h.parts.moment) done.outputs)
 

@@ -1,16 +1,15 @@
 -- Buffers end, what was heard is forgotten, and a hello may be due.
 use Rattle.std.proofs.Common.{◌≡◌, ◌∙◌, ℕ, ◌≤◌, sym, subst, ◌++◌}
 use Rattle.std.specs.List.{AllByRecursion}
-use Rattle.clnp_machine.specs.Given.{Appends, Gives}
+use Rattle.clnp_machine.specs.Given.{Appends}
 use Rattle.clnp_machine.specs.Esis.{forgets, says_hello}
 use Rattle.clnp_machine.specs.Local.{at_moment, tick}
 use Rattle.clnp_machine.specs.Step.{effect_of}
 use Rattle.clnp_machine.specs.System.{SystemState, then_does}
-use Rattle.clnp_base.proofs.Pairwise.{appends_both}
 use Rattle.system_entity.specs.Deeds.{IsFresh}
 use Rattle.system_entity.specs.State.{SystemEntityState}
 use Rattle.system_entity.specs.Stands.{PartsStand, PartsStandSince}
-use Rattle.system_entity.proofs.Outputs.{all_done, appends_fresh}
+use Rattle.system_entity.proofs.Outputs.{all_done, appends_fresh, appends_both}
 use Rattle.system_entity.proofs.Parts.{deed_is_fresh, parts_after_deed, parts_after_hello, parts_later}
 use Rattle.system_entity.proofs.entity.SystemEntity.come_to.Goals as goal
 
@@ -61,5 +60,5 @@ returns-clause-outputs c = λ s h.
     let second = c.in_ok-tick-2.ensures.outputs t s.moment stands.esis configuration now (subst (λ (m : ℕ). s.moment ≤ m) now stands.since) in
     appends_fresh c.args.now c.new-outputs.result.items c.tick-2.new.out.items c.args.out.now.items c.append.new.self.items
     ((effect_of deed).outputs ++ (then_does (forgets s.moment t) says_hello).outputs) c.new-outputs.ensures.items c.in_ok-append.ensures.items
-    (appends_both (Gives c.args.now) c.new-outputs.result.items c.give_out.new.out.items c.tick-2.new.out.items (effect_of deed).outputs
+    (appends_both c.args.now c.new-outputs.result.items c.give_out.new.out.items c.tick-2.new.out.items (effect_of deed).outputs
     (then_does (forgets s.moment t) says_hello).outputs first second)

@@ -1,12 +1,12 @@
 -- An ES-IS PDU is heard, and what isn't one is noted.
 use Rattle.std.proofs.Common.{◌∙◌, sym, ap, subst, ℕ, List}
 use Rattle.pdu_header.specs.Rules.{octet}
-use Rattle.clnp_machine.specs.Given.{Appends, Gives}
+use Rattle.clnp_machine.specs.Given.{Appends}
 use Rattle.clnp_machine.specs.System.{Effect}
-use Rattle.clnp_base.proofs.Pairwise.{appends_one}
 use Rattle.system_entity.specs.Stands.{PartsStand}
 use Rattle.system_entity.proofs.Arrivals.{frame_unheard}
 use Rattle.system_entity.proofs.entity.SystemEntity.other_comes.Goals as goal
+use Rattle.system_entity.proofs.Outputs.{appends_note}
 
 pub returns-in_ok-push-in-Err-clause-stands : goal.returns-in_ok-push-in-Err-clause-stands
 returns-in_ok-push-in-Err-clause-stands c = λ s group content h carried frame.
@@ -21,4 +21,4 @@ returns-in_ok-push-in-Err-clause-outputs c = λ s group content h carried frame.
     (frame_unheard c.no_frame_is_of_both_protocols.ensures.packet s c.args.place group c.bytes.result.now c.in-Err.refusal
     c.in-Err.ensures.judged c.in-Err.ensures.none (λ at. c.requires.other (ap (λ (f : List ℕ). octet f 1) (sym c.bytes.ensures) ∙ at))
     content carried (frame ∙ sym c.bytes.ensures))
-    (appends_one (Gives s.moment) c.args.out.now.items c.push.new.self.items _ _ c.in_ok-push-in-Err.ensures.items c.unheard.ensures)
+    (appends_note s.moment c.args.out.now.items c.push.new.self.items _ _ c.in_ok-push-in-Err.ensures.items c.unheard.ensures)

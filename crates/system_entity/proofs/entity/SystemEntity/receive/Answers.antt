@@ -2,15 +2,14 @@
 use Rattle.std.proofs.Common.{◌≡◌, ◌∙◌, ℕ, true, sym, ap, subst, List, ◌++◌}
 use Rattle.std.specs.List.{AllByRecursion}
 use Rattle.clnp_plan.specs.Configuration.{SystemConfiguration}
-use Rattle.clnp_machine.specs.Given.{Appends, Gives}
+use Rattle.clnp_machine.specs.Given.{Appends}
 use Rattle.clnp_machine.specs.Local.{has_address, is_own, receive}
 use Rattle.clnp_machine.specs.Step.{effect_of, responds}
 use Rattle.clnp_machine.specs.System.{SystemState, Output}
-use Rattle.clnp_base.proofs.Pairwise.{appends_both}
 use Rattle.system_entity.specs.Deeds.{IsFresh}
 use Rattle.system_entity.specs.State.{SystemEntityState}
 use Rattle.system_entity.specs.Stands.{PartsStand}
-use Rattle.system_entity.proofs.Outputs.{all_done, appends_fresh}
+use Rattle.system_entity.proofs.Outputs.{all_done, appends_fresh, appends_both}
 use Rattle.system_entity.proofs.Packets.{frame_is, packet_carriable, packet_of}
 use Rattle.system_entity.proofs.Parts.{deed_is_fresh, parts_after_deed, parts_now}
 use Rattle.system_entity.proofs.Receipt.{received_after, received_outputs}
@@ -58,7 +57,7 @@ returns-clause-outputs c = λ s p following h carriable frame alive own.
     let second = c.in_ok-respond.ensures t p stands alive own_there in
     let all = appends_fresh t.moment c.new-outputs.result.items c.respond.new.out.items c.args.out.now.items c.append.new.self.items
     ((effect_of deed).outputs ++ (responds t c.args.place c.args.group p).outputs) c.new-outputs.ensures.items c.in_ok-append.ensures.items
-    (appends_both (Gives t.moment) c.new-outputs.result.items c.give_out.new.out.items c.respond.new.out.items (effect_of deed).outputs
+    (appends_both t.moment c.new-outputs.result.items c.give_out.new.out.items c.respond.new.out.items (effect_of deed).outputs
     (responds t c.args.place c.args.group p).outputs first second) in
     subst (λ (outputs : List Output). Appends s.moment c.args.out.now.items c.append.new.self.items outputs)
     (sym (received_outputs s p following c.args.place c.args.group alive own))

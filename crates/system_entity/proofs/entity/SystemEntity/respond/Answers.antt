@@ -2,18 +2,18 @@
 use Rattle.std.proofs.Common.{◌∙◌, refl, sym, ap, subst}
 use Rattle.std.proofs.lemmas.Result.{on_ok_weaker}
 use Rattle.clnp_plan.specs.Configuration.{SystemConfiguration}
-use Rattle.clnp_machine.specs.Given.{Appends, Gives}
+use Rattle.clnp_machine.specs.Given.{Appends}
 use Rattle.clnp_machine.specs.System.{Effect}
-use Rattle.clnp_base.proofs.Pairwise.{appends_none}
 use Rattle.system_entity.specs.State.{SystemEntityState}
 use Rattle.system_entity.specs.Stands.{PartsStand}
 use Rattle.system_entity.proofs.Receipt.{alone_is_quiet, host_responds, router_is_quiet}
 use Rattle.system_entity.proofs.entity.SystemEntity.respond.Goals as goal
+use Rattle.system_entity.proofs.Outputs.{appends_none}
 
 pub returns-then-not-group : goal.returns-then-not-group
 returns-then-not-group c = λ s p h alive own.
     subst (λ (e : Effect). Appends s.moment c.args.out.now.items c.args.out.now.items e.outputs) (sym (alone_is_quiet s c.args.place c.args.group p (search)))
-    (appends_none (Gives s.moment) c.args.out.now.items c.args.out.now.items refl)
+    (appends_none s.moment c.args.out.now.items c.args.out.now.items refl)
 
 pub returns-in-Host : goal.returns-in-Host
 returns-in-Host c =
@@ -30,4 +30,4 @@ returns-in-Router c = λ s p h alive own.
     let parts = subst (λ (e : SystemEntityState). PartsStand e s) (sym c.self.view_is) h in
     let role = sym (ap (λ (x : SystemConfiguration). x.role) (c.config.ensures ∙ parts.local.configuration)) ∙ sym c.role.ensures ∙ c.in-Router.is in
     subst (λ (e : Effect). Appends s.moment c.args.out.now.items c.args.out.now.items e.outputs) (sym (router_is_quiet s c.args.place c.args.group p role))
-    (appends_none (Gives s.moment) c.args.out.now.items c.args.out.now.items refl)
+    (appends_none s.moment c.args.out.now.items c.args.out.now.items refl)
