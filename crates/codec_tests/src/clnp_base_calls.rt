@@ -12,28 +12,37 @@ fn letters(alloc: Global, fails: &[u64]) -> Result<MemSource, NoMemory> {
     Ok(MemSource::new(octets, 3, Vec::from_slice(alloc, fails)?))
 }
 
+/// Whether reading of at most so many octets behind a `-` answers this, and this then stands there.
+fn is_read<S: Source>(
+    alloc: Global,
+    source: &mut S,
+    most: usize,
+    answer: Result<(), ReadStop>,
+    held: &[u8],
+) -> bool {
+    let Ok(mut into) = Vec::from_slice(alloc, b"-") else {
+        return false;
+    };
+    read_all(alloc, source, most, &mut into) == answer && into.as_slice() == held
+}
+
 #[test]
 fn reads_to_the_end(rt: HostRuntime) {
-    for (most, answer) in [(8, Ok(())), (7, Err(ReadStop::TooLong))] {
-        let mut source = letters(rt.alloc(), &[]).expect(&rt, "memory");
-        let mut into = Vec::from_slice(rt.alloc(), b"-").expect(&rt, "memory");
-        assert!(rt; read_all(rt.alloc(), &mut source, most, &mut into) == answer);
-        assert!(rt; into.as_slice() == b"-abcdefgh".as_slice());
-    }
+    let alloc = rt.alloc();
+    let mut source = letters(alloc, &[]).expect(&rt, "memory");
+    assert!(rt; is_read(alloc, &mut source, 8, Ok(()), b"-abcdefgh"));
+    let mut source = letters(alloc, &[]).expect(&rt, "memory");
+    let long = Err(ReadStop::TooLong);
+    assert!(rt; is_read(alloc, &mut source, 7, long, b"-abcdefgh"));
 }
 
 #[test]
 fn stops_where_the_source_fails(rt: HostRuntime) {
-    let mut source = letters(rt.alloc(), &[2]).expect(&rt, "memory");
-    let mut into = Vec::new(rt.alloc());
-    let rows = [
-        (100, Err(ReadStop::Failed), b"abc".as_slice()),
-        (5, Ok(()), b"abcdefgh"),
-    ];
-    for (most, answer, held) in rows {
-        assert!(rt; read_all(rt.alloc(), &mut source, most, &mut into) == answer);
-        assert!(rt; into.as_slice() == held);
-    }
+    let alloc = rt.alloc();
+    let mut source = letters(alloc, &[2]).expect(&rt, "memory");
+    let failed = Err(ReadStop::Failed);
+    assert!(rt; is_read(alloc, &mut source, 100, failed, b"-abc"));
+    assert!(rt; is_read(alloc, &mut source, 5, Ok(()), b"-defgh"));
 }
 
 /// Whether writing of a piece answers this, and the sink then holds this.
@@ -51,7 +60,7 @@ fn writes_whole_pieces(rt: HostRuntime) {
 
 #[test]
 fn stops_where_the_sink_fails(rt: HostRuntime) {
-    let fails = Vec::from_slice(rt.alloc(), [2].as_slice()).expect(&rt, "memory");
+    let fails = Vec::from_slice(rt.alloc(), &[2]).expect(&rt, "memory");
     let mut sink = MemSink::new(rt.alloc(), 9, 2, fails).expect(&rt, "memory");
     assert!(rt; is_held(&mut sink, b"abcd", Err(Failed), b"ab"));
 }
@@ -79,9 +88,7 @@ impl Write for Broken {
 #[test]
 fn reads_over_the_machine(rt: HostRuntime) {
     let mut source = StdSource::new(b"abc".as_slice());
-    let mut into = Vec::new(rt.alloc());
-    assert!(rt; read_all(rt.alloc(), &mut source, 3, &mut into) == Ok(()));
-    assert!(rt; into.as_slice() == b"abc".as_slice());
+    assert!(rt; is_read(rt.alloc(), &mut source, 3, Ok(()), b"-abc"));
     assert!(rt; source.into_inner().is_empty());
 }
 

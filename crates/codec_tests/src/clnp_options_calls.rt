@@ -13,8 +13,7 @@ fn follows_routes(rt: HostRuntime) {
     assert!(rt; title == b"\x47\x00\x27\xff".as_slice());
     advance_route(&mut route);
     assert!(rt; route == *b"\xc8\x07\x00\x08\x04\x47\x00\x27\xff");
-    assert!(rt; route_target(&route).is_none());
-    assert!(rt; !is_route_complete(&route));
+    assert!(rt; route_target(&route).is_none() && !is_route_complete(&route));
 }
 
 #[test]

@@ -73,6 +73,9 @@ fn adjusts_worked_headers(rt: HostRuntime) {
         ([0x00, 0x00], 4, 0x09, [0x00, 0x00], true),
     ];
     for (before, place, new, after, right) in changes {
-        assert!(rt; is_adjusted(before, place, new, after, right), "at {after:?}");
+        assert!(rt;
+            is_adjusted(before, place, new, after, right),
+            "at {after:?}"
+        );
     }
 }

@@ -70,32 +70,37 @@ fn writes_texts(rt: HostRuntime) {
     let address = Address::from_text(b"47.00.FF").expect(&rt, "an address");
     let snpa = Snpa::from_bytes(&[0x02, 0xab]).expect(&rt, "a subnetwork address");
     let mut out = Vec::new(rt.alloc());
-    assert!(rt; address.push_text(&mut out).is_ok());
-    assert!(rt; snpa.push_text(&mut out).is_ok());
+    assert!(rt; address.push_text(&mut out).is_ok() && snpa.push_text(&mut out).is_ok());
     assert!(rt; out.as_slice() == b"4700ff02ab".as_slice());
 }
 
 #[test]
 fn reads_prefixes(rt: HostRuntime) {
     let prefix = Prefix::from_text(b"4.a0").expect(&rt, "a prefix");
-    assert!(rt; prefix.len() == 3);
-    assert!(rt; prefix.digit(1) == 10);
+    assert!(rt; prefix.len() == 3 && prefix.digit(1) == 10);
     let all = Prefix::from_text(b"*").expect(&rt, "a prefix");
     assert!(rt; all < prefix);
+}
+
+#[test]
+fn refuses_prefixes(rt: HostRuntime) {
     let many = Prefix::from_text(&[b'0'; 41]);
     assert!(rt; many == Err(NsapFault::TooManyDigits));
     let other = Prefix::from_text(b"47*");
     assert!(rt; other == Err(NsapFault::BadDigit { place: 2 }));
 }
 
+/// Whether an address has eight digits, and a prefix is the first three of them and covers it.
+fn is_prefix_of(address: &Address, prefix: &Prefix) -> bool {
+    let digits = Prefix::of_address(address);
+    digits.len() == 8 && *prefix == digits.first(3) && prefix.covers(address)
+}
+
 #[test]
 fn compares_prefixes_and_addresses(rt: HostRuntime) {
     let address = Address::from_text(b"4A002701").expect(&rt, "an address");
-    let short = Address::from_bytes(&[0x4a]).expect(&rt, "an address");
     let prefix = Prefix::from_text(b"4.a0").expect(&rt, "a prefix");
-    let digits = Prefix::of_address(&address);
-    assert!(rt; digits.len() == 8);
-    assert!(rt; prefix == digits.first(3));
-    assert!(rt; prefix.covers(&address));
-    assert!(rt; !digits.covers(&short));
+    assert!(rt; is_prefix_of(&address, &prefix));
+    let short = Address::from_bytes(&[0x4a]).expect(&rt, "an address");
+    assert!(rt; !Prefix::of_address(&address).covers(&short));
 }
