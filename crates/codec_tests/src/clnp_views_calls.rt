@@ -10,7 +10,8 @@ fn last_of(frame: &Frame) -> Result<View, NoMemory>
     frame.view()?.part(6, 6)
 }
 
-fn is_seen(view: &View, want: &[u8]) -> bool {
+/// Whether a further owner of a view sees these octets.
+fn is_seen(view: View, want: &[u8]) -> bool {
     match view.share() {
         Ok(view) => view.bytes() == want,
         Err(_) => false,
@@ -21,7 +22,7 @@ fn is_seen(view: &View, want: &[u8]) -> bool {
 fn shows_a_frame_and_its_parts(rt: HostRuntime) {
     let frame = Frame::copy(rt.alloc(), b"header, data").expect(&rt, "memory");
     let last = last_of(&frame).expect(&rt, "memory");
-    assert!(rt; is_seen(&last, b", data"));
+    assert!(rt; is_seen(last, b", data"));
     let shared = frame.share().expect(&rt, "memory");
-    assert!(rt; is_seen(&shared.into_view().narrow(0, 6), b"header"));
+    assert!(rt; is_seen(shared.into_view().narrow(0, 6), b"header"));
 }
