@@ -5,55 +5,64 @@ use clnp_base::{
 use std::alloc::Global;
 use std::io;
 use std::io::{ErrorKind, Read, Write};
-use std::test::Fail;
 
-/// A source of `abcdefgh`, three octets a call.
+/// A source of `abcdefgh`, three octets a call, that fails at these calls.
 fn letters(alloc: Global, fails: &[u64]) -> Result<MemSource, NoMemory> {
     let octets = Vec::from_slice(alloc, b"abcdefgh")?;
     Ok(MemSource::new(octets, 3, Vec::from_slice(alloc, fails)?))
 }
 
-#[test]
-fn reads_to_the_end(rt: HostRuntime) -> Result<(), Fail> {
-    let mut into = Vec::from_slice(rt.alloc(), b"-")?;
-    let mut source = letters(rt.alloc(), &[])?;
-    assert_eq!(rt; read_all(rt.alloc(), &mut source, 8, &mut into), Ok(()));
-    assert_eq!(rt; into.as_slice(), b"-abcdefgh".as_slice());
-
-    let mut long = Vec::new(rt.alloc());
-    let mut source = letters(rt.alloc(), &[])?;
-    let answer = read_all(rt.alloc(), &mut source, 7, &mut long);
-    assert_eq!(rt; answer, Err(ReadStop::TooLong));
-    assert_eq!(rt; long.as_slice(), b"abcdefgh".as_slice());
-    Ok(())
+/// Whether reading of at most so many octets behind a `-` answers this, and this then stands there.
+fn is_read<S: Source>(
+    alloc: Global,
+    source: &mut S,
+    most: usize,
+    answer: Result<(), ReadStop>,
+    held: &[u8],
+) -> bool {
+    let Ok(mut into) = Vec::from_slice(alloc, b"-") else {
+        return false;
+    };
+    read_all(alloc, source, most, &mut into) == answer && into.as_slice() == held
 }
 
 #[test]
-fn stops_where_the_source_fails(rt: HostRuntime) -> Result<(), Fail> {
-    let mut into = Vec::new(rt.alloc());
-    let mut source = letters(rt.alloc(), &[2])?;
-    let answer = read_all(rt.alloc(), &mut source, 100, &mut into);
-    assert_eq!(rt; answer, Err(ReadStop::Failed));
-    assert_eq!(rt; into.as_slice(), b"abc".as_slice());
-    assert_eq!(rt; read_all(rt.alloc(), &mut source, 5, &mut into), Ok(()));
-    assert_eq!(rt; into.as_slice(), b"abcdefgh".as_slice());
-    Ok(())
+fn reads_to_the_end(rt: HostRuntime) {
+    let alloc = rt.alloc();
+    let mut source = letters(alloc, &[]).expect(&rt, "memory");
+    assert!(rt; is_read(alloc, &mut source, 8, Ok(()), b"-abcdefgh"));
+    let mut source = letters(alloc, &[]).expect(&rt, "memory");
+    let long = Err(ReadStop::TooLong);
+    assert!(rt; is_read(alloc, &mut source, 7, long, b"-abcdefgh"));
 }
 
 #[test]
-fn writes_whole_pieces(rt: HostRuntime) -> Result<(), Fail> {
-    let mut sink = MemSink::new(rt.alloc(), 5, 1, Vec::new(rt.alloc()))?;
-    assert_eq!(rt; write_all(&mut sink, b"abc"), Ok(()));
-    assert_eq!(rt; sink.as_bytes(), b"abc".as_slice());
-    assert_eq!(rt; write_all(&mut sink, b"def"), Err(Failed));
-    assert_eq!(rt; sink.as_bytes(), b"abcde".as_slice());
-    assert_eq!(rt; sink.write(b""), Ok(0));
+fn stops_where_the_source_fails(rt: HostRuntime) {
+    let alloc = rt.alloc();
+    let mut source = letters(alloc, &[2]).expect(&rt, "memory");
+    let failed = Err(ReadStop::Failed);
+    assert!(rt; is_read(alloc, &mut source, 100, failed, b"-abc"));
+    assert!(rt; is_read(alloc, &mut source, 5, Ok(()), b"-defgh"));
+}
 
-    let fails = Vec::from_slice(rt.alloc(), [2].as_slice())?;
-    let mut sink = MemSink::new(rt.alloc(), 9, 2, fails)?;
-    assert_eq!(rt; write_all(&mut sink, b"abcd"), Err(Failed));
-    assert_eq!(rt; sink.as_bytes(), b"ab".as_slice());
-    Ok(())
+/// Whether writing of a piece answers this, and the sink then holds this.
+fn is_held(sink: &mut MemSink, piece: &[u8], answer: Result<(), Failed>, held: &[u8]) -> bool {
+    write_all(sink, piece) == answer && sink.as_bytes() == held
+}
+
+#[test]
+fn writes_whole_pieces(rt: HostRuntime) {
+    let mut sink = MemSink::new(rt.alloc(), 5, 1, Vec::new(rt.alloc())).expect(&rt, "memory");
+    assert!(rt; is_held(&mut sink, b"abc", Ok(()), b"abc"));
+    assert!(rt; is_held(&mut sink, b"def", Err(Failed), b"abcde"));
+    assert!(rt; sink.write(b"") == Ok(0));
+}
+
+#[test]
+fn stops_where_the_sink_fails(rt: HostRuntime) {
+    let fails = Vec::from_slice(rt.alloc(), &[2]).expect(&rt, "memory");
+    let mut sink = MemSink::new(rt.alloc(), 9, 2, fails).expect(&rt, "memory");
+    assert!(rt; is_held(&mut sink, b"abcd", Err(Failed), b"ab"));
 }
 
 /// A reader and a writer that take and give nothing.
@@ -77,21 +86,24 @@ impl Write for Broken {
 }
 
 #[test]
-fn reads_and_writes_over_the_machine(rt: HostRuntime) -> Result<(), Fail> {
+fn reads_over_the_machine(rt: HostRuntime) {
     let mut source = StdSource::new(b"abc".as_slice());
-    let mut into = Vec::new(rt.alloc());
-    assert_eq!(rt; read_all(rt.alloc(), &mut source, 3, &mut into), Ok(()));
-    assert_eq!(rt; into.as_slice(), b"abc".as_slice());
-    assert_eq!(rt; source.into_inner().len(), 0);
+    assert!(rt; is_read(rt.alloc(), &mut source, 3, Ok(()), b"-abc"));
+    assert!(rt; source.into_inner().is_empty());
+}
 
+#[test]
+fn writes_over_the_machine(rt: HostRuntime) {
     let mut sink = StdSink::new(Vec::new(rt.alloc()));
-    assert_eq!(rt; write_all(&mut sink, b"abc"), Ok(()));
-    assert_eq!(rt; sink.into_inner().as_slice(), b"abc".as_slice());
+    assert!(rt; write_all(&mut sink, b"abc") == Ok(()));
+    assert!(rt; sink.into_inner().as_slice() == b"abc".as_slice());
+}
 
-    assert_eq!(rt; StdSource::new(Broken).read(&mut [0; 4]), Err(Failed));
-    assert_eq!(rt; StdSink::new(Broken).write(b"abc"), Err(Failed));
-    assert_eq!(rt; StdSink::new(Broken).write(b""), Ok(0));
-    Ok(())
+#[test]
+fn fails_where_the_machine_fails(rt: HostRuntime) {
+    assert!(rt; StdSource::new(Broken).read(&mut [0; 4]) == Err(Failed));
+    assert!(rt; StdSink::new(Broken).write(b"abc") == Err(Failed));
+    assert!(rt; StdSink::new(Broken).write(b"") == Ok(0));
 }
 
 #[test]
@@ -108,24 +120,27 @@ fn reads_decimals(rt: HostRuntime) {
         (b"+1".as_slice(), None),
     ];
     for (word, want) in table {
-        assert_eq!(rt; decimal(word), want);
+        assert!(rt; decimal(word) == want);
     }
 }
 
+/// Appends a word, octets, and the least and the largest number.
+fn push_each(out: &mut Vec<u8>) -> Result<(), NoMemory> {
+    push(b"id ", out)?;
+    push_hex(&[0x00, 0x9f, 0xa0, 0xff], out)?;
+    push(b" ", out)?;
+    push_decimal(0, out)?;
+    push(b" ", out)?;
+    push_decimal(u64::MAX, out)
+}
+
 #[test]
-fn puts_text_out(rt: HostRuntime) -> Result<(), Fail> {
+fn puts_text_out(rt: HostRuntime) {
     let mut out = Vec::new(rt.alloc());
-    push(b"id ", &mut out)?;
-    push_hex(&[0x00, 0x9f, 0xa0, 0xff], &mut out)?;
-    push(b" ", &mut out)?;
-    push_decimal(0, &mut out)?;
-    push(b" ", &mut out)?;
-    push_decimal(u64::MAX, &mut out)?;
-    assert_eq!(rt; push_unhex(b"009Fa0fF", &mut out), Ok(()));
-    let octets = Octets::copy(rt.alloc(), &out)?;
-    assert_eq!(rt;
-        octets.as_bytes(),
-        b"id 009fa0ff 0 18446744073709551615\x00\x9f\xa0\xff".as_slice()
+    assert!(rt; push_each(&mut out) == Ok(()));
+    assert!(rt; push_unhex(b"009Fa0fF", &mut out) == Ok(()));
+    let octets = Octets::copy(rt.alloc(), &out).expect(&rt, "memory");
+    assert!(rt;
+        octets.as_bytes() == b"id 009fa0ff 0 18446744073709551615\x00\x9f\xa0\xff".as_slice()
     );
-    Ok(())
 }

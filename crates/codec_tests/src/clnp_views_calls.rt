@@ -1,12 +1,28 @@
-use clnp_views::Frame;
-use std::test::Fail;
+ghost use Rattle.std.specs.Prelude.{◌≤◌, length};
+
+use clnp_base::NoMemory;
+use clnp_views::{Frame, View};
+
+/// Octets 7 to 12 of a frame, for a further owner.
+fn last_of(frame: &Frame) -> Result<View, NoMemory>
+    requires { 12 ≤ length frame.now }
+{
+    frame.view()?.part(6, 6)
+}
+
+/// Whether a further owner of a view sees these octets.
+fn is_seen(view: View, want: &[u8]) -> bool {
+    match view.share() {
+        Ok(view) => view.bytes() == want,
+        Err(_) => false,
+    }
+}
 
 #[test]
-fn shows_a_frame_and_its_parts(rt: HostRuntime) -> Result<(), Fail> {
-    let frame = Frame::copy(rt.alloc(), b"header, data")?;
-    let last = frame.view()?.part(6, 6)?;
-    assert!(rt; last.share()?.bytes() == b", data".as_slice());
-    let header = frame.share()?.into_view().narrow(0, 6);
-    assert!(rt; header.bytes() == b"header".as_slice());
-    Ok(())
+fn shows_a_frame_and_its_parts(rt: HostRuntime) {
+    let frame = Frame::copy(rt.alloc(), b"header, data").expect(&rt, "memory");
+    let last = last_of(&frame).expect(&rt, "memory");
+    assert!(rt; is_seen(last, b", data"));
+    let shared = frame.share().expect(&rt, "memory");
+    assert!(rt; is_seen(shared.into_view().narrow(0, 6), b"header"));
 }

@@ -2,7 +2,6 @@
 use esis_pdus::{HelloRefusal, decode, encode, esh, ish, rd};
 use nsap::{Address, Snpa};
 use std::alloc::Global;
-use std::test::Fail;
 
 /// The end system hello of the address 47002702.
 const HOST: &[u8] = b"\x82\x0f\x01\x00\x02\x00\x78\x32\x4b\x01\x04\x47\x00\x27\x02";
@@ -16,35 +15,38 @@ const SUGGESTS: &[u8] = b"\x82\x12\x01\x00\x04\x00\x78\x5b\x39\x04\x47\x00\x27\x
 /// The redirect towards 47002701, which is itself at the subnetwork address 02.
 const REDIRECT: &[u8] = b"\x82\x11\x01\x00\x06\x00\x78\xad\xc8\x04\x47\x00\x27\x01\x01\x02\x00";
 
+/// The redirect there by way of the title 470027ff, without a checksum.
+const TITLED: &[u8] =
+    b"\x82\x15\x01\x00\x06\x00\x78\x00\x00\x04\x47\x00\x27\x01\x01\x02\x04\x47\x00\x27\xff";
+
 #[test]
-fn makes_the_worked_pdus(rt: HostRuntime) -> Result<(), Fail> {
-    let host = Address::from_text(b"47002702")?;
-    let title = Address::from_text(b"470027ff")?;
-    let to = Address::from_text(b"47002701")?;
-    let via = Snpa::from_text(b"02")?;
-    let hello = esh(120, &[host], true).ok().ok_or("too long")?;
+fn makes_the_worked_hellos(rt: HostRuntime) {
+    let host = Address::from_text(b"47002702").expect(&rt, "an address");
+    let hello = esh(120, &[host], true).expect(&rt, "a hello");
     assert!(rt; hello.as_bytes() == HOST);
+    let title = Address::from_text(b"470027ff").expect(&rt, "a title");
     assert!(rt; ish(120, &title, None, true).as_bytes() == ROUTER);
     assert!(rt; ish(120, &title, Some(30), true).as_bytes() == SUGGESTS);
-    assert!(rt; rd(120, &to, &via, None, true).as_bytes() == REDIRECT);
-    let other = rd(120, &to, &via, Some(&title), false);
-    assert!(rt;
-        other.as_bytes()
-            == b"\x82\x15\x01\x00\x06\x00\x78\x00\x00\x04\x47\x00\x27\x01\x01\x02\x04\x47\x00\x27\xff".as_slice()
-    );
-    Ok(())
 }
 
 #[test]
-fn counts_the_octets_of_a_hello(rt: HostRuntime) -> Result<(), Fail> {
-    let address = Address::from_bytes(&[0x47; 20])?;
-    let eleven = esh(120, &[address; 11], true).ok().ok_or("too long")?;
+fn makes_the_worked_redirects(rt: HostRuntime) {
+    let to = Address::from_text(b"47002701").expect(&rt, "an address");
+    let via = Snpa::from_text(b"02").expect(&rt, "a subnetwork address");
+    assert!(rt; rd(120, &to, &via, None, true).as_bytes() == REDIRECT);
+    let title = Address::from_text(b"470027ff").expect(&rt, "a title");
+    assert!(rt; rd(120, &to, &via, Some(&title), false).as_bytes() == TITLED);
+}
+
+#[test]
+fn counts_the_octets_of_a_hello(rt: HostRuntime) {
+    let address = Address::from_bytes(&[0x47; 20]).expect(&rt, "an address");
+    let eleven = esh(120, &[address; 11], true).expect(&rt, "a hello");
     assert!(rt; eleven.as_bytes().len() == 241);
     let refused = esh(120, &[address; 12], true).err();
     assert!(rt; refused == Some(HelloRefusal::TooLong { octets: 262 }));
-    let none = esh(120, &[], false).ok().ok_or("too long")?;
+    let none = esh(120, &[], false).expect(&rt, "a hello");
     assert!(rt; none.as_bytes() == b"\x82\x0a\x01\x00\x02\x00\x78\x00\x00\x00".as_slice());
-    Ok(())
 }
 
 /// The holding time of a frame's PDU, where the frame is that PDU and it is written again as it stands.

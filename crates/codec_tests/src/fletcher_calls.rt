@@ -1,59 +1,60 @@
 //! Worked headers: the values were typed from outside, and are no output of the program.
 use fletcher::{adjust, is_right, seal};
 
+/// Whether a header is right, is wrong where one of octets 8 and 9 is 0, is right where both are, and is then sealed
+/// as it stood.
+fn is_sealed_again(head: &[u8]) -> bool {
+    let mut room = [0u8; 25];
+    if head.len() < 9 || head.len() > 25 {
+        return false;
+    }
+    let made = &mut room[..head.len()];
+    made.copy_from_slice(head);
+    made[7] = 0;
+    let half = is_right(made);
+    made[8] = 0;
+    let without = is_right(made);
+    seal(made);
+    is_right(head) && !half && without && *made == *head
+}
+
 /// Headers with the checksum that seals them.
 #[test]
 fn seals_worked_headers(rt: HostRuntime) {
     let heads = [
-        [
-            0x81, 0x13, 0x01, 0x0a, 0x3c, 0x00, 0x15, 0xce, 0x58, 0x04, 0x47, 0x00, 0x27, 0x01,
-            0x04, 0x47, 0x00, 0x27, 0x02,
-        ]
-        .as_slice(),
-        [
-            0x81, 0x13, 0x01, 0x09, 0x3c, 0x00, 0x15, 0xd3, 0x54, 0x04, 0x47, 0x00, 0x27, 0x01,
-            0x04, 0x47, 0x00, 0x27, 0x02,
-        ]
-        .as_slice(),
-        [
-            0x82, 0x0e, 0x01, 0x00, 0x04, 0x00, 0x78, 0xb1, 0xcd, 0x04, 0x47, 0x00, 0x27, 0xff,
-        ]
-        .as_slice(),
-        [
-            0x82, 0x0f, 0x01, 0x00, 0x02, 0x00, 0x78, 0x32, 0x4b, 0x01, 0x04, 0x47, 0x00, 0x27,
-            0x02,
-        ]
-        .as_slice(),
-        [
-            0x82, 0x11, 0x01, 0x00, 0x06, 0x00, 0x78, 0xad, 0xc8, 0x04, 0x47, 0x00, 0x27, 0x01,
-            0x01, 0x02, 0x00,
-        ]
-        .as_slice(),
-        [
-            0x81, 0x19, 0x01, 0x0a, 0xfc, 0x05, 0xd9, 0xcb, 0xed, 0x04, 0x47, 0x00, 0x27, 0x01,
-            0x04, 0x47, 0x00, 0x27, 0x02, 0x00, 0x00, 0x00, 0x00, 0x0b, 0xd1,
-        ]
-        .as_slice(),
-        [
-            0x81, 0x19, 0x01, 0x09, 0xfc, 0x01, 0xf9, 0x9c, 0x02, 0x04, 0x47, 0x00, 0x27, 0x01,
-            0x04, 0x47, 0x00, 0x27, 0x02, 0x00, 0x00, 0x00, 0x00, 0x0b, 0xd1,
-        ]
-        .as_slice(),
+        b"\x81\x13\x01\x0a\x3c\x00\x15\xce\x58\x04\x47\x00\x27\x01\x04\x47\x00\x27\x02".as_slice(),
+        b"\x81\x13\x01\x09\x3c\x00\x15\xd3\x54\x04\x47\x00\x27\x01\x04\x47\x00\x27\x02",
+        b"\x82\x0e\x01\x00\x04\x00\x78\xb1\xcd\x04\x47\x00\x27\xff",
+        b"\x82\x0f\x01\x00\x02\x00\x78\x32\x4b\x01\x04\x47\x00\x27\x02",
+        b"\x82\x11\x01\x00\x06\x00\x78\xad\xc8\x04\x47\x00\x27\x01\x01\x02\x00",
+        b"\x81\x19\x01\x0a\xfc\x05\xd9\xcb\xed\x04\x47\x00\x27\x01\x04\x47\x00\x27\x02\x00\x00\x00\x00\x0b\xd1",
+        b"\x81\x19\x01\x09\xfc\x01\xf9\x9c\x02\x04\x47\x00\x27\x01\x04\x47\x00\x27\x02\x00\x00\x00\x00\x0b\xd1",
     ];
     for head in heads {
-        assert!(rt; head.len() >= 9);
-        assert!(rt; head.len() <= 25);
-        assert!(rt; is_right(head));
-        let mut room = [0u8; 25];
-        let made = &mut room[..head.len()];
-        made.copy_from_slice(head);
-        made[7] = 0;
-        assert!(rt; !is_right(made), "exactly one of octets 8 and 9 is 0");
-        made[8] = 0;
-        assert!(rt; is_right(made), "the checksum is not in use");
-        seal(made);
-        assert!(rt; *made == *head);
+        assert!(rt; is_sealed_again(head), "at {head:?}");
     }
+}
+
+/// The first of these headers, with these octets 8 and 9.
+fn worked(checksum: [u8; 2]) -> [u8; 19] {
+    let mut head = *b"\x81\x13\x01\x0a\x3c\x00\x15\xce\x58\x04\x47\x00\x27\x01\x04\x47\x00\x27\x02";
+    head[7] = checksum[0];
+    head[8] = checksum[1];
+    head
+}
+
+/// Whether the worked header with these octets 8 and 9, its place 3 or 4 changed, has those, and is right or not before
+/// and after.
+fn is_adjusted(before: [u8; 2], place: usize, new: u8, after: [u8; 2], right: bool) -> bool {
+    if place != 3 && place != 4 {
+        return false;
+    }
+    let mut head = worked(before);
+    let mut wanted = worked(after);
+    wanted[place - 1] = new;
+    let was_right = is_right(&head);
+    adjust(&mut head, place, new);
+    head == wanted && was_right == right && is_right(&head) == right
 }
 
 /// A header before a change, the place and the new octet, octets 8 and 9 after it, and whether it is right.
@@ -72,20 +73,9 @@ fn adjusts_worked_headers(rt: HostRuntime) {
         ([0x00, 0x00], 4, 0x09, [0x00, 0x00], true),
     ];
     for (before, place, new, after, right) in changes {
-        let mut head = [
-            0x81u8, 0x13, 0x01, 0x0a, 0x3c, 0x00, 0x15, 0xce, 0x58, 0x04, 0x47, 0x00, 0x27, 0x01,
-            0x04, 0x47, 0x00, 0x27, 0x02,
-        ];
-        head[7] = before[0];
-        head[8] = before[1];
-        let mut wanted = head;
-        assert!(rt; place == 3 || place == 4);
-        wanted[place - 1] = new;
-        wanted[7] = after[0];
-        wanted[8] = after[1];
-        assert_eq!(rt; is_right(&head), right);
-        adjust(&mut head, place, new);
-        assert!(rt; head == wanted);
-        assert_eq!(rt; is_right(&head), right);
+        assert!(rt;
+            is_adjusted(before, place, new, after, right),
+            "at {after:?}"
+        );
     }
 }

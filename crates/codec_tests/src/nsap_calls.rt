@@ -1,84 +1,106 @@
 use nsap::{Address, NsapFault, Prefix, Snpa};
-use std::test::Fail;
 
 const TWENTY: &[u8] = b"0102030405060708090a0b0c0d0e0f1011121314";
 
-#[test]
-fn reads_texts(rt: HostRuntime) -> Result<(), Fail> {
-    let four = [0x47, 0x00, 0x27, 0x02];
-    for text in ["47002702", "47.0027.02", ".47..002702.", "4.7002702"] {
-        assert_eq!(rt;
-            Address::from_text(text.as_bytes())?.as_bytes(),
-            four.as_slice()
-        );
-        assert_eq!(rt;
-            Snpa::from_text(text.as_bytes())?.as_bytes(),
-            four.as_slice()
-        );
+/// Whether an address and a subnetwork address of this text have these octets.
+fn is_read(text: &[u8], octets: &[u8]) -> bool {
+    match (Address::from_text(text), Snpa::from_text(text)) {
+        (Ok(address), Ok(snpa)) => address.as_bytes() == octets && snpa.as_bytes() == octets,
+        _ => false,
     }
-    let mixed = Address::from_text(b"aBCdeF")?;
-    assert_eq!(rt; mixed.as_bytes(), [0xab, 0xcd, 0xef].as_slice());
-    let twenty = Address::from_text(TWENTY)?;
-    assert_eq!(rt; twenty.as_bytes().len(), 20);
-    assert_eq!(rt; Address::from_bytes(twenty.as_bytes()), Ok(twenty));
-    Ok(())
 }
 
 #[test]
-fn refuses_texts(rt: HostRuntime) {
-    let digit = |place: usize| NsapFault::BadDigit { place };
-    let cases = [
-        ("", NsapFault::Length),
-        ("...", NsapFault::Length),
-        ("470", NsapFault::Length),
-        ("4.7.0", NsapFault::Length),
-        (
-            "0102030405060708090a0b0c0d0e0f101112131415",
-            NsapFault::Length,
-        ),
-        ("0102030405060708090a0b0c0d0e0f1011121314g", digit(40)),
-        ("g", digit(0)),
-        ("47.0:27", digit(4)),
-        ("47 00", digit(2)),
-        ("4g:", digit(1)),
+fn reads_texts(rt: HostRuntime) {
+    let rows = [
+        ("47002702", b"\x47\x00\x27\x02".as_slice()),
+        ("47.0027.02", b"\x47\x00\x27\x02"),
+        (".47..002702.", b"\x47\x00\x27\x02"),
+        ("4.7002702", b"\x47\x00\x27\x02"),
+        ("aBCdeF", b"\xab\xcd\xef"),
     ];
-    for (text, fault) in cases {
-        assert_eq!(rt;
-            Address::from_text(text.as_bytes()),
-            Err(fault),
-            "at {text}"
-        );
-        assert_eq!(rt; Snpa::from_text(text.as_bytes()), Err(fault), "at {text}");
+    for (text, octets) in rows {
+        assert!(rt; is_read(text.as_bytes(), octets), "at {text}");
     }
 }
 
 #[test]
-fn writes_texts(rt: HostRuntime) -> Result<(), Fail> {
-    let alloc = rt.alloc();
-    let mut out = Vec::new(alloc);
-    Address::from_text(b"47.00.FF")?.push_text(&mut out)?;
-    out.push(b' ')?;
-    Snpa::from_bytes(&[0x02, 0xab])?.push_text(&mut out)?;
-    assert_eq!(rt; out.as_slice(), b"4700ff 02ab".as_slice());
-    Ok(())
+fn reads_twenty_octets(rt: HostRuntime) {
+    let twenty = Address::from_text(TWENTY).expect(&rt, "an address");
+    assert!(rt; twenty.as_bytes().len() == 20);
+    assert!(rt; Address::from_bytes(twenty.as_bytes()) == Ok(twenty));
+}
+
+/// Whether an address and a subnetwork address of this text are refused with this fault.
+fn is_refused(text: &[u8], fault: NsapFault) -> bool {
+    Address::from_text(text) == Err(fault) && Snpa::from_text(text) == Err(fault)
 }
 
 #[test]
-fn reads_prefixes(rt: HostRuntime) -> Result<(), Fail> {
-    let address = Address::from_text(b"4A002701")?;
-    let prefix = Prefix::from_text(b"4.a0")?;
-    let digits = Prefix::of_address(&address);
-    assert!(rt; prefix.len() == 3 && digits.len() == 8);
-    assert!(rt; prefix == digits.first(3) && prefix.digit(1) == 10);
-    assert!(rt; prefix.covers(&address) && !digits.covers(&Address::from_bytes(&[0x4a])?));
-    assert!(rt; Prefix::from_text(b"*")? < prefix);
-    assert_eq!(rt;
-        Prefix::from_text(&[b'0'; 41]),
-        Err(NsapFault::TooManyDigits)
-    );
-    assert_eq!(rt;
-        Prefix::from_text(b"47*"),
-        Err(NsapFault::BadDigit { place: 2 })
-    );
-    Ok(())
+fn refuses_lengths(rt: HostRuntime) {
+    let texts = [
+        "",
+        "...",
+        "470",
+        "4.7.0",
+        "0102030405060708090a0b0c0d0e0f101112131415",
+    ];
+    for text in texts {
+        assert!(rt; is_refused(text.as_bytes(), NsapFault::Length), "at {text}");
+    }
+}
+
+#[test]
+fn refuses_digits(rt: HostRuntime) {
+    let rows = [
+        ("0102030405060708090a0b0c0d0e0f1011121314g", 40),
+        ("g", 0),
+        ("47.0:27", 4),
+        ("47 00", 2),
+        ("4g:", 1),
+    ];
+    for (text, place) in rows {
+        let fault = NsapFault::BadDigit { place };
+        assert!(rt; is_refused(text.as_bytes(), fault), "at {text}");
+    }
+}
+
+#[test]
+fn writes_texts(rt: HostRuntime) {
+    let address = Address::from_text(b"47.00.FF").expect(&rt, "an address");
+    let snpa = Snpa::from_bytes(&[0x02, 0xab]).expect(&rt, "a subnetwork address");
+    let mut out = Vec::new(rt.alloc());
+    assert!(rt; address.push_text(&mut out).is_ok() && snpa.push_text(&mut out).is_ok());
+    assert!(rt; out.as_slice() == b"4700ff02ab".as_slice());
+}
+
+#[test]
+fn reads_prefixes(rt: HostRuntime) {
+    let prefix = Prefix::from_text(b"4.a0").expect(&rt, "a prefix");
+    assert!(rt; prefix.len() == 3 && prefix.digit(1) == 10);
+    let all = Prefix::from_text(b"*").expect(&rt, "a prefix");
+    assert!(rt; all < prefix);
+}
+
+#[test]
+fn refuses_prefixes(rt: HostRuntime) {
+    let many = Prefix::from_text(&[b'0'; 41]);
+    assert!(rt; many == Err(NsapFault::TooManyDigits));
+    let other = Prefix::from_text(b"47*");
+    assert!(rt; other == Err(NsapFault::BadDigit { place: 2 }));
+}
+
+/// Whether an address has eight digits, and a prefix is the first three of them and covers it.
+fn is_prefix_of(address: &Address, prefix: &Prefix) -> bool {
+    let digits = Prefix::of_address(address);
+    digits.len() == 8 && *prefix == digits.first(3) && prefix.covers(address)
+}
+
+#[test]
+fn compares_prefixes_and_addresses(rt: HostRuntime) {
+    let address = Address::from_text(b"4A002701").expect(&rt, "an address");
+    let prefix = Prefix::from_text(b"4.a0").expect(&rt, "a prefix");
+    assert!(rt; is_prefix_of(&address, &prefix));
+    let short = Address::from_bytes(&[0x4a]).expect(&rt, "an address");
+    assert!(rt; !Prefix::of_address(&address).covers(&short));
 }

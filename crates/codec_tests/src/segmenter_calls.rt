@@ -14,18 +14,20 @@ const UNIT: &[u8; 25] =
 /// they are, and whether more follows.
 type Piece = (u16, usize, usize, bool);
 
-/// The pieces of the PDU in a frame, with so many octets of data.
-fn cuts_of(frame: &[u8], body_len: usize, mtu: u16) -> Option<Cuts>
+/// The pieces of this unit.
+fn cuts_of(mtu: u16) -> Option<Cuts>
     requires { 512 ≤ mtu }
-    ensures { IfSome result (AllByRecursion (IsCutOf body_len)) }
+    ensures { IfSome result (AllByRecursion (IsCutOf 3000)) }
 {
-    let Ok(pdu) = decode(frame) else {
+    let mut frame = [0u8; 3025];
+    frame[..25].copy_from_slice(UNIT);
+    let Ok(pdu) = decode(&frame) else {
         return None;
     };
-    if pdu.body.len() != body_len {
+    if pdu.body.len() != 3000 {
         return None;
     }
-    Cuts::new(Header::of(&pdu), body_len, mtu).ok()
+    Cuts::new(Header::of(&pdu), 3000, mtu).ok()
 }
 
 /// Whether these are the pieces that are left.
@@ -60,8 +62,6 @@ fn cut_again(cuts: &mut Cuts) -> Option<Cuts>
 /// A unit of 3,000 octets for MTUs that it passes, fits exactly, and passes by one octet.
 #[test]
 fn cuts_a_unit(rt: HostRuntime) {
-    let mut frame = [0u8; 3025];
-    frame[..25].copy_from_slice(UNIT);
     let rows: [(u16, &[Piece]); 3] = [
         (
             1500,
@@ -76,7 +76,7 @@ fn cuts_a_unit(rt: HostRuntime) {
     ];
     for (mtu, want) in rows {
         assert!(rt; mtu >= 512);
-        let Some(cuts) = cuts_of(&frame, 3000, mtu) else {
+        let Some(cuts) = cuts_of(mtu) else {
             panic!(rt; "no pieces")
         };
         assert!(rt; has_pieces(cuts, want), "at {mtu}");
@@ -85,9 +85,7 @@ fn cuts_a_unit(rt: HostRuntime) {
 
 #[test]
 fn cuts_pieces_again(rt: HostRuntime) {
-    let mut frame = [0u8; 3025];
-    frame[..25].copy_from_slice(UNIT);
-    let Some(mut cuts) = cuts_of(&frame, 3000, 1500) else {
+    let Some(mut cuts) = cuts_of(1500) else {
         panic!(rt; "no pieces")
     };
     let rows: [&[Piece]; 3] = [
@@ -113,32 +111,33 @@ fn cuts_pieces_again(rt: HostRuntime) {
     }
 }
 
-/// The first piece, and the first of its pieces, with their checksums.
+/// The first piece for an MTU of 1,500.
+const FIRST: &[u8] =
+    b"\x81\x19\x01\x0a\xfc\x05\xd9\xcb\xed\x04\x47\x00\x27\x01\x04\x47\x00\x27\x02\x00\x00\x00\x00\x0b\xd1";
+
+/// The first of its pieces for an MTU of 512.
+const SMALLER: &[u8] =
+    b"\x81\x19\x01\x09\xfc\x01\xf9\x9c\x02\x04\x47\x00\x27\x01\x04\x47\x00\x27\x02\x00\x00\x00\x00\x0b\xd1";
+
+/// Whether the next piece has this header.
+fn begins_with(mut cuts: Cuts, header: &[u8]) -> bool {
+    match cuts.next() {
+        Some(cut) => cut.head.as_bytes() == header,
+        None => false,
+    }
+}
+
 #[test]
 fn makes_the_first_headers(rt: HostRuntime) {
-    let mut frame = [0u8; 3025];
-    frame[..25].copy_from_slice(UNIT);
-    let Some(mut cuts) = cuts_of(&frame, 3000, 1500) else {
+    let Some(mut cuts) = cuts_of(1500) else {
         panic!(rt; "no pieces")
     };
-    let Some(mut again) = cut_again(&mut cuts) else {
+    let Some(again) = cut_again(&mut cuts) else {
         panic!(rt; "no piece")
     };
-    let Some(smaller) = again.next() else {
-        panic!(rt; "no piece")
-    };
-    assert!(rt;
-        smaller.head.as_bytes()
-            == b"\x81\x19\x01\x09\xfc\x01\xf9\x9c\x02\x04\x47\x00\x27\x01\x04\x47\x00\x27\x02\x00\x00\x00\x00\x0b\xd1".as_slice()
-    );
-    let Some(mut cuts) = cuts_of(&frame, 3000, 1500) else {
+    assert!(rt; begins_with(again, SMALLER));
+    let Some(cuts) = cuts_of(1500) else {
         panic!(rt; "no pieces")
     };
-    let Some(first) = cuts.next() else {
-        panic!(rt; "no piece")
-    };
-    assert!(rt;
-        first.head.as_bytes()
-            == b"\x81\x19\x01\x0a\xfc\x05\xd9\xcb\xed\x04\x47\x00\x27\x01\x04\x47\x00\x27\x02\x00\x00\x00\x00\x0b\xd1".as_slice()
-    );
+    assert!(rt; begins_with(cuts, FIRST));
 }
