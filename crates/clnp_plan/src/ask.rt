@@ -2,7 +2,7 @@
 use clnp_options::OptionList;
 
 /// How a data unit is to be sent.
-#[derive(Clone, Copy, Debug)]
+#[derive(Clone, Copy)]
 pub struct Ask {
     /// Its lifetime, in ticks of 500 ms (ISO 8473, section 7.2.5).
     pub life: u8,

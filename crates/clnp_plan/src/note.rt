@@ -4,7 +4,7 @@ use nsap::Address;
 use pdu_header::Kind;
 
 /// Why a unit wasn't made.
-#[derive(Clone, Copy, Debug, PartialEq, Eq)]
+#[derive(Clone, Copy, PartialEq, Eq)]
 pub enum Why {
     /// The source isn't an address of the system.
     NotMine,
@@ -17,7 +17,7 @@ pub enum Why {
 }
 
 /// What a system notes: the words of a journal line, in their order.
-#[derive(Debug, Drop)]
+#[derive(Drop)]
 pub enum Note {
     /// A unit was made, with its number, its identifier, and the octets of its data.
     Sent {

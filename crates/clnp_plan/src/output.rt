@@ -4,7 +4,7 @@ use clnp_views::{Head, View};
 use nsap::Target;
 
 /// A frame that goes out on a port: the header's octets, and the data that follow them.
-#[derive(Debug, Drop)]
+#[derive(Drop)]
 pub struct Sending {
     /// The number of the port, from 0.
     pub port: u8,
@@ -16,7 +16,7 @@ pub struct Sending {
 }
 
 /// One output of a system.
-#[derive(Debug, Drop)]
+#[derive(Drop)]
 pub enum Output {
     /// A frame goes out.
     Transmit(Sending),

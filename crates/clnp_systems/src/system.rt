@@ -21,7 +21,7 @@ use router::Router;
 use std::alloc::Global;
 
 /// A host or a router.
-#[derive(Debug, Drop)]
+#[derive(Drop)]
 pub enum System {
     /// An end system.
     Host(EndSystem),

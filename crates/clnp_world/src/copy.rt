@@ -8,7 +8,7 @@ use clnp_views::Frame;
 use nsap::{Snpa, Target};
 
 /// A frame that was put on a subnetwork, by its place among the declarations.
-#[derive(Debug, Drop)]
+#[derive(Drop)]
 pub(crate) struct FrameCopy {
     pub(crate) subnet: u8,
     /// The sender's address there.

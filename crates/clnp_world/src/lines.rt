@@ -68,7 +68,7 @@ impl Counts {
 }
 
 /// Where the lines of a move go.
-#[derive(Debug, Drop)]
+#[derive(Drop)]
 pub(crate) enum Lines {
     /// Their text, behind that of others.
     Written(Vec<u8>),

@@ -18,7 +18,7 @@ mod sending;
 
 /// The systems, the copies that were ever put on a subnetwork, and the clock. After memory was refused in a move it is
 /// in no known state.
-#[derive(Debug, Drop)]
+#[derive(Drop)]
 pub(crate) struct Network {
     /// In ticks of 500 ms.
     pub(crate) clock: u64,

@@ -38,7 +38,7 @@ pub enum WorldRefusal {
 /// A simulated network between two moves.
 ///
 /// Once memory was refused in a move it is spent: every later move is refused too.
-#[derive(Debug, Drop)]
+#[derive(Drop)]
 pub struct World {
     network: Network,
     spent: bool,

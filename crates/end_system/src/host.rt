@@ -29,7 +29,7 @@ use system_entity::{Arrival, SystemEntity};
 /// Once memory was refused in `tick`, `frame`, `send` or `echo` it is spent: from then on each of them answers `NoMemory`.
 ///
 /// A contract says by `Stands` which states of a system it stands for.
-#[derive(Debug, Drop)]
+#[derive(Drop)]
 pub struct EndSystem {
     entity: SystemEntity,
 }

@@ -31,7 +31,7 @@ mod telling;
 /// What a system heard of its neighbours, and when it tells them of itself. Moments are in ticks of 500 ms.
 ///
 /// A contract says by `Stands` which states of a system it stands for.
-#[derive(Debug, Drop)]
+#[derive(Drop)]
 pub struct EsisEntity {
     tables: Tables,
     /// How often it says hello, in seconds; 0 is never.

@@ -6,7 +6,7 @@ use pdu_header::{Header, Kind};
 
 /// A data unit that was made: its number among the system's units, its destination, the header of its initial PDU, and its
 /// data.
-#[derive(Debug, Drop)]
+#[derive(Drop)]
 pub struct Made {
     pub unit: u64,
     pub to: Address,
@@ -15,7 +15,7 @@ pub struct Made {
 }
 
 /// What is done.
-#[derive(Debug, Drop)]
+#[derive(Drop)]
 pub enum Action {
     /// The unit goes out.
     Send(Made),
@@ -25,7 +25,7 @@ pub enum Action {
 
 /// A unit that is about to be made: its kind, its identifier where it has one, its source and its destination, the header of
 /// its initial PDU, and its data.
-#[derive(Debug, Drop)]
+#[derive(Drop)]
 pub struct Draft {
     pub kind: Kind,
     pub id: Option<u16>,

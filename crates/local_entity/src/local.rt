@@ -40,7 +40,7 @@ const MOST_OCTETS: usize = 64_512;
 /// The entity of a system that serves the system's own addresses.
 ///
 /// A contract says by `Stands` which states of a system it stands for.
-#[derive(Debug, Drop)]
+#[derive(Drop)]
 pub struct Local {
     config: SystemConfig,
     pool: IdPool,

@@ -19,7 +19,7 @@ use std::marker::Model;
 const MOST: usize = 8;
 
 /// An echo request that was made: its number among the system's units, its source and its destination, and its data.
-#[derive(Debug, Drop)]
+#[derive(Drop)]
 pub struct Request {
     pub unit: u64,
     pub from: Address,
@@ -28,7 +28,7 @@ pub struct Request {
 }
 
 /// The echo requests of a system that are still to be answered, the oldest first.
-#[derive(Debug, Drop)]
+#[derive(Drop)]
 pub struct Pending {
     requests: Vec<Request>,
 }

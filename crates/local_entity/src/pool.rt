@@ -23,7 +23,7 @@ pub enum DrawRefusal {
 /// where `reuse` ticks have passed since its last use.
 ///
 /// A contract sees what the pool keeps; `Stands` says which uses it stands for.
-#[derive(Debug, Drop)]
+#[derive(Drop)]
 pub struct IdPool {
     reuse: u16,
     quiet: u64,

@@ -42,7 +42,7 @@ use system_entity::{Arrival, Passing, SystemEntity, Way};
 /// Once memory was refused in `tick`, `frame` or `echo` it is spent: from then on each of them answers `NoMemory`.
 ///
 /// A contract says by `Stands` which states of a system it stands for.
-#[derive(Debug, Drop)]
+#[derive(Drop)]
 pub struct Router {
     entity: SystemEntity,
 }

@@ -3,7 +3,7 @@ use clnp_plan::Ask;
 use nsap::{Address, Snpa, Target};
 
 /// The octets of a data unit that is to be sent, in one of the two forms in which they are written.
-#[derive(Debug, Drop)]
+#[derive(Drop)]
 pub enum Body {
     /// The octets themselves.
     Hex(Octets),
@@ -12,7 +12,7 @@ pub enum Body {
 }
 
 /// An event of a scenario; systems and subnetworks are named by their places, from 0.
-#[derive(Debug, Drop)]
+#[derive(Drop)]
 pub enum Event {
     /// A host is asked to send a data unit.
     Send {

@@ -7,7 +7,7 @@ use clnp_plan::{Limits, SystemConfig};
 use std::marker::Model;
 
 /// A subnetwork, named by its place among the declarations, from 0.
-#[derive(Debug, Drop)]
+#[derive(Drop)]
 pub struct Subnet {
     /// The most octets that a frame on it may have.
     pub mtu: u16,
@@ -36,7 +36,7 @@ impl Subnet {
 /// and has its MTU, no two ports of a system are on one subnetwork, each route leads out of a port that is there,
 /// events name declared systems, hosts alone are asked to send, routers alone are said to be congested, and events are
 /// few and say only what a line may say.
-#[derive(Debug, Drop)]
+#[derive(Drop)]
 pub struct Scenario {
     pub(crate) limits: Limits,
     pub(crate) subnets: Vec<Subnet>,

@@ -59,7 +59,7 @@ pub enum Arrival {
 /// `NoMemory`.
 ///
 /// A contract says by `Stands` which states of a system it stands for.
-#[derive(Debug, Drop)]
+#[derive(Drop)]
 pub struct SystemEntity {
     local: Local,
     esis: EsisEntity,
