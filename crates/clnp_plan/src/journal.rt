@@ -77,28 +77,17 @@ pub fn journal_text<'a>(
             ref to,
             unit,
         } => push_echoed(start, from, to, unit, out),
-        Note::Stray { ref from, ref to } => {
-            push_two(start, b"stray", Word::Address(from), Word::Address(to), out)
-        }
+        Note::Stray { ref from, ref to } => push_stray(start, from, to, out),
         Note::Discard { reason, place } => {
             push_two(start, b"drop", Word::Octet(reason), Word::Octet(place), out)
         }
         Note::Held { id, offset, held } => push_held(start, id, offset, held, out),
-        Note::Repeat { id, offset } => {
-            let offset = Word::Number(offset as u64);
-            push_two(start, b"repeat", Word::Identifier(id), offset, out)
-        }
-        Note::Crowded { held, size } => {
-            let size = Word::Number(size as u64);
-            push_two(start, b"crowded", Word::Number(held as u64), size, out)
-        }
+        Note::Repeat { id, offset } => push_segment(start, b"repeat", id, offset as u64, out),
+        Note::Crowded { held, size } => push_crowded(start, held, size, out),
         Note::Many { kept } => push_one(start, b"many", Word::Number(kept as u64), out),
         Note::NoSlot { live } => push_one(start, b"noslot", Word::Number(live as u64), out),
         Note::Interference { id } => push_one(start, b"interference", Word::Identifier(id), out),
-        Note::Expired { id, held } => {
-            let held = Word::Number(held as u64);
-            push_two(start, b"expired", Word::Identifier(id), held, out)
-        }
+        Note::Expired { id, held } => push_segment(start, b"expired", id, held as u64, out),
         Note::NotMine { ref to } => push_one(start, b"notmine", Word::Address(to), out),
         Note::Alien => push_label(start, b"alien", out),
         Note::BadEsis { rule, place } => {
@@ -242,6 +231,52 @@ fn push_held(
     let offset = Word::Number(offset as u64);
     let held = Word::Number(held as u64);
     push_three(start, b"held", Word::Identifier(id), offset, held, out)
+}
+
+/// Appends the line of an echo reply for no request.
+fn push_stray<'a>(
+    start: Start<'a>,
+    from: &'a Address,
+    to: &'a Address,
+    out: &mut Vec<u8>,
+) -> Result<(), NoMemory>
+    ensures written { OnOk result (out.new.items ≡ out.old.items
+        ++ line_from start.entry (codes "stray" ∷ hex_text from.now ∷ hex_text to.now ∷ [])) }
+    ensures same { OnErr result (out.new.items ≡ out.old.items) }
+{
+    push_two(start, b"stray", Word::Address(from), Word::Address(to), out)
+}
+
+/// Appends the line of a segment or a buffer: its identifier and a number.
+fn push_segment<'a>(
+    start: Start<'a>,
+    label: &'a [u8],
+    id: u16,
+    number: u64,
+    out: &mut Vec<u8>,
+) -> Result<(), NoMemory>
+    ensures written { OnOk result (out.new.items ≡ out.old.items
+        ++ line_from start.entry (label.now ∷ hex_text (pair_of id) ∷ decimal number ∷ [])) }
+    ensures same { OnErr result (out.new.items ≡ out.old.items) }
+{
+    push_two(
+        start,
+        label,
+        Word::Identifier(id),
+        Word::Number(number),
+        out,
+    )
+}
+
+/// Appends the line of a segment that isn't kept for its octets.
+fn push_crowded(start: Start<'_>, held: u32, size: u32, out: &mut Vec<u8>) -> Result<(), NoMemory>
+    ensures written { OnOk result (out.new.items ≡ out.old.items
+        ++ line_from start.entry (codes "crowded" ∷ decimal held ∷ decimal size ∷ [])) }
+    ensures same { OnErr result (out.new.items ≡ out.old.items) }
+{
+    let held = Word::Number(held as u64);
+    let size = Word::Number(size as u64);
+    push_two(start, b"crowded", held, size, out)
 }
 
 /// Appends the line of a hearing.
