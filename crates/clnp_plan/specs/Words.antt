@@ -4,8 +4,9 @@ use Rattle.std.specs.Fmt.{decimal}
 use Rattle.nsap.specs.Text.{hex_text}
 use Rattle.pdu_header.specs.Spelling.{pair_of}
 use Rattle.clnp_plan.specs.declared.journal.Word.{Word}
-use Rattle.clnp_plan.specs.declared.journal.Word.TheVariants.{Text, Number, Octet, Identifier, Rule, Octets}
-use Rattle.clnp_plan.specs.Journal.{rule_word}
+use Rattle.clnp_plan.specs.declared.journal.Word.TheVariants.{Text, Number, Octet, Identifier, Rule, Octets, Address}
+use Rattle.clnp_plan.specs.declared.journal.Start.{Start}
+use Rattle.clnp_plan.specs.Journal.{line_of, rule_word}
 
 abbrev pub word_text : Word → List ℕ
 word_text (Text text) = text.now
@@ -14,3 +15,8 @@ word_text (Octet octet) = hex_text (octet ∷ [])
 word_text (Identifier identifier) = hex_text (pair_of identifier)
 word_text (Rule rule) = rule_word rule
 word_text (Octets octets) = hex_text octets.now
+word_text (Address address) = hex_text address.now
+
+-- a system's line: its beginning, and the words behind it
+abbrev pub line_from : Start → List (List ℕ) → List ℕ
+line_from start words = line_of (decimal start.moment) (start.name.now ∷ words)

@@ -197,10 +197,10 @@ impl SystemConfig {
     pub fn copy(&self, alloc: Global) -> Result<SystemConfig, NoMemory>
         ensures { IfOk result (λ copy. copy ≡ self.now) }
     {
-        let name = Vec::from_slice(alloc, &self.name).map_err(|_| NoMemory)?;
-        let addresses = Vec::from_slice(alloc, &self.addresses).map_err(|_| NoMemory)?;
-        let ports = Vec::from_slice(alloc, &self.ports).map_err(|_| NoMemory)?;
-        let routes = Vec::from_slice(alloc, &self.routes).map_err(|_| NoMemory)?;
+        let name = Vec::from_slice(alloc, &self.name)?;
+        let addresses = Vec::from_slice(alloc, &self.addresses)?;
+        let ports = Vec::from_slice(alloc, &self.ports)?;
+        let routes = Vec::from_slice(alloc, &self.routes)?;
         Ok(SystemConfig {
             name,
             role: self.role,

@@ -1,11 +1,13 @@
 //! The text of journal lines: words separated by one space, each line ended by `\n`.
-ghost use Rattle.std.specs.Prelude.{◌≡◌, ◌∷◌, ◌++◌, codes, map, take, length, OnOk, OnErr};
+ghost use Rattle.std.specs.Prelude.{◌≡◌, [], ◌∷◌, ◌++◌, codes, map, take, length, OnOk, OnErr};
+ghost use Rattle.std.specs.Fmt.{decimal};
 ghost use Rattle.nsap.specs.Text.{hex_text};
-ghost use Rattle.clnp_plan.specs.Journal.{Injected, Late, Noted, Transmitted, Void, line_of, line_text, end_text, heard_words, ignored_word, kind_word, on_word, table_word, why_word, octets_word, identifier_word, rule_word, target_word};
-ghost use Rattle.clnp_plan.specs.Words.{word_text};
+ghost use Rattle.pdu_header.specs.Spelling.{pair_of};
+ghost use Rattle.clnp_plan.specs.Journal.{Injected, Late, Noted, Transmitted, Void, line_of, line_text, end_text, heard_words, ignored_word, kind_word, on_word, table_word, why_word, octet_word, octets_word, identifier_word, rule_word, target_word};
+ghost use Rattle.clnp_plan.specs.Words.{line_from, word_text};
 
 use crate::note::{Note, Why};
-use clnp_base::{NoMemory, push, push_decimal, push_hex};
+use clnp_base::{NoMemory, Octets, push, push_decimal, push_hex};
 use esis_tables::{Heard, TableKind};
 use nsap::{Address, Snpa, Target};
 use pdu_header::Kind;
@@ -26,6 +28,8 @@ enum Word<'a> {
     Rule(u8),
     /// Octets, in two hexadecimal digits each.
     Octets(&'a [u8]),
+    /// An address, in two hexadecimal digits an octet.
+    Address(&'a Address),
 }
 
 /// Appends the line of a note: the moment in ticks of 500 ms, the system's name, and the note.
@@ -43,205 +47,325 @@ pub fn journal_text<'a>(
     ensures written { OnOk result (out.new.items ≡ out.old.items ++ line_text (Noted now name.now note.now)) }
     ensures same { OnErr result (out.new.items ≡ out.old.items) }
 {
-    let first = Word::Number(now);
-    let name = Word::Text(name);
-    match note {
+    let start = Start { moment: now, name };
+    match *note {
         Note::Sent {
             kind,
             unit,
             id,
-            from,
-            to,
+            ref from,
+            ref to,
             len,
-        } => {
-            let words = [
-                name,
-                Word::Text(b"sent"),
-                kind_word(*kind),
-                Word::Number(*unit),
-                identifier_word(*id),
-                address_word(from),
-                address_word(to),
-                Word::Number(u64::from(*len)),
-            ];
-            push_line(first, &words, out)
-        }
+        } => push_sent(start, kind, unit, id, from, to, len, out),
         Note::Refused { why, value } => {
-            let words = [
-                name,
-                Word::Text(b"refused"),
-                why_word(*why),
-                Word::Number(*value),
-            ];
-            push_line(first, &words, out)
+            push_two(start, b"refused", why_word(why), Word::Number(value), out)
         }
-        Note::Got { from, to, octets } => {
-            let words = [
-                name,
-                Word::Text(b"got"),
-                address_word(from),
-                address_word(to),
-                octets_word(octets.as_bytes()),
-            ];
-            push_line(first, &words, out)
-        }
+        Note::Got {
+            ref from,
+            ref to,
+            ref octets,
+        } => push_got(start, from, to, octets, out),
         Note::Report {
-            from,
-            to,
+            ref from,
+            ref to,
             reason,
             place,
-            octets,
-        } => {
-            let words = [
-                name,
-                Word::Text(b"report"),
-                address_word(from),
-                address_word(to),
-                Word::Octet(*reason),
-                Word::Octet(*place),
-                octets_word(octets.as_bytes()),
-            ];
-            push_line(first, &words, out)
-        }
-        Note::Echoed { from, to, unit } => {
-            let words = [
-                name,
-                Word::Text(b"echoed"),
-                address_word(from),
-                address_word(to),
-                Word::Number(*unit),
-            ];
-            push_line(first, &words, out)
-        }
-        Note::Stray { from, to } => {
-            let words = [
-                name,
-                Word::Text(b"stray"),
-                address_word(from),
-                address_word(to),
-            ];
-            push_line(first, &words, out)
-        }
+            ref octets,
+        } => push_report(start, from, to, reason, place, octets, out),
+        Note::Echoed {
+            ref from,
+            ref to,
+            unit,
+        } => push_echoed(start, from, to, unit, out),
+        Note::Stray { ref from, ref to } => push_stray(start, from, to, out),
         Note::Discard { reason, place } => {
-            let words = [
-                name,
-                Word::Text(b"drop"),
-                Word::Octet(*reason),
-                Word::Octet(*place),
-            ];
-            push_line(first, &words, out)
+            push_two(start, b"drop", Word::Octet(reason), Word::Octet(place), out)
         }
-        Note::Held { id, offset, held } => {
-            let words = [
-                name,
-                Word::Text(b"held"),
-                Word::Identifier(*id),
-                Word::Number(u64::from(*offset)),
-                Word::Number(u64::from(*held)),
-            ];
-            push_line(first, &words, out)
-        }
-        Note::Repeat { id, offset } => {
-            let words = [
-                name,
-                Word::Text(b"repeat"),
-                Word::Identifier(*id),
-                Word::Number(u64::from(*offset)),
-            ];
-            push_line(first, &words, out)
-        }
-        Note::Crowded { held, size } => {
-            let words = [
-                name,
-                Word::Text(b"crowded"),
-                Word::Number(u64::from(*held)),
-                Word::Number(u64::from(*size)),
-            ];
-            push_line(first, &words, out)
-        }
-        Note::Many { kept } => {
-            let words = [name, Word::Text(b"many"), Word::Number(u64::from(*kept))];
-            push_line(first, &words, out)
-        }
-        Note::NoSlot { live } => {
-            let words = [name, Word::Text(b"noslot"), Word::Number(u64::from(*live))];
-            push_line(first, &words, out)
-        }
-        Note::Interference { id } => {
-            let words = [name, Word::Text(b"interference"), Word::Identifier(*id)];
-            push_line(first, &words, out)
-        }
-        Note::Expired { id, held } => {
-            let words = [
-                name,
-                Word::Text(b"expired"),
-                Word::Identifier(*id),
-                Word::Number(u64::from(*held)),
-            ];
-            push_line(first, &words, out)
-        }
-        Note::NotMine { to } => {
-            let words = [name, Word::Text(b"notmine"), address_word(to)];
-            push_line(first, &words, out)
-        }
-        Note::Alien => push_line(first, &[name, Word::Text(b"alien")], out),
+        Note::Held { id, offset, held } => push_held(start, id, offset, held, out),
+        Note::Repeat { id, offset } => push_segment(start, b"repeat", id, offset as u64, out),
+        Note::Crowded { held, size } => push_crowded(start, held, size, out),
+        Note::Many { kept } => push_one(start, b"many", Word::Number(kept as u64), out),
+        Note::NoSlot { live } => push_one(start, b"noslot", Word::Number(live as u64), out),
+        Note::Interference { id } => push_one(start, b"interference", Word::Identifier(id), out),
+        Note::Expired { id, held } => push_segment(start, b"expired", id, held as u64, out),
+        Note::NotMine { ref to } => push_one(start, b"notmine", Word::Address(to), out),
+        Note::Alien => push_label(start, b"alien", out),
         Note::BadEsis { rule, place } => {
-            let words = [
-                name,
-                Word::Text(b"badesis"),
-                Word::Rule(*rule),
-                Word::Octet(*place),
-            ];
-            push_line(first, &words, out)
+            push_two(start, b"badesis", Word::Rule(rule), Word::Octet(place), out)
         }
-        Note::Hear { table, key, heard } => push_hearing(first, name, *table, key, *heard, out),
-        Note::Gone { table, key } => {
-            let words = [
-                name,
-                Word::Text(b"gone"),
-                table_word(*table),
-                address_word(key),
-            ];
-            push_line(first, &words, out)
+        Note::Hear {
+            table,
+            ref key,
+            heard,
+        } => push_hearing(start, table, key, heard, out),
+        Note::Gone { table, ref key } => {
+            push_two(start, b"gone", table_word(table), Word::Address(key), out)
         }
-        Note::Ignored { rd } => {
-            let words = [name, Word::Text(b"ignored"), ignored_word(*rd)];
-            push_line(first, &words, out)
-        }
-        Note::Restart => push_line(first, &[name, Word::Text(b"restart")], out),
-        Note::Congest { on } => {
-            let words = [name, Word::Text(b"congest"), on_word(*on)];
-            push_line(first, &words, out)
-        }
+        Note::Ignored { rd } => push_one(start, b"ignored", ignored_word(rd), out),
+        Note::Restart => push_label(start, b"restart", out),
+        Note::Congest { on } => push_one(start, b"congest", on_word(on), out),
     }
+}
+
+/// How a system's line begins.
+#[derive(Clone, Copy)]
+struct Start<'a> {
+    /// The moment, in ticks of 500 ms.
+    moment: u64,
+    /// The system's name.
+    name: &'a [u8],
+}
+
+/// Appends the line of a unit that was made.
+fn push_sent<'a>(
+    start: Start<'a>,
+    kind: Kind,
+    unit: u64,
+    id: Option<u16>,
+    from: &'a Address,
+    to: &'a Address,
+    len: u32,
+    out: &mut Vec<u8>,
+) -> Result<(), NoMemory>
+    ensures written { OnOk result (out.new.items ≡ out.old.items
+        ++ line_from start.entry (codes "sent" ∷ kind_word kind ∷ decimal unit ∷ identifier_word id ∷ hex_text from.now ∷ hex_text to.now ∷ decimal len ∷ [])) }
+    ensures same { OnErr result (out.new.items ≡ out.old.items) }
+{
+    let words = [
+        Word::Text(start.name),
+        Word::Text(b"sent"),
+        kind_word(kind),
+        Word::Number(unit),
+        identifier_word(id),
+        Word::Address(from),
+        Word::Address(to),
+        Word::Number(len as u64),
+    ];
+    push_line(Word::Number(start.moment), &words, out)
+}
+
+/// Appends the line of a data unit that was handed up.
+fn push_got<'a>(
+    start: Start<'a>,
+    from: &'a Address,
+    to: &'a Address,
+    octets: &'a Octets,
+    out: &mut Vec<u8>,
+) -> Result<(), NoMemory>
+    ensures written { OnOk result (out.new.items ≡ out.old.items
+        ++ line_from start.entry (codes "got" ∷ hex_text from.now ∷ hex_text to.now ∷ octets_word octets.now ∷ [])) }
+    ensures same { OnErr result (out.new.items ≡ out.old.items) }
+{
+    let octets = octets_word(octets.as_bytes());
+    push_three(
+        start,
+        b"got",
+        Word::Address(from),
+        Word::Address(to),
+        octets,
+        out,
+    )
+}
+
+/// Appends the line of an error report that was handed up.
+fn push_report<'a>(
+    start: Start<'a>,
+    from: &'a Address,
+    to: &'a Address,
+    reason: u8,
+    place: u8,
+    octets: &'a Octets,
+    out: &mut Vec<u8>,
+) -> Result<(), NoMemory>
+    ensures written { OnOk result (out.new.items ≡ out.old.items
+        ++ line_from start.entry (codes "report" ∷ hex_text from.now ∷ hex_text to.now ∷ octet_word reason ∷ octet_word place ∷ octets_word octets.now ∷ [])) }
+    ensures same { OnErr result (out.new.items ≡ out.old.items) }
+{
+    let words = [
+        Word::Text(start.name),
+        Word::Text(b"report"),
+        Word::Address(from),
+        Word::Address(to),
+        Word::Octet(reason),
+        Word::Octet(place),
+        octets_word(octets.as_bytes()),
+    ];
+    push_line(Word::Number(start.moment), &words, out)
+}
+
+/// Appends the line of an echo reply for a request of the system's own.
+fn push_echoed<'a>(
+    start: Start<'a>,
+    from: &'a Address,
+    to: &'a Address,
+    unit: u64,
+    out: &mut Vec<u8>,
+) -> Result<(), NoMemory>
+    ensures written { OnOk result (out.new.items ≡ out.old.items
+        ++ line_from start.entry (codes "echoed" ∷ hex_text from.now ∷ hex_text to.now ∷ decimal unit ∷ [])) }
+    ensures same { OnErr result (out.new.items ≡ out.old.items) }
+{
+    let unit = Word::Number(unit);
+    push_three(
+        start,
+        b"echoed",
+        Word::Address(from),
+        Word::Address(to),
+        unit,
+        out,
+    )
+}
+
+/// Appends the line of a segment that was kept.
+fn push_held(
+    start: Start<'_>,
+    id: u16,
+    offset: u16,
+    held: u32,
+    out: &mut Vec<u8>,
+) -> Result<(), NoMemory>
+    ensures written { OnOk result (out.new.items ≡ out.old.items
+        ++ line_from start.entry (codes "held" ∷ hex_text (pair_of id) ∷ decimal offset ∷ decimal held ∷ [])) }
+    ensures same { OnErr result (out.new.items ≡ out.old.items) }
+{
+    let offset = Word::Number(offset as u64);
+    let held = Word::Number(held as u64);
+    push_three(start, b"held", Word::Identifier(id), offset, held, out)
+}
+
+/// Appends the line of an echo reply for no request.
+fn push_stray<'a>(
+    start: Start<'a>,
+    from: &'a Address,
+    to: &'a Address,
+    out: &mut Vec<u8>,
+) -> Result<(), NoMemory>
+    ensures written { OnOk result (out.new.items ≡ out.old.items
+        ++ line_from start.entry (codes "stray" ∷ hex_text from.now ∷ hex_text to.now ∷ [])) }
+    ensures same { OnErr result (out.new.items ≡ out.old.items) }
+{
+    push_two(start, b"stray", Word::Address(from), Word::Address(to), out)
+}
+
+/// Appends the line of a segment or a buffer: its identifier and a number.
+fn push_segment<'a>(
+    start: Start<'a>,
+    label: &'a [u8],
+    id: u16,
+    number: u64,
+    out: &mut Vec<u8>,
+) -> Result<(), NoMemory>
+    ensures written { OnOk result (out.new.items ≡ out.old.items
+        ++ line_from start.entry (label.now ∷ hex_text (pair_of id) ∷ decimal number ∷ [])) }
+    ensures same { OnErr result (out.new.items ≡ out.old.items) }
+{
+    push_two(
+        start,
+        label,
+        Word::Identifier(id),
+        Word::Number(number),
+        out,
+    )
+}
+
+/// Appends the line of a segment that isn't kept for its octets.
+fn push_crowded(start: Start<'_>, held: u32, size: u32, out: &mut Vec<u8>) -> Result<(), NoMemory>
+    ensures written { OnOk result (out.new.items ≡ out.old.items
+        ++ line_from start.entry (codes "crowded" ∷ decimal held ∷ decimal size ∷ [])) }
+    ensures same { OnErr result (out.new.items ≡ out.old.items) }
+{
+    let held = Word::Number(held as u64);
+    let size = Word::Number(size as u64);
+    push_two(start, b"crowded", held, size, out)
 }
 
 /// Appends the line of a hearing.
 fn push_hearing<'a>(
-    first: Word<'a>,
-    name: Word<'a>,
+    start: Start<'a>,
     table: TableKind,
     key: &'a Address,
     heard: Heard,
     out: &mut Vec<u8>,
 ) -> Result<(), NoMemory>
     ensures written { OnOk result (out.new.items ≡ out.old.items
-        ++ line_of (word_text first.entry) (word_text name.entry ∷ codes "hear" ∷ table_word table ∷ hex_text key.now ∷ heard_words heard)) }
+        ++ line_from start.entry (codes "hear" ∷ table_word table ∷ hex_text key.now ∷ heard_words heard)) }
     ensures same { OnErr result (out.new.items ≡ out.old.items) }
 {
-    let hear = Word::Text(b"hear");
     let table = table_word(table);
-    let key = address_word(key);
+    let key = Word::Address(key);
     match heard {
-        Heard::New => push_line(first, &[name, hear, table, key, Word::Text(b"new")], out),
-        Heard::Again => push_line(first, &[name, hear, table, key, Word::Text(b"again")], out),
-        Heard::Zero => push_line(first, &[name, hear, table, key, Word::Text(b"zero")], out),
+        Heard::New => push_three(start, b"hear", table, key, Word::Text(b"new"), out),
+        Heard::Again => push_three(start, b"hear", table, key, Word::Text(b"again"), out),
+        Heard::Zero => push_three(start, b"hear", table, key, Word::Text(b"zero"), out),
         Heard::Full { entries } => {
-            let full = Word::Text(b"full");
-            let entries = Word::Number(u64::from(entries));
-            push_line(first, &[name, hear, table, key, full, entries], out)
+            let words = [
+                Word::Text(start.name),
+                Word::Text(b"hear"),
+                table,
+                key,
+                Word::Text(b"full"),
+                Word::Number(entries as u64),
+            ];
+            push_line(Word::Number(start.moment), &words, out)
         }
     }
+}
+
+/// Appends the line of a label alone.
+fn push_label<'a>(start: Start<'a>, label: &'a [u8], out: &mut Vec<u8>) -> Result<(), NoMemory>
+    ensures written { OnOk result (out.new.items ≡ out.old.items ++ line_from start.entry (label.now ∷ [])) }
+    ensures same { OnErr result (out.new.items ≡ out.old.items) }
+{
+    let words = [Word::Text(start.name), Word::Text(label)];
+    push_line(Word::Number(start.moment), &words, out)
+}
+
+/// Appends the line of a label and a word.
+fn push_one<'a>(
+    start: Start<'a>,
+    label: &'a [u8],
+    word: Word<'a>,
+    out: &mut Vec<u8>,
+) -> Result<(), NoMemory>
+    ensures written { OnOk result (out.new.items ≡ out.old.items
+        ++ line_from start.entry (label.now ∷ word_text word.entry ∷ [])) }
+    ensures same { OnErr result (out.new.items ≡ out.old.items) }
+{
+    let words = [Word::Text(start.name), Word::Text(label), word];
+    push_line(Word::Number(start.moment), &words, out)
+}
+
+/// Appends the line of a label and two words.
+fn push_two<'a>(
+    start: Start<'a>,
+    label: &'a [u8],
+    one: Word<'a>,
+    two: Word<'a>,
+    out: &mut Vec<u8>,
+) -> Result<(), NoMemory>
+    ensures written { OnOk result (out.new.items ≡ out.old.items
+        ++ line_from start.entry (label.now ∷ word_text one.entry ∷ word_text two.entry ∷ [])) }
+    ensures same { OnErr result (out.new.items ≡ out.old.items) }
+{
+    let words = [Word::Text(start.name), Word::Text(label), one, two];
+    push_line(Word::Number(start.moment), &words, out)
+}
+
+/// Appends the line of a label and three words.
+fn push_three<'a>(
+    start: Start<'a>,
+    label: &'a [u8],
+    one: Word<'a>,
+    two: Word<'a>,
+    three: Word<'a>,
+    out: &mut Vec<u8>,
+) -> Result<(), NoMemory>
+    ensures written { OnOk result (out.new.items ≡ out.old.items
+        ++ line_from start.entry (label.now ∷ word_text one.entry ∷ word_text two.entry ∷ word_text three.entry ∷ [])) }
+    ensures same { OnErr result (out.new.items ≡ out.old.items) }
+{
+    let words = [Word::Text(start.name), Word::Text(label), one, two, three];
+    push_line(Word::Number(start.moment), &words, out)
 }
 
 /// Appends the line of a frame that a system transmitted on a port, as the copy with a number.
@@ -400,6 +524,7 @@ fn push_word(word: Word<'_>, out: &mut Vec<u8>) -> Result<(), NoMemory>
         Word::Identifier(identifier) => push_hex(&identifier.to_be_bytes(), out),
         Word::Rule(rule) => push_rule(rule, out),
         Word::Octets(octets) => push_hex(octets, out),
+        Word::Address(address) => push_hex(address.as_bytes(), out),
     }
 }
 
@@ -482,13 +607,6 @@ fn identifier_word(identifier: Option<u16>) -> Word<'static>
         Some(identifier) => Word::Identifier(identifier),
         None => Word::Text(b"-"),
     }
-}
-
-/// The word of an address.
-fn address_word(address: &Address) -> Word<'_>
-    ensures { word_text result ≡ hex_text address.now }
-{
-    Word::Octets(address.as_bytes())
 }
 
 /// The word of where a frame goes: to one system, or to a group.
