@@ -1,7 +1,7 @@
 use esis_tables::{EsisLimits, Gone, Heard, Place, TableKind, Tables};
 use nsap::{Address, Snpa};
 use std::alloc::Global;
-use std::test::Fail;
+use std::process::Abort;
 
 const LIMITS: EsisLimits = EsisLimits {
     neighbours: 2,
@@ -9,85 +9,106 @@ const LIMITS: EsisLimits = EsisLimits {
     redirects: 1,
 };
 
+/// What is heard at tick 0, and the answer: in which table, the last octet of its key, its SNPA, and for how many seconds
+/// it holds.
+struct Hearing(TableKind, u8, u8, u16, Heard);
+
+const HEARINGS: &[Hearing] = &[
+    Hearing(TableKind::Is, 0xff, 0x0a, 120, Heard::New),
+    Hearing(TableKind::Is, 0xff, 0x0a, 120, Heard::Again),
+    Hearing(TableKind::Es, 0x02, 0x0a, 120, Heard::New),
+    Hearing(TableKind::Es, 0x01, 0x0a, 120, Heard::New),
+    Hearing(TableKind::Es, 0x03, 0x0a, 120, Heard::Full { entries: 2 }),
+    Hearing(TableKind::Es, 0x01, 0x0a, 60, Heard::Again),
+    Hearing(TableKind::Es, 0x03, 0x0a, 0, Heard::Zero),
+    Hearing(TableKind::Es, 0x02, 0x0a, 0, Heard::Zero),
+    Hearing(TableKind::Es, 0x03, 0x0a, 120, Heard::New),
+    Hearing(TableKind::Rd, 0x01, 0x0a, 120, Heard::New),
+    Hearing(TableKind::Rd, 0x04, 0x0a, 120, Heard::Full { entries: 1 }),
+];
+
+/// A router, two hosts, and a redirect.
+const NEIGHBOURS: &[Hearing] = &[
+    Hearing(TableKind::Is, 0xff, 0x0a, 120, Heard::New),
+    Hearing(TableKind::Es, 0x02, 0x01, 120, Heard::New),
+    Hearing(TableKind::Es, 0x01, 0x02, 120, Heard::New),
+    Hearing(TableKind::Rd, 0x01, 0x02, 120, Heard::New),
+];
+
 /// The address 47.0027 and one more octet.
-fn address(last: u8) -> Result<Address, Fail> {
-    Ok(Address::from_bytes(&[0x47, 0x00, 0x27, last])?)
+fn address(rt: &impl Abort, last: u8) -> Address {
+    Address::from_bytes(&[0x47, 0x00, 0x27, last]).expect(rt, "an address")
+}
+
+fn snpa(rt: &impl Abort, octet: u8) -> Snpa {
+    Snpa::from_bytes(&[octet]).expect(rt, "an SNPA")
 }
 
 /// The place of this SNPA on port 0.
-fn place(snpa: u8) -> Result<Place, Fail> {
-    let snpa = Snpa::from_bytes(&[snpa])?;
-    Ok(Place { port: 0, snpa })
+fn place(rt: &impl Abort, octet: u8) -> Place {
+    Place {
+        port: 0,
+        snpa: snpa(rt, octet),
+    }
 }
 
-/// Tables that heard of a router at tick 0, of two hosts, and of a redirect, each for 120 seconds.
-fn heard(alloc: Global) -> Result<Tables, Fail> {
-    let mut tables = Tables::new(alloc, LIMITS)?;
-    let hearings = [
-        (TableKind::Is, 0xff, 0x0a),
-        (TableKind::Es, 0x02, 0x01),
-        (TableKind::Es, 0x01, 0x02),
-        (TableKind::Rd, 0x01, 0x02),
-    ];
-    for (table, key, snpa) in hearings {
-        let _ = tables.hear(0, table, address(key)?, place(snpa)?, 120);
+/// Tables that heard this, each of which was answered as it is to be.
+fn heard(rt: &impl Abort, alloc: Global, hearings: &[Hearing]) -> Tables {
+    let mut tables = Tables::new(alloc, LIMITS).expect(rt, "memory");
+    for Hearing(table, last, octet, hold, answer) in hearings {
+        let told = tables.hear(0, *table, address(rt, *last), place(rt, *octet), *hold);
+        assert!(rt; told == *answer);
     }
-    Ok(tables)
+    tables
 }
 
 #[test]
-fn answers_hearings(rt: HostRuntime) -> Result<(), Fail> {
-    let mut tables = Tables::new(rt.alloc(), LIMITS)?;
-    let hearings = [
-        (TableKind::Is, 0xff, 120, Heard::New),
-        (TableKind::Is, 0xff, 120, Heard::Again),
-        (TableKind::Es, 0x02, 120, Heard::New),
-        (TableKind::Es, 0x01, 120, Heard::New),
-        (TableKind::Es, 0x03, 120, Heard::Full { entries: 2 }),
-        (TableKind::Es, 0x01, 60, Heard::Again),
-        (TableKind::Es, 0x03, 0, Heard::Zero),
-        (TableKind::Es, 0x02, 0, Heard::Zero),
-        (TableKind::Es, 0x03, 120, Heard::New),
-        (TableKind::Rd, 0x01, 120, Heard::New),
-        (TableKind::Rd, 0x04, 120, Heard::Full { entries: 1 }),
-    ];
-    for (table, key, hold, answer) in hearings {
-        let heard = tables.hear(1, table, address(key)?, place(0x0a)?, hold);
-        assert_eq!(rt; heard, answer);
-    }
-    Ok(())
+fn answers_hearings(rt: HostRuntime) {
+    let _tables = heard(&rt, rt.alloc(), HEARINGS);
+}
+
+/// The redirect's next hop, where it holds.
+fn hop(rt: &impl Abort, holds: bool) -> Option<Place> {
+    if holds { Some(place(rt, 0x02)) } else { None }
+}
+
+/// Sees whether the way to a host is told, by a redirect and by the host itself.
+fn see_hops(rt: &impl Abort, tables: &Tables, now: u64, holds: bool) {
+    let one = address(rt, 0x01);
+    let hop = hop(rt, holds);
+    assert!(rt; tables.redirect(now, &one) == hop);
+    assert!(rt; tables.system(now, &one) == hop);
+    assert!(rt; tables.redirect(now, &address(rt, 0x02)).is_none());
+}
+
+/// Sees whether the router is known, and no other system as one.
+fn see_routers(rt: &impl Abort, tables: &Tables, now: u64, holds: bool) {
+    assert!(rt; tables.last_router(now).is_some() == holds);
+    assert!(rt; tables.is_router(now, &snpa(rt, 0x0a)) == holds);
+    assert!(rt; !tables.is_router(now, &snpa(rt, 0x0b)));
 }
 
 #[test]
-fn looks_up_what_holds(rt: HostRuntime) -> Result<(), Fail> {
-    let tables = heard(rt.alloc())?;
+fn looks_up_what_holds(rt: HostRuntime) {
+    let tables = heard(&rt, rt.alloc(), NEIGHBOURS);
     for (now, holds) in [(0, true), (239, true), (240, false)] {
-        let hop = place(0x02)?;
-        let hop = if holds { Some(hop) } else { None };
-        assert_eq!(rt; tables.redirect(now, &address(0x01)?), hop);
-        assert_eq!(rt; tables.system(now, &address(0x01)?), hop);
-        assert_eq!(rt; tables.redirect(now, &address(0x02)?), None);
-        assert_eq!(rt; tables.last_router(now).is_some(), holds);
-        assert_eq!(rt; tables.is_router(now, &Snpa::from_bytes(&[0x0a])?), holds);
-        assert_eq!(rt; tables.is_router(now, &Snpa::from_bytes(&[0x0b])?), false);
+        see_hops(&rt, &tables, now, holds);
+        see_routers(&rt, &tables, now, holds);
     }
-    Ok(())
 }
 
 #[test]
-fn flushes_in_order(rt: HostRuntime) -> Result<(), Fail> {
-    let mut tables = heard(rt.alloc())?;
-    assert_eq!(rt; tables.flush(239), None);
-    let order = [
+fn flushes_in_order(rt: HostRuntime) {
+    let mut tables = heard(&rt, rt.alloc(), NEIGHBOURS);
+    assert!(rt; tables.flush(239).is_none());
+    for (table, last) in [
         (TableKind::Es, 0x01),
         (TableKind::Es, 0x02),
         (TableKind::Is, 0xff),
         (TableKind::Rd, 0x01),
-    ];
-    for (table, key) in order {
-        let key = address(key)?;
-        assert_eq!(rt; tables.flush(240), Some(Gone { table, key }));
+    ] {
+        let key = address(&rt, last);
+        assert!(rt; tables.flush(240) == Some(Gone { table, key }));
     }
-    assert_eq!(rt; tables.flush(240), None);
-    Ok(())
+    assert!(rt; tables.flush(240).is_none());
 }

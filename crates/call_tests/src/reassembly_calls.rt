@@ -1,16 +1,15 @@
-//! Tables of reassembly buffers. A segment has a header of 25 octets.
-ghost use Rattle.std.specs.Prelude.{◌≡◌, ◌+◌, ◌<◌, ◌≤◌, ◌^◌, IfOk, length};
+//! Tables of reassembly buffers. A segment has a header of 25 octets. A test is a list of what is done with a table, one
+//! step after the other, and of what must come of it.
 ghost use Rattle.reassembly.specs.Offered.{MayCome};
 ghost use Rattle.reassembly.specs.NoWhole.{HasNoWhole, IsCompleted};
-ghost use Rattle.reassembly.specs.State.{IsReady, IsWholeSlot};
+ghost use Rattle.reassembly.specs.State.{IsWholeSlot};
 
-use clnp_base::NoMemory;
+use crate::reassembly_calls::Step::{Clear, End, Fill, Offer, Rest, Undo, Whole};
 use clnp_views::Frame;
 use nsap::Address;
 use reassembly::{Accept, Key, Segment, Shape, SlotNo, Table, TableLimits};
 use std::alloc::Global;
 use std::process::Abort;
-use std::test::Fail;
 
 const LIMITS: TableLimits = TableLimits {
     slots: 16,
@@ -19,37 +18,280 @@ const LIMITS: TableLimits = TableLimits {
     hold: 60,
 };
 
-/// A part of a unit's data: its first place, and its octets.
+/// A part of a unit that comes in a segment: the unit's identifier, its octets with a header, the segment's lifetime, the
+/// place of the part in the unit, and how many octets it has.
 #[derive(Clone, Copy)]
-struct Part {
-    offset: u16,
-    len: usize,
+struct Part(u16, u16, u8, u16, u16);
+
+/// What is done with a table.
+#[derive(Clone, Copy)]
+enum Step {
+    /// A part is offered that doesn't make its unit whole; the answer.
+    Offer(Part, Accept),
+    /// A part makes its unit whole; so many octets are held then, and the pieces have these lengths. Then the buffer is
+    /// released.
+    Whole(Part, u32, &'static [usize]),
+    /// A part makes its unit whole, and is taken out again.
+    Undo(Part),
+    /// The time of a unit's buffer has ended, with a PDU of so many octets, or with none.
+    End(u16, Option<usize>),
+    /// No buffer's time has ended.
+    Rest,
+    /// All buffers are taken out.
+    Clear,
+    /// 39 octets of each of so many units come, which have the identifiers from 0.
+    Fill(u16),
 }
 
-/// A segment that is offered at a moment, the answer, and how many octets are held then.
-#[derive(Clone, Copy)]
-struct Offer {
-    now: u32,
-    key: Key,
-    total: u16,
-    life: u8,
-    part: Part,
-    answer: Accept,
-    held: u32,
-}
+/// A moment, what is done then, and how many buffers, segments and octets are kept afterwards.
+struct Row(u32, Step, (u16, u16, u32));
 
-/// A segment that lives for 10 ticks is offered at the moment 0.
-fn offer_of(key: &Key, total: u16, offset: u16, len: usize, answer: Accept, held: u32) -> Offer {
-    Offer {
-        now: 0,
-        key: *key,
-        total,
-        life: 10,
-        part: Part { offset, len },
-        answer,
-        held,
-    }
-}
+/// All parts of a unit of 3,000 octets come but the first one, from the end on, and two of them again. The first one makes
+/// it whole, once it was taken out again.
+const FROM_THE_END: &[Row] = &[
+    Row(
+        0,
+        Offer(Part(1, 3025, 10, 2944, 56), Accept::Held),
+        (1, 1, 81),
+    ),
+    Row(
+        0,
+        Offer(Part(1, 3025, 10, 2944, 56), Accept::Repeat),
+        (1, 1, 81),
+    ),
+    Row(
+        0,
+        Offer(Part(1, 3025, 10, 1440, 32), Accept::Held),
+        (1, 2, 138),
+    ),
+    Row(
+        0,
+        Offer(Part(1, 3025, 10, 1472, 1472), Accept::Held),
+        (1, 3, 1635),
+    ),
+    Row(
+        0,
+        Offer(Part(1, 3025, 10, 1952, 480), Accept::Repeat),
+        (1, 3, 1635),
+    ),
+    Row(
+        0,
+        Offer(Part(1, 3025, 10, 960, 480), Accept::Held),
+        (1, 4, 2140),
+    ),
+    Row(0, Undo(Part(1, 3025, 10, 0, 1472)), (1, 4, 2140)),
+    Row(
+        0,
+        Whole(Part(1, 3025, 10, 0, 1472), 3637, &[960, 480, 32, 1472, 56]),
+        (0, 0, 0),
+    ),
+];
+
+/// A part has what is missing between others.
+const BETWEEN_OTHERS: &[Row] = &[
+    Row(0, Offer(Part(1, 126, 10, 10, 10), Accept::Held), (1, 1, 35)),
+    Row(0, Offer(Part(1, 126, 10, 30, 10), Accept::Held), (1, 2, 70)),
+    Row(
+        0,
+        Offer(Part(1, 126, 10, 50, 10), Accept::Held),
+        (1, 3, 105),
+    ),
+    Row(
+        0,
+        Offer(Part(1, 126, 10, 100, 1), Accept::Held),
+        (1, 4, 131),
+    ),
+    Row(
+        0,
+        Whole(
+            Part(1, 126, 10, 0, 100),
+            256,
+            &[10, 10, 10, 10, 10, 10, 40, 1],
+        ),
+        (0, 0, 0),
+    ),
+];
+
+/// The longest unit.
+const LONGEST: &[Row] = &[
+    Row(
+        0,
+        Offer(Part(1, 65_535, 10, 40_000, 25_510), Accept::Held),
+        (1, 1, 25_535),
+    ),
+    Row(
+        0,
+        Whole(Part(1, 65_535, 10, 0, 40_000), 65_560, &[40_000, 25_510]),
+        (0, 0, 0),
+    ),
+];
+
+/// The buffers end in the order of their deadlines, and where these are one, of their opening.
+const DEADLINES: &[Row] = &[
+    Row(
+        0,
+        Offer(Part(1, 3025, 10, 960, 960), Accept::Held),
+        (1, 1, 985),
+    ),
+    Row(
+        0,
+        Offer(Part(2, 3025, 10, 0, 480), Accept::Held),
+        (2, 2, 1490),
+    ),
+    Row(
+        1,
+        Offer(Part(1, 3025, 99, 0, 481), Accept::Held),
+        (2, 3, 1996),
+    ),
+    Row(
+        1,
+        Offer(Part(3, 3025, 4, 960, 960), Accept::Held),
+        (3, 4, 2981),
+    ),
+    Row(
+        2,
+        Offer(Part(1, 3025, 10, 0, 961), Accept::Held),
+        (3, 5, 3967),
+    ),
+    Row(
+        3,
+        Offer(Part(4, 3025, 255, 0, 482), Accept::Held),
+        (4, 6, 4474),
+    ),
+    Row(4, Rest, (4, 6, 4474)),
+    Row(10, End(3, None), (3, 5, 3489)),
+    Row(10, End(1, Some(506)), (2, 2, 1012)),
+    Row(10, End(2, Some(505)), (1, 1, 507)),
+    Row(62, Rest, (1, 1, 507)),
+    Row(63, End(4, Some(507)), (0, 0, 0)),
+];
+
+const CLEARED: &[Row] = &[
+    Row(
+        0,
+        Offer(Part(1, 3025, 10, 2944, 56), Accept::Held),
+        (1, 1, 81),
+    ),
+    Row(
+        0,
+        Offer(Part(1, 3025, 10, 1440, 32), Accept::Held),
+        (1, 2, 138),
+    ),
+    Row(0, Clear, (0, 0, 0)),
+    Row(
+        5,
+        Offer(Part(1, 3025, 10, 0, 1472), Accept::Held),
+        (1, 1, 1497),
+    ),
+    Row(15, End(1, Some(1497)), (0, 0, 0)),
+];
+
+/// As many buffers as may be.
+const FULL: &[Row] = &[
+    Row(0, Fill(1023), (1023, 1023, 65_472)),
+    Row(
+        0,
+        Offer(Part(1023, 3025, 10, 2961, 38), Accept::Held),
+        (1024, 1024, 65_535),
+    ),
+    Row(
+        0,
+        Offer(
+            Part(1024, 3025, 10, 2961, 39),
+            Accept::NoSlot { live: 1024 },
+        ),
+        (1024, 1024, 65_535),
+    ),
+    Row(10, End(0, None), (1023, 1023, 65_471)),
+];
+
+/// Parts that come where another part of 56 octets is kept.
+const NO_SLOT: &[Row] = &[
+    Row(
+        0,
+        Offer(Part(1, 3025, 10, 2944, 56), Accept::Held),
+        (1, 1, 81),
+    ),
+    Row(
+        0,
+        Offer(Part(2, 3025, 10, 1440, 32), Accept::NoSlot { live: 1 }),
+        (1, 1, 81),
+    ),
+];
+
+const MANY: &[Row] = &[
+    Row(
+        0,
+        Offer(Part(1, 3025, 10, 2944, 56), Accept::Held),
+        (1, 1, 81),
+    ),
+    Row(
+        0,
+        Offer(Part(1, 3025, 10, 1440, 32), Accept::Many { kept: 1 }),
+        (1, 1, 81),
+    ),
+    Row(
+        0,
+        Offer(Part(1, 3025, 10, 2944, 56), Accept::Repeat),
+        (1, 1, 81),
+    ),
+];
+
+const INTERFERENCE: &[Row] = &[
+    Row(
+        0,
+        Offer(Part(1, 3025, 10, 2944, 56), Accept::Held),
+        (1, 1, 81),
+    ),
+    Row(
+        0,
+        Offer(
+            Part(1, 2025, 10, 1440, 32),
+            Accept::Interference {
+                kept: Shape {
+                    total: 3025,
+                    head_len: 25,
+                    kind: 28,
+                },
+                offered: Shape {
+                    total: 2025,
+                    head_len: 25,
+                    kind: 28,
+                },
+            },
+        ),
+        (1, 1, 81),
+    ),
+];
+
+const CROWDED: &[Row] = &[
+    Row(
+        0,
+        Offer(Part(1, 3025, 10, 2944, 56), Accept::Held),
+        (1, 1, 81),
+    ),
+    Row(
+        0,
+        Offer(
+            Part(1, 3025, 10, 1440, 32),
+            Accept::Crowded { held: 81, size: 57 },
+        ),
+        (1, 1, 81),
+    ),
+];
+
+const ENOUGH: &[Row] = &[
+    Row(
+        0,
+        Offer(Part(1, 3025, 10, 2944, 56), Accept::Held),
+        (1, 1, 81),
+    ),
+    Row(
+        0,
+        Offer(Part(1, 3025, 10, 1440, 32), Accept::Held),
+        (1, 2, 138),
+    ),
+];
 
 /// The key of a unit that goes from one system to another.
 fn key(rt: &impl Abort, id: u16) -> Key {
@@ -58,268 +300,262 @@ fn key(rt: &impl Abort, id: u16) -> Key {
     Key { from, to, id }
 }
 
-/// The shape of a unit that has so many octets with its header.
-fn shape(total: u16) -> Shape
-    ensures total { result.total ≡ total }
-    ensures head_len { result.head_len ≡ 25 }
-{
-    Shape {
-        total,
-        head_len: 25,
-        kind: 28,
-    }
-}
-
-/// The octet at a place of each unit's data.
-fn octet(place: usize) -> u8 {
-    ((place % 65536 + place / 256) % 256) as u8
-}
-
-/// A segment with this data, which lives for so many ticks.
-fn segment(
-    rt: &impl Abort,
-    alloc: Global,
-    key: &Key,
-    total: u16,
-    offset: u16,
-    life: u8,
-    data: &[u8],
-) -> Result<Segment, NoMemory>
-    ensures { IfOk result MayCome }
-{
-    assert!(rt; life >= 1);
-    assert!(rt; data.len() <= 65_535);
-    assert!(rt; usize::from(offset) + data.len() + 25 <= usize::from(total));
-    assert!(rt; data.len() + 25 < usize::from(total));
+/// The octets of each unit.
+fn pattern(rt: &impl Abort, alloc: Global) -> Vec<u8> {
     let mut octets = Vec::new(alloc);
-    let Ok(()) = octets.extend_from_slice(&[0u8; 25]) else {
-        return Err(NoMemory);
+    for place in 0..65_510u32 {
+        let octet = ((place + place / 256) % 256) as u8;
+        octets.push(octet).expect(rt, "memory");
+    }
+    octets
+}
+
+/// The segment with a part of a unit.
+fn segment(rt: &impl Abort, alloc: Global, part: Part, unit: &[u8]) -> Segment
+    ensures { MayCome result }
+{
+    let Part(id, total, life, at, len) = part;
+    let (from, count) = (usize::from(at), usize::from(len));
+    assert!(rt;
+        life >= 1 && count + 25 < usize::from(total) && from + count + 25 <= usize::from(total)
+    );
+    let Some(data) = unit.get(from..from + count) else {
+        panic!(rt; "no such part");
     };
-    let Ok(()) = octets.extend_from_slice(data) else {
-        return Err(NoMemory);
-    };
-    let frame = Frame::copy(alloc, octets.as_slice())?;
-    Ok(Segment {
-        key: *key,
-        shape: shape(total),
-        offset,
+    let mut octets = vec![in alloc; 0u8; 25].expect(rt, "memory");
+    octets.extend_from_slice(data).expect(rt, "memory");
+    let frame = Frame::copy(alloc, octets.as_slice()).expect(rt, "memory");
+    Segment {
+        key: key(rt, id),
+        shape: Shape {
+            total,
+            head_len: 25,
+            kind: 28,
+        },
+        offset: at,
         life,
         pdu: frame.into_view(),
-    })
+    }
 }
 
-/// The segment of a unit with a part of its data, which lives for so many ticks.
-fn part_of(
+/// Offers a part that doesn't make its unit whole, at a moment at which no buffer's time has ended, and sees the answer.
+fn offer_part(
     rt: &impl Abort,
     alloc: Global,
-    key: &Key,
-    total: u16,
-    life: u8,
+    table: &mut Table,
+    now: u32,
     part: Part,
-) -> Result<Segment, NoMemory>
-    ensures { IfOk result MayCome }
-{
-    assert!(rt; part.len <= 65_535);
-    let mut data = Vec::new(alloc);
-    for at in 0..part.len {
-        let Ok(()) = data.push(octet(usize::from(part.offset) + at)) else {
-            return Err(NoMemory);
-        };
-    }
-    segment(rt, alloc, key, total, part.offset, life, data.as_slice())
-}
-
-/// Offers a segment that doesn't make its unit whole, at a moment at which no buffer's time has ended.
-fn offer_one(rt: &impl Abort, table: &mut Table, now: u64, segment: Segment) -> Accept
-    requires moment { now < 2 ^ 62 }
-    requires offered { MayCome segment }
-    requires ready { HasNoWhole table.old }
+    unit: &[u8],
+    answer: Accept,
+)
+    requires { HasNoWhole table.old }
     ensures { HasNoWhole table.new }
 {
-    assert!(rt; table.expire(now).is_none());
-    let told = table.accept(now, segment);
+    assert!(rt; table.expire(u64::from(now)).is_none());
+    let told = table.accept(u64::from(now), segment(rt, alloc, part, unit));
     if let Accept::Whole(_) = told {
         panic!(rt; "the unit is whole");
     }
-    told
+    assert!(rt; told == answer);
 }
 
-/// Offers a segment that makes its unit whole.
-fn complete(rt: &impl Abort, table: &mut Table, segment: Segment) -> SlotNo
-    requires offered { MayCome segment }
-    requires ready { HasNoWhole table.old }
+/// Offers a part of each of so many units.
+fn fill(rt: &impl Abort, alloc: Global, table: &mut Table, count: u16, unit: &[u8])
+    requires { HasNoWhole table.old }
+    ensures { HasNoWhole table.new }
+{
+    for id in 0..count {
+        let part = Part(id, 3025, 10, 2961, 39);
+        offer_part(rt, alloc, table, 0, part, unit, Accept::Held);
+    }
+}
+
+/// Offers a part that makes its unit whole, at a moment at which no buffer's time has ended.
+fn complete(
+    rt: &impl Abort,
+    alloc: Global,
+    table: &mut Table,
+    now: u32,
+    part: Part,
+    unit: &[u8],
+) -> SlotNo
+    requires { HasNoWhole table.old }
     ensures whole { IsWholeSlot table.new result.0 }
     ensures completed { IsCompleted table.new result.0 }
 {
-    assert!(rt; table.expire(0).is_none());
-    let Accept::Whole(slot) = table.accept(0, segment) else {
+    assert!(rt; table.expire(u64::from(now)).is_none());
+    let told = table.accept(u64::from(now), segment(rt, alloc, part, unit));
+    let Accept::Whole(slot) = told else {
         panic!(rt; "the unit isn't whole");
     };
     slot
 }
 
-/// Sees that the pieces of a whole unit have these lengths, and its octets in order.
-fn see_pieces(rt: &impl Abort, table: &Table, slot: SlotNo, lens: &[usize])
+/// The octets of a whole unit.
+fn data_of(rt: &impl Abort, alloc: Global, table: &Table, slot: SlotNo) -> Vec<u8>
     requires { IsWholeSlot table.now slot.0 }
 {
-    let mut place = 0;
-    let mut lens_left = lens;
+    let mut octets = Vec::new(alloc);
     for piece in table.pieces(slot) {
-        let Some((len, others)) = lens_left.split_first() else {
-            panic!(rt; "too many pieces");
-        };
-        assert!(rt; piece.len() == *len);
-        for &found in piece {
-            assert!(rt; found == octet(place));
-            assert!(rt; place < 65_535);
-            place += 1;
-        }
-        lens_left = others;
+        octets.extend_from_slice(piece).expect(rt, "memory");
     }
-    assert!(rt; lens_left.is_empty());
+    octets
 }
 
-/// Offers one segment after the other, and sees the answers, and so many octets held after each.
-fn offer_all(
+/// How long the pieces of a whole unit are.
+fn lens_of(rt: &impl Abort, alloc: Global, table: &Table, slot: SlotNo) -> Vec<usize>
+    requires { IsWholeSlot table.now slot.0 }
+{
+    let mut lens = Vec::new(alloc);
+    for piece in table.pieces(slot) {
+        lens.push(piece.len()).expect(rt, "memory");
+    }
+    lens
+}
+
+/// Sees that the pieces of a whole unit have these lengths, and that the octets of a unit begin with theirs.
+fn see_pieces(
     rt: &impl Abort,
     alloc: Global,
-    table: &mut Table,
-    offers: &[Offer],
-) -> Result<(), NoMemory>
+    table: &Table,
+    slot: SlotNo,
+    unit: &[u8],
+    lens: &[usize],
+)
+    requires { IsWholeSlot table.now slot.0 }
+{
+    assert!(rt; unit.starts_with(&data_of(rt, alloc, table, slot)));
+    assert!(rt; lens_of(rt, alloc, table, slot).as_slice() == lens);
+}
+
+/// Sees that the time of a buffer has ended.
+fn see_end(rt: &impl Abort, table: &mut Table, now: u32, id: u16, len: Option<usize>)
     requires { HasNoWhole table.old }
     ensures { HasNoWhole table.new }
 {
-    for offered in offers {
-        let part = offered.part;
-        let segment = part_of(rt, alloc, &offered.key, offered.total, offered.life, part)?;
-        let answer = offer_one(rt, table, u64::from(offered.now), segment);
-        assert!(rt; answer == offered.answer);
-        assert!(rt; table.held() == offered.held);
-    }
-    Ok(())
-}
-
-/// A table with all segments of a unit of 3,000 octets but the first one, which came from its end on, and two of them
-/// again.
-fn all_but_the_first(rt: &impl Abort, alloc: Global, key: &Key) -> Result<Table, NoMemory>
-    ensures { IfOk result HasNoWhole }
-{
-    let mut table = Table::new(alloc, LIMITS)?;
-    let offers = [
-        offer_of(key, 3025, 2944, 56, Accept::Held, 81),
-        offer_of(key, 3025, 2944, 56, Accept::Repeat, 81),
-        offer_of(key, 3025, 1440, 32, Accept::Held, 138),
-        offer_of(key, 3025, 1472, 1472, Accept::Held, 1635),
-        offer_of(key, 3025, 1952, 480, Accept::Repeat, 1635),
-        offer_of(key, 3025, 960, 480, Accept::Held, 2140),
-    ];
-    offer_all(rt, alloc, &mut table, &offers)?;
-    Ok(table)
-}
-
-const FIRST: Part = Part {
-    offset: 0,
-    len: 1472,
-};
-
-#[test]
-fn joins_a_unit(rt: HostRuntime) -> Result<(), Fail> {
-    let key = key(&rt, 1);
-    let mut table = all_but_the_first(&rt, rt.alloc(), &key)?;
-    let first = part_of(&rt, rt.alloc(), &key, 3025, 10, FIRST)?;
-    let slot = complete(&rt, &mut table, first);
-    assert!(rt; table.held() == 3637);
-    see_pieces(&rt, &table, slot, &[960, 480, 32, 1472, 56]);
-    table.release(slot);
-    assert!(rt; table.held() == 0);
-    assert!(rt; table.live() == 0);
-    Ok(())
-}
-
-#[test]
-fn takes_the_last_segment_out_again(rt: HostRuntime) -> Result<(), NoMemory> {
-    let key = key(&rt, 1);
-    let mut table = all_but_the_first(&rt, rt.alloc(), &key)?;
-    let first = part_of(&rt, rt.alloc(), &key, 3025, 10, FIRST)?;
-    let slot = complete(&rt, &mut table, first);
-    table.undo(slot);
-    assert!(rt; table.held() == 2140);
-    let again = part_of(&rt, rt.alloc(), &key, 3025, 10, FIRST)?;
-    let slot = complete(&rt, &mut table, again);
-    assert!(rt; table.held() == 3637);
-    see_pieces(&rt, &table, slot, &[960, 480, 32, 1472, 56]);
-    Ok(())
-}
-
-#[test]
-fn joins_pieces_of_what_was_missing(rt: HostRuntime) -> Result<(), Fail> {
-    let key = key(&rt, 1);
-    let mut table = Table::new(rt.alloc(), LIMITS)?;
-    let offers = [
-        offer_of(&key, 126, 10, 10, Accept::Held, 35),
-        offer_of(&key, 126, 30, 10, Accept::Held, 70),
-        offer_of(&key, 126, 50, 10, Accept::Held, 105),
-        offer_of(&key, 126, 100, 1, Accept::Held, 131),
-    ];
-    offer_all(&rt, rt.alloc(), &mut table, &offers)?;
-    let most = Part {
-        offset: 0,
-        len: 100,
+    let Some(ended) = table.expire(u64::from(now)) else {
+        panic!(rt; "no buffer's time has ended");
     };
-    let most = part_of(&rt, rt.alloc(), &key, 126, 10, most)?;
-    let slot = complete(&rt, &mut table, most);
-    see_pieces(&rt, &table, slot, &[10, 10, 10, 10, 10, 10, 40, 1]);
-    Ok(())
+    assert!(rt; ended.key == key(rt, id));
+    assert!(rt; ended.first.map(|pdu| pdu.len()) == len);
 }
 
-#[test]
-fn keeps_the_earlier_octets(rt: HostRuntime) -> Result<(), Fail> {
-    let key = key(&rt, 1);
-    let mut table = Table::new(rt.alloc(), LIMITS)?;
-    let first = segment(&rt, rt.alloc(), &key, 33, 2, 10, b"cde")?;
-    assert!(rt; offer_one(&rt, &mut table, 0, first) == Accept::Held);
-    let later = segment(&rt, rt.alloc(), &key, 33, 0, 10, b"ABCD")?;
-    assert!(rt; offer_one(&rt, &mut table, 0, later) == Accept::Held);
-    let last = segment(&rt, rt.alloc(), &key, 33, 3, 10, b"56789")?;
-    let slot = complete(&rt, &mut table, last);
-    assert!(rt; table.held() == 87);
-    let mut data = Vec::new(rt.alloc());
-    for piece in table.pieces(slot) {
-        data.extend_from_slice(piece)?;
-    }
-    assert!(rt; data.as_slice() == b"ABcde789".as_slice());
-    Ok(())
-}
-
-/// The answer of a table with these limits to the second of two segments, the first of which it holds.
-fn second_of_two(
+/// Offers a part that makes its unit whole, sees its pieces and how many octets are held, and releases the buffer.
+fn join(
     rt: &impl Abort,
     alloc: Global,
-    limits: TableLimits,
-    first: Segment,
-    second: Segment,
-) -> Result<Accept, NoMemory>
-    requires first { MayCome first }
-    requires second { MayCome second }
+    table: &mut Table,
+    now: u32,
+    part: Part,
+    unit: &[u8],
+    held: u32,
+    lens: &[usize],
+)
+    requires { HasNoWhole table.old }
+    ensures { HasNoWhole table.new }
 {
-    let mut table = Table::new(alloc, limits)?;
-    assert!(rt; offer_one(rt, &mut table, 0, first) == Accept::Held);
-    let held = table.held();
-    let answer = offer_one(rt, &mut table, 0, second);
-    assert!(rt; answer == Accept::Held || table.held() == held);
-    Ok(answer)
+    let slot = complete(rt, alloc, table, now, part, unit);
+    assert!(rt; table.held() == held);
+    see_pieces(rt, alloc, table, slot, unit, lens);
+    table.release(slot);
+}
+
+/// Offers a part that makes its unit whole, and takes it out again.
+fn undo(rt: &impl Abort, alloc: Global, table: &mut Table, now: u32, part: Part, unit: &[u8])
+    requires { HasNoWhole table.old }
+    ensures { HasNoWhole table.new }
+{
+    let slot = complete(rt, alloc, table, now, part, unit);
+    table.undo(slot);
+}
+
+/// Makes a step.
+fn make(rt: &impl Abort, alloc: Global, table: &mut Table, now: u32, step: Step, unit: &[u8])
+    requires { HasNoWhole table.old }
+    ensures { HasNoWhole table.new }
+{
+    match step {
+        Offer(part, answer) => offer_part(rt, alloc, table, now, part, unit, answer),
+        Whole(part, held, lens) => join(rt, alloc, table, now, part, unit, held, lens),
+        Undo(part) => undo(rt, alloc, table, now, part, unit),
+        End(id, len) => see_end(rt, table, now, id, len),
+        Rest => assert!(rt; table.expire(u64::from(now)).is_none()),
+        Clear => table.clear(),
+        Fill(count) => fill(rt, alloc, table, count, unit),
+    }
+}
+
+/// How many buffers, segments and octets a table keeps.
+fn kept_by(table: &Table) -> (u16, u16, u32) {
+    (table.live(), table.kept(), table.held())
+}
+
+/// Makes one step after the other, and sees what is kept after each.
+fn play(rt: &impl Abort, alloc: Global, limits: TableLimits, rows: &[Row], unit: &[u8]) {
+    let mut table = Table::new(alloc, limits).expect(rt, "memory");
+    for row in rows {
+        make(rt, alloc, &mut table, row.0, row.1, unit);
+        assert!(rt; kept_by(&table) == row.2);
+    }
+}
+
+/// Plays each of these lists with a table of its own.
+fn play_all(rt: &impl Abort, alloc: Global, lists: &[(TableLimits, &[Row])]) {
+    let unit = pattern(rt, alloc);
+    for (limits, rows) in lists {
+        play(rt, alloc, *limits, rows, &unit);
+    }
 }
 
 #[test]
-fn refuses_what_has_no_room(rt: HostRuntime) -> Result<(), Fail> {
-    let last = Part {
-        offset: 2944,
-        len: 56,
+fn joins_units(rt: HostRuntime) {
+    let enough = TableLimits {
+        budget: 65_560,
+        ..LIMITS
     };
-    let short = Part {
-        offset: 1440,
-        len: 32,
+    play_all(
+        &rt,
+        rt.alloc(),
+        &[
+            (LIMITS, FROM_THE_END),
+            (LIMITS, BETWEEN_OTHERS),
+            (enough, LONGEST),
+        ],
+    );
+}
+
+#[test]
+fn ends_in_time(rt: HostRuntime) {
+    play_all(&rt, rt.alloc(), &[(LIMITS, DEADLINES), (LIMITS, CLEARED)]);
+}
+
+#[test]
+fn keeps_as_many_buffers_as_may_be(rt: HostRuntime) {
+    let limits = TableLimits {
+        slots: 1024,
+        segments: 1024,
+        budget: 65_535,
+        hold: 255,
     };
+    play_all(&rt, rt.alloc(), &[(limits, FULL)]);
+}
+
+#[test]
+fn keeps_the_earlier_octets(rt: HostRuntime) {
+    let alloc = rt.alloc();
+    let mut table = Table::new(alloc, LIMITS).expect(&rt, "memory");
+    let first = Part(1, 33, 10, 2, 3);
+    offer_part(&rt, alloc, &mut table, 0, first, b"..cde...", Accept::Held);
+    let later = Part(1, 33, 10, 0, 4);
+    offer_part(&rt, alloc, &mut table, 0, later, b"ABCD....", Accept::Held);
+    let last = Part(1, 33, 10, 3, 5);
+    let slot = complete(&rt, alloc, &mut table, 0, last, b"...56789");
+    assert!(rt; table.held() == 87);
+    see_pieces(&rt, alloc, &table, slot, b"ABcde789", &[2, 3, 3]);
+}
+
+#[test]
+fn refuses_what_has_no_room(rt: HostRuntime) {
     let one_slot = TableLimits { slots: 1, ..LIMITS };
     let one_segment = TableLimits {
         segments: 1,
@@ -333,141 +569,15 @@ fn refuses_what_has_no_room(rt: HostRuntime) -> Result<(), Fail> {
         budget: 138,
         ..LIMITS
     };
-    let interference = Accept::Interference {
-        kept: shape(3025),
-        offered: shape(2025),
-    };
-    let crowded = Accept::Crowded { held: 81, size: 57 };
-    for (limits, id, total, second, answer) in [
-        (one_slot, 2, 3025, short, Accept::NoSlot { live: 1 }),
-        (one_segment, 1, 3025, short, Accept::Many { kept: 1 }),
-        (one_segment, 1, 3025, last, Accept::Repeat),
-        (LIMITS, 1, 2025, short, interference),
-        (less, 1, 3025, short, crowded),
-        (enough, 1, 3025, short, Accept::Held),
-    ] {
-        let first = part_of(&rt, rt.alloc(), &key(&rt, 1), 3025, 10, last)?;
-        let second = part_of(&rt, rt.alloc(), &key(&rt, id), total, 10, second)?;
-        let told = second_of_two(&rt, rt.alloc(), limits, first, second)?;
-        assert!(rt; told == answer);
-    }
-    Ok(())
-}
-
-/// At this moment the buffer of this key is taken out, with a PDU of so many octets, or with none.
-fn ends(rt: &impl Abort, table: &mut Table, now: u64, key: &Key, first: Option<usize>)
-    ensures { HasNoWhole table.old → HasNoWhole table.new }
-{
-    let Some(ended) = table.expire(now) else {
-        panic!(rt; "no buffer's time has ended at {now}");
-    };
-    assert!(rt; ended.key == *key);
-    match (ended.first, first) {
-        (Some(pdu), Some(len)) => assert!(rt; pdu.len() == len),
-        (None, None) => (),
-        (Some(_), None) => panic!(rt; "a PDU of no segment"),
-        (None, Some(_)) => panic!(rt; "no PDU"),
-    }
-}
-
-/// A segment of a unit of 3,000 octets, which is held.
-fn later_offer(now: u32, key: &Key, offset: u16, life: u8, len: usize, held: u32) -> Offer {
-    Offer {
-        now,
-        life,
-        ..offer_of(key, 3025, offset, len, Accept::Held, held)
-    }
-}
-
-#[test]
-fn ends_in_the_order_of_deadlines_and_of_opening(rt: HostRuntime) -> Result<(), NoMemory> {
-    let (a, b, c, d) = (key(&rt, 1), key(&rt, 2), key(&rt, 3), key(&rt, 4));
-    let mut table = Table::new(rt.alloc(), LIMITS)?;
-    let offers = [
-        later_offer(0, &a, 960, 10, 960, 985),
-        later_offer(0, &b, 0, 10, 480, 1490),
-        later_offer(1, &a, 0, 99, 481, 1996),
-        later_offer(1, &c, 960, 4, 960, 2981),
-        later_offer(2, &a, 0, 10, 961, 3967),
-        later_offer(3, &d, 0, 255, 482, 4474),
-    ];
-    offer_all(&rt, rt.alloc(), &mut table, &offers)?;
-    assert!(rt; table.expire(4).is_none());
-    assert!(rt; table.live() == 4);
-    ends(&rt, &mut table, 10, &c, None);
-    assert!(rt; table.kept() == 5);
-    ends(&rt, &mut table, 10, &a, Some(506));
-    assert!(rt; table.kept() == 2);
-    assert!(rt; table.held() == 505 + 507);
-    ends(&rt, &mut table, 10, &b, Some(505));
-    assert!(rt; table.expire(62).is_none());
-    ends(&rt, &mut table, 63, &d, Some(507));
-    assert!(rt; table.held() == 0);
-    assert!(rt; table.live() == 0);
-    Ok(())
-}
-
-#[test]
-fn begins_anew_when_it_is_cleared(rt: HostRuntime) -> Result<(), NoMemory> {
-    let key = key(&rt, 1);
-    let mut table = all_but_the_first(&rt, rt.alloc(), &key)?;
-    table.clear();
-    assert!(rt; table.held() == 0);
-    assert!(rt; table.kept() == 0);
-    assert!(rt; table.live() == 0);
-    let first = part_of(&rt, rt.alloc(), &key, 3025, 10, FIRST)?;
-    assert!(rt; offer_one(&rt, &mut table, 5, first) == Accept::Held);
-    ends(&rt, &mut table, 15, &key, Some(1497));
-    Ok(())
-}
-
-#[test]
-fn keeps_as_many_buffers_as_may_be(rt: HostRuntime) -> Result<(), Fail> {
-    let limits = TableLimits {
-        slots: 1024,
-        segments: 1024,
-        budget: 65_535,
-        hold: 255,
-    };
-    let mut table = Table::new(rt.alloc(), limits)?;
-    let mut offers = Vec::new(rt.alloc());
-    for id in 0..1023u16 {
-        let held = 64 * (u32::from(id) + 1);
-        let key = key(&rt, id);
-        offers.push(offer_of(&key, 3025, 2961, 39, Accept::Held, held))?;
-    }
-    let (last, more) = (key(&rt, 1023), key(&rt, 1024));
-    let no_slot = Accept::NoSlot { live: 1024 };
-    offers.push(offer_of(&last, 3025, 2961, 38, Accept::Held, 65_535))?;
-    offers.push(offer_of(&more, 3025, 2961, 39, no_slot, 65_535))?;
-    offer_all(&rt, rt.alloc(), &mut table, offers.as_slice())?;
-    assert!(rt; table.live() == 1024);
-    ends(&rt, &mut table, 10, &key(&rt, 0), None);
-    assert!(rt; table.live() == 1023);
-    Ok(())
-}
-
-#[test]
-fn joins_the_longest_unit(rt: HostRuntime) -> Result<(), Fail> {
-    let key = key(&rt, 1);
-    let limits = TableLimits {
-        budget: 65_560,
-        ..LIMITS
-    };
-    let mut table = Table::new(rt.alloc(), limits)?;
-    let last = Part {
-        offset: 40_000,
-        len: 25_510,
-    };
-    let last = part_of(&rt, rt.alloc(), &key, 65_535, 10, last)?;
-    assert!(rt; offer_one(&rt, &mut table, 0, last) == Accept::Held);
-    let first = Part {
-        offset: 0,
-        len: 40_000,
-    };
-    let first = part_of(&rt, rt.alloc(), &key, 65_535, 10, first)?;
-    let slot = complete(&rt, &mut table, first);
-    assert!(rt; table.held() == 65_560);
-    see_pieces(&rt, &table, slot, &[40_000, 25_510]);
-    Ok(())
+    play_all(
+        &rt,
+        rt.alloc(),
+        &[
+            (one_slot, NO_SLOT),
+            (one_segment, MANY),
+            (LIMITS, INTERFERENCE),
+            (less, CROWDED),
+            (enough, ENOUGH),
+        ],
+    );
 }

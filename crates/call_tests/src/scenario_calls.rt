@@ -1,8 +1,8 @@
 use clnp_base::lines;
-use clnp_plan::{Limits, Role, Settings};
-use scenario::{Event, Scenario, ScenarioRefusal, from_seed, read, write};
+use clnp_plan::{Limits, PortConfig, Role, SystemConfig};
+use scenario::{Event, Scenario, ScenarioRefusal, Subnet, from_seed, read, write};
 use std::alloc::Global;
-use std::test::Fail;
+use std::process::Abort;
 
 const TEXT: &[u8] = b"# two subnetworks
 
@@ -46,87 +46,42 @@ events
 end
 ";
 
-/// What `read` says of a text, which is short.
-fn answer(alloc: Global, text: &[u8]) -> Option<Result<Scenario, ScenarioRefusal>> {
-    let _lines = lines(text);
-    if text.len() > 4_000_000 {
-        return None;
-    }
-    Some(read(alloc, text))
-}
+/// What `write` makes of the first one.
+const TEXT_WRITTEN: &[u8] = b"clnp-sim 1
+limits 4 2 6
+subnet lan 1500
+subnet wan 512
+system a host hello=0 suggest=0 rhold=120 slots=16 segments=1024 budget=262144 neighbours=64 routers=8 redirects=64 life=64 checksum=on
+system b host hello=0 suggest=0 rhold=0 slots=1024 segments=1 budget=512 neighbours=2 routers=3 redirects=4 life=7 checksum=off
+address a 4701
+port a 0 lan 01 1
+address b 4702
+address b 4703
+port b 0 wan 01 255
+events
+send a 4701 4702 hex:6869 life=64
+send b 4703 4701 hex: life=7 noreport whole
+send b 4702 4701 pat:70000:255 life=9 opt=c501c0cd0105
+deliver 3 b
+settle 2
+lose 5
+tick 65535
+restart b
+end
+";
 
-#[test]
-fn reads_what_is_declared(rt: HostRuntime) -> Result<(), Fail> {
-    let Some(Ok(scenario)) = answer(rt.alloc(), TEXT) else {
-        assert!(rt; false);
-        return Ok(());
-    };
-    let limits = Limits {
-        age: 4,
-        hold: 2,
-        reuse: 6,
-    };
-    assert_eq!(rt; *scenario.limits(), limits);
-    for (subnet, (name, mtu)) in scenario
-        .subnets()
-        .iter()
-        .zip([(b"lan", 1500), (b"wan", 512)])
-    {
-        assert_eq!(rt; subnet.name(), name.as_slice());
-        assert_eq!(rt; subnet.mtu, mtu);
-    }
-    let [a, b] = scenario.systems() else {
-        assert!(rt; false);
-        return Ok(());
-    };
-    let settings = Settings {
-        hello: 0,
-        suggest: 0,
-        rhold: 0,
-        slots: 1024,
-        segments: 1,
-        budget: 512,
-        neighbours: 2,
-        routers: 3,
-        redirects: 4,
-        life: 7,
-        sealed: false,
-    };
-    assert_eq!(rt; a.name(), b"a".as_slice());
-    assert_eq!(rt; b.role(), Role::Host);
-    assert_eq!(rt; *b.settings(), settings);
-    for (address, octets) in b.addresses().iter().zip([[0x47, 2], [0x47, 3]]) {
-        assert_eq!(rt; address.as_bytes(), octets.as_slice());
-    }
-    for port in b.ports() {
-        assert_eq!(rt; port.subnet, 1);
-        assert_eq!(rt; port.snpa.as_bytes(), b"\x01".as_slice());
-        assert_eq!(rt; port.transit, 255);
-        assert_eq!(rt; port.mtu, 512);
-    }
-    Ok(())
-}
-
-#[test]
-fn reads_a_router(rt: HostRuntime) -> Result<(), Fail> {
-    let Some(Ok(scenario)) = answer(rt.alloc(), ROUTER) else {
-        assert!(rt; false);
-        return Ok(());
-    };
-    let [router] = scenario.systems() else {
-        assert!(rt; false);
-        return Ok(());
-    };
-    assert_eq!(rt; router.role(), Role::Router);
-    assert_eq!(rt; router.settings().hello, 60);
-    assert_eq!(rt; router.settings().suggest, 30);
-    for (port, (subnet, snpa)) in router.ports().iter().zip([(0, b"\x0a"), (1, b"\x0b")]) {
-        assert_eq!(rt; port.subnet, subnet);
-        assert_eq!(rt; port.snpa.as_bytes(), snpa.as_slice());
-    }
-    assert_eq!(rt; router.ports().len(), 2);
-    Ok(())
-}
+/// What `write` makes of the router's.
+const ROUTER_WRITTEN: &[u8] = b"clnp-sim 1
+limits 256 60 320
+subnet one 1500
+subnet two 512
+system r router hello=60 suggest=30 rhold=120 slots=16 segments=1024 budget=262144 neighbours=64 routers=8 redirects=64 life=64 checksum=on
+address r 470027ff
+port r 0 one 0a 1
+port r 1 two 0b 1
+events
+end
+";
 
 const TWO_HOSTS: &[u8] = b"# two hosts on one subnetwork
 clnp-sim 1
@@ -157,66 +112,132 @@ tick 1
 end
 ";
 
-#[test]
-fn writes_what_was_read(rt: HostRuntime) -> Result<(), Fail> {
-    let Some(Ok(scenario)) = answer(rt.alloc(), TWO_HOSTS) else {
-        assert!(rt; false);
-        return Ok(());
-    };
-    let mut text = Vec::new(rt.alloc());
-    write(rt.alloc(), &scenario, &mut text)?;
-    assert_eq!(rt; text.as_slice(), TWO_HOSTS_WRITTEN);
-    Ok(())
+/// The answer to a text, which is short.
+fn answer(rt: &impl Abort, alloc: Global, text: &[u8]) -> Result<Scenario, ScenarioRefusal> {
+    let _lines = lines(text);
+    assert!(rt; text.len() <= 4_000_000);
+    read(alloc, text)
+}
+
+/// The scenario of a text.
+fn scenario_of(rt: &impl Abort, alloc: Global, text: &[u8]) -> Scenario {
+    answer(rt, alloc, text).expect(rt, "a scenario")
+}
+
+/// What is written of what is read of a text.
+fn written(rt: &impl Abort, alloc: Global, text: &[u8]) -> Vec<u8> {
+    let scenario = scenario_of(rt, alloc, text);
+    let mut out = Vec::new(alloc);
+    write(alloc, &scenario, &mut out).expect(rt, "memory");
+    out
 }
 
 #[test]
-fn makes_the_scenario_of_a_seed(rt: HostRuntime) -> Result<(), Fail> {
-    let scenario = from_seed(rt.alloc(), 0)?;
-    assert_eq!(rt; scenario.systems().len(), 6);
-    assert_eq!(rt; scenario.events().len(), 582);
+fn writes_what_was_read(rt: HostRuntime) {
+    for (text, wanted) in [
+        (TEXT, TEXT_WRITTEN),
+        (ROUTER, ROUTER_WRITTEN),
+        (TWO_HOSTS, TWO_HOSTS_WRITTEN),
+    ] {
+        let found = written(&rt, rt.alloc(), text);
+        assert!(rt; found.as_slice() == wanted);
+    }
+}
+
+const LIMITS: Limits = Limits {
+    age: 4,
+    hold: 2,
+    reuse: 6,
+};
+
+/// Sees the names and the MTUs of two subnetworks.
+fn see_subnets(rt: &impl Abort, subnets: &[Subnet]) {
+    let [lan, wan] = subnets else {
+        panic!(rt; "not two subnetworks");
+    };
+    assert!(rt; lan.name() == b"lan".as_slice());
+    assert!(rt; lan.mtu == 1500);
+    assert!(rt; wan.name() == b"wan".as_slice());
+    assert!(rt; wan.mtu == 512);
+}
+
+/// Sees the second of two systems.
+fn see_systems(rt: &impl Abort, systems: &[SystemConfig]) {
+    let [_, host] = systems else {
+        panic!(rt; "not two systems");
+    };
+    assert!(rt; host.name() == b"b".as_slice());
+    assert!(rt; host.role() == Role::Host);
+    see_port(rt, host.ports());
+}
+
+/// Sees the port of a host, which has the MTU of its subnetwork.
+fn see_port(rt: &impl Abort, ports: &[PortConfig]) {
+    let [port] = ports else {
+        panic!(rt; "not one port");
+    };
+    assert!(rt; port.subnet == 1);
+    assert!(rt; port.mtu == 512);
+}
+
+#[test]
+fn reads_what_is_declared(rt: HostRuntime) {
+    let scenario = scenario_of(&rt, rt.alloc(), TEXT);
+    assert!(rt; *scenario.limits() == LIMITS);
+    see_subnets(&rt, scenario.subnets());
+    see_systems(&rt, scenario.systems());
+}
+
+/// Sees the first events of the scenario of the seed 0.
+fn see_first_events(rt: &impl Abort, events: &[Event]) {
     let [
         Event::Tick { count: 1 },
         Event::Settle { count: 40 },
         Event::Lose { count: 5 },
         ..
-    ] = scenario.events()
+    ] = events
     else {
-        assert!(rt; false);
-        return Ok(());
+        panic!(rt; "other events");
     };
-    Ok(())
-}
-
-/// A text with a frame from outside of so many octets.
-fn injection(alloc: Global, octets: usize) -> Result<Vec<u8>, Fail> {
-    let mut text = Vec::from_slice(
-        alloc,
-        b"clnp-sim 1\nsubnet lan 512\nevents\ninject lan 05 is ",
-    )?;
-    for _ in 0..octets {
-        text.extend_from_slice(b"81")?;
-    }
-    text.extend_from_slice(b"\nend\n")?;
-    Ok(text)
 }
 
 #[test]
-fn reads_frames_of_70000_octets_and_no_more(rt: HostRuntime) -> Result<(), Fail> {
-    let text = injection(rt.alloc(), 70_000)?;
-    let Some(Ok(scenario)) = answer(rt.alloc(), &text) else {
-        assert!(rt; false);
-        return Ok(());
-    };
+fn makes_the_scenario_of_a_seed(rt: HostRuntime) {
+    let scenario = from_seed(rt.alloc(), 0).expect(&rt, "memory");
+    assert!(rt; scenario.systems().len() == 6);
+    assert!(rt; scenario.events().len() == 582);
+    see_first_events(&rt, scenario.events());
+}
+
+/// A text with a frame from outside of so many octets.
+fn injection(rt: &impl Abort, alloc: Global, octets: usize) -> Vec<u8> {
+    let front = b"clnp-sim 1\nsubnet lan 512\nevents\ninject lan 05 is ";
+    let mut text = Vec::from_slice(alloc, front).expect(rt, "memory");
+    for _ in 0..octets {
+        text.extend_from_slice(b"81").expect(rt, "memory");
+    }
+    text.extend_from_slice(b"\nend\n").expect(rt, "memory");
+    text
+}
+
+/// How many octets come from outside, where that is the only event.
+fn injected(scenario: &Scenario) -> Option<usize> {
     let [Event::Inject { octets, .. }] = scenario.events() else {
-        assert!(rt; false);
-        return Ok(());
+        return None;
     };
-    assert_eq!(rt; octets.as_bytes().len(), 70_000);
-    let text = injection(rt.alloc(), 70_001)?;
-    let Some(Err(refusal)) = answer(rt.alloc(), &text) else {
-        assert!(rt; false);
-        return Ok(());
-    };
-    assert_eq!(rt; refusal, ScenarioRefusal::BadLine { line: 4, code: 10 });
-    Ok(())
+    Some(octets.as_bytes().len())
+}
+
+#[test]
+fn reads_frames_of_70000_octets(rt: HostRuntime) {
+    let text = injection(&rt, rt.alloc(), 70_000);
+    let scenario = scenario_of(&rt, rt.alloc(), &text);
+    assert!(rt; injected(&scenario) == Some(70_000));
+}
+
+#[test]
+fn refuses_longer_frames(rt: HostRuntime) {
+    let text = injection(&rt, rt.alloc(), 70_001);
+    let refusal = ScenarioRefusal::BadLine { line: 4, code: 10 };
+    assert!(rt; answer(&rt, rt.alloc(), &text).err() == Some(refusal));
 }

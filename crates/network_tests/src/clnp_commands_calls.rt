@@ -1,72 +1,12 @@
 use clnp_base::{Failed, MemSink, MemSource, Sink};
 use clnp_commands::{Status, clnp_main};
 use std::alloc::Global;
-use std::test::Fail;
-
-/// The declarations of two hosts on one subnetwork.
-const HOSTS: &str = "\
-clnp-sim 1
-subnet lan 1500
-system a host hello=0
-system b host hello=0
-address a 47002702
-address b 47002701
-port a 0 lan 01
-port b 0 lan 02
-events
-";
+use std::process::Abort;
 
 /// Two vectors, and the verdicts on them.
 const VECTORS: &[u8] = b"81 => refused G1 06 00 silent\n00 => alien\n";
 
-/// A list of one word.
-fn word(alloc: Global, word: &str) -> Result<Vec<String>, Fail> {
-    let mut words = Vec::new(alloc);
-    words.push(String::from_str(alloc, word)?)?;
-    Ok(words)
-}
-
-/// A call with one word over objects in memory that move at most seven octets a call, and fail at
-/// given calls. Answers the status, and the sink as it is afterwards.
-fn call(
-    alloc: Global,
-    command: &str,
-    text: &[u8],
-    read_fails: &[u64],
-    write_fails: &[u64],
-) -> Result<(Status, MemSink), Fail> {
-    let words = word(alloc, command)?;
-    let text = Vec::from_slice(alloc, text)?;
-    let mut source = MemSource::new(text, 7, Vec::from_slice(alloc, read_fails)?);
-    let mut sink = MemSink::new(alloc, 65_536, 7, Vec::from_slice(alloc, write_fails)?)?;
-    let status = clnp_main(alloc, words.as_slice(), &mut source, &mut sink);
-    Ok((status, sink))
-}
-
-#[test]
-fn stops_where_the_sink_fails(rt: HostRuntime) -> Result<(), Fail> {
-    let alloc = rt.alloc();
-    for (command, text) in [("show", b"81\n".as_slice()), ("check", VECTORS)] {
-        let (status, sink) = call(alloc, command, text, &[], &[1])?;
-        assert_eq!(rt; status, Status::WriteFault, "at {command}");
-        assert!(rt; sink.as_bytes().is_empty());
-    }
-    Ok(())
-}
-
-#[test]
-fn stops_where_the_source_fails(rt: HostRuntime) -> Result<(), Fail> {
-    let alloc = rt.alloc();
-    // The vectors have 42 octets, so six calls give some and one more tells the end.
-    for number in 1..8u64 {
-        let (status, sink) = call(alloc, "check", VECTORS, &[number], &[])?;
-        assert_eq!(rt; status, Status::ReadFault, "at call {number}");
-        assert!(rt; sink.as_bytes().is_empty());
-    }
-    let (status, _) = call(alloc, "check", VECTORS, &[8], &[])?;
-    assert_eq!(rt; status, Status::Done);
-    Ok(())
-}
+const VERDICTS: &[u8] = b"1 pass\n2 pass\npassed 2 failed 0\n";
 
 /// A host that has no room for all segments of a unit, at its deadline too.
 const CROWDED: &[u8] = b"\
@@ -90,35 +30,207 @@ end
 /// Its last line.
 const CROWDED_END: &[u8] = b"end 10 7\n";
 
-#[test]
-fn stops_where_the_sink_fails_in_a_long_journal(rt: HostRuntime) -> Result<(), Fail> {
-    let alloc = rt.alloc();
-    let (status, whole) = call(alloc, "sim", CROWDED, &[], &[])?;
-    assert_eq!(rt; status, Status::Done);
-    assert!(rt; whole.as_bytes().ends_with(CROWDED_END));
-    let calls = whole.as_bytes().len().div_ceil(7) as u64;
-    let mut front = 0usize;
-    for number in 1..=calls {
-        let (status, sink) = call(alloc, "sim", CROWDED, &[], &[number])?;
-        assert_eq!(rt; status, Status::WriteFault, "at call {number}");
-        assert_eq!(rt; sink.as_bytes().len(), front, "at call {number}");
-        assert!(rt; whole.as_bytes().starts_with(sink.as_bytes()));
-        front = front.saturating_add(7);
-    }
-    Ok(())
+/// How objects in memory behave: how many octets they move at most in a call, how many the sink has room for, and the
+/// numbers of the calls, from 1, at which the source and the sink fail.
+#[derive(Clone, Copy)]
+struct Streams {
+    most: usize,
+    room: usize,
+    read_fails: u64,
+    write_fails: u64,
+}
+
+/// Objects that move seven octets a call, and never fail.
+const SEVEN: Streams = Streams {
+    most: 7,
+    room: 65_536,
+    read_fails: 0,
+    write_fails: 0,
+};
+
+/// The source of a text.
+fn source_of(rt: &impl Abort, alloc: Global, text: &[u8], streams: Streams) -> MemSource {
+    assert!(rt; streams.most >= 1);
+    let octets = Vec::from_slice(alloc, text).expect(rt, "memory");
+    let fails = Vec::from_slice(alloc, &[streams.read_fails]).expect(rt, "memory");
+    MemSource::new(octets, streams.most, fails)
+}
+
+fn sink_of(rt: &impl Abort, alloc: Global, streams: Streams) -> MemSink {
+    assert!(rt; streams.most >= 1);
+    let fails = Vec::from_slice(alloc, &[streams.write_fails]).expect(rt, "memory");
+    MemSink::new(alloc, streams.room, streams.most, fails).expect(rt, "memory")
+}
+
+/// A list of one word.
+fn words_of(rt: &impl Abort, alloc: Global, word: &str) -> Vec<String> {
+    let mut words = Vec::new(alloc);
+    let word = String::from_str(alloc, word).expect(rt, "memory");
+    words.push(word).expect(rt, "memory");
+    words
+}
+
+/// The status of a call with one word, which appends what it writes.
+fn call(
+    rt: &impl Abort,
+    alloc: Global,
+    word: &str,
+    text: &[u8],
+    streams: Streams,
+    out: &mut Vec<u8>,
+) -> Status {
+    let words = words_of(rt, alloc, word);
+    let mut source = source_of(rt, alloc, text, streams);
+    let mut sink = sink_of(rt, alloc, streams);
+    let status = clnp_main(alloc, words.as_slice(), &mut source, &mut sink);
+    out.extend_from_slice(sink.as_bytes()).expect(rt, "memory");
+    status
+}
+
+/// Sees the status of a call, and all that it writes.
+fn see_call(
+    rt: &impl Abort,
+    alloc: Global,
+    word: &str,
+    text: &[u8],
+    streams: Streams,
+    status: Status,
+    written: &[u8],
+) {
+    let mut out = Vec::new(alloc);
+    assert!(rt; call(rt, alloc, word, text, streams, &mut out) == status);
+    assert!(rt; out.as_slice() == written);
 }
 
 #[test]
-fn writes_nothing_where_the_source_of_a_scenario_fails(rt: HostRuntime) -> Result<(), Fail> {
-    let alloc = rt.alloc();
-    // One call more tells the end.
-    let calls = (CROWDED.len().div_ceil(7) as u64).saturating_add(1);
-    for number in 1..=calls {
-        let (status, sink) = call(alloc, "sim", CROWDED, &[number], &[])?;
-        assert_eq!(rt; status, Status::ReadFault, "at call {number}");
-        assert!(rt; sink.as_bytes().is_empty());
+fn stops_where_the_sink_fails(rt: HostRuntime) {
+    let streams = Streams {
+        write_fails: 1,
+        ..SEVEN
+    };
+    for (word, text) in [("show", b"81\n".as_slice()), ("check", VECTORS)] {
+        see_call(
+            &rt,
+            rt.alloc(),
+            word,
+            text,
+            streams,
+            Status::WriteFault,
+            b"",
+        );
     }
-    Ok(())
+}
+
+/// The vectors have 42 octets, so six calls of the source give some and one more tells the end.
+#[test]
+fn stops_where_the_source_fails(rt: HostRuntime) {
+    for number in 1..9u64 {
+        let streams = Streams {
+            read_fails: number,
+            ..SEVEN
+        };
+        let (status, written) = if number < 8 {
+            (Status::ReadFault, b"".as_slice())
+        } else {
+            (Status::Done, VERDICTS)
+        };
+        see_call(&rt, rt.alloc(), "check", VECTORS, streams, status, written);
+    }
+}
+
+#[test]
+fn stops_where_the_sink_fails_in_a_long_journal(rt: HostRuntime) {
+    let mut whole = Vec::new(rt.alloc());
+    let status = call(&rt, rt.alloc(), "sim", CROWDED, SEVEN, &mut whole);
+    assert!(rt; status == Status::Done);
+    assert!(rt; whole.as_slice().ends_with(CROWDED_END));
+    see_fronts(&rt, rt.alloc(), &whole);
+}
+
+/// Sees that what is written is a front of the whole journal, whichever call of the sink fails.
+fn see_fronts(rt: &impl Abort, alloc: Global, whole: &[u8]) {
+    let mut front = 0usize;
+    for number in 1..=whole.len().div_ceil(7) as u64 {
+        let Some(written) = whole.get(..front) else {
+            panic!(rt; "too few octets");
+        };
+        let streams = Streams {
+            write_fails: number,
+            ..SEVEN
+        };
+        see_call(
+            rt,
+            alloc,
+            "sim",
+            CROWDED,
+            streams,
+            Status::WriteFault,
+            written,
+        );
+        front = front.saturating_add(7);
+    }
+}
+
+/// One call of the source more than those that give the octets tells the end.
+#[test]
+fn writes_nothing_where_the_source_of_a_scenario_fails(rt: HostRuntime) {
+    let calls = CROWDED.len().div_ceil(7) as u64;
+    for number in 0..=calls {
+        let streams = Streams {
+            read_fails: number.saturating_add(1),
+            ..SEVEN
+        };
+        see_call(
+            &rt,
+            rt.alloc(),
+            "sim",
+            CROWDED,
+            streams,
+            Status::ReadFault,
+            b"",
+        );
+    }
+}
+
+#[test]
+fn refuses_a_long_text(rt: HostRuntime) {
+    let text = vec![in rt.alloc(); b'a'; 16_777_217].expect(&rt, "memory");
+    let streams = Streams {
+        most: usize::MAX,
+        ..SEVEN
+    };
+    see_call(&rt, rt.alloc(), "sim", &text, streams, Status::TooLong, b"");
+}
+
+/// So many times a line.
+fn repeated(rt: &impl Abort, alloc: Global, front: &[u8], line: &[u8], count: usize) -> Vec<u8> {
+    let mut text = Vec::from_slice(alloc, front).expect(rt, "memory");
+    for _ in 0..count {
+        text.extend_from_slice(line).expect(rt, "memory");
+    }
+    text
+}
+
+/// The sink is full within the line of frame number 11,667.
+#[test]
+fn writes_many_blocks(rt: HostRuntime) {
+    let text = repeated(&rt, rt.alloc(), b"", b"00\n", 16_000);
+    let mut lines = repeated(&rt, rt.alloc(), b"", b"alien\n", 11_666);
+    lines.extend_from_slice(b"alie").expect(&rt, "memory");
+    let streams = Streams {
+        most: 4096,
+        room: 70_000,
+        ..SEVEN
+    };
+    see_call(
+        &rt,
+        rt.alloc(),
+        "show",
+        &text,
+        streams,
+        Status::WriteFault,
+        &lines,
+    );
 }
 
 /// A sink that counts the octets that it takes, and keeps none.
@@ -140,59 +252,43 @@ impl Sink for Counter {
     }
 }
 
-#[test]
-fn stops_where_the_network_is_full(rt: HostRuntime) -> Result<(), Fail> {
-    // Each unit is one copy that weighs 64,601, so there is room for 4,156 of them.
-    let alloc = rt.alloc();
-    let mut text = String::from_str(alloc, HOSTS)?.replace(alloc, "lan 1500", "lan 65535")?;
-    for _ in 0..4157 {
-        text.push_str("send a 47002702 47002701 pat:64512:0\n")?;
-    }
-    text.push_str("end\n")?;
-    let words = word(alloc, "sim")?;
-    let octets = Vec::from_slice(alloc, text.as_str().as_bytes())?;
-    let mut source = MemSource::new(octets, 4096, Vec::new(alloc));
+/// Two hosts on a subnetwork.
+const HOSTS: &[u8] = b"clnp-sim 1
+subnet lan 65535
+system a host hello=0
+system b host hello=0
+address a 47002702
+address b 47002701
+port a 0 lan 01
+port b 0 lan 02
+events
+";
+
+/// The octets that a simulation writes which stops since its network is full: of so many.
+fn count_until_full(rt: &impl Abort, alloc: Global, text: &[u8], full: u64) -> u64 {
+    let words = words_of(rt, alloc, "sim");
+    let mut source = source_of(
+        rt,
+        alloc,
+        text,
+        Streams {
+            most: 4096,
+            ..SEVEN
+        },
+    );
     let mut sink = Counter { octets: 0 };
     let status = clnp_main(alloc, words.as_slice(), &mut source, &mut sink);
-    let full = Status::WorldFull {
-        octets: 268_481_756,
-    };
-    assert_eq!(rt; status, full);
-    // Two lines for each unit, 129,130 octets and twice the digits of its number, and no last line.
-    assert_eq!(rt; sink.octets, 536_695_314);
-    Ok(())
+    assert!(rt; status == Status::WorldFull { octets: full });
+    sink.octets
 }
 
+/// Each unit is one copy that weighs 64,601, so there is room for 4,156 of them. Two lines are written for each unit,
+/// 129,130 octets and twice the digits of its number, and no last line.
 #[test]
-fn refuses_a_long_text(rt: HostRuntime) -> Result<(), Fail> {
-    let alloc = rt.alloc();
-    let words = word(alloc, "sim")?;
-    let text = vec![in alloc; b'a'; 16_777_217]?;
-    let mut source = MemSource::new(text, usize::MAX, Vec::new(alloc));
-    let mut sink = MemSink::new(alloc, 10, 10, Vec::new(alloc))?;
-    let status = clnp_main(alloc, words.as_slice(), &mut source, &mut sink);
-    assert_eq!(rt; status, Status::TooLong);
-    assert!(rt; sink.as_bytes().is_empty());
-    Ok(())
-}
-
-#[test]
-fn writes_many_blocks(rt: HostRuntime) -> Result<(), Fail> {
-    let alloc = rt.alloc();
-    let mut text = Vec::new(alloc);
-    for _ in 0..16_000 {
-        text.extend_from_slice(b"00\n")?;
-    }
-    let words = word(alloc, "show")?;
-    let mut source = MemSource::new(text, 4096, Vec::new(alloc));
-    let mut sink = MemSink::new(alloc, 70_000, 4096, Vec::new(alloc))?;
-    let status = clnp_main(alloc, words.as_slice(), &mut source, &mut sink);
-    assert_eq!(rt; status, Status::WriteFault);
-    assert_eq!(rt; sink.as_bytes().len(), 70_000);
-    assert!(rt;
-        sink.as_bytes()
-            .chunks(6)
-            .all(|line| b"alien\n".starts_with(line))
-    );
-    Ok(())
+fn stops_where_the_network_is_full(rt: HostRuntime) {
+    let send = b"send a 47002702 47002701 pat:64512:0\n";
+    let mut text = repeated(&rt, rt.alloc(), HOSTS, send, 4157);
+    text.extend_from_slice(b"end\n").expect(&rt, "memory");
+    let octets = count_until_full(&rt, rt.alloc(), &text, 268_481_756);
+    assert!(rt; octets == 536_695_314);
 }
