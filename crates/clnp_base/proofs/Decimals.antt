@@ -1,6 +1,6 @@
 -- A decimal read digit by digit.
 use Rattle.std.proofs.Common.{◌≡◌, ℕ, suc, length, drop, get_or, drop-cons, ◌+◌, ◌-◌, ◌*◌, ◌^◌, ◌<◌, ◌≤◌, ◌&&◌, inl, inr, nat_lt, if◌then◌else◌, List, [], ◌∷◌, fold, Option, Some, None, arith, refl, sym, ap, ◌∙◌, Bool, true, false}
-use Rattle.std.proofs.lemmas.Bool.{and_parts, and_right, cases_Bool}
+use Rattle.std.proofs.lemmas.Bool.{and_right, cases_Bool}
 use Rattle.std.proofs.lemmas.Bool.Decides.{nat_tests}
 use Rattle.std.specs.List.{list_all}
 use Rattle.clnp_base.specs.Text.{is_digit, decimal_of}

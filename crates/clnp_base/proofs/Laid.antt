@@ -1,7 +1,7 @@
 -- Octets laid over cells.
 use Rattle.std.proofs.Common.{◌≡◌, ℕ, ◌+◌, ◌-◌, ◌≤◌, ◌++◌, List, length, take, drop, replicate, arith, ap, sym, ◌∙◌}
 use Rattle.std.proofs.Math.Seq.{drop-append_seam}
-use Rattle.std.proofs.lemmas.List.{append_assoc, drop-drop, drop-replicate, length-append, length-drop, length-replicate, length-take-le}
+use Rattle.std.proofs.lemmas.List.{append_assoc, drop-drop, drop-replicate, length-append, length-drop, length-take-le}
 use Rattle.std.proofs.lemmas.List.{drop_at, take-take}
 use Rattle.std.proofs.lemmas.Slice.{drop-put_mid, take-put_mid, take-put_mid_below}
 use borrow.Rule.Slice.PartMut.{put_mid}

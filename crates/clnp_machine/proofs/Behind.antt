@@ -1,13 +1,13 @@
 -- The options of a packet behind a router: they have the form of those before it, and a PDU can carry them.
-use Rattle.std.proofs.Common.{◌≡◌, ◌∙◌, refl, sym, ap, subst, ℕ, zero, suc, ◌+◌, ◌-◌, ◌<◌, ◌^◌, Bool, true, false, List, [], ◌∷◌, length, Option, None, Some, All, arith}
+use Rattle.std.proofs.Common.{◌≡◌, ◌∙◌, refl, sym, ap, subst, ℕ, zero, suc, ◌+◌, ◌-◌, ◌<◌, Bool, true, false, List, [], ◌∷◌, length, Option, None, Some, All, arith}
 use Rattle.std.specs.Prelude.{if◌then◌else◌, nat_lt, slice_get, option_map, IsSome}
 use Rattle.std.proofs.lemmas.List.Elements.{recursion_from_All}
 use Rattle.std.specs.Str.{bytes_eq}
 use Rattle.nsap.specs.Address.{IsAddress}
-use Rattle.clnp_options.specs.Edits.{HaveOneForm, advanced, edited, marked, recorded, target_of}
+use Rattle.clnp_options.specs.Edits.{HaveOneForm, advanced, edited, recorded, target_of}
 use Rattle.clnp_options.specs.Grammar.{AreFormed}
-use Rattle.clnp_options.specs.Parameter.{Parameter, quality, recording, source_route, spelled}
-use Rattle.pdu_header.specs.Grammar.{IsPdu, IsSegment}
+use Rattle.clnp_options.specs.Parameter.{Parameter, recording, source_route, spelled}
+use Rattle.pdu_header.specs.Grammar.{IsPdu}
 use Rattle.pdu_header.specs.Headers.{with_lifetime, with_options}
 use Rattle.pdu_header.specs.Spelling.{header_length, segmentation_octets}
 use Rattle.pdu_header.specs.Value.{PduValue, SegmentationPart}
@@ -102,7 +102,6 @@ module _ (laws : EditLaws) (s : SystemState) where
       → value_of (forwarded p loss (options_behind s p.options))
       ≡ with_options (options_behind s p.options) (with_lifetime (p.lifetime - loss) (value_of p))
   behind_value p loss h = value_with_options p loss (options_behind s p.options) (behind_form p.options h.pdu.options)
-
 
   lowered_pdu : (v : PduValue) (life : ℕ) → life < 256 → IsPdu v → IsPdu (with_lifetime life v)
   lowered_pdu v life few is =

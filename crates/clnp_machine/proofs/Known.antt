@@ -9,8 +9,8 @@ use Rattle.esis_tables.specs.declared.fact.Heard.{Heard}
 use Rattle.esis_tables.specs.declared.fact.Heard.TheVariants.{New, Again, Zero, Full}
 use Rattle.esis_tables.specs.declared.fact.Place.{Place}
 use Rattle.esis_tables.specs.declared.fact.TableKind.{TableKind}
-use Rattle.esis_tables.specs.declared.fact.TableKind.TheVariants.{Es, Is, Rd}
-use Rattle.esis_tables.specs.Fact.{Fact, after, answer, current, currents, end_of, has_key, hearing, is_held, is_noted, latest, limit_of, same_table, while_held}
+use Rattle.esis_tables.specs.declared.fact.TableKind.TheVariants.{Es}
+use Rattle.esis_tables.specs.Fact.{Fact, after, answer, current, currents, end_of, has_key, hearing, is_held, is_noted, latest, limit_of, while_held}
 use Rattle.esis_tables.specs.Keeps.{AreDistinct, without}
 use Rattle.clnp_base.proofs.SameOctets.{same_from, same-itself}
 use Rattle.esis_tables.proofs.Current.{currents-there, same_table-itself}

@@ -1,9 +1,8 @@
 -- A redirect that comes changes the next hop of its destination alone.
-use Rattle.std.proofs.Common.{◌≡◌, ◌∙◌, refl, sym, ap, subst, ℕ, Bool, true, false, List, [], ◌∷◌, Option, None, Some}
-use Rattle.std.specs.Prelude.{if◌then◌else◌, option_map}
+use Rattle.std.proofs.Common.{◌≡◌, ◌∙◌, refl, sym, ap, subst, ℕ, Bool, true, false, List, [], ◌∷◌, Option, Some}
+use Rattle.std.specs.Prelude.{if◌then◌else◌}
 use Rattle.esis_pdus.specs.declared.pdu.EsisBody.{EsisBody}
-use Rattle.esis_pdus.specs.declared.pdu.EsisBody.TheVariants as body
-use Rattle.esis_pdus.specs.Value.{EsisValue, suggested}
+use Rattle.esis_pdus.specs.Value.{suggested}
 use Rattle.esis_tables.specs.declared.fact.EsisLimits.{EsisLimits}
 use Rattle.esis_tables.specs.declared.fact.Place.{Place}
 use Rattle.esis_tables.specs.declared.fact.TableKind.TheVariants.{Rd}
@@ -14,8 +13,8 @@ use Rattle.clnp_plan.specs.declared.config.Role.{Role}
 use Rattle.clnp_plan.specs.declared.config.Role.TheVariants.{Host, Router}
 use Rattle.clnp_plan.specs.declared.note.Note.TheVariants.{Ignored}
 use Rattle.clnp_machine.specs.Content.{Content, Labelled, Esis, Unlabelled}
-use Rattle.clnp_machine.specs.System.{SystemState, Notes, Effect, FrameComes, gives}
-use Rattle.clnp_machine.specs.Esis.{esis_comes, esis_heard, esis_limits, heard_now, hears, redirect_heard}
+use Rattle.clnp_machine.specs.System.{SystemState, Notes, FrameComes, gives}
+use Rattle.clnp_machine.specs.Esis.{esis_heard, esis_limits, heard_now, hears, redirect_heard}
 use Rattle.clnp_machine.specs.Step.{host_hop, hop_of, next_hop, step}
 use Rattle.clnp_machine.specs.Steps.{IsRedirectFor, KeepsNextHops}
 

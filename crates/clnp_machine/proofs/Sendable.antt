@@ -17,7 +17,6 @@ use Rattle.pdu_header.specs.declared.kind.Kind.{Kind}
 use Rattle.pdu_header.specs.declared.kind.Kind.TheVariants.{Dt, Er, Erq, Erp}
 use Rattle.pdu_header.specs.Grammar.{IsSegment, is_report}
 use Rattle.pdu_header.specs.Rules.{extent_refusal, header_of, header_size as size_of_header, is_bad_address, is_reportable, octet, source_place, type_of, wants_report}
-use Rattle.pdu_header.specs.Value.{PduValue, SegmentationPart}
 use Rattle.pdu_header.proofs.Accepted.{within}
 use Rattle.pdu_header.proofs.Spelled.{address_is, octets_of_take}
 use Rattle.error_reports.specs.Report.{reason_option, source_of}

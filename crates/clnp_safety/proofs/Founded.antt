@@ -23,7 +23,6 @@ use Rattle.clnp_safety.proofs.BufferOffers.{unit_sound}
 use Rattle.clnp_safety.proofs.SendAsked.{own_address}
 use Rattle.clnp_safety.proofs.Units.{different_makers}
 
-
 -- an address of a declaration is one of the system's own
 pub owned : (s : SystemState) (address : List ℕ) → Contains s.configuration.addresses address → is_own s address ≡ true
 owned s address there =

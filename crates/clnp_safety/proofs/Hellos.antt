@@ -8,7 +8,7 @@ use Rattle.clnp_machine.specs.Unit as unit
 use Rattle.clnp_machine.specs.System.{SystemState, Effect, then_does}
 use Rattle.clnp_machine.specs.Local.{Deed}
 use Rattle.clnp_machine.specs.Step.{effect_of}
-use Rattle.clnp_machine.specs.Steps.{IsOfHellos, KnowsAddresses, NotesOnly, OnlyHellos}
+use Rattle.clnp_machine.specs.Steps.{KnowsAddresses, NotesOnly, OnlyHellos}
 use Rattle.clnp_network.specs.World.{World}
 use Rattle.clnp_network.specs.Run.{Entry}
 use Rattle.clnp_safety.specs.Invariant.{EachRests, SystemIsSound}

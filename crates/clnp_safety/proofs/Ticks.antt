@@ -1,18 +1,16 @@
 -- A tick of the clock comes to each system in turn.
 use Rattle.clnp_base.proofs.Lists.{AllByRecursion-implies, slice_get_none}
-use Rattle.std.proofs.Common.{◌≡◌, ◌≤◌, ◌<◌, ℕ, zero, suc, inl, inr, List, ◌+◌, length, refl, sym, subst, arith}
-use Rattle.std.specs.Prelude.{◌&&◌, nat_le, not, slice_get}
+use Rattle.std.proofs.Common.{◌≡◌, ◌≤◌, ◌<◌, ℕ, zero, suc, List, ◌+◌, length, refl, sym, subst, arith}
+use Rattle.std.specs.Prelude.{slice_get}
 use Rattle.std.specs.List.{range_with_len}
-use Rattle.std.proofs.lemmas.Bool.{cases_Bool}
 use Rattle.std.proofs.lemmas.Option.{slice_get_within}
 use Rattle.scenario.specs.Scenario.{IsFit, Plan}
 use Rattle.clnp_plan.specs.Journal.{Line}
 use Rattle.clnp_machine.specs.Unit as unit
 use Rattle.clnp_machine.specs.System.{SystemState, MomentComes, then_does}
 use Rattle.clnp_machine.specs.Local.{made_in, tick}
-use Rattle.clnp_machine.specs.Esis.{forgets, is_silent, says_hello}
+use Rattle.clnp_machine.specs.Esis.{forgets, says_hello}
 use Rattle.clnp_machine.specs.Step.{effect_of, moment_comes}
-use Rattle.clnp_machine.specs.Steps.{KnowsAddresses}
 use Rattle.clnp_machine.specs.Told.{NoteIsQuiet, TellsOnly}
 use Rattle.clnp_network.specs.Run.{Entry}
 use Rattle.clnp_network.specs.World.{World, comes, tick_each, tick_one}

@@ -1,12 +1,12 @@
 -- Uses of identifiers: where one may be drawn, each earlier use of it is long ago.
 use Rattle.clnp_base.proofs.Lists.{pairs_behind}
-use Rattle.std.proofs.Common.{◌≡◌, ℕ, zero, suc, ◌+◌, ◌<◌, ◌≤◌, cond, inl, inr, List, [], ◌∷◌, ◌++◌, length, get_or, Option, None, Some, nat_eq, nat_lt, AllPairs, Contains, refl, sym, ap, subst, ◌∙◌, arith}
+use Rattle.std.proofs.Common.{◌≡◌, ℕ, zero, suc, ◌+◌, ◌<◌, ◌≤◌, inl, inr, List, [], ◌∷◌, ◌++◌, length, get_or, Option, None, Some, AllPairs, Contains, refl, sym, ap, subst, ◌∙◌, arith}
 use Rattle.std.specs.List.{AllByRecursion}
 use Rattle.std.specs.Option.{option_or}
 use Rattle.std.proofs.lemmas.Bool.Decides.{nat_tests}
 use Rattle.std.proofs.lemmas.List.Elements.{All-from_recursion, recursion_from_All, All-push, Contains-append_left, Contains-push}
 use Rattle.std.proofs.lemmas.List.Quantifiers.{all_pairs_push}
-use Rattle.clnp_machine.specs.Identifiers.{Use, Identifiers, NotDrawn, IsQuiet, last_use, next, busy, not_drawn, after_use}
+use Rattle.clnp_machine.specs.Identifiers.{Use, Identifiers, last_use, next, busy, not_drawn, after_use}
 use Rattle.clnp_machine.specs.Unit as unit
 use Rattle.clnp_safety.specs.Invariant.{AreUsesUntil, IsInUses}
 use Rattle.clnp_machine.proofs.Resting.{busy_rested, moment_for, moment_there, past_quiet}

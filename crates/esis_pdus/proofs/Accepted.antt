@@ -1,5 +1,5 @@
 -- What holds of a header that breaks no rule, rule by rule.
-use Rattle.std.proofs.Common.{◌≡◌, ◌≢◌, refl, ℕ, ◌≤◌, ◌==◌, ◌&&◌, ◌||◌, not, Bool, true, false, if◌then◌else◌, List, length, Option, Some, None, arith}
+use Rattle.std.proofs.Common.{◌≡◌, ◌≢◌, refl, ℕ, ◌≤◌, ◌==◌, ◌&&◌, ◌||◌, not, Bool, true, false, if◌then◌else◌, List, Option, Some, None, arith}
 use Rattle.std.specs.Prelude.{nat_lt, option_map}
 use Rattle.std.specs.Option.{option_or}
 use Rattle.std.proofs.lemmas.Bool.{not-false, not_from_true, eqb-true, eq-eqb}
@@ -8,7 +8,7 @@ use Rattle.clnp_base.proofs.Choices.{option_or-parts, option_or-none, not_below,
 use Rattle.fletcher.specs.Checksum.{octet}
 use Rattle.clnp_options.specs.Parameter.{parameters}
 use Rattle.clnp_options.specs.Rules.{place_of_unfit}
-use Rattle.pdu_header.specs.Rules.{header_size, has_right_checksum}
+use Rattle.pdu_header.specs.Rules.{has_right_checksum}
 use Rattle.esis_pdus.specs.declared.pdu.EsisRefusal.{EsisRefusal}
 use Rattle.esis_pdus.specs.declared.pdu.EsisRefusal.TheVariants.{Broken}
 use Rattle.esis_pdus.specs.Fields.{is_field, is_address_list}

@@ -1,9 +1,8 @@
 -- What the entity of a system at its own addresses stands for, and what it does.
-use Rattle.std.specs.Prelude.{◌≡◌, ℕ, List, [], ◌∷◌, ◌++◌, Option, None, Some}
+use Rattle.std.specs.Prelude.{◌≡◌, List, [], ◌∷◌, ◌++◌, Option, None, Some}
 use Rattle.std.specs.List.{AllByRecursion}
 use Rattle.clnp_views.specs.Extent.{Extent, seen}
 use Rattle.pdu_header.specs.Headers.{SpellsHeader}
-use Rattle.reassembly.specs.Arrival.{Arrival}
 use Rattle.reassembly.specs.Buffer.{Buffer}
 use Rattle.reassembly.specs.Mapped.{map_buffers}
 use Rattle.reassembly.specs.State as table

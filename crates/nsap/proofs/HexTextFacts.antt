@@ -1,13 +1,12 @@
 -- The hexadecimal text of octets has digits alone, and is read as the octets.
-use Rattle.std.proofs.Common.{◌≡◌, ℕ, ◌+◌, ◌/◌, ◌%◌, ◌<◌, ◌≤◌, not, true, false, List, [], ◌∷◌, length, slice_index, Option, Some, None, Result, Ok, Err, is_some, inl, inr, refl, sym, ap, ◌∙◌, suc, arith}
+use Rattle.std.proofs.Common.{◌≡◌, ℕ, ◌+◌, ◌/◌, ◌%◌, ◌<◌, ◌≤◌, not, true, List, [], ◌∷◌, length, slice_index, Option, Some, None, Result, Ok, Err, is_some, refl, sym, ap, ◌∙◌, suc, arith}
 use Rattle.std.specs.List.{AllPass, position_from}
 use Rattle.std.proofs.lemmas.List.Elements.{All-cons, All-nil}
-use Rattle.std.proofs.lemmas.Bool.{cases_eq, ne_eqb}
-use Rattle.hex.specs.Hex.{IsBytes, decode_of, encode_with, hex_digit_value, is_hex_digit, lower_digits}
+use Rattle.hex.specs.Hex.{IsBytes, decode_of, encode_with, is_hex_digit, lower_digits}
 use Rattle.hex.specs.declared.error.FromHexError.{FromHexError}
 use Rattle.hex.proofs.HexLemmas.{IsDigits-lower_digits, decode_of-encode_lower, decode_of-ok}
 use Rattle.nsap.specs.Address.{IsAddress, address_of}
-use Rattle.nsap.specs.Text.{address_spelled, bad_digit, hex_text, is_dot, may_stand, octets_of, octets_or_fault, without_dots}
+use Rattle.nsap.specs.Text.{address_spelled, bad_digit, hex_text, may_stand, octets_of, octets_or_fault, without_dots}
 use Rattle.nsap.proofs.TextFacts.{read_good}
 use Rattle.nsap.proofs.Digits.{digit_no_dot, digit_may_stand}
 

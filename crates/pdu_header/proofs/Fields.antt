@@ -1,7 +1,6 @@
 -- Fields at places of a header: what stands at a place, where the octets from there on are known, and the other way round.
-use Rattle.std.proofs.Common.{◌≡◌, ℕ, ◌+◌, ◌-◌, ◌*◌, ◌^◌, ◌<◌, ◌≤◌, List, [], ◌∷◌, ◌++◌, length, take, drop, get_or, refl, sym, ◌∙◌, ap, arith, add-zero, take-append-drop, length-append, length-drop, length-take-le, get_or-drop}
+use Rattle.std.proofs.Common.{◌≡◌, ℕ, ◌+◌, ◌-◌, ◌*◌, ◌^◌, ◌<◌, ◌≤◌, List, ◌∷◌, ◌++◌, length, take, drop, get_or, refl, sym, ◌∙◌, ap, arith, add-zero, take-append-drop, length-append, length-drop, length-take-le, get_or-drop}
 use Rattle.std.proofs.lemmas.List.{drop-drop, drop_more, take_at, drop_at}
-use Rattle.std.proofs.lemmas.Grind.{common_steps}
 use Rattle.pdu_header.specs.Spelling.{counted, pair_of}
 use Rattle.pdu_header.specs.Rules.{octet, pair_at}
 use Rattle.pdu_header.specs.Reading.{address_at}

@@ -1,5 +1,5 @@
 -- A frame breaks no rule exactly where a PDU stands at its front, and that is one PDU only.
-use Rattle.std.proofs.Common.{◌≡◌, ◌≢◌, ℕ, ◌+◌, ◌<◌, ◌≤◌, ◌==◌, ◌||◌, ◌&&◌, not, Bool, true, false, List, ◌++◌, length, take, drop, get_or, Some, None, refl, sym, ◌∙◌, ap, subst, arith, append_assoc, take-append-drop, length-append, length-drop, length-take-le, get_or-take}
+use Rattle.std.proofs.Common.{◌≡◌, ◌≢◌, ℕ, ◌+◌, ◌<◌, ◌≤◌, ◌==◌, ◌||◌, ◌&&◌, not, Bool, true, false, List, ◌++◌, length, take, drop, get_or, Some, None, refl, sym, ◌∙◌, ap, subst, arith, append_assoc, take-append-drop, length-append, length-drop, length-take-le}
 use Rattle.std.specs.Prelude.{nat_lt, ◌↔◌}
 use Rattle.std.proofs.lemmas.List.{take_at, drop_at, get_or_append_left}
 use Rattle.std.proofs.lemmas.Bool.Decides.{nat_tests}

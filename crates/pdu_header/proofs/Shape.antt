@@ -1,5 +1,5 @@
 -- A header as its nine octets and what follows them, with a checksum and without.
-use Rattle.std.proofs.Common.{◌≡◌, ◌≢◌, ℕ, ◌+◌, ◌*◌, ◌^◌, ◌<◌, ◌≤◌, ◌==◌, ◌||◌, nat_lt, not, true, false, List, [], ◌∷◌, ◌++◌, length, take, drop, get_or, length-take-le, get_or-take, refl, sym, ◌∙◌, ap, arith}
+use Rattle.std.proofs.Common.{◌≡◌, ◌≢◌, ℕ, ◌+◌, ◌*◌, ◌^◌, ◌<◌, ◌≤◌, ◌==◌, ◌||◌, nat_lt, not, true, false, List, [], ◌∷◌, ◌++◌, length, drop, get_or, length-take-le, get_or-take, refl, sym, ◌∙◌, ap, arith}
 use Rattle.std.proofs.lemmas.Bool.Decides.{nat_tests}
 use Rattle.std.proofs.lemmas.Grind.{common_steps}
 use Rattle.fletcher.specs.Checksum.{IsSealed, sealed, with_checksum, without_checksum}

@@ -1,5 +1,5 @@
 -- The prefixes of routes: what is read is one.
-use Rattle.std.proofs.Common.{◌≡◌, ℕ, zero, suc, ◌<◌, nat_le, Bool, true, false, if◌then◌else◌, List, [], ◌∷◌, length, map, slice_index, Option, None, Some, Result, Ok, Err, IfOk, refl, arith}
+use Rattle.std.proofs.Common.{◌≡◌, ℕ, nat_le, Bool, true, false, if◌then◌else◌, List, [], length, map, Option, None, Some, Result, Ok, Err, IfOk, refl, arith}
 use Rattle.std.proofs.lemmas.Bool.{leb-true}
 use Rattle.std.proofs.lemmas.List.{length-map}
 use Rattle.nsap.specs.Prefix.{IsPrefix, digit_value, is_star, prefix_of, prefix_or_fault}

@@ -1,13 +1,12 @@
 -- A prefix as it is written is read as this prefix.
-use Rattle.std.proofs.Common.{◌≡◌, ℕ, suc, ◌+◌, ◌<◌, ◌≤◌, ◌==◌, not, true, false, List, [], ◌∷◌, length, map, slice_index, codes, Option, None, Some, Ok, refl, ap, ◌∙◌, arith}
+use Rattle.std.proofs.Common.{◌≡◌, ℕ, suc, ◌+◌, ◌<◌, ◌==◌, not, false, List, [], ◌∷◌, map, slice_index, codes, Option, None, Some, Ok, refl, ap, ◌∙◌, arith}
 use Rattle.std.specs.Prelude.{unwrap_or}
 use Rattle.std.specs.List.{AllByRecursion, position_from}
-use Rattle.std.proofs.lemmas.Bool.{le-leb}
 use Rattle.std.proofs.lemmas.List.{length-map}
 use Rattle.hex.specs.Hex.{hex_digit_value, lower_digits}
 use Rattle.hex.proofs.HexLemmas.{IsDigits-lower_digits}
 use Rattle.nsap.specs.Prefix.{IsPrefix, digit_value, prefix_or_fault, prefix_spelled}
-use Rattle.nsap.specs.Text.{bad_digit, is_dot, may_stand, without_dots}
+use Rattle.nsap.specs.Text.{bad_digit, may_stand, without_dots}
 use Rattle.scenario.specs.Canonical.{prefix_text}
 use Rattle.scenario.specs.Words.{address_read, prefix_word}
 use Rattle.scenario.proofs.Written.{IsPlain, IsWord, digit_plain, spelled}

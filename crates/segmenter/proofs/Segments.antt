@@ -1,7 +1,7 @@
 -- The segments of a PDU are PDUs, and a segment of a segment is a segment.
-use Rattle.std.proofs.Common.{◌≡◌, ◌∙◌, refl, sym, ap, subst, ℕ, ◌+◌, ◌-◌, ◌<◌, ◌≤◌, Bool, true, false, Some, List, ◌++◌, length, length-append, add-zero, arith, ⊎_elim}
+use Rattle.std.proofs.Common.{◌≡◌, ◌∙◌, refl, sym, ap, subst, ℕ, ◌+◌, ◌-◌, ◌≤◌, Bool, false, Some, List, ◌++◌, length, length-append, add-zero, arith}
 use Rattle.std.specs.Prelude.{◌↔◌, nat_lt}
-use Rattle.std.proofs.lemmas.Bool.{ltb-false, le-ltb, lt-ltb, cases_lt}
+use Rattle.std.proofs.lemmas.Bool.{ltb-false, le-ltb}
 use Rattle.std.proofs.lemmas.List.{take_all}
 use Rattle.clnp_options.specs.Parameter.{spelled}
 use Rattle.pdu_header.specs.Value.{SegmentationPart, PduValue}
