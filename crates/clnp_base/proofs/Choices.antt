@@ -1,8 +1,8 @@
 -- Tests, choices and options.
-use Rattle.std.proofs.Common.{◌≡◌, ◌≢◌, ℕ, ◌<◌, ◌≤◌, ◌==◌, nat_lt, Bool, true, false, Option, None, Some, is_some, if◌then◌else◌, refl, sym, arith, ⊎_elim}
+use Rattle.std.proofs.Common.{◌≡◌, ◌≢◌, ℕ, ◌<◌, ◌≤◌, ◌==◌, ◌||◌, nat_lt, Bool, true, false, Option, None, Some, is_some, if◌then◌else◌, refl, sym, arith, ⊎_elim}
 use Rattle.std.specs.Option.{option_or}
-use Rattle.std.specs.Prelude.{◌↔◌}
-use Rattle.std.proofs.lemmas.Bool.{le-ltb, lt-ltb, cases_lt}
+use Rattle.std.specs.Prelude.{◌↔◌, is_none, option_map}
+use Rattle.std.proofs.lemmas.Bool.{cond_both, le-ltb, lt-ltb, cases_lt}
 use Rattle.std.proofs.lemmas.Bool.Decides.{nat_tests}
 
 pub same_true : (b c : Bool) → (b ≡ true → c ≡ true) → (c ≡ true → b ≡ true) → b ≡ c
@@ -25,7 +25,31 @@ not_below a b e = grind (arith, nat_tests)
 pub below_not : (a b : ℕ) → b ≤ a → nat_lt a b ≡ false
 below_not a b le = grind (arith, nat_tests)
 
+pub or_false : (b : Bool) → (b || false) ≡ b
+or_false true = refl
+or_false false = refl
+
 module _ {A : Type 0} where
+  -- what holds either way
+  pub one_of : (P : A → Type 0) (b : Bool) (x y : A) → P x → P y → P (if b then x else y)
+  one_of P b x y p q = cond_both b x y P (λ t. p) (λ f. q)
+
+  pub not_picked : (b : Bool) (x : A) → (if b then Some x else None) ≡ None → b ≡ false
+  not_picked true x e = cc
+  not_picked false x e = refl
+
+  pub none_is : (option : Option A) → is_none option ≡ true → option ≡ None
+  none_is None t = refl
+  none_is (Some x) t = cc
+
+  pub no_value : (option : Option A) → is_some option ≡ false → option ≡ None
+  no_value None f = refl
+  no_value (Some x) f = absurd (cc)
+
+  pub none_mapped : {Y : Type 0} (f : A → Y) (option : Option A) → option_map f option ≡ None → option ≡ None
+  none_mapped f None e = refl
+  none_mapped f (Some x) e = absurd (cc)
+
   -- a choice that gives nothing
   pub if_none : (b : Bool) (answer : A) (rest : Option A) → (if b then Some answer else rest) ≡ None → (b ≡ false) × (rest ≡ None)
   if_none true answer rest e = absurd (cc)
@@ -49,7 +73,7 @@ module _ {A : Type 0} where
   option_or-parts None b h = (refl, h)
   option_or-parts (Some x) b h = absurd (cc)
 
-  pub option_or-nothing : (a : Option A) → a ≡ option_or a None
+  pub option_or-nothing : (a : Option A) → option_or a None ≡ a
   option_or-nothing None = refl
   option_or-nothing (Some x) = refl
 

@@ -1,10 +1,11 @@
 -- A decimal read digit by digit.
-use Rattle.std.proofs.Common.{◌≡◌, ℕ, suc, length, drop, get_or, drop-cons, ◌+◌, ◌-◌, ◌*◌, ◌^◌, ◌<◌, ◌≤◌, ◌&&◌, inl, inr, nat_lt, if◌then◌else◌, List, [], ◌∷◌, fold, Option, Some, None, arith, refl, sym, ap, ◌∙◌, Bool, true, false}
+use Rattle.std.proofs.Common.{◌≡◌, ℕ, suc, length, drop, get_or, drop-cons, ◌+◌, ◌-◌, ◌*◌, ◌^◌, ◌<◌, ◌≤◌, ◌&&◌, inl, inr, nat_lt, if◌then◌else◌, List, [], ◌∷◌, fold, Option, Some, None, arith, refl, sym, ap, ◌∙◌, false}
 use Rattle.std.proofs.lemmas.Bool.{and_right, cases_Bool}
 use Rattle.std.proofs.lemmas.Bool.Decides.{nat_tests}
 use Rattle.std.specs.List.{list_all}
 use Rattle.clnp_base.specs.Text.{is_digit, decimal_of}
 use Rattle.clnp_base.specs.Cuts.{with_digit}
+use Rattle.clnp_base.proofs.Choices.{not_picked}
 
 -- what digits are worth that come after a number
 abbrev pub value_after : ℕ → List ℕ → ℕ
@@ -17,10 +18,6 @@ decimal_after n cs = if list_all is_digit cs && nat_lt (value_after n cs) (2 ^ 6
 pub value_after-ge : (n : ℕ) (cs : List ℕ) → n ≤ value_after n cs
 value_after-ge n [] = omega arith
 value_after-ge n (c ∷ cs) = omega (arith, value_after-ge (10 * n + (c - 48)) cs)
-
-not_picked : (b : Bool) (n : ℕ) → (if b then Some n else None) ≡ None → b ≡ false
-not_picked true n e = cc
-not_picked false n e = refl
 
 too_high : (n k : ℕ) → nat_lt n (2 ^ 64) ≡ false → n ≤ k → nat_lt k (2 ^ 64) ≡ false
 too_high n k e le = grind (arith, nat_tests)

@@ -1,7 +1,7 @@
 -- The first element of a list that passes a test, whether there is one, and what a list contains.
-use Rattle.std.proofs.Common.{◌≡◌, ℕ, zero, suc, ◌+◌, ◌<◌, Bool, true, false, List, [], ◌∷◌, None, Some, take, get_or, length, inl, inr, ap, sym, subst, ◌∙◌, refl, arith}
+use Rattle.std.proofs.Common.{◌≡◌, ℕ, suc, ◌+◌, ◌<◌, Bool, true, false, List, [], ◌∷◌, None, Some, is_some, take, get_or, length, inl, inr, ap, sym, subst, ◌∙◌, refl, arith}
 use Rattle.std.specs.List.{Contains, find, list_any, position_from}
-use Rattle.std.proofs.lemmas.Bool.{cases_Bool, both_ways, true≢false, or_from}
+use Rattle.std.proofs.lemmas.Bool.{cases_Bool, true≢false, or_from}
 use Rattle.std.proofs.lemmas.List.Folds.{Any-from_list_any, list_any_more, list_any_at}
 
 module _ {X : Type 0} where
@@ -48,6 +48,11 @@ module _ {X : Type 0} where
         | inr fails ↦ rw fails (find_none test xs (rw fails at e))
       ]
 
+  pub is_some-find : (test : X → Bool) (xs : List X) → is_some (find test xs) ≡ list_any test xs
+  is_some-find test [] = refl
+  is_some-find test (x ∷ xs) =
+      elim (cases_Bool (test x)) [ inl passes ↦ rw passes refl | inr fails ↦ rw fails (is_some-find test xs) ]
+
   -- where the first that passes stands
   record StandsFirst (p : X → Bool) (n i : ℕ) (xs : List X) : Type 0 where
     pub place : ℕ
@@ -83,16 +88,6 @@ module _ {X : Type 0} where
             })
       ]
 
-  position_first : (p : X → Bool) (n i k : ℕ) (xs : List X) (d : X) → n + k ≡ i → k < length xs → list_any p (take k xs) ≡ false
-      → p (get_or xs k d) ≡ true → position_from p n xs ≡ Some i
-  position_first p n i k [] d e lt before passes = absurd (omega arith)
-  position_first p n i zero (x ∷ xs) d e lt before passes = let here : n ≡ i = omega arith in grind (arith, passes)
-  position_first p n i (suc k) (x ∷ xs) d e lt before passes =
-      let no : p x ≡ false = grind (arith, before) in
-      let others : list_any p (take k xs) ≡ false = grind (arith, before, no) in
-      let later = position_first p (n + 1) i k xs d (omega arith) (omega arith) others passes in
-      grind (arith, no, later)
-
   pub none_found : (p : X → Bool) (n : ℕ) (xs : List X) → position_from p n xs ≡ None → list_any p xs ≡ false
   none_found p n [] e = refl
   none_found p n (x ∷ xs) e =
@@ -109,23 +104,11 @@ module _ {X : Type 0} where
       let rest = position_none p (n + 1) xs others in
       grind (arith, no, rest)
 
-  -- where an element was read
-  pub position_read : (p : X → Bool) (i : ℕ) (xs : List X) (x : X) → i < length xs → x ≡ get_or xs i x → list_any p (take i xs) ≡ false
-      → p x ≡ true → position_from p 0 xs ≡ Some i
-  position_read p i xs x lt read before passes = position_first p 0 i i xs x (omega arith) lt before (sym (ap p read) ∙ passes)
-
   -- one more element that does not pass, and one that was read
   pub none_more : (p : X → Bool) (k : ℕ) (xs : List X) (x : X) → k < length xs → x ≡ get_or xs k x → list_any p (take k xs) ≡ false
       → p x ≡ false → list_any p (take (k + 1) xs) ≡ false
   none_more p k xs x lt read before fails =
       list_any_more p xs k x lt ∙ or_from (list_any p (take k xs)) (p (get_or xs k x)) before (sym (ap p read) ∙ fails)
-
-  pub none_read : (p : X → Bool) (k : ℕ) (xs : List X) (x : X) → k < length xs → x ≡ get_or xs k x → list_any p xs ≡ false → p x ≡ false
-  none_read p k xs x lt read none =
-      elim (cases_Bool (p x)) [
-        | inl holds ↦ absurd (both_ways (list_any p xs) none (list_any_at p xs k x lt (sym (ap p read) ∙ holds)))
-        | inr fails ↦ fails
-      ]
 
   -- the first that passes, counted from 0
   pub record IsFirst (p : X → Bool) (i : ℕ) (xs : List X) : Type 0 where

@@ -5,7 +5,6 @@ use Rattle.std.proofs.lemmas.List.{append_assoc, drop-drop, drop-replicate, leng
 use Rattle.std.proofs.lemmas.List.{drop_at, take-take}
 use Rattle.std.proofs.lemmas.Slice.{drop-put_mid, take-put_mid, take-put_mid_below}
 use borrow.Rule.Slice.PartMut.{put_mid}
-use Rattle.clnp_base.proofs.Lists.{take_drop_swap}
 use Rattle.clnp_base.specs.Inline.{IsInline}
 
 -- cells with a piece laid over them from an index on
@@ -72,9 +71,6 @@ part_size most len start cells part h within e =
     let w = h.within in
     let r = h.room in
     e ∙ length-take-le (len - start) (drop start cells) (omega (arith, length-drop start cells))
-
-pub part_of : (start len : ℕ) (cells : List ℕ) → start ≤ len → take (len - start) (drop start cells) ≡ drop start (take len cells)
-part_of start len cells within = take_drop_swap start len cells within
 
 pub front_of : (most len start : ℕ) (cells part : List ℕ) → IsInline most len cells → start ≤ len
     → take start (take len (put_mid start (len - start) cells part)) ≡ take start (take len cells)

@@ -1,24 +1,25 @@
 -- Lists that are read, written and made longer at one place.
-use Rattle.std.proofs.Common.{◌≡◌, ℕ, zero, suc, ◌+◌, ◌<◌, List, [], ◌∷◌, ◌++◌, length, take, get_or, map, cond, Bool, true, false, Option, None, Some, refl, sym, ap, ◌∙◌, arith, add-one}
+use Rattle.std.proofs.Common.{◌≡◌, ℕ, zero, suc, ◌+◌, List, [], ◌∷◌, ◌++◌, length, take, drop, map, cond, Bool, true, false, Option, None, Some, refl, sym, ap, ◌∙◌, arith, add-one}
 use Rattle.std.specs.Prelude.{nat_lt, not, slice_get, slice_set}
 use Rattle.std.proofs.lemmas.Bool.{ltb-false}
 use Rattle.std.proofs.lemmas.List.Sums.{prefix_len-le-length}
 use Rattle.std.specs.List.{AllByRecursion, position, position_or_len, range_with_len}
+use Rattle.std.proofs.lemmas.List.{drop-drop}
+use Rattle.hex.specs.Hex.{IsBytes}
+use Rattle.std.proofs.lemmas.Grind.{common_steps}
 
 pub slice_get_front : {X : Type 0} (xs ys : List X) (i : ℕ) (x : X) → slice_get xs i ≡ Some x → slice_get (xs ++ ys) i ≡ Some x
 slice_get_front [] ys i x e = cc
 slice_get_front (z ∷ zs) ys zero x e = e
 slice_get_front (z ∷ zs) ys (suc i) x e = slice_get_front zs ys i x e
 
-pub slice_get_read : {X : Type 0} (xs : List X) (i : ℕ) (x : X) → i < length xs → x ≡ get_or xs i x → slice_get xs i ≡ Some x
-slice_get_read [] i x h e = absurd (omega arith)
-slice_get_read (y ∷ ys) zero x h e = ap Some (sym e)
-slice_get_read (y ∷ ys) (suc i) x h e = slice_get_read ys i x (omega arith) e
-
 pub slice_get_map : {X Y : Type 0} (f : X → Y) (xs : List X) (i : ℕ) (x : X) → slice_get xs i ≡ Some x → slice_get (map f xs) i ≡ Some (f x)
 slice_get_map f [] i x e = absurd (cc)
 slice_get_map f (y ∷ ys) zero x e = cc
 slice_get_map f (y ∷ ys) (suc i) x e = slice_get_map f ys i x e
+
+pub drop_next : {X : Type 0} (n : ℕ) (xs : List X) (y : X) (ys : List X) → drop n xs ≡ y ∷ ys → drop (n + 1) xs ≡ ys
+drop_next n xs y ys e = sym (drop-drop 1 n xs) ∙ ap (λ zs. drop 1 zs) e
 
 -- what stands in its place looks the same
 pub map_set : {X Y : Type 0} (f : X → Y) (xs : List X) (i : ℕ) (x y : X) → slice_get xs i ≡ Some x → f y ≡ f x
@@ -41,6 +42,14 @@ range_suc a (suc n) =
 
 pub range_push : (a n : ℕ) → range_with_len a (n + 1) ≡ range_with_len a n ++ (a + n) ∷ []
 range_push a n = rw add-one (range_suc a n)
+
+-- Octets of a part.
+
+pub bytes_of_drop : (xs : List ℕ) (n : ℕ) → IsBytes xs → IsBytes (drop n xs)
+bytes_of_drop xs n h = λ i. grind (arith, common_steps, h (n + i))
+
+pub bytes_of_take : (xs : List ℕ) (n : ℕ) → IsBytes xs → IsBytes (take n xs)
+bytes_of_take xs n h = λ i. grind (arith, common_steps, h i)
 
 -- All of some elements.
 

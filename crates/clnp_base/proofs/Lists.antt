@@ -1,10 +1,10 @@
 -- What holds of each element of a list, what stands at a place of it, and its parts.
-use Rattle.std.proofs.Common.{◌≡◌, ◌≢◌, ℕ, zero, suc, ◌+◌, ◌-◌, ◌<◌, ◌≤◌, ◌⊎◌, inl, inr, List, [], ◌∷◌, ◌++◌, length, map, take, drop, get_or, Some, None, AllPairs, Contains, refl, sym, ap, subst, ◌∙◌, arith, length-append, Bool}
+use Rattle.std.proofs.Common.{◌≡◌, ◌≢◌, ℕ, zero, suc, ◌+◌, ◌-◌, ◌<◌, ◌≤◌, ◌⊎◌, inl, inr, List, [], ◌∷◌, ◌++◌, length, map, take, drop, get_or, Some, None, All, AllPairs, Contains, refl, sym, ap, subst, ◌∙◌, arith, length-append, Bool}
 use Rattle.std.specs.Prelude.{slice_get, slice_set}
 use Rattle.std.specs.List.{AllByRecursion, find}
 use Rattle.std.proofs.lemmas.Bool.{cases_Bool, cases_order}
 use Rattle.std.proofs.lemmas.Option.{slice_get_within, get_or_from_slice_get, none-some, same_Some}
-use Rattle.std.proofs.lemmas.List.{set-get_or, drop-take, drop-drop, take-take, take_all, length-take, length-drop, get_or_default, get_or_append_left, get_or-append-add, get_or-take, get_or-drop, get_or-append_right}
+use Rattle.std.proofs.lemmas.List.{set-get_or, drop-take, drop-drop, take-take, length-take, length-drop, get_or_default, get_or_append_left, get_or-append-add, get_or-take, get_or-drop, get_or-append_right}
 
 -- ---- what holds of each element
 
@@ -154,10 +154,6 @@ module _ {X : Type 0} where
   pub length_part : (xs : List X) (a n : ℕ) → a + n ≤ length xs → length (take n (drop a xs)) ≡ n
   length_part xs a n h = length-take n (drop a xs) ∙ omega (arith, length-drop a xs)
 
-  -- what is left of a list, as code cuts it
-  pub part_to_end : (xs : List X) (a : ℕ) → take (length xs - a) (drop a xs) ≡ drop a xs
-  part_to_end xs a = take_all (length xs - a) (drop a xs) (omega (arith, length-drop a xs))
-
   pub take_drop_swap : (a n : ℕ) (xs : List X) → a ≤ n → take (n - a) (drop a xs) ≡ drop a (take n xs)
   take_drop_swap a n xs within = sym (drop-take a (n - a) xs) ∙ ap (λ k. drop a (take k xs)) (omega arith)
 
@@ -201,6 +197,13 @@ module _ {X : Type 0} (R : X → X → Type 0) where
       let long = length-append xs ys in
       pair_at (xs ++ ys) has_x.0 (length xs + has_y.0) x y pairs (omega arith) (omega arith) at_x
       (get_or-append-add xs ys has_y.0 y ∙ has_y.2)
+
+  -- the pairs of the first element, and those of the others
+  pub pairs_first : (x : X) (xs : List X) → AllPairs R (x ∷ xs) → All (R x) xs
+  pairs_first x xs pairs k d within = pairs zero (suc k) d (omega arith) (omega arith)
+
+  pub pairs_others : (x : X) (xs : List X) → AllPairs R (x ∷ xs) → AllPairs R xs
+  pairs_others x xs pairs i j d before within = pairs (suc i) (suc j) d (omega arith) (omega arith)
 
   -- the pairs of what follows a front
   pub pairs_behind : (xs ys : List X) → AllPairs R (xs ++ ys) → AllPairs R ys

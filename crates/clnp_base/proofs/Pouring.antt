@@ -4,7 +4,7 @@ use Rattle.std.proofs.Math.Seq.{take-add}
 use Rattle.std.proofs.KnownBytes.{Consumes-nil, Consumes-trans, Consumes-kept, Appends-trans}
 use Rattle.std.specs.Io.KnownBytes.{Appends, Consumes, IsAtEnd, Keeps}
 use Rattle.clnp_base.specs.Streams.{Pours, PoursCount, PoursAll, PoursMore, PoursWithin}
-use Rattle.clnp_base.proofs.Lists.{part_to_end}
+use Rattle.std.proofs.lemmas.List.{take_rest}
 
 -- what came so far, with room for so many more octets
 pub record Poured (room limit : ℕ) (old new : List ℕ) (before after : Option (List ℕ)) : Type 0 where
@@ -73,4 +73,4 @@ poured_by o m n cs k a b e f q l = record {
 
 pub written_on : (piece : List ℕ) (at n : ℕ) (a b c : Option (List ℕ)) → Appends a b (take at piece) → Appends b c (take n (take (length piece - at) (drop at piece))) → Appends a c (take (at + n) piece)
 written_on piece at n a b c p q =
-    rw (take-add at n piece) (Appends-trans a b c (take at piece) (take n (drop at piece)) p (rw (part_to_end piece at) at q))
+    rw (take-add at n piece) (Appends-trans a b c (take at piece) (take n (drop at piece)) p (rw (take_rest piece at) at q))

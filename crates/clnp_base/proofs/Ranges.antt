@@ -1,12 +1,11 @@
 -- Consecutive numbers, and what is made of each of them.
-use Rattle.std.proofs.Common.{◌≡◌, ℕ, zero, suc, ◌+◌, ◌<◌, ◌≤◌, Bool, true, inl, inr, List, ◌∷◌, ◌++◌, ◌&&◌, map, take, drop, get_or, length, ap, sym, ◌∙◌, refl, arith}
+use Rattle.std.proofs.Common.{◌≡◌, ℕ, zero, suc, ◌+◌, ◌<◌, ◌≤◌, Bool, true, inl, inr, List, ◌∷◌, ◌++◌, map, take, drop, get_or, length, ap, sym, ◌∙◌, refl, arith}
 use Rattle.std.specs.List.{range_with_len, list_all}
 use Rattle.std.proofs.lemmas.Bool.{and_from, and_parts, cases_eq}
 use Rattle.std.proofs.lemmas.List.{ext_get_or, map-append}
 use Rattle.std.proofs.lemmas.List.FromFn.{length-map-range_with_len, get_or-map-range_with_len, length-range_with_len, get_or-range_with_len}
 use Rattle.std.proofs.lemmas.List.Sums.{AllPass-from_list_all, list_all-from_AllPass}
 use Rattle.std.proofs.lemmas.List.Elements.{All-from_get_or}
-use Rattle.std.proofs.lemmas.List.Folds.{list_all-append}
 use Rattle.std.proofs.lemmas.Grind.{common_steps}
 
 -- cut at a place
@@ -21,10 +20,6 @@ range-add a (suc m) b n (suc k) e f = ap (λ l. a ∷ l) (range-add (a + 1) m b 
 pub map-range-add : {X : Type 0} (g : ℕ → X) (a m b n k : ℕ) → a + m ≡ b → m + n ≡ k
     → map g (range_with_len a k) ≡ map g (range_with_len a m) ++ map g (range_with_len b n)
 map-range-add g a m b n k e f = ap (map g) (range-add a m b n k e f) ∙ map-append g (range_with_len a m) (range_with_len b n)
-
-pub all-range-add : (p : ℕ → Bool) (a m b n k : ℕ) → a + m ≡ b → m + n ≡ k
-    → list_all p (range_with_len a k) ≡ (list_all p (range_with_len a m) && list_all p (range_with_len b n))
-all-range-add p a m b n k e f = ap (list_all p) (range-add a m b n k e f) ∙ list_all-append p (range_with_len a m) (range_with_len b n)
 
 -- the part of a list whose elements are those of a function at `n` places from `a`
 pub part_by_each : (g : ℕ → ℕ) (xs : List ℕ) (a s n : ℕ) → s + n ≤ length xs → ((k : ℕ) → k < n → g (a + k) ≡ get_or xs (s + k) 0)

@@ -4,6 +4,7 @@ use Rattle.std.proofs.lemmas.Bool.{cases_Bool}
 use Rattle.std.proofs.lemmas.Grind.{common_steps}
 use Rattle.clnp_base.specs.Text.{lines_of, words_of, onto_first, begins_with}
 use Rattle.clnp_base.specs.Cuts.{index_of, without_return}
+use Rattle.std.specs.List.{AllByRecursion}
 
 index_of-here : (w c : ℕ) (cs : List ℕ) → (c == w) ≡ true → index_of w (c ∷ cs) ≡ 0
 index_of-here w c cs t = rw t refl
@@ -56,6 +57,14 @@ lines_of-at (c ∷ (d ∷ ds)) n e h =
             (lines_of-at (d ∷ ds) (index_of 10 (d ∷ ds)) refl (omega (arith, e, h, index_of-next 10 c (d ∷ ds) f)))
       ]
     ]
+
+-- a character that ends no line
+abbrev pub IsWithinLine : ℕ → Type 0
+IsWithinLine c = ((c == 10) ≡ false) × ((c == 13) ≡ false)
+
+pub lines_of-line : (text more : List ℕ) → AllByRecursion IsWithinLine text → lines_of (text ++ (10 ∷ more)) ≡ text ∷ lines_of more
+lines_of-line [] more h = refl
+lines_of-line (c ∷ cs) more h = rw (h.0.0, h.0.1) (ap (λ lines. onto_first c lines) (lines_of-line cs more h.1))
 
 pub lines_of-last : (c : ℕ) (cs : List ℕ) → index_of 10 (c ∷ cs) ≡ length (c ∷ cs) → lines_of (c ∷ cs) ≡ (c ∷ cs) ∷ []
 lines_of-last c [] h = grind (arith, common_steps)
@@ -112,7 +121,7 @@ pub index_of-positive : (xs : List ℕ) → 0 < length xs → begins_with 32 xs 
 index_of-positive [] h f = absurd (omega arith)
 index_of-positive (c ∷ cs) h f = omega (arith, index_of-next 32 c cs f)
 
-onto_first-few : (c n : ℕ) (lines : List (List ℕ)) → length lines ≤ n → length (onto_first c lines) ≤ n + 1
+pub onto_first-few : (c n : ℕ) (lines : List (List ℕ)) → length lines ≤ n → length (onto_first c lines) ≤ n + 1
 onto_first-few c n [] h = omega arith
 onto_first-few c n (first ∷ others) h = omega arith
 

@@ -3,6 +3,11 @@ use Rattle.std.proofs.Common.{◌≡◌, ℕ, ◌+◌, ◌≤◌, Bool, List, []
 use Rattle.std.specs.List.{sum, filter}
 use Rattle.std.proofs.lemmas.Bool.{cases_Bool}
 use Rattle.std.proofs.lemmas.List.Sums.{sum-map, sum_by-cons}
+use Rattle.std.proofs.lemmas.List.{length-append}
+use Rattle.std.proofs.lemmas.List.Elements.{filter-append}
+
+pub sum-cons : (n : ℕ) (ns : List ℕ) → sum (n ∷ ns) ≡ n + sum ns
+sum-cons n ns = sum_by-cons (λ (m : ℕ). m) n ns
 
 module _ {X : Type 0} where
   pub sum_cons : (f : X → ℕ) (x : X) (xs : List X) → sum (map f (x ∷ xs)) ≡ f x + sum (map f xs)
@@ -45,3 +50,6 @@ module _ {X : Type 0} where
         | inl passes ↦ rw passes (omega arith)
         | inr fails ↦ rw fails (omega arith)
       ]
+
+  pub length_filter-append : (test : X → Bool) (xs ys : List X) → length (filter test (xs ++ ys)) ≡ length (filter test xs) + length (filter test ys)
+  length_filter-append test xs ys = ap length (filter-append test xs ys) ∙ length-append (filter test xs) (filter test ys)

@@ -1,5 +1,5 @@
 -- The clock of a network is set on by the ticks among the moves, and by nothing else.
-use Rattle.std.proofs.Common.{◌≡◌, ℕ, ◌+◌, ◌-◌, ◌^◌, ◌<◌, ◌≤◌, zero, suc, Bool, true, false, if◌then◌else◌, List, [], ◌∷◌, ◌++◌, length, Option, None, Some, refl, ap, ◌∙◌, arith}
+use Rattle.std.proofs.Common.{◌≡◌, ℕ, ◌+◌, ◌-◌, ◌≤◌, zero, suc, Bool, if◌then◌else◌, List, [], ◌∷◌, ◌++◌, length, Option, None, Some, refl, ap, ◌∙◌, arith}
 use Rattle.std.specs.Prelude.{replicate, slice_get}
 use Rattle.std.specs.List.{range_with_len, sum_by}
 use Rattle.std.proofs.lemmas.List.Sums.{sum-map, sum_by-cons}
@@ -22,6 +22,7 @@ use Rattle.clnp_network.specs.Run.{moves_of_plan, world_after}
 use Rattle.clnp_world.specs.State.{WorldState}
 use Rattle.clnp_world.specs.Stands.{Stands}
 use Rattle.clnp_commands.specs.Time.{tick_of, ticks_in, HasTime}
+use Rattle.clnp_base.proofs.Choices.{one_of}
 
 of_outputs : (system : SystemState) (w : World) (outputs : List Output) → (put_all_out system w outputs).world.clock ≡ w.clock
 of_outputs system w [] = refl
@@ -47,8 +48,7 @@ of_asking w place asked None = refl
 of_asking w place asked (Some system) = of_role system.configuration.role w place asked
 
 either : (first : Bool) (one other : Step) (now : ℕ) → one.world.clock ≡ now → other.world.clock ≡ now → (if first then one else other).world.clock ≡ now
-either true one other now p q = p
-either false one other now p q = q
+either first one other now p q = one_of (λ (step : Step). step.world.clock ≡ now) first one other p q
 
 of_giving : (limits : Limits) (given : Numbered) (w : World) (place : ℕ) (found : Option SystemState) → (give_to limits given w place found).world.clock ≡ w.clock
 of_giving limits given w place None = refl
@@ -167,7 +167,3 @@ time_for_next plan old new all made next later time split stands =
       stands = stands;
       early = omega (arith, clock_after_all plan time.model made, sums, time.early);
     }
-
--- where there is time for a move the clock may go on
-pub time_for_one : (world : WorldState) (moves : List Move) → HasTime world moves → world.network.clock + 1 < 2 ^ 62
-time_for_one world moves time = omega (arith, time.stands.holds.shows.clock, time.early)

@@ -1,7 +1,6 @@
 -- Lines of texts that stand one behind the other, and their counts.
-use Rattle.std.proofs.Common.{◌≡◌, ℕ, ◌+◌, ◌==◌, ◌&&◌, Bool, true, false, if◌then◌else◌, List, [], ◌∷◌, ◌++◌, codes, length, refl, subst, sym, ap, ◌∙◌, append_assoc, length-append}
-use Rattle.std.specs.List.{AllByRecursion, filter, flat_map}
-use Rattle.std.proofs.lemmas.List.Elements.{filter-append}
+use Rattle.std.proofs.Common.{◌≡◌, ℕ, ◌+◌, ◌==◌, ◌&&◌, Bool, true, false, if◌then◌else◌, List, [], ◌∷◌, ◌++◌, codes, refl, subst, sym, ap, ◌∙◌, append_assoc}
+use Rattle.std.specs.List.{AllByRecursion, flat_map}
 use Rattle.std.proofs.lemmas.List.Concat.{flat_map-cons}
 use Rattle.clnp_base.specs.Text.{lines_of, onto_first, begins_with}
 use Rattle.nsap.specs.Text.{hex_text}
@@ -18,6 +17,7 @@ use Rattle.clnp_commands.specs.Counting.{tally_of}
 use Rattle.clnp_commands.proofs.KindWords.{IsNamed, line_counts}
 use Rattle.clnp_commands.proofs.Named.{AreNamed, AreNamedSubnets, names_after}
 pub use Rattle.clnp_world.proofs.LineSteps.{both-assoc, both-none, none-both, tally-append}
+use Rattle.clnp_base.proofs.Sums.{length_filter-append}
 
 -- the lines of a text are followed by those of the text behind it
 abbrev pub EndsLines : List ℕ → Type 0
@@ -98,7 +98,7 @@ text_of-ends plan w (move ∷ moves) =
 
 count_of-append : (kind : List ℕ) (made more : List (List ℕ)) → count_of kind (made ++ more) ≡ count_of kind made + count_of kind more
 count_of-append kind made more =
-    ap length (filter-append (is_of_kind kind) made more) ∙ length-append (filter (is_of_kind kind) made) (filter (is_of_kind kind) more)
+    length_filter-append (is_of_kind kind) made more
 
 -- what is counted of lines one behind the other
 pub counts_in-append : (made more : List (List ℕ)) → counts_in (made ++ more) ≡ both (counts_in made) (counts_in more)

@@ -1,10 +1,10 @@
 -- The third word of a journal's line says of what kind it is.
-use Rattle.std.proofs.Common.{◌≡◌, ℕ, zero, suc, ◌/◌, ◌%◌, ◌<◌, ◌≤◌, ◌==◌, Bool, true, false, inl, inr, List, [], ◌∷◌, ◌++◌, codes, length, slice_index, cond, Option, None, Some, refl, sym, ap, subst, ◌∙◌, append_assoc, arith}
+use Rattle.std.proofs.Common.{◌≡◌, ℕ, ◌/◌, ◌%◌, ◌≤◌, Bool, true, false, inl, inr, List, [], ◌∷◌, codes, length, slice_index, cond, Option, None, Some, refl, sym, ap, subst, ◌∙◌, arith}
 use Rattle.std.specs.List.{AllByRecursion, filter, flat_map}
 use Rattle.std.specs.Str.{bytes_eq}
-use Rattle.std.specs.Fmt.{decimal, digits, digits_onto, digit_glyph}
+use Rattle.std.specs.Fmt.{decimal}
 use Rattle.std.proofs.Math.ListN.{get_or-eq_default}
-use Rattle.std.proofs.lemmas.Bool.{lt-ltb, cases_lt, ne_eqb}
+use Rattle.std.proofs.lemmas.Bool.{cases_lt, ne_eqb}
 use Rattle.hex.specs.Hex.{encode_with, lower_digits}
 use Rattle.nsap.specs.Text.{hex_text}
 use Rattle.nsap.specs.declared.target.Target.{Target}
@@ -16,67 +16,26 @@ use Rattle.esis_tables.specs.declared.fact.Heard.{Heard}
 use Rattle.esis_tables.specs.declared.fact.Heard.TheVariants as heard
 use Rattle.esis_tables.specs.declared.fact.TableKind.{TableKind}
 use Rattle.esis_tables.specs.declared.fact.TableKind.TheVariants as table
-use Rattle.clnp_base.specs.Text.{ends_word, lines_of, onto_first, words_of}
-use Rattle.clnp_base.proofs.Lists.{AllByRecursion-append, AllByRecursion-implies}
+use Rattle.clnp_base.specs.Text.{lines_of, words_of}
 use Rattle.clnp_plan.specs.Journal.{Line, Noted, Transmitted, Void, Late, Injected, behind_space, heard_words, identifier_word, ignored_word, kind_word, line_of, line_text, note_words, octet_word, octets_word, on_word, rule_word, table_word, target_word, why_word}
 use Rattle.clnp_plan.specs.declared.note.Note.{Note}
 use Rattle.clnp_plan.specs.declared.note.Note.TheVariants.{Sent, Refused, Got, Report, Echoed, Stray, Discard, Held, Repeat, Crowded, Many, NoSlot, Interference, Expired, NotMine, Alien, BadEsis, Hear, Gone, Ignored, Restart, Congest}
 use Rattle.clnp_plan.specs.declared.note.Why.{Why}
 use Rattle.clnp_plan.specs.declared.note.Why.TheVariants as why
-use Rattle.scenario.proofs.Written.{IsWord, digit_plain, spelled, ends_behind}
+use Rattle.scenario.proofs.Written.{IsWord, digit_plain, spelled, ends_behind, IsInLine, plain_within, word_in_line, text_of_line, line_cut, first_word, decimal_is_word, IsDigit, decimal_all}
 use Rattle.clnp_world.specs.Lines.{first_of, how_many, kind_of, no_lines, tally}
 use Rattle.clnp_commands.specs.Storm.{count_of, counts_of, is_of_kind, third_of}
-use Rattle.clnp_base.proofs.Reading.{words_of-next}
+use Rattle.clnp_base.proofs.Reading.{IsWithinLine}
+use Rattle.std.proofs.lemmas.List.{append-nil}
 
--- ---- lines
-
--- a character that ends no line
-abbrev pub IsWithin : ℕ → Type 0
-IsWithin c = ((c == 10) ≡ false) × ((c == 13) ≡ false)
-
-abbrev pub IsInLine : List ℕ → Type 0
-IsInLine word = AllByRecursion IsWithin word
-
-lines_of-line : (text more : List ℕ) → IsInLine text → lines_of (text ++ (10 ∷ more)) ≡ text ∷ lines_of more
-lines_of-line [] more h = refl
-lines_of-line (c ∷ cs) more h = rw (h.0.0, h.0.1) (ap (λ lines. onto_first c lines) (lines_of-line cs more h.1))
-
--- a line without its end
-abbrev front_of : List ℕ → List (List ℕ) → List ℕ
-front_of first others = first ++ flat_map behind_space others
-
-others_in_line : (others : List (List ℕ)) → AllByRecursion IsInLine others → IsInLine (flat_map behind_space others)
-others_in_line [] h = tt
-others_in_line (word ∷ others) h =
-    AllByRecursion-append IsWithin (behind_space word) (flat_map behind_space others) ((refl, refl), h.0) (others_in_line others h.1)
+-- ---- lines and words
 
 one_line : (first : List ℕ) (others : List (List ℕ)) → IsInLine first → AllByRecursion IsInLine others
-    → lines_of (line_of first others) ≡ front_of first others ∷ []
-one_line first others is are =
-    ap lines_of (sym (append_assoc first (flat_map behind_space others) (codes "\n")))
-    ∙ lines_of-line (front_of first others) [] (AllByRecursion-append IsWithin first (flat_map behind_space others) is (others_in_line others are))
-
--- ---- words
-
-plain_within : (c : ℕ) → 32 < c → IsWithin c
-plain_within c h = (ne_eqb c 10 (omega arith), ne_eqb c 13 (omega arith))
-
-pub word_in_line : (word : List ℕ) → IsWord word → IsInLine word
-word_in_line word is = AllByRecursion-implies (λ c. 32 < c) IsWithin plain_within word is.plain
-
-word_cut : (c : ℕ) (cs rest : List ℕ) → 32 < c → AllByRecursion (λ d. 32 < d) cs → ends_word rest ≡ true
-    → words_of (c ∷ (cs ++ rest)) ≡ (c ∷ cs) ∷ words_of rest
-word_cut c [] rest p h e = rw (ne_eqb c 32 (omega arith), e) refl
-word_cut c (d ∷ ds) rest p h e =
-    words_of-next c d (ds ++ rest) (ne_eqb c 32 (omega arith)) (ne_eqb d 32 (omega (arith, h.0)))
-    ∙ ap (λ words. onto_first c words) (word_cut d ds rest h.0 h.1 e)
-
-first_word : (word rest : List ℕ) → IsWord word → ends_word rest ≡ true → words_of (word ++ rest) ≡ word ∷ words_of rest
-first_word [] rest is e = absurd (omega (arith, is.some))
-first_word (c ∷ cs) rest is e = word_cut c cs rest is.plain.0 is.plain.1 e
+    → lines_of (line_of first others) ≡ text_of_line first others ∷ []
+one_line first others is are = ap lines_of (sym (append-nil (line_of first others))) ∙ line_cut first others [] is are
 
 third_word : (first second third : List ℕ) (others : List (List ℕ)) → IsWord first → IsWord second → IsWord third
-    → third_of (words_of (front_of first (second ∷ third ∷ others))) ≡ third
+    → third_of (words_of (text_of_line first (second ∷ third ∷ others))) ≡ third
 third_word first second third others is_first is_second is_third =
     let behind_third = flat_map behind_space others in
     let behind_second = flat_map behind_space (third ∷ others) in
@@ -88,53 +47,14 @@ third_word first second third others is_first is_second is_third =
 
 -- ---- numbers and octets
 
--- a digit
-abbrev IsDigit : ℕ → Type 0
-IsDigit c = (32 < c) × (c < 58)
-
-glyph_digit : (d : ℕ) → d < 10 → IsDigit (digit_glyph false d)
-glyph_digit d h = rw (lt-ltb d 10 h) (omega arith, omega arith)
-
-digits_all : (k n : ℕ) (acc : List ℕ) → AllByRecursion IsDigit acc → AllByRecursion IsDigit (digits_onto k 10 false n acc)
-digits_all zero n acc h = h
-digits_all (suc k) n acc h =
-    let g = digit_glyph false (n % 10) in
-    let more : AllByRecursion IsDigit (g ∷ acc) = (glyph_digit (n % 10) (omega arith), h) in
-    elim (n / 10 == 0) as (λ b. AllByRecursion IsDigit (cond b (g ∷ acc) (digits_onto k 10 false (n / 10) (g ∷ acc))))
-    [ true ↦ more | false ↦ digits_all k (n / 10) (g ∷ acc) more ]
-
-digits_some : (k n : ℕ) (acc : List ℕ) → 0 < length acc → 0 < length (digits_onto k 10 false n acc)
-digits_some zero n acc h = h
-digits_some (suc k) n acc h =
-    let g = digit_glyph false (n % 10) in
-    elim (n / 10 == 0) as (λ b. 0 < length (cond b (g ∷ acc) (digits_onto k 10 false (n / 10) (g ∷ acc))))
-    [ true ↦ omega arith | false ↦ digits_some k (n / 10) (g ∷ acc) (omega arith) ]
-
-digits_first : (k n : ℕ) → 0 < length (digits_onto (suc k) 10 false n [])
-digits_first k n =
-    let g = digit_glyph false (n % 10) in
-    elim (n / 10 == 0) as (λ b. 0 < length (cond b (g ∷ []) (digits_onto k 10 false (n / 10) (g ∷ []))))
-    [ true ↦ omega arith | false ↦ digits_some k (n / 10) (g ∷ []) (omega arith) ]
-
-decimal_all : (n : ℕ) → AllByRecursion IsDigit (decimal n)
-unfolding digits
-decimal_all n = digits_all 64 n [] tt
-
-decimal_word : (n : ℕ) → IsWord (decimal n)
-unfolding digits
-decimal_word n = record {
-  some = digits_first 63 n;
-  plain = AllByRecursion-implies IsDigit (λ c. 32 < c) (λ c d. d.0) (decimal n) (decimal_all n);
-}
-
 decimal_in_line : (n : ℕ) → IsInLine (decimal n)
-decimal_in_line n = word_in_line (decimal n) (decimal_word n)
+decimal_in_line n = word_in_line (decimal n) (decimal_is_word n)
 
-hex_digit_within : (d : ℕ) → IsWithin (slice_index lower_digits d)
+hex_digit_within : (d : ℕ) → IsWithinLine (slice_index lower_digits d)
 hex_digit_within d =
     elim (cases_lt d 16) [
       | inl small ↦ plain_within (slice_index lower_digits d) (digit_plain d small)
-      | inr past ↦ subst IsWithin (sym (get_or-eq_default lower_digits 0 past)) (refl, refl)
+      | inr past ↦ subst IsWithinLine (sym (get_or-eq_default lower_digits 0 past)) (refl, refl)
     ]
 
 hex_in_line : (octets : List ℕ) → IsInLine (hex_text octets)
@@ -338,7 +258,7 @@ record IsLine (line : Line) : Type 0 where
 is_line : (line : Line) (first second kind : List ℕ) (others : List (List ℕ)) → line_text line ≡ line_of first (second ∷ kind ∷ others)
     → kind_of line ≡ kind → IsWord first → IsWord second → IsWord kind → AllByRecursion IsInLine others → IsLine line
 is_line line first second kind others text kind_is is_first is_second is_kind in_line = record {
-  front = front_of first (second ∷ kind ∷ others);
+  front = text_of_line first (second ∷ kind ∷ others);
   lines = ap lines_of text ∙ one_line first (second ∷ kind ∷ others) (word_in_line first is_first)
       (word_in_line second is_second, (word_in_line kind is_kind, in_line));
   third = third_word first second kind others is_first is_second is_kind ∙ sym kind_is;
@@ -348,20 +268,20 @@ each_line : (line : Line) → IsNamed line → IsLine line
 each_line (Noted now name note) named =
     let words = note_is note in
     is_line (Noted now name note) (decimal now) name (first_of (note_words note)) words.others
-    (ap (λ (ws : List (List ℕ)). line_of (decimal now) (name ∷ ws)) words.split) refl (decimal_word now) named words.is_word words.in_line
+    (ap (λ (ws : List (List ℕ)). line_of (decimal now) (name ∷ ws)) words.split) refl (decimal_is_word now) named words.is_word words.in_line
 each_line (Transmitted now name copy port target frame) named =
     is_line (Transmitted now name copy port target frame) (decimal now) name (codes "tx")
-    (decimal copy ∷ decimal port ∷ target_word target ∷ octets_word frame ∷ []) refl refl (decimal_word now) named (spelled (codes "tx") refl)
+    (decimal copy ∷ decimal port ∷ target_word target ∷ octets_word frame ∷ []) refl refl (decimal_is_word now) named (spelled (codes "tx") refl)
     (decimal_in_line copy, (decimal_in_line port, (target_in_line target, (octets_in_line frame, tt))))
 each_line (Void now name copy) named =
-    is_line (Void now name copy) (decimal now) name (codes "void") (decimal copy ∷ []) refl refl (decimal_word now) named (spelled (codes "void") refl)
+    is_line (Void now name copy) (decimal now) name (codes "void") (decimal copy ∷ []) refl refl (decimal_is_word now) named (spelled (codes "void") refl)
     (decimal_in_line copy, tt)
 each_line (Late now name copy) named =
-    is_line (Late now name copy) (decimal now) name (codes "late") (decimal copy ∷ []) refl refl (decimal_word now) named (spelled (codes "late") refl)
+    is_line (Late now name copy) (decimal now) name (codes "late") (decimal copy ∷ []) refl refl (decimal_is_word now) named (spelled (codes "late") refl)
     (decimal_in_line copy, tt)
 each_line (Injected now copy subnet sender target) named =
     is_line (Injected now copy subnet sender target) (decimal now) (codes "-") (codes "inject")
-    (decimal copy ∷ subnet ∷ hex_text sender ∷ target_word target ∷ []) refl refl (decimal_word now) (spelled (codes "-") refl) (spelled (codes "inject") refl)
+    (decimal copy ∷ subnet ∷ hex_text sender ∷ target_word target ∷ []) refl refl (decimal_is_word now) (spelled (codes "-") refl) (spelled (codes "inject") refl)
     (decimal_in_line copy, (named, (hex_in_line sender, (target_in_line target, tt))))
 
 -- two tests that answer the same pass as many
@@ -396,8 +316,8 @@ none_counted p x e = rw e refl
 
 end_uncounted : (now copies k : ℕ) (ks : List ℕ) → 58 ≤ k → count_of (k ∷ ks) (lines_of (line_of (codes "end") (decimal now ∷ decimal copies ∷ []))) ≡ 0
 end_uncounted now copies k ks e =
-    let front = front_of (codes "end") (decimal now ∷ decimal copies ∷ []) in
-    let third = third_word (codes "end") (decimal now) (decimal copies) [] (spelled (codes "end") refl) (decimal_word now) (decimal_word copies) in
+    let front = text_of_line (codes "end") (decimal now ∷ decimal copies ∷ []) in
+    let third = third_word (codes "end") (decimal now) (decimal copies) [] (spelled (codes "end") refl) (decimal_is_word now) (decimal_is_word copies) in
     ap (λ (lines : List (List ℕ)). count_of (k ∷ ks) lines)
     (one_line (codes "end") (decimal now ∷ decimal copies ∷ []) (word_in_line (codes "end") (spelled (codes "end") refl))
     (decimal_in_line now, (decimal_in_line copies, tt)))

@@ -7,7 +7,6 @@ pub mod Counting
 pub mod Still
 pub mod Storms
 pub mod Fit
-pub mod Lines
 pub mod ByLine
 pub mod Outputs
 pub mod Commands

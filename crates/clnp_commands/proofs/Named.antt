@@ -9,7 +9,7 @@ use Rattle.clnp_plan.specs.Journal.{Late}
 use Rattle.clnp_plan.specs.declared.config.Limits.{Limits}
 use Rattle.clnp_plan.specs.declared.config.Role.{Role}
 use Rattle.clnp_plan.specs.declared.config.Role.TheVariants.{Host, Router}
-use Rattle.scenario.proofs.Written.{IsWord, name_is_word}
+use Rattle.scenario.proofs.Written.{IsWord, name_is_word, IsInLine, word_in_line}
 use Rattle.scenario.specs.Scenario.{IsFit, Plan, Subnetwork, octets_of}
 use Rattle.scenario.specs.Words.{is_name}
 use Rattle.scenario.specs.declared.event.Event.{Event}
@@ -22,7 +22,7 @@ use Rattle.clnp_machine.proofs.Deeds.{step_itself}
 use Rattle.clnp_network.specs.World as network
 use Rattle.clnp_network.specs.World.{World, Step, after, first_world}
 use Rattle.clnp_base.proofs.ListSteps.{all_set}
-use Rattle.clnp_commands.proofs.KindWords.{IsInLine, IsNamed, word_in_line}
+use Rattle.clnp_commands.proofs.KindWords.{IsNamed}
 
 abbrev IsNamedSystem : SystemState → Type 0
 IsNamedSystem s = IsWord s.configuration.name

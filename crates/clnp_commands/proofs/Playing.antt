@@ -16,7 +16,7 @@ use Rattle.clnp_commands.specs.declared.sim.Stop.{Stop}
 use Rattle.clnp_commands.specs.declared.sim.Stop.TheVariants as stop
 use Rattle.clnp_commands.specs.ByLine.{FlushOf}
 use Rattle.clnp_commands.specs.Play.{FullOf, PieceOf, UnderWay, StopOf, JournalStopOf, JournalOf}
-use Rattle.clnp_commands.proofs.Runs.{world_after-append, text_of-append, full_weight-behind, full_stays, all_are_made, until_full-behind, until_full-longer}
+use Rattle.clnp_commands.proofs.Runs.{world_after-append, text_of_more, full_weight-behind, full_stays, all_are_made, until_full-behind, until_full-longer}
 
 -- a front of what comes behind something that was written whole
 pub front-behind : (a b c : Option (List ℕ)) (piece more : List ℕ) → Appends a b piece → AppendsFront b c more → AppendsFront a c (piece ++ more)
@@ -41,7 +41,7 @@ StopOf-longer : (plan : Plan) (model : network.World) (moves later : List Move) 
     → StopOf plan model moves a b e → StopOf plan model (moves ++ later) a b e
 StopOf-longer plan model moves later a b stop.WriteFault q =
     let rest = until_full-longer plan model moves later in
-    rw (rest.1, text_of-append plan model (until_full plan model moves) rest.0) (front-longer a b _ _ q)
+    rw (rest.1, text_of_more plan model (until_full plan model moves) rest.0) (front-longer a b _ _ q)
 StopOf-longer plan model moves later a b stop.NoMemory q =
     let rest = until_full-longer plan model moves later in
     record {
@@ -72,7 +72,7 @@ set_out plan model code a stands = record {
 module _ (plan : Plan) (model : network.World) (past : List Move) (code : WorldState) (a b : Option (List ℕ)) (block : List ℕ) where
   -- the text of the moves so far: what is written, and what waits
   pub text_so_far : (u : UnderWay plan model past code a b block) → text_of plan model past ≡ text_of plan model u.made ++ block
-  text_so_far u = ap (text_of plan model) u.split ∙ (text_of-append plan model u.made u.waiting ∙ ap (λ (t : List ℕ). text_of plan model u.made ++ t) (sym u.waits))
+  text_so_far u = ap (text_of plan model) u.split ∙ (text_of_more plan model u.made u.waiting ∙ ap (λ (t : List ℕ). text_of plan model u.made ++ t) (sym u.waits))
 
   -- the block was written
   flushed : (c : Option (List ℕ)) → UnderWay plan model past code a b block → Appends b c block → UnderWay plan model past code a c []
@@ -125,7 +125,7 @@ module _ (plan : Plan) (model : network.World) (past : List Move) (code : WorldS
         room = full_weight-behind plan model past (move ∷ []) u.room ∙ rw room refl;
         stands = rw (world_after-append plan model past (move ∷ [])) stands;
         appended = u.appended;
-        waits = rw (lines, text_of-append plan (world_after plan model u.made) u.waiting (move ∷ []), here, append-nil, ← u.waits) refl;
+        waits = rw (lines, text_of_more plan (world_after plan model u.made) u.waiting (move ∷ []), here, append-nil, ← u.waits) refl;
       }
 
   -- memory was refused: what was written is the text of some whole moves

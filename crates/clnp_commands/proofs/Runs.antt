@@ -7,30 +7,20 @@ use Rattle.scenario.specs.Scenario.{Plan, moves_of, moves_from}
 use Rattle.scenario.specs.declared.event.Event.{Event}
 use Rattle.scenario.specs.declared.event.Move.{Move}
 use Rattle.clnp_network.specs.World.{World, after, is_full, weight}
-use Rattle.clnp_network.specs.Run.{full_weight, lines_text, text_of, until_full, world_after}
-pub use Rattle.clnp_safety.proofs.Stops.{all_are_made}
+use Rattle.clnp_network.specs.Run.{full_weight, until_full, world_after}
+pub use Rattle.clnp_safety.proofs.Stops.{all_are_made, text_of_more}
+use Rattle.clnp_base.proofs.Choices.{if_none}
 
 pub world_after-append : (plan : Plan) (w : World) (made more : List Move) → world_after plan w (made ++ more) ≡ world_after plan (world_after plan w made) more
 world_after-append plan w [] more = refl
 world_after-append plan w (move ∷ made) more = world_after-append plan (after plan w move).world made more
-
-pub text_of-append : (plan : Plan) (w : World) (made more : List Move) → text_of plan w (made ++ more) ≡ text_of plan w made ++ text_of plan (world_after plan w made) more
-text_of-append plan w [] more = refl
-text_of-append plan w (move ∷ made) more =
-    ap (λ (t : List ℕ). lines_text (after plan w move).lines ++ t) (text_of-append plan (after plan w move).world made more)
-    ∙ sym (append_assoc (lines_text (after plan w move).lines) (text_of plan (after plan w move).world made) (text_of plan (world_after plan (after plan w move).world made) more))
-
--- where the network isn't full before any of some moves, it isn't before the first nor before the others
-pub not_full : (full : Bool) (weighs : ℕ) (rest : Option ℕ) → (if full then Some weighs else rest) ≡ None → (full ≡ false) × (rest ≡ None)
-not_full true weighs rest h = absurd (cc)
-not_full false weighs rest h = (refl, h)
 
 -- the network isn't full before any of the first moves, so what is made of those behind them comes behind them
 pub until_full-behind : (plan : Plan) (w : World) (made more : List Move) → full_weight plan w made ≡ None
     → until_full plan w (made ++ more) ≡ made ++ until_full plan (world_after plan w made) more
 until_full-behind plan w [] more h = refl
 until_full-behind plan w (move ∷ made) more h =
-    let room = not_full (is_full w) (weight w) (full_weight plan (after plan w move).world made) h in
+    let room = if_none (is_full w) (weight w) (full_weight plan (after plan w move).world made) h in
     ap (λ (full : Bool). if full then [] else move ∷ until_full plan (after plan w move).world (made ++ more)) room.0
     ∙ ap (λ (t : List Move). move ∷ t) (until_full-behind plan (after plan w move).world made more room.1)
 
@@ -38,7 +28,7 @@ pub full_weight-behind : (plan : Plan) (w : World) (made more : List Move) → f
     → full_weight plan w (made ++ more) ≡ full_weight plan (world_after plan w made) more
 full_weight-behind plan w [] more h = refl
 full_weight-behind plan w (move ∷ made) more h =
-    let room = not_full (is_full w) (weight w) (full_weight plan (after plan w move).world made) h in
+    let room = if_none (is_full w) (weight w) (full_weight plan (after plan w move).world made) h in
     ap (λ (full : Bool). if full then Some (weight w) else full_weight plan (after plan w move).world (made ++ more)) room.0
     ∙ full_weight-behind plan (after plan w move).world made more room.1
 

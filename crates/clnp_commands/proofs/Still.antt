@@ -14,8 +14,9 @@ use Rattle.clnp_world.specs.Stands.{Stands}
 use Rattle.clnp_world.specs.declared.lines.Counts.{Counts}
 use Rattle.clnp_commands.specs.Counting.{tally_of}
 use Rattle.clnp_commands.specs.Play.{UnderWay}
-use Rattle.clnp_commands.proofs.Runs.{full_weight-behind, not_full, replicate_next, text_of-append, world_after-append}
+use Rattle.clnp_commands.proofs.Runs.{full_weight-behind, replicate_next, text_of_more, world_after-append}
 use Rattle.clnp_commands.proofs.Counting.{none-both}
+use Rattle.clnp_base.proofs.Choices.{if_none}
 
 -- to settle a copy where none is left changes nothing
 pub settled_after : (plan : Plan) (w : World) → length w.copies ≤ w.cursor → after plan w SettleOne ≡ nothing w
@@ -71,7 +72,7 @@ pub rests_room : (plan : Plan) (model : World) (front : List Move) (move : Move)
 rests_room plan model front move times r before room =
     let w : World = world_after plan model front in
     let here : full_weight plan w (move ∷ []) ≡ None = sym (full_weight-behind plan model front (move ∷ []) before) ∙ room in
-    let not : is_full w ≡ false = (not_full (is_full w) (weight w) None here).0 in
+    let not : is_full w ≡ false = (if_none (is_full w) (weight w) None here).0 in
     r.still.room (ap is_full r.same ∙ not)
 
 -- moves that are played
@@ -117,7 +118,7 @@ plays_rest plan model past move made times between code a b c block new within i
       stands = subst (λ (w : World). Stands code w) (sym (world_after-append plan model so_far rest ∙ r.still.world)) u.stands;
       appended = u.appended;
       waits = u.waits
-          ∙ sym (text_of-append plan (world_after plan model u.made) u.waiting rest
+          ∙ sym (text_of_more plan (world_after plan model u.made) u.waiting rest
           ∙ (ap (λ (t : List ℕ). text_of plan (world_after plan model u.made) u.waiting ++ t) none
           ∙ append-nil (text_of plan (world_after plan model u.made) u.waiting)));
     }

@@ -1,5 +1,5 @@
 -- The moves of a run whose lines are counted, and the scenario of a seed.
-use Rattle.std.proofs.Common.{◌≡◌, ℕ, ◌+◌, ◌-◌, ◌<◌, nat_le, true, false, inl, List, [], ◌∷◌, ◌++◌, Option, None, Some, Ok, refl, subst, sym, ap, ◌∙◌, append-nil}
+use Rattle.std.proofs.Common.{◌≡◌, ℕ, ◌+◌, ◌-◌, ◌<◌, nat_le, true, inl, List, [], ◌∷◌, ◌++◌, Option, None, Some, Ok, refl, subst, sym, ap, ◌∙◌, append-nil}
 use Rattle.std.specs.Prelude.{length, replicate}
 use Rattle.std.specs.Io.KnownBytes.{Appends, Keeps}
 use Rattle.std.proofs.KnownBytes.{Appends-nil}
@@ -15,7 +15,7 @@ use Rattle.clnp_world.specs.State.{WorldState}
 use Rattle.clnp_world.specs.Stands.{Stands}
 use Rattle.clnp_world.specs.declared.world.WorldRefusal.{WorldRefusal}
 use Rattle.clnp_world.specs.declared.world.WorldRefusal.TheVariants as refusal
-use Rattle.clnp_world.specs.Lines.{both, no_lines, tally}
+use Rattle.clnp_world.specs.Lines.{both, no_lines}
 use Rattle.clnp_world.specs.declared.lines.Counts.{Counts}
 use Rattle.clnp_commands.specs.declared.storm.Summary.{Summary}
 use Rattle.clnp_commands.specs.declared.command.Command.TheVariants.{Storm}
@@ -65,20 +65,6 @@ module _ (plan : Plan) (model : network.World) where
       let stays = full_stays plan model (made ++ next) later octets here in
       ap (full_weight plan model) split ∙ stays.0
   count_stopped all made next later between old middle refusal.NoMemory split c d = tt
-
-  -- one move was made
-  pub count_one : (move : Move) (code : WorldState) (old new : Counts) → is_full model ≡ false
-      → Stands code (after plan model move).world → new ≡ both old (tally (after plan model move).lines)
-      → Counted plan model (move ∷ []) code old new
-  count_one move code old new room stands counted = record {
-    room = rw room refl;
-    stands = stands;
-    counted = counted ∙ ap (λ (t : Counts). both old t) (sym (both-none (tally (after plan model move).lines)));
-  }
-
-  -- the network is full before the move
-  pub count_full : (move : Move) (octets : ℕ) → is_full model ≡ true → octets ≡ weight model → full_weight plan model (move ∷ []) ≡ Some octets
-  count_full move octets full is = rw (full, is) refl
 
 -- so many times the same move is made, where after some of them no copy is left to settle
 pub count_rest : (plan : Plan) (model : network.World) (move : Move) (made times : ℕ) (between code : WorldState) (old middle new : Counts)

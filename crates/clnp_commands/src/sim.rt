@@ -111,29 +111,8 @@ fn play_event<K: Sink>(
         → PlayOf scenario.now model (past ++ moves_of place event.now) world.new before (K.written sink.new) block.new.items result }
     ensures failed { result ≡ Err Stop.WriteFault → Rose (K.faults sink.old) (K.faults sink.new) }
 {
-    match event {
-        Event::Settle { count } => play_times(
-            alloc,
-            scenario,
-            &Move::SettleOne,
-            *count,
-            world,
-            block,
-            sink,
-        ),
-        Event::Lose { count } => {
-            play_times(alloc, scenario, &Move::LoseOne, *count, world, block, sink)
-        }
-        Event::Tick { count } => {
-            play_times(alloc, scenario, &Move::TickOne, *count, world, block, sink)
-        }
-        Event::Send { .. }
-        | Event::Echo { .. }
-        | Event::Deliver { .. }
-        | Event::Restart { .. }
-        | Event::Congest { .. }
-        | Event::Inject { .. } => play_move(alloc, scenario, &Move::One(place), world, block, sink),
-    }
+    let (mv, times) = event.moves(place);
+    play_times(alloc, scenario, &mv, times, world, block, sink)
 }
 
 /// Makes one move so many times, puts the lines into the block, and writes it where it is full.

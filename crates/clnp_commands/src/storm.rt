@@ -135,17 +135,7 @@ fn count_event(
     ensures { (model : network.World) → Stands world.old model
         → CountOf scenario.now model (moves_of place event.now) world.new counts.old counts.new result }
 {
-    let (mv, times) = match event {
-        Event::Settle { count } => (Move::SettleOne, *count),
-        Event::Lose { count } => (Move::LoseOne, *count),
-        Event::Tick { count } => (Move::TickOne, *count),
-        Event::Send { .. }
-        | Event::Echo { .. }
-        | Event::Deliver { .. }
-        | Event::Restart { .. }
-        | Event::Congest { .. }
-        | Event::Inject { .. } => (Move::One(place), 1),
-    };
+    let (mv, times) = event.moves(place);
     count_times(alloc, scenario, &mv, times, world, counts)
 }
 

@@ -37,6 +37,7 @@ use Rattle.clnp_machine.proofs.Deeds.{packet_is}
 use Rattle.clnp_machine.proofs.Hellos.{only_comes, only_hears_each, same_hello}
 use Rattle.clnp_machine.proofs.Passing.{packet_does}
 use Rattle.clnp_machine.proofs.Known.{IsKnown, all_known, becomes_known, none_new, not_new, told_old}
+use Rattle.clnp_base.proofs.Choices.{one_of}
 
 -- where no output passes a test, none is left by it
 
@@ -82,8 +83,7 @@ told_esis s place = go (is_silent s)
 
 at_one_of : (p : Output → Bool) (s : SystemState) (place : Place) (test : Bool) (first second : Effect) → At p s place first → At p s place second
     → At p s place (if test then first else second)
-at_one_of p s place true first second h k = h
-at_one_of p s place false first second h k = k
+at_one_of p s place test first second h k = one_of (At p s place) test first second h k
 
 -- the same hello, where it is as often said by the same configuration
 at_same : (s t : SystemState) (place : Place) (sent : List Output) → t.configuration ≡ s.configuration → t.hello ≡ s.hello
@@ -315,7 +315,7 @@ old_unanswered s place v old = old_heard s.configuration.role s place v.holding 
 
 -- What comes again at the same moment is answered by nothing.
 
-told_after : (s : SystemState) (port : ℕ) (snpa : List ℕ) → (tells_of_itself s port snpa).after ≡ s
+pub told_after : (s : SystemState) (port : ℕ) (snpa : List ℕ) → (tells_of_itself s port snpa).after ≡ s
 told_after s port snpa = go (is_silent s)
   where
     go : (silent : Bool) → (if silent then idles s else gives s (SendsEsis port (System snpa) (own_hello s) ∷ [])).after ≡ s

@@ -1,6 +1,6 @@
 -- The options of a packet behind a router: they have the form of those before it, and a PDU can carry them.
 use Rattle.std.proofs.Common.{◌≡◌, ◌∙◌, refl, sym, ap, subst, ℕ, zero, suc, ◌+◌, ◌-◌, ◌<◌, Bool, true, false, List, [], ◌∷◌, length, Option, None, Some, All, arith}
-use Rattle.std.specs.Prelude.{if◌then◌else◌, nat_lt, slice_get, option_map, IsSome}
+use Rattle.std.specs.Prelude.{if◌then◌else◌, nat_lt, slice_get, IsSome}
 use Rattle.std.proofs.lemmas.List.Elements.{recursion_from_All}
 use Rattle.std.specs.Str.{bytes_eq}
 use Rattle.nsap.specs.Address.{IsAddress}
@@ -10,7 +10,7 @@ use Rattle.clnp_options.specs.Parameter.{Parameter, recording, source_route, spe
 use Rattle.pdu_header.specs.Grammar.{IsPdu}
 use Rattle.pdu_header.specs.Headers.{with_lifetime, with_options}
 use Rattle.pdu_header.specs.Spelling.{header_length, segmentation_octets}
-use Rattle.pdu_header.specs.Value.{PduValue, SegmentationPart}
+use Rattle.pdu_header.specs.Value.{PduValue}
 use Rattle.clnp_machine.specs.EditLaws.{EditLaws}
 use Rattle.clnp_machine.specs.Esis.{first_of, title_of}
 use Rattle.clnp_machine.specs.Step.{forwarded, is_named, most_titles, noting_congestion, options_behind, passing_own}
@@ -18,6 +18,7 @@ use Rattle.clnp_machine.specs.System.{SystemState}
 use Rattle.clnp_machine.specs.Unit.{IsCarriable, Packet, more_follows, segmentation_of, value_of, value_with, whole_packet}
 use Rattle.clnp_machine.specs.Local.{header_size}
 use Rattle.clnp_machine.proofs.Headers.{header_length-is, segment_kept}
+use Rattle.clnp_machine.proofs.Pieces.{part_length}
 
 -- A property of options that are kept where the system isn't named, and changed where it is.
 one_passed : (P : List Parameter → Type 0) (s : SystemState) (options deeper : List Parameter) (title : Option (List ℕ)) → P options
@@ -129,17 +130,11 @@ module _ (laws : EditLaws) (s : SystemState) where
       }
 
 -- The header of a packet of a unit is as long as the unit's.
-part_size : (identifier : Option ℕ) (a b total : ℕ)
-    → length (segmentation_octets (option_map (λ (i : ℕ). let s : SegmentationPart = record { identifier = i; offset = a; total = total } in s) identifier))
-    ≡ length (segmentation_octets (option_map (λ (i : ℕ). let s : SegmentationPart = record { identifier = i; offset = b; total = total } in s) identifier))
-part_size None a b total = refl
-part_size (Some identifier) a b total = refl
-
 pub header_kept : EditLaws → (p : Packet) → HaveOneForm p.options p.unit.options → header_length (value_of p) ≡ header_size p.unit
 header_kept laws p form =
     let u = p.unit in
     let octets : ℕ → ℕ → ℕ = λ part options. 11 + length u.destination + length u.source + part + options in
     header_length-is (value_of p)
-    ∙ ap (λ (n : ℕ). octets n (length (spelled p.options))) (part_size u.identifier p.offset 0 u.total)
+    ∙ ap (λ (n : ℕ). octets n (length (spelled p.options))) (part_length u.identifier p.offset 0 u.total)
     ∙ ap (λ (n : ℕ). octets (length (segmentation_octets (segmentation_of (whole_packet u)))) n) (laws.form.len p.options u.options form)
     ∙ sym (header_length-is (value_of (whole_packet u)))

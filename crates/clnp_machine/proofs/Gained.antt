@@ -26,6 +26,7 @@ use Rattle.clnp_machine.specs.Steps.{segments_in, CarriesSegment, ComesWith, Onl
 use Rattle.clnp_machine.proofs.Hellos.{only_comes, only_forgets, only_responds, only_says_hello, only_then}
 use Rattle.clnp_machine.proofs.Kept.{all_after, all_contained}
 use Rattle.clnp_machine.proofs.Passing.{packet_does}
+use Rattle.clnp_base.proofs.Choices.{one_of}
 
 parts : {X : Type 0} (P : X → Type 0) (xs ys : List X) → AllByRecursion P (xs ++ ys) → AllByRecursion P xs × AllByRecursion P ys
 parts P [] ys h = (tt, h)
@@ -42,8 +43,7 @@ module _ (P : Arrival Packet → Type 0) where
 
   keeps_one_of : (test : Bool) (first second : Deed) → KeepsOnly first.after.buffers → KeepsOnly second.after.buffers
       → KeepsOnly (if test then first else second).after.buffers
-  keeps_one_of true first second h k = h
-  keeps_one_of false first second h k = k
+  keeps_one_of test first second h k = one_of (λ (deed : Deed). KeepsOnly deed.after.buffers) test first second h k
 
   keeps_reports_from : (s : SystemState) (found : Option (List ℕ)) (frame : List ℕ) (reason place : ℕ) → KeepsOnly s.buffers
       → KeepsOnly (reports_from found s frame reason place).after.buffers

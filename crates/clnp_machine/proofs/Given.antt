@@ -1,14 +1,11 @@
 -- Outputs of the code are those of the model, one part after another.
-use Rattle.std.proofs.Common.{◌≡◌, ◌∙◌, sym, ap, ℕ, inl, inr, List, [], ◌∷◌, ◌++◌, map, append_assoc, append-nil}
-use Rattle.nsap.specs.declared.target.Target.{Target}
+use Rattle.std.proofs.Common.{◌≡◌, ◌∙◌, sym, ap, ℕ, inl, List, [], ◌∷◌, ◌++◌, append_assoc, append-nil}
 use Rattle.clnp_plan.specs.declared.note.Note as plan
 use Rattle.clnp_plan.specs.declared.output.Output.{Output}
 use Rattle.clnp_plan.specs.declared.output.Output.TheVariants.{Note, Transmit}
-use Rattle.clnp_plan.specs.declared.output.Sending.{Sending}
-use Rattle.clnp_machine.specs.Unit.{Packet}
 use Rattle.clnp_machine.specs.Content.{Content}
 use Rattle.clnp_machine.specs.System as machine
-use Rattle.clnp_machine.specs.Given.{Gives, GiveAll, Appends, GivesFor, GiveAllFor, AppendsFor, IsSentOnFor}
+use Rattle.clnp_machine.specs.Given.{Gives, GiveAll, Appends, GivesFor, GiveAllFor, AppendsFor}
 
 module _ (moment : ℕ) where
   pub GiveAll-append : (xs ys : List Output) (us vs : List machine.Output) → GiveAll moment xs us → GiveAll moment ys vs → GiveAll moment (xs ++ ys) (us ++ vs)
@@ -31,12 +28,6 @@ module _ (moment : ℕ) where
       → Appends moment before after (machine.Notes note ∷ [])
   appends_note before after told note written same = appends_one before after (Note told) (machine.Notes note) written same
 
-  -- two were
-  pub appends_two : (before after : List Output) (first second : Output) (one two : machine.Output) → after ≡ before ++ first ∷ second ∷ []
-      → Gives moment first one → Gives moment second two → Appends moment before after (one ∷ two ∷ [])
-  appends_two before after first second one two written gives given =
-      record { outputs = first ∷ second ∷ []; appended = written; give_all = (gives, (given, tt)) }
-
   -- some were, and then some more
   pub appends_both : (before middle after : List Output) (us vs : List machine.Output) → Appends moment before middle us → Appends moment middle after vs
       → Appends moment before after (us ++ vs)
@@ -45,12 +36,6 @@ module _ (moment : ℕ) where
     appended = k.appended ∙ ap (λ (start : List Output). start ++ k.outputs) h.appended ∙ append_assoc before h.outputs k.outputs;
     give_all = GiveAll-append h.outputs k.outputs us vs h.give_all k.give_all;
   }
-
-  -- some were, and then one more: as a loop appends
-  pub appends_more : (before middle after : List Output) (output : Output) (others : List machine.Output) (other : machine.Output) → Appends moment before middle others
-      → after ≡ middle ++ output ∷ [] → Gives moment output other → Appends moment before after (others ++ other ∷ [])
-  appends_more before middle after output others other h written gives =
-      appends_both before middle after others (other ∷ []) h (appends_one middle after output other written gives)
 
 -- Where a frame came.
 
@@ -61,17 +46,6 @@ module _ (moment : ℕ) (came : Content) where
   GiveAllFor-append (x ∷ xs) ys (u ∷ us) vs h k = (h.0, GiveAllFor-append xs ys us vs h.1 k)
   GiveAllFor-append [] ys (u ∷ us) vs h k = absurd h
   GiveAllFor-append (x ∷ xs) ys [] vs h k = absurd h
-
-  pub appends_for_none : (before after : List Output) → after ≡ before → AppendsFor moment came before after []
-  appends_for_none before after same = record { outputs = []; appended = same ∙ sym (append-nil before); give_all = tt }
-
-  pub appends_for_one : (before after : List Output) (output : Output) (other : machine.Output) → after ≡ before ++ output ∷ [] → GivesFor moment came output other
-      → AppendsFor moment came before after (other ∷ [])
-  appends_for_one before after output other written gives = record { outputs = output ∷ []; appended = written; give_all = (gives, tt) }
-
-  pub appends_for_note : (before after : List Output) (told note : plan.Note) → after ≡ before ++ Note told ∷ [] → told ≡ note
-      → AppendsFor moment came before after (machine.Notes note ∷ [])
-  appends_for_note before after told note written same = appends_for_one before after (Note told) (machine.Notes note) written same
 
   pub appends_for_both : (before middle after : List Output) (us vs : List machine.Output) → AppendsFor moment came before middle us
       → AppendsFor moment came middle after vs → AppendsFor moment came before after (us ++ vs)
@@ -101,28 +75,3 @@ module _ (moment : ℕ) (came : Content) where
       → AppendsFor moment came before after others
   appends_for before after others h =
       record { outputs = h.outputs; appended = h.appended; give_all = give_all_for h.outputs others h.give_all }
-
-  -- what goes on
-
-  module _ (port : ℕ) (target : Target) where
-    -- frames that go on, one for each of some packets
-    abbrev pub AreSentOn : List Sending → List Packet → Type 0
-    AreSentOn [] [] = Unit {0}
-    AreSentOn (sending ∷ sendings) (packet ∷ packets) = IsSentOnFor came sending port target packet × AreSentOn sendings packets
-    AreSentOn [] (packet ∷ packets) = ⊥
-    AreSentOn (sending ∷ sendings) [] = ⊥
-
-    module _ {X : Type 0} (made : X → Sending) where
-      give_on : (xs : List X) (packets : List Packet) → AreSentOn (map made xs) packets
-          → GiveAllFor moment came (map (λ x. Transmit (made x)) xs) (map (λ packet. machine.Transmits port target packet) packets)
-      give_on [] [] h = tt
-      give_on (x ∷ xs) (packet ∷ packets) h = (inr h.0, give_on xs packets h.1)
-      give_on [] (packet ∷ packets) h = absurd h
-      give_on (x ∷ xs) [] h = absurd h
-
-      -- they were appended, as a loop makes them of such things
-      pub appends_on : (before after : List Output) (xs : List X) (packets : List Packet) → after ≡ before ++ map (λ x. Transmit (made x)) xs
-          → AreSentOn (map made xs) packets
-          → AppendsFor moment came before after (map (λ packet. machine.Transmits port target packet) packets)
-      appends_on before after xs packets written h =
-          record { outputs = map (λ x. Transmit (made x)) xs; appended = written; give_all = give_on xs packets h }

@@ -21,6 +21,7 @@ use Rattle.clnp_machine.specs.System.{SystemState, Output, SendsEsis, Effect, id
 use Rattle.clnp_machine.specs.Esis.{tells_of_itself, is_silent, own_hello, hearers, hello_everywhere, says_hello, hears, hears_each, tells_new, answers_new, follows, redirect_heard, end_system_heard, intermediate_system_heard, esis_heard, esis_comes, gone_note, forgets, first_of, hello_of, holding_time, wish}
 use Rattle.clnp_machine.specs.Step.{is_asked_for, responds}
 use Rattle.clnp_machine.specs.Steps.{IsOfHellos, LeavesTheRest, OnlyHellos}
+use Rattle.clnp_base.proofs.Choices.{one_of}
 
 -- nothing is left but the rest
 
@@ -55,8 +56,7 @@ only_then s effect next h k = record {
 }
 
 only_one_of : (s : SystemState) (test : Bool) (first second : Effect) → OnlyHellos s first → OnlyHellos s second → OnlyHellos s (if test then first else second)
-only_one_of s true first second h k = h
-only_one_of s false first second h k = k
+only_one_of s test first second h k = one_of (OnlyHellos s) test first second h k
 
 -- what is said
 

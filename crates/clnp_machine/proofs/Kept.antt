@@ -1,7 +1,7 @@
 -- What holds of each buffer once a segment was offered.
 use Rattle.clnp_base.proofs.Filters.{AllByRecursion-filter}
 use Rattle.clnp_base.proofs.Lists.{AllByRecursion-implies}
-use Rattle.std.proofs.Common.{◌≡◌, subst, ℕ, ◌+◌, ◌≤◌, inl, inr, Bool, true, false, cond, not, List, [], ◌∷◌, ◌++◌, length, Option, None, Some, Contains, refl, arith}
+use Rattle.std.proofs.Common.{◌≡◌, subst, ℕ, ◌+◌, ◌≤◌, inl, inr, Bool, true, false, cond, List, [], ◌∷◌, ◌++◌, length, Option, None, Some, Contains, refl, arith}
 use Rattle.std.specs.Prelude.{◌&&◌, is_none, nat_le, nat_lt}
 use Rattle.std.specs.List.{AllByRecursion, filter}
 use Rattle.std.proofs.lemmas.Bool.{cases_Bool}
@@ -11,7 +11,8 @@ use Rattle.reassembly.specs.Arrival.{Arrival, are_covered, same_key}
 use Rattle.reassembly.specs.Buffer.{Answer, Buffer, Crowded, Held, Many, NoSlot, Repeat, Whole, after, answer, answer_of, buffer_of, clashes, due, held, is_whole_in, kept, kept_in, opened_by, refusal, sooner, soonest, with_kept, without}
 use Rattle.clnp_machine.specs.Unit.{Packet}
 use Rattle.clnp_machine.specs.Told.{TellsNoInterference, WasThereOrTakes}
-use Rattle.reassembly.proofs.Shared.{held-with_kept, kept_or_not, may_be_kept, same_key-refl}
+use Rattle.reassembly.proofs.Shared.{held-with_kept, kept_or_not, may_be_kept, others_with_kept}
+use Rattle.clnp_base.proofs.Choices.{one_of}
 
 pub all_contained : {X : Type 0} (xs : List X) → AllByRecursion (Contains xs) xs
 all_contained xs = recursion_from_All (Contains xs) xs (λ i d within. All-contains_itself xs i d within)
@@ -22,8 +23,7 @@ NoneInterferes (Some told) = TellsNoInterference told
 
 cond_without : (test : Bool) (told : Answer) (others : Option Answer) → TellsNoInterference told → NoneInterferes others
     → NoneInterferes (cond test (Some told) others)
-cond_without true told others here there = here
-cond_without false told others here there = there
+cond_without test told others here there = one_of NoneInterferes test (Some told) others here there
 
 whole_or_held : (whole : Bool) → TellsNoInterference (cond whole Whole Held)
 whole_or_held true = tt
@@ -72,16 +72,6 @@ module _ {C : Type 0} (limits : TableLimits) (moment : ℕ) (arrival : Arrival C
       kept_or_not (λ later. held later ≤ limits.budget) (refusal limits arrival buffers) buffers (with_kept limits moment arrival buffers) within
       (λ e. let more = held-with_kept limits moment arrival buffers in let room = (may_be_kept limits arrival buffers e).budget in omega arith)
 
-  -- the buffers without that in which the segment was kept are some of those that were there
-  pub others_with_kept : (P : Buffer C → Type 0) (buffers : List (Buffer C)) → AllByRecursion P buffers
-      → AllByRecursion P (without arrival.key (with_kept limits moment arrival buffers))
-  others_with_kept P [] all = rw (same_key-refl arrival.key) tt
-  others_with_kept P (buffer ∷ others) all =
-      elim (cases_Bool (same_key buffer.key arrival.key)) [
-        | inl same ↦ rw (same, same) (AllByRecursion-filter (λ b. not (same_key b.key arrival.key)) P P (λ b t h. h) others all.1)
-        | inr other ↦ rw (other, other) (all.0, others_with_kept P others all.1)
-      ]
-
 -- the buffer whose time has ended is one of those that there are
 
 module _ {C : Type 0} (P : Buffer C → Type 0) where
@@ -126,4 +116,4 @@ taking limits moment arrival buffers =
 
 pub others_stay : (limits : TableLimits) (moment : ℕ) (arrival : Arrival Packet) (buffers : List (Buffer Packet))
     → AllByRecursion (Contains buffers) (without arrival.key (with_kept limits moment arrival buffers))
-others_stay limits moment arrival buffers = others_with_kept limits moment arrival (Contains buffers) buffers (all_contained buffers)
+others_stay limits moment arrival buffers = others_with_kept (Contains buffers) limits moment arrival buffers (all_contained buffers)

@@ -36,13 +36,13 @@ use Rattle.clnp_machine.proofs.Hellos.{only_comes, only_forgets, only_responds, 
 use Rattle.clnp_machine.proofs.Kept.{all_contained}
 use Rattle.clnp_machine.proofs.Passing.{packet_does, redirects_are}
 use Rattle.clnp_machine.proofs.Reasons.{congestion, expired, interference, segmentation, unknown}
+use Rattle.clnp_base.proofs.Choices.{one_of}
 
 -- Why a unit isn't made.
 
 first_of_two : (refused : Note) (next : Option Note) (holds : Bool) → IsRefusal (Some refused) → IsRefusal next
     → IsRefusal (if holds then Some refused else next)
-first_of_two refused next true h k = h
-first_of_two refused next false h k = k
+first_of_two refused next holds h k = one_of IsRefusal holds (Some refused) next h k
 
 not_drawn_is_refused : (why : Option NotDrawn) → IsRefusal (option_map not_drawn_note why)
 not_drawn_is_refused None = tt

@@ -22,6 +22,7 @@ use Rattle.clnp_machine.specs.Unit.{IsCarriable, value_of}
 use Rattle.clnp_machine.specs.Content.{Content, Labelled, Esis, Unlabelled, IsCarried, content_of, esis_value_in, frame_of, is_accepted, packet_from_outside, value_in}
 use Rattle.clnp_machine.proofs.Pieces.{with_parts}
 use Rattle.clnp_machine.proofs.Headers.{front, nothing_spelled, other_protocol}
+use Rattle.clnp_base.proofs.Choices.{none_is}
 
 follows : (end all : ℕ) (more : Bool) → end ≤ all → (more ≡ false → end ≡ all) → (end ≡ all → more ≡ false) → nat_lt end all ≡ more
 follows end all true within ends last = grind (arith, nat_tests)
@@ -71,10 +72,6 @@ accepted_is : (octets : List ℕ) → is_accepted octets ≡ true → (octet oct
 accepted_is octets passes =
     let parts = and_parts (octet octets 1 == 0x81) (is_none (refusal octets)) passes in
     (eqb-true (octet octets 1) 0x81 parts.0, none_is (refusal octets) parts.1)
-  where
-    none_is : (found : Option OptionRefusal) → is_none found ≡ true → found ≡ None
-    none_is None h = refl
-    none_is (Some broken) h = absurd (cc)
 
 not_accepted : (octets : List ℕ) → is_accepted octets ≡ false → (v : PduValue) (rest : List ℕ) → BeginsWith octets v rest → ⊥
 not_accepted octets fails v rest begins =

@@ -24,7 +24,7 @@ use Rattle.clnp_machine.proofs.Headers.{header_length-is, length-header}
 abbrev pub part_of : Packet → ℕ → SegmentationPart
 part_of p identifier = record { identifier = identifier; offset = p.offset; total = p.unit.total }
 
-part_length : (o : Option ℕ) (a b total : ℕ)
+pub part_length : (o : Option ℕ) (a b total : ℕ)
     → length (segmentation_octets (option_map (λ (i : ℕ). let s : SegmentationPart = record { identifier = i; offset = a; total = total } in s) o))
     ≡ length (segmentation_octets (option_map (λ (i : ℕ). let s : SegmentationPart = record { identifier = i; offset = b; total = total } in s) o))
 part_length None a b total = refl

@@ -40,6 +40,7 @@ use Rattle.clnp_machine.proofs.Behind.{first_is}
 use Rattle.clnp_machine.proofs.Deeds.{make_is, octets_are, packet_is, tick_is}
 use Rattle.clnp_machine.proofs.Passing.{packet_does, redirects_are}
 use Rattle.clnp_machine.proofs.Hellos.{only_hears_each, hello_is, said, same_hello}
+use Rattle.clnp_base.proofs.Choices.{one_of}
 
 -- where a source route leads to no title a packet is sent towards its destination
 no_title : (destination : List ℕ) (title : Option (List ℕ)) → is_none title ≡ true → towards destination title ≡ destination
@@ -89,8 +90,7 @@ module _ (Q : EsisValue → Type 0) (s : SystemState) (own : (seconds : ℕ) →
   its_hello t same = subst Q (sym (same_hello (record s { hello = t.hello }) t same refl)) (own t.hello)
 
   one_its : (test : Bool) (first second : Effect) → SendsIts first.outputs → SendsIts second.outputs → SendsIts (if test then first else second).outputs
-  one_its true first second h k = h
-  one_its false first second h k = k
+  one_its test first second h k = one_of (λ (effect : Effect). SendsIts effect.outputs) test first second h k
 
   told_its : (t : SystemState) (port : ℕ) (snpa : List ℕ) → t.configuration ≡ s.configuration → SendsIts (tells_of_itself t port snpa).outputs
   told_its t port snpa same = one_its (is_silent t) (idles t) _ tt (its_hello t same, tt)

@@ -12,13 +12,13 @@ use Rattle.clnp_options.specs.Grammar.{AreFormed, FitsKind, HasForm}
 use Rattle.clnp_options.specs.Parameter.{parameters, parameters_after}
 use Rattle.clnp_options.specs.Reasons.{reason_code}
 use Rattle.clnp_options.specs.declared.reasons.Reason.TheVariants.{LifetimeExpiredInReassembly}
-use Rattle.clnp_options.proofs.Agree.{are_formed}
+use Rattle.clnp_options.proofs.Agree.{are_formed, none_fit}
 use Rattle.pdu_header.specs.declared.kind.Kind.{Kind}
 use Rattle.pdu_header.specs.declared.kind.Kind.TheVariants.{Dt, Er, Erq, Erp}
 use Rattle.pdu_header.specs.Grammar.{IsSegment, is_report}
 use Rattle.pdu_header.specs.Rules.{extent_refusal, header_of, header_size as size_of_header, is_bad_address, is_reportable, octet, source_place, type_of, wants_report}
 use Rattle.pdu_header.proofs.Accepted.{within}
-use Rattle.pdu_header.proofs.Spelled.{address_is, octets_of_take}
+use Rattle.pdu_header.proofs.Spelled.{address_is}
 use Rattle.error_reports.specs.Report.{reason_option, source_of}
 use Rattle.error_reports.proofs.Lengths.{four}
 use Rattle.error_reports.proofs.Reason.{alone, alone_fits}
@@ -47,6 +47,7 @@ use Rattle.clnp_machine.proofs.Passing.{Onward, packet_does, redirects_are}
 use Rattle.clnp_machine.proofs.Pieces.{cut_carriable}
 use Rattle.clnp_machine.proofs.Reporting.{header_in, kept_carriable, source_is}
 use Rattle.clnp_machine.proofs.Headers.{header_length-is, read_as}
+use Rattle.clnp_base.proofs.ListSteps.{bytes_of_take}
 
 each_sent : (hop : Hop) (packets : List Packet) → AllByRecursion IsCarriable packets
     → AllByRecursion SendsCarriable (map (λ packet. Transmits hop.port hop.target packet) packets)
@@ -143,10 +144,6 @@ none_formed : AreFormed (parameters [])
 unfolding parameters_after
 none_formed = record { formed = All-nil HasForm; distinct = λ i j d before within. absurd (omega arith) }
 
-no_reason : FitsKind false (parameters [])
-unfolding parameters_after
-no_reason = (λ t. absurd (cc), λ any. let within = any.2 in absurd (omega arith))
-
 -- a unit that is asked for between addresses and isn't refused
 asked_is_sendable : (t : SystemState) (kind : Kind) (from to octets : List ℕ) (ask : Ask) → IsFormedAsk from to ask
     → FitsKind (is_report kind) (parameters ask.options) → refusal t (unit_of t kind from to octets ask) ≡ None
@@ -204,7 +201,7 @@ readable_octets octets bytes is =
     let small : size_of_header octets < 256 = bytes 1 in
     let few = take_few (size_of_header octets) octets in
     record {
-      source = address_is head (source_place head) (octets_of_take octets (size_of_header octets) bytes)
+      source = address_is head (source_place head) (bytes_of_take octets (size_of_header octets) bytes)
           (within head (source_place head) (not_true (is_bad_address head (source_place head)) addresses.1));
       few = omega arith;
     }
@@ -238,7 +235,7 @@ module _ (s : SystemState) (system : IsSystem s.configuration) (each : All IsAdd
   reply_sendable : (source destination octets : List ℕ) → IsAddress source → IsAddress destination → Replied IsSendable s source destination octets
   reply_sendable source destination octets from to t at none =
       asked_is_sendable t Erp destination source octets (echo_ask t destination source (length octets) false)
-      (echo_formed t (subst IsSystem (sym at.itself.configuration) system) destination source (length octets) false to from) no_reason none
+      (echo_formed t (subst IsSystem (sym at.itself.configuration) system) destination source (length octets) false to from) none_fit none
 
   causes_sendable : (p : Packet) (following : List ℕ) → IsCarriable p → CausesSuch IsSendable s p following
   causes_sendable p following h = record {
@@ -251,7 +248,7 @@ all_sendable : (s : SystemState) (input : Input) → IsSystem s.configuration �
 all_sendable s (AsksToSend from to octets ask) system fair each keeps = asked_is_sendable s Dt from to octets ask fair.0 fair.1
 all_sendable s (AsksForEcho from to octets) system fair each keeps =
     asked_is_sendable s Erq from to octets (echo_ask s from to (length octets) true)
-    (echo_formed s system from to (length octets) true fair.0 fair.1) no_reason
+    (echo_formed s system from to (length octets) true fair.0 fair.1) none_fit
 all_sendable s (FrameComes port sender to_group (Labelled p following)) system fair each keeps = causes_sendable s system each p following fair.1
 all_sendable s (FrameComes port sender to_group (Esis value following)) system fair each keeps = tt
 all_sendable s (FrameComes port sender to_group (Unlabelled octets)) system fair each keeps =

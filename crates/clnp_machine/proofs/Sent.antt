@@ -151,7 +151,7 @@ sends_ranges laws s (Sends u ∷ actions) =
     (AllByRecursion-implies (SendsRangesOf (made_in actions)) (SendsRangesOf (u ∷ made_in actions)) (sends_later (u ∷ []) (made_in actions))
     (flat_map (outputs_of s) actions) (sends_ranges laws s actions))
 
-range_sooner : (units more : List unit.Unit) (p : Packet) → IsRangeOf units p → IsRangeOf (units ++ more) p
+pub range_sooner : (units more : List unit.Unit) (p : Packet) → IsRangeOf units p → IsRangeOf (units ++ more) p
 range_sooner units more p h = record {
   unit = Contains-append_left units more p.unit h.unit;
   options = h.options;

@@ -1,5 +1,5 @@
 -- The rules and the grammar agree on lists of options and on parts.
-use Rattle.std.proofs.Common.{◌≡◌, ◌∙◌, sym, ap, refl, ℕ, zero, suc, ◌+◌, ◌↔◌, inl, inr, Bool, true, false, not, ◌&&◌, ◌||◌, ◌==◌, List, [], ◌∷◌, ◌++◌, length, get_or, arith, length-append, Option, Some, None, is_some, IsNone, IsTrue}
+use Rattle.std.proofs.Common.{◌≡◌, ◌∙◌, sym, ap, refl, ℕ, ◌+◌, ◌↔◌, inl, inr, Bool, true, false, not, ◌&&◌, ◌||◌, ◌==◌, List, [], ◌∷◌, ◌++◌, length, get_or, arith, length-append, Option, Some, None, is_some, IsNone, IsTrue}
 use Rattle.std.specs.Prelude.{All, Any, AllPairs}
 use Rattle.std.specs.List.{list_any, list_all}
 use Rattle.std.specs.Option.{option_or}
@@ -7,16 +7,19 @@ use Rattle.std.proofs.lemmas.Bool.{eqb-true, eq-eqb, and_parts, and_from, and_ca
 use Rattle.std.proofs.lemmas.List.{append-nil, nil_from_length}
 use Rattle.std.proofs.lemmas.List.Elements.{All-nil, All-cons, All-head, All-tail, All-weaker}
 use Rattle.std.proofs.lemmas.List.Folds.{Any-from_list_any, list_any-from_Any, list_any_none, list_any_at}
-use Rattle.clnp_options.specs.Parameter.{Parameter, padding, reason, spelled, size_of, parameters}
+use Rattle.clnp_options.specs.Parameter.{Parameter, padding, reason, spelled, size_of, parameters, parameters_after}
 use Rattle.clnp_options.specs.Grammar.{HasForm, AreFormed, Forms, FitsKind, Spells}
 use Rattle.clnp_options.specs.Rules.{place_of, place_of_repeat, place_of_unfit, place_of_reason, contains_code, is_unknown, has_bad_security, has_bad_route, has_bad_form, is_reason, at_rule, list_refusal, form_refusal, refusal, Accepts, IsWellFormed, AreWellFormed}
 use Rattle.clnp_options.specs.Reading.{is_readable, are_readable}
-use Rattle.clnp_options.proofs.Parts.{split_of, parameters-of_spelled}
+pub use Rattle.clnp_options.proofs.Parts.{parameters-Forms}
+use Rattle.clnp_options.proofs.Parts.{split_of}
 use Rattle.clnp_options.proofs.Places.{is_some-place_of}
 use Rattle.clnp_options.proofs.Least.{option_or-none_left, option_or-none_right, same-refusal, same-form_refusal}
 use Rattle.clnp_options.proofs.Forms.{has_form, passes}
 use Rattle.clnp_options.specs.declared.reasons.Reason.{Reason}
 use Rattle.clnp_options.specs.declared.reasons.Reason.TheVariants.{DuplicateOption, HeaderSyntaxError, SourceRoutingSyntaxError, UnsupportedOption, UnsupportedSecurity}
+use Rattle.clnp_base.proofs.Lists.{pairs_first, pairs_others}
+use Rattle.std.proofs.lemmas.List.Kept.{AllPairs-cons}
 
 -- no code but padding comes twice
 abbrev pub Differs : Parameter → Parameter → Type 0
@@ -25,18 +28,6 @@ Differs a b = a.code ≡ b.code → a.code ≡ padding
 -- an option is padding where its code is one of `seen`
 abbrev pub IsFresh : List ℕ → Parameter → Type 0
 IsFresh seen o = contains_code seen o.code ≡ true → o.code ≡ padding
-
-AllPairs-cons : (o : Parameter) (os : List Parameter) → All (Differs o) os → AllPairs Differs os → AllPairs Differs (o ∷ os)
-AllPairs-cons o os h k zero zero d lt within = absurd (omega arith)
-AllPairs-cons o os h k zero (suc j) d lt within = h j d (omega arith)
-AllPairs-cons o os h k (suc i) zero d lt within = absurd (omega arith)
-AllPairs-cons o os h k (suc i) (suc j) d lt within = k i j d (omega arith) (omega arith)
-
-pub AllPairs-first : (o : Parameter) (os : List Parameter) → AllPairs Differs (o ∷ os) → All (Differs o) os
-AllPairs-first o os h k d within = h zero (suc k) d (omega arith) (omega arith)
-
-pub AllPairs-others : (o : Parameter) (os : List Parameter) → AllPairs Differs (o ∷ os) → AllPairs Differs os
-AllPairs-others o os h i j d lt within = h (suc i) (suc j) d (omega arith) (omega arith)
 
 -- no repeat was found: the options differ from each other, and from what was seen
 pub distinct_of : (seen : List ℕ) (place : ℕ) (os : List Parameter) → IsNone (place_of_repeat seen place os) → AllPairs Differs os × All (IsFresh seen) os
@@ -47,7 +38,7 @@ distinct_of seen place (o ∷ os) h =
       | inl t ↦ absurd (true≢false (sym (rw t refl) ∙ h))
       | inr f ↦
           let r = distinct_of (o.code ∷ seen) (place + size_of o) os (rw f at h) in (
-            AllPairs-cons o os (All-weaker (IsFresh (o.code ∷ seen)) (Differs o) (λ q fresh e. e ∙ fresh (or_left _ _ (eq-eqb o.code q.code e))) os r.1) r.0,
+            AllPairs-cons Differs o os (All-weaker (IsFresh (o.code ∷ seen)) (Differs o) (λ q fresh e. e ∙ fresh (or_left _ _ (eq-eqb o.code q.code e))) os r.1) r.0,
             All-cons (IsFresh seen) o os
                 (λ c. eqb-true o.code padding (elim (and_cases (not (o.code == padding)) (contains_code seen o.code) f) [ inl n ↦ not-false _ n | inr n ↦ absurd (false≢true (sym n ∙ c)) ]))
                 (All-weaker (IsFresh (o.code ∷ seen)) (IsFresh seen) (λ q fresh c. fresh (or_right _ _ c)) os r.1),
@@ -64,12 +55,12 @@ no_repeat seen place (o ∷ os) pairs fresh =
       | inl c ↦ and_left _ _ (not_from_true _ (eq-eqb o.code padding (first c)))
       | inr c ↦ and_right _ _ c
     ] in
-    rw f (no_repeat (o.code ∷ seen) (place + size_of o) os (AllPairs-others o os pairs) (fresh_after seen o os pairs fresh))
+    rw f (no_repeat (o.code ∷ seen) (place + size_of o) os (pairs_others Differs o os pairs) (fresh_after seen o os pairs fresh))
   where
     fresh_after : (seen : List ℕ) (o : Parameter) (os : List Parameter) → AllPairs Differs (o ∷ os) → All (IsFresh seen) (o ∷ os) → All (IsFresh (o.code ∷ seen)) os
     fresh_after seen o os pairs fresh k d within c =
         elim (or_cases (o.code == (get_or os k d).code) (contains_code seen (get_or os k d).code) c) [
-          | inl e ↦ let same = eqb-true o.code (get_or os k d).code e in sym same ∙ AllPairs-first o os pairs k d within same
+          | inl e ↦ let same = eqb-true o.code (get_or os k d).code e in sym same ∙ pairs_first Differs o os pairs k d within same
           | inr s ↦ All-tail (IsFresh seen) o os fresh k d within s
         ]
 
@@ -152,8 +143,10 @@ forms_of part h = record {
   formed = are_formed (parameters part) (option_or-none_right _ _ h);
 }
 
-pub parameters-Forms : (os : List Parameter) (part : List ℕ) → part ≡ spelled os → parameters part ≡ os
-parameters-Forms os part e = ap parameters e ∙ parameters-of_spelled os
+-- no options are such as each PDU but a report may have
+pub none_fit : FitsKind false (parameters [])
+unfolding parameters_after
+none_fit = (λ t. absurd (cc), λ any. let within = any.2 in absurd (omega arith))
 
 pub well_formed_from : (os : List Parameter) (part : List ℕ) → Forms os part → IsWellFormed part
 unfolding form_refusal

@@ -17,8 +17,9 @@ use Rattle.clnp_options.proofs.Parts.{spelled-append, spelled-cons, parameters-o
 use Rattle.clnp_options.proofs.Places.{is_some-place_of}
 use Rattle.clnp_options.proofs.Located.{value_of-append, value_of-other, value_of-same, value_of-nil}
 use Rattle.clnp_options.proofs.Values.{quality_form_of, marked_form, length-marked, route_form_of, advanced_form, length-advanced, title_at-leads, recording_form_of, recorded_form, length-recorded}
-use Rattle.clnp_options.proofs.Agree.{Differs, AllPairs-first, AllPairs-others, forms_of, well_formed_from, spells_of, accepts_from, fits_kind_of, reason_fits}
+use Rattle.clnp_options.proofs.Agree.{Differs, forms_of, well_formed_from, spells_of, accepts_from, fits_kind_of, reason_fits}
 use Rattle.std.proofs.lemmas.Option.{none-some}
+use Rattle.clnp_base.proofs.Lists.{pairs_behind, pairs_first}
 
 -- where no option has the code, nothing is changed
 pub edited-none : (code : ℕ) (change : List ℕ → List ℕ) (os : List Parameter) → value_of code os ≡ None → edited code change os ≡ os
@@ -43,10 +44,6 @@ value_of-none code [] h = value_of-nil code
 value_of-none code (o ∷ os) h =
     value_of-other code o os (All-head (λ q. q.code ≢ code) o os h) ∙ value_of-none code os (All-tail (λ q. q.code ≢ code) o os h)
 
-pairs_behind : (os ps : List Parameter) → AllPairs Differs (os ++ ps) → AllPairs Differs ps
-pairs_behind [] ps h = h
-pairs_behind (o ∷ os) ps h = pairs_behind os ps (AllPairs-others o (os ++ ps) h)
-
 all_front : (P : Parameter → Type 0) (os ps : List Parameter) → All P (os ++ ps) → All P os
 all_front P os ps h k d within =
     subst P (get_or_append_left os ps d k within) (h k d (omega (arith, length-append os ps)))
@@ -60,7 +57,7 @@ none_after part code start end s w n =
     let option : Parameter = record { code = code; value = s.value } in
     let pairs : AllPairs Differs (s.before ++ option ∷ parameters s.after) =
     let P : List Parameter → Type 0 = AllPairs Differs in subst P s.options (forms_of part w).formed.distinct in
-    let first = AllPairs-first option (parameters s.after) (pairs_behind s.before (option ∷ parameters s.after) pairs) in
+    let first = pairs_first Differs option (parameters s.after) (pairs_behind Differs s.before (option ∷ parameters s.after) pairs) in
     value_of-none code (parameters s.after) (λ k d within e. n (first k d within (sym e)))
 
 pub form_at : (part : List ℕ) (code start end : ℕ) (s : StandsAt part code start end) → IsWellFormed part → HasForm (record { code = code; value = s.value })

@@ -11,8 +11,9 @@ use Rattle.clnp_options.specs.Grammar.{IsTitle, IsSourceRoute, HasForm, AreForme
 use Rattle.clnp_options.specs.Edits.{edited, value_of, pointer_of, title_size, title_at, target_of, is_complete, route_left, advanced, recorded, marked, HaveOneForm}
 use Rattle.clnp_options.proofs.Located.{value_of-nil, value_of-other, value_of-same}
 use Rattle.clnp_options.proofs.Values.{quality_form_of, marked_form, length-marked, title_of_route, leads_on, route_form_of, advanced_form, length-advanced, title_at-leads, title_at-some, recording_form_of, recorded_form, length-recorded}
-use Rattle.clnp_options.proofs.Agree.{Differs, AllPairs-first, AllPairs-others, fits_kind_of, reason_fits}
+use Rattle.clnp_options.proofs.Agree.{Differs, fits_kind_of, reason_fits}
 use Rattle.clnp_options.proofs.Edited.{codes_of-edited, pairs_by_codes, reason_by_codes, kind_by_codes}
+use Rattle.clnp_base.proofs.Lists.{pairs_first, pairs_others}
 
 -- ---- one form
 
@@ -100,8 +101,8 @@ value_of-each code (o ∷ os) n h =
     All-cons (λ p. p.code ≡ code → value_of code (o ∷ os) ≡ Some p.value) o os
     (λ e. value_of-same code o os e)
     (λ k d within e.
-    value_of-other code o os (λ same. n (sym same ∙ AllPairs-first o os h k d within (same ∙ sym e)))
-    ∙ value_of-each code os n (AllPairs-others o os h) k d within e)
+    value_of-other code o os (λ same. n (sym same ∙ pairs_first Differs o os h k d within (same ∙ sym e)))
+    ∙ value_of-each code os n (pairs_others Differs o os h) k d within e)
 
 -- the value of a code is that of an option
 pub value_of-all : (P : Parameter → Type 0) (code : ℕ) (os : List Parameter) (value : List ℕ) → All P os → value_of code os ≡ Some value → P (record { code = code; value = value })

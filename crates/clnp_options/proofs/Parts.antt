@@ -63,6 +63,9 @@ pub parameters-of_spelled : (os : List Parameter) → parameters (spelled os) �
 parameters-of_spelled os =
     ap parameters (sym (append-nil (spelled os))) ∙ parameters-spelled os [] ∙ ap (λ t. os ++ t) parameters-nil ∙ append-nil os
 
+pub parameters-Forms : (os : List Parameter) (part : List ℕ) → part ≡ spelled os → parameters part ≡ os
+parameters-Forms os part e = ap parameters e ∙ parameters-of_spelled os
+
 pub record Splits (octets : List ℕ) : Type 0 where
   pub rest : List ℕ
   pub octets_are : octets ≡ spelled (parameters octets) ++ rest

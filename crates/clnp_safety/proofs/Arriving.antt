@@ -1,8 +1,8 @@
 -- What comes of a frame that carries a sound packet.
 use Rattle.clnp_base.proofs.Filters.{AllByRecursion-filter}
-use Rattle.clnp_base.proofs.Lists.{AllByRecursion-append, AllByRecursion-both, AllByRecursion-find, AllByRecursion-implies}
+use Rattle.clnp_base.proofs.Lists.{AllByRecursion-append, AllByRecursion-both, AllByRecursion-find, AllByRecursion-implies, AllByRecursion-map_any}
 use Rattle.clnp_base.proofs.Sums.{sum_filter}
-use Rattle.std.proofs.Common.{◌≡◌, ◌∙◌, sym, ap, subst, refl, ℕ, ◌+◌, ◌<◌, ◌≤◌, inl, inr, Bool, true, false, not, List, [], ◌∷◌, length, map, slice_get, Option, None, Some, arith}
+use Rattle.std.proofs.Common.{◌≡◌, ◌∙◌, sym, ap, subst, refl, ℕ, ◌+◌, ◌<◌, ◌≤◌, inl, inr, Bool, true, false, not, List, [], length, map, slice_get, Option, None, Some, arith}
 use Rattle.std.specs.Prelude.{◌==◌, ◌&&◌, ◌||◌, is_none, nat_le}
 use Rattle.std.specs.List.{AllByRecursion, find}
 use Rattle.std.proofs.lemmas.Bool.{cases_Bool, eqb-false, true≢false}
@@ -20,7 +20,6 @@ use Rattle.scenario.specs.Scenario.{IsFit, Plan}
 use Rattle.reassembly.specs.Arrival.{data_len, same_key}
 use Rattle.reassembly.specs.Buffer as buffer
 use Rattle.reassembly.specs.Buffer.{Answer, Buffer, buffer_of, held, is_whole, size_of, with_kept, without}
-use Rattle.reassembly.proofs.Shared.{made_whole, none_whole-after}
 use Rattle.clnp_machine.specs.Unit as unit
 use Rattle.clnp_machine.specs.Unit.{IsCarriable, Packet, cut, value_of}
 use Rattle.clnp_machine.specs.Content.{Content, IsCarried, Labelled, Esis, Unlabelled}
@@ -43,9 +42,9 @@ use Rattle.clnp_safety.proofs.BufferOffers.{IsLive, clashes_with_none, stay_live
 use Rattle.clnp_safety.proofs.Deeds.{DeedIsSound, IsHonest, MayDo, discards_soundly, like_is_sound, make_soundly, tells_soundly, told_and_done}
 use Rattle.clnp_safety.proofs.Founded.{reply_is_founded, report_is_founded}
 use Rattle.clnp_safety.proofs.Hellos.{EffectIsSound, deed_is_sound, hellos_are_sound, then_hellos}
-use Rattle.clnp_safety.proofs.Kept.{all_after, find_passes, others_with_kept}
+use Rattle.clnp_safety.proofs.Kept.{all_after, find_passes, others_with_kept, made_whole, none_whole-after}
 use Rattle.clnp_safety.proofs.Joining.{joined_is_unit, whole_is_unit}
-use Rattle.clnp_safety.proofs.Units.{packet_later}
+use Rattle.clnp_safety.proofs.Units.{range_sooner}
 
 -- a packet that comes at a moment is of a unit that isn't older
 abbrev pub ComesYoung : (age now : ℕ) → Content → Type 0
@@ -60,7 +59,7 @@ comes_young age now birth (Esis value following) born young = tt
 comes_young age now birth (Unlabelled octets) born young = tt
 
 pub later_range : (before units : List unit.Unit) (p : Packet) → IsFront before units → IsRangeOf before p → IsRangeOf units p
-later_range before units p front h = subst (λ us. IsRangeOf us p) (sym front.1) (packet_later before front.0 p h)
+later_range before units p front h = subst (λ us. IsRangeOf us p) (sym front.1) (range_sooner before front.0 p h)
 
 -- a network that is sound before a move, and the units so far
 module _ (laws : StepLaws) (plan : Plan) (fit : IsFit plan) (past : List Entry) (w : World) (h : WorldIsSound plan past w) (units : List unit.Unit)
@@ -249,8 +248,8 @@ module _ (laws : StepLaws) (plan : Plan) (fit : IsFit plan) (past : List Entry) 
 
     pieces_note_nothing : (hop : Hop) (pieces : List Packet)
         → AllByRecursion (NotesOnly (IsHonest plan past w s.configuration.name)) (map (λ piece. Transmits hop.port hop.target piece) pieces)
-    pieces_note_nothing hop [] = tt
-    pieces_note_nothing hop (piece ∷ pieces) = (tt, pieces_note_nothing hop pieces)
+    pieces_note_nothing hop pieces =
+        AllByRecursion-map_any (NotesOnly (IsHonest plan past w s.configuration.name)) (λ piece. Transmits hop.port hop.target piece) pieces (λ piece. tt)
 
     -- with the options that the router leaves
     module _ (came : Place) (options : List Parameter) where

@@ -1,7 +1,7 @@
 -- Whatever the moves: packets meet the bound on hops and lifetime, and systems keep their budgets.
 use Rattle.clnp_base.proofs.Lists.{AllByRecursion-any, AllByRecursion-append, AllByRecursion-implies, AllByRecursion-slice_get}
-use Rattle.std.proofs.Common.{◌≡◌, ◌≤◌, ◌+◌, ℕ, zero, suc, inl, inr, Bool, true, false, List, [], ◌∷◌, length, arith}
-use Rattle.std.specs.Prelude.{if◌then◌else◌, is_none, slice_get, slice_set, Option, None, Some}
+use Rattle.std.proofs.Common.{◌≡◌, ◌≤◌, ◌+◌, ℕ, inl, inr, Bool, true, false, List, [], ◌∷◌, length, arith}
+use Rattle.std.specs.Prelude.{if◌then◌else◌, is_none, slice_get, Option, None, Some}
 use Rattle.std.specs.List.{AllByRecursion}
 use Rattle.nsap.specs.declared.target.Target.{Target}
 use Rattle.clnp_plan.specs.Configuration.{SystemConfiguration}
@@ -27,6 +27,7 @@ use Rattle.clnp_safety.proofs.Lines.{AnyLine, any_line_is_fine}
 use Rattle.clnp_safety.proofs.Steps.{Keeps, keeps-put_all_out, with_outside}
 use Rattle.clnp_safety.proofs.EveryMove.{AnyFrame, AnyInput, IsOfClock, any_events, asked_by_all, keeps-moves}
 use Rattle.clnp_safety.proofs.Units.{lives_within}
+use Rattle.clnp_base.proofs.ListSteps.{all_set}
 
 -- Hops and lifetimes.
 
@@ -105,12 +106,6 @@ lifetimes_hold laws plan moves =
 
 -- Budgets.
 
-set_within : (systems : List SystemState) (place : ℕ) (s : SystemState) → AllByRecursion IsWithinBudget systems → IsWithinBudget s
-    → AllByRecursion IsWithinBudget (slice_set systems place s)
-set_within [] place s h k = tt
-set_within (t ∷ systems) zero s h k = (k, h.1)
-set_within (t ∷ systems) (suc place) s h k = (h.0, set_within systems place s h.1 k)
-
 put_out_within : (system : SystemState) (output : Output) (v : World) → IsWithinBudgets v → Keeps IsWithinBudgets AnyLine (put_out system v output)
 put_out_within system (Notes note) v k = record { world = k; lines = (tt, tt) }
 put_out_within system (Transmits port target packet) v k = record { world = k; lines = (tt, tt) }
@@ -124,7 +119,7 @@ step_within laws w place s input there any at k =
     (AllByRecursion-any (λ output. (v : World) → IsWithinBudgets v → Keeps IsWithinBudgets AnyLine (put_out effect.after v output))
     (put_out_within effect.after) effect.outputs)
     (with_effect w place effect)
-    (set_within w.systems place effect.after k (laws.steps.budget s input (AllByRecursion-slice_get IsWithinBudget w.systems place s there k)))
+    (all_set IsWithinBudget w.systems place effect.after k (laws.steps.budget s input (AllByRecursion-slice_get IsWithinBudget w.systems place s there k)))
 
 opened_within : (limits : Limits) (place : ℕ) (systems : List SystemConfiguration) → AllByRecursion IsWithinBudget (states_from limits place systems)
 opened_within limits place [] = tt

@@ -11,7 +11,6 @@ use Rattle.reassembly.specs.declared.segment.Shape.{Shape}
 use Rattle.reassembly.specs.declared.table.TableLimits.{TableLimits}
 use Rattle.reassembly.specs.Arrival.{same_key, same_shape}
 use Rattle.reassembly.specs.Buffer.{Buffer, buffer_of, clashes, opened_by}
-use Rattle.reassembly.proofs.Shared.{same_key-true}
 use Rattle.clnp_machine.specs.Unit as unit
 use Rattle.clnp_machine.specs.Unit.{IsCarriable, Packet}
 use Rattle.clnp_machine.specs.Local.{header_size, identifier_in, offered}
@@ -20,7 +19,7 @@ use Rattle.clnp_network.specs.Run.{Entry}
 use Rattle.clnp_safety.specs.Invariant.{BufferIsSound, IsOfUnit, Owns, UnitIsSound, UnitsAreSound}
 use Rattle.clnp_safety.specs.StepLaws.{StepLaws}
 use Rattle.clnp_safety.proofs.Units.{different_makers, same_unit}
-use Rattle.clnp_safety.proofs.Kept.{KeptIn, find_passes}
+use Rattle.clnp_safety.proofs.Kept.{KeptIn, find_passes, same_key-true}
 
 pub unit_sound : (plan : Plan) (past : List Entry) (now : ℕ) (units : List unit.Unit) (u : unit.Unit) → UnitsAreSound plan past now units
     → Contains units u → UnitIsSound plan past units now u

@@ -35,7 +35,7 @@ use Rattle.clnp_safety.proofs.EveryMove.{GivesOnly, IsOfClock, keeps-moves}
 use Rattle.clnp_safety.proofs.Lines.{AnyLine, any_line_is_fine}
 use Rattle.clnp_safety.proofs.Opens.{opened}
 use Rattle.clnp_safety.proofs.Outputs.{PortsAreAddressed}
-use Rattle.clnp_safety.proofs.Units.{packet_goes_on, packet_later, packet_of_more}
+use Rattle.clnp_safety.proofs.Units.{packet_goes_on, range_sooner, range_later}
 use Rattle.clnp_safety.proofs.Steps.{Keeps, keeps-map, keeps-put_all_out, with_outside}
 
 -- the options of a packet have the form of its unit's
@@ -80,10 +80,10 @@ AllIsCarried plan w = AllIsCarriedBeside plan w.units w
 all_beside : (plan : Plan) (units : List unit.Unit) (w : World) → AllIsCarriedBeside plan units w → AllIsCarried plan w
 all_beside plan units w h = subst (λ us. AllIsCarriedBeside plan us w) (sym h.made) h
 
-range_later : (units more : List unit.Unit) (birth : ℕ) (content : Content) → RangeIn units birth content → RangeIn (units ++ more) birth content
-range_later units more birth (Labelled packet following) range = (packet_later units more packet range.0, range.1, range.2)
-range_later units more birth (Esis value following) range = range
-range_later units more birth (Unlabelled octets) range = absurd range
+origin_later : (units more : List unit.Unit) (birth : ℕ) (content : Content) → RangeIn units birth content → RangeIn (units ++ more) birth content
+origin_later units more birth (Labelled packet following) range = (range_sooner units more packet range.0, range.1, range.2)
+origin_later units more birth (Esis value following) range = range
+origin_later units more birth (Unlabelled octets) range = absurd range
 
 -- a copy stays such as more units are made
 copy_later : (units more : List unit.Unit) (copy : Copy) → IsCarriedInForm units copy → IsCarriedInForm (units ++ more) copy
@@ -92,7 +92,7 @@ copy_later units more copy h = record {
   carried = h.carried;
   form = h.form;
   made_by = h.made_by;
-  origin = elim h.origin [ inl outside ↦ inl outside | inr range ↦ inr (range_later units more copy.birth copy.content range) ];
+  origin = elim h.origin [ inl outside ↦ inl outside | inr range ↦ inr (origin_later units more copy.birth copy.content range) ];
 }
 
 -- What comes.
@@ -116,7 +116,7 @@ packet_is_known units maker birth (Esis value following) by origin = tt
 packet_is_known units maker birth (Unlabelled octets) by origin = tt
 
 known_later : (units more : List unit.Unit) (content : Content) → PacketIsKnown units content → PacketIsKnown (units ++ more) content
-known_later units more (Labelled packet following) known = elim known [ inl outside ↦ inl outside | inr range ↦ inr (packet_later units more packet range) ]
+known_later units more (Labelled packet following) known = elim known [ inl outside ↦ inl outside | inr range ↦ inr (range_sooner units more packet range) ]
 known_later units more (Esis value following) known = tt
 known_later units more (Unlabelled octets) known = tt
 
@@ -214,7 +214,7 @@ module _ (laws : StepLaws) (s : SystemState) (units : List unit.Unit) where
     sends.0,
     elim ranges [ inl new ↦ new.options | inr on ↦ on_in_form port input packet comes on ],
     elim ranges [
-      | inl new ↦ inr (packet_of_more units made packet new)
+      | inl new ↦ inr (range_later units made packet new)
       | inr on ↦ known_later units made (Labelled packet []) (on_is_known port input packet comes on)
     ],
   )

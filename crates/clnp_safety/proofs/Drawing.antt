@@ -22,7 +22,7 @@ use Rattle.clnp_machine.specs.Unit as unit
 use Rattle.clnp_machine.specs.Unit.{Packet, value_of}
 use Rattle.clnp_machine.specs.Content.{Content, Labelled, Esis, Unlabelled}
 use Rattle.clnp_machine.specs.System.{SystemState, Input, AsksToSend, AsksForEcho, FrameComes, MomentComes, IsRestarted, IsCongested, Effect, table_limits, then_does}
-use Rattle.clnp_machine.specs.Local.{Deed, at_moment, discard, echo_ask, expire, give_up_due, gives_up, hand_up, identifier_for, identifier_refusal, is_all, is_answer, made_in, make, offer, offered, receive, refusal, takes_in, takes_reply, tells, tick, unit_of, unless_refused, with_use}
+use Rattle.clnp_machine.specs.Local.{Deed, at_moment, discard, echo_ask, expire, give_up_due, gives_up, hand_up, identifier_for, identifier_refusal, is_all, is_answer, made_in, make, offer, offered, receive, refusal, takes_in, takes_reply, tells, tick, unit_of, unless_refused, with_use, not_drawn_note}
 use Rattle.clnp_machine.specs.Esis.{esis_comes, forgets, says_hello}
 use Rattle.clnp_machine.specs.Step.{content_comes, discard_refused, moment_comes, octets_come, packet_comes, responds, step, unheard_note}
 use Rattle.clnp_machine.specs.Steps.{OnlyHellos, RestartsNothing, moment_after}
@@ -30,8 +30,8 @@ use Rattle.clnp_machine.proofs.Passing.{packet_does}
 use Rattle.clnp_safety.specs.StepLaws.{StepLaws}
 use Rattle.clnp_safety.proofs.Deeds.{IsWhole, all_whole, discard_is_like, discard_reports}
 use Rattle.clnp_safety.proofs.Hellos.{only_then}
-use Rattle.clnp_safety.proofs.SendAsked.{idle_of}
 use Rattle.clnp_safety.proofs.Ticking.{tick_reports}
+use Rattle.clnp_base.proofs.Choices.{one_of, none_mapped}
 
 -- no identifier is drawn, and none of the units has one
 pub record DrawsNone (before after : Identifiers) (units : List unit.Unit) : Type 0 where
@@ -69,8 +69,7 @@ module _ (laws : StepLaws) where
   EffectDraws s effect = Draws s.moment s.identifiers effect.after.identifiers effect.units
 
   one_draws : (s : SystemState) (test : Bool) (first second : Deed) → DeedDraws s first → DeedDraws s second → DeedDraws s (if test then first else second)
-  one_draws s true first second h k = h
-  one_draws s false first second h k = k
+  one_draws s test first second h k = one_of (DeedDraws s) test first second h k
 
   -- Units that are asked for.
 
@@ -82,7 +81,7 @@ module _ (laws : StepLaws) where
         made = u;
         only = refl;
         identified = is;
-        idle = idle_of (not_drawn s.moment s.identifiers) none;
+        idle = none_mapped not_drawn_note (not_drawn s.moment s.identifiers) none;
         identifiers = ap (with_use s) is;
       })
 

@@ -33,7 +33,7 @@ use Rattle.clnp_safety.proofs.Lines.{LineIs}
 use Rattle.clnp_safety.proofs.Outputs.{PortsAreAddressed, Stands, takes_effect_stands}
 use Rattle.clnp_safety.proofs.SendAsked.{own_address}
 use Rattle.clnp_safety.proofs.Steps.{Keeps}
-use Rattle.clnp_safety.proofs.Units.{buffer_later, packet_goes_on, packet_later, packet_of_more, units_with}
+use Rattle.clnp_safety.proofs.Units.{buffer_later, packet_goes_on, range_sooner, range_later, units_with}
 
 -- What a step gives out is sound, where its notes are: what it sends is of units that are made in it, or of that of the packet
 -- that came.
@@ -49,8 +49,8 @@ module _ (laws : StepLaws) (Q : Note → Type 0) (units made : List unit.Unit) (
       → OutputIsSound Q (units ++ made) output
   output_is_sound (Transmits port target packet) sends carriable pdus notes = (
     elim sends [
-      | inl new ↦ packet_of_more units made packet new
-      | inr on ↦ packet_later units made packet (range_goes_on laws units s port input packet comes on)
+      | inl new ↦ range_later units made packet new
+      | inr on ↦ range_sooner units made packet (range_goes_on laws units s port input packet comes on)
     ],
     carriable,
   )

@@ -16,7 +16,7 @@ use Rattle.clnp_machine.specs.Unit as unit
 use Rattle.clnp_machine.specs.System.{SystemState, Input, AsksToSend, AsksForEcho, MomentComes, IsRestarted, IsCongested, Output, Transmits, SendsEsis, Notes, Effect}
 use Rattle.clnp_machine.specs.Step.{step}
 use Rattle.clnp_network.specs.World.{World, Copy, Numbered, give_each, put_out, with_effect, takes_effect, comes, frame_to, addressees_from, settle_copy, lose_copy, tick_each, event_happens, after}
-use Rattle.clnp_network.specs.Run.{Entry, entries_of, world_after}
+use Rattle.clnp_network.specs.Run.{world_after}
 use Rattle.std.proofs.lemmas.List.{append-nil}
 use Rattle.clnp_safety.specs.Growth.{IsFront}
 use Rattle.clnp_safety.proofs.Grows.{front-more}
@@ -156,10 +156,3 @@ module _ (Comes : List unit.Unit → Input → Type 0) (Brings : List ℕ → Li
     pub keeps-moves : (moves : List Move) (w : World) → K w → K (world_after plan w moves)
     keeps-moves [] w k = k
     keeps-moves (move ∷ moves) w k = keeps-moves moves (after plan w move).world (keeps-move w move k).world
-
-    -- and Q holds of all lines
-    pub keeps-entries : (moves : List Move) (w : World) → K w → AllByRecursion (λ (entry : Entry). AllByRecursion Q entry.lines) (entries_of plan w moves)
-    keeps-entries [] w k = tt
-    keeps-entries (move ∷ moves) w k =
-        let kept = keeps-move w move k in
-        (kept.lines, keeps-entries moves (after plan w move).world kept.world)

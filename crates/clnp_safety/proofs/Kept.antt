@@ -10,6 +10,7 @@ use Rattle.reassembly.specs.Buffer.{Buffer, after, opened_by, with_kept, without
 use Rattle.clnp_machine.specs.Unit.{Packet}
 use Rattle.clnp_machine.specs.Told.{WasThereOrTakes}
 use Rattle.clnp_safety.specs.StepLaws.{StepLaws}
+pub use Rattle.reassembly.proofs.Shared.{due_is, made_whole, none_due, none_whole-after, same_key-refl, same_key-true}
 
 pub find_passes : {X : Type 0} (p : X → Bool) (xs : List X) (x : X) → find p xs ≡ Some x → p x ≡ true
 find_passes p [] x e = absurd (none-some x e)

@@ -12,6 +12,7 @@ use Rattle.clnp_machine.specs.System.{SystemState, Input, Output}
 use Rattle.clnp_machine.specs.Step.{step}
 use Rattle.clnp_network.specs.World.{World, Copy, Numbered, Step, nothing, writes, followed_by, put_out, put_all_out, takes_effect, comes, comes_to, asks_role, asks_system, asks, frame_to, is_late, give_to, give, give_each, is_void, is_addressee, deliver_to, deliver_at, deliver, copy_from_outside, injects_on, injects}
 use Rattle.std.specs.List.{AllByRecursion}
+use Rattle.clnp_base.proofs.Choices.{one_of}
 
 -- K holds of the world after a step, and Q of each of its lines
 pub record Keeps (K : World → Type 0) (Q : Line → Type 0) (taken : Step) : Type 0 where
@@ -116,8 +117,7 @@ module _ (K : World → Type 0) (Q : Line → Type 0) where
     keeps-is_void w number system h = record { world = h; lines = (fine.void w.clock system.configuration.name number, tt) }
 
     keeps-one_of : (given void : Step) (is_for : Bool) → Keeps K Q given → Keeps K Q void → Keeps K Q (if is_for then given else void)
-    keeps-one_of given void true g v = g
-    keeps-one_of given void false g v = v
+    keeps-one_of given void is_for g v = one_of (Keeps K Q) is_for given void g v
 
     keeps-deliver_to : (w : World) (number place : ℕ) (found : Option Copy) (system : SystemState) → K w
         → ((copy : Copy) → found ≡ Some copy → Takes fine limits (record { number = number; copy = copy }) w place)

@@ -41,7 +41,7 @@ stops_where_full plan w (move ∷ moves) weighs e =
     full_one_more plan w move (until_full plan (after plan w move).world moves) (full_weight plan (after plan w move).world moves) weighs (is_full w) refl
     (stops_where_full plan (after plan w move).world moves weighs) e
 
-text_of_more : (plan : Plan) (w : World) (moves more : List Move)
+pub text_of_more : (plan : Plan) (w : World) (moves more : List Move)
     → text_of plan w (moves ++ more) ≡ text_of plan w moves ++ text_of plan (world_after plan w moves) more
 text_of_more plan w [] more = refl
 text_of_more plan w (move ∷ moves) more =

@@ -22,6 +22,7 @@ use Rattle.clnp_network.specs.Safe.{Rests}
 use Rattle.clnp_network.specs.Run.{Entry}
 use Rattle.clnp_safety.specs.Invariant.{Owns, CopyIsSound, Carries, IsMadeOn, IsOfUnit, BufferIsSound, EachRests, UnitIsSound, UnitsAreSound}
 use Rattle.clnp_safety.specs.StepLaws.{StepLaws}
+pub use Rattle.clnp_machine.proofs.Sent.{range_sooner, range_later}
 
 -- one of two units with a maker and an identifier rests behind the other
 pub same_unit : (reuse : ℕ) (units : List unit.Unit) (u v : unit.Unit) (i : ℕ) → EachRests reuse units → Contains units u → Contains units v
@@ -108,26 +109,8 @@ packet_goes_on laws units s port came p on h carriable = record {
 -- What is sound stays so as more units are made.
 
 module _ (units more : List unit.Unit) where
-  pub packet_later : (p : Packet) → IsRangeOf units p → IsRangeOf (units ++ more) p
-  packet_later p h = record {
-    unit = Contains-append_left units more p.unit h.unit;
-    options = h.options;
-    lifetime = h.lifetime;
-    within = h.within;
-    whole = h.whole;
-  }
-
-  pub packet_of_more : (p : Packet) → IsRangeOf more p → IsRangeOf (units ++ more) p
-  packet_of_more p h = record {
-    unit = Contains-append_right units more p.unit h.unit;
-    options = h.options;
-    lifetime = h.lifetime;
-    within = h.within;
-    whole = h.whole;
-  }
-
   content_later : (content : Content) → Carries (IsRangeOf units) content → Carries (IsRangeOf (units ++ more)) content
-  content_later (Labelled packet following) h = (packet_later packet h.0, h.1)
+  content_later (Labelled packet following) h = (range_sooner units more packet h.0, h.1)
   content_later (Esis value following) h = h
   content_later (Unlabelled octets) h = absurd h
 
@@ -135,7 +118,7 @@ module _ (units more : List unit.Unit) where
   copy_later copy h = record { sender = h.sender; carries = content_later copy.content h.carries; carried = h.carried; birth = h.birth }
 
   segment_later : (u : unit.Unit) (arrival : Arrival Packet) → IsOfUnit units u arrival → IsOfUnit (units ++ more) u arrival
-  segment_later u arrival h = record { packet = packet_later arrival.carried h.packet; carriable = h.carriable; unit = h.unit; offered = h.offered }
+  segment_later u arrival h = record { packet = range_sooner units more arrival.carried h.packet; carriable = h.carriable; unit = h.unit; offered = h.offered }
 
   pub buffer_later : (plan : Plan) (buffer : Buffer Packet) → BufferIsSound plan units buffer → BufferIsSound plan (units ++ more) buffer
   buffer_later plan buffer h = record {
@@ -157,7 +140,7 @@ module _ (plan : Plan) (past : List Entry) (units more : List unit.Unit) where
   founded_later Er u h = record {
     whole = h.whole;
     packet = h.packet;
-    range = packet_later units more h.packet h.range;
+    range = range_sooner units more h.packet h.range;
     destination = h.destination;
     data_are = h.data_are;
   }

@@ -2,13 +2,12 @@
 use Rattle.std.proofs.Common.{◌≡◌, ◌<◌, ◌≤◌, ℕ, zero, suc, List, [], ◌∷◌, ◌++◌, length, get_or, Option, None, Some, refl, ap, subst}
 use Rattle.std.specs.Prelude.{slice_get, slice_set, IfSome}
 use Rattle.std.specs.Option.{MatchOption}
-use Rattle.std.proofs.lemmas.Option.{MatchOption-at_none, MatchOption-at_some}
+use Rattle.std.proofs.lemmas.Option.{MatchOption-at_none, MatchOption-at_some, slice_get_read}
 use Rattle.std.specs.List.{HoldsAt}
 use Rattle.clnp_machine.specs.System.{SystemState}
 use Rattle.clnp_systems.specs.declared.system.System.{System}
 use Rattle.clnp_systems.specs.Stands as clnp_systems
 use Rattle.clnp_world.specs.Stands.{StandEach}
-use Rattle.clnp_base.proofs.ListSteps.{slice_get_read}
 
 pub each_length : (nodes : List System) (systems : List SystemState) → StandEach nodes systems → length nodes ≡ length systems
 each_length [] [] h = refl
@@ -49,7 +48,7 @@ pub found_at : {B : Type 0} (now : B → System) (found : Option B) (x : B) (nod
     → nodes ≡ others → slice_get others at ≡ Some (now x)
 found_at {B = B} now found x nodes others at is e m same =
     subst (λ (ns : List System). slice_get ns at ≡ Some (now x)) same
-    (slice_get_read nodes at (now x) (MatchOption-at_some (length nodes ≤ at) (λ x. (at < length nodes) × HoldsAt (λ y. now x ≡ y) nodes at) x is m).0
+    (slice_get_read nodes _ at (now x) refl (MatchOption-at_some (length nodes ≤ at) (λ x. (at < length nodes) × HoldsAt (λ y. now x ≡ y) nodes at) x is m).0
     (subst (λ (o : Option B). IfSome o (λ x. now x ≡ get_or nodes at (now x))) is e))
 
 pub none_at : {B : Type 0} (now : B → System) (found : Option B) (nodes others : List System) (at : ℕ) → found ≡ (let none : Option B = None in none)

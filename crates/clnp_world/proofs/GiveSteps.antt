@@ -3,7 +3,7 @@ use Rattle.std.proofs.Common.{◌≡◌, ℕ, zero, suc, ◌+◌, ◌-◌, ◌<�
 use Rattle.std.specs.Prelude.{slice_get}
 use Rattle.std.specs.List.{AllByRecursion}
 use Rattle.std.proofs.lemmas.List.{take_all}
-use Rattle.std.proofs.lemmas.Option.{slice_get_past}
+use Rattle.std.proofs.lemmas.Option.{slice_get_past, slice_get_read}
 use Rattle.clnp_plan.specs.Journal.{Void, Late}
 use Rattle.clnp_plan.specs.declared.config.Limits.{Limits}
 use Rattle.clnp_machine.specs.Content.{IsCarried}
@@ -18,7 +18,7 @@ use Rattle.clnp_world.specs.Stands.{IsBornWithUnit}
 use Rattle.clnp_world.specs.declared.network.Network.{Network}
 use Rattle.clnp_world.specs.declared.copy.FrameCopy.{FrameCopy}
 use Rattle.clnp_base.proofs.Lists.{AllByRecursion-slice_get, slice_get_some}
-use Rattle.clnp_base.proofs.ListSteps.{slice_get_read, slice_get_map}
+use Rattle.clnp_base.proofs.ListSteps.{slice_get_map}
 use Rattle.clnp_world.proofs.EachSteps.{each_length}
 use Rattle.clnp_world.proofs.ModelSteps.{configuration_of, configurations-give_each, copy-give_each, give_each-push, addressees_from-take}
 use Rattle.clnp_world.proofs.PutSteps.{Born, puts_nothing, puts_line, puts_then, counted}
@@ -27,7 +27,7 @@ use Rattle.clnp_world.proofs.PutSteps.{Born, puts_nothing, puts_line, puts_then,
 pub copy_at : (code : Network) (model : network.World) (at : ℕ) (seen : FrameCopy) (copy : network.Copy) → Shows code model
     → at < length code.copies.items → seen ≡ get_or code.copies.items at seen → slice_get model.copies at ≡ Some copy → seen ≡ frame_copy copy
 copy_at code model at seen copy h within e there =
-    let same = slice_get_read code.copies.items at seen within e in
+    let same = slice_get_read code.copies.items _ at seen refl within e in
     let one = slice_get_map frame_copy model.copies at copy there in
     let moved : slice_get (map frame_copy model.copies) at ≡ Some seen = subst (λ (cs : List FrameCopy). slice_get cs at ≡ Some seen) h.copies same in
     cc

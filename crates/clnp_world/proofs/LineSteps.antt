@@ -1,15 +1,14 @@
 -- Lines that come one behind the other.
-use Rattle.std.proofs.Common.{◌≡◌, ℕ, ◌+◌, List, [], ◌∷◌, ◌++◌, Vec, Global, codes, length, refl, sym, ap, ◌∙◌, append-nil, append_assoc, length-append, arith}
-use Rattle.std.specs.List.{filter}
+use Rattle.std.proofs.Common.{◌≡◌, ℕ, ◌+◌, List, [], ◌++◌, codes, refl, sym, ap, ◌∙◌, append-nil, append_assoc, arith}
 use Rattle.std.specs.Str.{bytes_eq}
-use Rattle.std.proofs.lemmas.List.Elements.{filter-append}
-use Rattle.clnp_plan.specs.Journal.{Line, line_text}
+use Rattle.clnp_plan.specs.Journal.{Line}
 use Rattle.clnp_network.specs.Run.{lines_text}
 use Rattle.clnp_world.specs.Lines.{Gains, both, how_many, kind_of, no_lines, tally}
 use Rattle.clnp_world.specs.declared.lines.Counts.{Counts}
 use Rattle.clnp_world.specs.declared.lines.Lines.{Lines}
 use Rattle.clnp_world.specs.declared.lines.Lines.TheVariants.{Written, Counted}
 use Rattle.clnp_world.proofs.ModelSteps.{lines_text-append}
+use Rattle.clnp_base.proofs.Sums.{length_filter-append}
 
 -- the same counts
 counts-same : (g r e d x k s f o y : ℕ) → g ≡ k → r ≡ s → e ≡ f → d ≡ o → x ≡ y → Path Counts
@@ -34,8 +33,7 @@ both-assoc a b c =
 
 how_many-append : (kind : List ℕ) (lines more : List Line) → how_many kind (lines ++ more) ≡ how_many kind lines + how_many kind more
 how_many-append kind lines more =
-    ap length (filter-append (λ line. bytes_eq (kind_of line) kind) lines more)
-    ∙ length-append (filter (λ line. bytes_eq (kind_of line) kind) lines) (filter (λ line. bytes_eq (kind_of line) kind) more)
+    length_filter-append (λ line. bytes_eq (kind_of line) kind) lines more
 
 pub tally-append : (lines more : List Line) → tally (lines ++ more) ≡ both (tally lines) (tally more)
 tally-append lines more =
@@ -67,12 +65,3 @@ gains_more (Written before) (Counted between) (Counted after) lines more g h = a
 gains_more (Counted before) (Written between) (Written after) lines more g h = absurd g
 gains_more (Counted before) (Written between) (Counted after) lines more g h = absurd g
 gains_more (Counted before) (Counted between) (Written after) lines more g h = absurd h
-
--- the text of one line was written
-pub gains_text : (before after : Vec ℕ Global) (line : Line) → after.items ≡ before.items ++ line_text line
-    → Gains (Written before) (Written after) (line ∷ [])
-gains_text before after line e = e ∙ ap (λ (t : List ℕ). before.items ++ t) (sym (append-nil (line_text line)))
-
--- a line came of which nothing is counted
-pub gains_uncounted : (counts : Counts) (line : Line) → tally (line ∷ []) ≡ no_lines → Gains (Counted counts) (Counted counts) (line ∷ [])
-gains_uncounted counts line e = sym (ap (λ (c : Counts). both counts c) e ∙ both-none counts)

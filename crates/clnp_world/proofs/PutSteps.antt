@@ -4,7 +4,7 @@ use Rattle.std.specs.Prelude.{slice_get, sum}
 use Rattle.std.specs.List.{AllByRecursion}
 use Rattle.std.proofs.lemmas.List.{length-map, map-append}
 use Rattle.std.proofs.lemmas.List.Sums.{sum_by-append}
-use Rattle.std.proofs.lemmas.Option.{slice_get_past}
+use Rattle.std.proofs.lemmas.Option.{slice_get_past, slice_get_read}
 use Rattle.nsap.specs.declared.target.Target.{Target}
 use Rattle.pdu_header.specs.Spelling.{header}
 use Rattle.pdu_header.proofs.Written.{length-header}
@@ -33,7 +33,6 @@ use Rattle.clnp_world.specs.Parts.{Shows, Puts, PutsCopies}
 use Rattle.clnp_world.specs.declared.network.Network.{Network}
 use Rattle.clnp_world.specs.declared.copy.FrameCopy.{FrameCopy}
 use Rattle.clnp_base.proofs.Lists.{AllByRecursion-append}
-use Rattle.clnp_base.proofs.ListSteps.{slice_get_read}
 use Rattle.clnp_world.proofs.LineSteps.{gains_nothing, gains_more}
 use Rattle.clnp_world.proofs.ModelSteps.{put_all_out-push, systems-put_all_out}
 
@@ -305,7 +304,7 @@ pub copies_read : (old code : Network) (ports own : List PortConfig) (i port : �
 copies_read old code ports own i port at target birth frame e n within read put =
     let one : slice_get own port ≡ Some at
     = subst (λ (ps : List PortConfig). slice_get ps port ≡ Some at) e
-    (subst (λ (k : ℕ). slice_get ports k ≡ Some at) n (slice_get_read ports i at within read)) in
+    (subst (λ (k : ℕ). slice_get ports k ≡ Some at) n (slice_get_read ports _ i at refl within read)) in
     subst (λ (p : Option PortConfig). PutsCopies old code (frame_copies p target birth frame)) (sym one) put
 
 -- A line of the code's words is the one of the model's.

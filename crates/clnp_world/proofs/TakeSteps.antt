@@ -20,7 +20,7 @@ use Rattle.clnp_machine.specs.Given.{Appends, AppendsFor, GiveAllFor}
 use Rattle.clnp_machine.proofs.Given.{appends_for}
 use Rattle.system_entity.specs.State.{SystemEntityState}
 use Rattle.system_entity.specs.Stands.{IsLeftBy}
-use Rattle.local_entity.specs.Local.{IsWhy, refusal_note}
+use Rattle.local_entity.specs.Local.{refusal_note}
 use Rattle.clnp_systems.specs.Stands.{entity_of}
 use Rattle.clnp_world.specs.Lines.{Gains}
 use Rattle.clnp_world.specs.declared.lines.Lines.{Lines}

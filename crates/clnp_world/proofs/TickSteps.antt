@@ -16,7 +16,7 @@ use Rattle.clnp_base.proofs.Lists.{AllByRecursion-implies, AllByRecursion-slice_
 use Rattle.clnp_base.proofs.ListSteps.{all_set, all_take_set}
 use Rattle.clnp_world.proofs.EachSteps.{each_length}
 use Rattle.clnp_world.proofs.ModelSteps.{tick_at, tick_each-more, systems-put_all_out, clock-put_all_out, step_moment}
-use Rattle.clnp_world.proofs.PutSteps.{puts_nothing, puts_then}
+use Rattle.clnp_world.proofs.PutSteps.{puts_then}
 use Rattle.clnp_world.proofs.TakeSteps.{is_there}
 
 -- the clock goes on
@@ -75,10 +75,6 @@ pub record Ticked (code : Network) (before after : Lines) (part : network.Step) 
 abbrev pub TicksTo : Network → Network → Lines → Lines → ℕ → Type 0
 TicksTo start code before after place =
     (model : network.World) → Shows start model → IsBehind model → Ticked code before after (network.tick_each model (range_with_len 0 place)) place
-
-pub ticks_none : (code : Network) (lines : Lines) → TicksTo code code lines lines 0
-ticks_none code lines model h behind =
-    record { puts = puts_nothing code model lines h; are = record { behind = behind; current = tt } }
 
 pub ticks_more : (start mid code : Network) (before between after : Lines) (place : ℕ) → TicksTo start mid before between place
     → place < length mid.systems.items

@@ -1,8 +1,8 @@
 -- Octets that are an echo request.
-use Rattle.std.proofs.Common.{◌≡◌, ◌↔◌, ◌⊎◌, inl, inr, ⊎_elim, ℕ, ◌==◌, ◌&&◌, ◌||◌, Bool, true, false, IsTrue, if◌then◌else◌, length, List, [], ◌∷◌, ◌++◌, Option, Some, None, is_none, unwrap_or, refl, sym, ap, subst, ◌∙◌, append-nil, arith}
+use Rattle.std.proofs.Common.{◌≡◌, ◌↔◌, inl, inr, ⊎_elim, ℕ, ◌==◌, ◌&&◌, Bool, true, false, IsTrue, if◌then◌else◌, length, List, [], ◌∷◌, ◌++◌, Some, None, is_none, unwrap_or, refl, sym, ap, subst, ◌∙◌, append-nil, arith}
 use Rattle.std.specs.Bool.{Decides}
 use Rattle.std.specs.Str.{bytes_eq}
-use Rattle.std.proofs.lemmas.Bool.{eq-eqb, eqb-true}
+use Rattle.std.proofs.lemmas.Bool.{eq-eqb, eqb-true, or_cases, or_left, or_right}
 use Rattle.std.proofs.lemmas.Slice.Eq.{bytes_eq-Decides}
 use Rattle.hex.specs.Hex.{IsBytes}
 use Rattle.pdu_header.specs.declared.kind.Kind.TheVariants.{Dt, Er, Erp, Erq}
@@ -12,9 +12,7 @@ use Rattle.pdu_header.specs.Rules.{header_of, kind_of, octet, refusal, type_of}
 use Rattle.pdu_header.specs.Value.{PduValue}
 use Rattle.pdu_header.proofs.Frames.{front, is_front}
 use Rattle.echo.specs.Match.{AreRequest, Echoes, are_request, echoes}
-
-pub true_is_not_false : true ≡ false → ⊥
-true_is_not_false e = cc
+use Rattle.clnp_base.proofs.Choices.{none_is}
 
 -- the law that a frame is one PDU
 abbrev pub OneValue : Type 0
@@ -52,10 +50,6 @@ five true true false d e all = cc
 five true true true false e all = cc
 five true true true true false all = cc
 
-none_there : {A : Type 0} (o : Option A) → is_none o ≡ true → o ≡ None
-none_there None h = refl
-none_there (Some x) h = cc
-
 third : (er dt erq erp : Bool) → unwrap_or (if er then Some Er else (if dt then Some Dt else (if erq then Some Erq else (if erp then Some Erp else None)))) Dt ≡ Erq → erq ≡ true
 third true dt erq erp e = cc
 third false true erq erp e = cc
@@ -68,7 +62,7 @@ says request_data octets bytes t =
     let (at_protocol, at_rules, at_type, at_body, at_rest) = five (octet octets 1 == 0x81) (is_none (refusal octets)) (type_of (header_of octets) == 30)
     (bytes_eq (body_of octets) request_data) (bytes_eq (rest_of octets) []) t in
     is_request octets request_data (value_of (header_of octets) (body_of octets)) (rest_of octets)
-    (front octets bytes (eqb-true _ _ at_protocol) (none_there _ at_rules))
+    (front octets bytes (eqb-true _ _ at_protocol) (none_is _ at_rules))
     (ap (λ n. unwrap_or (kind_of n) Dt) (eqb-true (type_of (header_of octets)) 30 at_type))
     ((bytes_eq-Decides (body_of octets) request_data).0 at_body)
     ((bytes_eq-Decides (rest_of octets) []).0 at_rest)
@@ -87,21 +81,10 @@ said request_data octets r =
 pub test_of_request : (request_data octets : List ℕ) → IsBytes octets → (IsTrue (are_request request_data octets) ↔ AreRequest request_data octets)
 test_of_request request_data octets bytes = (says request_data octets bytes, said request_data octets)
 
-either : (a b : Bool) → (a || b) ≡ true → (a ≡ true) ⊎ (b ≡ true)
-either true b e = inl refl
-either false b e = inr e
-
-first_true : (a b : Bool) → a ≡ true → (a || b) ≡ true
-first_true a b e = rw e refl
-
-second_true : (a b : Bool) → b ≡ true → (a || b) ≡ true
-second_true true b e = refl
-second_true false b e = e
-
 pub test_of_reply : (request_data reply_data : List ℕ) → IsBytes reply_data → (IsTrue (echoes request_data reply_data) ↔ Echoes request_data reply_data)
 test_of_reply request_data reply_data bytes = (
-  λ t. ⊎_elim (λ same. inl ((bytes_eq-Decides reply_data request_data).0 same)) (λ r. inr (says request_data reply_data bytes r)) (either _ _ t),
-  λ p. ⊎_elim (λ same. first_true _ _ ((bytes_eq-Decides reply_data request_data).1 same)) (λ r. second_true _ _ (said request_data reply_data r)) p,
+  λ t. ⊎_elim (λ same. inl ((bytes_eq-Decides reply_data request_data).0 same)) (λ r. inr (says request_data reply_data bytes r)) (or_cases _ _ t),
+  λ p. ⊎_elim (λ same. or_left _ _ ((bytes_eq-Decides reply_data request_data).1 same)) (λ r. or_right _ _ (said request_data reply_data r)) p,
 )
 
 -- two tests of one fact are one test

@@ -1,7 +1,7 @@
 -- The reason for discard among options.
 use Rattle.std.proofs.Common.{◌≡◌, ◌≢◌, ℕ, ◌==◌, true, false, List, [], ◌∷◌, ◌++◌, length, get_or, All, AllPairs, Any, Contains, Option, Some, None, IsSome, unwrap_or, refl, sym, ◌∙◌, ap, subst, arith, rules, inl, inr, ◌⊎◌, ⊎_elim}
 use Rattle.std.specs.List.{list_any}
-use Rattle.std.proofs.lemmas.Bool.{cases_lt, eq-eqb}
+use Rattle.std.proofs.lemmas.Bool.{cases_lt, eq-eqb, true≢false}
 use Rattle.std.proofs.lemmas.List.{get_or_default}
 use Rattle.std.proofs.lemmas.Bool.Decides.{eqb_tells}
 use Rattle.std.proofs.lemmas.List.Folds.{list_any-from_Any}
@@ -17,6 +17,7 @@ use Rattle.pdu_header.specs.declared.kind.Kind.TheVariants.{Er}
 use Rattle.pdu_header.specs.Grammar.{is_report}
 use Rattle.error_reports.specs.Report.{reason_option}
 use Rattle.error_reports.specs.Told.{cause_in, place_in}
+use Rattle.std.proofs.lemmas.Option.{same_Some}
 
 -- the first option is of the code, or it isn't
 pub first : (option : Parameter) (others : List Parameter) (code : ℕ)
@@ -35,12 +36,6 @@ pub found : (options : List Parameter) (code : ℕ) → Any (λ option. option.c
 found options code any =
     picked options code (list_any-from_Any (λ option. option.code == code) options (any.0, any.1, any.2, any.3, eq-eqb _ _ any.4))
 
-true_is_not_false : true ≡ false → ⊥
-true_is_not_false e = cc
-
-some_same : {A : Type 0} {x y : A} → Some x ≡ Some y → x ≡ y
-some_same e = cc
-
 some_value : {A : Type 0} (o : Option A) → IsSome o → (x : A) × (o ≡ Some x)
 some_value None h = cc
 some_value (Some x) h = (x, refl)
@@ -57,7 +52,7 @@ unfolding value_of
 stands [] code value e = cc
 stands (option ∷ others) code value e =
     ⊎_elim
-    (λ same. head_stands option others code value same.0 (some_same (sym same.1 ∙ e)))
+    (λ same. head_stands option others code value same.0 (same_Some _ _ (sym same.1 ∙ e)))
     (λ other. Contains-append_right (option ∷ []) others (record { code = code; value = value }) (stands others code value (sym other.1 ∙ e)))
     (first option others code)
 
@@ -94,7 +89,7 @@ pub ends : (options rest others : List Parameter) (option : Parameter) → rest 
     → value_of reason options ≡ Some (get_or option.value 0 0 ∷ get_or option.value 1 0 ∷ [])
 ends options rest others option is coded form so_far =
     let here : value_of reason (option ∷ others) ≡ Some option.value =
-    ⊎_elim (λ same. same.1) (λ other. absurd (true_is_not_false (sym (eq-eqb option.code reason coded) ∙ other.0))) (first option others reason) in
+    ⊎_elim (λ same. same.1) (λ other. absurd (true≢false (sym (eq-eqb option.code reason coded) ∙ other.0))) (first option others reason) in
     sym so_far ∙ (ap (value_of reason) is ∙ (here ∙ ap Some (two option.value (form.reason_form coded))))
 
 -- an option of another code is passed over

@@ -9,14 +9,14 @@ use Rattle.esis_tables.specs.declared.fact.Place.{Place}
 use Rattle.esis_tables.specs.declared.fact.TableKind.TheVariants.{Is}
 use Rattle.clnp_plan.specs.declared.config.Role.TheVariants.{Host}
 use Rattle.clnp_plan.specs.declared.output.Output.{Output}
-use Rattle.clnp_machine.specs.Esis.{answers_new, esis_heard, follows, hears, is_silent, tells_new, tells_of_itself}
+use Rattle.clnp_machine.specs.Esis.{answers_new, esis_heard, follows, hears, tells_new, tells_of_itself}
 use Rattle.clnp_machine.specs.Given.{Appends}
 use Rattle.clnp_machine.specs.System as machine
 use Rattle.clnp_machine.specs.System.{Effect, SystemState, idles, then_does}
 use Rattle.esis_entity.specs.Does.{Does, Hears}
 use Rattle.esis_entity.specs.Stands.{Stands}
 use Rattle.esis_entity.specs.State.{EsisState}
-pub use Rattle.clnp_machine.proofs.Answering.{answers_itself}
+pub use Rattle.clnp_machine.proofs.Answering.{answers_itself, told_after}
 pub use Rattle.clnp_machine.proofs.Given.{appends_both, appends_none}
 
 pub does_then : (moment : ℕ) (middle entity : EsisState) (before mid after : List Output) (effect : Effect) (next : SystemState → Effect)
@@ -26,15 +26,8 @@ does_then moment middle entity before mid after effect next h k =
 
 -- ---- to tell of itself changes nothing
 
-told_same : (silent : Bool) (s : SystemState) (told : Effect) → told.after ≡ s → (if silent then idles s else told).after ≡ s
-told_same true s told same = refl
-told_same false s told same = same
-
-pub told_after : (s : SystemState) (place : Place) → (tells_of_itself s place.port place.snpa).after ≡ s
-told_after s place = told_same (is_silent s) s _ refl
-
 pub answered_after : (new : Bool) (s : SystemState) (place : Place) → (if new then tells_of_itself s place.port place.snpa else idles s).after ≡ s
-answered_after true s place = told_after s place
+answered_after true s place = told_after s place.port place.snpa
 answered_after false s place = refl
 
 -- ---- answers

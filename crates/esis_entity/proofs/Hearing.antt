@@ -1,8 +1,7 @@
 -- Addresses that are heard one after another.
-use Rattle.std.proofs.Common.{◌≡◌, ◌∙◌, refl, sym, ap, subst, ℕ, Bool, false, List, [], ◌∷◌, ◌++◌, append_assoc}
+use Rattle.std.proofs.Common.{◌≡◌, ◌∙◌, refl, sym, ap, ℕ, Bool, List, [], ◌∷◌, ◌++◌, append_assoc}
 use Rattle.std.specs.Prelude.{◌||◌}
 use Rattle.std.specs.List.{list_any}
-use Rattle.std.proofs.lemmas.List.{append-nil}
 use Rattle.std.proofs.lemmas.List.Folds.{list_any-append}
 use Rattle.esis_tables.specs.declared.fact.Place.{Place}
 use Rattle.esis_tables.specs.declared.fact.TableKind.TheVariants.{Es}
@@ -14,7 +13,7 @@ use Rattle.clnp_machine.specs.System.{Effect, SystemState}
 use Rattle.esis_entity.specs.Does.{Hears}
 use Rattle.esis_entity.specs.Stands.{Stands}
 use Rattle.esis_entity.specs.State.{EsisState}
-use Rattle.esis_entity.proofs.Effects.{appends_none, appends_both}
+use Rattle.esis_entity.proofs.Effects.{appends_both}
 
 -- what was heard so far, and is left to be heard, is the whole
 pub record HeardSoFar (moment : ℕ) (entity : EsisState) (before after : List Output) (new : Bool) (place : Place) (hold : ℕ) (left : List (List ℕ))
@@ -27,20 +26,6 @@ pub record HeardSoFar (moment : ℕ) (entity : EsisState) (before after : List O
   pub new_is : new ≡ list_any tells_new done
   pub after_is : whole.after ≡ (hears_each state left place hold).after
   pub outputs_are : whole.outputs ≡ done ++ (hears_each state left place hold).outputs
-
-pub none_heard : (moment : ℕ) (entity : EsisState) (list : List Output) (place : Place) (hold : ℕ) (left : List (List ℕ)) (s : SystemState) → Stands entity s
-    → s.moment ≡ moment → HeardSoFar moment entity list list false place hold left (hears_each s left place hold)
-none_heard moment entity list place hold left s stands at =
-    record {
-      state = s;
-      done = [];
-      stands = stands;
-      moment_is = at;
-      appends = appends_none moment list list refl;
-      new_is = refl;
-      after_is = refl;
-      outputs_are = refl;
-    }
 
 pub one_heard : (moment : ℕ) (entity later : EsisState) (before mid after : List Output) (new one : Bool) (place : Place) (hold : ℕ) (address : List ℕ)
     (left : List (List ℕ)) (whole : Effect) → HeardSoFar moment entity before mid new place hold (address ∷ left) whole
@@ -60,20 +45,6 @@ one_heard moment entity later before mid after new one place hold address left w
           ∙ sym (list_any-append tells_new h.done heard.outputs);
       after_is = h.after_is;
       outputs_are = h.outputs_are ∙ sym (append_assoc h.done heard.outputs (hears_each heard.after left place hold).outputs);
-    }
-
-pub all_heard : (moment : ℕ) (entity : EsisState) (before after : List Output) (new : Bool) (place : Place) (hold : ℕ) (left : List (List ℕ)) (whole : Effect)
-    → left ≡ [] → HeardSoFar moment entity before after new place hold left whole → Hears moment entity before after new whole
-all_heard moment entity before after new place hold left whole none h =
-    let after_is : whole.after ≡ h.state = h.after_is ∙ ap (λ (list : List (List ℕ)). (hears_each h.state list place hold).after) none in
-    let outputs : whole.outputs ≡ h.done =
-    h.outputs_are ∙ ap (λ (list : List (List ℕ)). h.done ++ (hears_each h.state list place hold).outputs) none ∙ append-nil h.done in
-    record {
-      does = record {
-        stands = subst (λ (s : SystemState). Stands entity s) (sym after_is) h.stands;
-        appends = subst (λ (list : List machine.Output). Appends moment before after list) (sym outputs) h.appends;
-      };
-      new_is = h.new_is ∙ ap (list_any tells_new) (sym outputs);
     }
 
 -- to hear changes neither configuration nor moment

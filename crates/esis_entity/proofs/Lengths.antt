@@ -1,31 +1,21 @@
 -- How long an end system hello gets.
-use Rattle.std.proofs.Common.{◌≡◌, refl, ap, ℕ, zero, suc, ◌*◌, ◌<◌, ◌≤◌, List, [], ◌∷◌, ◌++◌, length, get_or, arith, length-append}
+use Rattle.std.proofs.Common.{ℕ, zero, suc, ◌*◌, ◌<◌, ◌≤◌, List, [], ◌∷◌, length, get_or, arith, length-append}
 use Rattle.clnp_options.specs.Grammar.{joined}
 use Rattle.clnp_options.specs.Parameter.{spelled}
 use Rattle.esis_pdus.specs.Making.{esh_length}
 
-spelled-nil : spelled [] ≡ []
-unfolding spelled
-spelled-nil = refl
-
-joined-nil : joined [] ≡ []
-unfolding joined
-joined-nil = refl
-
-joined-cons : (a : List ℕ) (others : List (List ℕ)) → joined (a ∷ others) ≡ (length a ∷ a) ++ joined others
-unfolding joined
-joined-cons a others = refl
-
 joined_few : (list : List (List ℕ)) → ((k : ℕ) (d : List ℕ) → k < length list → length (get_or list k d) ≤ 20) → length (joined list) ≤ 21 * length list
-joined_few [] few = omega (arith, ap length joined-nil)
+unfolding joined
+joined_few [] few = omega arith
 joined_few (a ∷ others) few =
     let first : length a ≤ 20 = few zero [] (omega arith) in
     let more : length (joined others) ≤ 21 * length others = joined_few others (λ k d within. few (suc k) d (omega arith)) in
-    omega (arith, first, more, ap length (joined-cons a others), length-append (length a ∷ a) (joined others))
+    omega (arith, first, more, length-append (length a ∷ a) (joined others))
 
 -- eight addresses fit
 pub few_fit : (list : List (List ℕ)) (i : ℕ) → ((k : ℕ) (d : List ℕ) → k < i → length (get_or list k d) ≤ 20) → length list ≤ i → length list ≤ 8
     → esh_length list ≤ 254
+unfolding spelled
 few_fit list i few all eight =
     let most : length (joined list) ≤ 21 * length list = joined_few list (λ k d within. few k d (omega arith)) in
-    omega (arith, most, length-append (length list ∷ joined list) (spelled []), ap length spelled-nil)
+    omega (arith, most, length-append (length list ∷ joined list) (spelled []))

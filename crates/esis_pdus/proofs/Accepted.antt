@@ -4,7 +4,7 @@ use Rattle.std.specs.Prelude.{nat_lt, option_map}
 use Rattle.std.specs.Option.{option_or}
 use Rattle.std.proofs.lemmas.Bool.{not-false, not_from_true, eqb-true, eq-eqb}
 use Rattle.std.proofs.lemmas.Bool.Decides.{nat_tests}
-use Rattle.clnp_base.proofs.Choices.{option_or-parts, option_or-none, not_below, below_not}
+use Rattle.clnp_base.proofs.Choices.{option_or-parts, option_or-none, not_below, below_not, not_picked}
 use Rattle.fletcher.specs.Checksum.{octet}
 use Rattle.clnp_options.specs.Parameter.{parameters}
 use Rattle.clnp_options.specs.Rules.{place_of_unfit}
@@ -35,10 +35,6 @@ passed number (Some p) others h = cc
 pub passing : (number : ℕ) (here : Option ℕ) (others : Option EsisRefusal) → here ≡ None → others ≡ None → option_or (option_map (λ p. Broken number p) here) others ≡ None
 passing number here others e h = rw e h
 
-pub test_passed : (b : Bool) (place : ℕ) → (if b then Some place else None) ≡ None → b ≡ false
-test_passed true place h = cc
-test_passed false place h = refl
-
 pub test_passing : (b : Bool) (place : ℕ) → b ≡ false → (if b then Some place else None) ≡ None
 test_passing b place e = rw e refl
 
@@ -57,13 +53,13 @@ accepted head h =
     let e11 = passed 11 _ _ others.1 in
     let e12 = passed 12 _ _ e11.1 in
     record {
-      version = eqb-true _ _ (not-false _ (test_passed _ _ e4.0));
-      reserved = eqb-true _ _ (not-false _ (test_passed _ _ e5.0));
-      type = not-false _ (test_passed _ _ e6.0);
-      checksum = not-false _ (test_passed _ _ e7.0);
-      esh = test_passed _ _ e8.0;
-      ish = test_passed _ _ e9.0;
-      rd = test_passed _ _ e10.0;
+      version = eqb-true _ _ (not-false _ (not_picked _ _ e4.0));
+      reserved = eqb-true _ _ (not-false _ (not_picked _ _ e5.0));
+      type = not-false _ (not_picked _ _ e6.0);
+      checksum = not-false _ (not_picked _ _ e7.0);
+      esh = not_picked _ _ e8.0;
+      ish = not_picked _ _ e9.0;
+      rd = not_picked _ _ e10.0;
       fill = e11.0;
       timer = e12.0;
     }
@@ -89,12 +85,12 @@ has_header frame h =
     let e1 = passed 1 _ _ h in
     let e2 = passed 2 _ _ e1.1 in
     let e3 = passed 3 _ _ e2.1 in
-    let size = good_size _ (test_passed _ _ e2.0) in
+    let size = good_size _ (not_picked _ _ e2.0) in
     record {
-      long = not_below _ _ (test_passed _ _ e1.0);
+      long = not_below _ _ (not_picked _ _ e1.0);
       size = size.0;
       not_reserved = size.1;
-      within = not_below _ _ (test_passed _ _ e3.0);
+      within = not_below _ _ (not_picked _ _ e3.0);
     }
 
 pub header_here : (frame : List ℕ) → HasHeader frame → first_broken frame_rules frame ≡ None

@@ -15,9 +15,10 @@ use Rattle.esis_pdus.specs.Spelling.{type_code, title_octets, body_octets}
 use Rattle.esis_pdus.specs.Grammar.{IsTitleOrNone, HasAddresses, FitsTimer}
 use Rattle.esis_pdus.specs.Rules.{variable_part, is_esh, is_ish, is_rd, is_redirection, options_part, options_place}
 use Rattle.esis_pdus.specs.Reading.{title_of, redirection, body_of}
-use Rattle.esis_pdus.proofs.FieldFacts.{is_field_split, addresses_split, address_is, bytes_of_drop, bytes_of_field, bytes_of_behind, field_of_counted, behind_counted, is_field_counted, reads}
+use Rattle.esis_pdus.proofs.FieldFacts.{is_field_split, addresses_split, address_is, bytes_of_field, bytes_of_behind, field_of_counted, behind_counted, is_field_counted, reads}
 use Rattle.esis_pdus.proofs.Options.{is_once, once_from, nothing_wrong}
 use Rattle.esis_pdus.proofs.Accepted.{IsAccepted}
+use Rattle.clnp_base.proofs.ListSteps.{bytes_of_drop}
 
 -- ---- written again
 

@@ -2,9 +2,8 @@
 use Rattle.std.proofs.Common.{◌≡◌, ◌≢◌, ◌∙◌, refl, sym, ap, subst, ℕ, zero, suc, ◌+◌, ◌-◌, ◌<◌, ◌≤◌, ◌&&◌, Bool, true, false, List, [], ◌∷◌, ◌++◌, length, take, drop, get_or, arith, append_assoc, length-append, take-append-drop}
 use Rattle.std.specs.Prelude.{All, nat_le, Ok, Err}
 use Rattle.std.proofs.lemmas.Bool.{and_parts, and_from}
-use Rattle.std.proofs.lemmas.Grind.{common_steps}
 use Rattle.std.proofs.lemmas.Bool.Decides.{nat_tests}
-use Rattle.std.proofs.lemmas.List.{take_at, drop_at, length-take-le, append-nil, length-drop, take_all, take_more}
+use Rattle.std.proofs.lemmas.List.{take_at, drop_at, length-take-le, append-nil, length-drop, take_more}
 use Rattle.std.proofs.lemmas.List.Elements.{All-nil, All-cons, All-head, All-tail, All-append}
 use Rattle.fletcher.specs.Checksum.{octet}
 use Rattle.nsap.specs.Address.{IsAddress, address_of}
@@ -14,14 +13,10 @@ use Rattle.clnp_options.specs.Grammar.{joined}
 use Rattle.pdu_header.specs.Spelling.{counted}
 use Rattle.esis_pdus.specs.Fields.{is_field, field, behind, are_addresses, addresses, behind_addresses, address_list, behind_address_list}
 use Rattle.esis_pdus.specs.Filled.{IsFilled}
+use Rattle.clnp_base.proofs.ListSteps.{bytes_of_drop, bytes_of_take}
+pub use Rattle.clnp_options.proofs.Titles.{joined-append, joined-nil}
 
 -- ---- octets
-
-pub bytes_of_drop : (xs : List ℕ) (n : ℕ) → IsBytes xs → IsBytes (drop n xs)
-bytes_of_drop xs n h = λ i. grind (arith, common_steps, h (n + i))
-
-pub bytes_of_take : (xs : List ℕ) (n : ℕ) → IsBytes xs → IsBytes (take n xs)
-bytes_of_take xs n h = λ i. grind (arith, common_steps, h i)
 
 pub bytes_of_field : (octets : List ℕ) → IsBytes octets → IsBytes (field octets)
 bytes_of_field octets h = bytes_of_take (drop 1 octets) (octet octets 1) (bytes_of_drop octets 1 h)
@@ -97,14 +92,6 @@ is_field_split least (size ∷ rest) h =
     }
 
 -- ---- lists of addresses
-
-pub joined-nil : joined [] ≡ []
-unfolding joined
-joined-nil = refl
-
-pub joined-cons : (a : List ℕ) (others : List (List ℕ)) → joined (a ∷ others) ≡ counted a ++ joined others
-unfolding joined
-joined-cons a others = refl
 
 -- these addresses stand at the front of the octets, and the rest follows
 pub record Reads (list : List (List ℕ)) (octets rest : List ℕ) : Type 0 where
@@ -300,9 +287,6 @@ cut_list size part all front others e bytes h sum f o =
       others_are = cut.others_are ∙ ap (λ (t : List ℕ). behind_addresses (octet part 1) t) e;
     }
 
-pub all_behind : (k : ℕ) (part : List ℕ) → take (length part - k) (drop k part) ≡ drop k part
-all_behind k part = take_all (length part - k) (drop k part) (omega (arith, length-drop k part))
-
 -- ---- the octets of a list of addresses that is given
 
 pub filled_count : (left : ℕ) (octets : List ℕ) (list : List (List ℕ)) → IsFilled left octets → addresses left octets ≡ list → left ≡ length list
@@ -310,11 +294,6 @@ filled_count left octets list h e = sym (addresses_split left octets h.bytes h.w
 
 pub filled_octets : (left : ℕ) (octets : List ℕ) (list : List (List ℕ)) → IsFilled left octets → addresses left octets ≡ list → octets ≡ joined list
 filled_octets left octets list h e = filled_is left octets h ∙ ap joined e
-
-pub joined-append : (xs ys : List (List ℕ)) → joined (xs ++ ys) ≡ joined xs ++ joined ys
-unfolding joined
-joined-append [] ys = refl
-joined-append (x ∷ xs) ys = ap (λ (t : List ℕ). counted x ++ t) (joined-append xs ys) ∙ sym (append_assoc (counted x) (joined xs) (joined ys))
 
 pub joined-one : (a : List ℕ) → joined (a ∷ []) ≡ counted a
 unfolding joined

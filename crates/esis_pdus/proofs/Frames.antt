@@ -17,11 +17,11 @@ use Rattle.esis_pdus.specs.Spelling.{type_code, body_octets, header_length, unse
 use Rattle.esis_pdus.specs.Grammar.{IsPdu, Spells, FitsTimer, BeginsWith}
 use Rattle.esis_pdus.specs.Rules.{variable_part, options_part, options_place, header_refusal, refusal}
 use Rattle.esis_pdus.specs.Reading.{body_of, value_of, rest_of}
-use Rattle.esis_pdus.proofs.FieldFacts.{bytes_of_take}
-use Rattle.esis_pdus.proofs.Options.{options_again, options_read, options_fill}
+use Rattle.esis_pdus.proofs.Options.{options_again, parameters-Forms, options_fill}
 use Rattle.esis_pdus.proofs.Accepted.{IsAccepted, accepted, accepting, has_header, header_here}
 use Rattle.esis_pdus.proofs.Bodies.{has_body, reads_body}
 use Rattle.esis_pdus.proofs.Shape.{nine_bare, same_layout, sealing_again, bare_again, sealed_layout, pair_is_zero, pair_is_used, pair_again, pair_of_octets, right_from_test, unused_passes, sealed_passes, HasHeader, length_of_header, octet_of_header, sealed_is}
+use Rattle.clnp_base.proofs.ListSteps.{bytes_of_take}
 
 -- ---- what is spelled breaks no rule, and is read again
 
@@ -83,9 +83,9 @@ read_as v pdu =
     let at_7 : octet head 7 ≡ low = ap (λ (xs : List ℕ). get_or xs 6 0) l.layout in
     let size : length head ≡ header_length v = ap length l.layout ∙ omega arith in
     let body = reads_body head v.body (spelled v.options) (ap (λ (xs : List ℕ). get_or xs 4 0) l.layout) (ap (λ (xs : List ℕ). drop 9 xs) l.layout) pdu.addresses in
-    let options_are : parameters (options_part head) ≡ v.options = options_read (options_part head) v.options body.options_are in
+    let options_are : parameters (options_part head) ≡ v.options = parameters-Forms v.options (options_part head) body.options_are in
     let P : List Parameter → Type 0 = λ os. FitsTimer v.body os in
-    let timer : FitsTimer v.body (parameters (spelled v.options)) = subst P (sym (options_read (spelled v.options) v.options refl)) pdu.timer in
+    let timer : FitsTimer v.body (parameters (spelled v.options)) = subst P (sym (parameters-Forms v.options (spelled v.options) refl)) pdu.timer in
     record {
       protocol = ap (λ (xs : List ℕ). get_or xs 0 0) l.layout;
       size = ap (λ (xs : List ℕ). get_or xs 1 0) l.layout ∙ sym size;

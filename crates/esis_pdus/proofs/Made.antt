@@ -17,10 +17,7 @@ use Rattle.esis_pdus.specs.Rules.{refusal}
 use Rattle.esis_pdus.specs.Making.{value, timer_options, esh_length}
 use Rattle.esis_pdus.proofs.Frames.{is_front}
 use Rattle.esis_pdus.proofs.Bodies.{title_few}
-
-pub spelled-nil : spelled [] ≡ []
-unfolding spelled
-spelled-nil = refl
+use Rattle.esis_pdus.proofs.Options.{spelled-nil}
 
 pub spelled_timer : (seconds : ℕ) → spelled (timer_options (Some seconds)) ≡ timer ∷ 2 ∷ pair_of seconds
 unfolding spelled

@@ -1,15 +1,17 @@
 -- Options that fill a part, and the timer among them.
-use Rattle.std.proofs.Common.{◌≡◌, ◌≢◌, ◌∙◌, inl, inr, refl, sym, ap, ℕ, zero, suc, ◌+◌, ◌==◌, Bool, true, false, List, [], ◌∷◌, ◌++◌, length, None, arith, length-append}
-use Rattle.std.specs.Prelude.{All, AllPairs}
+use Rattle.std.proofs.Common.{◌≡◌, ◌≢◌, ◌∙◌, inl, inr, refl, sym, ap, ℕ, ◌+◌, ◌==◌, Bool, true, false, List, [], ◌∷◌, ◌++◌, length, None, arith, length-append}
+use Rattle.std.specs.Prelude.{All}
 use Rattle.std.proofs.lemmas.Bool.{cases_eq, eq-eqb, ne_eqb, eqb-true}
 use Rattle.std.proofs.lemmas.List.{append-nil, nil_from_length}
 use Rattle.std.proofs.lemmas.List.Elements.{All-nil, All-cons, All-head, All-tail}
 use Rattle.clnp_options.specs.Parameter.{Parameter, parameters, spelled, size_of}
 use Rattle.clnp_options.specs.Rules.{place_of_unfit}
-use Rattle.clnp_options.proofs.Parts.{split_of, parameters-of_spelled}
+pub use Rattle.clnp_options.proofs.Parts.{split_of, parameters-of_spelled, parameters-Forms, spelled-nil}
 use Rattle.esis_pdus.specs.Timer.{timer, place_of_wrong_timer}
 use Rattle.esis_pdus.specs.Grammar.{HasOneTimer}
 use Rattle.esis_pdus.proofs.Timers.{timer_here, other_here, wrong_here}
+use Rattle.clnp_base.proofs.Lists.{pairs_first, pairs_others}
+use Rattle.std.proofs.lemmas.List.Kept.{AllPairs-cons}
 
 -- ---- options that fill a part
 
@@ -24,12 +26,9 @@ options_again first part h =
     by_test true e = eqb-true _ _ e
     by_test false e = let k = rw e at h in cc
 
-pub options_read : (part : List ℕ) (options : List Parameter) → part ≡ spelled options → parameters part ≡ options
-options_read part options e = ap parameters e ∙ parameters-of_spelled options
-
 pub options_fill : (first : ℕ) (part : List ℕ) (options : List Parameter) → part ≡ spelled options → place_of_unfit first part ≡ None
 options_fill first part options e =
-    let same : length (spelled (parameters part)) ≡ length part = ap (λ (os : List Parameter). length (spelled os)) (options_read part options e) ∙ ap length (sym e) in
+    let same : length (spelled (parameters part)) ≡ length part = ap (λ (os : List Parameter). length (spelled os)) (parameters-Forms options part e) ∙ ap length (sym e) in
     rw (eq-eqb _ _ same) refl
 
 -- ---- the timer
@@ -42,18 +41,6 @@ NotBoth a b = a.code ≡ timer → b.code ≡ timer → ⊥
 
 abbrev pub IsNoTimer : Parameter → Type 0
 IsNoTimer o = o.code ≢ timer
-
-pairs_cons : (o : Parameter) (os : List Parameter) → All (NotBoth o) os → AllPairs NotBoth os → AllPairs NotBoth (o ∷ os)
-pairs_cons o os h k zero zero d lt within = absurd (omega arith)
-pairs_cons o os h k zero (suc j) d lt within = h j d (omega arith)
-pairs_cons o os h k (suc i) zero d lt within = absurd (omega arith)
-pairs_cons o os h k (suc i) (suc j) d lt within = k i j d (omega arith) (omega arith)
-
-pairs_first : (o : Parameter) (os : List Parameter) → AllPairs NotBoth (o ∷ os) → All (NotBoth o) os
-pairs_first o os h k d within = h zero (suc k) d (omega arith) (omega arith)
-
-pairs_others : (o : Parameter) (os : List Parameter) → AllPairs NotBoth (o ∷ os) → AllPairs NotBoth os
-pairs_others o os h i j d lt within = h (suc i) (suc j) d (omega arith) (omega arith)
 
 -- what a walk that found nothing wrong says, behind a timer or before one
 pub record IsOnce (seen : Bool) (options : List Parameter) : Type 0 where
@@ -76,7 +63,7 @@ is_once true place (o ∷ os) h =
           record {
             timer = record {
               two_octets = All-cons IsTwoOctets o os (λ e. absurd (n e)) r.timer.two_octets;
-              once = pairs_cons o os (λ k d within e f. n e) r.timer.once;
+              once = AllPairs-cons NotBoth o os (λ k d within e f. n e) r.timer.once;
             };
             none_more = λ e. All-cons IsNoTimer o os n (r.none_more e);
           }
@@ -90,7 +77,7 @@ is_once false place (o ∷ os) h =
                 record {
                   timer = record {
                     two_octets = All-cons IsTwoOctets o os (λ _. two) r.timer.two_octets;
-                    once = pairs_cons o os (weaker o os (r.none_more refl)) r.timer.once;
+                    once = AllPairs-cons NotBoth o os (weaker o os (r.none_more refl)) r.timer.once;
                   };
                   none_more = λ e. cc;
                 }
@@ -101,7 +88,7 @@ is_once false place (o ∷ os) h =
           record {
             timer = record {
               two_octets = All-cons IsTwoOctets o os (λ e. absurd (n e)) r.timer.two_octets;
-              once = pairs_cons o os (λ k d within e f. n e) r.timer.once;
+              once = AllPairs-cons NotBoth o os (λ k d within e f. n e) r.timer.once;
             };
             none_more = λ e. cc;
           }
@@ -117,7 +104,7 @@ nothing_wrong true place (o ∷ os) h =
     let n = All-head IsNoTimer o os (h.none_more refl) in
     other_here o os true place n
     ∙ nothing_wrong true (place + size_of o) os (record {
-      timer = record { two_octets = All-tail IsTwoOctets o os h.timer.two_octets; once = pairs_others o os h.timer.once };
+      timer = record { two_octets = All-tail IsTwoOctets o os h.timer.two_octets; once = pairs_others NotBoth o os h.timer.once };
       none_more = λ e. All-tail IsNoTimer o os (h.none_more e);
     })
 nothing_wrong false place (o ∷ os) h =
@@ -125,13 +112,13 @@ nothing_wrong false place (o ∷ os) h =
       | inl e ↦
           timer_here o os place e (All-head IsTwoOctets o os h.timer.two_octets e)
           ∙ nothing_wrong true (place + size_of o) os (record {
-            timer = record { two_octets = All-tail IsTwoOctets o os h.timer.two_octets; once = pairs_others o os h.timer.once };
-            none_more = λ _. none_behind o os e (pairs_first o os h.timer.once);
+            timer = record { two_octets = All-tail IsTwoOctets o os h.timer.two_octets; once = pairs_others NotBoth o os h.timer.once };
+            none_more = λ _. none_behind o os e (pairs_first NotBoth o os h.timer.once);
           })
       | inr n ↦
           other_here o os false place n
           ∙ nothing_wrong false (place + size_of o) os (record {
-            timer = record { two_octets = All-tail IsTwoOctets o os h.timer.two_octets; once = pairs_others o os h.timer.once };
+            timer = record { two_octets = All-tail IsTwoOctets o os h.timer.two_octets; once = pairs_others NotBoth o os h.timer.once };
             none_more = λ e. cc;
           })
     ]

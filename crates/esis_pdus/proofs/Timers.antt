@@ -5,6 +5,7 @@ use Rattle.std.proofs.lemmas.Bool.{eq-eqb, ne_eqb}
 use Rattle.clnp_options.specs.Parameter.{Parameter, parameters, size_of}
 use Rattle.pdu_header.specs.Rules.{pair_at}
 use Rattle.esis_pdus.specs.Timer.{place_of_wrong_timer, seconds_of}
+use Rattle.clnp_base.proofs.Choices.{or_false, option_or-nothing}
 
 pub nil_place : (seen : Bool) (place : ℕ) → place_of_wrong_timer seen place [] ≡ None
 unfolding place_of_wrong_timer
@@ -27,10 +28,6 @@ wrong_here o os seen place e w = rw (eq-eqb o.code 0xc6 e, w) refl
 pub timer_here : (o : Parameter) (os : List Parameter) (place : ℕ) → o.code ≡ 0xc6 → length o.value ≡ 2 → place_of_wrong_timer false place (o ∷ os) ≡ place_of_wrong_timer true (place + size_of o) os
 unfolding place_of_wrong_timer
 timer_here o os place e two = rw (eq-eqb o.code 0xc6 e, eq-eqb (length o.value) 2 two) refl
-
-or_false : (b : Bool) → (b || false) ≡ b
-or_false true = refl
-or_false false = refl
 
 pub other_here : (o : Parameter) (os : List Parameter) (seen : Bool) (place : ℕ) → o.code ≢ 0xc6 → place_of_wrong_timer seen place (o ∷ os) ≡ place_of_wrong_timer seen (place + size_of o) os
 unfolding place_of_wrong_timer
@@ -88,10 +85,6 @@ other_at seconds place code value rest others options first h size e at = record
       ∙ h.seconds_are;
 }
 
-or_none : (seconds : Option ℕ) → option_or seconds None ≡ seconds
-or_none None = refl
-or_none (Some n) = refl
-
 pub end_place : (seconds : Option ℕ) (place : ℕ) (rest options : List ℕ) (first : ℕ)
     → IsSoFar seconds place rest first options → parameters rest ≡ [] → place_of_wrong_timer false first (parameters options) ≡ None
 end_place seconds place rest options first h e =
@@ -100,6 +93,6 @@ end_place seconds place rest options first h e =
 pub end_seconds : (seconds : Option ℕ) (place : ℕ) (rest options : List ℕ) (first : ℕ)
     → IsSoFar seconds place rest first options → parameters rest ≡ [] → seconds ≡ seconds_of (parameters options)
 end_seconds seconds place rest options first h e =
-    sym (or_none seconds)
+    sym (option_or-nothing seconds)
     ∙ ap (λ (s : Option ℕ). option_or seconds s) (sym (ap (λ (os : List Parameter). seconds_of os) e ∙ nil_seconds))
     ∙ h.seconds_are

@@ -16,8 +16,10 @@ use Rattle.esis_tables.specs.Stands.{KeepsCurrent}
 use Rattle.esis_tables.specs.State.{TableState}
 use Rattle.esis_tables.proofs.Histories.{distinct-latest, find_latest, latest-elsewhere, latest-there}
 use Rattle.esis_tables.proofs.Ranks.{distinct-key}
-use Rattle.esis_tables.proofs.Rising.{all_filter, all_weaker, filter_all, filter_none}
+use Rattle.esis_tables.proofs.Rising.{all_filter, filter_all, filter_none}
 use Rattle.esis_tables.proofs.Sorting.{length-sorted}
+use Rattle.clnp_base.proofs.Lists.{AllByRecursion-push, AllByRecursion-implies}
+use Rattle.clnp_base.proofs.Found.{is_some-find}
 
 pub same_table-itself : (table : TableKind) → same_table table table ≡ true
 same_table-itself Es = refl
@@ -93,14 +95,6 @@ find_filter now key (fact ∷ later) distinct =
     passed true f step = cond-false (has_key key fact) (Some fact) (find (has_key key) (filter (is_held now) later)) f ∙ step
     passed false f step = step
 
-any_found : (p : Fact → Bool) (facts : List Fact) → list_any p facts ≡ is_some (find p facts)
-any_found p [] = refl
-any_found p (fact ∷ later) =
-    elim (cases_Bool (p fact)) [
-      | inl t ↦ rw t refl
-      | inr f ↦ rw f (any_found p later)
-    ]
-
 -- all of them hold
 abbrev pub AllHold : ℕ → List Fact → Type 0
 AllHold now facts = AllByRecursion (λ fact. is_held now fact ≡ true) facts
@@ -126,7 +120,7 @@ all_hold now facts none = none_passes now facts (empty_from (filter (λ fact. no
 pub none_ended : (now : ℕ) (facts : List Fact) → AllHold now facts → [] ≡ ended_keys now facts
 none_ended now facts all =
     sym (ap (λ l. in_order (λ key. key) (map key_of l))
-    (filter_none (λ fact. not (is_held now fact)) facts (all_weaker (λ fact. is_held now fact ≡ true) (λ fact. not (is_held now fact) ≡ false) (λ fact e. ap not e) facts all)))
+    (filter_none (λ fact. not (is_held now fact)) facts (AllByRecursion-implies (λ fact. is_held now fact ≡ true) (λ fact. not (is_held now fact) ≡ false) (λ fact e. ap not e) facts all)))
 
 module _ (table : TableKind) (state : TableState) (facts : List Fact) where
   -- the kept fact of a key, while it is held, is the current one
@@ -181,10 +175,6 @@ answer_with : ℕ → Fact → Bool → ℕ → Heard
 answer_with limit fact known entries =
     if fact.holding == 0 then Zero else if known then Again else if nat_le limit entries then Full entries else New
 
-all_push : (now : ℕ) (kept : List Fact) (fact : Fact) → AllHold now kept → is_held now fact ≡ true → AllHold now (kept ++ fact ∷ [])
-all_push now [] fact all here = (here, tt)
-all_push now (first ∷ later) fact all here = (all.0, all_push now later fact all.1 here)
-
 -- a hearing of this table
 module _ (state : TableState) (limits : EsisLimits) (fact : Fact) (facts : List Fact) (same : same_table fact.table fact.table ≡ true)
     (limit : state.limit ≡ limit_of fact.table limits) (keeps : KeepsCurrent fact.table state facts fact.moment []) where
@@ -193,7 +183,7 @@ module _ (state : TableState) (limits : EsisLimits) (fact : Fact) (facts : List 
 
   known_is : list_any (has_key fact.key) keeps.kept ≡ is_some (current fact.moment fact.table fact.key facts)
   known_is =
-      any_found (has_key fact.key) keeps.kept
+      sym (is_some-find (has_key fact.key) keeps.kept)
       ∙ ap is_some (ap (find (has_key fact.key)) (sym (filter_all (is_held fact.moment) keeps.kept hold))
       ∙ find_filter fact.moment fact.key keeps.kept keeps.keeps.distinct
       ∙ current_is fact.table state facts fact.moment fact.moment [] keeps fact.key (omega arith))
@@ -231,7 +221,7 @@ module _ (state : TableState) (limits : EsisLimits) (fact : Fact) (facts : List 
       let holds : fact.moment < end_of fact = omega (arith, eqb-false fact.holding 0 lasts) in
       let held : is_held fact.moment fact ≡ true = lt-ltb fact.moment (end_of fact) holds in
       record {
-        all = all_push fact.moment (without fact.key keeps.kept) fact
+        all = AllByRecursion-push (λ other. is_held fact.moment other ≡ true) (without fact.key keeps.kept) fact
             (all_filter (λ other. is_held fact.moment other ≡ true) (λ other. not (has_key fact.key other)) keeps.kept hold) held;
         is = ap (λ l. without fact.key l ++ fact ∷ []) (kept_is fact.table state facts fact.moment keeps)
             ∙ ap (λ b. without fact.key (currents fact.moment fact.table facts) ++ cond b (fact ∷ []) []) (sym held)

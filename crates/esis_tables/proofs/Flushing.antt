@@ -1,7 +1,7 @@
 -- The first entry whose time has ended.
 use Rattle.std.proofs.Common.{◌≡◌, ℕ, zero, suc, ◌+◌, ◌<◌, Bool, true, false, cond, not, List, [], ◌∷◌, None, Some, refl, sym, ap, subst, ◌∙◌, inl, inr, arith, length, map, slice_get, remove}
 use Rattle.std.proofs.lemmas.Bool.{cases_Bool, not-true}
-use Rattle.std.proofs.lemmas.Option.{slice_get_within}
+use Rattle.std.proofs.lemmas.Option.{slice_get_within, same_Some}
 use Rattle.std.specs.List.{filter, find, position_from}
 use Rattle.esis_tables.specs.declared.table.Entry.{Entry}
 use Rattle.esis_tables.specs.Fact.{Fact, has_key, is_held}
@@ -25,15 +25,12 @@ pub record IsFirst {X : Type 0} (p : X → Bool) (start : ℕ) (xs : List X) (fo
   pub passes : p item ≡ true
   pub rest : filter p xs ≡ item ∷ filter p (remove xs place)
 
-some_number : {a b : ℕ} → Some a ≡ Some b → a ≡ b
-some_number h = cc
-
 pub first_found : {X : Type 0} (p : X → Bool) (start : ℕ) (xs : List X) (found : ℕ) → position_from p start xs ≡ Some found → IsFirst p start xs found
 first_found p start [] found h = absurd (cc)
 first_found p start (x ∷ xs) found h =
     elim (cases_Bool (p x)) [
       | inl t ↦
-          let here : start ≡ found = some_number (rw t at h) in
+          let here : start ≡ found = same_Some _ _ (rw t at h) in
           record {
             place = zero;
             counted = omega arith;
@@ -113,16 +110,13 @@ module _ (now : ℕ) (table new : TableState) (kept : List Fact) (keeps : Keeps 
       let place : first.place ≡ at = omega (arith, first.counted) in
       let rest : filter (has_ended now) table.entries ≡ first.item ∷ filter (has_ended now) (remove table.entries at) =
       first.rest ∙ ap (λ n. first.item ∷ filter (has_ended now) (remove table.entries n)) place in
-      let item : first.item ≡ entry = same_item (sym first.stands_at ∙ ap (slice_get table.entries) place ∙ there) in
+      let item : first.item ≡ entry = same_Some _ _ (sym first.stands_at ∙ ap (slice_get table.entries) place ∙ there) in
       ended_is now table kept keeps
       ∙ ap (map key_in) rest
       ∙ ap (λ (e : Entry). e.key ∷ map key_in (filter (has_ended now) (remove table.entries at))) item
       ∙ ap (λ l. entry.key ∷ l) (sym (keys_closed now entry.rank (remove table.entries at)))
       ∙ ap (λ l. entry.key ∷ map key_in (filter (has_ended now) l)) (sym is)
       ∙ ap (λ l. entry.key ∷ l) (sym (ended_is now new (without entry.key kept) flushed_keeps))
-    where
-      same_item : {x y : Entry} → Some x ≡ Some y → x ≡ y
-      same_item h = cc
 
 -- what is held is so without an ended entry
 held_without : (now : ℕ) (key : List ℕ) (kept : List Fact) (entry : Entry) → AreDistinct kept → find (is_of key) (entries_of kept) ≡ Some entry
@@ -149,14 +143,11 @@ pub flushed_held : (now : ℕ) (table : TableState) (kept : List Fact) → Keeps
 flushed_held now table kept keeps at entry found there =
     let first = first_found (has_ended now) 0 table.entries at found in
     let place : first.place ≡ at = omega (arith, first.counted) in
-    let item : first.item ≡ entry = same_item (sym first.stands_at ∙ ap (slice_get table.entries) place ∙ there) in
+    let item : first.item ≡ entry = same_Some _ _ (sym first.stands_at ∙ ap (slice_get table.entries) place ∙ there) in
     let ended : is_kept now entry ≡ false = not-true (is_kept now entry) (subst (λ (e : Entry). has_ended now e ≡ true) item first.passes) in
     let its : find (is_of entry.key) (entries_of kept) ≡ Some entry =
     sym (found_in table kept keeps entry.key) ∙ find_is key_in table.entries at entry entry.key (rising_of table kept keeps) there (same-itself entry.key) in
     held_without now entry.key kept entry keeps.distinct its ended
-  where
-    same_item : {x y : Entry} → Some x ≡ Some y → x ≡ y
-    same_item h = cc
 
 pub within_found : (now : ℕ) (entries : List Entry) (at : ℕ) → position_from (has_ended now) 0 entries ≡ Some at → at < length entries
 within_found now entries at found =

@@ -2,7 +2,7 @@
 use Rattle.std.proofs.Common.{◌≡◌, ℕ, suc, ◌-◌, ◌<◌, ◌≤◌, ◌^◌, ◌==◌, nat_le, Bool, true, false, List, [], ◌∷◌, Some, refl, sym, ap, subst, ◌∙◌, ◌⊎◌, inl, inr, arith, length, map, slice_get, remove, insert}
 use Rattle.std.proofs.lemmas.Bool.{cases_Bool, or_parts, or_from, lt-leb, le-leb, leb-false, ne_eqb, both_ways}
 use Rattle.std.proofs.lemmas.List.Edits.{length-remove}
-use Rattle.std.proofs.lemmas.Option.{slice_get_within}
+use Rattle.std.proofs.lemmas.Option.{slice_get_within, same_Some}
 use Rattle.std.specs.List.{AllByRecursion, list_any}
 use Rattle.esis_tables.specs.declared.fact.Heard.TheVariants.{New, Again, Full}
 use Rattle.esis_tables.specs.declared.table.Entry.{Entry}
@@ -40,11 +40,8 @@ at_within entries key at place = slice_get_within entries at place.entry place.s
 pub is_its_own : (entries : List Entry) (key : List ℕ) (at : ℕ) (entry : Entry) → IsAt entries key at → slice_get entries at ≡ Some entry
     → is_of key entry ≡ true
 is_its_own entries key at entry place there =
-    let same : place.entry ≡ entry = some_same (sym place.stands_at ∙ there) in
+    let same : place.entry ≡ entry = same_Some _ _ (sym place.stands_at ∙ there) in
     subst (λ (e : Entry). is_of key e ≡ true) same place.is_its
-  where
-    some_same : {x y : Entry} → Some x ≡ Some y → x ≡ y
-    some_same h = cc
 
 pub taken_kept : (table new : TableState) (key : List ℕ) (kept : List Fact) (at : ℕ) (entry : Entry) → Keeps table kept
     → slice_get table.entries at ≡ Some entry → is_of key entry ≡ true → new.entries ≡ map (closed entry.rank) (remove table.entries at)

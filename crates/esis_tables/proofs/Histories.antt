@@ -7,14 +7,7 @@ use Rattle.esis_tables.specs.declared.fact.TableKind.{TableKind}
 use Rattle.esis_tables.specs.Fact.{Fact, has_key, is_about, last_of, latest, same_table}
 use Rattle.esis_tables.specs.Keeps.{AreDistinct, without}
 use Rattle.clnp_base.proofs.SameOctets.{same_from, same-back, other-back}
-
-or_none : (o : Option Fact) → option_or o None ≡ o
-or_none None = refl
-or_none (Some fact) = refl
-
-or_assoc : (a b c : Option Fact) → option_or (option_or a b) c ≡ option_or a (option_or b c)
-or_assoc None b c = refl
-or_assoc (Some fact) b c = refl
+use Rattle.clnp_base.proofs.Choices.{none_is, option_or-assoc, option_or-nothing}
 
 -- a fact, if it is about this key
 abbrev pub one_about : TableKind → List ℕ → Fact → Option Fact
@@ -22,10 +15,10 @@ one_about table key fact = if is_about table key fact then Some fact else None
 
 pub last_of-push : (table : TableKind) (key : List ℕ) (facts : List Fact) (fact : Fact)
     → last_of table key (facts ++ fact ∷ []) ≡ option_or (one_about table key fact) (last_of table key facts)
-last_of-push table key [] fact = sym (or_none (one_about table key fact))
+last_of-push table key [] fact = sym (option_or-nothing (one_about table key fact))
 last_of-push table key (first ∷ later) fact =
     ap (λ o. option_or o (one_about table key first)) (last_of-push table key later fact)
-    ∙ or_assoc (one_about table key fact) (last_of table key later) (one_about table key first)
+    ∙ option_or-assoc (one_about table key fact) (last_of table key later) (one_about table key first)
 
 pub elsewhere_none : (table : TableKind) (key : List ℕ) (fact : Fact) → same_table fact.table table ≡ false → one_about table key fact ≡ None
 elsewhere_none table key fact other =
@@ -60,12 +53,12 @@ found_latest : (table : TableKind) (key : List ℕ) (fact : Fact) (latest' : Lis
     → find (has_key key) latest' ≡ last → (has_key key fact ≡ true → own ≡ last)
     → (b : Bool) → same_table fact.table table ≡ b
     → find (has_key key) (if (b && is_none own) then fact ∷ latest' else latest') ≡ option_or last (if (b && has_key key fact) then Some fact else None)
-found_latest table key fact latest' last own step same false is = step ∙ sym (or_none last)
+found_latest table key fact latest' last own step same false is = step ∙ sym (option_or-nothing last)
 found_latest table key fact latest' last own step same true is =
     elim (cases_Bool (has_key key fact)) [
       | inl t ↦ here last step (same t) t
       | inr f ↦
-          elsewhere own f ∙ sym (ap (λ b. option_or last (if b then Some fact else None)) f ∙ or_none last)
+          elsewhere own f ∙ sym (ap (λ b. option_or last (if b then Some fact else None)) f ∙ option_or-nothing last)
     ]
   where
     here : (o : Option Fact) → find (has_key key) latest' ≡ o → own ≡ o → has_key key fact ≡ true
@@ -97,17 +90,13 @@ none_found p (x ∷ xs) none =
     some_none : Some x ≡ None → ⊥
     some_none e = cc
 
-is_none_from : (o : Option Fact) → is_none o ≡ true → o ≡ None
-is_none_from None h = refl
-is_none_from (Some fact) h = absurd (cc)
-
 pub distinct-latest : (table : TableKind) (facts : List Fact) → AreDistinct (latest table facts)
 distinct-latest table [] = tt
 distinct-latest table (fact ∷ later) =
     let own : Option Fact = last_of table fact.key later in
     cond_both (same_table fact.table table && is_none own) (fact ∷ latest table later) (latest table later) AreDistinct
     (λ t. (
-      none_found (has_key fact.key) (latest table later) (find_latest table fact.key later ∙ is_none_from own (and_parts (same_table fact.table table) (is_none own) t).1),
+      none_found (has_key fact.key) (latest table later) (find_latest table fact.key later ∙ none_is own (and_parts (same_table fact.table table) (is_none own) t).1),
       distinct-latest table later,
     ))
     (λ f. distinct-latest table later)

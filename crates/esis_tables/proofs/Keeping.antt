@@ -1,7 +1,7 @@
 -- What a table keeps after an entry is put in or taken out.
 use Rattle.std.proofs.Common.{◌≡◌, ℕ, ◌+◌, ◌-◌, ◌<◌, ◌^◌, Bool, true, false, ◌||◌, not, List, [], ◌∷◌, ◌++◌, Some, refl, sym, ap, subst, ◌∙◌, inl, inr, length, map, slice_get, remove}
 use Rattle.std.proofs.lemmas.Bool.{cases_Bool, cond_both, or_parts, or_left, or_right}
-use Rattle.std.specs.List.{AllByRecursion, filter, find, list_any}
+use Rattle.std.specs.List.{filter, find, list_any}
 use Rattle.esis_tables.specs.declared.table.Entry.{Entry}
 use Rattle.esis_tables.specs.Fact.{Fact, has_key}
 use Rattle.esis_tables.specs.Keeps.{Keeps, entries_of, AreDistinct, without}
@@ -12,6 +12,7 @@ use Rattle.esis_tables.proofs.Rising.{NoneHas, all_filter}
 use Rattle.esis_tables.proofs.Sorting.{in_order-rising, filter-in_order, in_order-push, list_any-in_order, find-in_order, map-in_order}
 use Rattle.esis_tables.proofs.Places.{remove_is, find_is, none_has, Splits}
 use Rattle.esis_tables.proofs.Ranks.{differ-entries, entries_of-push, entries_of-without}
+use Rattle.clnp_base.proofs.Lists.{AllByRecursion-push}
 
 pub rising_of : (table : TableState) (kept : List Fact) → Keeps table kept → IsRising key_in table.entries
 rising_of table kept keeps =
@@ -24,15 +25,11 @@ distinct-without key (fact ∷ later) distinct =
     (λ t. (all_filter (λ other. has_key fact.key other ≡ false) (λ other. not (has_key key other)) later distinct.0, distinct-without key later distinct.1))
     (λ f. distinct-without key later distinct.1)
 
-all_push : (P : Fact → Type 0) (kept : List Fact) (fact : Fact) → AllByRecursion P kept → P fact → AllByRecursion P (kept ++ fact ∷ [])
-all_push P [] fact all here = (here, tt)
-all_push P (first ∷ later) fact all here = (all.0, all_push P later fact all.1 here)
-
 pub distinct-push : (kept : List Fact) (fact : Fact) → AreDistinct kept → list_any (has_key fact.key) kept ≡ false → AreDistinct (kept ++ fact ∷ [])
 distinct-push [] fact distinct new = (tt, tt)
 distinct-push (first ∷ later) fact distinct new =
     let parts = or_parts (has_key fact.key first) (list_any (has_key fact.key) later) new in
-    (all_push (λ other. has_key first.key other ≡ false) later fact distinct.0 (other-back first.key fact.key parts.0), distinct-push later fact distinct.1 parts.1)
+    (AllByRecursion-push (λ other. has_key first.key other ≡ false) later fact distinct.0 (other-back first.key fact.key parts.0), distinct-push later fact distinct.1 parts.1)
 
 -- a test of facts that their entries pass alike
 pub any-entries : (p : Entry → Bool) (q : Fact → Bool) → ((fact : Fact) (rank : ℕ) → p (entry_for fact rank) ≡ q fact)

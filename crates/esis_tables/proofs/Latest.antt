@@ -11,6 +11,7 @@ use Rattle.esis_tables.specs.NextHop.{last, place_of}
 use Rattle.esis_tables.specs.Order.{in_order, put_in, is_before}
 use Rattle.esis_tables.specs.State.{TableState, is_kept, is_later_than, key_in, latest_kept, place_in}
 use Rattle.esis_tables.proofs.Rising.{filter_none}
+use Rattle.std.proofs.lemmas.Option.{same_Some}
 
 -- the entry is one of these
 abbrev Among : Entry → List Entry → Type 0
@@ -46,11 +47,8 @@ taken now found x xs (Some latest) holds later tells = record {
   found_no_less = λ entry there. below entry (subst (λ (f : Option Entry). is_later_than x f ≡ true) there later);
 }
   where
-    same_entry : {a b : Entry} → Some a ≡ Some b → a ≡ b
-    same_entry h = cc
-
     among_more : (Some x ≡ Some latest) ⊎ (Among latest xs × (is_kept now latest ≡ true)) → Among latest (x ∷ xs) × (is_kept now latest ≡ true)
-    among_more (inl e) = let s = same_entry e in (inl s, subst (λ (l : Entry). is_kept now l ≡ true) s holds)
+    among_more (inl e) = let s = same_Some _ _ e in (inl s, subst (λ (l : Entry). is_kept now l ≡ true) s holds)
     among_more (inr a) = (inr a.0, a.1)
 
     below : (entry : Entry) → is_later_than x (Some entry) ≡ true → latest.rank ≤ entry.rank
@@ -95,11 +93,8 @@ tells_latest now (Some entry) [] = record {
   found_no_less = λ other same. at_most other same;
 }
   where
-    same_entry : {a b : Entry} → Some a ≡ Some b → a ≡ b
-    same_entry h = cc
-
     at_most : (other : Entry) → Some entry ≡ Some other → entry.rank ≤ other.rank
-    at_most other same = subst (λ (e : Entry). entry.rank ≤ e.rank) (same_entry same) (omega arith)
+    at_most other same = subst (λ (e : Entry). entry.rank ≤ e.rank) (same_Some _ _ same) (omega arith)
 tells_latest now found (x ∷ xs) =
     elim (cases_Bool (is_kept now x && is_later_than x found)) [
       | inl t ↦

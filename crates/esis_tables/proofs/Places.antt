@@ -14,8 +14,8 @@ use Rattle.esis_tables.specs.Order.{is_before, put_in, IsRising}
 use Rattle.esis_tables.specs.State.{IsAt, IsGap, key_in}
 use Rattle.clnp_base.proofs.SameOctets.{same_from, other-back}
 use Rattle.esis_tables.proofs.Addresses.{before-back, before-other, same_from_equal}
-use Rattle.esis_tables.proofs.Rising.{NoneHas, filter_all, all_weaker}
-use Rattle.clnp_base.proofs.Lists.{AllByRecursion-slice_get}
+use Rattle.esis_tables.proofs.Rising.{NoneHas, filter_all}
+use Rattle.clnp_base.proofs.Lists.{AllByRecursion-slice_get, AllByRecursion-implies}
 
 module _ {X : Type 0} (key : X → List ℕ) where
   pub sorted_from_rising : (xs : List X) → IsRising key xs → IsSortedByKey key (slice_cmp nat_cmp) xs
@@ -28,7 +28,7 @@ module _ {X : Type 0} (key : X → List ℕ) where
   -- those behind an item of this key have other keys
   pub others_behind : (x : X) (xs : List X) (k : List ℕ) → IsRising key (x ∷ xs) → bytes_eq (key x) k ≡ true → NoneHas key k xs
   others_behind x xs k rising same =
-      all_weaker (λ y. is_before (key x) (key y) ≡ true) (λ y. bytes_eq (key y) k ≡ false)
+      AllByRecursion-implies (λ y. is_before (key x) (key y) ≡ true) (λ y. bytes_eq (key y) k ≡ false)
       (λ y before. subst (λ j. bytes_eq (key y) j ≡ false) (same_from (key x) k same) (other-back (key x) (key y) (before-other (key x) (key y) before))) xs rising.0
 
   -- an item that comes before one of this key has another key
@@ -43,7 +43,7 @@ module _ {X : Type 0} (key : X → List ℕ) where
       let e : y ≡ x = cc in
       let here : bytes_eq (key y) k ≡ true = subst (λ z. bytes_eq (key z) k ≡ true) (sym e) same in
       let behind : NoneHas key k ys = others_behind y ys k rising here in
-      rw here (sym (filter_all (λ z. not (bytes_eq (key z) k)) ys (all_weaker (λ z. bytes_eq (key z) k ≡ false) (λ z. not (bytes_eq (key z) k) ≡ true) (λ z e. ap not e) ys behind)))
+      rw here (sym (filter_all (λ z. not (bytes_eq (key z) k)) ys (AllByRecursion-implies (λ z. bytes_eq (key z) k ≡ false) (λ z. not (bytes_eq (key z) k) ≡ true) (λ z e. ap not e) ys behind)))
   remove_is (y ∷ ys) (suc i) x k rising there same =
       let before = AllByRecursion-slice_get (λ z. is_before (key y) (key z) ≡ true) ys i x there rising.0 in
       let other = other_before y x k before same in

@@ -7,8 +7,10 @@ use Rattle.esis_tables.specs.Fact.{Fact, has_key}
 use Rattle.esis_tables.specs.Keeps.{entries_of, AreDistinct, without}
 use Rattle.esis_tables.specs.State.{entry_for, key_in, is_of, raised, closed}
 use Rattle.clnp_base.proofs.SameOctets.{same_from}
-use Rattle.esis_tables.proofs.Rising.{Differ, NoneHas, filter_all, all_weaker}
+use Rattle.esis_tables.proofs.Rising.{Differ, NoneHas, filter_all}
 use Rattle.esis_tables.proofs.Steps.{with_rank}
+use Rattle.clnp_base.proofs.Lists.{AllByRecursion-implies}
+use Rattle.std.proofs.lemmas.Option.{same_Some}
 
 -- a test that speaks of no rank is the same of facts and of their entries
 none_has-entries : (key : List ℕ) (kept : List Fact) → AllByRecursion (λ fact. has_key key fact ≡ false) kept → NoneHas key_in key (entries_of kept)
@@ -45,7 +47,7 @@ closed_all gap (first ∷ rest) low =
 
 pub without_none : (key : List ℕ) (kept : List Fact) → AllByRecursion (λ fact. has_key key fact ≡ false) kept → without key kept ≡ kept
 without_none key kept none =
-    filter_all (λ fact. not (has_key key fact)) kept (all_weaker (λ fact. has_key key fact ≡ false) (λ fact. not (has_key key fact) ≡ true) (λ fact e. ap not e) kept none)
+    filter_all (λ fact. not (has_key key fact)) kept (AllByRecursion-implies (λ fact. has_key key fact ≡ false) (λ fact. not (has_key key fact) ≡ true) (λ fact e. ap not e) kept none)
 
 -- with a fact of this key its entry has a rank of at most their number, and without it there is one less
 pub record IsIn (key : List ℕ) (kept : List Fact) (entry : Entry) : Type 0 where
@@ -57,13 +59,10 @@ pub distinct-key : (key : List ℕ) (fact : Fact) (later : List Fact) → AreDis
 distinct-key key fact later distinct same =
     subst (λ (k : List ℕ). AllByRecursion (λ other. has_key k other ≡ false) later) (same_from fact.key key same) distinct.0
 
-some_same : {x y : Entry} → Some x ≡ Some y → x ≡ y
-some_same h = cc
-
 pub found_first : (key : List ℕ) (fact : Fact) (later : List Fact) (entry : Entry) → find (is_of key) (entries_of (fact ∷ later)) ≡ Some entry
     → has_key key fact ≡ true → entry_for fact (length later + 1) ≡ entry
 found_first key fact later entry found t =
-    some_same (sym (cond-true (has_key key fact) (Some (entry_for fact (length later + 1))) (find (is_of key) (entries_of later)) t) ∙ found)
+    same_Some _ _ (sym (cond-true (has_key key fact) (Some (entry_for fact (length later + 1))) (find (is_of key) (entries_of later)) t) ∙ found)
 
 pub found_later : (key : List ℕ) (fact : Fact) (later : List Fact) (entry : Entry) → find (is_of key) (entries_of (fact ∷ later)) ≡ Some entry
     → has_key key fact ≡ false → find (is_of key) (entries_of later) ≡ Some entry
@@ -72,7 +71,7 @@ found_later key fact later entry found f =
 
 others_none : (key : List ℕ) (entries : List Entry) → NoneHas key_in key entries → filter (λ e. not (is_of key e)) entries ≡ entries
 others_none key entries none =
-    filter_all (λ e. not (is_of key e)) entries (all_weaker (λ e. is_of key e ≡ false) (λ e. not (is_of key e) ≡ true) (λ e h. ap not h) entries none)
+    filter_all (λ e. not (is_of key e)) entries (AllByRecursion-implies (λ e. is_of key e ≡ false) (λ e. not (is_of key e) ≡ true) (λ e h. ap not h) entries none)
 
 pub is_in : (key : List ℕ) (kept : List Fact) (entry : Entry) → AreDistinct kept → find (is_of key) (entries_of kept) ≡ Some entry → IsIn key kept entry
 is_in key [] entry distinct found = absurd (cc)

@@ -6,10 +6,7 @@ use Rattle.std.specs.Str.{bytes_eq}
 use Rattle.esis_tables.specs.Order.{is_before, put_in, IsRising}
 use Rattle.clnp_base.proofs.SameOctets.{other-back}
 use Rattle.esis_tables.proofs.Addresses.{before-trans, after-other}
-
-pub all_weaker : {X : Type 0} (P Q : X → Type 0) → ((x : X) → P x → Q x) → (xs : List X) → AllByRecursion P xs → AllByRecursion Q xs
-all_weaker P Q f [] h = tt
-all_weaker P Q f (x ∷ xs) h = (f x h.0, all_weaker P Q f xs h.1)
+use Rattle.clnp_base.proofs.Lists.{AllByRecursion-implies}
 
 pub all_filter : {X : Type 0} (P : X → Type 0) (p : X → Bool) (xs : List X) → AllByRecursion P xs → AllByRecursion P (filter p xs)
 all_filter P p [] h = tt
@@ -39,7 +36,7 @@ module _ {X : Type 0} (key : X → List ℕ) where
       (λ t. (
         (
           t,
-          all_weaker (λ z. is_before (key y) (key z) ≡ true) (λ z. is_before (key x) (key z) ≡ true)
+          AllByRecursion-implies (λ z. is_before (key y) (key z) ≡ true) (λ z. is_before (key x) (key z) ≡ true)
               (λ z before. before-trans (key x) (key y) (key z) t before) ys rising.0,
         ),
         rising,
@@ -69,7 +66,7 @@ module _ {X : Type 0} (key : X → List ℕ) where
         | inl t ↦
             let before : AllByRecursion (λ z. is_before (key x) (key z) ≡ true) (y ∷ ys) = (
               t,
-              all_weaker (λ z. is_before (key y) (key z) ≡ true) (λ z. is_before (key x) (key z) ≡ true)
+              AllByRecursion-implies (λ z. is_before (key y) (key z) ≡ true) (λ z. is_before (key x) (key z) ≡ true)
                   (λ z before. before-trans (key x) (key y) (key z) t before) ys rising.0,
             ) in
             let front : put_in key x (filter p (y ∷ ys)) ≡ x ∷ filter p (y ∷ ys) =

@@ -7,6 +7,7 @@ use Rattle.std.specs.Str.{bytes_eq}
 use Rattle.esis_tables.specs.Order.{is_before, put_in, in_order, IsRising}
 use Rattle.clnp_base.proofs.SameOctets.{same_from, other-back}
 use Rattle.esis_tables.proofs.Rising.{NoneHas, Differ, length-put_in, put_in-rising, filter-put_in, all_put_in, filter_none}
+use Rattle.clnp_base.proofs.Choices.{or_false}
 
 module _ {X : Type 0} (key : X → List ℕ) where
   abbrev pub put_all : List X → List X → List X
@@ -91,10 +92,6 @@ module _ {X : Type 0} (key : X → List ℕ) where
       turned true false c = refl
       turned false true c = refl
       turned false false c = refl
-
-  or_false : (a : Bool) → (a || false) ≡ a
-  or_false true = refl
-  or_false false = refl
 
   pub list_any-in_order : (p : X → Bool) (xs : List X) → list_any p (in_order key xs) ≡ list_any p xs
   list_any-in_order p xs = list_any-put_all p [] xs ∙ or_false (list_any p xs)

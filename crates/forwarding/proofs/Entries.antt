@@ -1,12 +1,12 @@
 -- What the maps have after one more route was put in.
-use Rattle.std.proofs.Common.{◌≡◌, ◌∙◌, ℕ, ◌+◌, ◌≤◌, Bool, true, false, cond, List, [], ◌∷◌, ◌++◌, Option, Some, None, ap, arith, inl, inr, length, refl, sym, take, length-take-le, Bor}
+use Rattle.std.proofs.Common.{◌≡◌, ◌∙◌, ℕ, ◌+◌, ◌≤◌, true, false, cond, List, [], ◌∷◌, ◌++◌, Option, Some, None, ap, arith, inl, inr, length, refl, sym, take, length-take-le, Bor}
 use Rattle.std.specs.Prelude.{slice_get, slice_set}
 use Rattle.std.specs.BTreeMap.{BTreeMap, Updates, get}
 use Rattle.std.specs.Cmp.Lexicographic.{slice_cmp, texts_ties}
 use Rattle.std.specs.List.{find, list_any}
-use Rattle.std.specs.Option.{is_some, option_copied, option_or}
+use Rattle.std.specs.Option.{is_some, option_copied}
 use Rattle.std.specs.Ordering.{nat_cmp}
-use Rattle.std.proofs.lemmas.Bool.{cases_Bool, cases_eq, true≢false}
+use Rattle.std.proofs.lemmas.Bool.{cases_Bool, cases_eq}
 use Rattle.std.proofs.lemmas.List.Folds.{find-append}
 use Rattle.std.proofs.lemmas.Option.{same_Some, slice_get_within}
 use Rattle.clnp_base.proofs.Lists.{slice_get-set, slice_get-set_other}
@@ -18,7 +18,9 @@ use Rattle.forwarding.specs.Longest.{longest}
 use Rattle.forwarding.specs.Stands.{Stands}
 use Rattle.forwarding.proofs.Choosing.{NoneAt, longest_at}
 use Rattle.clnp_base.proofs.SameOctets.{other_from, same_from}
-use Rattle.forwarding.proofs.Prefixes.{AreDistinct-push, is_some-find}
+use Rattle.forwarding.proofs.Prefixes.{AreDistinct-push}
+use Rattle.clnp_base.proofs.Found.{find_none, is_some-find}
+use Rattle.clnp_base.proofs.Choices.{option_or-nothing, no_value}
 
 -- whether a route of this prefix was there
 pub was_there : (routes : Routes) (list : List Route) (prefix : List ℕ) (n : ℕ) (map : BTreeMap (List ℕ) Route) (old : Option Route)
@@ -28,11 +30,6 @@ was_there routes list prefix n map old stands size at is =
     ap is_some (is ∙ stands.found prefix map (sym (ap (slice_get routes.by_length) size) ∙ at))
     ∙ is_some-find (has_prefix prefix) list
 
-not_found : (test : Route → Bool) (list : List Route) → list_any test list ≡ false → find test list ≡ None
-not_found test [] e = refl
-not_found test (first ∷ list) e =
-    elim (cases_Bool (test first)) [ inl t ↦ absurd (true≢false (rw t at e)) | inr f ↦ rw f (not_found test list (rw f at e)) ]
-
 -- what is found after one more route
 found_new : (list : List Route) (route : Route) (prefix : List ℕ) → find (has_prefix prefix) list ≡ None → has_prefix prefix route ≡ true
     → find (has_prefix prefix) (list ++ route ∷ []) ≡ Some route
@@ -40,11 +37,7 @@ found_new list route prefix none own = rw (find-append, none, own) refl
 
 found_other : (list : List Route) (route : Route) (prefix : List ℕ) → has_prefix prefix route ≡ false
     → find (has_prefix prefix) (list ++ route ∷ []) ≡ find (has_prefix prefix) list
-found_other list route prefix other = rw (find-append, other) (or_none (find (has_prefix prefix) list))
-  where
-    or_none : (found : Option Route) → option_or found None ≡ found
-    or_none None = refl
-    or_none (Some r) = refl
+found_other list route prefix other = rw (find-append, other) (option_or-nothing (find (has_prefix prefix) list))
 
 -- one more route stands in the map of its length
 pub stands_added : (routes : Routes) (list : List Route) (route : Route) (n : ℕ) (map new : BTreeMap (List ℕ) Route)
@@ -65,7 +58,7 @@ stands_added routes list route n map new stands size at updates absent = record 
             ∙ ap (λ b. cond b (Some route) (get (slice_cmp nat_cmp) map prefix)) (sym (texts_ties route.prefix prefix))
             ∙ (elim (cases_Bool (has_prefix prefix route)) [
               | inl own ↦
-                  let none : find (has_prefix prefix) list ≡ None = rw (← same_from route.prefix prefix own) (not_found (has_prefix route.prefix) list absent) in
+                  let none : find (has_prefix prefix) list ≡ None = rw (← same_from route.prefix prefix own) (find_none (has_prefix route.prefix) list absent) in
                   rw own (sym (found_new list route prefix none own))
               | inr foreign ↦ rw foreign (old ∙ sym (found_other list route prefix foreign))
             ])
@@ -124,10 +117,6 @@ none_here routes list address digits prefix n map found stands are beginning wit
           let there = looked_up routes list address digits prefix n map (option_copied found) stands are beginning within at is in
           ap (λ m. find (has_prefix (take m (digits_of address))) list) same
           ∙ sym there
-          ∙ none_found (option_copied found) (copied_some found ∙ some)
+          ∙ no_value (option_copied found) (copied_some found ∙ some)
       | inr other ↦ none k (omega arith) to
     ]
-  where
-    none_found : (answer : Option Route) → is_some answer ≡ false → answer ≡ None
-    none_found None e = refl
-    none_found (Some route) e = absurd (cc e)

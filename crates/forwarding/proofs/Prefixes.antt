@@ -1,5 +1,5 @@
 -- Which prefix a route has, and which route has a prefix.
-use Rattle.std.proofs.Common.{◌≡◌, ◌∙◌, ℕ, zero, suc, ◌<◌, Bool, true, false, List, [], ◌∷◌, ◌++◌, Option, Some, None, ap, arith, get_or, inl, inr, length, refl, subst, sym, take, Contains}
+use Rattle.std.proofs.Common.{◌≡◌, ◌∙◌, ℕ, zero, suc, ◌<◌, Bool, true, false, List, [], ◌∷◌, ◌++◌, Option, Some, None, ap, arith, get_or, inl, inr, length, subst, sym, take, Contains}
 use Rattle.std.specs.Prelude.{slice_get}
 use Rattle.std.specs.List.{find, list_any, position_from}
 use Rattle.std.specs.Option.{is_some}
@@ -9,15 +9,10 @@ use Rattle.clnp_base.proofs.SameOctets.{other-back, same_from, same_from_equal}
 use Rattle.std.proofs.lemmas.Grind.{common_steps}
 use Rattle.std.proofs.lemmas.List.{length-take}
 use Rattle.clnp_base.proofs.Filters.{find-no_position, find-position}
-use Rattle.clnp_base.proofs.Found.{contains_any, find_any}
+use Rattle.clnp_base.proofs.Found.{contains_any, find_any, is_some-find}
 use Rattle.clnp_base.proofs.Lists.{AllByRecursion-contains, AllByRecursion-push, AllByRecursion-slice_get}
 use Rattle.forwarding.specs.declared.route.Route.{Route}
 use Rattle.forwarding.specs.Distinct.{AreDistinct, IsTwice, has_prefix}
-
-pub is_some-find : (test : Route → Bool) (routes : List Route) → is_some (find test routes) ≡ list_any test routes
-is_some-find test [] = refl
-is_some-find test (route ∷ routes) =
-    elim (cases_Bool (test route)) [ inl t ↦ rw t refl | inr f ↦ rw f (is_some-find test routes) ]
 
 -- a route that is found
 pub found_within : (test : Route → Bool) (routes : List Route) (route : Route) → find test routes ≡ Some route

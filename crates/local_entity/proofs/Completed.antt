@@ -10,7 +10,7 @@ use Rattle.reassembly.specs.Buffer.{Answer, Buffer, Whole, after, answer, answer
 use Rattle.reassembly.specs.State.{IsWholeSlot, Names, Stands, TableState}
 use Rattle.clnp_base.proofs.Choices.{if_none}
 use Rattle.std.proofs.lemmas.Option.{same_Some}
-use Rattle.local_entity.proofs.Buffers.{made_whole, refusal_not_whole, same_key-like, same_key-true}
+use Rattle.local_entity.proofs.Buffers.{made_whole, refusal_not_whole, same_key-like, key_found}
 
 same_data_len : (a b : Shape) → same_shape a b ≡ true → data_len a ≡ data_len b
 same_data_len a b same =
@@ -21,15 +21,6 @@ same_data_len a b same =
     omega arith
 
 module _ {C : Type 0} where
-  key_found : (key : Key) (buffers : List (Buffer C)) (buffer : Buffer C) → buffer_of key buffers ≡ Some buffer → buffer.key ≡ key
-  key_found key [] buffer found = absurd (cc)
-  key_found key (first ∷ others) buffer found =
-      elim (cases_Bool (same_key first.key key)) [
-        | inl same ↦
-            subst (λ (b : Buffer C). b.key ≡ key) (same_Some first buffer (rw same at found)) (same_key-true first.key key same)
-        | inr other ↦ key_found key others buffer (rw other at found)
-      ]
-
   -- the buffer of a kept segment's key has so many octets of data as the segment's unit
   data_len-with : (limits : TableLimits) (now : ℕ) (arrival : Arrival C) (buffers : List (Buffer C)) (buffer : Buffer C)
       → clashes (buffer_of arrival.key buffers) arrival.shape ≡ false → buffer_of arrival.key (with_kept limits now arrival buffers) ≡ Some buffer

@@ -1,9 +1,6 @@
 -- Echo requests answered, and replies taken for answers.
-use Rattle.std.proofs.Common.{◌≡◌, ◌∙◌, sym, ap, refl, subst, ℕ, false, List, [], Option, Some, None, length, arith}
+use Rattle.std.proofs.Common.{◌≡◌, ◌∙◌, sym, ap, refl, subst, ℕ, false, List, Option, Some, None, length}
 use Rattle.std.specs.List.{find}
-use Rattle.clnp_options.specs.Grammar.{FitsKind}
-use Rattle.clnp_options.specs.Parameter as options
-use Rattle.clnp_options.specs.Parameter.{parameters}
 use Rattle.clnp_plan.specs.declared.ask.Ask.{Ask}
 use Rattle.clnp_plan.specs.declared.ask.SendRefusal.{SendRefusal}
 use Rattle.clnp_plan.specs.declared.ask.SendRefusal.TheVariants as send
@@ -42,11 +39,6 @@ stands_replied local noted s source destination octets stands are = by (find (is
         → Stands (record local { pending = noted }) (takes_reply s source destination octets found).after
     by None none = stands_pending local noted s s.pending stands (subst (AreRequests noted) (none_left (is_answer source destination octets) s.pending none) are)
     by (Some request) some = stands_pending local noted s (without_answered (is_answer source destination octets) s.pending) stands are
-
--- no options are such as each PDU but a report may have
-pub none_fit : FitsKind false (parameters [])
-unfolding options.parameters_after
-none_fit = (λ is. absurd (cc), λ any. absurd (let within = any.2 in omega arith))
 
 -- what is made is the reply
 pub reply_is : (s : SystemState) (source destination octets shown : List ℕ) (ask : Ask) → shown ≡ octets

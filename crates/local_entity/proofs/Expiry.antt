@@ -26,6 +26,7 @@ use Rattle.local_entity.proofs.Offering.{stands_with}
 use Rattle.local_entity.proofs.Offers.{all_without}
 use Rattle.local_entity.proofs.Shown.{due_shown, without_shown}
 use Rattle.local_entity.proofs.Buffers.{first_carried-mapped}
+use Rattle.clnp_base.proofs.Choices.{none_mapped}
 
 -- ---- one after another
 
@@ -194,9 +195,5 @@ module _ (local : EntityState) (now : ℕ) (s : SystemState) (stands : Stands lo
   pub none_appends : (before : List Action) → None ≡ option_map told_of (due now stands.buffers) → Appends before before (expire 1 s).actions
   none_appends before told =
       subst (λ (found : Option (Buffer Packet)). Appends before before (give_up_due found s (expire 0)).actions)
-      (sym (none_due (no_result (due now stands.buffers) told)))
+      (sym (none_due (none_mapped told_of (due now stands.buffers) (sym told))))
       (record { actions = []; appended = sym (append-nil before); do_all = tt })
-    where
-      no_result : (found : Option (Buffer Extent)) → None ≡ option_map told_of found → found ≡ None
-      no_result None e = refl
-      no_result (Some ended) e = absurd (cc)

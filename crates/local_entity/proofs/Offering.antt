@@ -7,7 +7,6 @@ use Rattle.reassembly.specs.declared.segment.Key.{Key}
 use Rattle.reassembly.specs.declared.segment.Segment.{Segment}
 use Rattle.reassembly.specs.declared.table.Accept.{Accept}
 use Rattle.reassembly.specs.declared.table.Accept.TheVariants as accept
-use Rattle.reassembly.specs.declared.table.SlotNo.{SlotNo}
 use Rattle.reassembly.specs.declared.table.TableLimits.{TableLimits}
 use Rattle.reassembly.specs.Arrival.{Arrival, arrival_of, octet_in}
 use Rattle.reassembly.specs.Buffer as buffer
@@ -203,13 +202,3 @@ whole_ready table_before table_later now segment ready hold alive whole stands =
     none_whole = none_whole-released table_before.limits now (arrival_of segment) ready.buffers ready.ready.none_whole whole;
   };
 }
-
--- an answer that gives no slot doesn't say that a buffer is whole
-pub said_not_whole : (told : Accept) → ((slot : SlotNo) → told ≡ accept.Whole slot → ⊥) → said told ≡ buffer.Whole → ⊥
-said_not_whole accept.Held not e = cc
-said_not_whole accept.Repeat not e = cc
-said_not_whole (accept.Whole slot) not e = not slot refl
-said_not_whole (accept.Interference kept offered) not e = cc
-said_not_whole (accept.NoSlot live) not e = cc
-said_not_whole (accept.Crowded held size) not e = cc
-said_not_whole (accept.Many kept) not e = cc

@@ -1,5 +1,5 @@
 -- Packets that are kept are as they were offered.
-use Rattle.std.proofs.Common.{◌≡◌, ℕ, not, List, [], ◌∷◌, ◌++◌, Option, Some, None, inl, inr}
+use Rattle.std.proofs.Common.{◌≡◌, ℕ, not, List, [], ◌∷◌, Option, Some, None, inl, inr}
 use Rattle.std.specs.List.{AllByRecursion}
 use Rattle.std.proofs.lemmas.Bool.{cases_Bool}
 use Rattle.reassembly.specs.declared.segment.Key.{Key}
@@ -7,23 +7,19 @@ use Rattle.reassembly.specs.declared.table.TableLimits.{TableLimits}
 use Rattle.reassembly.specs.Arrival.{Arrival, same_key}
 use Rattle.reassembly.specs.Buffer.{Answer, Buffer, after, buffer_of, buffers_of, refusal, with_kept, without}
 use Rattle.clnp_base.proofs.Filters.{AllByRecursion-filter}
-use Rattle.clnp_base.proofs.Lists.{AllByRecursion-find}
+use Rattle.clnp_base.proofs.Lists.{AllByRecursion-find, AllByRecursion-push}
 
 module _ {C : Type 0} (P : Arrival C → Type 0) where
   -- each kept segment is so
   abbrev pub AllKept : List (Buffer C) → Type 0
   AllKept buffers = AllByRecursion (λ (buffer : Buffer C). AllByRecursion P buffer.kept) buffers
 
-  all_pushed : (arrivals : List (Arrival C)) (arrival : Arrival C) → AllByRecursion P arrivals → P arrival → AllByRecursion P (arrivals ++ arrival ∷ [])
-  all_pushed [] arrival all here = (here, tt)
-  all_pushed (first ∷ others) arrival all here = (all.0, all_pushed others arrival all.1 here)
-
   all_with : (limits : TableLimits) (now : ℕ) (arrival : Arrival C) (buffers : List (Buffer C)) → AllKept buffers → P arrival
       → AllKept (with_kept limits now arrival buffers)
   all_with limits now arrival [] all here = ((here, tt), tt)
   all_with limits now arrival (buffer ∷ others) all here =
       elim (cases_Bool (same_key buffer.key arrival.key)) [
-        | inl same ↦ rw same (all_pushed buffer.kept arrival all.0 here, all.1)
+        | inl same ↦ rw same (AllByRecursion-push P buffer.kept arrival all.0 here, all.1)
         | inr other ↦ rw other (all.0, all_with limits now arrival others all.1 here)
       ]
 

@@ -78,13 +78,6 @@ noted_many Dt requests units request given u e are is many = absurd (cc)
 noted_many Er requests units request given u e are is many = absurd (cc)
 noted_many Erp requests units request given u e are is many = absurd (cc)
 
-pub not_noted : (kind : Kind) (requests : List Request) (units : List unit.Unit) (given : Request) (u : unit.Unit) → None ≡ request_of kind given
-    → AreRequests requests units → AreRequests requests (with_made kind units u)
-not_noted Erq requests units given u e are = absurd (cc)
-not_noted Dt requests units given u e are = are
-not_noted Er requests units given u e are = are
-not_noted Erp requests units given u e are = are
-
 -- ---- taken
 
 module _ (source destination octets : List ℕ) where

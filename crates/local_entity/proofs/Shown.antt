@@ -6,10 +6,10 @@ use Rattle.clnp_views.specs.Extent.{Extent, seen}
 use Rattle.reassembly.specs.declared.segment.Key.{Key}
 use Rattle.reassembly.specs.declared.table.TableLimits.{TableLimits}
 use Rattle.reassembly.specs.Arrival.{Arrival}
-use Rattle.reassembly.specs.Buffer.{Buffer, after, answer, buffer_of, due, held, without}
+use Rattle.reassembly.specs.Buffer.{Buffer, after, answer, buffer_of, due, without}
 use Rattle.reassembly.specs.Mapped.{map_arrival, map_buffer, map_buffers}
 use Rattle.clnp_machine.specs.Unit.{Packet, wire}
-use Rattle.local_entity.proofs.Buffers.{after-mapped, answer-mapped, buffer_of-mapped, due-mapped, held-mapped, without-mapped}
+use Rattle.local_entity.proofs.Buffers.{after-mapped, answer-mapped, buffer_of-mapped, due-mapped, without-mapped}
 
 -- the buffers show the octets of others
 abbrev pub Show : List (Buffer Extent) → List (Buffer Packet) → Type 0
@@ -18,9 +18,6 @@ Show buffers others = map_buffers seen buffers ≡ map_buffers wire others
 module _ (buffers : List (Buffer Extent)) (others : List (Buffer Packet)) (show : Show buffers others) where
   pub length_shown : length buffers ≡ length others
   length_shown = sym (length-map buffers (map_buffer seen)) ∙ ap length show ∙ length-map others (map_buffer wire)
-
-  pub held_shown : held buffers ≡ held others
-  held_shown = sym (held-mapped seen buffers) ∙ ap held show ∙ held-mapped wire others
 
   pub without_shown : (key : Key) → Show (without key buffers) (without key others)
   without_shown key = sym (without-mapped seen key buffers) ∙ ap (without key) show ∙ without-mapped wire key others

@@ -17,6 +17,7 @@ use Rattle.local_entity.proofs.Appending.{appends-more}
 use Rattle.local_entity.proofs.Expiry.{expire-ended, expire-moment, expire-more, none_due}
 use Rattle.local_entity.proofs.Shown.{length_shown}
 use Rattle.local_entity.proofs.Buffers.{due_is, none_whole-without_due, same_key-like}
+use Rattle.clnp_base.proofs.Choices.{no_value}
 
 -- at another moment it stands for the same
 at_that_moment : (local : EntityState) (s : SystemState) (now : ℕ) → Stands local s → Stands local (at_moment now s)
@@ -65,16 +66,12 @@ module _ (before mid after : EntityState) (old out new : List Action) (now n : �
             (actions (expire n s).after (so_far.stands s there moment) (expire-moment n s ∙ moment)));
       })
 
-  is_none : (found : Option (Buffer Extent)) → false ≡ is_some found → found ≡ None
-  is_none None e = refl
-  is_none (Some ended) e = absurd (cc)
-
   -- where none was due then, no further step takes one out
   pub ended_early : (live : ℕ) → n < live → ((buffers : List (Buffer Extent)) → table.Stands mid.table buffers → false ≡ is_some (due now buffers))
       → (s : SystemState) → Stands before s → s.moment ≡ now → expire live s ≡ expire (n + 1) s
   ended_early live fewer none s there moment =
       let stands = so_far.stands s there moment in
-      let none_there = none_due mid now (expire n s).after stands (expire-moment n s ∙ moment) (is_none (due now stands.buffers) (none stands.buffers stands.table)) in
+      let none_there = none_due mid now (expire n s).after stands (expire-moment n s ∙ moment) (no_value (due now stands.buffers) (sym (none stands.buffers stands.table))) in
       let none_then : due s.moment (expire n s).after.buffers ≡ None = ap (λ m. due m (expire n s).after.buffers) (sym (expire-moment n s)) ∙ none_there in
       expire-ended n live s (omega arith) none_then ∙ sym (expire-ended n (n + 1) s (omega arith) none_then)
 
@@ -127,15 +124,11 @@ module _ (mid later : TableState) (now n live : ℕ) (left : IsLeft mid n live) 
         fewer = omega arith;
       }
 
-  none : (found : Option (Buffer Extent)) → false ≡ is_some found → found ≡ None
-  none None e = refl
-  none (Some ended) e = absurd (cc)
-
   pub ready_early : ((buffers : List (Buffer Extent)) → table.Stands mid buffers → (false ≡ is_some (due now buffers)) × table.Stands later (without_due (due now buffers) buffers))
       → IsReady now later
   ready_early given =
       let fact = given left.buffers left.stands in
-      let none_due = none (due now left.buffers) fact.0 in
+      let none_due = no_value (due now left.buffers) (sym fact.0) in
       record {
         buffers = left.buffers;
         stands = subst (λ (found : Option (Buffer Extent)). table.Stands later (without_due found left.buffers)) none_due fact.1;

@@ -1,5 +1,5 @@
 -- The last uses of identifiers.
-use Rattle.std.proofs.Common.{◌≡◌, ℕ, zero, suc, ◌≢◌, List, [], ◌∷◌, ◌++◌, Some, None, slice_get, refl, ap, ◌∙◌, arith}
+use Rattle.std.proofs.Common.{◌≡◌, ℕ, zero, suc, ◌≢◌, List, [], ◌∷◌, ◌++◌, Some, None, slice_get, refl, ap, ◌∙◌, arith, sym}
 use Rattle.std.proofs.lemmas.Bool.Decides.{eqb_tells}
 use Rattle.std.specs.Option.{option_or}
 use Rattle.clnp_base.proofs.Choices.{option_or-assoc, option_or-nothing}
@@ -8,7 +8,7 @@ pub use Rattle.clnp_machine.proofs.Resting.{busy_rested, moment_for, moment_ther
 
 pub last_use-push : (identifier : ℕ) (uses : List Use) (given : Use)
     → last_use identifier (uses ++ given ∷ []) ≡ option_or (moment_for identifier given) (last_use identifier uses)
-last_use-push identifier [] given = option_or-nothing (moment_for identifier given)
+last_use-push identifier [] given = sym (option_or-nothing (moment_for identifier given))
 last_use-push identifier (first ∷ later) given =
     ap (λ found. option_or found (moment_for identifier first)) (last_use-push identifier later given)
     ∙ option_or-assoc (moment_for identifier given) (last_use identifier later) (moment_for identifier first)

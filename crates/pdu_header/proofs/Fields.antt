@@ -6,6 +6,7 @@ use Rattle.pdu_header.specs.Rules.{octet, pair_at}
 use Rattle.pdu_header.specs.Reading.{address_at}
 use Rattle.pdu_header.proofs.Shape.{pair_again, pair_of_octets}
 pub use Rattle.clnp_options.proofs.Agree.{accepted_anywhere, accepts_from, forms_of, parameters-Forms, spells_of, well_formed_from}
+use Rattle.clnp_base.proofs.ListSteps.{drop_next}
 
 -- each is an octet
 abbrev pub AreOctets : List ℕ → Type 0
@@ -14,9 +15,6 @@ AreOctets xs = (i : ℕ) → get_or xs i 0 < 256
 pub octet_here : (head : List ℕ) (i n : ℕ) (rest : List ℕ) → drop i head ≡ n ∷ rest → get_or head i 0 ≡ n
 octet_here head i n rest e =
     ap (λ k. get_or head k 0) (sym (add-zero i)) ∙ sym (get_or-drop i head 0 0) ∙ ap (λ xs. get_or xs 0 0) e
-
-pub behind_here : (head : List ℕ) (i n : ℕ) (rest : List ℕ) → drop i head ≡ n ∷ rest → drop (i + 1) head ≡ rest
-behind_here head i n rest e = sym (drop-drop 1 i head) ∙ ap (λ xs. drop 1 xs) e
 
 pub within_here : (head : List ℕ) (i n : ℕ) (rest : List ℕ) → drop i head ≡ n ∷ rest → i + 1 + length rest ≡ length head
 within_here head i n rest e = omega (arith, length-drop i head, ap length e)
@@ -33,7 +31,7 @@ pub address_here : (head : List ℕ) (i place : ℕ) (a rest : List ℕ) → pla
 address_here head i place a rest at e =
     let here : place - 1 ≡ i = omega arith in
     let size : octet head place ≡ length a = ap (λ k. get_or head k 0) here ∙ octet_here head i (length a) (a ++ rest) e in
-    let from : drop place head ≡ a ++ rest = ap (λ k. drop k head) at ∙ behind_here head i (length a) (a ++ rest) e in
+    let from : drop place head ≡ a ++ rest = ap (λ k. drop k head) at ∙ drop_next i head (length a) (a ++ rest) e in
     record {
       size = size;
       octets = ap (λ k. take k (drop place head)) size ∙ ap (λ xs. take (length a) xs) from ∙ take_at a rest (length a) refl;
@@ -55,11 +53,11 @@ pair_here head i place n rest at fits e =
     let here : place - 1 ≡ i = omega arith in
     let next : place + 1 - 1 ≡ i + 1 = omega arith in
     let at_high : octet head place ≡ high = ap (λ k. get_or head k 0) here ∙ octet_here head i high (low ∷ rest) e in
-    let from : drop (i + 1) head ≡ low ∷ rest = behind_here head i high (low ∷ rest) e in
+    let from : drop (i + 1) head ≡ low ∷ rest = drop_next i head high (low ∷ rest) e in
     let at_low : octet head (place + 1) ≡ low = ap (λ k. get_or head k 0) next ∙ octet_here head (i + 1) low rest from in
     record {
       number = ap (λ k. 256 * k + octet head (place + 1)) at_high ∙ ap (λ k. 256 * high + k) at_low ∙ pair_again high low n fits refl;
-      behind = ap (λ k. drop (k + 1) head) at ∙ behind_here head (i + 1) low rest from;
+      behind = ap (λ k. drop (k + 1) head) at ∙ drop_next (i + 1) head low rest from;
       within = omega (arith, within_here head (i + 1) low rest from);
     }
 

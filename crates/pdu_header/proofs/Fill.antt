@@ -1,6 +1,6 @@
 -- A piece that is put behind the octets that cells hold.
 use Rattle.std.proofs.Common.{◌≡◌, ◌∙◌, refl, sym, ap, subst, Bool, ℕ, ◌+◌, ◌-◌, ◌≤◌, List, ◌++◌, length, take, drop, replicate, arith}
-use Rattle.std.proofs.lemmas.List.{drop-replicate, length-drop, length-take-le, drop-drop}
+use Rattle.std.proofs.lemmas.List.{drop-replicate, drop-drop}
 use Rattle.std.proofs.lemmas.Slice.{drop-put_mid, take-put_mid}
 use borrow.Rule.Slice.PartMut.{put_mid}
 use Rattle.std.proofs.lemmas.Grind.{common_steps}
@@ -9,7 +9,7 @@ use Rattle.clnp_options.specs.Parameter.{Parameter, parameters, spelled}
 use Rattle.clnp_options.specs.Rules.{Accepts, IsWellFormed}
 use Rattle.clnp_base.specs.Inline.{IsInline, len_again}
 use Rattle.pdu_header.specs.Headers.{IsEdited}
-use Rattle.clnp_base.proofs.Laid.{length-put}
+use Rattle.clnp_base.proofs.Laid.{length-put, inline-put}
 
 pub held_push : (len count : ℕ) (cells piece new : List ℕ) → IsInline 254 len cells → count ≡ length piece → len + length piece ≤ 254 → new ≡ piece → IsInline 254 (len + length piece) (put_mid len count cells new)
 held_push len count cells piece new h e room n =
@@ -26,23 +26,6 @@ held_push len count cells piece new h e room n =
     })
 
 -- ---- a part that begins at a place was changed
-
-pub held_put : (start len : ℕ) (cells part : List ℕ) → IsInline 254 len cells → start ≤ len → length part ≡ len - start → IsInline 254 len (put_mid start (len - start) cells part)
-held_put start len cells part h within size =
-    let w = h.within in
-    let r = h.room in
-    record {
-      within = h.within;
-      few = h.few;
-      room = ap (λ k. length (put_mid start k cells part)) (sym size) ∙ length-put start cells part (omega arith) ∙ h.room;
-      zeros = drop-put_mid start (len - start) cells part len (omega arith) (omega arith) size ∙ h.zeros;
-    }
-
-pub part_size : (start len : ℕ) (cells part : List ℕ) → IsInline 254 len cells → start ≤ len → length part ≡ length (take (len - start) (drop start cells)) → length part ≡ len - start
-part_size start len cells part h within e =
-    let w = h.within in
-    let r = h.room in
-    e ∙ length-take-le (len - start) (drop start cells) (omega (arith, length-drop start cells))
 
 front_of : (start len : ℕ) (cells : List ℕ) → start ≤ len → take start cells ≡ take start (take len cells)
 front_of start len cells within = grind (arith, common_steps)
@@ -68,7 +51,7 @@ part_edited start len cells part self change held view within size octets formed
     let P : List ℕ → Type 0 = IsWellFormed in
     record {
       octets = new ∙ ap (λ t. take start self ++ t) e;
-      len = len_again 254 len (put_mid start (len - start) cells part) (held_put start len cells part held low size) ∙ sym long;
+      len = len_again 254 len (put_mid start (len - start) cells part) (inline-put 254 len start cells part held low size) ∙ sym long;
       well_formed = subst P e formed;
       accepted = λ is_report a. let Q : List ℕ → Type 0 = Accepts is_report in subst Q e (accepted is_report (subst Q (sym m) a));
     }

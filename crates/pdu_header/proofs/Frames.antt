@@ -14,8 +14,9 @@ use Rattle.clnp_base.proofs.Choices.{below_not, equal_is, if_none, none_if, not_
 use Rattle.pdu_header.proofs.Accepted.{accepted, accepting}
 use Rattle.pdu_header.proofs.Flags.{report_of_kind}
 use Rattle.pdu_header.proofs.Shape.{HasHeader, good_size, length_of_header, octet_of_header}
-use Rattle.pdu_header.proofs.Spelled.{IsHeader, octets_of_take, header_is, spelled_as}
+use Rattle.pdu_header.proofs.Spelled.{IsHeader, header_is, spelled_as}
 use Rattle.pdu_header.proofs.Read.{read_as}
+use Rattle.clnp_base.proofs.ListSteps.{bytes_of_take}
 
 pub has_header : (frame : List ℕ) → extent_refusal frame ≡ None → HasHeader frame
 unfolding extent_refusal
@@ -46,7 +47,7 @@ header_stands frame bytes protocol h =
     let extent = has_header frame parts.0 in
     let size = length_of_header frame extent in
     record {
-      bytes = octets_of_take frame (header_size frame) bytes;
+      bytes = bytes_of_take frame (header_size frame) bytes;
       protocol = octet_of_header frame 0 extent (omega arith) ∙ protocol;
       size = octet_of_header frame 1 extent (omega arith) ∙ sym size;
       long = omega (arith, extent.size);

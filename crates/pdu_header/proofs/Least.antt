@@ -19,9 +19,6 @@ least number (rule ∷ others) = option_or (at_place number rule.reason rule.bro
 
 -- ---- the chain is the least
 
-or_none : (a : Option OptionRefusal) → option_or a None ≡ a
-or_none a = sym (option_or-nothing a)
-
 -- a test in the chain
 test_or : (number reason place : ℕ) (b : Bool) (others : Option OptionRefusal) → (if b then Some (let s : OptionRefusal = record { rule = number; reason = reason; place = place } in s) else others) ≡ option_or (at_place number reason (if b then Some place else None)) others
 test_or number reason place true others = refl
@@ -29,7 +26,7 @@ test_or number reason place false others = refl
 
 chain_is_least : (frame : List ℕ) → refusal frame ≡ least 1 (table frame)
 unfolding refusal extent_refusal header_refusal fixed_part_refusal addresses_refusal lengths_refusal options_refusal form_refusal list_refusal table least
-chain_is_least frame = simp (test_or, option_or-assoc, or_none)
+chain_is_least frame = simp (test_or, option_or-assoc, option_or-nothing)
 
 -- ---- what the least is
 

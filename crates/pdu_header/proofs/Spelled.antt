@@ -1,5 +1,5 @@
 -- A header that breaks no rule, with its data, is spelled by the value that is read off.
-use Rattle.std.proofs.Common.{◌≡◌, ℕ, ◌+◌, ◌-◌, ◌^◌, ◌<◌, ◌≤◌, ◌==◌, ◌&&◌, not, Bool, true, false, if◌then◌else◌, List, [], ◌∷◌, ◌++◌, length, take, drop, get_or, Some, None, is_some, inl, inr, refl, sym, ◌∙◌, ap, subst, arith, length-drop}
+use Rattle.std.proofs.Common.{◌≡◌, ℕ, ◌+◌, ◌-◌, ◌^◌, ◌<◌, ◌≤◌, ◌==◌, ◌&&◌, not, Bool, true, false, if◌then◌else◌, List, [], ◌∷◌, ◌++◌, length, drop, get_or, Some, None, is_some, inl, inr, refl, sym, ◌∙◌, ap, subst, arith, length-drop}
 use Rattle.std.specs.Prelude.{nat_lt}
 use Rattle.std.proofs.lemmas.Bool.Decides.{nat_tests}
 use Rattle.std.proofs.lemmas.Grind.{common_steps}
@@ -14,12 +14,7 @@ use Rattle.pdu_header.proofs.Fields.{AreOctets, address_split, pair_split, spell
 use Rattle.pdu_header.proofs.Accepted.{IsAccepted, IsWithin, within, good_range}
 use Rattle.pdu_header.proofs.Flags.{code_of_kind, report_of_kind, flags_again, flags_octet}
 use Rattle.pdu_header.proofs.Shape.{nine_bare, same_layout, sealing_again, bare_again, pair_is_zero, pair_is_used, pair_of_octets, right_from_test}
-
-pub octets_of_drop : (xs : List ℕ) (n : ℕ) → AreOctets xs → AreOctets (drop n xs)
-octets_of_drop xs n h = λ i. grind (arith, common_steps, h (n + i))
-
-pub octets_of_take : (xs : List ℕ) (n : ℕ) → AreOctets xs → AreOctets (take n xs)
-octets_of_take xs n h = λ i. grind (arith, common_steps, h i)
+use Rattle.clnp_base.proofs.ListSteps.{bytes_of_drop, bytes_of_take}
 
 -- what stands where the addresses end is the segmentation part and the options
 pub part_split : (head : List ℕ) → AreOctets head → (i : ℕ) → part_place head ≡ i + 1
@@ -116,7 +111,7 @@ address_is head place bytes h =
     record {
       some = omega (arith, h.some);
       few = omega (arith, h.few);
-      bytes = octets_of_take (drop place head) (octet head place) (octets_of_drop head place bytes);
+      bytes = bytes_of_take (drop place head) (octet head place) (bytes_of_drop head place bytes);
     }
 
 pub pair_is_small : (head : List ℕ) (place : ℕ) → AreOctets head → pair_at head place < 2 ^ 16

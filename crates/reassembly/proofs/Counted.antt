@@ -3,7 +3,6 @@ use Rattle.std.proofs.Common.{◌≡◌, ℕ, ◌+◌, cond, List, [], ◌∷◌
 use Rattle.std.specs.Prelude.{sum}
 use Rattle.std.specs.List.{AllByRecursion}
 use Rattle.std.proofs.lemmas.Bool.{cases_Bool}
-use Rattle.std.proofs.lemmas.List.Sums.{sum_by-cons}
 use Rattle.std.proofs.lemmas.Simd.{map-map}
 use Rattle.clnp_views.specs.Extent.{Extent}
 use Rattle.reassembly.specs.declared.segment.Segment.{Segment}
@@ -14,6 +13,7 @@ use Rattle.reassembly.specs.Offered.{openings_of, total_size}
 use Rattle.reassembly.specs.State.{KeepsSegments, Stands, TableState, opening_of, segments_of}
 use Rattle.reassembly.proofs.Keys.{same_key-sym}
 use Rattle.reassembly.proofs.Slots.{openings_of-same, openings_of-other}
+use Rattle.clnp_base.proofs.Sums.{sum-cons}
 
 -- the weights of the segments of each opening
 abbrev pub weights : (Segment → ℕ) → List Segment → List Opening → List ℕ
@@ -22,9 +22,6 @@ weights weight segments openings = map (λ opening. sum (map weight (segments_of
 -- the weight of a segment at each opening of its key
 abbrev pub shares : (Segment → ℕ) → Segment → List Opening → List ℕ
 shares weight segment openings = map (λ opening. cond (same_key opening.key segment.key) (weight segment) 0) openings
-
-pub sum-cons : (x : ℕ) (xs : List ℕ) → sum (x ∷ xs) ≡ x + sum xs
-sum-cons x xs = sum_by-cons (λ (n : ℕ). n) x xs
 
 no_share : (weight : Segment → ℕ) (segment : Segment) (openings : List Opening) → openings_of segment.key openings ≡ 0
     → sum (shares weight segment openings) ≡ 0

@@ -4,7 +4,7 @@ use Rattle.std.specs.Prelude.{is_none, is_some}
 use Rattle.std.specs.List.{Contains, list_all, list_any, range_with_len}
 use Rattle.std.proofs.lemmas.Bool.{cases_Bool, cases_lt, and_parts, and_from, leb-true, ltb-true, le-leb, lt-ltb, lt-leb, both_ways, false_from_ne_true}
 use Rattle.std.proofs.lemmas.List.{length-map}
-use Rattle.clnp_base.proofs.Choices.{below_not}
+use Rattle.clnp_base.proofs.Choices.{below_not, none_is}
 use Rattle.clnp_base.proofs.Found.{any_contains, contains_any}
 use Rattle.clnp_base.proofs.Ranges.{all_by_each, each_of_all}
 use Rattle.reassembly.specs.declared.runs.Run.{Run}
@@ -28,12 +28,6 @@ not_behind place run high =
       | true ↦ below_not place run.to high
       | false ↦ refl
     ]
-
--- what is behind a place has none before it
-pub filler_before : (place from to : ℕ) (runs : List Run) → AreJoined from to runs → place < from → filler place runs ≡ None
-filler_before place from to [] joined low = refl
-filler_before place from to (run ∷ others) joined low =
-    rw (not_before place run (omega (arith, joined.0))) (filler_before place run.to to others joined.1.1 (omega (arith, joined.0, joined.1.0)))
 
 pub joined_order : (from to : ℕ) (runs : List Run) → AreJoined from to runs → from ≤ to
 joined_order from to [] joined = omega (arith, joined)
@@ -97,15 +91,11 @@ record Across (place : ℕ) (run : Run) : Type 0 where
   pub low : run.from < place
   pub high : place < run.to
 
-none_of : (by : Option ℕ) → is_none by ≡ true → by ≡ None
-none_of None e = refl
-none_of (Some x) e = absurd (cc)
-
 across : (place : ℕ) (run : Run) → is_across place run ≡ true → Across place run
 across place run e =
     let a = and_parts (is_hole run) (nat_lt run.from place && nat_lt place run.to) e in
     let b = and_parts (nat_lt run.from place) (nat_lt place run.to) a.1 in
-    record { hole = none_of run.by a.0; low = ltb-true run.from place b.0; high = ltb-true place run.to b.1 }
+    record { hole = none_is run.by a.0; low = ltb-true run.from place b.0; high = ltb-true place run.to b.1 }
 
 pub cut-joined : (place from to : ℕ) (runs : List Run) → AreJoined from to runs → AreJoined from to (cut place runs)
 cut-joined place from to [] joined = joined
@@ -235,7 +225,7 @@ mark-run from to by place run not_from not_to low high =
     elim (cases_Bool (is_hole run)) [
       | inr piece ↦ rw piece (filled_stays run.by piece _)
       | inl hole ↦
-          let none = none_of run.by hole in
+          let none = none_is run.by hole in
           elim (cases_lt run.from from) [
             | inl before ↦ (let apart : place < from = elim (cases_lt place from) [
               | inl l ↦ l
@@ -359,7 +349,7 @@ filled_tells test from len to high runs joined counted within tells =
           let least : from ≤ place = omega arith in
           let most : place < to = omega arith in
           let fills = fills_own place 0 high runs run joined gap.1 (have_from place run (omega arith) (omega arith)) in
-          let unfilled : test place ≡ false = tells place (omega arith) ∙ ap is_some (fills ∙ none_of run.by parts.0) in
+          let unfilled : test place ≡ false = tells place (omega arith) ∙ ap is_some (fills ∙ none_is run.by parts.0) in
           rw t (sym (false_from_ne_true (list_all test (range_with_len from len))
           (λ all. both_ways (test place) unfilled (each_of_all test from len place all least (omega arith)))))
       | inr f ↦

@@ -15,6 +15,7 @@ use Rattle.reassembly.proofs.Ended.{segments_of-others}
 use Rattle.reassembly.proofs.Keys.{same_key-other}
 use Rattle.reassembly.proofs.Filling.{or_else}
 use Rattle.reassembly.proofs.Run.{arrivals_of, covered_is, gives}
+use Rattle.clnp_base.proofs.ListSteps.{drop_next}
 
 module _ {X : Type 0} (p : X → Bool) where
   pub position-push : (n : ℕ) (xs : List X) (x : X)
@@ -96,17 +97,6 @@ drop_head zero (x ∷ xs) y ys e = let f : x ≡ y = cc in ap (λ (k : ℕ). Som
 drop_head (suc n) [] y ys e = absurd (cc)
 drop_head (suc n) (x ∷ xs) y ys e = drop_head n xs y ys e
 
-drop_more : (n : ℕ) (xs : List ℕ) (y : ℕ) (ys : List ℕ) → drop n xs ≡ y ∷ ys → drop (suc n) xs ≡ ys
-drop_more zero [] y ys e = absurd (cc)
-drop_more zero (x ∷ xs) y ys e = let f : xs ≡ ys = cc in f
-drop_more (suc n) [] y ys e = absurd (cc)
-drop_more (suc n) (x ∷ xs) y ys e = drop_more n xs y ys e
-
-drop_rest : (n : ℕ) (xs : List ℕ) (y : ℕ) (ys : List ℕ) → drop n xs ≡ y ∷ ys → drop (n + 1) xs ≡ ys
-drop_rest n xs y ys e =
-    let next : n + 1 ≡ suc n = omega arith in
-    ap (λ k. drop k xs) next ∙ drop_more n xs y ys e
-
 names_follow : (key : Key) (p : Segment → Bool) → ((s : Segment) → p s ≡ true → same_key s.key key ≡ false) → (names : List ℕ) (n next : ℕ) (segments : List Segment)
     → drop n names ≡ places_without key next segments → named_in names (position_from p n segments) ≡ position_from p next (others_of key segments)
 names_follow key p apart names n next [] e = refl
@@ -117,10 +107,10 @@ names_follow key p apart names n next (segment ∷ others) e =
             | inl it ↦ absurd (both_ways (same_key segment.key key) (apart segment it) t)
             | inr f ↦ f
           ] in
-          let rest : drop (n + 1) names ≡ places_without key next others = drop_rest n names next _ (rw t at e) in
+          let rest : drop (n + 1) names ≡ places_without key next others = drop_next n names next _ (rw t at e) in
           rw (fails, t) (names_follow key p apart names (n + 1) next others rest)
       | inr f ↦
-          let rest : drop (n + 1) names ≡ places_without key (next + 1) others = drop_rest n names next _ (rw f at e) in
+          let rest : drop (n + 1) names ≡ places_without key (next + 1) others = drop_next n names next _ (rw f at e) in
           elim (cases_Bool (p segment)) [
             | inl passes ↦ rw (passes, f, passes) (drop_head n names next _ e)
             | inr fails ↦ rw (fails, f, fails) (names_follow key p apart names (n + 1) (next + 1) others rest)

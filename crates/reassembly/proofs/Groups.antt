@@ -4,33 +4,20 @@ use Rattle.std.specs.Prelude.{slice_get, slice_set}
 use Rattle.std.specs.List.{insert, position_from, remove}
 use Rattle.std.proofs.lemmas.List.{drop-append-le, drop-drop, drop-map, drop_at, get_or-drop, get_or-take, length-drop, length-set, length-take, set-append_left, set-append_right, take-append-drop, take-append-le, take-map, take_all, take_at}
 use Rattle.std.proofs.lemmas.List.Edits.{insert-append_left, insert-append_right, length-insert}
-use Rattle.std.proofs.lemmas.List.Sums.{sum_by-cons}
 use Rattle.reassembly.specs.declared.runs.Run.{Run}
 use Rattle.std.proofs.lemmas.Option.{same_Some}
 use Rattle.clnp_base.proofs.Found.{is_first, none_found}
 use Rattle.reassembly.specs.Runs.{cut, groups_of, is_across, total_runs}
 use Rattle.reassembly.proofs.Filling.{NoneAcross, any_parts, cut_none}
-
-pub sum-of : (count : ℕ) (counts : List ℕ) → sum (count ∷ counts) ≡ count + sum counts
-sum-of count counts = sum_by-cons (λ (n : ℕ). n) count counts
+use Rattle.clnp_base.proofs.Sums.{sum-cons}
 
 pub sum_before : (counts : List ℕ) (slot : ℕ) → slot < length counts → sum (take slot counts) + get_or counts slot 0 ≤ sum counts
 sum_before [] slot within = absurd (omega arith)
-sum_before (count ∷ counts) zero within = let e = sum-of count counts in omega arith
+sum_before (count ∷ counts) zero within = let e = sum-cons count counts in omega arith
 sum_before (count ∷ counts) (suc slot) within =
     let rest = sum_before counts slot (omega arith) in
-    let e = sum-of count counts in
-    let f = sum-of count (take slot counts) in
-    omega arith
-
-pub sum_first : (counts : List ℕ) (slot : ℕ) → sum (take slot counts) ≤ sum counts
-sum_first [] zero = omega arith
-sum_first [] (suc slot) = omega arith
-sum_first (count ∷ counts) zero = omega arith
-sum_first (count ∷ counts) (suc slot) =
-    let rest = sum_first counts slot in
-    let e = sum-of count counts in
-    let f = sum-of count (take slot counts) in
+    let e = sum-cons count counts in
+    let f = sum-cons count (take slot counts) in
     omega arith
 
 pub length-groups : (counts : List ℕ) (runs : List Run) → length (groups_of counts runs) ≡ length counts
@@ -43,7 +30,7 @@ group_at [] runs slot within = absurd (omega arith)
 group_at (count ∷ counts) runs zero within = refl
 group_at (count ∷ counts) runs (suc slot) within =
     let rest = group_at counts (drop count runs) slot (omega arith) in
-    let e = sum-of count (take slot counts) in
+    let e = sum-cons count (take slot counts) in
     let there : drop (sum (take slot counts)) (drop count runs) ≡ drop (sum (count ∷ take slot counts)) runs
     = drop-drop (sum (take slot counts)) count runs ∙ ap (λ n. drop n runs) (sym e) in
     rest ∙ ap (λ l. Some (take (get_or counts slot 0) l)) there
@@ -61,7 +48,7 @@ group_replaced (count ∷ counts) zero [] group new after within at long =
     ∙ ap (λ l. new ∷ groups_of counts l) (b ∙ sym c)
 group_replaced (count ∷ counts) zero (run ∷ before) group new after within at long = absurd (omega arith)
 group_replaced (count ∷ counts) (suc slot) before group new after within at long =
-    let e = sum-of count (take slot counts) in
+    let e = sum-cons count (take slot counts) in
     let most : count ≤ length before = omega arith in
     let less : length (drop count before) ≡ sum (take slot counts) = (let d = length-drop count before in omega arith) in
     let rest = group_replaced counts slot (drop count before) group new after (omega arith) less long in
@@ -78,7 +65,7 @@ group_removed [] slot before group after within at long = absurd (omega arith)
 group_removed (count ∷ counts) zero [] group after within at long = ap (groups_of counts) (sym (drop_at group after count long))
 group_removed (count ∷ counts) zero (run ∷ before) group after within at long = absurd (omega arith)
 group_removed (count ∷ counts) (suc slot) before group after within at long =
-    let e = sum-of count (take slot counts) in
+    let e = sum-cons count (take slot counts) in
     let most : count ≤ length before = omega arith in
     let less : length (drop count before) ≡ sum (take slot counts) = (let d = length-drop count before in omega arith) in
     let rest = group_removed counts slot (drop count before) group after (omega arith) less long in
@@ -87,30 +74,13 @@ group_removed (count ∷ counts) (suc slot) before group after within at long =
     ∙ ap (λ l. take count (before ++ (group ++ after)) ∷ l) rest
     ∙ ap (λ l. take count (before ++ (group ++ after)) ∷ remove (groups_of counts l) slot) (sym (drop-append-le count before (group ++ after) most))
 
-pub sum-removed : (counts : List ℕ) (slot : ℕ) → slot < length counts → sum (remove counts slot) + get_or counts slot 0 ≡ sum counts
-sum-removed [] slot within = absurd (omega arith)
-sum-removed (count ∷ counts) zero within = let e = sum-of count counts in omega arith
-sum-removed (count ∷ counts) (suc slot) within =
-    let rest = sum-removed counts slot (omega arith) in
-    let e = sum-of count counts in
-    let f = sum-of count (remove counts slot) in
-    omega arith
-
 pub sum-set : (counts : List ℕ) (slot count : ℕ) → slot < length counts → sum (slice_set counts slot count) + get_or counts slot 0 ≡ sum counts + count
 sum-set [] slot count within = absurd (omega arith)
-sum-set (first ∷ counts) zero count within = let e = sum-of first counts in let f = sum-of count counts in omega arith
+sum-set (first ∷ counts) zero count within = let e = sum-cons first counts in let f = sum-cons count counts in omega arith
 sum-set (first ∷ counts) (suc slot) count within =
     let rest = sum-set counts slot count (omega arith) in
-    let e = sum-of first counts in
-    let f = sum-of first (slice_set counts slot count) in
-    omega arith
-
-pub sum-pushed : (counts : List ℕ) (count : ℕ) → sum (counts ++ count ∷ []) ≡ sum counts + count
-sum-pushed [] count = let e = sum-of count [] in omega arith
-sum-pushed (first ∷ counts) count =
-    let rest = sum-pushed counts count in
-    let e = sum-of first counts in
-    let f = sum-of first (counts ++ count ∷ []) in
+    let e = sum-cons first counts in
+    let f = sum-cons first (slice_set counts slot count) in
     omega arith
 
 -- a group more, at the end
@@ -119,7 +89,7 @@ pub group_pushed : (counts : List ℕ) (runs new : List Run) → sum counts ≡ 
 group_pushed [] [] new all = ap (λ l. l ∷ []) (take_all (length new) new (omega arith))
 group_pushed [] (run ∷ runs) new all = absurd (omega arith)
 group_pushed (count ∷ counts) runs new all =
-    let e = sum-of count counts in
+    let e = sum-cons count counts in
     let most : count ≤ length runs = omega arith in
     let rest = group_pushed counts (drop count runs) new (let d = length-drop count runs in omega arith) in
     ap (λ l. l ∷ groups_of (counts ++ length new ∷ []) (drop count (runs ++ new))) (take-append-le count runs new most)
@@ -136,11 +106,11 @@ groups-map f (count ∷ counts) runs =
 pub total-groups : (counts : List ℕ) (runs : List Run) → sum counts ≡ length runs → total_runs (groups_of counts runs) ≡ length runs
 total-groups [] runs all = all
 total-groups (count ∷ counts) runs all =
-    let e = sum-of count counts in
+    let e = sum-cons count counts in
     let t = length-take count runs in
     let d = length-drop count runs in
     let rest = total-groups counts (drop count runs) (omega arith) in
-    let f = sum-of (length (take count runs)) (map (λ runs. length runs) (groups_of counts (drop count runs))) in
+    let f = sum-cons (length (take count runs)) (map (λ runs. length runs) (groups_of counts (drop count runs))) in
     omega arith
 
 -- ---- one list, seen as what stands before a group, the group, and what stands behind it
@@ -236,16 +206,6 @@ module _ (counts : List ℕ) (runs : List Run) (groups : List (List Run)) (group
         ∙ ap (λ l. remove (groups_of counts l) slot) (sym (parted runs start count))
         ∙ ap (λ l. remove l slot) groups_are
 
-    pub taken_sum : (after : List Run) (counted : List ℕ) → after ≡ before ++ drop (start + count) runs → counted ≡ remove counts slot
-        → sum counted ≡ length after
-    taken_sum after counted after_is counted_is =
-        let set = ap sum counted_is in
-        let s = sum-removed counts slot (inside slot within) in
-        let l = ap length after_is in
-        let m = length-append before (drop (start + count) runs) in
-        let d = length-drop (start + count) runs in
-        omega (arith, set, s, l, m, d, long_before, fits, all, start_is, count_is)
-
   pub pushed : (new after : List Run) (counted : List ℕ) → after ≡ runs ++ new → counted ≡ counts ++ length new ∷ []
       → groups_of counted after ≡ groups ++ new ∷ []
   pushed new after counted after_is counted_is =
@@ -323,13 +283,13 @@ pub total-set : (groups : List (List Run)) (slot : ℕ) (runs new : List Run) �
 total-set [] slot runs new e = absurd (cc)
 total-set (first ∷ others) zero runs new e =
     let same : first ≡ runs = same_Some first runs e in
-    let a = sum-of (length new) (map (λ runs. length runs) others) in
-    let b = sum-of (length first) (map (λ runs. length runs) others) in
+    let a = sum-cons (length new) (map (λ runs. length runs) others) in
+    let b = sum-cons (length first) (map (λ runs. length runs) others) in
     omega (arith, a, b, ap length same)
 total-set (first ∷ others) (suc slot) runs new e =
     let rest = total-set others slot runs new e in
-    let a = sum-of (length first) (map (λ runs. length runs) (slice_set others slot new)) in
-    let b = sum-of (length first) (map (λ runs. length runs) others) in
+    let a = sum-cons (length first) (map (λ runs. length runs) (slice_set others slot new)) in
+    let b = sum-cons (length first) (map (λ runs. length runs) others) in
     omega (arith, a, b, rest)
 
 pub set-set : (groups : List (List Run)) (slot : ℕ) (first second : List Run) → slice_set (slice_set groups slot first) slot second ≡ slice_set groups slot second

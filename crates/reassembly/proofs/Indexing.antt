@@ -24,12 +24,12 @@ use Rattle.reassembly.proofs.Counted.{counted_once, ones, weights}
 use Rattle.reassembly.proofs.Filling.{or_else, have_from, joined_order, not_behind, filled-filler, filled-joined, filled_tells, length-filled, renamed-filler, renamed-joined}
 use Rattle.reassembly.proofs.Givers.{covered-giver, giver-none, giver-other, giver-others, giver-same, lack-others, lack_first, lack_last}
 use Rattle.reassembly.proofs.Ended.{segments_of-others}
-use Rattle.reassembly.proofs.Groups.{sum-of}
 use Rattle.reassembly.proofs.Keeping.{segments_of-other, segments_of-same}
 use Rattle.reassembly.proofs.Keys.{same_key-like, same_key-true}
 use Rattle.reassembly.proofs.Run.{arrivals_of}
 use Rattle.reassembly.proofs.Slots.{openings_of-other, openings_of-same}
 use Rattle.reassembly.proofs.Whole.{some_at}
+use Rattle.clnp_base.proofs.Sums.{sum-cons}
 
 -- ---- keys are of one opening each
 
@@ -266,8 +266,8 @@ total_each segments (opening ∷ openings) [] number each = absurd (omega (arith
 total_each segments (opening ∷ openings) (runs ∷ groups) number each =
     let rest = total_each segments openings groups (omega (arith, number)) (λ slot. each (suc slot)) in
     let here = each 0 opening runs refl refl in
-    let a = sum-of (length runs) (map (λ r. length r) groups) in
-    let b = sum-of (sum (map (λ (s : Segment). 1) (segments_of opening.key segments))) (weights (λ (s : Segment). 1) segments openings) in
+    let a = sum-cons (length runs) (map (λ r. length r) groups) in
+    let b = sum-cons (sum (map (λ (s : Segment). 1) (segments_of opening.key segments))) (weights (λ (s : Segment). 1) segments openings) in
     omega (arith, rest, here.few, a, b, ones (segments_of opening.key segments), lack_one (giver opening.key 0 segments), lack_one (giver opening.key (data_len opening.shape - 1) segments))
 
 pub total_few : (segments : List Segment) (openings : List Opening) (groups : List (List Run)) → IsIndexOf segments openings groups

@@ -18,8 +18,8 @@ use Rattle.reassembly.specs.State.{KeepsSegments, MayKeep, Stands, TableState, o
 use Rattle.reassembly.proofs.Keys.{same_key-like, same_key-sym}
 use Rattle.reassembly.proofs.Slots.{no_segments, openings_of-other, openings_of-same, slot_missing, slot_there}
 use Rattle.reassembly.proofs.Standing.{buffer_missing, buffer_there, of_found}
-use Rattle.reassembly.proofs.Opened.{all_push, openings_with-none, openings_with-some}
-use Rattle.clnp_base.proofs.Lists.{AllByRecursion-slice_get}
+use Rattle.reassembly.proofs.Opened.{openings_with-none, openings_with-some}
+use Rattle.clnp_base.proofs.Lists.{AllByRecursion-slice_get, AllByRecursion-push}
 
 -- the buffer has the segments of its key among these
 abbrev pub Keeps : List Segment → Buffer Extent → Type 0
@@ -117,7 +117,7 @@ stands_with now segment table buffers stands owned (inl none) =
           ∙ (ap (λ (openings : List Opening). openings ++ opening_by table.limits now segment ∷ []) stands.openings
           ∙ (sym (map-append opening_of buffers (opened_by table.limits now (arrival_of segment) ∷ []))
           ∙ ap (map opening_of) (sym new)));
-      segments = rw new (all_push (Keeps (table.segments ++ segment ∷ [])) buffers (opened_by table.limits now (arrival_of segment))
+      segments = rw new (AllByRecursion-push (Keeps (table.segments ++ segment ∷ [])) buffers (opened_by table.limits now (arrival_of segment))
           (keep_others table.segments segment buffers absent stands.segments) last);
     }
 stands_with now segment table buffers stands owned (inr one) =

@@ -2,7 +2,6 @@
 use Rattle.std.proofs.Common.{◌≡◌, ◌∙◌, ◌&&◌, ◌==◌, true, false, refl, sym, ap}
 use Rattle.std.specs.Bool.{Decides}
 use Rattle.std.specs.Str.{bytes_eq}
-use Rattle.std.proofs.lemmas.Bool.{false_from_ne_true, true≢false}
 use Rattle.std.proofs.lemmas.Bool.Decides.{Decides-and, Decides-eqb, Decides-like, same_from_decides}
 use Rattle.std.proofs.lemmas.Slice.Eq.{bytes_eq-Decides}
 use Rattle.reassembly.specs.declared.segment.Key.{Key}
@@ -37,10 +36,6 @@ same_key-refl key = same_key-like key key refl
 -- what has one key hasn't another
 pub same_key-other : (a key other : Key) → same_key a key ≡ true → same_key key other ≡ false → same_key a other ≡ false
 same_key-other a key other t f = ap (λ k. same_key k other) (same_key-true a key t) ∙ f
-
-pub not_same-other : (a key other : Key) → same_key a other ≡ true → same_key key other ≡ false → same_key a key ≡ false
-not_same-other a key other t f =
-    false_from_ne_true (same_key a key) (λ same. true≢false (sym t ∙ same_key-other a key other same f))
 
 pub same_key-false_sym : (a b : Key) → same_key a b ≡ false → same_key b a ≡ false
 same_key-false_sym a b f = same_key-sym b a ∙ f

@@ -1,5 +1,5 @@
 -- What keeping and taking out leave of the buffers: their deadlines, their segments, and the buffers as they were.
-use Rattle.std.proofs.Common.{◌≡◌, ℕ, ◌<◌, List, [], ◌∷◌, ◌++◌, Some, None, length, refl, ap, ◌∙◌, inl, inr, arith}
+use Rattle.std.proofs.Common.{◌≡◌, ℕ, not, subst, ◌<◌, List, [], ◌∷◌, ◌++◌, Some, None, length, refl, ap, ◌∙◌, inl, inr, arith}
 use Rattle.std.proofs.lemmas.Bool.{cases_Bool}
 use Rattle.std.proofs.lemmas.List.{length_push}
 use Rattle.reassembly.specs.declared.segment.Key.{Key}
@@ -7,9 +7,11 @@ use Rattle.reassembly.specs.declared.table.TableLimits.{TableLimits}
 use Rattle.reassembly.specs.Arrival.{Arrival, same_key}
 use Rattle.reassembly.specs.Buffer.{Buffer, buffer_of, refusal, with_kept, after, buffers_of, without, but_last, holding, undone}
 use Rattle.reassembly.specs.Claims.{StaysWithDeadline, NoneIsEmpty}
-use Rattle.reassembly.proofs.Keys.{same_key-refl}
+use Rattle.reassembly.proofs.Keys.{same_key-refl, same_key-true}
 use Rattle.reassembly.proofs.LawKept.{kept_or_not}
 use Rattle.std.proofs.lemmas.Option.{same_Some}
+use Rattle.clnp_base.proofs.Filters.{AllByRecursion-filter}
+use Rattle.std.specs.List.{AllByRecursion}
 
 module _ {C : Type 0} where
   -- the buffer of a key as it was, found among later buffers
@@ -97,6 +99,26 @@ module _ {C : Type 0} where
   but_last-push [] arrival = refl
   but_last-push (first ∷ []) arrival = refl
   but_last-push (first ∷ next ∷ others) arrival = ap (λ rest. first ∷ rest) (but_last-push (next ∷ others) arrival)
+
+  -- the buffer of a key has that key
+  pub key_found : (key : Key) (buffers : List (Buffer C)) (buffer : Buffer C) → buffer_of key buffers ≡ Some buffer → buffer.key ≡ key
+  key_found key [] buffer found = absurd (cc)
+  key_found key (first ∷ others) buffer found =
+      elim (cases_Bool (same_key first.key key)) [
+        | inl same ↦
+            subst (λ (b : Buffer C). b.key ≡ key) (same_Some first buffer (rw same at found)) (same_key-true first.key key same)
+        | inr other ↦ key_found key others buffer (rw other at found)
+      ]
+
+  -- the buffers without that in which a segment was kept are some of those that were there
+  pub others_with_kept : (P : Buffer C → Type 0) (limits : TableLimits) (now : ℕ) (arrival : Arrival C) (buffers : List (Buffer C)) → AllByRecursion P buffers
+      → AllByRecursion P (without arrival.key (with_kept limits now arrival buffers))
+  others_with_kept P limits now arrival [] all = rw (same_key-refl arrival.key) tt
+  others_with_kept P limits now arrival (buffer ∷ others) all =
+      elim (cases_Bool (same_key buffer.key arrival.key)) [
+        | inl same ↦ rw (same, same) (AllByRecursion-filter (λ b. not (same_key b.key arrival.key)) P P (λ b t h. h) others all.1)
+        | inr other ↦ rw (other, other) (all.0, others_with_kept P limits now arrival others all.1)
+      ]
 
   holding-its_own : (buffer : Buffer C) (arrivals : List (Arrival C)) → 0 < length buffer.kept
       → arrivals ≡ buffer.kept → (others : List (Arrival C))

@@ -1,5 +1,5 @@
 -- No buffer is whole but the one that an answer says is.
-use Rattle.std.proofs.Common.{◌≡◌, ◌≢◌, ◌∙◌, sym, ap, subst, refl, ℕ, List, [], Option, Some, None}
+use Rattle.std.proofs.Common.{◌≡◌, ◌≢◌, ◌∙◌, sym, ap, subst, refl, ℕ, List, Option, None}
 use Rattle.std.specs.Option.{option_map}
 use Rattle.clnp_views.specs.Extent.{Extent}
 use Rattle.reassembly.specs.declared.segment.Key.{Key}
@@ -9,14 +9,12 @@ use Rattle.reassembly.specs.declared.table.Accept.TheVariants as accept
 use Rattle.reassembly.specs.declared.table.Expired.{Expired}
 use Rattle.reassembly.specs.declared.table.SlotNo.{SlotNo}
 use Rattle.reassembly.specs.Arrival.{arrival_of}
-use Rattle.reassembly.specs.Buffer.{Buffer, Whole, after, answer, answer_of, buffers_of, due, first_carried, kept_answer, refusal, undone, with_kept, without, without_due}
+use Rattle.reassembly.specs.Buffer.{Buffer, Whole, after, answer, answer_of, buffers_of, due, first_carried, kept_answer, refusal, undone, with_kept, without_due}
 use Rattle.reassembly.specs.NoWhole.{HasNoWhole, IsCompleted}
 use Rattle.reassembly.specs.State.{IsReady, IsWholeSlot, Names, Stands, TableState, said}
 pub use Rattle.reassembly.proofs.Ready.{none_whole-without_due}
 use Rattle.reassembly.proofs.Ready.{none_whole-after, none_whole-released, none_whole-undone, said_not_whole, whole_slot}
-
-pub empty_none_whole : (table : TableState) → Stands table [] → HasNoWhole table
-empty_none_whole table stands = record { buffers = []; stands = stands; none_whole = tt }
+use Rattle.clnp_base.proofs.Choices.{none_mapped}
 
 module _ (old new : TableState) (now : ℕ) (segment : Segment) (told : Accept) (ready : IsReady now old)
     (answered : (buffers : List (Buffer Extent)) → Stands old buffers → said told ≡ answer old.limits now (arrival_of segment) buffers)
@@ -51,13 +49,6 @@ module _ (old new : TableState) (now : ℕ) (segment : Segment) (told : Accept) 
             (λ whole. said_not_whole told not (answered ready.buffers ready.stands ∙ whole));
       }
 
--- where the completed buffer was taken out, or its last segment
-pub released_none_whole : (old new : TableState) (slot : ℕ)
-    → ((buffers : List (Buffer Extent)) (key : Key) → Stands old buffers → Names old slot key → Stands new (without key buffers))
-    → IsCompleted old slot → HasNoWhole new
-released_none_whole old new slot stands is =
-    record { buffers = without is.key is.buffers; stands = stands is.buffers is.key is.stands is.named; none_whole = is.none_without }
-
 pub undone_none_whole : (old new : TableState) (slot : ℕ)
     → ((buffers : List (Buffer Extent)) (key : Key) → Stands old buffers → Names old slot key → Stands new (undone key buffers))
     → IsCompleted old slot → HasNoWhole new
@@ -75,15 +66,11 @@ module _ (old new : TableState) (now : ℕ)
         none_whole = none_whole-without_due (due now none.buffers) none.buffers none.none_whole;
       }
 
-  no_result : {X Y : Type 0} (f : X → Y) (found : Option X) → option_map f found ≡ None → found ≡ None
-  no_result f None e = refl
-  no_result f (Some x) e = absurd (cc)
-
   pub expired_ready : (told : Option Expired)
       → ((buffers : List (Buffer Extent)) → Stands old buffers → told ≡ option_map (λ ended. record { key = ended.key; first = first_carried ended }) (due now buffers))
       → HasNoWhole old → told ≡ None → IsReady now new
   expired_ready told ended none e =
-      let nothing = no_result (λ (ended : Buffer Extent). record { key = ended.key; first = first_carried ended }) (due now none.buffers)
+      let nothing = none_mapped (λ (ended : Buffer Extent). record { key = ended.key; first = first_carried ended }) (due now none.buffers)
       (sym (ended none.buffers none.stands) ∙ e) in
       record {
         buffers = none.buffers;

@@ -1,5 +1,5 @@
 -- One opening more, and one segment more.
-use Rattle.std.proofs.Common.{◌≡◌, ℕ, ◌+◌, ◌<◌, ◌≤◌, ◌==◌, true, false, List, [], ◌∷◌, ◌++◌, Option, Some, None, slice_get, length, ap, sym, ◌∙◌, refl, zero-add, inl, inr, arith}
+use Rattle.std.proofs.Common.{◌≡◌, ℕ, ◌+◌, ◌<◌, ◌≤◌, ◌==◌, true, false, List, [], ◌∷◌, ◌++◌, Some, slice_get, length, ap, sym, ◌∙◌, refl, zero-add, inl, inr, arith}
 use Rattle.std.specs.List.{AllByRecursion}
 use Rattle.std.proofs.lemmas.Bool.{cases_Bool, ne_eqb}
 use Rattle.std.proofs.lemmas.List.{length_push}
@@ -14,12 +14,9 @@ use Rattle.reassembly.specs.Offered.{MayCome, openings_of, total_size}
 use Rattle.reassembly.specs.Sound.{IsSound}
 use Rattle.reassembly.proofs.Keys.{same_key-true, same_key-like}
 use Rattle.reassembly.proofs.Slots.{openings_of-same, openings_of-other}
+use Rattle.clnp_base.proofs.Lists.{AllByRecursion-push}
 
 module _ {X : Type 0} where
-  pub all_push : (P : X → Type 0) (xs : List X) (y : X) → AllByRecursion P xs → P y → AllByRecursion P (xs ++ y ∷ [])
-  all_push P [] y all last = (last, tt)
-  all_push P (x ∷ xs) y all last = (all.0, all_push P xs y all.1 last)
-
   pub slice_get_push : (xs : List X) (y : X) → slice_get (xs ++ y ∷ []) (length xs) ≡ Some y
   slice_get_push [] y = refl
   slice_get_push (x ∷ xs) y = slice_get_push xs y
@@ -64,10 +61,10 @@ pub sound_opened : (limits : TableLimits) (openings : List Opening) (segments : 
     → IsSound limits openings segments held → openings_of opening.key openings ≡ 0 → length openings < limits.slots
     → opening.shape.head_len < opening.shape.total → IsSound limits (openings ++ opening ∷ []) segments held
 sound_opened limits openings segments held opening sound none room shaped = record {
-  distinct = all_push (λ other. openings_of other.key (openings ++ opening ∷ []) ≡ 1) openings opening
+  distinct = AllByRecursion-push (λ other. openings_of other.key (openings ++ opening ∷ []) ≡ 1) openings opening
       (all_still_one (λ (other : Opening). other.key) openings opening openings none sound.distinct)
       (openings_of-itself openings opening none);
-  shaped = all_push (λ other. other.shape.head_len < other.shape.total) openings opening sound.shaped shaped;
+  shaped = AllByRecursion-push (λ other. other.shape.head_len < other.shape.total) openings opening sound.shaped shaped;
   owned = all_still_one (λ (segment : Segment). segment.key) openings opening segments none sound.owned;
   came = sound.came;
   held_is = sound.held_is;
@@ -95,8 +92,8 @@ pub sound_more : (limits : TableLimits) (openings : List Opening) (segments : Li
 sound_more limits openings segments held segment sound one may within room = record {
   distinct = sound.distinct;
   shaped = sound.shaped;
-  owned = all_push (λ other. openings_of other.key openings ≡ 1) segments segment sound.owned one;
-  came = all_push MayCome segments segment sound.came may;
+  owned = AllByRecursion-push (λ other. openings_of other.key openings ≡ 1) segments segment sound.owned one;
+  came = AllByRecursion-push MayCome segments segment sound.came may;
   held_is = (let e = total_size-more segments segment in let h = sound.held_is in omega arith);
   budget = within;
   few_segments = (let e = length_push segments segment in omega arith);
@@ -118,8 +115,3 @@ pub openings_with-some : (limits : TableLimits) (now : ℕ) (segment : Segment) 
 openings_with-some limits now segment openings some =
     let test : (openings_of segment.key openings == 0) ≡ false = ne_eqb (openings_of segment.key openings) 0 (λ e. omega arith) in
     rw test refl
-
--- an option that isn't some value is none
-pub none_since : {A : Type 0} (option : Option A) → ((x : A) → option ≡ Some x → ⊥) → option ≡ None
-none_since None not = refl
-none_since (Some x) not = absurd (not x refl)

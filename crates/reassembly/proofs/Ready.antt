@@ -8,29 +8,21 @@ use Rattle.reassembly.specs.declared.segment.Key.{Key}
 use Rattle.reassembly.specs.declared.segment.Segment.{Segment}
 use Rattle.reassembly.specs.declared.table.TableLimits.{TableLimits}
 use Rattle.reassembly.specs.Arrival.{Arrival, are_covered, arrival_of, same_key}
-use Rattle.reassembly.specs.Buffer.{Answer, Buffer, Crowded, Held, Interference, Many, NoSlot, Repeat, Whole, after, answer, answer_of, buffer_of, buffers_of, but_last, clashes, held, holding, is_whole, is_whole_in, kept, kept_answer, kept_in, refusal, shape_in, undone, with_kept, without, without_due}
+use Rattle.reassembly.specs.Buffer.{Answer, Buffer, Crowded, Held, Interference, Many, NoSlot, Repeat, Whole, after, answer, answer_of, buffer_of, buffers_of, clashes, held, holding, is_whole, is_whole_in, kept, kept_answer, kept_in, refusal, shape_in, undone, with_kept, without, without_due}
 use Rattle.reassembly.specs.declared.table.Accept.{Accept}
 use Rattle.reassembly.specs.declared.table.Accept.TheVariants as accept
 use Rattle.reassembly.specs.declared.table.SlotNo.{SlotNo}
 use Rattle.reassembly.specs.Claims.{IsMadeWhole}
 use Rattle.reassembly.specs.State.{IsWholeSlot, Names, Stands, TableState, said}
-use Rattle.reassembly.proofs.Keys.{same_key-like, same_key-true}
+use Rattle.reassembly.proofs.Keys.{same_key-like}
 use Rattle.clnp_base.proofs.Filters.{AllByRecursion-filter}
+use Rattle.reassembly.proofs.LawBuffers.{but_last-push, key_found, others_with_kept}
 
 -- a chain of tests that doesn't come to an answer of a whole unit
 cond_not_whole : (test : Bool) (told : Answer) (others : Option Answer) → (told ≡ Whole → ⊥) → (others ≡ Some Whole → ⊥)
     → cond test (Some told) others ≡ Some Whole → ⊥
 cond_not_whole true told others here there e = here (let f : Some told ≡ Some Whole = e in cc)
 cond_not_whole false told others here there e = there e
-
-key_found : (key : Key) (buffers : List (Buffer Extent)) (buffer : Buffer Extent) → buffer_of key buffers ≡ Some buffer → buffer.key ≡ key
-key_found key [] buffer found = absurd (cc)
-key_found key (first ∷ others) buffer found =
-    elim (cases_Bool (same_key first.key key)) [
-      | inl same ↦ (let f : Some first ≡ Some buffer = rw same at found in let e : first ≡ buffer = cc in
-          subst (λ (b : Buffer Extent). b.key ≡ key) e (same_key-true first.key key same))
-      | inr other ↦ key_found key others buffer (rw other at found)
-    ]
 
 module _ {C : Type 0} where
   abbrev pub IsNotWhole : Buffer C → Type 0
@@ -116,27 +108,12 @@ module _ {C : Type 0} where
   none_whole-without_due None buffers none = none
   none_whole-without_due (Some ended) buffers none = none_whole-without ended.key buffers none
 
-  -- no other buffer than that of the segment's key is made whole
-  none_whole-others : (limits : TableLimits) (now : ℕ) (arrival : Arrival C) (buffers : List (Buffer C)) → AllByRecursion IsNotWhole buffers
-      → AllByRecursion IsNotWhole (without arrival.key (with_kept limits now arrival buffers))
-  none_whole-others limits now arrival [] none = rw (same_key-like arrival.key arrival.key refl) tt
-  none_whole-others limits now arrival (buffer ∷ others) none =
-      elim (cases_Bool (same_key buffer.key arrival.key)) [
-        | inl same ↦ rw same (rw same (none_whole-without arrival.key others none.1))
-        | inr other ↦ rw other (rw other (none.0, none_whole-others limits now arrival others none.1))
-      ]
-
   pub none_whole-released : (limits : TableLimits) (now : ℕ) (arrival : Arrival C) (buffers : List (Buffer C)) → AllByRecursion IsNotWhole buffers
       → answer limits now arrival buffers ≡ Whole → AllByRecursion IsNotWhole (without arrival.key (after limits now arrival buffers))
   none_whole-released limits now arrival buffers none whole =
-      rw ((made_whole limits now arrival buffers whole).after_is) (none_whole-others limits now arrival buffers none)
+      rw ((made_whole limits now arrival buffers whole).after_is) (others_with_kept IsNotWhole limits now arrival buffers none)
 
   -- a segment that is kept and taken out again leaves no other buffers than there were
-  but_last-push : (arrivals : List (Arrival C)) (arrival : Arrival C) → but_last (arrivals ++ arrival ∷ []) ≡ arrivals
-  but_last-push [] arrival = refl
-  but_last-push (first ∷ []) arrival = refl
-  but_last-push (first ∷ next ∷ others) arrival = ap (λ (l : List (Arrival C)). first ∷ l) (but_last-push (next ∷ others) arrival)
-
   all_holding : (P : Buffer C → Type 0) (buffer : Buffer C) (arrivals : List (Arrival C)) (others : List (Buffer C)) → P (record buffer { kept = arrivals })
       → AllByRecursion P others → AllByRecursion P (holding arrivals buffer ++ others)
   all_holding P buffer [] others here all = all

@@ -24,3 +24,6 @@ pub use Rattle.reassembly.proofs.LawDue.{due_is, due_of_none, none_due}
 pub use Rattle.reassembly.proofs.LawTimes.{none_due-after, none_due-without}
 -- what_is_carried_changes_nothing
 pub use Rattle.reassembly.proofs.Mapped.{after-mapped, answer-mapped, buffer_of-mapped, data_of-mapped, due-mapped, first_carried-mapped, held-mapped, is_whole-mapped, kept-mapped, undone-mapped, without-mapped, without_due-mapped}
+-- and what holds beside them
+pub use Rattle.reassembly.proofs.LawBuffers.{but_last-push, key_found, others_with_kept}
+pub use Rattle.reassembly.proofs.Ready.{said_not_whole}

@@ -1,8 +1,8 @@
 -- Addresses of which no two are the same.
-use Rattle.std.proofs.Common.{◌≡◌, ◌≢◌, AllPairs, ℕ, zero, suc, ◌||◌, Bool, true, false, nat_eq, List, [], ◌∷◌, ◌++◌, map, refl, sym, ◌∙◌, ap, arith, append_assoc}
+use Rattle.std.proofs.Common.{◌≡◌, ◌≢◌, AllPairs, ℕ, zero, suc, false, nat_eq, List, [], ◌∷◌, ◌++◌, map, refl, sym, ◌∙◌, ap, arith, append_assoc}
 use Rattle.std.specs.List.{AllByRecursion, flat_map}
 use Rattle.std.specs.Cmp.Lexicographic.{pointwise, nat_list_eq_equiv}
-use Rattle.std.proofs.lemmas.Bool.{true≢false}
+use Rattle.std.proofs.lemmas.Bool.{true≢false, or_parts}
 use Rattle.std.proofs.lemmas.List.Elements.{All-from_recursion}
 use Rattle.std.proofs.lemmas.List.Kept.{AllPairs-cons}
 use Rattle.std.proofs.lemmas.Option.{slice_get_within, get_or_from_slice_get}
@@ -54,10 +54,6 @@ before_is_other (first ∷ front) x behind h =
     let others = all_behind (λ other. (first ≢ other) × (other ≢ first)) front (x ∷ behind) h.0 in
     (others.0.0, before_is_other front x behind h.1)
 
-pub either_false : (a b : Bool) → (a || b) ≡ false → (a ≡ false) × (b ≡ false)
-either_false true b h = absurd (true≢false h)
-either_false false b h = (refl, h)
-
 differ : (address other : List ℕ) → pointwise nat_eq other address ≡ false → (address ≢ other) × (other ≢ address)
 differ address other h = (
   λ e. absurd (true≢false (sym (nat_list_eq_equiv.refl address) ∙ (ap (λ x. pointwise nat_eq x address) e ∙ h))),
@@ -67,7 +63,7 @@ differ address other h = (
 pub new_of : (address : List ℕ) (others : List (List ℕ)) → is_among address others ≡ false → IsNew address others
 new_of address [] h = tt
 new_of address (other ∷ others) h =
-    let p = either_false (pointwise nat_eq other address) (is_among address others) h in
+    let p = or_parts (pointwise nat_eq other address) (is_among address others) h in
     (differ address other p.0, new_of address others p.1)
 
 -- an address that is none of a list, anywhere in the list

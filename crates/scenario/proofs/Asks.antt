@@ -13,8 +13,8 @@ use Rattle.scenario.specs.Events.{wish_word, wish_words, wish_key, options_in, h
 use Rattle.scenario.specs.declared.code.Code.TheVariants as bad
 use Rattle.scenario.specs.declared.event.Event.TheVariants.{Settle, Lose, Tick}
 use Rattle.scenario.specs.declared.wish.Wish.{Wish}
-use Rattle.scenario.specs.declared.wish.Wish.TheVariants.{Lasting, NoReport, Whole, Options}
-use Rattle.scenario.proofs.Behind.{behind_result, behind_found, behind_wanted, behind_such, either_way}
+use Rattle.scenario.specs.declared.wish.Wish.TheVariants.{Lasting, Whole, Options}
+use Rattle.scenario.proofs.Behind.{behind_result, behind_found, behind_wanted, behind_such, either_way, wishes_such, options_such}
 use Rattle.scenario.proofs.Injected.{inject_such}
 
 -- what the crate of options says of each part of a header
@@ -51,18 +51,10 @@ wish_fair law word =
     (behind_result (literal (codes "whole") word) (λ _. Ok Whole) IsFair (λ _ _. tt))))
 
 wishes_fair : SpellsWhatItAccepts → (words : List (List ℕ)) → IfOk (wish_words words) (λ wishes. AllByRecursion IsFair wishes)
-wishes_fair law [] = tt
-wishes_fair law (word ∷ words) =
-    behind_such (wish_word word) _ IsFair (λ wishes. AllByRecursion IsFair wishes) (wish_fair law word) (λ wish fair.
-    behind_such (wish_words words) _ (λ wishes. AllByRecursion IsFair wishes) (λ wishes. AllByRecursion IsFair wishes) (wishes_fair law words) (λ wishes rest.
-    (fair, rest)))
+wishes_fair law words = wishes_such IsFair (wish_fair law) words
 
 options_fair : (wishes : List Wish) → AllByRecursion IsFair wishes → AreFair (options_in wishes)
-options_fair [] h = none_fair
-options_fair (Options octets ∷ wishes) h = h.0
-options_fair (Lasting life ∷ wishes) h = options_fair wishes h.1
-options_fair (NoReport ∷ wishes) h = options_fair wishes h.1
-options_fair (Whole ∷ wishes) h = options_fair wishes h.1
+options_fair wishes h = options_such IsFair AreFair none_fair (λ octets fair. fair) wishes h
 
 send_fair : SpellsWhatItAccepts → (names : List (List ℕ)) (systems : List SystemConfiguration) (words : List (List ℕ)) → IfOk (send_line names systems words) AsksFairly
 unfolding send_line

@@ -1,6 +1,6 @@
 -- What holds of each value that a reading gives, step by step.
-use Rattle.std.proofs.Common.{◌≡◌, ℕ, ◌<◌, ◌&&◌, Bool, true, false, nat_le, List, [], length, Option, None, Some, Result, Ok, Err, IfOk, is_ok, if◌then◌else◌, refl, sym, ap}
-use Rattle.std.specs.List.{position}
+use Rattle.std.proofs.Common.{◌≡◌, ℕ, ◌<◌, ◌&&◌, Bool, true, false, nat_le, List, [], ◌∷◌, length, Option, None, Some, Result, Ok, Err, IfOk, is_ok, if◌then◌else◌, refl, sym, ap, ◌≤◌}
+use Rattle.std.specs.List.{AllByRecursion, position}
 use Rattle.std.specs.Str.{bytes_eq}
 use Rattle.std.proofs.lemmas.Bool.{leb-true, and_parts, true≢false}
 use Rattle.std.proofs.lemmas.List.Quantifiers.{position-Some}
@@ -10,6 +10,10 @@ use Rattle.scenario.specs.Words.{◌>>=◌, wanted, found, is_name, declared_wor
 use Rattle.scenario.specs.Grammar.{BadLine, at_line}
 use Rattle.scenario.specs.declared.code.Code.{Code}
 use Rattle.scenario.specs.declared.code.Code.TheVariants as bad
+use Rattle.clnp_base.proofs.Choices.{one_of}
+use Rattle.scenario.specs.Events.{wish_word, wish_words, options_in, life_in}
+use Rattle.scenario.specs.declared.wish.Wish.{Wish}
+use Rattle.scenario.specs.declared.wish.Wish.TheVariants.{Lasting, NoReport, Whole, Options}
 
 pub behind_result : {A B E : Type 0} (r : Result A E) (f : A → Result B E) (P : B → Type 0)
     → ((x : A) → r ≡ Ok x → IfOk (f x) P) → IfOk (r >>= f) P
@@ -32,17 +36,19 @@ behind_wanted true code f P h = h refl
 behind_wanted false code f P h = tt
 
 pub either_way : {A E : Type 0} (b : Bool) (r s : Result A E) (P : A → Type 0) → IfOk r P → IfOk s P → IfOk (if b then r else s) P
-either_way true r s P h k = h
-either_way false r s P h k = k
+either_way b r s P h k = one_of (λ result. IfOk result P) b r s h k
 
 pub if_found : {A : Type 0} (o : Option A) (code : Code) (P : A → Type 0) → ((x : A) → o ≡ Some x → P x) → IfOk (found o code) P
 if_found (Some x) code P h = h x refl
 if_found None code P h = tt
 
+pub is_within : (low high n : ℕ) → low ≤ n → n ≤ high → IsWithin low high n
+is_within low high n l m = record { least = l; most = m }
+
 pub within_of : (low high n : ℕ) → (nat_le low n && nat_le n high) ≡ true → IsWithin low high n
 within_of low high n h =
     let p = and_parts (nat_le low n) (nat_le n high) h in
-    record { least = leb-true low n p.0; most = leb-true n high p.1 }
+    is_within low high n (leb-true low n p.0) (leb-true n high p.1)
 
 within_if : (low high n : ℕ) (code : Code) (b : Bool) → (nat_le low n && nat_le n high) ≡ b
     → IfOk (found (if b then Some n else None) code) (IsWithin low high)
@@ -82,3 +88,27 @@ declared_is_within names word =
     behind_wanted (is_name word) bad.Syntax (λ _. found (position (λ name. bytes_eq name word) names) bad.UnknownName) (λ place. place < length names)
     (λ _. if_found (position (λ name. bytes_eq name word) names) bad.UnknownName (λ place. place < length names)
     (λ place e. (position-Some (λ name. bytes_eq name word) names place [] e).0))
+
+-- what holds of each wish of a line, of its options, and of its lifetime
+
+pub wishes_such : (P : Wish → Type 0) → ((word : List ℕ) → IfOk (wish_word word) P) → (words : List (List ℕ)) → IfOk (wish_words words) (AllByRecursion P)
+wishes_such P such [] = tt
+wishes_such P such (word ∷ words) =
+    behind_such (wish_word word) _ P (AllByRecursion P) (such word) (λ wish here.
+    behind_such (wish_words words) _ (AllByRecursion P) (AllByRecursion P) (wishes_such P such words) (λ wishes rest. (here, rest)))
+
+pub options_such : (P : Wish → Type 0) (Q : List ℕ → Type 0) → Q [] → ((octets : List ℕ) → P (Options octets) → Q octets)
+    → (wishes : List Wish) → AllByRecursion P wishes → Q (options_in wishes)
+options_such P Q none its [] h = none
+options_such P Q none its (Options octets ∷ wishes) h = its octets h.0
+options_such P Q none its (Lasting life ∷ wishes) h = options_such P Q none its wishes h.1
+options_such P Q none its (NoReport ∷ wishes) h = options_such P Q none its wishes h.1
+options_such P Q none its (Whole ∷ wishes) h = options_such P Q none its wishes h.1
+
+pub life_such : (P : Wish → Type 0) (Q : ℕ → Type 0) → ((life : ℕ) → P (Lasting life) → Q life)
+    → (own : ℕ) (wishes : List Wish) → Q own → AllByRecursion P wishes → Q (life_in own wishes)
+life_such P Q its own [] here h = here
+life_such P Q its own (Lasting life ∷ wishes) here h = its life h.0
+life_such P Q its own (Options octets ∷ wishes) here h = life_such P Q its own wishes here h.1
+life_such P Q its own (NoReport ∷ wishes) here h = life_such P Q its own wishes here h.1
+life_such P Q its own (Whole ∷ wishes) here h = life_such P Q its own wishes here h.1

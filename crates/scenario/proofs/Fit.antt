@@ -23,7 +23,7 @@ use Rattle.scenario.specs.Grammar.{ReadTo, is_line_of, declarations_from}
 use Rattle.scenario.specs.declared.code.Code.TheVariants as bad
 use Rattle.scenario.specs.declared.setting.Setting.{Setting}
 use Rattle.scenario.specs.declared.setting.Setting.TheVariants.{Hello, Suggest, Checksum, Life, RedirectHold, Slots, Segments, Budget, Neighbours, Routers, Redirects}
-use Rattle.scenario.proofs.Behind.{behind_result, behind_line, behind_found, behind_wanted, behind_such, behind_line_such, wanted_holds, either_way, found_is_within, number_is_within, number_behind_is_within, declared_is_within}
+use Rattle.scenario.proofs.Behind.{behind_result, behind_line, behind_found, behind_wanted, behind_such, behind_line_such, wanted_holds, either_way, found_is_within, number_is_within, number_behind_is_within, declared_is_within, is_within}
 use Rattle.scenario.proofs.Apart.{addresses_of, AreApart, new_of, add_address, port_leaves, system_leaves, distinct_of, front_apart, back_apart}
 use Rattle.scenario.proofs.Kept.{map_leaves, all_leaves, length_leaves, empty_leaves, one_gets, one_more_name, AreOn, all_stay, mtu_is, subnets_of, on_one_more, configurations_different, port_gets, port_elsewhere, all_among}
 use Rattle.scenario.proofs.Numbers.{LeadOut, lead_on, lead_below}
@@ -171,22 +171,19 @@ with_fit (Neighbours neighbours) settings fits h = assumption (fits, h)
 with_fit (Routers routers) settings fits h = assumption (fits, h)
 with_fit (Redirects redirects) settings fits h = assumption (fits, h)
 
-usual_within : (low high n : ℕ) → low ≤ n → n ≤ high → IsWithin low high n
-usual_within low high n least most = record { least = least; most = most }
-
 usual_fit : AreSettings (settings_of [])
 usual_fit =
     record {
-      hello = usual_within 0 600 60 (omega arith) (omega arith);
-      suggest = usual_within 0 32767 0 (omega arith) (omega arith);
-      rhold = usual_within 0 65535 120 (omega arith) (omega arith);
-      slots = usual_within 1 1024 16 (omega arith) (omega arith);
-      segments = usual_within 1 16384 1024 (omega arith) (omega arith);
-      budget = usual_within 512 4194304 262144 (omega arith) (omega arith);
-      neighbours = usual_within 1 1024 64 (omega arith) (omega arith);
-      routers = usual_within 1 64 8 (omega arith) (omega arith);
-      redirects = usual_within 1 1024 64 (omega arith) (omega arith);
-      life = usual_within 1 255 64 (omega arith) (omega arith);
+      hello = is_within 0 600 60 (omega arith) (omega arith);
+      suggest = is_within 0 32767 0 (omega arith) (omega arith);
+      rhold = is_within 0 65535 120 (omega arith) (omega arith);
+      slots = is_within 1 1024 16 (omega arith) (omega arith);
+      segments = is_within 1 16384 1024 (omega arith) (omega arith);
+      budget = is_within 512 4194304 262144 (omega arith) (omega arith);
+      neighbours = is_within 1 1024 64 (omega arith) (omega arith);
+      routers = is_within 1 64 8 (omega arith) (omega arith);
+      redirects = is_within 1 1024 64 (omega arith) (omega arith);
+      life = is_within 1 255 64 (omega arith) (omega arith);
     }
 
 settings_fit : (settings : List Setting) → AllByRecursion SaysWithin settings → AreSettings (settings_of settings)
@@ -461,9 +458,9 @@ pub nothing_fit : AreFit nothing_declared
 nothing_fit =
     record {
       limits = record {
-        age = usual_within 1 4096 256 (omega arith) (omega arith);
-        hold = usual_within 1 255 60 (omega arith) (omega arith);
-        reuse = usual_within 1 16384 320 (omega arith) (omega arith);
+        age = is_within 1 4096 256 (omega arith) (omega arith);
+        hold = is_within 1 255 60 (omega arith) (omega arith);
+        reuse = is_within 1 16384 320 (omega arith) (omega arith);
         rests = omega arith;
       };
       subnets = tt;

@@ -25,7 +25,7 @@ use Rattle.scenario.specs.declared.wish.Wish.{Wish}
 use Rattle.scenario.specs.declared.wish.Wish.TheVariants.{Lasting, NoReport, Whole, Options}
 use Rattle.scenario.proofs.Asks.{SpellsWhatItAccepts}
 use Rattle.scenario.proofs.Injected.{inject_such}
-use Rattle.scenario.proofs.Behind.{behind_result, behind_found, behind_wanted, behind_such, either_way, number_behind_is_within}
+use Rattle.scenario.proofs.Behind.{behind_result, behind_found, behind_wanted, behind_such, either_way, number_behind_is_within, wishes_such, options_such, life_such}
 
 -- what the crate of addresses says of each text
 abbrev pub ReadsAddresses : Type 0
@@ -114,25 +114,13 @@ wish_formed laws word =
     (behind_result (literal (codes "whole") word) (λ _. Ok Whole) IsInForm (λ _ _. tt))))
 
 wishes_formed : Laws → (words : List (List ℕ)) → IfOk (wish_words words) (λ wishes. AllByRecursion IsInForm wishes)
-wishes_formed laws [] = tt
-wishes_formed laws (word ∷ words) =
-    behind_such (wish_word word) _ IsInForm (λ wishes. AllByRecursion IsInForm wishes) (wish_formed laws word) (λ wish formed.
-    behind_such (wish_words words) _ (λ wishes. AllByRecursion IsInForm wishes) (λ wishes. AllByRecursion IsInForm wishes) (wishes_formed laws words) (λ wishes rest.
-    (formed, rest)))
+wishes_formed laws words = wishes_such IsInForm (wish_formed laws) words
 
 options_formed : (wishes : List Wish) → AllByRecursion IsInForm wishes → AreInForm (options_in wishes)
-options_formed [] h = none_formed
-options_formed (Options octets ∷ wishes) h = h.0
-options_formed (Lasting life ∷ wishes) h = options_formed wishes h.1
-options_formed (NoReport ∷ wishes) h = options_formed wishes h.1
-options_formed (Whole ∷ wishes) h = options_formed wishes h.1
+options_formed wishes h = options_such IsInForm AreInForm none_formed (λ octets formed. formed) wishes h
 
 life_formed : (own : ℕ) (wishes : List Wish) → own < 256 → AllByRecursion IsInForm wishes → life_in own wishes < 256
-life_formed own [] short h = short
-life_formed own (Lasting life ∷ wishes) short h = h.0
-life_formed own (Options octets ∷ wishes) short h = life_formed own wishes short h.1
-life_formed own (NoReport ∷ wishes) short h = life_formed own wishes short h.1
-life_formed own (Whole ∷ wishes) short h = life_formed own wishes short h.1
+life_formed own wishes short h = life_such IsInForm (λ life. life < 256) (λ life small. small) own wishes short h
 
 own_is_short : (found : Option SystemConfiguration) → ((system : SystemConfiguration) → found ≡ Some system → IsSystem system) → own_life found < 256
 own_is_short None h = omega arith

@@ -3,7 +3,7 @@ use Rattle.std.proofs.Common.{◌≡◌, ◌≢◌, ℕ, zero, suc, ◌+◌, ◌
 use Rattle.std.specs.List.{AllByRecursion, flat_map, list_any, position_or_len, insert}
 use Rattle.std.specs.Option.{option_map}
 use Rattle.std.specs.Str.{bytes_eq}
-use Rattle.std.proofs.lemmas.Bool.{true≢false}
+use Rattle.std.proofs.lemmas.Bool.{true≢false, or_parts}
 use Rattle.std.proofs.lemmas.List.{map-append, append-nil, take-append-drop}
 use Rattle.std.proofs.lemmas.List.Elements.{filter-append}
 use Rattle.std.proofs.lemmas.Slice.Eq.{bytes_eq-Decides}
@@ -15,7 +15,7 @@ use Rattle.clnp_plan.specs.declared.config.PortConfig.{PortConfig}
 use Rattle.scenario.specs.Scenario.{Subnetwork, AreOnDifferent, IsOn, snpas_of}
 use Rattle.scenario.specs.Words.{is_taken}
 use Rattle.scenario.specs.Declarations.{DeclaredSystem, NumberedPort, changed_at, mtu_at, snpas_on, count_below, with_port, configuration_of}
-use Rattle.scenario.proofs.Apart.{IsNew, AreApart, distinct_of, put, either_false}
+use Rattle.scenario.proofs.Apart.{IsNew, AreApart, distinct_of, put}
 
 pub map_leaves : {X A : Type 0} (f : X → A) (change : X → X) → ((x : X) → f (change x) ≡ f x) → (place : ℕ) (xs : List X)
     → map f (changed_at change place xs) ≡ map f xs
@@ -85,7 +85,7 @@ none_at n false h = refl
 other_names : (names : List (List ℕ)) (name : List ℕ) → list_any (λ other. bytes_eq other name) names ≡ false → IsNew name names
 other_names [] name h = tt
 other_names (other ∷ others) name h =
-    let p = either_false (bytes_eq other name) (list_any (λ x. bytes_eq x name) others) h in
+    let p = or_parts (bytes_eq other name) (list_any (λ x. bytes_eq x name) others) h in
     let differ : other ≢ name = λ e. true≢false (sym ((bytes_eq-Decides other name).1 e) ∙ p.0) in
     ((λ e. differ (sym e), differ), other_names others name p.1)
 
@@ -137,9 +137,9 @@ new_subnet : (number subnet : ℕ) (ports : List NumberedPort)
     → list_any (λ (other : NumberedPort). (other.number == number) || (other.port.subnet == subnet)) ports ≡ false → IsNew subnet (subnets_of ports)
 new_subnet number subnet [] h = tt
 new_subnet number subnet (port ∷ ports) h =
-    let first = either_false ((port.number == number) || (port.port.subnet == subnet))
+    let first = or_parts ((port.number == number) || (port.port.subnet == subnet))
     (list_any (λ (other : NumberedPort). (other.number == number) || (other.port.subnet == subnet)) ports) h in
-    let differ : port.port.subnet ≢ subnet = not_equal port.port.subnet subnet (either_false (port.number == number) (port.port.subnet == subnet) first.0).1 in
+    let differ : port.port.subnet ≢ subnet = not_equal port.port.subnet subnet (or_parts (port.number == number) (port.port.subnet == subnet) first.0).1 in
     ((λ e. differ (sym e), differ), new_subnet number subnet ports first.1)
 
 -- one more port, on a subnetwork where none is

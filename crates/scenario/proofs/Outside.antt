@@ -1,5 +1,5 @@
 -- What an event line says of a frame from outside is formed as it should be.
-use Rattle.std.proofs.Common.{◌≡◌, ℕ, ◌<◌, ◌==◌, Bool, true, false, nat_le, List, [], ◌∷◌, length, codes, Option, None, Some, Result, Ok, Err, IfOk, if◌then◌else◌, refl, subst, arith}
+use Rattle.std.proofs.Common.{◌≡◌, ℕ, ◌<◌, ◌==◌, nat_le, List, [], ◌∷◌, length, codes, Option, None, Some, Result, Ok, Err, IfOk, refl, subst, arith}
 use Rattle.std.specs.List.{AllByRecursion}
 use Rattle.std.specs.Str.{bytes_eq}
 use Rattle.std.proofs.lemmas.Bool.{leb-true}
@@ -15,6 +15,7 @@ use Rattle.scenario.specs.Events.{wish_words, wish_key, host_word, router_word, 
 use Rattle.scenario.specs.declared.event.Event.TheVariants.{Settle, Lose, Tick}
 use Rattle.scenario.proofs.Behind.{behind_result, behind_found, behind_wanted, behind_such, either_way, declared_is_within}
 use Rattle.scenario.proofs.Forms.{Laws, address_formed}
+use Rattle.clnp_base.proofs.Choices.{one_of}
 
 -- Words that aren't empty.
 
@@ -25,15 +26,11 @@ onto_stand : (c : ℕ) (words : List (List ℕ)) → AllByRecursion Stands words
 onto_stand c [] h = (omega arith, tt)
 onto_stand c (word ∷ words) h = (omega arith, h.1)
 
-either_stand : (b : Bool) (xs ys : List (List ℕ)) → AllByRecursion Stands xs → AllByRecursion Stands ys → AllByRecursion Stands (if b then xs else ys)
-either_stand true xs ys h k = h
-either_stand false xs ys h k = k
-
 pub words_stand : (line : List ℕ) → AllByRecursion Stands (words_of line)
 words_stand [] = tt
 words_stand (c ∷ cs) =
-    either_stand (c == 32) (words_of cs) _ (words_stand cs)
-    (either_stand (ends_word cs) ((c ∷ []) ∷ words_of cs) (onto_first c (words_of cs)) (omega arith, words_stand cs) (onto_stand c (words_of cs) (words_stand cs)))
+    one_of (AllByRecursion Stands) (c == 32) (words_of cs) _ (words_stand cs)
+    (one_of (AllByRecursion Stands) (ends_word cs) ((c ∷ []) ∷ words_of cs) (onto_first c (words_of cs)) (omega arith, words_stand cs) (onto_stand c (words_of cs) (words_stand cs)))
 
 -- The octets of a word.
 

@@ -8,7 +8,7 @@ use Rattle.nsap.specs.declared.fault.NsapFault.{NsapFault}
 use Rattle.nsap.specs.declared.fault.NsapFault.TheVariants.{TooManyDigits}
 use Rattle.scenario.specs.Words.{address_read, prefix_word}
 use Rattle.scenario.proofs.Behind.{either_way}
-use Rattle.nsap.proofs.Digits.{values_small}
+pub use Rattle.nsap.proofs.Digits.{digit_may_stand, digit_no_dot, spelled_few, values_small}
 
 no_digits : IsPrefix []
 no_digits = record { few = omega arith; small = λ i. omega arith }

@@ -1,5 +1,5 @@
 -- Reading words and lines one after the other, as a loop does.
-use Rattle.std.proofs.Common.{◌≡◌, List, [], ◌∷◌, ◌++◌, length, ◌+◌, Result, Ok, Err, refl, ap, append_assoc, length-append}
+use Rattle.std.proofs.Common.{◌≡◌, List, [], ◌∷◌, ◌++◌, Result, Ok, Err, refl, ap, append_assoc}
 use Rattle.scenario.specs.Words.{◌>>=◌}
 
 -- what was read before, and what is still read
@@ -10,6 +10,3 @@ pub regroup : {A E : Type 0} (front : List A) (x : A) (reading : Result (List A)
     → with_front front (reading >>= λ others. Ok (x ∷ others)) ≡ with_front (front ++ x ∷ []) reading
 regroup {A = A} front x (Ok others) = ap (λ (xs : List A). Ok xs) (simp append_assoc)
 regroup front x (Err bad) = refl
-
-pub one_more : {A : Type 0} (xs : List A) (x : A) → length (xs ++ x ∷ []) ≡ length xs + 1
-one_more xs x = simp length-append

@@ -18,7 +18,7 @@ use Rattle.scenario.specs.declared.wish.Wish.{Wish}
 use Rattle.scenario.specs.declared.wish.Wish.TheVariants.{Lasting, NoReport, Whole, Options}
 use Rattle.scenario.proofs.Forms.{behind_octets}
 use Rattle.scenario.proofs.Injected.{inject_such}
-use Rattle.scenario.proofs.Behind.{behind_result, behind_found, behind_wanted, behind_such, either_way, number_is_within, number_behind_is_within}
+use Rattle.scenario.proofs.Behind.{behind_result, behind_found, behind_wanted, behind_such, either_way, number_is_within, number_behind_is_within, wishes_such, options_such, life_such}
 
 -- Data.
 
@@ -74,24 +74,13 @@ wish_said word =
     (behind_result (literal (codes "whole") word) (λ _. Ok Whole) IsSaidWish (λ _ _. tt))))
 
 wishes_said : (words : List (List ℕ)) → IfOk (wish_words words) AreSaidWishes
-wishes_said [] = tt
-wishes_said (word ∷ words) =
-    behind_such (wish_word word) _ IsSaidWish AreSaidWishes (wish_said word) (λ wish said.
-    behind_such (wish_words words) _ AreSaidWishes AreSaidWishes (wishes_said words) (λ wishes rest. (said, rest)))
+wishes_said words = wishes_such IsSaidWish wish_said words
 
 options_among : (wishes : List Wish) → AreSaidWishes wishes → AreSaidOptions (options_in wishes)
-options_among [] h = no_options_said
-options_among (Options octets ∷ wishes) h = h.0
-options_among (Lasting life ∷ wishes) h = options_among wishes h.1
-options_among (NoReport ∷ wishes) h = options_among wishes h.1
-options_among (Whole ∷ wishes) h = options_among wishes h.1
+options_among wishes h = options_such IsSaidWish AreSaidOptions no_options_said (λ octets said. said) wishes h
 
 life_among : (own : ℕ) (wishes : List Wish) → IsWithin 1 255 own → AreSaidWishes wishes → IsWithin 1 255 (life_in own wishes)
-life_among own [] within h = within
-life_among own (Lasting life ∷ wishes) within h = h.0
-life_among own (Options octets ∷ wishes) within h = life_among own wishes within h.1
-life_among own (NoReport ∷ wishes) within h = life_among own wishes within h.1
-life_among own (Whole ∷ wishes) within h = life_among own wishes within h.1
+life_among own wishes within h = life_such IsSaidWish (λ life. IsWithin 1 255 life) (λ life said. said) own wishes within h
 
 own_is_within : (found : Option SystemConfiguration) → ((system : SystemConfiguration) → found ≡ Some system → IsSystem system) → IsWithin 1 255 (own_life found)
 own_is_within None h = record { least = omega arith; most = omega arith }

@@ -1,5 +1,5 @@
 -- Scenarios of seeds: the first numbers that are picked, what is declared, and that each is fit to be run.
-use Rattle.std.proofs.Common.{◌≡◌, ℕ, zero, suc, ◌+◌, ◌*◌, ◌/◌, ◌^◌, ◌-◌, ◌<◌, ◌≤◌, ◌==◌, nat_lt, Bool, true, false, if◌then◌else◌, List, [], ◌∷◌, ◌++◌, map, Option, None, Some, option_map, slice_get, refl, subst, Result, Ok, Err, MatchResult, codes, length, length-append, append_assoc, sym, ◌∙◌, arith}
+use Rattle.std.proofs.Common.{◌≡◌, ℕ, zero, suc, ◌+◌, ◌*◌, ◌/◌, ◌^◌, ◌-◌, ◌<◌, ◌≤◌, ◌==◌, nat_lt, List, [], ◌∷◌, ◌++◌, map, Option, None, Some, option_map, slice_get, refl, subst, Result, Ok, Err, MatchResult, codes, length, length-append, append_assoc, sym, ◌∙◌, arith}
 use Rattle.std.specs.List.{AllByRecursion, sum}
 use Rattle.std.proofs.lemmas.List.{append-nil}
 use Rattle.std.proofs.lemmas.List.Sums.{sum_by-cons}
@@ -23,6 +23,9 @@ use Rattle.scenario.specs.declared.event.Event.TheVariants.{Send, Deliver, Settl
 use Rattle.scenario.proofs.Asks.{none_fair}
 use Rattle.scenario.proofs.Forms.{none_formed, pattern_octets}
 use Rattle.scenario.proofs.Said.{no_bytes, no_options_said}
+use Rattle.clnp_base.proofs.Choices.{one_of}
+use Rattle.clnp_base.proofs.Sums.{sum_front}
+use Rattle.scenario.proofs.Behind.{is_within}
 
 -- The text of what is declared.
 abbrev pub declared_text : List ℕ
@@ -82,16 +85,11 @@ in_network network system n s = record {
       (one_more_byte system [] s no_bytes))));
 }
 
--- what holds either way
-either : {X : Type 0} (P : X → Type 0) (test : Bool) (x y : X) → P x → P y → P (if test then x else y)
-either P true x y p q = p
-either P false x y p q = q
-
 host_addressed : (number : ℕ) → IsAddress (address_of number)
 host_addressed number =
-    either IsAddress (number == 0) _ _ (in_network 1 1 (omega arith) (omega arith))
-    (either IsAddress (number == 1) _ _ (in_network 1 2 (omega arith) (omega arith))
-    (either IsAddress (number == 2) _ _ (in_network 2 1 (omega arith) (omega arith)) (in_network 2 2 (omega arith) (omega arith))))
+    one_of IsAddress (number == 0) _ _ (in_network 1 1 (omega arith) (omega arith))
+    (one_of IsAddress (number == 1) _ _ (in_network 1 2 (omega arith) (omega arith))
+    (one_of IsAddress (number == 2) _ _ (in_network 2 1 (omega arith) (omega arith)) (in_network 2 2 (omega arith) (omega arith))))
 
 -- the place of a host
 record IsHostPlace (place : ℕ) : Type 0 where
@@ -100,13 +98,9 @@ record IsHostPlace (place : ℕ) : Type 0 where
 
 host_placed : (number : ℕ) → IsHostPlace (place_of number)
 host_placed number =
-    either IsHostPlace (number == 0) _ _ (record { within = omega arith; role = refl })
-    (either IsHostPlace (number == 1) _ _ (record { within = omega arith; role = refl })
-    (either IsHostPlace (number == 2) _ _ (record { within = omega arith; role = refl }) (record { within = omega arith; role = refl })))
-
--- a number within bounds
-within : (low high n : ℕ) → low ≤ n → n ≤ high → IsWithin low high n
-within low high n l m = record { least = l; most = m }
+    one_of IsHostPlace (number == 0) _ _ (record { within = omega arith; role = refl })
+    (one_of IsHostPlace (number == 1) _ _ (record { within = omega arith; role = refl })
+    (one_of IsHostPlace (number == 2) _ _ (record { within = omega arith; role = refl }) (record { within = omega arith; role = refl })))
 
 send_good : (from to len start : ℕ) → len ≤ 70000 → start < 256 → IsGood (Send (place_of from) (address_of from) (address_of to) (Pattern len start) usual_ask)
 send_good from to len start short small = record {
@@ -117,7 +111,7 @@ send_good from to len start short small = record {
   congested = tt;
   injected = tt;
   closed = tt;
-  said = ((short, small), record { life = within 1 255 32 (omega arith) (omega arith); options = no_options_said });
+  said = ((short, small), record { life = is_within 1 255 32 (omega arith) (omega arith); options = no_options_said });
   ticks = omega arith;
 }
 
@@ -147,7 +141,7 @@ settle_good : (count : ℕ) → IsWithin 1 100000 count → IsGood (Settle count
 settle_good count said = record { fair = tt; formed = tt; placed = tt; sender = tt; congested = tt; injected = tt; closed = tt; said = said; ticks = omega arith }
 
 ticks_good : (count : ℕ) → 1 ≤ count → count ≤ 200 → IsGood (Tick count)
-ticks_good count l h = record { fair = tt; formed = tt; placed = tt; sender = tt; congested = tt; injected = tt; closed = tt; said = within 1 65535 count l (omega arith); ticks = h }
+ticks_good count l h = record { fair = tt; formed = tt; placed = tt; sender = tt; congested = tt; injected = tt; closed = tt; said = is_within 1 65535 count l (omega arith); ticks = h }
 
 -- what is drawn at any state has this property
 abbrev Draws : {A : Type 0} → (A → Type 0) → Drawn A → Type 0
@@ -160,7 +154,7 @@ IsGoodIfAny (Some event) = IsGood event × (passed_by event ≤ 5)
 
 restart_drawn : Draws IsGoodIfAny a_restart
 restart_drawn state =
-    either (Draws IsGoodIfAny) ((pick 8 state).0 == 0) restart_of_one (only None) (λ next. (restart_good _ (omega arith), omega arith)) (λ next. tt) (pick 8 state).1
+    one_of (Draws IsGoodIfAny) ((pick 8 state).0 == 0) restart_of_one (only None) (λ next. (restart_good _ (omega arith), omega arith)) (λ next. tt) (pick 8 state).1
 
 send_drawn : Draws IsGoodIfAny a_send
 send_drawn state =
@@ -173,11 +167,11 @@ echo_drawn state =
 event_good : (kind : ℕ) → Draws IsGoodIfAny (event_of kind)
 unfolding event_of
 event_good kind =
-    either (Draws IsGoodIfAny) (nat_lt kind 5) a_send _ send_drawn
-    (either (Draws IsGoodIfAny) (kind == 5) an_echo _ echo_drawn
-    (either (Draws IsGoodIfAny) (kind == 6) a_delivery _ (λ state. (delivery_good _ _ (within 1 1000000000 _ (omega arith) (omega arith)) (omega arith), omega arith))
-    (either (Draws IsGoodIfAny) (kind == 7) a_loss _ (λ state. (loss_good _ (within 1 100000 _ (omega arith) (omega arith)), omega arith))
-    (either (Draws IsGoodIfAny) (kind == 8) some_ticks a_restart (λ state. (ticks_good _ (omega arith) (omega arith), omega arith)) restart_drawn))))
+    one_of (Draws IsGoodIfAny) (nat_lt kind 5) a_send _ send_drawn
+    (one_of (Draws IsGoodIfAny) (kind == 5) an_echo _ echo_drawn
+    (one_of (Draws IsGoodIfAny) (kind == 6) a_delivery _ (λ state. (delivery_good _ _ (is_within 1 1000000000 _ (omega arith) (omega arith)) (omega arith), omega arith))
+    (one_of (Draws IsGoodIfAny) (kind == 7) a_loss _ (λ state. (loss_good _ (is_within 1 100000 _ (omega arith) (omega arith)), omega arith))
+    (one_of (Draws IsGoodIfAny) (kind == 8) some_ticks a_restart (λ state. (ticks_good _ (omega arith) (omega arith), omega arith)) restart_drawn))))
 
 -- events that two networks can have, so many at most, which pass so many copies at most
 record AreGood (most passes : ℕ) (events : List Event) : Type 0 where
@@ -199,18 +193,13 @@ one_or_two_good (Some event) last first good few = record {
 
 round_good : Draws (AreGood 2 35) round
 unfolding round
-round_good state = one_or_two_good _ _ (event_good _ _) (settle_good _ (within 1 100000 _ (omega arith) (omega arith))) (omega arith)
-
-passed_together : (xs ys : List Event) → sum (map passed_by (xs ++ ys)) ≡ sum (map passed_by xs) + sum (map passed_by ys)
-passed_together [] ys = omega arith
-passed_together (x ∷ xs) ys =
-    rw (sum_by-cons (λ x. x) (passed_by x) (map passed_by (xs ++ ys)), sum_by-cons (λ x. x) (passed_by x) (map passed_by xs), passed_together xs ys) (omega arith)
+round_good state = one_or_two_good _ _ (event_good _ _) (settle_good _ (is_within 1 100000 _ (omega arith) (omega arith))) (omega arith)
 
 more_good : (m n p q : ℕ) (xs ys : List Event) → AreGood m p xs → AreGood n q ys → AreGood (m + n) (p + q) (xs ++ ys)
 more_good m n p q xs ys f g = record {
   each = AllByRecursion-append IsGood xs ys f.each g.each;
   few = rw (length-append xs ys) (omega (arith, f.few, g.few));
-  passed = rw (passed_together xs ys) (omega (arith, f.passed, g.passed));
+  passed = rw (sum_front passed_by xs ys) (omega (arith, f.passed, g.passed));
 }
 
 rounds_good : (count : ℕ) → Draws (AreGood (2 * count) (35 * count)) (rounds count)
@@ -223,7 +212,7 @@ rounds_good (suc count) state =
 storm_good : (seed : ℕ) → AreGood 605 210540 (storm_events seed)
 storm_good seed =
     more_good 2 603 40 210500 (Tick 1 ∷ Settle 40 ∷ []) _
-    (record { each = (ticks_good 1 (omega arith) (omega arith), (settle_good 40 (within 1 100000 40 (omega arith) (omega arith)), tt)); few = omega arith; passed = omega arith })
+    (record { each = (ticks_good 1 (omega arith) (omega arith), (settle_good 40 (is_within 1 100000 40 (omega arith) (omega arith)), tt)); few = omega arith; passed = omega arith })
     (more_good 600 3 10500 200000 (rounds 300 seed).0 _ (rounds_good 300 seed)
     (record {
       each = (settle_good 100000 all, (ticks_good 200 (omega arith) (omega arith), (settle_good 100000 all, tt)));
@@ -232,7 +221,7 @@ storm_good seed =
     }))
   where
     all : IsWithin 1 100000 100000
-    all = within 1 100000 100000 (omega arith) (omega arith)
+    all = is_within 1 100000 100000 (omega arith) (omega arith)
 
 few_ticks : (events : List Event) → AllByRecursion IsGood events → sum (map ticks_of events) ≤ 200 * length events
 few_ticks [] good = omega arith

@@ -1,9 +1,9 @@
 -- What is written as words of a line is read as these words, and each word as what it was written of.
-use Rattle.std.proofs.Common.{◌≡◌, ◌≢◌, ℕ, suc, ◌+◌, ◌-◌, ◌*◌, ◌/◌, ◌%◌, ◌^◌, ◌<◌, ◌≤◌, ◌==◌, ◌&&◌, nat_le, nat_lt, Bool, true, false, List, [], ◌∷◌, ◌++◌, length, drop, get_or, slice_get, slice_index, codes, inl, inr, Option, Some, Result, Ok, refl, sym, ap, subst, ◌∙◌, append_assoc, arith}
+use Rattle.std.proofs.Common.{◌≡◌, ◌≢◌, ℕ, zero, suc, cond, ◌+◌, ◌-◌, ◌*◌, ◌/◌, ◌%◌, ◌^◌, ◌<◌, ◌≤◌, ◌==◌, ◌&&◌, nat_le, nat_lt, Bool, true, false, List, [], ◌∷◌, ◌++◌, length, drop, get_or, slice_get, slice_index, codes, inl, inr, Option, Some, Result, Ok, refl, sym, ap, subst, ◌∙◌, append_assoc, arith}
 use Rattle.std.specs.List.{AllByRecursion, flat_map, list_all, position, position_or_len}
 use Rattle.std.specs.Str.{bytes_eq}
 use Rattle.std.specs.Cmp.Lexicographic.{bytes_decides}
-use Rattle.std.specs.Fmt.{decimal}
+use Rattle.std.specs.Fmt.{decimal, digits, digits_onto, digit_glyph}
 use Rattle.std.specs.Int.{IsInRange}
 use Rattle.std.proofs.Math.Seq.{take-append_seam, drop-append_seam}
 use Rattle.std.proofs.lemmas.Bool.{true≢false, and_parts, and_right, cases_Bool, or_cases, ne_eqb, leb-true, le-leb, lt-ltb, ltb-true}
@@ -29,7 +29,8 @@ use Rattle.scenario.specs.Scenario.{IsTarget}
 use Rattle.scenario.specs.Words.{◌>>=◌, wanted, found, is_letter, is_letter_or_digit, is_name, declared_word, number_within, number_word, address_read, address_word, after_prefix, digits_read, has_prefix, target_word, frame_word, octets_behind, number_behind, is_skipped}
 use Rattle.scenario.specs.declared.code.Code.{Code}
 use Rattle.scenario.specs.declared.code.Code.TheVariants as bad
-use Rattle.clnp_base.proofs.Reading.{words_of-next}
+use Rattle.clnp_base.proofs.Reading.{words_of-next, IsWithinLine, lines_of-line}
+use Rattle.clnp_base.proofs.SameOctets.{same-itself}
 
 -- ---- words of a line
 
@@ -68,11 +69,14 @@ pub ends_behind : (others : List (List ℕ)) → ends_word (flat_map behind_spac
 ends_behind [] = refl
 ends_behind (word ∷ others) = refl
 
+-- the first word, and what follows it
+pub first_word : (word rest : List ℕ) → IsWord word → ends_word rest ≡ true → words_of (word ++ rest) ≡ word ∷ words_of rest
+first_word [] rest is e = absurd (omega (arith, is.some))
+first_word (c ∷ cs) rest is e = word_cut c cs rest is.plain.0 is.plain.1 e
+
 words_with : (first : List ℕ) (others : List (List ℕ)) → IsWord first → words_of (flat_map behind_space others) ≡ others
     → words_of (first ++ flat_map behind_space others) ≡ first ∷ others
-words_with [] others is e = absurd (omega (arith, is.some))
-words_with (c ∷ cs) others is e =
-    word_cut c cs (flat_map behind_space others) is.plain.0 is.plain.1 (ends_behind others) ∙ ap (λ words. (c ∷ cs) ∷ words) e
+words_with first others is e = first_word first (flat_map behind_space others) is (ends_behind others) ∙ ap (λ words. first ∷ words) e
 
 words_behind : (others : List (List ℕ)) → AllByRecursion IsWord others → words_of (flat_map behind_space others) ≡ others
 words_behind [] h = refl
@@ -84,37 +88,40 @@ words_of-line first others is are = words_with first others is (words_behind oth
 
 -- ---- lines of a text
 
--- a character that doesn't end a line
-abbrev pub IsOfLine : ℕ → Type 0
-IsOfLine c = 31 < c
+-- no character of a word ends a line
+abbrev pub IsInLine : List ℕ → Type 0
+IsInLine word = AllByRecursion IsWithinLine word
 
-pub lines_of-line : (text more : List ℕ) → AllByRecursion IsOfLine text → lines_of (text ++ (10 ∷ more)) ≡ text ∷ lines_of more
-lines_of-line [] more h = refl
-lines_of-line (c ∷ cs) more h =
-    rw (ne_eqb c 10 (omega (arith, h.0)), ne_eqb c 13 (omega (arith, h.0))) (ap (λ lines. onto_first c lines) (lines_of-line cs more h.1))
+pub plain_within : (c : ℕ) → 32 < c → IsWithinLine c
+plain_within c h = (ne_eqb c 10 (omega arith), ne_eqb c 13 (omega arith))
 
-of_line : (word : List ℕ) → AllByRecursion IsPlain word → AllByRecursion IsOfLine word
-of_line word h = AllByRecursion-implies IsPlain IsOfLine (λ c plain. omega arith) word h
+pub word_in_line : (word : List ℕ) → IsWord word → IsInLine word
+word_in_line word is = AllByRecursion-implies IsPlain IsWithinLine plain_within word is.plain
 
-others_of_line : (others : List (List ℕ)) → AllByRecursion IsWord others → AllByRecursion IsOfLine (flat_map behind_space others)
-others_of_line [] h = tt
-others_of_line (word ∷ others) h =
-    AllByRecursion-append IsOfLine (behind_space word) (flat_map behind_space others) (omega arith, of_line word h.0.plain) (others_of_line others h.1)
+others_in_line : (others : List (List ℕ)) → AllByRecursion IsInLine others → IsInLine (flat_map behind_space others)
+others_in_line [] h = tt
+others_in_line (word ∷ others) h =
+    AllByRecursion-append IsWithinLine (behind_space word) (flat_map behind_space others) ((refl, refl), h.0) (others_in_line others h.1)
 
 -- a line that is written, without its end
 abbrev pub text_of_line : List ℕ → List (List ℕ) → List ℕ
 text_of_line first others = first ++ flat_map behind_space others
 
-pub line_read : (first : List ℕ) (others : List (List ℕ)) (more : List ℕ) → IsWord first → AllByRecursion IsWord others
+pub line_cut : (first : List ℕ) (others : List (List ℕ)) (more : List ℕ) → IsInLine first → AllByRecursion IsInLine others
     → lines_of (line_of first others ++ more) ≡ text_of_line first others ∷ lines_of more
-line_read first others more is are =
+line_cut first others more is are =
     let text = text_of_line first others in
     let cut : line_of first others ++ more ≡ text ++ (10 ∷ more) =
     append_assoc first (flat_map behind_space others ++ codes "\n") more
     ∙ ap (λ rest. first ++ rest) (append_assoc (flat_map behind_space others) (codes "\n") more)
     ∙ sym (append_assoc first (flat_map behind_space others) (10 ∷ more)) in
     ap (λ (all : List ℕ). lines_of all) cut
-    ∙ lines_of-line text more (AllByRecursion-append IsOfLine first (flat_map behind_space others) (of_line first is.plain) (others_of_line others are))
+    ∙ lines_of-line text more (AllByRecursion-append IsWithinLine first (flat_map behind_space others) is (others_in_line others are))
+
+pub line_read : (first : List ℕ) (others : List (List ℕ)) (more : List ℕ) → IsWord first → AllByRecursion IsWord others
+    → lines_of (line_of first others ++ more) ≡ text_of_line first others ∷ lines_of more
+line_read first others more is are =
+    line_cut first others more (word_in_line first is) (AllByRecursion-implies IsWord IsInLine word_in_line others are)
 
 -- a line that begins with a word is skipped only where that begins with `#`
 pub line_not_skipped : (first : List ℕ) (others : List (List ℕ)) → IsWord first → is_skipped first ≡ false → is_skipped (text_of_line first others) ≡ false
@@ -156,18 +163,48 @@ pub decimal_read : (n : ℕ) → n < 2 ^ 64 → decimal_of (decimal n) ≡ Some 
 decimal_read n h =
     decimal_of-digits (decimal n) n (decimal_is_IsNumeral n h).0.0 (digits_decimal own n h) (digits_value-decimal own n h) h
 
-digits_plain : (word : List ℕ) → list_all is_digit word ≡ true → AllByRecursion IsPlain word
-digits_plain [] h = tt
-digits_plain (c ∷ cs) h =
-    let p = and_parts (is_digit c) (list_all is_digit cs) h in
-    (omega (arith, (digit_within c p.0).0), digits_plain cs p.1)
-
 -- the digits of a number
 pub decimal_digits : (n : ℕ) → n < 2 ^ 64 → list_all is_digit (decimal n) ≡ true
 decimal_digits n h = digits_decimal own n h
 
-pub decimal_is_word : (n : ℕ) → n < 2 ^ 64 → IsWord (decimal n)
-decimal_is_word n h = record { some = (decimal_is_IsNumeral n h).0.0; plain = digits_plain (decimal n) (decimal_digits n h) }
+-- a digit
+abbrev pub IsDigit : ℕ → Type 0
+IsDigit c = (32 < c) × (c < 58)
+
+glyph_digit : (d : ℕ) → d < 10 → IsDigit (digit_glyph false d)
+glyph_digit d h = rw (lt-ltb d 10 h) (omega arith, omega arith)
+
+digits_all : (k n : ℕ) (acc : List ℕ) → AllByRecursion IsDigit acc → AllByRecursion IsDigit (digits_onto k 10 false n acc)
+digits_all zero n acc h = h
+digits_all (suc k) n acc h =
+    let g = digit_glyph false (n % 10) in
+    let more : AllByRecursion IsDigit (g ∷ acc) = (glyph_digit (n % 10) (omega arith), h) in
+    elim (n / 10 == 0) as (λ b. AllByRecursion IsDigit (cond b (g ∷ acc) (digits_onto k 10 false (n / 10) (g ∷ acc))))
+    [ true ↦ more | false ↦ digits_all k (n / 10) (g ∷ acc) more ]
+
+digits_some : (k n : ℕ) (acc : List ℕ) → 0 < length acc → 0 < length (digits_onto k 10 false n acc)
+digits_some zero n acc h = h
+digits_some (suc k) n acc h =
+    let g = digit_glyph false (n % 10) in
+    elim (n / 10 == 0) as (λ b. 0 < length (cond b (g ∷ acc) (digits_onto k 10 false (n / 10) (g ∷ acc))))
+    [ true ↦ omega arith | false ↦ digits_some k (n / 10) (g ∷ acc) (omega arith) ]
+
+digits_first : (k n : ℕ) → 0 < length (digits_onto (suc k) 10 false n [])
+digits_first k n =
+    let g = digit_glyph false (n % 10) in
+    elim (n / 10 == 0) as (λ b. 0 < length (cond b (g ∷ []) (digits_onto k 10 false (n / 10) (g ∷ []))))
+    [ true ↦ omega arith | false ↦ digits_some k (n / 10) (g ∷ []) (omega arith) ]
+
+pub decimal_all : (n : ℕ) → AllByRecursion IsDigit (decimal n)
+unfolding digits
+decimal_all n = digits_all 64 n [] tt
+
+pub decimal_is_word : (n : ℕ) → IsWord (decimal n)
+unfolding digits
+decimal_is_word n = record {
+  some = digits_first 63 n;
+  plain = AllByRecursion-implies IsDigit (λ c. 32 < c) (λ c d. d.0) (decimal n) (decimal_all n);
+}
 
 pub number_read : (low high n : ℕ) → low ≤ n → n ≤ high → n < 2 ^ 64 → number_word low high (decimal n) ≡ Ok n
 number_read low high n l m h =
@@ -175,11 +212,8 @@ number_read low high n l m h =
 
 -- ---- what stands behind a key
 
-same_bytes : (xs : List ℕ) → bytes_eq xs xs ≡ true
-same_bytes xs = (bytes_decides xs xs).1 refl
-
 pub has_own_prefix : (key rest : List ℕ) → has_prefix key (key ++ rest) ≡ true
-has_own_prefix key rest = ap (λ (front : List ℕ). bytes_eq front key) (take-append_seam key rest) ∙ same_bytes key
+has_own_prefix key rest = ap (λ (front : List ℕ). bytes_eq front key) (take-append_seam key rest) ∙ same-itself key
 
 pub read_behind : (key rest : List ℕ) → after_prefix key (key ++ rest) ≡ Ok rest
 read_behind key rest =
@@ -195,8 +229,8 @@ pub word_behind : (key rest : List ℕ) → IsWord key → AllByRecursion IsPlai
 word_behind [] rest is plain = absurd (omega (arith, is.some))
 word_behind (c ∷ cs) rest is plain = record { some = omega arith; plain = AllByRecursion-append IsPlain (c ∷ cs) rest is.plain plain }
 
-pub keyed_is_word : (key : List ℕ) (n : ℕ) → IsWord key → n < 2 ^ 64 → IsWord (keyed key n)
-keyed_is_word key n is h = word_behind key (decimal n) is (decimal_is_word n h).plain
+pub keyed_is_word : (key : List ℕ) (n : ℕ) → IsWord key → IsWord (keyed key n)
+keyed_is_word key n is = word_behind key (decimal n) is (decimal_is_word n).plain
 
 -- ---- octets and addresses
 
@@ -230,9 +264,6 @@ ReadsBack = (octets : List ℕ) → IsAddress octets → nsap.octets_of (hex_tex
 
 pub address_word_read : ReadsBack → (octets : List ℕ) → IsAddress octets → address_word (hex_text octets) ≡ Ok octets
 address_word_read law octets is = ap address_read (law octets is)
-
-pub frame_is_word : (octets : List ℕ) → IsBytes octets → 0 < length octets → IsWord (hex_text octets)
-frame_is_word = hex_is_word
 
 pub frame_word_read : (octets : List ℕ) → IsBytes octets → frame_word (hex_text octets) ≡ Ok octets
 frame_word_read octets bytes = ap digits_read (decode_of-encode_lower octets bytes)
@@ -310,7 +341,7 @@ position_of_name names name place distinct there =
     let first : position_or_len (λ other. bytes_eq other name) names ≡ place =
     position_or_len_is (λ other. bytes_eq other name) names place [] (omega arith)
     (λ k before. other_bytes (get_or names k []) name (λ same. distinct k place [] before within (same ∙ sym here)))
-    (λ _. rw here (same_bytes name)) in
+    (λ _. rw here (same-itself name)) in
     rw (first, lt-ltb place (length names) within) refl
 
 pub declared_word_read : (names : List (List ℕ)) (name : List ℕ) (place : ℕ) → is_name name ≡ true → AreDistinct names → slice_get names place ≡ Some name

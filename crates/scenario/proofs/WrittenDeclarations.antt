@@ -1,5 +1,5 @@
 -- The declarations as they are written are read as what is declared.
-use Rattle.std.proofs.Common.{◌≡◌, ◌≢◌, inl, inr, ℕ, suc, ◌+◌, ◌<◌, ◌≤◌, ◌==◌, ◌^◌, nat_lt, Bool, true, false, List, [], ◌∷◌, ◌++◌, map, filter, length, slice_get, codes, Option, None, Some, option_map, Result, Ok, refl, sym, ap, ◌∙◌, subst, arith, length-append, append_assoc}
+use Rattle.std.proofs.Common.{◌≡◌, ◌≢◌, inl, inr, ℕ, suc, ◌+◌, ◌<◌, ◌≤◌, ◌==◌, nat_lt, Bool, true, false, List, [], ◌∷◌, ◌++◌, map, filter, length, slice_get, codes, Option, None, Some, option_map, Result, Ok, refl, sym, ap, ◌∙◌, subst, arith, length-append, append_assoc}
 use Rattle.std.specs.List.{AllByRecursion, flat_map, list_all}
 use Rattle.std.specs.Fmt.{decimal}
 use Rattle.std.proofs.lemmas.Bool.{cases_Bool, eq-eqb, ne_eqb, le-leb, lt-ltb}
@@ -33,9 +33,6 @@ use Rattle.scenario.proofs.WrittenSettings.{number_is_read, settings_in_order, s
 
 -- ---- words
 
-number_is_word : (low high n : ℕ) → high < 2 ^ 64 → IsWithin low high n → IsWord (decimal n)
-number_is_word low high n small within = decimal_is_word n (let most = within.most in omega arith)
-
 some_digits : (word : List ℕ) → 0 < length word → list_all is_digit word ≡ true → is_digits word ≡ true
 some_digits [] some digits = absurd (omega arith)
 some_digits (c ∷ cs) some digits = rw (ne_eqb (suc (length cs)) 0 (λ e. omega (arith, e))) digits
@@ -43,7 +40,7 @@ some_digits (c ∷ cs) some digits = rw (ne_eqb (suc (length cs)) 0 (λ e. omega
 mtu_digits : (mtu : ℕ) → IsWithin 512 65535 mtu → is_digits (decimal mtu) ≡ true
 mtu_digits mtu within =
     let most = within.most in
-    let word = decimal_is_word mtu (omega arith) in
+    let word = decimal_is_word mtu in
     some_digits (decimal mtu) word.some (decimal_digits mtu (omega arith))
 
 mtu_read : (mtu : ℕ) → IsWithin 512 65535 mtu → number_within 512 65535 (decimal_of (decimal mtu)) ≡ Some mtu
@@ -145,7 +142,7 @@ module _ (law : ReadsBack) (plan : Plan) (fit : IsFit plan) where
       let long = ap length is ∙ length-append front (subnet ∷ behind) in
       let few = fit.few_subnets in
       line_goes (with_subnets front) (with_subnets (front ++ subnet ∷ [])) (codes "subnet") subnet.name (decimal subnet.mtu ∷ []) rest
-      (spelled (codes "subnet") refl) refl (name_is_word subnet.name named, (number_is_word 512 65535 subnet.mtu (omega arith) mtu, tt))
+      (spelled (codes "subnet") refl) refl (name_is_word subnet.name named, (decimal_is_word subnet.mtu, tt))
       (subnet_given (with_subnets front) subnet.name (decimal subnet.mtu) subnet.mtu named (mtu_digits subnet.mtu mtu)
       (not_taken (map (λ (subnet : Subnetwork). subnet.name) front) subnet.name
       (is_other (λ (subnet : Subnetwork). subnet.name) plan.subnets front behind subnet is fit.subnet_names))
@@ -181,7 +178,7 @@ module _ (law : ReadsBack) (plan : Plan) (fit : IsFit plan) where
       let free = is_other (λ (system : SystemConfiguration). system.name) plan.systems front behind system is fit.system_names in
       line_goes (declared_with plan (map bare front)) (declared_with plan (map bare (front ++ system ∷ []))) (codes "system") system.name
       (role_text system.role ∷ setting_texts system.settings) rest
-      (spelled (codes "system") refl) refl (name_is_word system.name named, (role_is_word system.role, settings_are_words system.settings its.settings))
+      (spelled (codes "system") refl) refl (name_is_word system.name named, (role_is_word system.role, settings_are_words system.settings))
       (system_given (declared_with plan (map bare front)) system.name (role_text system.role) (setting_texts system.settings) system.role (settings_in_order system.settings)
       named (role_read system.role) (settings_read system.settings its.settings)
       (not_taken (system_names (declared_with plan (map bare front))) system.name (subst (AllByRecursion (λ other. other ≢ system.name)) (sym (names_are front)) free))
@@ -302,10 +299,10 @@ module _ (law : ReadsBack) (plan : Plan) (fit : IsFit plan) where
         (spelled (codes "port") refl) refl (
           name_is_word s.name its_name,
           (
-            number_is_word 0 7 number (omega arith) numbered,
+            decimal_is_word number,
             (
               subnet_is_word plan.subnets port.subnet named within,
-              (address_is_word port.snpa formed, (number_is_word 1 255 port.transit (omega arith) sized.transit, tt)),
+              (address_is_word port.snpa formed, (decimal_is_word port.transit, tt)),
             ),
           ),
         )
@@ -355,7 +352,7 @@ module _ (law : ReadsBack) (plan : Plan) (fit : IsFit plan) where
           name_is_word s.name its_name,
           (
             prefix_is_word route.prefix prefix,
-            (number_is_word 0 7 route.port (omega arith) port, (address_is_word route.snpa formed.snpa, (address_is_word route.title formed.title, tt))),
+            (decimal_is_word route.port, (address_is_word route.snpa formed.snpa, (address_is_word route.title formed.title, tt))),
           ),
         )
         (route_given (so_far part) s.name (prefix_text route.prefix) (decimal route.port) (hex_text route.snpa) (hex_text route.title) (length done) route (declared_system part)
@@ -404,8 +401,8 @@ module _ (law : ReadsBack) (plan : Plan) (fit : IsFit plan) where
       let are : AreLimits plan.limits = fit.limits in
       line_goes nothing_declared (with_subnets []) (codes "limits") (decimal plan.limits.age) (decimal plan.limits.hold ∷ decimal plan.limits.reuse ∷ []) rest
       (spelled (codes "limits") refl) refl (
-        number_is_word 1 4096 plan.limits.age (omega arith) are.age,
-        (number_is_word 1 255 plan.limits.hold (omega arith) are.hold, (number_is_word 1 16384 plan.limits.reuse (omega arith) are.reuse, tt)),
+        decimal_is_word plan.limits.age,
+        (decimal_is_word plan.limits.hold, (decimal_is_word plan.limits.reuse, tt)),
       )
       (limits_given plan.limits are)
 

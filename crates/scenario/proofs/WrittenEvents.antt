@@ -1,5 +1,5 @@
 -- Each event that is written is read as the same event.
-use Rattle.std.proofs.Common.{◌≡◌, ℕ, zero, suc, ◌+◌, ◌<◌, ◌≤◌, ◌&&◌, not, nat_le, Bool, true, false, List, [], ◌∷◌, ◌++◌, map, length, take, drop, slice_get, codes, option_map, Option, None, Some, Result, Ok, is_some, refl, sym, ap, subst, ◌∙◌, append_assoc, length-append, arith}
+use Rattle.std.proofs.Common.{◌≡◌, ℕ, ◌+◌, ◌<◌, ◌≤◌, ◌&&◌, not, nat_le, Bool, true, false, List, [], ◌∷◌, ◌++◌, map, length, take, drop, slice_get, codes, option_map, Option, None, Some, Result, Ok, is_some, refl, sym, ap, subst, ◌∙◌, append_assoc, length-append, arith}
 use Rattle.std.specs.List.{AllByRecursion, list_all, list_any, position, position_or_len}
 use Rattle.std.specs.Fmt.{decimal}
 use Rattle.std.proofs.Math.Seq.{take-append_seam, drop-append-add}
@@ -27,7 +27,8 @@ use Rattle.scenario.specs.declared.event.Event.{Event}
 use Rattle.scenario.specs.declared.event.Event.TheVariants.{Send, Deliver, Settle, Lose, Tick, Restart, Echo, Congest, Inject}
 use Rattle.scenario.specs.declared.wish.Wish.{Wish}
 use Rattle.scenario.specs.declared.wish.Wish.TheVariants.{Lasting, NoReport, Whole, Options}
-use Rattle.scenario.proofs.Written.{IsWord, spelled, decimal_is_word, decimal_digits, number_read, read_behind, number_read_behind, word_behind, keyed_is_word, address_is_word, ReadsBack, address_word_read, frame_is_word, frame_word_read, spelled_is_word, octets_read_behind, target_is_word, target_word_read, name_is_word, declared_word_read}
+use Rattle.scenario.proofs.Written.{IsWord, spelled, decimal_is_word, decimal_digits, number_read, read_behind, number_read_behind, word_behind, keyed_is_word, address_is_word, ReadsBack, address_word_read, frame_word_read, spelled_is_word, octets_read_behind, target_is_word, target_word_read, name_is_word, declared_word_read, hex_is_word}
+use Rattle.clnp_base.proofs.ListSteps.{slice_get_map}
 
 -- ---- steps of a reading
 
@@ -47,16 +48,11 @@ pub record AreNamed {X : Type 0} (name : X → List ℕ) (xs : List X) : Type 0 
   pub distinct : AreDistinct (map name xs)
   pub names : AllByRecursion (λ x. is_name (name x) ≡ true) xs
 
-slice_get_mapped : {X : Type 0} (name : X → List ℕ) (xs : List X) (place : ℕ) (x : X) → slice_get xs place ≡ Some x → slice_get (map name xs) place ≡ Some (name x)
-slice_get_mapped name [] place x e = cc e
-slice_get_mapped name (y ∷ ys) zero x e = let same : y ≡ x = cc e in ap (λ z. Some (name z)) same
-slice_get_mapped name (y ∷ ys) (suc place) x e = slice_get_mapped name ys place x e
-
 named_read : {X : Type 0} (name : X → List ℕ) (xs : List X) (place : ℕ) (x : X) → AreNamed name xs → slice_get xs place ≡ Some x
     → declared_word (map name xs) (name x) ≡ Ok place
 named_read name xs place x are there =
     declared_word_read (map name xs) (name x) place (AllByRecursion-slice_get (λ y. is_name (name y) ≡ true) xs place x there are.names) are.distinct
-    (slice_get_mapped name xs place x there)
+    (slice_get_map name xs place x there)
 
 named_word : {X : Type 0} (name : X → List ℕ) (xs : List X) (place : ℕ) (x : X) → AreNamed name xs → slice_get xs place ≡ Some x → IsWord (name x)
 named_word name xs place x are there =
@@ -180,8 +176,8 @@ pub data_is_word : (body : Body) → IsSaidBody body → IsWord (body_text body)
 data_is_word (Hex octets) bytes = spelled_is_word (codes "hex:") octets (spelled (codes "hex:") refl) bytes
 data_is_word (Pattern len start) said =
     word_behind (keyed (codes "pat:") len) (keyed (codes ":") start)
-    (keyed_is_word (codes "pat:") len (spelled (codes "pat:") refl) (omega (arith, said.0)))
-    (keyed_is_word (codes ":") start (spelled (codes ":") refl) (omega (arith, said.1))).plain
+    (keyed_is_word (codes "pat:") len (spelled (codes "pat:") refl))
+    (keyed_is_word (codes ":") start (spelled (codes ":") refl)).plain
 
 -- ---- how a unit is to be sent
 
@@ -281,7 +277,7 @@ options_are_words (octet ∷ octets) said = (spelled_is_word (codes "opt=") (oct
 
 ask_are_words : (ask : Ask) → IsSaidAsk ask → AllByRecursion IsWord (ask_words ask)
 ask_are_words ask said =
-    let life : IsWord (keyed (codes "life=") ask.life) = keyed_is_word (codes "life=") ask.life (spelled (codes "life=") refl) (omega (arith, said.life.most)) in
+    let life : IsWord (keyed (codes "life=") ask.life) = keyed_is_word (codes "life=") ask.life (spelled (codes "life=") refl) in
     subst (λ (words : List (List ℕ)). AllByRecursion IsWord words) (sym (ask_words_are ask)) (
       life,
       word_if_is (not ask.report) (codes "noreport") _ (spelled (codes "noreport") refl)
@@ -476,10 +472,10 @@ others_are_words subnets systems named_subnets named_systems (Send system from t
   ),
 )
 others_are_words subnets systems named_subnets named_systems (Deliver copy system) told =
-    (decimal_is_word copy (omega (arith, told.said.most)), (system_is_word systems system named_systems told.placed, tt))
-others_are_words subnets systems named_subnets named_systems (Settle count) told = (decimal_is_word count (omega (arith, told.said.most)), tt)
-others_are_words subnets systems named_subnets named_systems (Lose count) told = (decimal_is_word count (omega (arith, told.said.most)), tt)
-others_are_words subnets systems named_subnets named_systems (Tick count) told = (decimal_is_word count (omega (arith, told.said.most)), tt)
+    (decimal_is_word copy, (system_is_word systems system named_systems told.placed, tt))
+others_are_words subnets systems named_subnets named_systems (Settle count) told = (decimal_is_word count, tt)
+others_are_words subnets systems named_subnets named_systems (Lose count) told = (decimal_is_word count, tt)
+others_are_words subnets systems named_subnets named_systems (Tick count) told = (decimal_is_word count, tt)
 others_are_words subnets systems named_subnets named_systems (Restart system) told = (system_is_word systems system named_systems told.placed, tt)
 others_are_words subnets systems named_subnets named_systems (Echo system from to body) told =
     (system_is_word systems system named_systems told.placed, (address_is_word from told.formed.0, (address_is_word to told.formed.1, (data_is_word body told.said, tt))))
@@ -490,7 +486,7 @@ others_are_words subnets systems named_subnets named_systems (Inject subnet from
     address_is_word from told.injected.sender,
     (
       target_is_word to told.injected.target,
-      (frame_is_word octets told.injected.bytes (omega (arith, told.injected.many.least)), tt),
+      (hex_is_word octets told.injected.bytes (omega (arith, told.injected.many.least)), tt),
     ),
   ),
 )

@@ -10,7 +10,7 @@ use Rattle.nsap.specs.Text.{bad_digit, may_stand, without_dots}
 use Rattle.scenario.specs.Canonical.{prefix_text}
 use Rattle.scenario.specs.Words.{address_read, prefix_word}
 use Rattle.scenario.proofs.Written.{IsPlain, IsWord, digit_plain, spelled}
-use Rattle.nsap.proofs.Digits.{digit_no_dot, digit_may_stand, spelled_few}
+use Rattle.scenario.proofs.Prefixes.{digit_no_dot, digit_may_stand, spelled_few}
 
 -- the character of a digit
 abbrev shown : ℕ → ℕ

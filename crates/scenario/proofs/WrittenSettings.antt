@@ -5,7 +5,7 @@ use Rattle.std.specs.Fmt.{decimal}
 use Rattle.clnp_plan.specs.Configuration.{AreSettings, IsWithin}
 use Rattle.clnp_plan.specs.declared.config.Settings.{Settings}
 use Rattle.scenario.specs.Canonical.{checksum_text, keyed, setting_texts}
-use Rattle.scenario.specs.Declarations.{room_word, setting_word, setting_words, settings_of, key_of}
+use Rattle.scenario.specs.Declarations.{room_word, setting_word, setting_words, key_of}
 use Rattle.scenario.specs.Words.{number_word, each_once}
 use Rattle.scenario.specs.declared.setting.Setting.{Setting}
 use Rattle.scenario.specs.declared.setting.Setting.TheVariants.{Hello, Suggest, Checksum, Life, RedirectHold, Slots, Segments, Budget, Neighbours, Routers, Redirects}
@@ -91,43 +91,36 @@ settings_read settings are =
       checksum_read settings.sealed,
     ) refl
 
--- all of them together are the settings, whatever is usual
-pub settings_are : (settings : Settings) → settings_of (settings_in_order settings) ≡ settings
-settings_are settings = refl
-
 pub settings_once : (settings : Settings) → each_once key_of (settings_in_order settings) ≡ true
 settings_once settings = refl
 
 -- each is written as a word
 
-keyed_word : (key : List ℕ) (low high n : ℕ) → IsWord key → high < 2 ^ 64 → IsWithin low high n → IsWord (keyed key n)
-keyed_word key low high n is small within = keyed_is_word key n is (let most = within.most in omega arith)
-
 checksum_is_word : (sealed : Bool) → IsWord (checksum_text sealed)
 checksum_is_word true = spelled (codes "checksum=on") refl
 checksum_is_word false = spelled (codes "checksum=off") refl
 
-pub settings_are_words : (settings : Settings) → AreSettings settings → AllByRecursion IsWord (setting_texts settings)
-settings_are_words settings are = (
-  keyed_word (codes "hello=") 0 600 settings.hello (spelled (codes "hello=") refl) (omega arith) are.hello,
+pub settings_are_words : (settings : Settings) → AllByRecursion IsWord (setting_texts settings)
+settings_are_words settings = (
+  keyed_is_word (codes "hello=") settings.hello (spelled (codes "hello=") refl),
   (
-    keyed_word (codes "suggest=") 0 32767 settings.suggest (spelled (codes "suggest=") refl) (omega arith) are.suggest,
+    keyed_is_word (codes "suggest=") settings.suggest (spelled (codes "suggest=") refl),
     (
-      keyed_word (codes "rhold=") 0 65535 settings.rhold (spelled (codes "rhold=") refl) (omega arith) are.rhold,
+      keyed_is_word (codes "rhold=") settings.rhold (spelled (codes "rhold=") refl),
       (
-        keyed_word (codes "slots=") 1 1024 settings.slots (spelled (codes "slots=") refl) (omega arith) are.slots,
+        keyed_is_word (codes "slots=") settings.slots (spelled (codes "slots=") refl),
         (
-          keyed_word (codes "segments=") 1 16384 settings.segments (spelled (codes "segments=") refl) (omega arith) are.segments,
+          keyed_is_word (codes "segments=") settings.segments (spelled (codes "segments=") refl),
           (
-            keyed_word (codes "budget=") 512 4194304 settings.budget (spelled (codes "budget=") refl) (omega arith) are.budget,
+            keyed_is_word (codes "budget=") settings.budget (spelled (codes "budget=") refl),
             (
-              keyed_word (codes "neighbours=") 1 1024 settings.neighbours (spelled (codes "neighbours=") refl) (omega arith) are.neighbours,
+              keyed_is_word (codes "neighbours=") settings.neighbours (spelled (codes "neighbours=") refl),
               (
-                keyed_word (codes "routers=") 1 64 settings.routers (spelled (codes "routers=") refl) (omega arith) are.routers,
+                keyed_is_word (codes "routers=") settings.routers (spelled (codes "routers=") refl),
                 (
-                  keyed_word (codes "redirects=") 1 1024 settings.redirects (spelled (codes "redirects=") refl) (omega arith) are.redirects,
+                  keyed_is_word (codes "redirects=") settings.redirects (spelled (codes "redirects=") refl),
                   (
-                    keyed_word (codes "life=") 1 255 settings.life (spelled (codes "life=") refl) (omega arith) are.life,
+                    keyed_is_word (codes "life=") settings.life (spelled (codes "life=") refl),
                     (checksum_is_word settings.sealed, tt),
                   ),
                 ),

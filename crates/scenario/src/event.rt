@@ -1,3 +1,6 @@
+ghost use Rattle.std.specs.Prelude.{◌≡◌, replicate};
+ghost use Rattle.scenario.specs.Scenario.{moves_of};
+
 use clnp_base::Octets;
 use clnp_plan::Ask;
 use nsap::{Address, Snpa, Target};
@@ -62,6 +65,25 @@ pub enum Event {
         to: Target,
         octets: Octets,
     },
+}
+
+impl Event {
+    /// The move that the event at a place is made of, and how often it is made.
+    pub fn moves(&self, place: usize) -> (Move, u32)
+        ensures { replicate result.1 result.0 ≡ moves_of place self.now }
+    {
+        match self {
+            Event::Settle { count } => (Move::SettleOne, *count),
+            Event::Lose { count } => (Move::LoseOne, *count),
+            Event::Tick { count } => (Move::TickOne, *count),
+            Event::Send { .. }
+            | Event::Echo { .. }
+            | Event::Deliver { .. }
+            | Event::Restart { .. }
+            | Event::Congest { .. }
+            | Event::Inject { .. } => (Move::One(place), 1),
+        }
+    }
 }
 
 /// One move of the simulated network.

@@ -23,7 +23,7 @@ use Rattle.clnp_machine.specs.Unit.{IsCarriable, Packet, value_of, wire}
 use Rattle.clnp_machine.specs.Content.{Content, IsCarried, Labelled, Esis, Unlabelled, frame_of}
 use Rattle.clnp_machine.specs.System.{SystemState}
 use Rattle.clnp_machine.specs.Local.{discard, tells}
-use Rattle.clnp_machine.specs.Steps.{CarriesOnePacket, CarriesOneEsisValue}
+use Rattle.clnp_machine.specs.Steps.{CarriesOnePacket}
 use Rattle.clnp_machine.specs.Step.{begins_unit, content_comes, discard_refused, effect_of, octets_come, unheard_note}
 
 -- a frame with an ES-IS value begins with the protocol's octet, one with a packet with its own
@@ -107,18 +107,6 @@ frame_broken begun s place group frame broken why none (Esis value following) pd
     absurd (begins_refused frame broken why (ap (λ (f : List ℕ). octet f 1) (sym e) ∙ begun value following pdu))
 frame_broken begun s place group frame broken why none (Unlabelled octets) carried e =
     ap effect_of (sym (octets_broken s octets broken (ap why_refused e ∙ why)))
-
--- the ES-IS PDU at the front of a frame is that of the value that it carries
-pub esis_found : CarriesOneEsisValue → BeginsAsClnp → (P : Content → Type 0) (frame : List ℕ) (w : EsisValue) (rest : List ℕ) → esis.BeginsWith frame w rest
-    → octet frame 1 ≢ 0x81 → (content : Content) → IsCarried content → frame_of content ≡ frame
-    → ((following : List ℕ) → P (Esis w following)) → P content
-esis_found one begun P frame w rest begins other (Labelled p following) carriable e for_value =
-    absurd (other (ap (λ (f : List ℕ). octet f 1) (sym e) ∙ begun p following carriable))
-esis_found one begun P frame w rest begins other (Esis value following) pdu e for_value =
-    let same : w ≡ value = (one value following w rest pdu (subst (λ (f : List ℕ). esis.BeginsWith f w rest) (sym e) begins)).0 in
-    subst (λ (v : EsisValue). P (Esis v following)) same (for_value following)
-esis_found one begun P frame w rest begins other (Unlabelled octets) none e for_value =
-    absurd (none.esis w rest (record { octets = begins.octets; spells = begins.spells; split = e ∙ begins.split }))
 
 octets_unheard : (s : SystemState) (octets : List ℕ) → octet octets 1 ≢ 0x81
     → octets_come s octets ≡ tells s (unheard_note (esis_rules.why_refused octets))

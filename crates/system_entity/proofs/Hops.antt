@@ -1,5 +1,5 @@
 -- Where a system sends, by its role.
-use Rattle.std.proofs.Common.{◌≡◌, ◌∙◌, sym, ap, ℕ, Bool, true, false, List, Option, None, Some, option_map}
+use Rattle.std.proofs.Common.{◌≡◌, ◌∙◌, sym, ap, ℕ, Bool, false, List, Option, None, Some, option_map}
 use Rattle.std.specs.Option.{option_or}
 use Rattle.std.specs.Prelude.{if◌then◌else◌}
 use Rattle.esis_tables.specs.declared.fact.Place.{Place}
@@ -7,7 +7,6 @@ use Rattle.esis_tables.specs.declared.fact.TableKind.TheVariants.{Es}
 use Rattle.esis_tables.specs.NextHop as heard
 use Rattle.clnp_plan.specs.declared.config.Role.{Role}
 use Rattle.clnp_plan.specs.declared.config.Role.TheVariants.{Host, Router}
-use Rattle.clnp_machine.specs.Local.{is_own}
 use Rattle.clnp_machine.specs.Step as machine
 use Rattle.clnp_machine.specs.Step.{Hop, by_route, hop_by, hop_of, host_hop, is_to_itself, next_hop, to_neighbour, unit_hop, way_of}
 use Rattle.clnp_machine.specs.System.{SystemState}
@@ -47,13 +46,6 @@ way_routed s now to route same none is =
     ∙ ap (λ (p : Option Place). option_or (option_map to_neighbour p) (option_map by_route (longest to s.configuration.routes))) there
 
 -- ---- units of its own
-
--- a router has no way for a unit that is for itself
-pub to_itself : (s : SystemState) (u : DataUnit) → s.configuration.role ≡ Router → is_own s u.destination ≡ true
-    → (let none : Option Hop = None in none) ≡ unit_hop s u
-to_itself s u role own =
-    ap (λ (b : Bool). if b then None else next_hop s u.destination) (sym own)
-    ∙ ap (λ (r : Role). if is_to_itself r s u then None else next_hop s u.destination) (sym role)
 
 -- another goes by the next hop
 pub to_another : (s : SystemState) (u : DataUnit) (role : Role) → s.configuration.role ≡ role → is_to_itself role s u ≡ false

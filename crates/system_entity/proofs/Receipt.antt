@@ -13,12 +13,12 @@ use Rattle.clnp_machine.specs.System.{SystemState, Effect, idles}
 use Rattle.clnp_machine.specs.Unit.{Packet}
 use Rattle.clnp_options.specs.Reasons.{reason_code}
 use Rattle.clnp_options.specs.declared.reasons.Reason.TheVariants.{LifetimeExpiredInTransit}
+use Rattle.clnp_base.proofs.Choices.{one_of}
 
 -- ---- answers to a group
 
 one_stays : (b : Bool) (t : SystemState) (first second : Effect) → first.after ≡ t → second.after ≡ t → (if b then first else second).after ≡ t
-one_stays true t first second h k = h
-one_stays false t first second h k = k
+one_stays b t first second h k = one_of (λ (effect : Effect). effect.after ≡ t) b first second h k
 
 pub responds_stays : (t : SystemState) (place : Place) (group : Bool) (p : Packet) → (responds t place group p).after ≡ t
 responds_stays t place group p =

@@ -3,12 +3,12 @@ use Rattle.clnp_base.specs.Text.{lines_of}
 use Rattle.clnp_commands.specs.ByLine.{showing, Midway}
 use Rattle.clnp_commands.proofs.ByLine.{start}
 use Rattle.clnp_commands.proofs.Commands.{show_stopped, show_done, show_cut}
-use Rattle.clnp_commands.proofs.Lines.{few}
 use Rattle.clnp_commands.proofs.show.show.Goals as goal
+use Rattle.clnp_base.proofs.Reading.{lines_of-few}
 
 pub loop-line-init : goal.loop-line-init
 loop-line-init g c =
-    let lines : length (lines_of c.args.text.now) ≤ length c.args.text.now = few c.args.text.now in (
+    let lines : length (lines_of c.args.text.now) ≤ length c.args.text.now = lines_of-few c.args.text.now in (
       rw c.new-block.ensures.items (start showing 1 (lines_of c.args.text.now) (g.K.Sink.written c.args.sink.now)),
       omega arith,
       omega (arith, lines),

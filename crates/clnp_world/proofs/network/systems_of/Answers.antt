@@ -1,13 +1,13 @@
 -- One more system is at its start.
-use Rattle.std.proofs.Common.{◌+◌, List, [], ◌∷◌, ◌++◌, take, sym, subst, arith}
+use Rattle.std.proofs.Common.{◌+◌, List, [], ◌∷◌, ◌++◌, take, sym, subst, arith, refl}
 use Rattle.clnp_machine.specs.System.{SystemState, first_state}
 use Rattle.clnp_network.specs.World as network
 use Rattle.clnp_systems.specs.declared.system.System.{System}
 use Rattle.clnp_world.specs.Stands.{StandEach}
 use Rattle.clnp_world.proofs.EachSteps.{each_push}
-use Rattle.clnp_base.proofs.ListSteps.{slice_get_read}
 use Rattle.clnp_world.proofs.ModelSteps.{states_from-take}
 use Rattle.clnp_world.proofs.network.systems_of.Goals as goal
+use Rattle.std.proofs.lemmas.Option.{slice_get_read}
 
 pub loop-config-preserved : goal.loop-config-preserved
 loop-config-preserved c =
@@ -15,7 +15,7 @@ loop-config-preserved c =
     let systems = c.systems-declared.result.now in
     let system = c.config-item.result in
     let place = c.loop-config.config-index in
-    let at = slice_get_read systems place system (omega arith) c.config-item.is in
+    let at = slice_get_read systems _ place system refl (omega arith) c.config-item.is in
     subst (λ (nodes : List System). StandEach nodes (network.states_from limits 0 (take (place + 1) systems))) (sym (c.in_ok-push.ensures.items))
     (subst (λ (states : List SystemState). StandEach (c.loop-config.systems.items ++ c.in_ok-system.system ∷ []) states)
     (sym (states_from-take limits systems place system at))

@@ -2,8 +2,9 @@ use Rattle.std.proofs.Common.{[], sym, ◌∙◌, rules}
 use Rattle.std.proofs.lemmas.Bool.Decides.{Decides-eqb}
 use Rattle.std.proofs.lemmas.Slice.Eq.{slice_eq-Decides}
 use Rattle.echo.specs.Match.{AreRequest}
-use Rattle.echo.proofs.Requests.{begins, is_request, its_value, nothing, one_test, true_is_not_false}
+use Rattle.echo.proofs.Requests.{begins, is_request, its_value, nothing, one_test}
 use Rattle.echo.proofs.matching.is_request.Goals as goal
+use Rattle.std.proofs.lemmas.Bool.{true≢false}
 
 pub returns-in_default-clause-answers : goal.returns-in_default-clause-answers
 returns-in_default-clause-answers c = (λ t. cc, λ r. absurd (c.in_default.ensures.none r.value [] (begins c.args.octets.now c.args.body.now r.value r.spells)))
@@ -23,7 +24,7 @@ returns-then-eq-clause-answers c =
 pub returns-else-eq-clause-answers : goal.returns-else-eq-clause-answers
 returns-else-eq-clause-answers c =
     let same = slice_eq-Decides Decides-eqb _ _ _ c.eq.ensures in
-    (λ t. absurd (true_is_not_false (sym t ∙ c.if-eq.false)), λ r. same.1 (its_value c.one_value.ensures c.args.octets.now c.args.body.now _ _ c.in-Ok.ensures.found r).1)
+    (λ t. absurd (true≢false (sym t ∙ c.if-eq.false)), λ r. same.1 (its_value c.one_value.ensures c.args.octets.now c.args.body.now _ _ c.in-Ok.ensures.found r).1)
 
 pub returns-in_default-clause-test : goal.returns-in_default-clause-test
 returns-in_default-clause-test c =

@@ -2,8 +2,9 @@ use Rattle.std.proofs.Common.{◌∙◌, sym, ap, ◌++◌, List, ℕ, Option}
 use Rattle.std.proofs.lemmas.List.{append-nil}
 use Rattle.clnp_options.specs.Parameter.{spelled}
 use Rattle.esis_pdus.specs.Making.{timer_options}
-use Rattle.esis_pdus.proofs.Made.{spelled-nil, spelled_timer}
+use Rattle.esis_pdus.proofs.Made.{spelled_timer}
 use Rattle.esis_pdus.proofs.hello.push_timer.Goals as goal
+use Rattle.esis_pdus.proofs.Options.{spelled-nil}
 
 pub returns-in_default : goal.returns-in_default
 returns-in_default c =

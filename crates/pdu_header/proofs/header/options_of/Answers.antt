@@ -1,12 +1,9 @@
-use Rattle.std.proofs.Common.{◌≡◌, ◌∙◌, ap, ℕ, ◌-◌, ◌≤◌, List, length, take, drop, take_all, length-drop, arith}
+use Rattle.std.proofs.Common.{◌∙◌, ap}
 use Rattle.clnp_options.specs.Parameter.{parameters}
 use Rattle.pdu_header.specs.Value.{PduValue}
 use Rattle.pdu_header.proofs.Edited.{StartsAt, start_within, options_formed, options_are}
 use Rattle.pdu_header.proofs.header.options_of.Goals as goal
-
--- the part from an index on
-whole : (octets : List ℕ) (start : ℕ) → start ≤ length octets → take (length octets - start) (drop start octets) ≡ drop start octets
-whole octets start within = take_all (length octets - start) (drop start octets) (omega (arith, length-drop start octets))
+use Rattle.std.proofs.lemmas.List.{take_rest}
 
 pub slice_bounds-result-count : goal.slice_bounds-result-count
 slice_bounds-result-count c =
@@ -20,11 +17,9 @@ pub returns-clause-well_formed : goal.returns-clause-well_formed
 returns-clause-well_formed c =
     let v : PduValue = c.requires.0 in
     let start : StartsAt v c.options_index-start.result = c.options_index-start.ensures v c.requires.1 in
-    let within = start_within v c.args.octets.now c.options_index-start.result c.requires.1 start in
-    rw (whole c.args.octets.now c.options_index-start.result within) (options_formed v c.args.octets.now c.options_index-start.result c.requires.1 start)
+    rw (take_rest c.args.octets.now c.options_index-start.result) (options_formed v c.args.octets.now c.options_index-start.result c.requires.1 start)
 
 pub returns-clause-options : goal.returns-clause-options
 returns-clause-options c v h =
     let start : StartsAt v c.options_index-start.result = c.options_index-start.ensures v h in
-    let within = start_within v c.args.octets.now c.options_index-start.result h start in
-    ap parameters (whole c.args.octets.now c.options_index-start.result within) ∙ options_are v c.args.octets.now c.options_index-start.result h start
+    ap parameters (take_rest c.args.octets.now c.options_index-start.result) ∙ options_are v c.args.octets.now c.options_index-start.result h start

@@ -1,7 +1,8 @@
 use Rattle.std.proofs.Common.{◌≤◌, ap, arith, drop, length, sym, ◌∙◌}
 use Rattle.clnp_base.specs.Inline.{len_again}
-use Rattle.clnp_base.proofs.Laid.{behind_front, inline-put, part_of, part_size}
+use Rattle.clnp_base.proofs.Laid.{behind_front, inline-put, part_size}
 use Rattle.clnp_base.proofs.inline.InlineOctets.change.Goals as goal
+use Rattle.clnp_base.proofs.Lists.{take_drop_swap}
 
 pub invariant_of-self : goal.invariant_of-self
 invariant_of-self g c =
@@ -18,7 +19,7 @@ returns-clause-changed g c =
     let call = c.change_part.ensures in
     record {
       shown = call.shown;
-      shows = call.shows ∙ part_of c.args.start c.self.inside.len c.self.inside.cells within ∙ ap (drop c.args.start) c.self.view_is;
+      shows = call.shows ∙ take_drop_swap c.args.start c.self.inside.len c.self.inside.cells within ∙ ap (drop c.args.start) c.self.view_is;
       left = call.left;
       met = call.met;
       leaves = call.leaves ∙ sym (behind_front g.row.MOST c.self.inside.len c.args.start c.self.inside.cells c.change_part.new.part c.self.invariant within size);

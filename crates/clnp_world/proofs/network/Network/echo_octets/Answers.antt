@@ -1,5 +1,5 @@
 -- The system makes an echo request, or its refusal is noted.
-use Rattle.std.proofs.Common.{[], ◌∷◌, arith}
+use Rattle.std.proofs.Common.{[], ◌∷◌, arith, refl}
 use Rattle.std.proofs.lemmas.Result.{on_ok_weaker}
 use Rattle.clnp_plan.specs.declared.output.Output.TheVariants.{Note as Told}
 use Rattle.clnp_machine.specs.Local.{refusal, request_unit}
@@ -7,11 +7,11 @@ use Rattle.clnp_machine.specs.Step.{step}
 use Rattle.clnp_machine.specs.System.{SystemState, Input, AsksForEcho}
 use Rattle.system_entity.specs.Stands as entity
 use Rattle.clnp_systems.specs.Stands.{entity_of}
-use Rattle.clnp_base.proofs.ListSteps.{slice_get_read}
 use Rattle.clnp_world.proofs.SendSteps.{refused_echo_gives, refused_echo_stands}
 use Rattle.clnp_world.proofs.TakeSteps.{with_node, does_follow, does_nothing, note_alone, from_none, leaves_same, says_why}
 use Rattle.clnp_world.proofs.network.Network.echo_octets.Goals as goal
 use Rattle.clnp_world.proofs.ModelSteps.{step_moment}
+use Rattle.std.proofs.lemmas.Option.{slice_get_read}
 
 pub returns-then-place-len : goal.returns-then-place-len
 returns-then-place-len c =
@@ -26,7 +26,7 @@ returns-in-Ok c =
     on_ok_weaker c.put_all_out.result
     (does_follow old c.put_all_out.new.self c.args.lines.now c.put_all_out.new.lines c.args.place old.clock input node
     c.echo.new.self c.echo.new.out.items
-    (slice_get_read old.systems.items c.args.place node (omega (arith, old.systems.ok.0)) c.index_mut.ensures.value) c.in-Ok.ensures.stands
+    (slice_get_read old.systems.items _ c.args.place node refl (omega (arith, old.systems.ok.0)) c.index_mut.ensures.value) c.in-Ok.ensures.stands
     (λ s stands. from_none (entity_of node).moment c.new-outputs.result.items c.echo.new.out.items (step s input).outputs c.new-outputs.ensures.items
     (c.in-Ok.ensures.outputs s stands))
     (λ s. step_moment s (AsksForEcho c.args.from c.args.to c.args.body.now)))
@@ -44,7 +44,7 @@ returns-in_ok-note-in-Err c =
     on_ok_weaker c.write_note.result (λ writes.
     does_follow old mid c.args.lines.now c.write_note.new.lines c.args.place old.clock
     (AsksForEcho c.args.from c.args.to c.args.body.now) node c.echo.new.self (Told note ∷ [])
-    (slice_get_read old.systems.items c.args.place node (omega (arith, old.systems.ok.0)) c.index_mut.ensures.value)
+    (slice_get_read old.systems.items _ c.args.place node refl (omega (arith, old.systems.ok.0)) c.index_mut.ensures.value)
     (λ s stands. refused_echo_stands s c.args.from c.args.to c.args.body.now note node c.echo.new.self (why s stands)
     (leaves_same c.in-Err.refusal note (entity_of node) (entity_of c.echo.new.self) said c.in-Err.ensures.left) stands)
     (λ s stands. refused_echo_gives s c.args.from c.args.to c.args.body.now note (entity_of node).moment (why s stands))

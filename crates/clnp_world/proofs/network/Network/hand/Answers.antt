@@ -1,5 +1,5 @@
 -- The copy's frame comes to the system, and what it gives out is put out.
-use Rattle.std.proofs.Common.{sym, ap, subst, arith}
+use Rattle.std.proofs.Common.{sym, ap, subst, arith, refl}
 use Rattle.std.proofs.lemmas.Result.{on_ok_weaker}
 use Rattle.clnp_machine.specs.Given.{AppendsFor}
 use Rattle.clnp_machine.specs.System.{Input}
@@ -11,17 +11,17 @@ use Rattle.clnp_world.specs.declared.copy.FrameCopy.{FrameCopy}
 use Rattle.clnp_world.proofs.EachSteps.{each_at}
 use Rattle.clnp_world.specs.Stands.{IsBornWithUnit}
 use Rattle.clnp_world.proofs.GiveSteps.{born_at, came, copy_at, carried_at}
-use Rattle.clnp_base.proofs.ListSteps.{slice_get_read}
 use Rattle.clnp_world.proofs.TakeSteps.{takes_now, from_none_for}
 use Rattle.clnp_world.proofs.network.Network.hand.Goals as goal
 use Rattle.clnp_world.proofs.ModelSteps.{step_moment}
+use Rattle.std.proofs.lemmas.Option.{slice_get_read}
 
 pub returns-clause-follows : goal.returns-clause-follows
 returns-clause-follows c =
     let old = c.args.self.now in
     let node = c.index_mut.result.now in
     let seen = c.index-copy.result.now in
-    let here = slice_get_read old.systems.items c.args.place node (omega (arith, old.systems.ok.0)) c.index_mut.ensures.value in
+    let here = slice_get_read old.systems.items _ c.args.place node refl (omega (arith, old.systems.ok.0)) c.index_mut.ensures.value in
     on_ok_weaker c.put_all_out.result (λ puts model copy system h at there.
     let input = network.frame_to system copy in
     let effect = step system input in

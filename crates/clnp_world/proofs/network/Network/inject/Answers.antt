@@ -1,20 +1,20 @@
 -- The frame becomes the next copy, and its line is written.
-use Rattle.std.proofs.Common.{◌≡◌, ◌+◌, ◌∙◌, ℕ, [], ◌∷◌, List, Some, subst, arith}
+use Rattle.std.proofs.Common.{◌≡◌, ◌+◌, ◌∙◌, ℕ, [], ◌∷◌, List, Some, subst, arith, refl}
 use Rattle.std.specs.Prelude.{slice_get}
 use Rattle.std.proofs.lemmas.Result.{on_ok_weaker}
 use Rattle.clnp_plan.specs.Journal.{Injected}
 use Rattle.clnp_world.specs.Lines.{Gains}
 use Rattle.clnp_world.specs.Parts.{PutsCopies}
 use Rattle.clnp_world.proofs.InjectSteps.{injects_there, outside_copy}
-use Rattle.clnp_base.proofs.ListSteps.{slice_get_read}
 use Rattle.clnp_world.proofs.network.Network.inject.Goals as goal
+use Rattle.std.proofs.lemmas.Option.{slice_get_read}
 
 pub returns : goal.returns
 returns c =
     let old = c.args.self.now in
     let declared = c.index-subnets-place.result in
     let there = subst (λ (place : ℕ). slice_get c.args.subnets.now place ≡ Some declared) c.from-place.ensures
-    (slice_get_read c.args.subnets.now c.from-place.result declared (omega arith) c.index-subnets-place.is) in
+    (slice_get_read c.args.subnets.now _ c.from-place.result declared refl (omega arith) c.index-subnets-place.is) in
     let line = subst (λ (name : List ℕ). Gains c.args.lines.now c.injection.new.self (Injected old.clock (c.len.result + 1) name c.args.from c.args.to ∷ []))
     c.name-name.ensures c.in_ok-injection.ensures in
     on_ok_weaker c.push_copy.result (λ put.

@@ -3,9 +3,10 @@ use Rattle.std.proofs.Common.{◌≡◌, ◌∙◌, List, sym, refl, arith, subs
 use Rattle.std.proofs.lemmas.List.{take_all}
 use Rattle.clnp_plan.specs.declared.output.Output.{Output}
 use Rattle.clnp_machine.specs.Given.{GiveAllFor}
-use Rattle.clnp_base.proofs.ListSteps.{slice_get_read, take_push}
+use Rattle.clnp_base.proofs.ListSteps.{take_push}
 use Rattle.clnp_world.proofs.PutSteps.{PutsOut, puts_none, puts_more}
 use Rattle.clnp_world.proofs.network.Network.put_all_out.Goals as goal
+use Rattle.std.proofs.lemmas.Option.{slice_get_read}
 
 pub loop-output-init : goal.loop-output-init
 loop-output-init c = record {
@@ -18,7 +19,7 @@ loop-output-init c = record {
 pub loop-output-preserved : goal.loop-output-preserved
 loop-output-preserved c =
     let outputs = c.deref-output-items.result.now in
-    let at = slice_get_read outputs c.loop-output.output-index c.output-item.result (omega arith) c.output-item.is in
+    let at = slice_get_read outputs _ c.loop-output.output-index c.output-item.result refl (omega arith) c.output-item.is in
     let one = take_push outputs c.loop-output.output-index c.output-item.result at in
     record {
       puts = subst (λ (front : List Output). PutsOut c.args.self.now c.put_out.new.self c.args.lines.now c.put_out.new.lines c.args.place c.args.came front) (sym one.0)

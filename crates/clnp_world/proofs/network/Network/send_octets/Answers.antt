@@ -1,5 +1,5 @@
 -- The host sends, or its refusal is noted; a router is asked nothing.
-use Rattle.std.proofs.Common.{◌∙◌, [], ◌∷◌, Some, sym, ap, arith}
+use Rattle.std.proofs.Common.{◌∙◌, [], ◌∷◌, Some, sym, ap, arith, refl}
 use Rattle.std.proofs.lemmas.Result.{on_ok_weaker}
 use Rattle.clnp_plan.specs.Configuration.{SystemConfiguration}
 use Rattle.clnp_plan.specs.declared.output.Output.TheVariants.{Note as Told}
@@ -10,11 +10,11 @@ use Rattle.pdu_header.specs.declared.kind.Kind.TheVariants.{Dt}
 use Rattle.system_entity.specs.Stands as entity
 use Rattle.clnp_systems.specs.declared.system.System.{System}
 use Rattle.clnp_systems.specs.declared.system.System.TheVariants as variant
-use Rattle.clnp_base.proofs.ListSteps.{slice_get_read}
 use Rattle.clnp_world.proofs.SendSteps.{refused_stands, refused_gives, asks_host, asks_nobody, asks_router, written_back}
 use Rattle.clnp_world.proofs.TakeSteps.{with_node, does_follow, note_alone, from_none, leaves_same, says_why}
 use Rattle.clnp_world.proofs.network.Network.send_octets.Goals as goal
 use Rattle.clnp_world.proofs.ModelSteps.{step_moment}
+use Rattle.std.proofs.lemmas.Option.{slice_get_read}
 
 pub returns-then-place-len : goal.returns-then-place-len
 returns-then-place-len c =
@@ -24,7 +24,7 @@ returns-then-place-len c =
 pub returns-in-Router : goal.returns-in-Router
 returns-in-Router c =
     let old = c.args.self.now in
-    let here = slice_get_read old.systems.items c.args.place c.index_mut.result.now (omega (arith, old.systems.ok.0)) c.index_mut.ensures.value
+    let here = slice_get_read old.systems.items _ c.args.place c.index_mut.result.now refl (omega (arith, old.systems.ok.0)) c.index_mut.ensures.value
     ∙ ap Some c.in-Router.is in
     written_back old c.args.lines.now c.args.place (AsksToSend c.args.from c.args.to c.args.body.now c.args.ask.now)
     (variant.Router c.in-Router.router) here (asks_router old c.args.lines.now c.args.place
@@ -37,7 +37,7 @@ returns-in-Ok c =
     let host = c.in-Host.host in
     let node : System = variant.Host host in
     let input : Input = AsksToSend c.args.from c.args.to c.args.body.now c.args.ask.now in
-    let here = slice_get_read old.systems.items c.args.place c.index_mut.result.now (omega (arith, old.systems.ok.0)) c.index_mut.ensures.value
+    let here = slice_get_read old.systems.items _ c.args.place c.index_mut.result.now refl (omega (arith, old.systems.ok.0)) c.index_mut.ensures.value
     ∙ ap Some c.in-Host.is in
     on_ok_weaker c.put_all_out.result (λ puts.
     asks_host old c.put_all_out.new.self c.args.lines.now c.put_all_out.new.lines c.args.place input node here
@@ -57,7 +57,7 @@ returns-in_ok-note-in-Err c =
     let note = c.in_ok-note-in-Err.note in
     let said = c.in_ok-note-in-Err.ensures in
     let mid = with_node old c.args.place (variant.Host c.send.new.self) in
-    let here = slice_get_read old.systems.items c.args.place c.index_mut.result.now (omega (arith, old.systems.ok.0)) c.index_mut.ensures.value
+    let here = slice_get_read old.systems.items _ c.args.place c.index_mut.result.now refl (omega (arith, old.systems.ok.0)) c.index_mut.ensures.value
     ∙ ap Some c.in-Host.is in
     let why = λ (s : SystemState) (stands : entity.Stands host.entity s). says_why c.in-Err.refusal note
     (refusal s (unit_of s Dt c.args.from c.args.to c.args.body.now c.args.ask.now)) said (c.in-Err.ensures.answer s stands) in

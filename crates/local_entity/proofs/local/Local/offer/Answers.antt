@@ -13,8 +13,9 @@ use Rattle.local_entity.specs.State.{EntityState}
 use Rattle.local_entity.specs.Seen.{state_of}
 use Rattle.local_entity.proofs.Completed.{completed, completed_slot}
 use Rattle.local_entity.proofs.Undone.{undone_same}
-use Rattle.local_entity.proofs.Offering.{kept_stands, offer_is, others, said_not_whole, told_ready, told_stands, whole_appends, whole_ready, whole_stands}
+use Rattle.local_entity.proofs.Offering.{kept_stands, offer_is, others, told_ready, told_stands, whole_appends, whole_ready, whole_stands}
 use Rattle.local_entity.proofs.local.Local.offer.Goals as goal
+use Rattle.local_entity.proofs.Buffers.{said_not_whole}
 
 pub joined-octets-requires-clause-whole : goal.joined-octets-requires-clause-whole
 joined-octets-requires-clause-whole c =
