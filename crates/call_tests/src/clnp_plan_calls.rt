@@ -1,13 +1,13 @@
 ghost use Rattle.std.specs.Prelude.{◌≡◌};
-ghost use Rattle.clnp_plan.specs.Configuration.{IsPort};
+ghost use Rattle.scenario.specs.ClnpPlan.Configuration.{IsPort};
 
-use clnp_plan::{
+use scenario::clnp_plan::{
     Note, PortConfig, Role, Settings, SystemConfig, Why, journal_text, late_text, push_end,
     transmission_text, void_text,
 };
-use forwarding::Route;
-use nsap::{Address, Prefix, Snpa, Target};
-use pdu_header::Kind;
+use scenario::forwarding::Route;
+use scenario::nsap::{Address, Prefix, Snpa, Target};
+use scenario::pdu_header::Kind;
 use std::alloc::Global;
 use std::process::Abort;
 

@@ -1,5 +1,5 @@
-use esis_tables::{EsisLimits, Gone, Heard, Place, TableKind, Tables};
-use nsap::{Address, Snpa};
+use scenario::esis_tables::{EsisLimits, Gone, Heard, Place, TableKind, Tables};
+use scenario::nsap::{Address, Snpa};
 use std::alloc::Global;
 use std::process::Abort;
 

@@ -1,5 +1,5 @@
-use forwarding::{Route, RouteRefusal, Routes};
-use nsap::{Address, Prefix, Snpa};
+use scenario::forwarding::{Route, RouteRefusal, Routes};
+use scenario::nsap::{Address, Prefix, Snpa};
 use std::process::Abort;
 
 fn address(rt: &impl Abort, text: &str) -> Address {

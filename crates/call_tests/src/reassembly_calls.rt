@@ -5,9 +5,9 @@ ghost use Rattle.reassembly.specs.NoWhole.{HasNoWhole, IsCompleted};
 ghost use Rattle.reassembly.specs.State.{IsWholeSlot};
 
 use crate::reassembly_calls::Step::{Clear, End, Fill, Offer, Rest, Undo, Whole};
-use clnp_views::Frame;
-use nsap::Address;
 use reassembly::{Accept, Key, Segment, Shape, SlotNo, Table, TableLimits};
+use scenario::clnp_views::Frame;
+use scenario::nsap::Address;
 use std::alloc::Global;
 use std::process::Abort;
 

@@ -1,5 +1,5 @@
-use clnp_base::lines;
-use clnp_plan::{Limits, PortConfig, Role, SystemConfig};
+use scenario::clnp_base::lines;
+use scenario::clnp_plan::{Limits, PortConfig, Role, SystemConfig};
 use scenario::{Event, Scenario, ScenarioRefusal, Subnet, from_seed, read, write};
 use std::alloc::Global;
 use std::process::Abort;

@@ -2,7 +2,7 @@
 use Rattle.std.proofs.Common.{◌≡◌, ◌↔◌, ℕ, ◌==◌, Bool, true, false, if◌then◌else◌, List, Option, Some, None, MatchOption, refl, ap, sym, ◌∙◌}
 use Rattle.std.proofs.lemmas.Bool.{eqb-true}
 use Rattle.hex.specs.Hex.{IsBytes}
-use Rattle.fletcher.specs.Checksum.{octet}
+use Rattle.esis_pdus.specs.Fletcher.Checksum.{octet}
 use Rattle.esis_pdus.specs.declared.pdu.EsisRefusal.{EsisRefusal}
 use Rattle.esis_pdus.specs.declared.pdu.EsisRefusal.TheVariants.{NotEsis}
 use Rattle.esis_pdus.specs.Grammar.{BeginsWith}

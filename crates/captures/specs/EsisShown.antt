@@ -1,7 +1,7 @@
 -- The line of text that shows an ES-IS frame (ISO 9542), and every frame that is neither CLNP nor ES-IS.
 use Rattle.std.specs.Prelude.{◌≡◌, ℕ, List, [], ◌∷◌, ◌++◌, codes, MatchOption}
 use Rattle.std.specs.Fmt.{decimal}
-use Rattle.nsap.specs.Text.{hex_text}
+use Rattle.esis_pdus.specs.Nsap.Text.{hex_text}
 use Rattle.esis_pdus.specs.declared.pdu.EsisBody.{EsisBody}
 use Rattle.esis_pdus.specs.declared.pdu.EsisBody.TheVariants.{Esh, Ish, Rd}
 use Rattle.esis_pdus.specs.declared.pdu.EsisRefusal.{EsisRefusal}

@@ -1,12 +1,12 @@
 -- The line of text that shows a frame.
 use Rattle.std.specs.Prelude.{◌≡◌, ℕ, ◌==◌, Bool, if◌then◌else◌, List, [], ◌∷◌, ◌++◌, codes, Option, Some, None, is_some, MatchBool, MatchOption}
 use Rattle.std.specs.Fmt.{decimal}
-use Rattle.nsap.specs.Text.{hex_text}
-use Rattle.pdu_header.specs.declared.kind.Kind.{Kind}
-use Rattle.pdu_header.specs.declared.kind.Kind.TheVariants.{Dt, Er, Erq, Erp}
-use Rattle.pdu_header.specs.Value.{SegmentationPart, PduValue}
-use Rattle.pdu_header.specs.Grammar.{BeginsWith}
-use Rattle.pdu_header.specs.Rules.{octet, refusal, is_reportable}
+use Rattle.esis_pdus.specs.Nsap.Text.{hex_text}
+use Rattle.esis_pdus.specs.PduHeader.declared.kind.Kind.{Kind}
+use Rattle.esis_pdus.specs.PduHeader.declared.kind.Kind.TheVariants.{Dt, Er, Erq, Erp}
+use Rattle.esis_pdus.specs.PduHeader.Value.{SegmentationPart, PduValue}
+use Rattle.esis_pdus.specs.PduHeader.Grammar.{BeginsWith}
+use Rattle.esis_pdus.specs.PduHeader.Rules.{octet, refusal, is_reportable}
 use Rattle.captures.specs.Words.{octet_word, pair_word, options_text, checksum_of}
 use Rattle.captures.specs.EsisShown.{ShowsOther}
 

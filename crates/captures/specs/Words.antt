@@ -1,9 +1,9 @@
 -- Words of shown lines, of both protocols.
 use Rattle.std.specs.Prelude.{ℕ, List, [], ◌∷◌, ◌++◌, codes}
-use Rattle.nsap.specs.Text.{hex_text}
-use Rattle.clnp_options.specs.Parameter.{Parameter}
-use Rattle.pdu_header.specs.Spelling.{pair_of}
-use Rattle.pdu_header.specs.Rules.{pair_at, header_of}
+use Rattle.esis_pdus.specs.Nsap.Text.{hex_text}
+use Rattle.esis_pdus.specs.ClnpOptions.Parameter.{Parameter}
+use Rattle.esis_pdus.specs.PduHeader.Spelling.{pair_of}
+use Rattle.esis_pdus.specs.PduHeader.Rules.{pair_at, header_of}
 
 -- an octet in two hexadecimal digits
 abbrev pub octet_word : ℕ → List ℕ

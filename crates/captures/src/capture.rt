@@ -3,7 +3,7 @@ ghost use Rattle.std.specs.List.{AllPass};
 ghost use Rattle.hex.specs.Hex.{is_hex_digit, decode_of};
 ghost use Rattle.captures.specs.Captures.{capture_of, Skipped, Malformed, TooLong, Frame, is_skipped, Tells};
 
-use clnp_base::{HexFault, push_unhex};
+use esis_pdus::clnp_base::{HexFault, push_unhex};
 
 /// The most octets of a frame.
 pub const MOST_OCTETS: usize = 70_000;

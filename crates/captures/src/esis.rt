@@ -3,13 +3,13 @@
 ghost use Rattle.std.specs.Prelude.{◌≡◌, ◌++◌, OnOk, codes, option_map, ℕ, List};
 ghost use Rattle.esis_pdus.specs.Spelling.{title_octets};
 ghost use Rattle.esis_pdus.specs.View.{pdu_value};
-ghost use Rattle.nsap.specs.Text.{hex_text};
+ghost use Rattle.esis_pdus.specs.Nsap.Text.{hex_text};
 ghost use Rattle.captures.specs.EsisShown.{ShowsOther, addresses_text, body_text, esis_refusal_text, esis_text, esis_word};
 
 use crate::words::{push_number, push_octets, push_options, push_pair};
-use clnp_base::{NoMemory, push};
+use esis_pdus::clnp_base::{NoMemory, push};
+use esis_pdus::nsap::Address;
 use esis_pdus::{AddressList, EsisBody, EsisPdu, EsisRefusal, decode};
-use nsap::Address;
 
 /// Appends the text of a frame that doesn't begin with 0x81.
 pub fn push_other(frame: &[u8], line: &mut Vec<u8>) -> Result<(), NoMemory>

@@ -9,5 +9,6 @@ mod vector;
 mod words;
 
 pub use capture::{LineRefusal, MOST_OCTETS, read_capture};
+pub use esis_pdus;
 pub use line::show_line;
 pub use vector::{Verdict, check_line};

@@ -2,16 +2,16 @@
 
 ghost use Rattle.std.specs.Prelude.{◌≡◌, ◌++◌, OnOk, OnErr, codes, option_map, ℕ, List};
 ghost use Rattle.std.specs.Fmt.{decimal};
-ghost use Rattle.nsap.specs.Text.{hex_text};
-ghost use Rattle.pdu_header.specs.View.{pdu_value, part_value};
+ghost use Rattle.esis_pdus.specs.Nsap.Text.{hex_text};
+ghost use Rattle.esis_pdus.specs.PduHeader.View.{pdu_value, part_value};
 ghost use Rattle.captures.specs.Shown.{Shows, refusal_text, front_text, kind_and_flags_text, part_text, segmentation_text, value_text};
 
 use crate::esis::push_other;
 use crate::words::{
     flags_text, kind_text, push_number, push_octets, push_options, push_pair, report_text,
 };
-use clnp_base::{NoMemory, push};
-use pdu_header::{Broken, Pdu, Refusal, SegPart, decode};
+use esis_pdus::clnp_base::{NoMemory, push};
+use esis_pdus::pdu_header::{Broken, Pdu, Refusal, SegPart, decode};
 use std::alloc::Global;
 
 /// About how many octets the words of a shown line take, beside the digits of its frame.

@@ -7,7 +7,7 @@ ghost use Rattle.captures.specs.Vectors.{vector_of, Skipped, Malformed, TooLong,
 
 use crate::capture::{LineRefusal, is_skipped, read_capture};
 use crate::line::show_line;
-use clnp_base::{NoMemory, push, push_decimal};
+use esis_pdus::clnp_base::{NoMemory, push, push_decimal};
 use std::alloc::Global;
 
 /// The verdict on a line of a file of vectors.

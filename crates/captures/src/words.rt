@@ -2,14 +2,14 @@
 
 ghost use Rattle.std.specs.Prelude.{◌≡◌, ◌++◌, ◌∷◌, [], OnOk, OnErr, codes, length, IfNone, IfSome, ◌+◌};
 ghost use Rattle.std.specs.Fmt.{decimal};
-ghost use Rattle.nsap.specs.Text.{hex_text};
-ghost use Rattle.clnp_options.specs.Parameter.{Parameter, parameters};
+ghost use Rattle.esis_pdus.specs.Nsap.Text.{hex_text};
+ghost use Rattle.esis_pdus.specs.ClnpOptions.Parameter.{Parameter, parameters};
 ghost use Rattle.captures.specs.Shown.{kind_word, flags_word, letters_of, letter_of, report_word};
 ghost use Rattle.captures.specs.Words.{octet_word, pair_word, option_text, options_text};
 
-use clnp_base::{NoMemory, push, push_decimal, push_hex};
-use clnp_options::first_option;
-use pdu_header::Kind;
+use esis_pdus::clnp_base::{NoMemory, push, push_decimal, push_hex};
+use esis_pdus::clnp_options::first_option;
+use esis_pdus::pdu_header::Kind;
 
 /// Appends a label, and octets as hexadecimal digits in lower case.
 pub fn push_octets(label: &[u8], octets: &[u8], line: &mut Vec<u8>) -> Result<(), NoMemory>

@@ -3,26 +3,26 @@ use Rattle.std.proofs.Common.{◌≡◌, ℕ, ◌+◌, ◌-◌, ◌≤◌, zero,
 use Rattle.std.specs.Prelude.{replicate, slice_get}
 use Rattle.std.specs.List.{range_with_len, sum_by}
 use Rattle.std.proofs.lemmas.List.Sums.{sum-map, sum_by-cons}
-use Rattle.nsap.specs.declared.target.Target.{Target}
-use Rattle.clnp_plan.specs.Journal.{Late}
-use Rattle.clnp_plan.specs.declared.config.Limits.{Limits}
-use Rattle.clnp_plan.specs.declared.config.Role.{Role}
-use Rattle.clnp_plan.specs.declared.config.Role.TheVariants.{Host, Router}
-use Rattle.scenario.specs.Scenario.{Plan, Subnetwork, IsFit, octets_of, moves_of, moves_from, ticks_of}
-use Rattle.scenario.specs.declared.event.Event.{Event}
-use Rattle.scenario.specs.declared.event.Event.TheVariants.{Send, Echo, Deliver, Settle, Lose, Tick, Restart, Congest, Inject}
-use Rattle.scenario.specs.declared.event.Move.{Move}
-use Rattle.scenario.specs.declared.event.Move.TheVariants.{One, SettleOne, LoseOne, TickOne}
+use Rattle.clnp_machine.specs.Nsap.declared.target.Target.{Target}
+use Rattle.clnp_machine.specs.ClnpPlan.Journal.{Late}
+use Rattle.clnp_machine.specs.ClnpPlan.declared.config.Limits.{Limits}
+use Rattle.clnp_machine.specs.ClnpPlan.declared.config.Role.{Role}
+use Rattle.clnp_machine.specs.ClnpPlan.declared.config.Role.TheVariants.{Host, Router}
+use Rattle.clnp_world.specs.Scenario.Scenario.{Plan, Subnetwork, IsFit, octets_of, moves_of, moves_from, ticks_of}
+use Rattle.clnp_world.specs.Scenario.declared.event.Event.{Event}
+use Rattle.clnp_world.specs.Scenario.declared.event.Event.TheVariants.{Send, Echo, Deliver, Settle, Lose, Tick, Restart, Congest, Inject}
+use Rattle.clnp_world.specs.Scenario.declared.event.Move.{Move}
+use Rattle.clnp_world.specs.Scenario.declared.event.Move.TheVariants.{One, SettleOne, LoseOne, TickOne}
 use Rattle.clnp_machine.specs.System.{SystemState, Input, AsksForEcho, AsksToSend, MomentComes, IsRestarted, IsCongested, Output, Transmits, SendsEsis, Notes, Effect}
 use Rattle.clnp_machine.specs.Unit.{DeclaredAt}
 use Rattle.clnp_machine.specs.Content.{Labelled, Esis}
 use Rattle.clnp_machine.specs.Step.{step}
-use Rattle.clnp_network.specs.World.{World, Step, Copy, Numbered, after, first_world, sends_frame, put_all_out, with_effect, takes_effect, comes_to, comes, asks_role, asks_system, frame_to, writes, is_late, give_to, give, give_each, addressees_from, settle_copy, lose_copy, deliver_to, deliver_at, is_addressee, is_void, tick_each, event_happens, injects_on}
-use Rattle.clnp_network.specs.Run.{moves_of_plan, world_after}
+use Rattle.clnp_world.specs.ClnpNetwork.World.{World, Step, Copy, Numbered, after, first_world, sends_frame, put_all_out, with_effect, takes_effect, comes_to, comes, asks_role, asks_system, frame_to, writes, is_late, give_to, give, give_each, addressees_from, settle_copy, lose_copy, deliver_to, deliver_at, is_addressee, is_void, tick_each, event_happens, injects_on}
+use Rattle.clnp_world.specs.ClnpNetwork.Run.{moves_of_plan, world_after}
 use Rattle.clnp_world.specs.State.{WorldState}
 use Rattle.clnp_world.specs.Stands.{Stands}
 use Rattle.clnp_commands.specs.Time.{tick_of, ticks_in, HasTime}
-use Rattle.clnp_base.proofs.Choices.{one_of}
+use Rattle.clnp_machine.proofs.ClnpBase.Choices.{one_of}
 
 of_outputs : (system : SystemState) (w : World) (outputs : List Output) → (put_all_out system w outputs).world.clock ≡ w.clock
 of_outputs system w [] = refl

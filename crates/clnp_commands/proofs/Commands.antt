@@ -1,8 +1,8 @@
 -- What `show` and `check` come to where they stop or end.
 use Rattle.std.proofs.Common.{◌≡◌, ℕ, ◌+◌, List, [], ◌∷◌, ◌++◌, Option, Result, Ok, Err, IfOk, inr, refl, ap, ◌∙◌, append_assoc, append-nil}
 use Rattle.std.specs.Io.KnownBytes.{Appends}
-use Rattle.clnp_base.specs.Streams.{AppendsFront}
-use Rattle.clnp_base.specs.Text.{lines_of}
+use Rattle.clnp_machine.specs.ClnpBase.Streams.{AppendsFront}
+use Rattle.clnp_machine.specs.ClnpBase.Text.{lines_of}
 use Rattle.captures.specs.declared.capture.LineRefusal.{LineRefusal}
 use Rattle.captures.specs.declared.capture.LineRefusal.TheVariants as refusal
 use Rattle.captures.specs.Vectors.{Expects, Judges, JudgesLine, vector_of}

@@ -2,14 +2,14 @@
 use Rattle.std.proofs.Common.{◌≡◌, ℕ, ◌+◌, ◌==◌, ◌&&◌, Bool, true, false, if◌then◌else◌, List, [], ◌∷◌, ◌++◌, codes, refl, subst, sym, ap, ◌∙◌, append_assoc}
 use Rattle.std.specs.List.{AllByRecursion, flat_map}
 use Rattle.std.proofs.lemmas.List.Concat.{flat_map-cons}
-use Rattle.clnp_base.specs.Text.{lines_of, onto_first, begins_with}
-use Rattle.nsap.specs.Text.{hex_text}
-use Rattle.clnp_plan.specs.Journal.{Line, Noted, Transmitted, Void, Late, Injected, line_of, line_text, behind_space, note_words, target_word, octets_word}
+use Rattle.clnp_machine.specs.ClnpBase.Text.{lines_of, onto_first, begins_with}
+use Rattle.clnp_machine.specs.Nsap.Text.{hex_text}
+use Rattle.clnp_machine.specs.ClnpPlan.Journal.{Line, Noted, Transmitted, Void, Late, Injected, line_of, line_text, behind_space, note_words, target_word, octets_word}
 use Rattle.std.specs.Fmt.{decimal}
-use Rattle.scenario.specs.Scenario.{Plan}
-use Rattle.scenario.specs.declared.event.Move.{Move}
-use Rattle.clnp_network.specs.World.{Step, World, after}
-use Rattle.clnp_network.specs.Run.{lines_text, text_of, world_after}
+use Rattle.clnp_world.specs.Scenario.Scenario.{Plan}
+use Rattle.clnp_world.specs.Scenario.declared.event.Move.{Move}
+use Rattle.clnp_world.specs.ClnpNetwork.World.{Step, World, after}
+use Rattle.clnp_world.specs.ClnpNetwork.Run.{lines_text, text_of, world_after}
 use Rattle.clnp_world.specs.Lines.{both, tally}
 use Rattle.clnp_world.specs.declared.lines.Counts.{Counts}
 use Rattle.clnp_commands.specs.Storm.{count_of, counts_in, counts_of, is_of_kind}
@@ -17,7 +17,7 @@ use Rattle.clnp_commands.specs.Counting.{tally_of}
 use Rattle.clnp_commands.proofs.KindWords.{IsNamed, line_counts}
 use Rattle.clnp_commands.proofs.Named.{AreNamed, AreNamedSubnets, names_after}
 pub use Rattle.clnp_world.proofs.LineSteps.{both-assoc, both-none, none-both, tally-append}
-use Rattle.clnp_base.proofs.Sums.{length_filter-append}
+use Rattle.clnp_machine.proofs.ClnpBase.Sums.{length_filter-append}
 
 -- the lines of a text are followed by those of the text behind it
 abbrev pub EndsLines : List ℕ → Type 0

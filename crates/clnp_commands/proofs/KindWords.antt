@@ -6,26 +6,26 @@ use Rattle.std.specs.Fmt.{decimal}
 use Rattle.std.proofs.Math.ListN.{get_or-eq_default}
 use Rattle.std.proofs.lemmas.Bool.{cases_lt, ne_eqb}
 use Rattle.hex.specs.Hex.{encode_with, lower_digits}
-use Rattle.nsap.specs.Text.{hex_text}
-use Rattle.nsap.specs.declared.target.Target.{Target}
-use Rattle.nsap.specs.declared.target.Target.TheVariants.{System, EndSystems, Routers}
-use Rattle.pdu_header.specs.Spelling.{pair_of}
-use Rattle.pdu_header.specs.declared.kind.Kind.{Kind}
-use Rattle.pdu_header.specs.declared.kind.Kind.TheVariants.{Dt, Er, Erq, Erp}
-use Rattle.esis_tables.specs.declared.fact.Heard.{Heard}
-use Rattle.esis_tables.specs.declared.fact.Heard.TheVariants as heard
-use Rattle.esis_tables.specs.declared.fact.TableKind.{TableKind}
-use Rattle.esis_tables.specs.declared.fact.TableKind.TheVariants as table
-use Rattle.clnp_base.specs.Text.{lines_of, words_of}
-use Rattle.clnp_plan.specs.Journal.{Line, Noted, Transmitted, Void, Late, Injected, behind_space, heard_words, identifier_word, ignored_word, kind_word, line_of, line_text, note_words, octet_word, octets_word, on_word, rule_word, table_word, target_word, why_word}
-use Rattle.clnp_plan.specs.declared.note.Note.{Note}
-use Rattle.clnp_plan.specs.declared.note.Note.TheVariants.{Sent, Refused, Got, Report, Echoed, Stray, Discard, Held, Repeat, Crowded, Many, NoSlot, Interference, Expired, NotMine, Alien, BadEsis, Hear, Gone, Ignored, Restart, Congest}
-use Rattle.clnp_plan.specs.declared.note.Why.{Why}
-use Rattle.clnp_plan.specs.declared.note.Why.TheVariants as why
-use Rattle.scenario.proofs.Written.{IsWord, digit_plain, spelled, ends_behind, IsInLine, plain_within, word_in_line, text_of_line, line_cut, first_word, decimal_is_word, IsDigit, decimal_all}
+use Rattle.clnp_machine.specs.Nsap.Text.{hex_text}
+use Rattle.clnp_machine.specs.Nsap.declared.target.Target.{Target}
+use Rattle.clnp_machine.specs.Nsap.declared.target.Target.TheVariants.{System, EndSystems, Routers}
+use Rattle.clnp_machine.specs.PduHeader.Spelling.{pair_of}
+use Rattle.clnp_machine.specs.PduHeader.declared.kind.Kind.{Kind}
+use Rattle.clnp_machine.specs.PduHeader.declared.kind.Kind.TheVariants.{Dt, Er, Erq, Erp}
+use Rattle.clnp_machine.specs.EsisTables.declared.fact.Heard.{Heard}
+use Rattle.clnp_machine.specs.EsisTables.declared.fact.Heard.TheVariants as heard
+use Rattle.clnp_machine.specs.EsisTables.declared.fact.TableKind.{TableKind}
+use Rattle.clnp_machine.specs.EsisTables.declared.fact.TableKind.TheVariants as table
+use Rattle.clnp_machine.specs.ClnpBase.Text.{lines_of, words_of}
+use Rattle.clnp_machine.specs.ClnpPlan.Journal.{Line, Noted, Transmitted, Void, Late, Injected, behind_space, heard_words, identifier_word, ignored_word, kind_word, line_of, line_text, note_words, octet_word, octets_word, on_word, rule_word, table_word, target_word, why_word}
+use Rattle.clnp_machine.specs.ClnpPlan.declared.note.Note.{Note}
+use Rattle.clnp_machine.specs.ClnpPlan.declared.note.Note.TheVariants.{Sent, Refused, Got, Report, Echoed, Stray, Discard, Held, Repeat, Crowded, Many, NoSlot, Interference, Expired, NotMine, Alien, BadEsis, Hear, Gone, Ignored, Restart, Congest}
+use Rattle.clnp_machine.specs.ClnpPlan.declared.note.Why.{Why}
+use Rattle.clnp_machine.specs.ClnpPlan.declared.note.Why.TheVariants as why
+use Rattle.clnp_world.proofs.Scenario.Written.{IsWord, digit_plain, spelled, ends_behind, IsInLine, plain_within, word_in_line, text_of_line, line_cut, first_word, decimal_is_word, IsDigit, decimal_all}
 use Rattle.clnp_world.specs.Lines.{first_of, how_many, kind_of, no_lines, tally}
 use Rattle.clnp_commands.specs.Storm.{count_of, counts_of, is_of_kind, third_of}
-use Rattle.clnp_base.proofs.Reading.{IsWithinLine}
+use Rattle.clnp_machine.proofs.ClnpBase.Reading.{IsWithinLine}
 use Rattle.std.proofs.lemmas.List.{append-nil}
 
 -- ---- lines and words

@@ -2,26 +2,26 @@
 use Rattle.std.proofs.Common.{◌≡◌, ℕ, ◌+◌, ◌-◌, Bool, true, false, List, [], ◌∷◌, Option, None, Some, refl, sym, subst, cond}
 use Rattle.std.specs.Prelude.{slice_get, length}
 use Rattle.std.specs.List.{AllByRecursion, range_with_len}
-use Rattle.clnp_base.proofs.Lists.{AllByRecursion-append, AllByRecursion-implies, AllByRecursion-slice_get}
-use Rattle.nsap.specs.declared.target.Target.{Target}
-use Rattle.clnp_plan.specs.Configuration.{SystemConfiguration}
-use Rattle.clnp_plan.specs.Journal.{Late}
-use Rattle.clnp_plan.specs.declared.config.Limits.{Limits}
-use Rattle.clnp_plan.specs.declared.config.Role.{Role}
-use Rattle.clnp_plan.specs.declared.config.Role.TheVariants.{Host, Router}
-use Rattle.scenario.proofs.Written.{IsWord, name_is_word, IsInLine, word_in_line}
-use Rattle.scenario.specs.Scenario.{IsFit, Plan, Subnetwork, octets_of}
-use Rattle.scenario.specs.Words.{is_name}
-use Rattle.scenario.specs.declared.event.Event.{Event}
-use Rattle.scenario.specs.declared.event.Event.TheVariants.{Send, Echo, Deliver, Settle, Lose, Tick, Restart, Congest, Inject}
-use Rattle.scenario.specs.declared.event.Move.{Move}
-use Rattle.scenario.specs.declared.event.Move.TheVariants.{One, SettleOne, LoseOne, TickOne}
+use Rattle.clnp_machine.proofs.ClnpBase.Lists.{AllByRecursion-append, AllByRecursion-implies, AllByRecursion-slice_get}
+use Rattle.clnp_machine.specs.Nsap.declared.target.Target.{Target}
+use Rattle.clnp_machine.specs.ClnpPlan.Configuration.{SystemConfiguration}
+use Rattle.clnp_machine.specs.ClnpPlan.Journal.{Late}
+use Rattle.clnp_machine.specs.ClnpPlan.declared.config.Limits.{Limits}
+use Rattle.clnp_machine.specs.ClnpPlan.declared.config.Role.{Role}
+use Rattle.clnp_machine.specs.ClnpPlan.declared.config.Role.TheVariants.{Host, Router}
+use Rattle.clnp_world.proofs.Scenario.Written.{IsWord, name_is_word, IsInLine, word_in_line}
+use Rattle.clnp_world.specs.Scenario.Scenario.{IsFit, Plan, Subnetwork, octets_of}
+use Rattle.clnp_world.specs.Scenario.Words.{is_name}
+use Rattle.clnp_world.specs.Scenario.declared.event.Event.{Event}
+use Rattle.clnp_world.specs.Scenario.declared.event.Event.TheVariants.{Send, Echo, Deliver, Settle, Lose, Tick, Restart, Congest, Inject}
+use Rattle.clnp_world.specs.Scenario.declared.event.Move.{Move}
+use Rattle.clnp_world.specs.Scenario.declared.event.Move.TheVariants.{One, SettleOne, LoseOne, TickOne}
 use Rattle.clnp_machine.specs.Step.{step}
 use Rattle.clnp_machine.specs.System.{SystemState, AsksToSend, AsksForEcho, Input, IsCongested, IsRestarted, MomentComes, Output, Transmits, SendsEsis, Notes}
 use Rattle.clnp_machine.proofs.Deeds.{step_itself}
-use Rattle.clnp_network.specs.World as network
-use Rattle.clnp_network.specs.World.{World, Step, after, first_world}
-use Rattle.clnp_base.proofs.ListSteps.{all_set}
+use Rattle.clnp_world.specs.ClnpNetwork.World as network
+use Rattle.clnp_world.specs.ClnpNetwork.World.{World, Step, after, first_world}
+use Rattle.clnp_machine.proofs.ClnpBase.ListSteps.{all_set}
 use Rattle.clnp_commands.proofs.KindWords.{IsNamed}
 
 abbrev IsNamedSystem : SystemState → Type 0

@@ -4,12 +4,12 @@ use Rattle.std.proofs.lemmas.List.{take-append-le}
 use Rattle.std.proofs.Math.Seq.{take-append-add}
 use Rattle.std.specs.Io.KnownBytes.{Appends}
 use Rattle.std.proofs.KnownBytes.{Appends-nil, Appends-trans, Appends-kept}
-use Rattle.clnp_base.specs.Streams.{AppendsFront}
-use Rattle.scenario.specs.Scenario.{Plan}
-use Rattle.scenario.specs.declared.event.Move.{Move}
-use Rattle.clnp_network.specs.World as network
-use Rattle.clnp_network.specs.World.{after, first_world, is_full, weight}
-use Rattle.clnp_network.specs.Run.{ending, journal, last_world, lines_text, moves_of_plan, stopped_at, text_of, until_full, world_after, world_end}
+use Rattle.clnp_machine.specs.ClnpBase.Streams.{AppendsFront}
+use Rattle.clnp_world.specs.Scenario.Scenario.{Plan}
+use Rattle.clnp_world.specs.Scenario.declared.event.Move.{Move}
+use Rattle.clnp_world.specs.ClnpNetwork.World as network
+use Rattle.clnp_world.specs.ClnpNetwork.World.{after, first_world, is_full, weight}
+use Rattle.clnp_world.specs.ClnpNetwork.Run.{ending, journal, last_world, lines_text, moves_of_plan, stopped_at, text_of, until_full, world_after, world_end}
 use Rattle.clnp_world.specs.State.{WorldState}
 use Rattle.clnp_world.specs.Stands.{Stands}
 use Rattle.clnp_commands.specs.declared.sim.Stop.{Stop}

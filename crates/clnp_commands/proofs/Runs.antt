@@ -3,13 +3,13 @@ use Rattle.std.proofs.Common.{◌≡◌, ℕ, ◌+◌, ◌-◌, ◌<◌, Bool, t
 use Rattle.std.specs.Prelude.{replicate}
 use Rattle.std.proofs.lemmas.List.{replicate_more, replicate-append-replicate}
 use Rattle.std.proofs.Math.Seq.{take-suc}
-use Rattle.scenario.specs.Scenario.{Plan, moves_of, moves_from}
-use Rattle.scenario.specs.declared.event.Event.{Event}
-use Rattle.scenario.specs.declared.event.Move.{Move}
-use Rattle.clnp_network.specs.World.{World, after, is_full, weight}
-use Rattle.clnp_network.specs.Run.{full_weight, until_full, world_after}
+use Rattle.clnp_world.specs.Scenario.Scenario.{Plan, moves_of, moves_from}
+use Rattle.clnp_world.specs.Scenario.declared.event.Event.{Event}
+use Rattle.clnp_world.specs.Scenario.declared.event.Move.{Move}
+use Rattle.clnp_world.specs.ClnpNetwork.World.{World, after, is_full, weight}
+use Rattle.clnp_world.specs.ClnpNetwork.Run.{full_weight, until_full, world_after}
 pub use Rattle.clnp_safety.proofs.Stops.{all_are_made, text_of_more}
-use Rattle.clnp_base.proofs.Choices.{if_none}
+use Rattle.clnp_machine.proofs.ClnpBase.Choices.{if_none}
 
 pub world_after-append : (plan : Plan) (w : World) (made more : List Move) → world_after plan w (made ++ more) ≡ world_after plan (world_after plan w made) more
 world_after-append plan w [] more = refl

@@ -3,11 +3,11 @@ use Rattle.std.proofs.Common.{◌≡◌, ℕ, zero, suc, ◌+◌, ◌-◌, ◌<�
 use Rattle.std.specs.Prelude.{replicate}
 use Rattle.std.proofs.lemmas.Bool.{leb-true}
 use Rattle.std.proofs.lemmas.Option.{slice_get_past}
-use Rattle.scenario.specs.Scenario.{Plan}
-use Rattle.scenario.specs.declared.event.Move.{Move}
-use Rattle.scenario.specs.declared.event.Move.TheVariants.{SettleOne}
-use Rattle.clnp_network.specs.World.{Copy, Step, World, after, is_full, nothing, settle_copy, weight}
-use Rattle.clnp_network.specs.Run.{full_weight, lines_text, text_of, world_after}
+use Rattle.clnp_world.specs.Scenario.Scenario.{Plan}
+use Rattle.clnp_world.specs.Scenario.declared.event.Move.{Move}
+use Rattle.clnp_world.specs.Scenario.declared.event.Move.TheVariants.{SettleOne}
+use Rattle.clnp_world.specs.ClnpNetwork.World.{Copy, Step, World, after, is_full, nothing, settle_copy, weight}
+use Rattle.clnp_world.specs.ClnpNetwork.Run.{full_weight, lines_text, text_of, world_after}
 use Rattle.clnp_world.specs.Lines.{both, no_lines, tally}
 use Rattle.clnp_world.specs.State.{WorldState}
 use Rattle.clnp_world.specs.Stands.{Stands}
@@ -16,7 +16,7 @@ use Rattle.clnp_commands.specs.Counting.{tally_of}
 use Rattle.clnp_commands.specs.Play.{UnderWay}
 use Rattle.clnp_commands.proofs.Runs.{full_weight-behind, replicate_next, text_of_more, world_after-append}
 use Rattle.clnp_commands.proofs.Counting.{none-both}
-use Rattle.clnp_base.proofs.Choices.{if_none}
+use Rattle.clnp_machine.proofs.ClnpBase.Choices.{if_none}
 
 -- to settle a copy where none is left changes nothing
 pub settled_after : (plan : Plan) (w : World) → length w.copies ≤ w.cursor → after plan w SettleOne ≡ nothing w

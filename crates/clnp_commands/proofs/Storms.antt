@@ -3,14 +3,14 @@ use Rattle.std.proofs.Common.{◌≡◌, ℕ, ◌+◌, ◌-◌, ◌<◌, nat_le,
 use Rattle.std.specs.Prelude.{length, replicate}
 use Rattle.std.specs.Io.KnownBytes.{Appends, Keeps}
 use Rattle.std.proofs.KnownBytes.{Appends-nil}
-use Rattle.clnp_base.specs.Streams.{AppendsFront}
-use Rattle.scenario.specs.Scenario.{IsFit, Plan}
-use Rattle.scenario.specs.Seeds.{storm}
-use Rattle.scenario.specs.declared.event.Move.{Move}
-use Rattle.scenario.specs.declared.event.Move.TheVariants.{SettleOne}
-use Rattle.clnp_network.specs.World as network
-use Rattle.clnp_network.specs.World.{Step, after, first_world, is_full, weight}
-use Rattle.clnp_network.specs.Run.{full_weight, journal, last_world, moves_of_plan, stopped_at, text_of, world_after, world_end}
+use Rattle.clnp_machine.specs.ClnpBase.Streams.{AppendsFront}
+use Rattle.clnp_world.specs.Scenario.Scenario.{IsFit, Plan}
+use Rattle.clnp_world.specs.Scenario.Seeds.{storm}
+use Rattle.clnp_world.specs.Scenario.declared.event.Move.{Move}
+use Rattle.clnp_world.specs.Scenario.declared.event.Move.TheVariants.{SettleOne}
+use Rattle.clnp_world.specs.ClnpNetwork.World as network
+use Rattle.clnp_world.specs.ClnpNetwork.World.{Step, after, first_world, is_full, weight}
+use Rattle.clnp_world.specs.ClnpNetwork.Run.{full_weight, journal, last_world, moves_of_plan, stopped_at, text_of, world_after, world_end}
 use Rattle.clnp_world.specs.State.{WorldState}
 use Rattle.clnp_world.specs.Stands.{Stands}
 use Rattle.clnp_world.specs.declared.world.WorldRefusal.{WorldRefusal}

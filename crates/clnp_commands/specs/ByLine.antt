@@ -1,7 +1,7 @@
 -- Going over the lines of an input one by one, and writing in blocks.
 use Rattle.std.specs.Prelude.{◌≡◌, ℕ, List, [], ◌∷◌, ◌++◌, ◌⊎◌, Option, Result, Ok, Err}
 use Rattle.std.specs.Io.KnownBytes.{Appends}
-use Rattle.clnp_base.specs.Streams.{AppendsFront}
+use Rattle.clnp_machine.specs.ClnpBase.Streams.{AppendsFront}
 use Rattle.captures.specs.declared.capture.LineRefusal.{LineRefusal}
 use Rattle.captures.specs.declared.capture.LineRefusal.TheVariants as refusal
 use Rattle.clnp_commands.specs.declared.block.LineStop.{LineStop}

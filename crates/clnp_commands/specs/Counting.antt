@@ -1,10 +1,10 @@
 -- What the parts of the command `storm` come to: counting the lines of moves, and summing a run up.
 use Rattle.std.specs.Prelude.{◌≡◌, ℕ, List, [], ◌∷◌, None, Some, Result, Ok, Err}
-use Rattle.scenario.specs.Scenario.{Plan}
-use Rattle.scenario.specs.declared.event.Move.{Move}
-use Rattle.clnp_network.specs.World as network
-use Rattle.clnp_network.specs.World.{after}
-use Rattle.clnp_network.specs.Run.{world_after, full_weight, moves_of_plan, stopped_at}
+use Rattle.clnp_world.specs.Scenario.Scenario.{Plan}
+use Rattle.clnp_world.specs.Scenario.declared.event.Move.{Move}
+use Rattle.clnp_world.specs.ClnpNetwork.World as network
+use Rattle.clnp_world.specs.ClnpNetwork.World.{after}
+use Rattle.clnp_world.specs.ClnpNetwork.Run.{world_after, full_weight, moves_of_plan, stopped_at}
 use Rattle.clnp_world.specs.Lines.{both, no_lines, tally}
 use Rattle.clnp_world.specs.State.{WorldState}
 use Rattle.clnp_world.specs.Stands.{Stands}

@@ -1,3 +1,4 @@
+pub use Rattle.clnp_machine.specs.ClnpBase
 pub mod Words
 pub mod Sim
 pub mod Output

@@ -1,7 +1,7 @@
 -- What was written of an output of lines that an input calls for.
 use Rattle.std.specs.Prelude.{◌≡◌, ℕ, List, ◌++◌, Option}
 use Rattle.std.specs.Io.KnownBytes.{Appends}
-use Rattle.clnp_base.specs.Streams.{AppendsFront}
+use Rattle.clnp_machine.specs.ClnpBase.Streams.{AppendsFront}
 
 -- the output that is called for was written
 pub record AppendsCalled (Called : List ℕ → Type 0) (before after : Option (List ℕ)) : Type 0 where

@@ -1,11 +1,11 @@
 -- What the parts of the program come to: playing moves, playing a scenario, and commands.
 use Rattle.std.specs.Prelude.{◌≡◌, ℕ, ◌⊎◌, List, ◌++◌, Option, None, Some, Result, Ok, Err}
 use Rattle.std.specs.Io.KnownBytes.{Appends, Keeps}
-use Rattle.clnp_base.specs.Streams.{AppendsFront}
-use Rattle.scenario.specs.Scenario.{Plan}
-use Rattle.scenario.specs.declared.event.Move.{Move}
-use Rattle.clnp_network.specs.World as network
-use Rattle.clnp_network.specs.Run.{text_of, world_after, journal, full_weight, stopped_at, until_full}
+use Rattle.clnp_machine.specs.ClnpBase.Streams.{AppendsFront}
+use Rattle.clnp_world.specs.Scenario.Scenario.{Plan}
+use Rattle.clnp_world.specs.Scenario.declared.event.Move.{Move}
+use Rattle.clnp_world.specs.ClnpNetwork.World as network
+use Rattle.clnp_world.specs.ClnpNetwork.Run.{text_of, world_after, journal, full_weight, stopped_at, until_full}
 use Rattle.clnp_world.specs.State.{WorldState}
 use Rattle.clnp_world.specs.Stands.{Stands}
 use Rattle.clnp_commands.specs.declared.status.Status.{Status}

@@ -1,10 +1,10 @@
 -- What a call reads and writes.
 use Rattle.std.specs.Prelude.{◌≡◌, ◌≤◌, ℕ, List, ◌++◌, length, Option}
 use Rattle.std.specs.Io.KnownBytes.{Consumes, IsAtEnd, Appends}
-use Rattle.scenario.specs.Scenario.{Plan}
-use Rattle.scenario.specs.declared.event.Move.{Move}
-use Rattle.clnp_network.specs.World.{World, first_world}
-use Rattle.clnp_network.specs.Run.{text_of, moves_made}
+use Rattle.clnp_world.specs.Scenario.Scenario.{Plan}
+use Rattle.clnp_world.specs.Scenario.declared.event.Move.{Move}
+use Rattle.clnp_world.specs.ClnpNetwork.World.{World, first_world}
+use Rattle.clnp_world.specs.ClnpNetwork.Run.{text_of, moves_made}
 
 -- the most octets of an input
 abbrev pub most_input : ℕ

@@ -1,8 +1,8 @@
 -- The ticks among moves, and the time that a simulated network has for them.
 use Rattle.std.specs.Prelude.{ℕ, ◌+◌, ◌<◌, ◌^◌, List, [], ◌∷◌}
-use Rattle.scenario.specs.declared.event.Move.{Move}
-use Rattle.scenario.specs.declared.event.Move.TheVariants.{One, SettleOne, LoseOne, TickOne}
-use Rattle.clnp_network.specs.World as network
+use Rattle.clnp_world.specs.Scenario.declared.event.Move.{Move}
+use Rattle.clnp_world.specs.Scenario.declared.event.Move.TheVariants.{One, SettleOne, LoseOne, TickOne}
+use Rattle.clnp_world.specs.ClnpNetwork.World as network
 use Rattle.clnp_world.specs.State.{WorldState}
 use Rattle.clnp_world.specs.Stands.{Stands}
 

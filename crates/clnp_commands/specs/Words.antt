@@ -2,11 +2,11 @@
 use Rattle.std.specs.Prelude.{◌≡◌, ℕ, ◌&&◌, nat_lt, Bool, true, false, if◌then◌else◌, List, [], ◌∷◌, length, codes, Option, None, Some, Result, Ok, Err, IfOk, IsOk}
 use Rattle.std.specs.Str.{bytes_eq}
 use Rattle.std.specs.Io.KnownBytes.{Appends, Keeps}
-use Rattle.clnp_base.specs.Streams.{AppendsFront}
-use Rattle.clnp_base.specs.Text.{decimal_of, lines_of}
-use Rattle.scenario.specs.Scenario.{Plan}
-use Rattle.scenario.specs.Grammar.{BadLine, plan_of}
-use Rattle.clnp_network.specs.Run.{journal, stopped_at}
+use Rattle.clnp_machine.specs.ClnpBase.Streams.{AppendsFront}
+use Rattle.clnp_machine.specs.ClnpBase.Text.{decimal_of, lines_of}
+use Rattle.clnp_world.specs.Scenario.Scenario.{Plan}
+use Rattle.clnp_world.specs.Scenario.Grammar.{BadLine, plan_of}
+use Rattle.clnp_world.specs.ClnpNetwork.Run.{journal, stopped_at}
 use Rattle.clnp_commands.specs.declared.command.Command.{Command}
 use Rattle.clnp_commands.specs.declared.command.Command.TheVariants.{Sim, Show, Check, Storm}
 use Rattle.clnp_commands.specs.declared.status.Status.{Status}

@@ -2,12 +2,12 @@
 //! why a line stops a command.
 ghost use Rattle.std.specs.Prelude.{◌≡◌, ◌≤◌, [], OnOk, OnErr, Err};
 ghost use Rattle.std.specs.Io.KnownBytes.{Appends};
-ghost use Rattle.clnp_base.specs.Streams.{AppendsFront, Rose};
+ghost use Rattle.clnp_machine.specs.ClnpBase.Streams.{AppendsFront, Rose};
 ghost use Rattle.clnp_commands.specs.ByLine.{BlockOf, FlushOf, RefusalOf, stop_status};
 
 use crate::status::Status;
 use captures::LineRefusal;
-use clnp_base::{Failed, Sink, write_all};
+use clnp_machine::clnp_base::{Failed, Sink, write_all};
 
 /// How many octets wait before they are written in one piece.
 const BLOCK: usize = 65_536;

@@ -1,6 +1,6 @@
 //! The command `check`: a file of vectors judged line by line.
 ghost use Rattle.std.specs.Prelude.{◌≡◌, ◌≤◌, ◌<◌, ◌+◌, ℕ, List, [], ◌∷◌, ◌++◌, length, Option, Err, IfOk, OnOk, OnErr};
-ghost use Rattle.clnp_base.specs.Streams.{Rose};
+ghost use Rattle.clnp_machine.specs.ClnpBase.Streams.{Rose};
 ghost use Rattle.hex.specs.Hex.{IsBytes};
 ghost use Rattle.captures.specs.Vectors.{Judges};
 ghost use Rattle.clnp_commands.specs.Sim.{most_input};
@@ -13,7 +13,7 @@ use crate::command::Command;
 use crate::number::push_number;
 use crate::status::Status;
 use captures::{LineRefusal, Verdict, check_line, laws};
-use clnp_base::{NoMemory, Sink, next_line, push};
+use clnp_machine::clnp_base::{NoMemory, Sink, next_line, push};
 use std::alloc::Global;
 
 /// How many vectors passed and how many failed, at most 16,777,216 together.

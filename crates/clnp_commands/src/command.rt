@@ -2,7 +2,7 @@
 ghost use Rattle.std.specs.Prelude.{◌≡◌, map, string_bytes};
 ghost use Rattle.clnp_commands.specs.Words.{command_named, command_of, reads, storm_of};
 
-use clnp_base::decimal;
+use clnp_machine::clnp_base::decimal;
 
 /// A command of the program. The name of one that reads an input stands alone on the command line.
 #[derive(Clone, Copy, PartialEq, Eq)]

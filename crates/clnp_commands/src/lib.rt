@@ -14,6 +14,9 @@ mod status;
 mod storm;
 mod top;
 
+pub use clnp_machine::clnp_base;
+pub use clnp_world;
+pub use clnp_world::scenario;
 pub use command::Command;
 pub use status::Status;
 pub use top::clnp_main;

@@ -2,7 +2,7 @@
 ghost use Rattle.std.specs.Prelude.{◌≡◌, ◌++◌, OnOk};
 ghost use Rattle.std.specs.Fmt.{decimal};
 
-use clnp_base::{NoMemory, push, push_decimal};
+use clnp_machine::clnp_base::{NoMemory, push, push_decimal};
 
 /// Appends a label, and a number in decimal digits.
 pub fn push_number(label: &[u8], number: u64, out: &mut Vec<u8>) -> Result<(), NoMemory>

@@ -1,6 +1,6 @@
 //! The command `show`: the frames of a capture as lines of text.
 ghost use Rattle.std.specs.Prelude.{◌≡◌, ◌≤◌, ◌+◌, ℕ, List, [], ◌∷◌, ◌++◌, length, Option, Err, OnOk};
-ghost use Rattle.clnp_base.specs.Streams.{Rose};
+ghost use Rattle.clnp_machine.specs.ClnpBase.Streams.{Rose};
 ghost use Rattle.hex.specs.Hex.{IsBytes};
 ghost use Rattle.captures.specs.Shown.{Shows};
 ghost use Rattle.clnp_commands.specs.Sim.{most_input};
@@ -11,7 +11,7 @@ use crate::block::{LineStop, refuse, write_block, write_full_block};
 use crate::command::Command;
 use crate::status::Status;
 use captures::{LineRefusal, laws, read_capture, show_line};
-use clnp_base::{Sink, next_line};
+use clnp_machine::clnp_base::{Sink, next_line};
 use std::alloc::Global;
 
 /// Writes the line that shows each frame of a capture, up to the first bad line.

@@ -1,10 +1,10 @@
 //! The command `sim`: the journal of a scenario, written in blocks of whole moves.
 ghost use Rattle.std.specs.Prelude.{◌≡◌, ◌≤◌, ◌++◌, List, Option, [], ◌∷◌, ℕ, length, replicate, Err, OnOk};
-ghost use Rattle.clnp_base.specs.Streams.{Rose};
-ghost use Rattle.clnp_base.specs.Text.{lines_of};
-ghost use Rattle.scenario.specs.Scenario.{IsFit, moves_of};
-ghost use Rattle.clnp_network.specs.World as network;
-ghost use Rattle.clnp_network.specs.Run.{moves_of_plan, world_after, world_end};
+ghost use Rattle.clnp_machine.specs.ClnpBase.Streams.{Rose};
+ghost use Rattle.clnp_machine.specs.ClnpBase.Text.{lines_of};
+ghost use Rattle.clnp_world.specs.Scenario.Scenario.{IsFit, moves_of};
+ghost use Rattle.clnp_world.specs.ClnpNetwork.World as network;
+ghost use Rattle.clnp_world.specs.ClnpNetwork.Run.{moves_of_plan, world_after, world_end};
 ghost use Rattle.clnp_world.specs.Stands.{Stands};
 ghost use Rattle.clnp_commands.specs.Sim.{most_input};
 ghost use Rattle.clnp_commands.specs.Play.{ComesTo, FullOf, JournalOf, PieceOf, PlayOf, UnderWay};
@@ -13,9 +13,9 @@ ghost use Rattle.clnp_commands.specs.Time.{HasTime};
 use crate::block::{flush, flush_full};
 use crate::command::Command;
 use crate::status::Status;
-use clnp_base::{Failed, Sink};
+use clnp_machine::clnp_base::{Failed, Sink};
+use clnp_world::scenario::{Event, Move, Scenario, ScenarioRefusal};
 use clnp_world::{World, WorldRefusal};
-use scenario::{Event, Move, Scenario, ScenarioRefusal};
 use std::alloc::Global;
 
 /// Writes the journal of the scenario that a text is.
@@ -26,8 +26,8 @@ pub fn sim<K: Sink>(alloc: Global, text: &[u8], sink: &mut K) -> Status
     ensures failed { result ≡ Status.WriteFault → Rose (K.faults sink.old) (K.faults sink.new) }
 {
     few_lines();
-    scenario::laws::accepted_is_fit();
-    match scenario::read(alloc, text) {
+    clnp_world::scenario::laws::accepted_is_fit();
+    match clnp_world::scenario::read(alloc, text) {
         Ok(scenario) => match play(alloc, &scenario, sink) {
             Ok(()) => Status::Done,
             Err(Stop::WorldFull { octets }) => Status::WorldFull { octets },

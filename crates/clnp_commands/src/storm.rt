@@ -1,9 +1,9 @@
 //! The command `storm`: what a run of the scenario of a seed counts.
 ghost use Rattle.std.specs.Prelude.{◌≡◌, ◌≤◌, ◌++◌, [], ◌∷◌, OnOk, replicate};
-ghost use Rattle.clnp_base.specs.Streams.{Rose};
-ghost use Rattle.scenario.specs.Scenario.{moves_of};
-ghost use Rattle.clnp_network.specs.World as network;
-ghost use Rattle.clnp_network.specs.Run.{moves_of_plan};
+ghost use Rattle.clnp_machine.specs.ClnpBase.Streams.{Rose};
+ghost use Rattle.clnp_world.specs.Scenario.Scenario.{moves_of};
+ghost use Rattle.clnp_world.specs.ClnpNetwork.World as network;
+ghost use Rattle.clnp_world.specs.ClnpNetwork.Run.{moves_of_plan};
 ghost use Rattle.clnp_world.specs.Stands.{Stands};
 ghost use Rattle.clnp_commands.specs.ByLine.{EndOf};
 ghost use Rattle.clnp_commands.specs.Play.{ComesTo};
@@ -14,9 +14,9 @@ ghost use Rattle.clnp_commands.specs.Counting.{CountOf, SumOf};
 use crate::command::Command;
 use crate::number::push_number;
 use crate::status::Status;
-use clnp_base::{NoMemory, Sink, push, write_all};
+use clnp_machine::clnp_base::{NoMemory, Sink, push, write_all};
+use clnp_world::scenario::{Event, Move, Scenario, from_seed};
 use clnp_world::{Counts, World, WorldRefusal};
-use scenario::{Event, Move, Scenario, from_seed};
 use std::alloc::Global;
 
 /// What a run of the scenario of a seed comes to.

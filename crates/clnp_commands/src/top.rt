@@ -2,15 +2,15 @@
 ghost use Rattle.std.specs.Prelude.{◌≡◌, ◌<◌, ◌≤◌, ◌⊎◌, ◌↔◌, ℕ, false, List, [], length, map, IfSome, IfOk, OnOk, Ok, Err, string_bytes};
 ghost use Rattle.std.specs.List.{AllByRecursion};
 ghost use Rattle.std.specs.Io.KnownBytes.{Consumes, Keeps};
-ghost use Rattle.clnp_base.specs.Streams.{Rose};
-ghost use Rattle.scenario.specs.Grammar.{plan_of};
-ghost use Rattle.scenario.specs.Canonical.{text_of};
-ghost use Rattle.scenario.specs.Scenario.{IsClosed};
-ghost use Rattle.scenario.specs.Seeds as seeds;
-ghost use Rattle.clnp_network.specs.World.{World, first_world};
-ghost use Rattle.clnp_network.specs.Run.{run, world_after};
+ghost use Rattle.clnp_machine.specs.ClnpBase.Streams.{Rose};
+ghost use Rattle.clnp_world.specs.Scenario.Grammar.{plan_of};
+ghost use Rattle.clnp_world.specs.Scenario.Canonical.{text_of};
+ghost use Rattle.clnp_world.specs.Scenario.Scenario.{IsClosed};
+ghost use Rattle.clnp_world.specs.Scenario.Seeds as seeds;
+ghost use Rattle.clnp_world.specs.ClnpNetwork.World.{World, first_world};
+ghost use Rattle.clnp_world.specs.ClnpNetwork.Run.{run, world_after};
 ghost use Rattle.clnp_safety.specs.Outside.{CarriesRangesOrOutside, PdusAreUnbroken};
-ghost use Rattle.clnp_network.specs.Safe.{CarriesRanges, EachIsFounded, FramesAreUnbroken, HoldsUnitsApart, IdentifiersRest, IsHonest, IsWithinBudgets, IsWithinLifetimes, NoInterference, NoneIsAlien, RedirectsChangeOneNextHop, TellsNoRule};
+ghost use Rattle.clnp_world.specs.ClnpNetwork.Safe.{CarriesRanges, EachIsFounded, FramesAreUnbroken, HoldsUnitsApart, IdentifiersRest, IsHonest, IsWithinBudgets, IsWithinLifetimes, NoInterference, NoneIsAlien, RedirectsChangeOneNextHop, TellsNoRule};
 ghost use Rattle.clnp_commands.specs.Words.{command_of, called, called_by, reads, AppendsOutput, AppendsOutputFront, AppendsOutputParts, Excuses, Reads};
 ghost use Rattle.clnp_commands.specs.Sim.{most_input};
 ghost use Rattle.clnp_commands.specs.Play.{ComesTo};
@@ -21,9 +21,9 @@ use crate::show::show;
 use crate::sim::sim;
 use crate::status::Status;
 use crate::storm::storm;
-use clnp_base::{ReadStop, Sink, Source, read_all};
+use clnp_machine::clnp_base::{ReadStop, Sink, Source, read_all};
 use clnp_safety::laws;
-use scenario::Move;
+use clnp_world::scenario::Move;
 use std::alloc::Global;
 
 /// The most octets of an input.
@@ -216,8 +216,8 @@ fn every_run_is_safe()
     ensures lifetimes { (text : List ℕ) → IfOk (plan_of text) (λ plan. (moves : List Move)
         → IsWithinLifetimes (world_after plan (first_world plan) moves)) }
 {
-    scenario::laws::accepted_is_fit();
-    scenario::laws::storms_are_scenarios();
+    clnp_world::scenario::laws::accepted_is_fit();
+    clnp_world::scenario::laws::storms_are_scenarios();
     laws::handed_up_was_sent();
     laws::no_unit_meets_another();
     laws::budgets_are_kept();

@@ -4,19 +4,19 @@ use Rattle.std.specs.Prelude.{◌==◌, ◌||◌, min, if◌then◌else◌, slic
 use Rattle.std.specs.List.{AllByRecursion, filter, flat_map, list_any}
 use Rattle.std.proofs.lemmas.List.Elements.{filter-append}
 use Rattle.std.proofs.lemmas.List.Folds.{list_any-append}
-use Rattle.clnp_base.proofs.Lists.{AllByRecursion-append}
-use Rattle.clnp_options.specs.Parameter.{Parameter}
-use Rattle.clnp_options.specs.declared.judge.OptionRefusal.{OptionRefusal}
+use Rattle.clnp_plan.proofs.ClnpBase.Lists.{AllByRecursion-append}
+use Rattle.clnp_plan.specs.ClnpOptions.Parameter.{Parameter}
+use Rattle.clnp_plan.specs.ClnpOptions.declared.judge.OptionRefusal.{OptionRefusal}
 use Rattle.esis_pdus.specs.declared.pdu.EsisBody.{EsisBody}
 use Rattle.esis_pdus.specs.declared.pdu.EsisBody.TheVariants as body
 use Rattle.esis_pdus.specs.declared.pdu.EsisBody.TheVariants.{Esh, Ish}
 use Rattle.esis_pdus.specs.Value.{EsisValue, suggested}
-use Rattle.esis_tables.specs.declared.fact.Place.{Place}
-use Rattle.esis_tables.specs.declared.fact.TableKind.TheVariants.{Es, Is, Rd}
-use Rattle.esis_tables.specs.Fact.{answer}
-use Rattle.esis_tables.specs.NextHop.{is_router}
-use Rattle.nsap.specs.declared.target.Target.TheVariants.{System}
-use Rattle.pdu_header.specs.Rules.{is_reportable, octet, refusal as rule_broken}
+use Rattle.clnp_plan.specs.EsisTables.declared.fact.Place.{Place}
+use Rattle.clnp_plan.specs.EsisTables.declared.fact.TableKind.TheVariants.{Es, Is, Rd}
+use Rattle.clnp_plan.specs.EsisTables.Fact.{answer}
+use Rattle.clnp_plan.specs.EsisTables.NextHop.{is_router}
+use Rattle.clnp_plan.specs.Nsap.declared.target.Target.TheVariants.{System}
+use Rattle.clnp_plan.specs.PduHeader.Rules.{is_reportable, octet, refusal as rule_broken}
 use Rattle.esis_pdus.specs.Rules.{why_refused}
 use Rattle.clnp_plan.specs.declared.note.Note.{Note}
 use Rattle.clnp_plan.specs.declared.note.Note.TheVariants.{Discard, Ignored}
@@ -37,7 +37,7 @@ use Rattle.clnp_machine.proofs.Deeds.{packet_is}
 use Rattle.clnp_machine.proofs.Hellos.{only_comes, only_hears_each, same_hello}
 use Rattle.clnp_machine.proofs.Passing.{packet_does}
 use Rattle.clnp_machine.proofs.Known.{IsKnown, all_known, becomes_known, none_new, not_new, told_old}
-use Rattle.clnp_base.proofs.Choices.{one_of}
+use Rattle.clnp_plan.proofs.ClnpBase.Choices.{one_of}
 
 -- where no output passes a test, none is left by it
 

@@ -2,7 +2,7 @@
 use Rattle.std.proofs.Common.{◌≡◌, refl, ap, ℕ, inl, inr, Bool, true, false, List, Option, None, Some}
 use Rattle.std.specs.Prelude.{if◌then◌else◌, slice_get}
 use Rattle.std.specs.List.{AllByRecursion}
-use Rattle.pdu_header.specs.Rules.{is_reportable}
+use Rattle.clnp_plan.specs.PduHeader.Rules.{is_reportable}
 use Rattle.clnp_machine.specs.Local.{discard, made_in, makes, report_unit, reports, reports_from, rests}
 use Rattle.clnp_machine.specs.Content.{Content, Labelled, Esis, Unlabelled, frame_of}
 use Rattle.clnp_machine.specs.System.{SystemState, Input, AsksToSend, AsksForEcho, FrameComes, MomentComes, IsRestarted, IsCongested}

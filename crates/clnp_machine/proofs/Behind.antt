@@ -3,14 +3,14 @@ use Rattle.std.proofs.Common.{◌≡◌, ◌∙◌, refl, sym, ap, subst, ℕ, z
 use Rattle.std.specs.Prelude.{if◌then◌else◌, nat_lt, slice_get, IsSome}
 use Rattle.std.proofs.lemmas.List.Elements.{recursion_from_All}
 use Rattle.std.specs.Str.{bytes_eq}
-use Rattle.nsap.specs.Address.{IsAddress}
-use Rattle.clnp_options.specs.Edits.{HaveOneForm, advanced, edited, recorded, target_of}
-use Rattle.clnp_options.specs.Grammar.{AreFormed}
-use Rattle.clnp_options.specs.Parameter.{Parameter, recording, source_route, spelled}
-use Rattle.pdu_header.specs.Grammar.{IsPdu}
-use Rattle.pdu_header.specs.Headers.{with_lifetime, with_options}
-use Rattle.pdu_header.specs.Spelling.{header_length, segmentation_octets}
-use Rattle.pdu_header.specs.Value.{PduValue}
+use Rattle.clnp_plan.specs.Nsap.Address.{IsAddress}
+use Rattle.clnp_plan.specs.ClnpOptions.Edits.{HaveOneForm, advanced, edited, recorded, target_of}
+use Rattle.clnp_plan.specs.ClnpOptions.Grammar.{AreFormed}
+use Rattle.clnp_plan.specs.ClnpOptions.Parameter.{Parameter, recording, source_route, spelled}
+use Rattle.clnp_plan.specs.PduHeader.Grammar.{IsPdu}
+use Rattle.clnp_plan.specs.PduHeader.Headers.{with_lifetime, with_options}
+use Rattle.clnp_plan.specs.PduHeader.Spelling.{header_length, segmentation_octets}
+use Rattle.clnp_plan.specs.PduHeader.Value.{PduValue}
 use Rattle.clnp_machine.specs.EditLaws.{EditLaws}
 use Rattle.clnp_machine.specs.Esis.{first_of, title_of}
 use Rattle.clnp_machine.specs.Step.{forwarded, is_named, most_titles, noting_congestion, options_behind, passing_own}

@@ -1,24 +1,24 @@
 -- What each deed of a system leaves: the same system at the same moment, within its budget, and the units that it makes.
-use Rattle.clnp_base.proofs.Lists.{AllByRecursion-find, AllByRecursion-implies, AllByRecursion-map}
-use Rattle.clnp_base.proofs.Sums.{sum_filter}
+use Rattle.clnp_plan.proofs.ClnpBase.Lists.{AllByRecursion-find, AllByRecursion-implies, AllByRecursion-map}
+use Rattle.clnp_plan.proofs.ClnpBase.Sums.{sum_filter}
 use Rattle.std.proofs.Common.{◌≡◌, ◌∙◌, ap, refl, sym, subst, ℕ, zero, suc, ◌≤◌, Bool, true, false, not, List, [], ◌∷◌, ◌++◌, length, map, Option, None, Some, option_map, Contains, arith}
 use Rattle.std.specs.Prelude.{◌==◌, ◌||◌, if◌then◌else◌, slice_get}
 use Rattle.std.specs.List.{AllByRecursion, find, list_any}
 use Rattle.std.specs.Str.{bytes_eq}
-use Rattle.clnp_options.specs.Parameter.{Parameter}
-use Rattle.clnp_options.specs.Reasons.{reason_code}
-use Rattle.clnp_options.specs.declared.judge.OptionRefusal.{OptionRefusal}
-use Rattle.clnp_options.specs.declared.reasons.Reason.TheVariants.{LifetimeExpiredInReassembly, NotSpecified}
-use Rattle.pdu_header.specs.declared.kind.Kind.{Kind}
-use Rattle.pdu_header.specs.declared.kind.Kind.TheVariants.{Dt, Er, Erq, Erp}
-use Rattle.pdu_header.specs.Rules.{header_of, is_reportable, octet, refusal as rule_broken}
+use Rattle.clnp_plan.specs.ClnpOptions.Parameter.{Parameter}
+use Rattle.clnp_plan.specs.ClnpOptions.Reasons.{reason_code}
+use Rattle.clnp_plan.specs.ClnpOptions.declared.judge.OptionRefusal.{OptionRefusal}
+use Rattle.clnp_plan.specs.ClnpOptions.declared.reasons.Reason.TheVariants.{LifetimeExpiredInReassembly, NotSpecified}
+use Rattle.clnp_plan.specs.PduHeader.declared.kind.Kind.{Kind}
+use Rattle.clnp_plan.specs.PduHeader.declared.kind.Kind.TheVariants.{Dt, Er, Erq, Erp}
+use Rattle.clnp_plan.specs.PduHeader.Rules.{header_of, is_reportable, octet, refusal as rule_broken}
 use Rattle.error_reports.specs.Report.{reason_option, source_of}
 use Rattle.reassembly.specs.Arrival.{Arrival, same_key}
 use Rattle.reassembly.specs.Buffer as buffer
 use Rattle.reassembly.specs.Buffer.{Answer, Buffer, held, size_of}
 use Rattle.esis_pdus.specs.Rules.{why_refused}
-use Rattle.esis_tables.specs.declared.fact.Place.{Place}
-use Rattle.clnp_base.proofs.SameOctets.{same-itself}
+use Rattle.clnp_plan.specs.EsisTables.declared.fact.Place.{Place}
+use Rattle.clnp_plan.proofs.ClnpBase.SameOctets.{same-itself}
 use Rattle.clnp_plan.specs.Configuration.{SystemConfiguration}
 use Rattle.clnp_plan.specs.declared.ask.Ask.{Ask}
 use Rattle.clnp_plan.specs.declared.note.Note.{Note}

@@ -1,18 +1,18 @@
 -- A system keeps only segments that it kept before, or that come in a frame.
-use Rattle.clnp_base.proofs.Filters.{AllByRecursion-filter}
-use Rattle.clnp_base.proofs.Lists.{AllByRecursion-append, AllByRecursion-implies, AllByRecursion-push}
+use Rattle.clnp_plan.proofs.ClnpBase.Filters.{AllByRecursion-filter}
+use Rattle.clnp_plan.proofs.ClnpBase.Lists.{AllByRecursion-append, AllByRecursion-implies, AllByRecursion-push}
 use Rattle.std.proofs.Common.{refl, sym, subst, ℕ, zero, suc, inl, inr, Bool, true, false, not, List, [], ◌∷◌, ◌++◌, Option, None, Some, Contains, length}
 use Rattle.std.specs.Prelude.{◌==◌, if◌then◌else◌, slice_get}
 use Rattle.std.specs.List.{AllByRecursion, find}
-use Rattle.pdu_header.specs.Rules.{is_reportable, octet, refusal as rule_broken}
-use Rattle.clnp_options.specs.declared.judge.OptionRefusal.{OptionRefusal}
-use Rattle.clnp_options.specs.Parameter.{Parameter}
-use Rattle.pdu_header.specs.declared.kind.Kind.{Kind}
-use Rattle.pdu_header.specs.declared.kind.Kind.TheVariants.{Dt, Er, Erq, Erp}
+use Rattle.clnp_plan.specs.PduHeader.Rules.{is_reportable, octet, refusal as rule_broken}
+use Rattle.clnp_plan.specs.ClnpOptions.declared.judge.OptionRefusal.{OptionRefusal}
+use Rattle.clnp_plan.specs.ClnpOptions.Parameter.{Parameter}
+use Rattle.clnp_plan.specs.PduHeader.declared.kind.Kind.{Kind}
+use Rattle.clnp_plan.specs.PduHeader.declared.kind.Kind.TheVariants.{Dt, Er, Erq, Erp}
 use Rattle.reassembly.specs.Arrival.{Arrival, same_key}
 use Rattle.reassembly.specs.Buffer as buffer
 use Rattle.reassembly.specs.Buffer.{Answer, Buffer}
-use Rattle.esis_tables.specs.declared.fact.Place.{Place}
+use Rattle.clnp_plan.specs.EsisTables.declared.fact.Place.{Place}
 use Rattle.clnp_plan.specs.declared.ask.Ask.{Ask}
 use Rattle.clnp_plan.specs.declared.note.Note.{Note}
 use Rattle.clnp_machine.specs.Unit as unit
@@ -26,7 +26,7 @@ use Rattle.clnp_machine.specs.Steps.{segments_in, CarriesSegment, ComesWith, Onl
 use Rattle.clnp_machine.proofs.Hellos.{only_comes, only_forgets, only_responds, only_says_hello, only_then}
 use Rattle.clnp_machine.proofs.Kept.{all_after, all_contained}
 use Rattle.clnp_machine.proofs.Passing.{packet_does}
-use Rattle.clnp_base.proofs.Choices.{one_of}
+use Rattle.clnp_plan.proofs.ClnpBase.Choices.{one_of}
 
 parts : {X : Type 0} (P : X → Type 0) (xs ys : List X) → AllByRecursion P (xs ++ ys) → AllByRecursion P xs × AllByRecursion P ys
 parts P [] ys h = (tt, h)

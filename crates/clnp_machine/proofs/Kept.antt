@@ -1,6 +1,6 @@
 -- What holds of each buffer once a segment was offered.
-use Rattle.clnp_base.proofs.Filters.{AllByRecursion-filter}
-use Rattle.clnp_base.proofs.Lists.{AllByRecursion-implies}
+use Rattle.clnp_plan.proofs.ClnpBase.Filters.{AllByRecursion-filter}
+use Rattle.clnp_plan.proofs.ClnpBase.Lists.{AllByRecursion-implies}
 use Rattle.std.proofs.Common.{◌≡◌, subst, ℕ, ◌+◌, ◌≤◌, inl, inr, Bool, true, false, cond, List, [], ◌∷◌, ◌++◌, length, Option, None, Some, Contains, refl, arith}
 use Rattle.std.specs.Prelude.{◌&&◌, is_none, nat_le, nat_lt}
 use Rattle.std.specs.List.{AllByRecursion, filter}
@@ -12,7 +12,7 @@ use Rattle.reassembly.specs.Buffer.{Answer, Buffer, Crowded, Held, Many, NoSlot,
 use Rattle.clnp_machine.specs.Unit.{Packet}
 use Rattle.clnp_machine.specs.Told.{TellsNoInterference, WasThereOrTakes}
 use Rattle.reassembly.proofs.Shared.{held-with_kept, kept_or_not, may_be_kept, others_with_kept}
-use Rattle.clnp_base.proofs.Choices.{one_of}
+use Rattle.clnp_plan.proofs.ClnpBase.Choices.{one_of}
 
 pub all_contained : {X : Type 0} (xs : List X) → AllByRecursion (Contains xs) xs
 all_contained xs = recursion_from_All (Contains xs) xs (λ i d within. All-contains_itself xs i d within)

@@ -3,18 +3,18 @@ use Rattle.std.proofs.Common.{◌≡◌, ◌∙◌, refl, sym, ap, subst, ℕ, �
 use Rattle.std.specs.Prelude.{◌==◌, ◌||◌, nat_le, if◌then◌else◌}
 use Rattle.std.specs.List.{AllByRecursion, filter, list_any}
 use Rattle.std.proofs.lemmas.Bool.{cases_Bool, cond_both, lt-ltb, le-leb, leb-true, eqb-false}
-use Rattle.clnp_base.proofs.Lists.{AllByRecursion-implies}
-use Rattle.esis_tables.specs.declared.fact.EsisLimits.{EsisLimits}
-use Rattle.esis_tables.specs.declared.fact.Heard.{Heard}
-use Rattle.esis_tables.specs.declared.fact.Heard.TheVariants.{New, Again, Zero, Full}
-use Rattle.esis_tables.specs.declared.fact.Place.{Place}
-use Rattle.esis_tables.specs.declared.fact.TableKind.{TableKind}
-use Rattle.esis_tables.specs.declared.fact.TableKind.TheVariants.{Es}
-use Rattle.esis_tables.specs.Fact.{Fact, after, answer, current, currents, end_of, has_key, hearing, is_held, is_noted, latest, limit_of, while_held}
-use Rattle.esis_tables.specs.Keeps.{AreDistinct, without}
-use Rattle.clnp_base.proofs.SameOctets.{same_from, same-itself}
-use Rattle.esis_tables.proofs.Current.{currents-there, same_table-itself}
-use Rattle.esis_tables.proofs.Histories.{distinct-latest, last_of-other, last_of-there}
+use Rattle.clnp_plan.proofs.ClnpBase.Lists.{AllByRecursion-implies}
+use Rattle.clnp_plan.specs.EsisTables.declared.fact.EsisLimits.{EsisLimits}
+use Rattle.clnp_plan.specs.EsisTables.declared.fact.Heard.{Heard}
+use Rattle.clnp_plan.specs.EsisTables.declared.fact.Heard.TheVariants.{New, Again, Zero, Full}
+use Rattle.clnp_plan.specs.EsisTables.declared.fact.Place.{Place}
+use Rattle.clnp_plan.specs.EsisTables.declared.fact.TableKind.{TableKind}
+use Rattle.clnp_plan.specs.EsisTables.declared.fact.TableKind.TheVariants.{Es}
+use Rattle.clnp_plan.specs.EsisTables.Fact.{Fact, after, answer, current, currents, end_of, has_key, hearing, is_held, is_noted, latest, limit_of, while_held}
+use Rattle.clnp_plan.specs.EsisTables.Keeps.{AreDistinct, without}
+use Rattle.clnp_plan.proofs.ClnpBase.SameOctets.{same_from, same-itself}
+use Rattle.clnp_plan.proofs.EsisTables.Current.{currents-there, same_table-itself}
+use Rattle.clnp_plan.proofs.EsisTables.Histories.{distinct-latest, last_of-other, last_of-there}
 use Rattle.clnp_plan.specs.declared.note.Note.TheVariants.{Hear}
 use Rattle.clnp_machine.specs.System.{SystemState, Notes}
 use Rattle.clnp_machine.specs.Esis.{esis_limits, hears, hears_each, tells_new}

@@ -1,9 +1,9 @@
 -- The unit that is asked for, where it isn't refused.
 use Rattle.std.proofs.Common.{◌≡◌, ℕ, ◌+◌, ◌≤◌, Bool, true, not, if◌then◌else◌, nat_lt, List, ◌++◌, length, Option, None, Some, option_map, refl, ap, arith, length-append}
 use Rattle.std.proofs.lemmas.Bool.Decides.{nat_tests}
-use Rattle.clnp_options.specs.Parameter.{Parameter, parameters, spelled}
-use Rattle.pdu_header.specs.declared.kind.Kind.{Kind}
-use Rattle.pdu_header.specs.Spelling.{counted, segmentation_octets}
+use Rattle.clnp_plan.specs.ClnpOptions.Parameter.{Parameter, parameters, spelled}
+use Rattle.clnp_plan.specs.PduHeader.declared.kind.Kind.{Kind}
+use Rattle.clnp_plan.specs.PduHeader.Spelling.{counted, segmentation_octets}
 use Rattle.clnp_plan.specs.declared.ask.Ask.{Ask}
 use Rattle.clnp_plan.specs.declared.note.Note.{Note}
 use Rattle.clnp_machine.specs.Unit as unit

@@ -3,12 +3,12 @@ use Rattle.std.proofs.Common.{◌≡◌, ◌∙◌, refl, sym, ap, subst, ℕ, B
 use Rattle.std.specs.Prelude.{if◌then◌else◌}
 use Rattle.esis_pdus.specs.declared.pdu.EsisBody.{EsisBody}
 use Rattle.esis_pdus.specs.Value.{suggested}
-use Rattle.esis_tables.specs.declared.fact.EsisLimits.{EsisLimits}
-use Rattle.esis_tables.specs.declared.fact.Place.{Place}
-use Rattle.esis_tables.specs.declared.fact.TableKind.TheVariants.{Rd}
-use Rattle.esis_tables.specs.Fact as facts
-use Rattle.esis_tables.specs.Fact.{Fact}
-use Rattle.esis_tables.specs.NextHop as heard
+use Rattle.clnp_plan.specs.EsisTables.declared.fact.EsisLimits.{EsisLimits}
+use Rattle.clnp_plan.specs.EsisTables.declared.fact.Place.{Place}
+use Rattle.clnp_plan.specs.EsisTables.declared.fact.TableKind.TheVariants.{Rd}
+use Rattle.clnp_plan.specs.EsisTables.Fact as facts
+use Rattle.clnp_plan.specs.EsisTables.Fact.{Fact}
+use Rattle.clnp_plan.specs.EsisTables.NextHop as heard
 use Rattle.clnp_plan.specs.declared.config.Role.{Role}
 use Rattle.clnp_plan.specs.declared.config.Role.TheVariants.{Host, Router}
 use Rattle.clnp_plan.specs.declared.note.Note.TheVariants.{Ignored}

@@ -5,12 +5,12 @@ use Rattle.std.proofs.lemmas.Bool.{and_parts, cases_Bool, eqb-true}
 use Rattle.std.proofs.lemmas.Bool.Decides.{nat_tests}
 use Rattle.std.proofs.lemmas.List.{take_all}
 use Rattle.hex.specs.Hex.{IsBytes}
-use Rattle.clnp_options.specs.declared.judge.OptionRefusal.{OptionRefusal}
-use Rattle.pdu_header.specs.Value.{SegmentationPart, PduValue}
-use Rattle.pdu_header.specs.Spelling.{header_length, spelling}
-use Rattle.pdu_header.specs.Grammar.{BeginsWith, IsPdu}
-use Rattle.pdu_header.specs.Rules.{octet, refusal}
-use Rattle.pdu_header.specs.Reading.{rest_of}
+use Rattle.clnp_plan.specs.ClnpOptions.declared.judge.OptionRefusal.{OptionRefusal}
+use Rattle.clnp_plan.specs.PduHeader.Value.{SegmentationPart, PduValue}
+use Rattle.clnp_plan.specs.PduHeader.Spelling.{header_length, spelling}
+use Rattle.clnp_plan.specs.PduHeader.Grammar.{BeginsWith, IsPdu}
+use Rattle.clnp_plan.specs.PduHeader.Rules.{octet, refusal}
+use Rattle.clnp_plan.specs.PduHeader.Reading.{rest_of}
 use Rattle.esis_pdus.specs.declared.pdu.EsisRefusal.{EsisRefusal}
 use Rattle.esis_pdus.specs.Grammar as esis
 use Rattle.esis_pdus.specs.Reading as esis_reading
@@ -22,7 +22,7 @@ use Rattle.clnp_machine.specs.Unit.{IsCarriable, value_of}
 use Rattle.clnp_machine.specs.Content.{Content, Labelled, Esis, Unlabelled, IsCarried, content_of, esis_value_in, frame_of, is_accepted, packet_from_outside, value_in}
 use Rattle.clnp_machine.proofs.Pieces.{with_parts}
 use Rattle.clnp_machine.proofs.Headers.{front, nothing_spelled, other_protocol}
-use Rattle.clnp_base.proofs.Choices.{none_is}
+use Rattle.clnp_plan.proofs.ClnpBase.Choices.{none_is}
 
 follows : (end all : ℕ) (more : Bool) → end ≤ all → (more ≡ false → end ≡ all) → (end ≡ all → more ≡ false) → nat_lt end all ≡ more
 follows end all true within ends last = grind (arith, nat_tests)

@@ -3,15 +3,15 @@ use Rattle.std.proofs.Common.{◌≡◌, ◌∙◌, refl, sym, ap, subst, ℕ, �
 use Rattle.std.specs.Prelude.{if◌then◌else◌, nat_le, nat_lt, option_map}
 use Rattle.std.specs.List.{AllByRecursion}
 use Rattle.std.proofs.lemmas.List.{take_all}
-use Rattle.clnp_options.specs.Parameter.{spelled}
-use Rattle.pdu_header.specs.Value.{SegmentationPart, PduValue}
-use Rattle.pdu_header.specs.Spelling.{header, header_length, segment_length, segmentation_octets}
-use Rattle.pdu_header.specs.Grammar.{IsPdu}
+use Rattle.clnp_plan.specs.ClnpOptions.Parameter.{spelled}
+use Rattle.clnp_plan.specs.PduHeader.Value.{SegmentationPart, PduValue}
+use Rattle.clnp_plan.specs.PduHeader.Spelling.{header, header_length, segment_length, segmentation_octets}
+use Rattle.clnp_plan.specs.PduHeader.Grammar.{IsPdu}
 use Rattle.segmenter.specs.Range.{Range}
 use Rattle.segmenter.specs.Cut as segmenter
 use Rattle.segmenter.specs.Cut.{Piece, data_room, ranges, segment, segments, uncut}
 use Rattle.segmenter.proofs.Claims.{segments_tile}
-use Rattle.clnp_base.proofs.Lists.{length_part, part_of_part}
+use Rattle.clnp_plan.proofs.ClnpBase.Lists.{length_part, part_of_part}
 use Rattle.segmenter.proofs.Segments.{segment_is_pdu}
 use Rattle.segmenter.proofs.Tiles.{tiles_within}
 use Rattle.clnp_machine.specs.Steps.{AreCarriable}

@@ -1,8 +1,8 @@
 -- Reasons for discard that no rule of PDUs gives.
 use Rattle.std.proofs.Common.{◌≢◌, ℕ, arith}
-use Rattle.clnp_options.specs.declared.reasons.Reason.TheVariants.{Congestion, DestinationUnknown, LifetimeExpiredInReassembly, LifetimeExpiredInTransit, PathNotAcceptable, ReassemblyInterference, SegmentationNotPermitted, UnknownAddressInRoute}
-use Rattle.clnp_options.specs.Reasons.{reason_code}
-use Rattle.pdu_header.specs.Table.{table}
+use Rattle.clnp_plan.specs.ClnpOptions.declared.reasons.Reason.TheVariants.{Congestion, DestinationUnknown, LifetimeExpiredInReassembly, LifetimeExpiredInTransit, PathNotAcceptable, ReassemblyInterference, SegmentationNotPermitted, UnknownAddressInRoute}
+use Rattle.clnp_plan.specs.ClnpOptions.Reasons.{reason_code}
+use Rattle.clnp_plan.specs.PduHeader.Table.{table}
 use Rattle.clnp_machine.specs.Told.{IsOfNoRule}
 
 -- a reason that differs from those of the rules

@@ -1,18 +1,18 @@
 -- Frames that are discarded, and the reports of their discard; and replies.
-use Rattle.clnp_base.proofs.Choices.{below_not}
-use Rattle.clnp_base.proofs.Lists.{AllByRecursion-contains, AllByRecursion-mapped}
+use Rattle.clnp_plan.proofs.ClnpBase.Choices.{below_not}
+use Rattle.clnp_plan.proofs.ClnpBase.Lists.{AllByRecursion-contains, AllByRecursion-mapped}
 use Rattle.std.proofs.Common.{◌≡◌, ◌∙◌, refl, sym, ap, ℕ, ◌+◌, ◌-◌, ◌≤◌, inl, false, List, [], ◌++◌, length, take, drop, Option, None, Some, Contains, append_assoc, arith}
 use Rattle.std.specs.Prelude.{◌==◌, option_map}
 use Rattle.std.specs.List.{AllByRecursion}
 use Rattle.std.proofs.lemmas.List.{get_or_append_left, take_all, take_at}
-use Rattle.clnp_options.specs.Parameter.{parameters_after}
-use Rattle.pdu_header.specs.declared.kind.Kind.{Kind}
-use Rattle.pdu_header.specs.declared.kind.Kind.TheVariants.{Dt, Er, Erq, Erp}
-use Rattle.pdu_header.specs.Grammar.{BeginsWith, IsPdu, is_report}
-use Rattle.pdu_header.specs.Reading.{address_at}
-use Rattle.pdu_header.specs.Rules.{header_of, header_size as size_of_header, source_place}
-use Rattle.pdu_header.specs.Spelling.{header, segmentation_octets, type_code}
-use Rattle.pdu_header.specs.Value.{PduValue, SegmentationPart}
+use Rattle.clnp_plan.specs.ClnpOptions.Parameter.{parameters_after}
+use Rattle.clnp_plan.specs.PduHeader.declared.kind.Kind.{Kind}
+use Rattle.clnp_plan.specs.PduHeader.declared.kind.Kind.TheVariants.{Dt, Er, Erq, Erp}
+use Rattle.clnp_plan.specs.PduHeader.Grammar.{BeginsWith, IsPdu, is_report}
+use Rattle.clnp_plan.specs.PduHeader.Reading.{address_at}
+use Rattle.clnp_plan.specs.PduHeader.Rules.{header_of, header_size as size_of_header, source_place}
+use Rattle.clnp_plan.specs.PduHeader.Spelling.{header, segmentation_octets, type_code}
+use Rattle.clnp_plan.specs.PduHeader.Value.{PduValue, SegmentationPart}
 use Rattle.error_reports.specs.Report.{source_of}
 use Rattle.echo.specs.Reply.{part_of, plain_length, reply_of}
 use Rattle.echo.proofs.Lengths.{head_is}

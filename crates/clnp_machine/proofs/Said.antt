@@ -4,26 +4,26 @@ use Rattle.std.specs.Prelude.{◌==◌, ◌&&◌, ◌||◌, not, min, nat_le, is
 use Rattle.std.specs.Option.{option_or}
 use Rattle.std.specs.List.{AllByRecursion, flat_map, list_any, range_with_len}
 use Rattle.std.proofs.lemmas.List.Elements.{recursion_from_All}
-use Rattle.clnp_base.proofs.Lists.{AllByRecursion-append, AllByRecursion-contains, AllByRecursion-implies, AllByRecursion-map_any}
-use Rattle.nsap.specs.Address.{IsAddress}
-use Rattle.clnp_options.specs.Edits.{target_of}
-use Rattle.clnp_options.specs.Grammar.{joined}
+use Rattle.clnp_plan.proofs.ClnpBase.Lists.{AllByRecursion-append, AllByRecursion-contains, AllByRecursion-implies, AllByRecursion-map_any}
+use Rattle.clnp_plan.specs.Nsap.Address.{IsAddress}
+use Rattle.clnp_plan.specs.ClnpOptions.Edits.{target_of}
+use Rattle.clnp_plan.specs.ClnpOptions.Grammar.{joined}
 use Rattle.esis_pdus.specs.declared.pdu.EsisBody.{EsisBody}
 use Rattle.esis_pdus.specs.declared.pdu.EsisBody.TheVariants as body
 use Rattle.esis_pdus.specs.declared.pdu.EsisBody.TheVariants.{Esh, Ish}
 use Rattle.esis_pdus.specs.Grammar.{HasAddresses, IsPdu, IsTitleOrNone}
 use Rattle.esis_pdus.specs.Value.{EsisValue, suggested}
 use Rattle.esis_pdus.proofs.Made.{esh_pdu, esh_size, ish_pdu, rd_pdu}
-use Rattle.forwarding.specs.declared.route.Route.{Route}
-use Rattle.forwarding.specs.Longest.{IsLongest, longest}
-use Rattle.esis_tables.specs.declared.fact.Place.{Place}
-use Rattle.esis_tables.specs.declared.fact.TableKind.{TableKind}
-use Rattle.esis_tables.specs.declared.fact.TableKind.TheVariants.{Es, Is, Rd}
-use Rattle.esis_tables.specs.Fact.{Fact, answer, is_about, is_held, is_noted, last_of, while_held}
-use Rattle.esis_tables.specs.Gone.{gone}
-use Rattle.esis_tables.specs.NextHop.{current_place, is_router, place_of}
-use Rattle.nsap.specs.declared.target.Target.TheVariants.{System}
-use Rattle.pdu_header.specs.declared.kind.Kind.TheVariants.{Dt, Erq}
+use Rattle.clnp_plan.specs.Forwarding.declared.route.Route.{Route}
+use Rattle.clnp_plan.specs.Forwarding.Longest.{IsLongest, longest}
+use Rattle.clnp_plan.specs.EsisTables.declared.fact.Place.{Place}
+use Rattle.clnp_plan.specs.EsisTables.declared.fact.TableKind.{TableKind}
+use Rattle.clnp_plan.specs.EsisTables.declared.fact.TableKind.TheVariants.{Es, Is, Rd}
+use Rattle.clnp_plan.specs.EsisTables.Fact.{Fact, answer, is_about, is_held, is_noted, last_of, while_held}
+use Rattle.clnp_plan.specs.EsisTables.Gone.{gone}
+use Rattle.clnp_plan.specs.EsisTables.NextHop.{current_place, is_router, place_of}
+use Rattle.clnp_plan.specs.Nsap.declared.target.Target.TheVariants.{System}
+use Rattle.clnp_plan.specs.PduHeader.declared.kind.Kind.TheVariants.{Dt, Erq}
 use Rattle.clnp_plan.specs.Configuration.{HasItsAddresses, IsAddressed, IsAddressedRoute, IsSystem, SystemConfiguration}
 use Rattle.clnp_plan.specs.declared.note.Note.TheVariants.{Ignored}
 use Rattle.clnp_plan.specs.declared.config.Role.{Role}
@@ -40,7 +40,7 @@ use Rattle.clnp_machine.proofs.Behind.{first_is}
 use Rattle.clnp_machine.proofs.Deeds.{make_is, octets_are, packet_is, tick_is}
 use Rattle.clnp_machine.proofs.Passing.{packet_does, redirects_are}
 use Rattle.clnp_machine.proofs.Hellos.{only_hears_each, hello_is, said, same_hello}
-use Rattle.clnp_base.proofs.Choices.{one_of}
+use Rattle.clnp_plan.proofs.ClnpBase.Choices.{one_of}
 
 -- where a source route leads to no title a packet is sent towards its destination
 no_title : (destination : List ℕ) (title : Option (List ℕ)) → is_none title ≡ true → towards destination title ≡ destination

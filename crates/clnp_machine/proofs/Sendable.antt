@@ -1,29 +1,29 @@
 -- PDUs can carry what a system sends, where what is asked of it is fair.
-use Rattle.clnp_base.proofs.Choices.{below_not}
-use Rattle.clnp_base.proofs.Lists.{AllByRecursion-append, AllByRecursion-implies, AllByRecursion-slice_get, length_part}
+use Rattle.clnp_plan.proofs.ClnpBase.Choices.{below_not}
+use Rattle.clnp_plan.proofs.ClnpBase.Lists.{AllByRecursion-append, AllByRecursion-implies, AllByRecursion-slice_get, length_part}
 use Rattle.std.proofs.Common.{◌≡◌, ℕ, zero, suc, ◌+◌, ◌-◌, ◌^◌, ◌<◌, ◌≤◌, Bool, true, false, not, nat_lt, List, [], ◌∷◌, ◌++◌, length, map, take, drop, All, Option, None, Some, is_some, option_map, refl, sym, ap, arith, subst}
 use Rattle.std.specs.Prelude.{◌==◌, slice_get}
 use Rattle.std.specs.List.{AllByRecursion, flat_map}
 use Rattle.std.proofs.lemmas.Bool.{and_parts}
 use Rattle.std.proofs.lemmas.List.Elements.{All-nil, recursion_from_All}
 use Rattle.hex.specs.Hex.{IsBytes}
-use Rattle.nsap.specs.Address.{IsAddress}
-use Rattle.clnp_options.specs.Grammar.{AreFormed, FitsKind, HasForm}
-use Rattle.clnp_options.specs.Parameter.{parameters, parameters_after}
-use Rattle.clnp_options.specs.Reasons.{reason_code}
-use Rattle.clnp_options.specs.declared.reasons.Reason.TheVariants.{LifetimeExpiredInReassembly}
-use Rattle.clnp_options.proofs.Agree.{are_formed, none_fit}
-use Rattle.pdu_header.specs.declared.kind.Kind.{Kind}
-use Rattle.pdu_header.specs.declared.kind.Kind.TheVariants.{Dt, Er, Erq, Erp}
-use Rattle.pdu_header.specs.Grammar.{IsSegment, is_report}
-use Rattle.pdu_header.specs.Rules.{extent_refusal, header_of, header_size as size_of_header, is_bad_address, is_reportable, octet, source_place, type_of, wants_report}
-use Rattle.pdu_header.proofs.Accepted.{within}
-use Rattle.pdu_header.proofs.Spelled.{address_is}
+use Rattle.clnp_plan.specs.Nsap.Address.{IsAddress}
+use Rattle.clnp_plan.specs.ClnpOptions.Grammar.{AreFormed, FitsKind, HasForm}
+use Rattle.clnp_plan.specs.ClnpOptions.Parameter.{parameters, parameters_after}
+use Rattle.clnp_plan.specs.ClnpOptions.Reasons.{reason_code}
+use Rattle.clnp_plan.specs.ClnpOptions.declared.reasons.Reason.TheVariants.{LifetimeExpiredInReassembly}
+use Rattle.clnp_plan.proofs.ClnpOptions.Agree.{are_formed, none_fit}
+use Rattle.clnp_plan.specs.PduHeader.declared.kind.Kind.{Kind}
+use Rattle.clnp_plan.specs.PduHeader.declared.kind.Kind.TheVariants.{Dt, Er, Erq, Erp}
+use Rattle.clnp_plan.specs.PduHeader.Grammar.{IsSegment, is_report}
+use Rattle.clnp_plan.specs.PduHeader.Rules.{extent_refusal, header_of, header_size as size_of_header, is_bad_address, is_reportable, octet, source_place, type_of, wants_report}
+use Rattle.clnp_plan.proofs.PduHeader.Accepted.{within}
+use Rattle.clnp_plan.proofs.PduHeader.Spelled.{address_is}
 use Rattle.error_reports.specs.Report.{reason_option, source_of}
 use Rattle.error_reports.proofs.Lengths.{four}
 use Rattle.error_reports.proofs.Reason.{alone, alone_fits}
 use Rattle.reassembly.specs.Arrival.{Arrival}
-use Rattle.esis_tables.specs.declared.fact.Place.{Place}
+use Rattle.clnp_plan.specs.EsisTables.declared.fact.Place.{Place}
 use Rattle.clnp_plan.specs.Asking.{IsFormedAsk}
 use Rattle.clnp_plan.specs.Configuration.{HasItsAddresses, IsPort, IsSystem, SystemConfiguration}
 use Rattle.clnp_plan.specs.declared.config.Role.{Role}
@@ -47,7 +47,7 @@ use Rattle.clnp_machine.proofs.Passing.{Onward, packet_does, redirects_are}
 use Rattle.clnp_machine.proofs.Pieces.{cut_carriable}
 use Rattle.clnp_machine.proofs.Reporting.{header_in, kept_carriable, source_is}
 use Rattle.clnp_machine.proofs.Headers.{header_length-is, read_as}
-use Rattle.clnp_base.proofs.ListSteps.{bytes_of_take}
+use Rattle.clnp_plan.proofs.ClnpBase.ListSteps.{bytes_of_take}
 
 each_sent : (hop : Hop) (packets : List Packet) → AllByRecursion IsCarriable packets
     → AllByRecursion SendsCarriable (map (λ packet. Transmits hop.port hop.target packet) packets)

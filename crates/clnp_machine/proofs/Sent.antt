@@ -1,17 +1,17 @@
 -- What a system sends: ranges of the units that it makes, and what goes on.
-use Rattle.clnp_base.proofs.Lists.{AllByRecursion-append, AllByRecursion-implies, AllByRecursion-mapped}
+use Rattle.clnp_plan.proofs.ClnpBase.Lists.{AllByRecursion-append, AllByRecursion-implies, AllByRecursion-mapped}
 use Rattle.std.proofs.Common.{◌≡◌, ◌∙◌, ap, sym, inl, inr, ℕ, zero, suc, ◌+◌, ◌-◌, ◌*◌, ◌/◌, ◌<◌, ◌≤◌, Bool, true, false, List, [], ◌∷◌, ◌++◌, length, map, Option, None, Some, nat_le, option_map, if◌then◌else◌, Contains, refl, subst, arith}
 use Rattle.std.specs.List.{AllByRecursion, flat_map, range_with_len}
 use Rattle.std.proofs.lemmas.List.Elements.{Contains-append_left, Contains-append_right}
 use Rattle.std.specs.Prelude.{slice_get}
-use Rattle.esis_tables.specs.declared.fact.Place.{Place}
-use Rattle.pdu_header.specs.declared.kind.Kind.TheVariants.{Dt}
-use Rattle.pdu_header.specs.Spelling.{header_length}
+use Rattle.clnp_plan.specs.EsisTables.declared.fact.Place.{Place}
+use Rattle.clnp_plan.specs.PduHeader.declared.kind.Kind.TheVariants.{Dt}
+use Rattle.clnp_plan.specs.PduHeader.Spelling.{header_length}
 use Rattle.clnp_plan.specs.declared.config.PortConfig.{PortConfig}
 use Rattle.segmenter.specs.Range.{Range}
 use Rattle.segmenter.specs.Cut.{data_room, nth_range, ranges}
-use Rattle.clnp_options.specs.Edits.{HaveOneForm}
-use Rattle.clnp_options.specs.Parameter.{Parameter}
+use Rattle.clnp_plan.specs.ClnpOptions.Edits.{HaveOneForm}
+use Rattle.clnp_plan.specs.ClnpOptions.Parameter.{Parameter}
 use Rattle.clnp_machine.specs.Unit as unit
 use Rattle.clnp_machine.specs.Unit.{Packet, value_of, wire, whole_packet, piece_of, pieces, cut}
 use Rattle.clnp_machine.specs.Content.{Labelled, Esis, Unlabelled}

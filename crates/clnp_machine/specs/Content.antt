@@ -1,11 +1,11 @@
 -- What a frame carries.
 use Rattle.std.specs.Prelude.{ℕ, ◌==◌, ◌&&◌, if◌then◌else◌, List, ◌++◌, length, Option, None, Some, is_none, option_map, Bool}
 use Rattle.hex.specs.Hex.{IsBytes}
-use Rattle.pdu_header.specs.Value.{SegmentationPart, PduValue}
-use Rattle.pdu_header.specs.Spelling.{segment_length}
-use Rattle.pdu_header.specs.Grammar.{BeginsWith}
-use Rattle.pdu_header.specs.Rules.{octet, header_of, refusal}
-use Rattle.pdu_header.specs.Reading.{value_of, body_of, rest_of}
+use Rattle.clnp_plan.specs.PduHeader.Value.{SegmentationPart, PduValue}
+use Rattle.clnp_plan.specs.PduHeader.Spelling.{segment_length}
+use Rattle.clnp_plan.specs.PduHeader.Grammar.{BeginsWith}
+use Rattle.clnp_plan.specs.PduHeader.Rules.{octet, header_of, refusal}
+use Rattle.clnp_plan.specs.PduHeader.Reading.{value_of, body_of, rest_of}
 use Rattle.esis_pdus.specs.Grammar as esis
 use Rattle.esis_pdus.specs.Reading as esis_reading
 use Rattle.esis_pdus.specs.Rules.{why_refused}

@@ -1,13 +1,13 @@
 -- What is so of a router's edits of options, as the laws of options and of PDUs say.
 use Rattle.std.specs.Prelude.{◌≡◌, ℕ, List, length, IsSome}
-use Rattle.nsap.specs.Address.{IsAddress}
-use Rattle.clnp_options.specs.Edits as edits
-use Rattle.clnp_options.specs.Edits.{HaveOneForm, edited, target_of}
-use Rattle.clnp_options.specs.Grammar.{AreFormed}
-use Rattle.clnp_options.specs.Parameter.{Parameter, quality, recording, source_route, spelled}
-use Rattle.pdu_header.specs.Grammar.{IsPdu}
-use Rattle.pdu_header.specs.Headers.{with_options}
-use Rattle.pdu_header.specs.Value.{PduValue}
+use Rattle.clnp_plan.specs.Nsap.Address.{IsAddress}
+use Rattle.clnp_plan.specs.ClnpOptions.Edits as edits
+use Rattle.clnp_plan.specs.ClnpOptions.Edits.{HaveOneForm, edited, target_of}
+use Rattle.clnp_plan.specs.ClnpOptions.Grammar.{AreFormed}
+use Rattle.clnp_plan.specs.ClnpOptions.Parameter.{Parameter, quality, recording, source_route, spelled}
+use Rattle.clnp_plan.specs.PduHeader.Grammar.{IsPdu}
+use Rattle.clnp_plan.specs.PduHeader.Headers.{with_options}
+use Rattle.clnp_plan.specs.PduHeader.Value.{PduValue}
 
 -- the form of options is kept
 pub record KeepForm : Type 0 where

@@ -1,22 +1,22 @@
 -- What a system says of itself, and hears of others (ISO 9542, section 6).
 use Rattle.std.specs.Prelude.{ℕ, ◌+◌, ◌*◌, ◌==◌, ◌&&◌, ◌||◌, min, nat_le, not, Bool, true, false, if◌then◌else◌, List, [], ◌∷◌, length, map, slice_get, Option, None, Some}
 use Rattle.std.specs.List.{list_any, range_with_len}
-use Rattle.nsap.specs.declared.target.Target.{Target}
-use Rattle.nsap.specs.declared.target.Target.TheVariants.{System, EndSystems, Routers}
+use Rattle.clnp_plan.specs.Nsap.declared.target.Target.{Target}
+use Rattle.clnp_plan.specs.Nsap.declared.target.Target.TheVariants.{System, EndSystems, Routers}
 use Rattle.esis_pdus.specs.declared.pdu.EsisBody.{EsisBody}
 use Rattle.esis_pdus.specs.declared.pdu.EsisBody.TheVariants as body
 use Rattle.esis_pdus.specs.declared.pdu.EsisBody.TheVariants.{Esh, Ish}
 use Rattle.esis_pdus.specs.Making.{value, timer_options}
 use Rattle.esis_pdus.specs.Value.{EsisValue, suggested}
-use Rattle.esis_tables.specs.declared.fact.EsisLimits.{EsisLimits}
-use Rattle.esis_tables.specs.declared.fact.Gone.{Gone}
-use Rattle.esis_tables.specs.declared.fact.Heard.TheVariants.{New}
-use Rattle.esis_tables.specs.declared.fact.Place.{Place}
-use Rattle.esis_tables.specs.declared.fact.TableKind.{TableKind}
-use Rattle.esis_tables.specs.declared.fact.TableKind.TheVariants.{Es, Is, Rd}
-use Rattle.esis_tables.specs.Fact as facts
-use Rattle.esis_tables.specs.Gone.{gone}
-use Rattle.esis_tables.specs.NextHop.{is_router}
+use Rattle.clnp_plan.specs.EsisTables.declared.fact.EsisLimits.{EsisLimits}
+use Rattle.clnp_plan.specs.EsisTables.declared.fact.Gone.{Gone}
+use Rattle.clnp_plan.specs.EsisTables.declared.fact.Heard.TheVariants.{New}
+use Rattle.clnp_plan.specs.EsisTables.declared.fact.Place.{Place}
+use Rattle.clnp_plan.specs.EsisTables.declared.fact.TableKind.{TableKind}
+use Rattle.clnp_plan.specs.EsisTables.declared.fact.TableKind.TheVariants.{Es, Is, Rd}
+use Rattle.clnp_plan.specs.EsisTables.Fact as facts
+use Rattle.clnp_plan.specs.EsisTables.Gone.{gone}
+use Rattle.clnp_plan.specs.EsisTables.NextHop.{is_router}
 use Rattle.clnp_plan.specs.declared.config.Role.{Role}
 use Rattle.clnp_plan.specs.declared.config.Role.TheVariants.{Host, Router}
 use Rattle.clnp_plan.specs.declared.note.Note.TheVariants as note

@@ -1,7 +1,7 @@
 -- The outputs of a system of the code, and those of the model.
 use Rattle.std.specs.Prelude.{◌≡◌, ◌⊎◌, ℕ, true, false, List, [], ◌∷◌, ◌++◌, Option, None, Some}
-use Rattle.nsap.specs.declared.target.Target.{Target}
-use Rattle.clnp_views.specs.Extent.{Extent, seen}
+use Rattle.clnp_plan.specs.Nsap.declared.target.Target.{Target}
+use Rattle.clnp_plan.specs.ClnpViews.Extent.{Extent, seen}
 use Rattle.esis_pdus.specs.Grammar as esis
 use Rattle.esis_pdus.specs.Spelling as esis_spelling
 use Rattle.esis_pdus.specs.Value.{EsisValue}

@@ -1,3 +1,17 @@
+pub use Rattle.clnp_plan.specs.ClnpBase
+pub use Rattle.clnp_plan.specs.Fletcher
+pub use Rattle.clnp_plan.specs.Nsap
+pub use Rattle.clnp_plan.specs.ClnpOptions
+pub use Rattle.clnp_plan.specs.ClnpViews
+pub use Rattle.clnp_plan.specs.PduHeader
+pub use Rattle.reassembly.specs as Reassembly
+pub use Rattle.clnp_plan.specs.EsisTables
+pub use Rattle.clnp_plan.specs.Forwarding
+pub use Rattle.esis_pdus.specs as EsisPdus
+pub use Rattle.segmenter.specs as Segmenter
+pub use Rattle.error_reports.specs as ErrorReports
+pub use Rattle.echo.specs as Echo
+pub use Rattle.clnp_plan.specs as ClnpPlan
 pub mod Unit
 pub mod Identifiers
 pub mod Content

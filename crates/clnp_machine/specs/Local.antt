@@ -2,13 +2,13 @@
 use Rattle.std.specs.Prelude.{◌≡◌, ℕ, zero, suc, ◌+◌, ◌-◌, ◌==◌, ◌&&◌, ◌||◌, not, nat_lt, Bool, true, false, if◌then◌else◌, List, [], ◌∷◌, ◌++◌, length, drop, slice_get, slice_index, Option, None, Some, option_map, is_none}
 use Rattle.std.specs.List.{find, list_any}
 use Rattle.std.specs.Str.{bytes_eq}
-use Rattle.clnp_options.specs.Parameter.{Parameter, parameters}
-use Rattle.clnp_options.specs.Reasons.{reason_code}
-use Rattle.clnp_options.specs.declared.reasons.Reason.TheVariants.{Congestion, LifetimeExpiredInReassembly, ReassemblyInterference}
-use Rattle.pdu_header.specs.declared.kind.Kind.{Kind}
-use Rattle.pdu_header.specs.declared.kind.Kind.TheVariants.{Dt, Er, Erq, Erp}
-use Rattle.pdu_header.specs.Rules.{header_of, is_reportable}
-use Rattle.pdu_header.specs.Spelling.{header_length, type_code}
+use Rattle.clnp_plan.specs.ClnpOptions.Parameter.{Parameter, parameters}
+use Rattle.clnp_plan.specs.ClnpOptions.Reasons.{reason_code}
+use Rattle.clnp_plan.specs.ClnpOptions.declared.reasons.Reason.TheVariants.{Congestion, LifetimeExpiredInReassembly, ReassemblyInterference}
+use Rattle.clnp_plan.specs.PduHeader.declared.kind.Kind.{Kind}
+use Rattle.clnp_plan.specs.PduHeader.declared.kind.Kind.TheVariants.{Dt, Er, Erq, Erp}
+use Rattle.clnp_plan.specs.PduHeader.Rules.{header_of, is_reportable}
+use Rattle.clnp_plan.specs.PduHeader.Spelling.{header_length, type_code}
 use Rattle.error_reports.specs.Report.{reason_option, source_of}
 use Rattle.error_reports.specs.Told.{cause_in, place_in}
 use Rattle.echo.specs.Match.{echoes}

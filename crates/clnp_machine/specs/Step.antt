@@ -4,29 +4,29 @@ use Rattle.std.specs.Prelude.{ℕ, zero, suc, ◌+◌, ◌-◌, ◌==◌, ◌&&�
 use Rattle.std.specs.List.{flat_map}
 use Rattle.std.specs.Option.{option_or}
 use Rattle.std.specs.Str.{bytes_eq}
-use Rattle.nsap.specs.declared.target.Target.{Target}
-use Rattle.nsap.specs.declared.target.Target.TheVariants.{System, EndSystems}
+use Rattle.clnp_plan.specs.Nsap.declared.target.Target.{Target}
+use Rattle.clnp_plan.specs.Nsap.declared.target.Target.TheVariants.{System, EndSystems}
 use Rattle.esis_pdus.specs.declared.pdu.EsisRefusal.{EsisRefusal}
 use Rattle.esis_pdus.specs.declared.pdu.EsisRefusal.TheVariants.{NotEsis, Broken}
 use Rattle.esis_pdus.specs.Rules.{why_refused}
-use Rattle.esis_tables.specs.declared.fact.Place.{Place}
-use Rattle.esis_tables.specs.declared.fact.TableKind.TheVariants.{Es}
-use Rattle.esis_tables.specs.NextHop as heard
-use Rattle.forwarding.specs.declared.route.Route.{Route}
-use Rattle.forwarding.specs.Longest.{longest}
-use Rattle.pdu_header.specs.declared.kind.Kind.TheVariants.{Dt}
-use Rattle.clnp_options.specs.declared.judge.OptionRefusal.{OptionRefusal}
-use Rattle.clnp_options.specs.Edits.{advanced, edited, is_complete, marked, recorded, target_of}
-use Rattle.clnp_options.specs.Parameter.{Parameter, quality, recording, source_route}
-use Rattle.clnp_options.specs.Reasons.{reason_code}
-use Rattle.clnp_options.specs.declared.reasons.Reason.TheVariants.{DestinationUnknown, LifetimeExpiredInTransit, NotSpecified, PathNotAcceptable, SegmentationNotPermitted, UnknownAddressInRoute}
-use Rattle.pdu_header.specs.Rules.{octet, refusal as rule_broken}
+use Rattle.clnp_plan.specs.EsisTables.declared.fact.Place.{Place}
+use Rattle.clnp_plan.specs.EsisTables.declared.fact.TableKind.TheVariants.{Es}
+use Rattle.clnp_plan.specs.EsisTables.NextHop as heard
+use Rattle.clnp_plan.specs.Forwarding.declared.route.Route.{Route}
+use Rattle.clnp_plan.specs.Forwarding.Longest.{longest}
+use Rattle.clnp_plan.specs.PduHeader.declared.kind.Kind.TheVariants.{Dt}
+use Rattle.clnp_plan.specs.ClnpOptions.declared.judge.OptionRefusal.{OptionRefusal}
+use Rattle.clnp_plan.specs.ClnpOptions.Edits.{advanced, edited, is_complete, marked, recorded, target_of}
+use Rattle.clnp_plan.specs.ClnpOptions.Parameter.{Parameter, quality, recording, source_route}
+use Rattle.clnp_plan.specs.ClnpOptions.Reasons.{reason_code}
+use Rattle.clnp_plan.specs.ClnpOptions.declared.reasons.Reason.TheVariants.{DestinationUnknown, LifetimeExpiredInTransit, NotSpecified, PathNotAcceptable, SegmentationNotPermitted, UnknownAddressInRoute}
+use Rattle.clnp_plan.specs.PduHeader.Rules.{octet, refusal as rule_broken}
 use Rattle.clnp_plan.specs.declared.config.PortConfig.{PortConfig}
 use Rattle.clnp_plan.specs.declared.config.Role.{Role}
 use Rattle.clnp_plan.specs.declared.config.Role.TheVariants.{Host, Router}
 use Rattle.clnp_plan.specs.declared.note.Note.{Note}
 use Rattle.clnp_plan.specs.declared.note.Note.TheVariants.{BadEsis, Discard, NotMine, Alien, Restart, Congest}
-use Rattle.pdu_header.specs.Value.{SegmentationPart}
+use Rattle.clnp_plan.specs.PduHeader.Value.{SegmentationPart}
 use Rattle.clnp_machine.specs.Unit.{Unit, Packet, segmentation_of, whole_packet, cut}
 use Rattle.clnp_machine.specs.Content.{Content, Labelled, Esis, Unlabelled}
 use Rattle.clnp_machine.specs.System.{SystemState, Input, AsksToSend, AsksForEcho, FrameComes, MomentComes, IsRestarted, IsCongested, Output, Transmits, SendsEsis, Notes, Effect, idles, gives, then_does}

@@ -1,25 +1,25 @@
 -- What is so of every step of a system.
 use Rattle.std.specs.Prelude.{◌≡◌, ℕ, ◌+◌, ◌≤◌, ◌⊎◌, Bool, true, false, List, [], ◌∷◌, ◌++◌, length, map, slice_get, Option, None, Some}
 use Rattle.std.specs.List.{AllByRecursion, Contains, flat_map}
-use Rattle.clnp_options.specs.Edits.{HaveOneForm}
-use Rattle.clnp_options.specs.Grammar.{FitsKind}
-use Rattle.clnp_options.specs.Parameter.{parameters}
-use Rattle.pdu_header.specs.Grammar.{BeginsWith}
-use Rattle.pdu_header.specs.declared.kind.Kind.TheVariants.{Dt, Er, Erq, Erp}
-use Rattle.pdu_header.specs.Rules.{header_of, octet, refusal}
+use Rattle.clnp_plan.specs.ClnpOptions.Edits.{HaveOneForm}
+use Rattle.clnp_plan.specs.ClnpOptions.Grammar.{FitsKind}
+use Rattle.clnp_plan.specs.ClnpOptions.Parameter.{parameters}
+use Rattle.clnp_plan.specs.PduHeader.Grammar.{BeginsWith}
+use Rattle.clnp_plan.specs.PduHeader.declared.kind.Kind.TheVariants.{Dt, Er, Erq, Erp}
+use Rattle.clnp_plan.specs.PduHeader.Rules.{header_of, octet, refusal}
 use Rattle.error_reports.specs.Report.{source_of}
-use Rattle.pdu_header.specs.Value.{PduValue}
+use Rattle.clnp_plan.specs.PduHeader.Value.{PduValue}
 use Rattle.esis_pdus.specs.Grammar as esis
 use Rattle.esis_pdus.specs.Rules as esis_rules
 use Rattle.esis_pdus.specs.Grammar.{IsPdu}
 use Rattle.esis_pdus.specs.Spelling.{spelling}
 use Rattle.esis_pdus.specs.Value.{EsisValue}
 use Rattle.esis_pdus.specs.declared.pdu.EsisBody.TheVariants.{Rd}
-use Rattle.esis_tables.specs.declared.fact.Place.{Place}
-use Rattle.esis_tables.specs.Fact.{Fact}
+use Rattle.clnp_plan.specs.EsisTables.declared.fact.Place.{Place}
+use Rattle.clnp_plan.specs.EsisTables.Fact.{Fact}
 use Rattle.clnp_plan.specs.declared.config.Role.TheVariants.{Router}
-use Rattle.nsap.specs.Address.{IsAddress}
-use Rattle.nsap.specs.declared.target.Target.TheVariants.{System}
+use Rattle.clnp_plan.specs.Nsap.Address.{IsAddress}
+use Rattle.clnp_plan.specs.Nsap.declared.target.Target.TheVariants.{System}
 use Rattle.reassembly.specs.Arrival.{Arrival}
 use Rattle.reassembly.specs.Buffer.{Buffer, held}
 use Rattle.clnp_plan.specs.Asking.{IsFormedAsk}

@@ -1,10 +1,10 @@
 -- One system: its state, what comes to it, and what it does.
 use Rattle.std.specs.Prelude.{ℕ, ◌+◌, ◌-◌, ◌^◌, min, Bool, false, List, [], ◌++◌}
-use Rattle.nsap.specs.declared.target.Target.{Target}
+use Rattle.clnp_plan.specs.Nsap.declared.target.Target.{Target}
 use Rattle.reassembly.specs.declared.table.TableLimits.{TableLimits}
 use Rattle.reassembly.specs.Buffer.{Buffer}
 use Rattle.esis_pdus.specs.Value.{EsisValue}
-use Rattle.esis_tables.specs.Fact.{Fact}
+use Rattle.clnp_plan.specs.EsisTables.Fact.{Fact}
 use Rattle.clnp_plan.specs.Configuration.{SystemConfiguration}
 use Rattle.clnp_plan.specs.declared.config.Limits.{Limits}
 use Rattle.clnp_plan.specs.declared.ask.Ask.{Ask}

@@ -1,7 +1,7 @@
 -- What a system tells of in what it does, and when it makes a unit.
 use Rattle.std.specs.Prelude.{◌≡◌, ◌≢◌, ℕ, ◌≤◌, ◌⊎◌, true, List, [], ◌∷◌, ◌++◌, length, Option, None, Some}
 use Rattle.std.specs.List.{AllByRecursion, Contains}
-use Rattle.pdu_header.specs.Table.{table}
+use Rattle.clnp_plan.specs.PduHeader.Table.{table}
 use Rattle.reassembly.specs.declared.table.TableLimits.{TableLimits}
 use Rattle.reassembly.specs.Arrival.{Arrival, same_key}
 use Rattle.reassembly.specs.Buffer.{Answer, Buffer, Interference, opened_by}

@@ -1,10 +1,10 @@
 -- Units, and the packets that travel: a packet is a labelled range of a unit, and has no octets of its own.
 use Rattle.std.specs.Prelude.{ℕ, ◌+◌, ◌-◌, ◌≤◌, nat_le, nat_lt, Bool, false, if◌then◌else◌, List, [], ◌∷◌, length, map, take, drop, Option, None, Some, option_map}
-use Rattle.pdu_header.specs.declared.kind.Kind.{Kind}
-use Rattle.clnp_options.specs.Parameter.{Parameter}
-use Rattle.pdu_header.specs.Value.{SegmentationPart, PduValue}
-use Rattle.pdu_header.specs.Spelling.{spelling, header_length}
-use Rattle.pdu_header.specs.Grammar.{IsPdu}
+use Rattle.clnp_plan.specs.PduHeader.declared.kind.Kind.{Kind}
+use Rattle.clnp_plan.specs.ClnpOptions.Parameter.{Parameter}
+use Rattle.clnp_plan.specs.PduHeader.Value.{SegmentationPart, PduValue}
+use Rattle.clnp_plan.specs.PduHeader.Spelling.{spelling, header_length}
+use Rattle.clnp_plan.specs.PduHeader.Grammar.{IsPdu}
 use Rattle.segmenter.specs.Range.{Range}
 use Rattle.segmenter.specs.Cut.{data_room, ranges}
 

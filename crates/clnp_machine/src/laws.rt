@@ -3,15 +3,15 @@
 ghost use Rattle.std.specs.Prelude.{All, Bool, false, ◌≡◌, ◌==◌, ◌&&◌, ◌↔◌, ◌≤◌, ◌-◌, ℕ, None, Some, List, [], ◌++◌, length, map, not, option_map};
 ghost use Rattle.std.specs.List.{AllByRecursion, Contains, filter, flat_map, list_any};
 ghost use Rattle.hex.specs.Hex.{IsBytes};
-ghost use Rattle.pdu_header.specs.declared.kind.Kind.{Kind};
-ghost use Rattle.pdu_header.specs.declared.kind.Kind.TheVariants.{Er, Erp};
-ghost use Rattle.pdu_header.specs.Spelling.{header_length, type_code};
-ghost use Rattle.pdu_header.specs.Value.{PduValue};
+ghost use Rattle.clnp_plan.specs.PduHeader.declared.kind.Kind.{Kind};
+ghost use Rattle.clnp_plan.specs.PduHeader.declared.kind.Kind.TheVariants.{Er, Erp};
+ghost use Rattle.clnp_plan.specs.PduHeader.Spelling.{header_length, type_code};
+ghost use Rattle.clnp_plan.specs.PduHeader.Value.{PduValue};
 ghost use Rattle.error_reports.specs.Report.{report_of};
 ghost use Rattle.echo.specs.Reply.{reply_of};
 ghost use Rattle.segmenter.specs.Cut as segmenter;
-ghost use Rattle.nsap.specs.Address.{IsAddress};
-ghost use Rattle.pdu_header.specs.Rules.{header_of, is_reportable, kind_of, octet, type_of};
+ghost use Rattle.clnp_plan.specs.Nsap.Address.{IsAddress};
+ghost use Rattle.clnp_plan.specs.PduHeader.Rules.{header_of, is_reportable, kind_of, octet, type_of};
 ghost use Rattle.esis_pdus.specs.Grammar.{IsPdu};
 ghost use Rattle.esis_pdus.specs.Spelling.{spelling};
 ghost use Rattle.esis_pdus.specs.Value.{EsisValue};
@@ -20,14 +20,14 @@ ghost use Rattle.reassembly.specs.Arrival.{Arrival};
 ghost use Rattle.reassembly.specs.Buffer as buffer;
 ghost use Rattle.reassembly.specs.Buffer.{Buffer, buffer_of, clashes, held, without};
 ghost use Rattle.clnp_plan.specs.Configuration.{IsAddressed, IsSystem};
-ghost use Rattle.esis_tables.specs.declared.fact.Place.{Place};
+ghost use Rattle.clnp_plan.specs.EsisTables.declared.fact.Place.{Place};
 ghost use Rattle.clnp_plan.specs.declared.ask.Ask.{Ask};
 ghost use Rattle.clnp_machine.specs.Unit.{Unit, Packet, IsCarriable, cut, value_of, whole_packet, wire};
 ghost use Rattle.clnp_machine.specs.Content.{Content, Esis, IsCarried, Labelled, Unlabelled, content_of, frame_of};
 ghost use Rattle.clnp_machine.specs.Esis.{esis_comes, forgets, own_hello, says_hello, tells_new, tells_of_itself, title_of};
 ghost use Rattle.clnp_machine.specs.Local.{Action, at_moment, discard, echo_ask, gives_up, header_size, made_in, make, receive, refusal, report_unit, tick, unit_of};
 ghost use Rattle.clnp_machine.specs.System.{SystemState, Input, FrameComes, IsRestarted};
-ghost use Rattle.pdu_header.specs.Headers.{with_lifetime, with_options};
+ghost use Rattle.clnp_plan.specs.PduHeader.Headers.{with_lifetime, with_options};
 ghost use Rattle.clnp_machine.specs.EditLaws.{EditLaws};
 ghost use Rattle.clnp_machine.specs.Step.{forwarded, octets_come, options_behind, outputs_of, packet_comes, passes_by, responds, step};
 ghost use Rattle.clnp_machine.specs.Steps.{AreCarriable, AreNumbered, IsAtMostReportOf, IsMadeFor, IsNoRestart, IsRedirectFor, KeepsAsOffered, KeepsNextHops, KnowsAddresses, ReportsOn, RestartsNothing, WasPendingOrMade, BreaksNoEsisRule, BreaksNoRule, CarriesOneEsisValue, CarriesOnePacket, IsAtMostItsHello, IsAtMostOneTo, IsDeed, IsEffect, IsFair, IsForOwn, GoesOnOrIsReported, IsFresh, IsRangeOf, IsWithinBudget, NotesOnly, OnlyHellos, SendsCarriable, SendsEsisPdus, SendsItsOwn, SendsRangesOrGoesOn, StaysItself, WasKeptOrComes, moment_after, segments_in, sends_esis, sends_frame};
@@ -127,7 +127,7 @@ pub fn hellos_are_pdus()
         → KnowsAddresses s → AllByRecursion SendsEsisPdus (step s input).outputs }
     ensures known { (s : SystemState) (input : Input) → IsFair input → KnowsAddresses s → KnowsAddresses (step s input).after }
 {
-    forwarding::laws::what_is_longest_covers();
+    clnp_plan::forwarding::laws::what_is_longest_covers();
 }
 
 /// A redirect that comes to a system changes where it sends towards the redirect's destination alone.
@@ -136,7 +136,7 @@ pub fn a_redirect_changes_one_next_hop()
         → IsRedirectFor destination content
         → KeepsNextHops destination s (step s (FrameComes port sender to_group content)).after }
 {
-    esis_tables::laws::a_redirect_changes_its_destination_alone();
+    clnp_plan::esis_tables::laws::a_redirect_changes_its_destination_alone();
 }
 
 /// An ES-IS PDU that comes makes a system send at most its own hello, to where the PDU came from, and
@@ -223,7 +223,7 @@ pub fn discards_are_reported_as_wanted()
         → value_of (whole_packet (report_unit s own frame reason place))
         ≡ report_of frame own reason place s.configuration.settings.life s.configuration.settings.sealed }
 {
-    pdu_header::laws::reportable_where_wanted();
+    clnp_plan::pdu_header::laws::reportable_where_wanted();
 }
 
 /// An error report that is made in a step in which no octets come that spell no PDU is that of a packet
@@ -300,7 +300,7 @@ pub fn octets_have_a_content()
 pub fn a_frame_carries_one_packet()
     ensures { CarriesOnePacket }
 {
-    pdu_header::laws::one_value();
+    clnp_plan::pdu_header::laws::one_value();
 }
 
 /// A frame that carries a packet that a PDU can carry breaks no rule of PDUs, whatever follows in it.
@@ -328,7 +328,7 @@ pub fn no_frame_is_of_both_protocols()
     ensures packet { (p : Packet) (following : List ℕ) → IsCarriable p → octet (wire p ++ following) 1 ≡ 0x81 }
     ensures esis { (value : EsisValue) (following : List ℕ) → IsPdu value → octet (spelling value ++ following) 1 ≡ 0x82 }
 {
-    pdu_header::laws::spelled_where_no_rule_is_broken();
+    clnp_plan::pdu_header::laws::spelled_where_no_rule_is_broken();
     esis_pdus::laws::spelled_where_no_rule_is_broken();
 }
 
@@ -336,7 +336,7 @@ pub fn no_frame_is_of_both_protocols()
 fn laws_of_edits()
     ensures { EditLaws }
 {
-    clnp_options::laws::edits_keep_the_form();
-    clnp_options::laws::edits_keep_options_formed();
-    pdu_header::laws::edited_pdus_are_pdus();
+    clnp_plan::clnp_options::laws::edits_keep_the_form();
+    clnp_plan::clnp_options::laws::edits_keep_options_formed();
+    clnp_plan::pdu_header::laws::edited_pdus_are_pdus();
 }

@@ -3,3 +3,13 @@
 #![tactic(auto)]
 
 pub mod laws;
+
+pub use clnp_plan;
+pub use clnp_plan::{
+    clnp_base, clnp_options, clnp_views, esis_tables, forwarding, nsap, pdu_header,
+};
+pub use echo;
+pub use error_reports;
+pub use esis_pdus;
+pub use reassembly;
+pub use segmenter;

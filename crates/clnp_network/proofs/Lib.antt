@@ -1,1 +1,2 @@
+pub use Rattle.scenario.proofs as Scenario
 mod Worked

@@ -2,18 +2,18 @@
 -- come again, a host that is restarted, an echo, hellos that are said, heard and answered, and packets that a router forwards or reports.
 use Rattle.std.proofs.Common.{◌≡◌, ℕ, true, false, List, [], ◌∷◌, refl, Result, Ok, Err, codes}
 use Rattle.hex.specs.Hex.{encode_with, decode_pairs}
-use Rattle.fletcher.specs.Checksum.{sealed, checksum_x, checksum_y}
-use Rattle.clnp_options.specs.Parameter.{spelled, parameters_after}
-use Rattle.clnp_options.specs.Edits.{edited, target_of, value_of}
-use Rattle.clnp_options.specs.Grammar.{joined}
-use Rattle.clnp_options.specs.Rules.{refusal as options_refusal, form_refusal, list_refusal, place_of, place_of_repeat}
-use Rattle.pdu_header.specs.Rules.{extent_refusal, fixed_part_refusal, addresses_refusal, lengths_refusal, header_refusal, refusal}
-use Rattle.esis_pdus.specs.Timer.{seconds_of}
-use Rattle.forwarding.specs.declared.route.Route.{Route}
-use Rattle.clnp_plan.specs.Configuration.{SystemConfiguration}
-use Rattle.clnp_plan.specs.declared.config.PortConfig.{PortConfig}
-use Rattle.clnp_plan.specs.declared.config.Role.TheVariants.{Host, Router}
-use Rattle.clnp_plan.specs.declared.config.Settings.{Settings}
+use Rattle.clnp_machine.specs.Fletcher.Checksum.{sealed, checksum_x, checksum_y}
+use Rattle.clnp_machine.specs.ClnpOptions.Parameter.{spelled, parameters_after}
+use Rattle.clnp_machine.specs.ClnpOptions.Edits.{edited, target_of, value_of}
+use Rattle.clnp_machine.specs.ClnpOptions.Grammar.{joined}
+use Rattle.clnp_machine.specs.ClnpOptions.Rules.{refusal as options_refusal, form_refusal, list_refusal, place_of, place_of_repeat}
+use Rattle.clnp_machine.specs.PduHeader.Rules.{extent_refusal, fixed_part_refusal, addresses_refusal, lengths_refusal, header_refusal, refusal}
+use Rattle.clnp_machine.specs.EsisPdus.Timer.{seconds_of}
+use Rattle.clnp_machine.specs.Forwarding.declared.route.Route.{Route}
+use Rattle.clnp_machine.specs.ClnpPlan.Configuration.{SystemConfiguration}
+use Rattle.clnp_machine.specs.ClnpPlan.declared.config.PortConfig.{PortConfig}
+use Rattle.clnp_machine.specs.ClnpPlan.declared.config.Role.TheVariants.{Host, Router}
+use Rattle.clnp_machine.specs.ClnpPlan.declared.config.Settings.{Settings}
 use Rattle.scenario.specs.Scenario.{Plan}
 use Rattle.scenario.specs.declared.event.Event.{Event}
 use Rattle.scenario.specs.declared.event.Body.TheVariants.{Hex}
@@ -21,9 +21,9 @@ use Rattle.scenario.specs.declared.event.Event.TheVariants.{Send, Settle, Tick, 
 use Rattle.scenario.specs.Grammar.{BadLine, plan_of, plan_at, events_from, counted_event}
 use Rattle.scenario.specs.Declarations.{limits_line, subnet_line, room_word, setting_word, system_line, address_line, port_line, declaration_line}
 use Rattle.scenario.specs.Events.{wish_word, send_line, deliver_line, tick_line, restart_line, echo_line, count_line, inject_line, event_line}
-use Rattle.nsap.specs.declared.target.Target.TheVariants.{System}
-use Rattle.nsap.specs.Prefix.{digits_of}
-use Rattle.nsap.specs.Text.{octets_of}
+use Rattle.clnp_machine.specs.Nsap.declared.target.Target.TheVariants.{System}
+use Rattle.clnp_machine.specs.Nsap.Prefix.{digits_of}
+use Rattle.clnp_machine.specs.Nsap.Text.{octets_of}
 use Rattle.std.specs.Fmt.{digits}
 use Rattle.clnp_network.specs.Run.{journal}
 

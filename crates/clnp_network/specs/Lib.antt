@@ -1,3 +1,4 @@
+pub use Rattle.scenario.specs as Scenario
 pub mod World
 pub mod Run
 pub mod Safe

@@ -1,7 +1,7 @@
 -- A run: the moves of a scenario, one after another, and its journal.
 use Rattle.std.specs.Prelude.{ℕ, if◌then◌else◌, List, [], ◌∷◌, ◌++◌, length, Option, None, Some}
 use Rattle.std.specs.List.{flat_map}
-use Rattle.clnp_plan.specs.Journal.{Line, line_text, end_text}
+use Rattle.clnp_machine.specs.ClnpPlan.Journal.{Line, line_text, end_text}
 use Rattle.scenario.specs.Scenario.{Plan, moves_from}
 use Rattle.scenario.specs.declared.event.Move.{Move}
 use Rattle.clnp_network.specs.World.{World, after, first_world, is_full, weight}

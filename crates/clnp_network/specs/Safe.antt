@@ -1,19 +1,19 @@
 -- What a safe run is: each data unit handed up is one that was sent before, and no system holds more octets for
 -- reassembly than it may.
 use Rattle.std.specs.Prelude.{true, ◌≡◌, ◌≢◌, ℕ, ◌+◌, ◌≤◌, ◌⊎◌, List, [], ◌∷◌, ◌++◌, slice_get, Option, Some, AllPairs}
-use Rattle.clnp_plan.specs.declared.config.Limits.{Limits}
-use Rattle.clnp_plan.specs.Journal.{Line, Noted}
-use Rattle.clnp_plan.specs.declared.note.Note.TheVariants.{Sent, Refused, Got, Report, Echoed, Interference, Alien, Restart}
+use Rattle.clnp_machine.specs.ClnpPlan.declared.config.Limits.{Limits}
+use Rattle.clnp_machine.specs.ClnpPlan.Journal.{Line, Noted}
+use Rattle.clnp_machine.specs.ClnpPlan.declared.note.Note.TheVariants.{Sent, Refused, Got, Report, Echoed, Interference, Alien, Restart}
 use Rattle.scenario.specs.Scenario.{Plan, octets_of}
 use Rattle.scenario.specs.declared.event.Event.{Event}
 use Rattle.scenario.specs.declared.event.Event.TheVariants.{Send}
 use Rattle.scenario.specs.declared.event.Move.{Move}
 use Rattle.scenario.specs.declared.event.Move.TheVariants.{One, SettleOne, LoseOne, TickOne}
-use Rattle.pdu_header.specs.declared.kind.Kind.TheVariants.{Erq, Erp}
-use Rattle.pdu_header.specs.Rules.{header_of}
-use Rattle.pdu_header.specs.Spelling.{header_length}
-use Rattle.echo.specs.Match.{Echoes}
-use Rattle.esis_pdus.specs.Grammar.{IsPdu}
+use Rattle.clnp_machine.specs.PduHeader.declared.kind.Kind.TheVariants.{Erq, Erp}
+use Rattle.clnp_machine.specs.PduHeader.Rules.{header_of}
+use Rattle.clnp_machine.specs.PduHeader.Spelling.{header_length}
+use Rattle.clnp_machine.specs.Echo.Match.{Echoes}
+use Rattle.clnp_machine.specs.EsisPdus.Grammar.{IsPdu}
 use Rattle.clnp_machine.specs.Content.{Labelled, Esis, Unlabelled, Content, frame_of}
 use Rattle.clnp_machine.specs.Unit as unit
 use Rattle.clnp_machine.specs.Unit.{DeclaredAt, Packet, value_of, wire}
@@ -21,10 +21,10 @@ use Rattle.clnp_machine.specs.Local.{header_size, is_own}
 use Rattle.clnp_machine.specs.System.{SystemState}
 use Rattle.clnp_machine.specs.Steps.{BreaksNoEsisRule, BreaksNoRule, IsRangeOf, IsRedirectFor, KeepsNextHops}
 use Rattle.clnp_machine.specs.Told.{NotesNoRule}
-use Rattle.reassembly.specs.Arrival.{Arrival}
+use Rattle.clnp_machine.specs.Reassembly.Arrival.{Arrival}
 use Rattle.clnp_network.specs.World.{Numbered, World, after, give}
 use Rattle.clnp_network.specs.Run.{Entry}
-use Rattle.reassembly.specs.Buffer.{Buffer, held}
+use Rattle.clnp_machine.specs.Reassembly.Buffer.{Buffer, held}
 use Rattle.std.specs.List.{AllByRecursion, Contains}
 
 -- some line says that a unit from here to there was handed up with these octets

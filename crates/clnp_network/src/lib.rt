@@ -1,1 +1,3 @@
 #![tactic(auto)]
+
+pub use scenario;

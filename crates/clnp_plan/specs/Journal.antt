@@ -2,9 +2,9 @@
 use Rattle.std.specs.Prelude.{ℕ, Bool, true, false, List, [], ◌∷◌, ◌++◌, codes, Option, None, Some}
 use Rattle.std.specs.List.{flat_map}
 use Rattle.std.specs.Fmt.{decimal}
-use Rattle.nsap.specs.Text.{hex_text}
-use Rattle.nsap.specs.declared.target.Target.{Target}
-use Rattle.nsap.specs.declared.target.Target.TheVariants.{System, EndSystems, Routers}
+use Rattle.pdu_header.specs.Nsap.Text.{hex_text}
+use Rattle.pdu_header.specs.Nsap.declared.target.Target.{Target}
+use Rattle.pdu_header.specs.Nsap.declared.target.Target.TheVariants.{System, EndSystems, Routers}
 use Rattle.pdu_header.specs.Spelling.{pair_of}
 use Rattle.pdu_header.specs.declared.kind.Kind.{Kind}
 use Rattle.pdu_header.specs.declared.kind.Kind.TheVariants.{Dt, Er, Erq, Erp}

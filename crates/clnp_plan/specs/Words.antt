@@ -1,7 +1,7 @@
 -- The words of a line, as the code has them.
 use Rattle.std.specs.Prelude.{ℕ, List, [], ◌∷◌}
 use Rattle.std.specs.Fmt.{decimal}
-use Rattle.nsap.specs.Text.{hex_text}
+use Rattle.pdu_header.specs.Nsap.Text.{hex_text}
 use Rattle.pdu_header.specs.Spelling.{pair_of}
 use Rattle.clnp_plan.specs.declared.journal.Word.{Word}
 use Rattle.clnp_plan.specs.declared.journal.Word.TheVariants.{Text, Number, Octet, Identifier, Rule, Octets, Address}

@@ -2,9 +2,9 @@
 ghost use Rattle.std.specs.Prelude.{◌≡◌, IfOk};
 ghost use Rattle.clnp_plan.specs.Configuration.{HasItsPorts, IsSystem};
 
-use clnp_base::NoMemory;
 use forwarding::Route;
-use nsap::{Address, Snpa};
+use pdu_header::clnp_base::NoMemory;
+use pdu_header::nsap::{Address, Snpa};
 use std::alloc::Global;
 use std::marker::Model;
 

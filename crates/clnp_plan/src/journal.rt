@@ -1,16 +1,16 @@
 //! The text of journal lines: words separated by one space, each line ended by `\n`.
 ghost use Rattle.std.specs.Prelude.{◌≡◌, [], ◌∷◌, ◌++◌, codes, map, take, length, OnOk, OnErr};
 ghost use Rattle.std.specs.Fmt.{decimal};
-ghost use Rattle.nsap.specs.Text.{hex_text};
+ghost use Rattle.pdu_header.specs.Nsap.Text.{hex_text};
 ghost use Rattle.pdu_header.specs.Spelling.{pair_of};
 ghost use Rattle.clnp_plan.specs.Journal.{Injected, Late, Noted, Transmitted, Void, line_of, line_text, end_text, heard_words, ignored_word, kind_word, on_word, table_word, why_word, octet_word, octets_word, identifier_word, rule_word, target_word};
 ghost use Rattle.clnp_plan.specs.Words.{line_from, word_text};
 
 use crate::note::{Note, Why};
-use clnp_base::{NoMemory, Octets, push, push_decimal, push_hex};
 use esis_tables::{Heard, TableKind};
-use nsap::{Address, Snpa, Target};
 use pdu_header::Kind;
+use pdu_header::clnp_base::{NoMemory, Octets, push, push_decimal, push_hex};
+use pdu_header::nsap::{Address, Snpa, Target};
 use std::alloc::Global;
 
 /// A word of a line.

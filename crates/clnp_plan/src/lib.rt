@@ -9,8 +9,12 @@ mod output;
 
 pub use ask::{Ask, SendRefusal};
 pub use config::{Limits, PortConfig, Role, Settings, SystemConfig};
+pub use esis_tables;
+pub use forwarding;
 pub use journal::{
     injection_text, journal_text, late_text, push_end, transmission_text, void_text,
 };
 pub use note::{Note, Why};
 pub use output::{Output, Sending};
+pub use pdu_header;
+pub use pdu_header::{clnp_base, clnp_options, clnp_views, nsap};

@@ -1,7 +1,7 @@
-use clnp_base::Octets;
 use esis_tables::{Heard, TableKind};
-use nsap::Address;
 use pdu_header::Kind;
+use pdu_header::clnp_base::Octets;
+use pdu_header::nsap::Address;
 
 /// Why a unit wasn't made.
 #[derive(Clone, Copy, PartialEq, Eq)]

@@ -1,7 +1,7 @@
 -- What a call of the program comes to.
 use Rattle.std.specs.Prelude.{◌≡◌, ℕ, ◌⊎◌, List, [], Option, None, Some, IfSome, Ok}
 use Rattle.std.specs.Io.KnownBytes.{Appends, Keeps}
-use Rattle.clnp_base.specs.Streams.{AppendsFront}
+use Rattle.clnp_commands.specs.ClnpBase.Streams.{AppendsFront}
 use Rattle.clnp_commands.specs.declared.command.Command.{Command}
 use Rattle.clnp_commands.specs.declared.command.Command.TheVariants.{Storm}
 use Rattle.clnp_commands.specs.declared.status.Status.{Status}

@@ -1,11 +1,11 @@
 //! A call of the program over its words, its input, its output and standard error.
 ghost use Rattle.std.specs.Prelude.{◌≡◌, map, string_bytes};
-ghost use Rattle.clnp_base.specs.Streams.{Rose};
+ghost use Rattle.clnp_commands.specs.ClnpBase.Streams.{Rose};
 ghost use Rattle.clnp_program.specs.Answers.{Answers, Ends, Informs};
 
 use crate::fault::report;
 use crate::help::information;
-use clnp_base::{Sink, Source, write_all};
+use clnp_commands::clnp_base::{Sink, Source, write_all};
 use clnp_commands::{Status, clnp_main};
 use std::alloc::Global;
 

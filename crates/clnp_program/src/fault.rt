@@ -2,11 +2,11 @@
 ghost use Rattle.std.specs.Prelude.{◌≡◌, ◌≤◌, ◌++◌, OnOk, OnErr};
 ghost use Rattle.std.specs.Io.KnownBytes.{Appends};
 ghost use Rattle.std.specs.Fmt.{decimal};
-ghost use Rattle.clnp_base.specs.Streams.{Rose};
+ghost use Rattle.clnp_commands.specs.ClnpBase.Streams.{Rose};
 ghost use Rattle.clnp_program.specs.Texts.{code_name, fault_of, fault_text, said};
 
-use clnp_base::{Failed, Sink, write_all};
 use clnp_commands::Status;
+use clnp_commands::clnp_base::{Failed, Sink, write_all};
 use itoa::Buffer;
 use thiserror::Error;
 

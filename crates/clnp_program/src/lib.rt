@@ -7,4 +7,6 @@ mod fault;
 mod help;
 
 pub use call::{end, run};
+pub use clnp_commands;
+pub use clnp_commands::{clnp_base, clnp_world, scenario};
 pub use fault::Fault;

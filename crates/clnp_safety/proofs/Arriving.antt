@@ -1,38 +1,38 @@
 -- What comes of a frame that carries a sound packet.
-use Rattle.clnp_base.proofs.Filters.{AllByRecursion-filter}
-use Rattle.clnp_base.proofs.Lists.{AllByRecursion-append, AllByRecursion-both, AllByRecursion-find, AllByRecursion-implies, AllByRecursion-map_any}
-use Rattle.clnp_base.proofs.Sums.{sum_filter}
+use Rattle.clnp_machine.proofs.ClnpBase.Filters.{AllByRecursion-filter}
+use Rattle.clnp_machine.proofs.ClnpBase.Lists.{AllByRecursion-append, AllByRecursion-both, AllByRecursion-find, AllByRecursion-implies, AllByRecursion-map_any}
+use Rattle.clnp_machine.proofs.ClnpBase.Sums.{sum_filter}
 use Rattle.std.proofs.Common.{◌≡◌, ◌∙◌, sym, ap, subst, refl, ℕ, ◌+◌, ◌<◌, ◌≤◌, inl, inr, Bool, true, false, not, List, [], length, map, slice_get, Option, None, Some, arith}
 use Rattle.std.specs.Prelude.{◌==◌, ◌&&◌, ◌||◌, is_none, nat_le}
 use Rattle.std.specs.List.{AllByRecursion, find}
 use Rattle.std.proofs.lemmas.Bool.{cases_Bool, eqb-false, true≢false}
 use Rattle.std.proofs.lemmas.List.{append-nil}
-use Rattle.nsap.specs.Address.{IsAddress}
-use Rattle.clnp_options.specs.Edits.{is_complete, target_of}
-use Rattle.clnp_options.specs.Parameter.{Parameter}
-use Rattle.clnp_options.specs.Reasons.{reason_code}
-use Rattle.clnp_options.specs.declared.reasons.Reason.TheVariants.{Congestion}
-use Rattle.pdu_header.specs.declared.kind.Kind.{Kind}
-use Rattle.pdu_header.specs.declared.kind.Kind.TheVariants.{Dt, Er, Erq, Erp}
-use Rattle.clnp_plan.specs.declared.note.Note.{Note}
-use Rattle.clnp_plan.specs.declared.note.Note.TheVariants as note
-use Rattle.scenario.specs.Scenario.{IsFit, Plan}
-use Rattle.reassembly.specs.Arrival.{data_len, same_key}
-use Rattle.reassembly.specs.Buffer as buffer
-use Rattle.reassembly.specs.Buffer.{Answer, Buffer, buffer_of, held, is_whole, size_of, with_kept, without}
+use Rattle.clnp_machine.specs.Nsap.Address.{IsAddress}
+use Rattle.clnp_machine.specs.ClnpOptions.Edits.{is_complete, target_of}
+use Rattle.clnp_machine.specs.ClnpOptions.Parameter.{Parameter}
+use Rattle.clnp_machine.specs.ClnpOptions.Reasons.{reason_code}
+use Rattle.clnp_machine.specs.ClnpOptions.declared.reasons.Reason.TheVariants.{Congestion}
+use Rattle.clnp_machine.specs.PduHeader.declared.kind.Kind.{Kind}
+use Rattle.clnp_machine.specs.PduHeader.declared.kind.Kind.TheVariants.{Dt, Er, Erq, Erp}
+use Rattle.clnp_machine.specs.ClnpPlan.declared.note.Note.{Note}
+use Rattle.clnp_machine.specs.ClnpPlan.declared.note.Note.TheVariants as note
+use Rattle.clnp_network.specs.Scenario.Scenario.{IsFit, Plan}
+use Rattle.clnp_machine.specs.Reassembly.Arrival.{data_len, same_key}
+use Rattle.clnp_machine.specs.Reassembly.Buffer as buffer
+use Rattle.clnp_machine.specs.Reassembly.Buffer.{Answer, Buffer, buffer_of, held, is_whole, size_of, with_kept, without}
 use Rattle.clnp_machine.specs.Unit as unit
 use Rattle.clnp_machine.specs.Unit.{IsCarriable, Packet, cut, value_of}
 use Rattle.clnp_machine.specs.Content.{Content, IsCarried, Labelled, Esis, Unlabelled}
-use Rattle.esis_tables.specs.declared.fact.Place.{Place}
+use Rattle.clnp_machine.specs.EsisTables.declared.fact.Place.{Place}
 use Rattle.clnp_machine.specs.Esis.{esis_comes, is_silent, tells_of_itself}
 use Rattle.clnp_machine.specs.System.{SystemState, Effect, FrameComes, Transmits, table_limits}
 use Rattle.clnp_machine.specs.Local.{Deed, and_then, data_in, discard, echo_ask, hand_up, is_all, is_answer, is_own, octet_of, offer, offered, receive, takes_in, takes_reply, tells}
 use Rattle.clnp_machine.specs.Step.{Hop, Way, content_comes, discards, ends_at, forwarded, goes_on, goes_on_by, goes_on_way, hop_by, is_asked_for, is_named, is_redirected, loss_at, options_behind, packet_comes, passes_by, pieces_go_on, redirects, responds, towards, transmissions, way_of}
 use Rattle.clnp_machine.specs.Steps.{IsRangeOf, KnowsAddresses, NotesOnly}
 use Rattle.clnp_machine.specs.Told.{TellsNoInterference}
-use Rattle.clnp_plan.specs.declared.config.PortConfig.{PortConfig}
-use Rattle.clnp_plan.specs.declared.config.Role.{Role}
-use Rattle.clnp_plan.specs.declared.config.Role.TheVariants.{Host, Router}
+use Rattle.clnp_machine.specs.ClnpPlan.declared.config.PortConfig.{PortConfig}
+use Rattle.clnp_machine.specs.ClnpPlan.declared.config.Role.{Role}
+use Rattle.clnp_machine.specs.ClnpPlan.declared.config.Role.TheVariants.{Host, Router}
 use Rattle.clnp_network.specs.World.{World}
 use Rattle.clnp_network.specs.Run.{Entry}
 use Rattle.clnp_safety.specs.Growth.{IsFront}

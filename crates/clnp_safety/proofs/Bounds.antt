@@ -1,17 +1,17 @@
 -- Whatever the moves: packets meet the bound on hops and lifetime, and systems keep their budgets.
-use Rattle.clnp_base.proofs.Lists.{AllByRecursion-any, AllByRecursion-append, AllByRecursion-implies, AllByRecursion-slice_get}
+use Rattle.clnp_machine.proofs.ClnpBase.Lists.{AllByRecursion-any, AllByRecursion-append, AllByRecursion-implies, AllByRecursion-slice_get}
 use Rattle.std.proofs.Common.{◌≡◌, ◌≤◌, ◌+◌, ℕ, inl, inr, Bool, true, false, List, [], ◌∷◌, length, arith}
 use Rattle.std.specs.Prelude.{if◌then◌else◌, is_none, slice_get, Option, None, Some}
 use Rattle.std.specs.List.{AllByRecursion}
-use Rattle.nsap.specs.declared.target.Target.{Target}
-use Rattle.clnp_plan.specs.Configuration.{SystemConfiguration}
-use Rattle.clnp_plan.specs.declared.config.Limits.{Limits}
-use Rattle.clnp_plan.specs.declared.config.PortConfig.{PortConfig}
-use Rattle.scenario.specs.Scenario.{Plan}
-use Rattle.scenario.specs.declared.event.Move.{Move}
-use Rattle.pdu_header.specs.Reading.{rest_of}
-use Rattle.esis_pdus.specs.Reading as esis_reading
-use Rattle.esis_pdus.specs.Rules.{why_refused}
+use Rattle.clnp_machine.specs.Nsap.declared.target.Target.{Target}
+use Rattle.clnp_machine.specs.ClnpPlan.Configuration.{SystemConfiguration}
+use Rattle.clnp_machine.specs.ClnpPlan.declared.config.Limits.{Limits}
+use Rattle.clnp_machine.specs.ClnpPlan.declared.config.PortConfig.{PortConfig}
+use Rattle.clnp_network.specs.Scenario.Scenario.{Plan}
+use Rattle.clnp_network.specs.Scenario.declared.event.Move.{Move}
+use Rattle.clnp_machine.specs.PduHeader.Reading.{rest_of}
+use Rattle.clnp_machine.specs.EsisPdus.Reading as esis_reading
+use Rattle.clnp_machine.specs.EsisPdus.Rules.{why_refused}
 use Rattle.clnp_machine.specs.Unit as unit
 use Rattle.clnp_machine.specs.Unit.{Maker, DeclaredAt, Packet}
 use Rattle.clnp_machine.specs.Content.{Content, Labelled, Esis, Unlabelled, esis_value_in, is_accepted, packet_from_outside, value_in}
@@ -27,7 +27,7 @@ use Rattle.clnp_safety.proofs.Lines.{AnyLine, any_line_is_fine}
 use Rattle.clnp_safety.proofs.Steps.{Keeps, keeps-put_all_out, with_outside}
 use Rattle.clnp_safety.proofs.EveryMove.{AnyFrame, AnyInput, IsOfClock, any_events, asked_by_all, keeps-moves}
 use Rattle.clnp_safety.proofs.Units.{lives_within}
-use Rattle.clnp_base.proofs.ListSteps.{all_set}
+use Rattle.clnp_machine.proofs.ClnpBase.ListSteps.{all_set}
 
 -- Hops and lifetimes.
 

@@ -1,16 +1,16 @@
 -- A segment that is offered belongs to the unit whose buffer has its key.
-use Rattle.clnp_base.proofs.Lists.{AllByRecursion-find, AllByRecursion-push}
+use Rattle.clnp_machine.proofs.ClnpBase.Lists.{AllByRecursion-find, AllByRecursion-push}
 use Rattle.std.proofs.Common.{◌≡◌, ◌∙◌, sym, ap, subst, refl, ℕ, ◌+◌, ◌<◌, ◌≤◌, inl, inr, Bool, true, false, not, List, [], ◌∷◌, ◌++◌, Option, None, Some, arith}
 use Rattle.std.specs.Prelude.{◌==◌, ◌&&◌}
 use Rattle.std.specs.List.{AllByRecursion, Contains}
 use Rattle.std.proofs.lemmas.Bool.{and_from, eq-eqb}
 use Rattle.std.proofs.lemmas.List.Elements.{All-contains, All-from_recursion}
-use Rattle.scenario.specs.Scenario.{IsFit, Plan}
-use Rattle.pdu_header.specs.Spelling.{type_code}
-use Rattle.reassembly.specs.declared.segment.Shape.{Shape}
-use Rattle.reassembly.specs.declared.table.TableLimits.{TableLimits}
-use Rattle.reassembly.specs.Arrival.{same_key, same_shape}
-use Rattle.reassembly.specs.Buffer.{Buffer, buffer_of, clashes, opened_by}
+use Rattle.clnp_network.specs.Scenario.Scenario.{IsFit, Plan}
+use Rattle.clnp_machine.specs.PduHeader.Spelling.{type_code}
+use Rattle.clnp_machine.specs.Reassembly.declared.segment.Shape.{Shape}
+use Rattle.clnp_machine.specs.Reassembly.declared.table.TableLimits.{TableLimits}
+use Rattle.clnp_machine.specs.Reassembly.Arrival.{same_key, same_shape}
+use Rattle.clnp_machine.specs.Reassembly.Buffer.{Buffer, buffer_of, clashes, opened_by}
 use Rattle.clnp_machine.specs.Unit as unit
 use Rattle.clnp_machine.specs.Unit.{IsCarriable, Packet}
 use Rattle.clnp_machine.specs.Local.{header_size, identifier_in, offered}

@@ -1,23 +1,23 @@
 -- Whatever comes from outside, each frame carries what one may carry, the options of a packet have the form of its unit's, and a
 -- packet that isn't from outside is a range of a unit that was made.
-use Rattle.clnp_base.proofs.Lists.{AllByRecursion-append, AllByRecursion-both, AllByRecursion-implies, AllByRecursion-slice_get, set_each}
+use Rattle.clnp_machine.proofs.ClnpBase.Lists.{AllByRecursion-append, AllByRecursion-both, AllByRecursion-implies, AllByRecursion-slice_get, set_each}
 use Rattle.std.proofs.Common.{◌≡◌, ◌∙◌, refl, sym, ap, subst, ℕ, ◌+◌, ◌⊎◌, inl, inr, Bool, true, false, List, [], ◌∷◌, ◌++◌, length, Option, None, Some, arith}
 use Rattle.std.specs.Prelude.{if◌then◌else◌, is_none, slice_get}
 use Rattle.std.specs.List.{AllByRecursion}
 use Rattle.hex.specs.Hex.{IsBytes}
-use Rattle.nsap.specs.Address.{IsAddress}
-use Rattle.nsap.specs.declared.target.Target.{Target}
-use Rattle.clnp_options.specs.Edits.{HaveOneForm}
-use Rattle.pdu_header.specs.Reading.{rest_of}
-use Rattle.esis_pdus.specs.Grammar.{IsPdu}
-use Rattle.esis_pdus.specs.Reading as esis_reading
-use Rattle.esis_pdus.specs.Rules.{why_refused}
-use Rattle.clnp_plan.specs.Configuration.{SystemConfiguration}
-use Rattle.clnp_plan.specs.declared.config.PortConfig.{PortConfig}
-use Rattle.scenario.specs.Scenario.{AsksFairly, AsksInForm, InjectsInForm, IsFit, Plan}
-use Rattle.scenario.specs.declared.event.Event.{Event}
-use Rattle.scenario.specs.declared.event.Event.TheVariants.{Send, Echo, Inject}
-use Rattle.scenario.specs.declared.event.Move.{Move}
+use Rattle.clnp_machine.specs.Nsap.Address.{IsAddress}
+use Rattle.clnp_machine.specs.Nsap.declared.target.Target.{Target}
+use Rattle.clnp_machine.specs.ClnpOptions.Edits.{HaveOneForm}
+use Rattle.clnp_machine.specs.PduHeader.Reading.{rest_of}
+use Rattle.clnp_machine.specs.EsisPdus.Grammar.{IsPdu}
+use Rattle.clnp_machine.specs.EsisPdus.Reading as esis_reading
+use Rattle.clnp_machine.specs.EsisPdus.Rules.{why_refused}
+use Rattle.clnp_machine.specs.ClnpPlan.Configuration.{SystemConfiguration}
+use Rattle.clnp_machine.specs.ClnpPlan.declared.config.PortConfig.{PortConfig}
+use Rattle.clnp_network.specs.Scenario.Scenario.{AsksFairly, AsksInForm, InjectsInForm, IsFit, Plan}
+use Rattle.clnp_network.specs.Scenario.declared.event.Event.{Event}
+use Rattle.clnp_network.specs.Scenario.declared.event.Event.TheVariants.{Send, Echo, Inject}
+use Rattle.clnp_network.specs.Scenario.declared.event.Move.{Move}
 use Rattle.clnp_machine.specs.Unit as unit
 use Rattle.clnp_machine.specs.Unit.{Maker, DeclaredAt, Outside, IsCarriable, Packet}
 use Rattle.clnp_machine.specs.Content.{Content, IsCarried, Labelled, Esis, Unlabelled, esis_value_in, is_accepted, packet_from_outside, value_in}

@@ -1,9 +1,9 @@
 -- A router that is said to be congested, or no longer, is as sound as before.
 use Rattle.std.proofs.Common.{◌≡◌, refl, ℕ, List, Bool}
 use Rattle.std.specs.Prelude.{slice_get, Option, None, Some}
-use Rattle.clnp_plan.specs.declared.note.Note.TheVariants.{Congest}
-use Rattle.scenario.specs.Scenario.{IsFit, Plan}
-use Rattle.scenario.specs.declared.event.Move.{Move}
+use Rattle.clnp_machine.specs.ClnpPlan.declared.note.Note.TheVariants.{Congest}
+use Rattle.clnp_network.specs.Scenario.Scenario.{IsFit, Plan}
+use Rattle.clnp_network.specs.Scenario.declared.event.Move.{Move}
 use Rattle.clnp_machine.specs.Unit as unit
 use Rattle.clnp_machine.specs.System.{SystemState, Input, IsCongested}
 use Rattle.clnp_machine.specs.Step.{congest, step}

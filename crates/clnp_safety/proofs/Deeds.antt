@@ -1,5 +1,5 @@
 -- What deeds of a system leave, the units counted in that are made in them: reports, which have no identifier, and what is asked for.
-use Rattle.clnp_base.proofs.Lists.{AllByRecursion-contains, AllByRecursion-implies}
+use Rattle.clnp_machine.proofs.ClnpBase.Lists.{AllByRecursion-contains, AllByRecursion-implies}
 use Rattle.std.proofs.Common.{◌≡◌, ◌∙◌, ◌<◌, ◌≤◌, refl, sym, ap, subst, ℕ, inl, inr, false, List, [], ◌∷◌, ◌++◌, slice_get, Option, None, Some, append_assoc}
 use Rattle.std.specs.List.{AllByRecursion}
 use Rattle.std.proofs.lemmas.Bool.{cases_Bool}
@@ -8,15 +8,15 @@ use Rattle.std.proofs.lemmas.List.Elements.{Contains-append_cases}
 use Rattle.std.proofs.lemmas.List.Quantifiers.{all_pairs_push}
 use Rattle.std.proofs.lemmas.Option.{none-some}
 use Rattle.hex.specs.Hex.{IsBytes}
-use Rattle.pdu_header.specs.declared.kind.Kind.{Kind}
-use Rattle.pdu_header.specs.declared.kind.Kind.TheVariants.{Er, Erp}
-use Rattle.pdu_header.specs.Rules.{is_reportable}
-use Rattle.clnp_plan.specs.Configuration.{SystemConfiguration}
-use Rattle.clnp_plan.specs.declared.ask.Ask.{Ask}
-use Rattle.clnp_plan.specs.declared.note.Note.{Note}
-use Rattle.clnp_plan.specs.declared.note.Note.TheVariants.{Refused}
-use Rattle.reassembly.specs.Buffer.{Buffer, held, is_whole}
-use Rattle.scenario.specs.Scenario.{Plan}
+use Rattle.clnp_machine.specs.PduHeader.declared.kind.Kind.{Kind}
+use Rattle.clnp_machine.specs.PduHeader.declared.kind.Kind.TheVariants.{Er, Erp}
+use Rattle.clnp_machine.specs.PduHeader.Rules.{is_reportable}
+use Rattle.clnp_machine.specs.ClnpPlan.Configuration.{SystemConfiguration}
+use Rattle.clnp_machine.specs.ClnpPlan.declared.ask.Ask.{Ask}
+use Rattle.clnp_machine.specs.ClnpPlan.declared.note.Note.{Note}
+use Rattle.clnp_machine.specs.ClnpPlan.declared.note.Note.TheVariants.{Refused}
+use Rattle.clnp_machine.specs.Reassembly.Buffer.{Buffer, held, is_whole}
+use Rattle.clnp_network.specs.Scenario.Scenario.{Plan}
 use Rattle.clnp_machine.specs.Identifiers.{Identifiers}
 use Rattle.clnp_machine.specs.Unit as unit
 use Rattle.clnp_machine.specs.Unit.{DeclaredAt, Packet}

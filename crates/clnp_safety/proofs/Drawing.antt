@@ -3,20 +3,20 @@ use Rattle.std.proofs.Common.{◌≡◌, ◌∙◌, ◌⊎◌, refl, sym, ap, su
 use Rattle.std.specs.Prelude.{◌==◌, if◌then◌else◌}
 use Rattle.std.specs.List.{AllByRecursion, find}
 use Rattle.std.proofs.lemmas.List.{append-nil}
-use Rattle.clnp_options.specs.Parameter.{Parameter}
-use Rattle.clnp_options.specs.Reasons.{reason_code}
-use Rattle.clnp_options.specs.declared.judge.OptionRefusal.{OptionRefusal}
-use Rattle.clnp_options.specs.declared.reasons.Reason.TheVariants.{Congestion, NotSpecified, ReassemblyInterference}
-use Rattle.pdu_header.specs.declared.kind.Kind.{Kind}
-use Rattle.pdu_header.specs.declared.kind.Kind.TheVariants.{Dt, Er, Erq, Erp}
-use Rattle.pdu_header.specs.Rules.{octet, refusal as rule_broken}
-use Rattle.esis_pdus.specs.Rules.{why_refused}
-use Rattle.esis_tables.specs.declared.fact.Place.{Place}
-use Rattle.reassembly.specs.Arrival.{Arrival}
-use Rattle.reassembly.specs.Buffer as buffer
-use Rattle.reassembly.specs.Buffer.{Answer, Buffer}
-use Rattle.clnp_plan.specs.declared.ask.Ask.{Ask}
-use Rattle.clnp_plan.specs.declared.note.Note.{Note}
+use Rattle.clnp_machine.specs.ClnpOptions.Parameter.{Parameter}
+use Rattle.clnp_machine.specs.ClnpOptions.Reasons.{reason_code}
+use Rattle.clnp_machine.specs.ClnpOptions.declared.judge.OptionRefusal.{OptionRefusal}
+use Rattle.clnp_machine.specs.ClnpOptions.declared.reasons.Reason.TheVariants.{Congestion, NotSpecified, ReassemblyInterference}
+use Rattle.clnp_machine.specs.PduHeader.declared.kind.Kind.{Kind}
+use Rattle.clnp_machine.specs.PduHeader.declared.kind.Kind.TheVariants.{Dt, Er, Erq, Erp}
+use Rattle.clnp_machine.specs.PduHeader.Rules.{octet, refusal as rule_broken}
+use Rattle.clnp_machine.specs.EsisPdus.Rules.{why_refused}
+use Rattle.clnp_machine.specs.EsisTables.declared.fact.Place.{Place}
+use Rattle.clnp_machine.specs.Reassembly.Arrival.{Arrival}
+use Rattle.clnp_machine.specs.Reassembly.Buffer as buffer
+use Rattle.clnp_machine.specs.Reassembly.Buffer.{Answer, Buffer}
+use Rattle.clnp_machine.specs.ClnpPlan.declared.ask.Ask.{Ask}
+use Rattle.clnp_machine.specs.ClnpPlan.declared.note.Note.{Note}
 use Rattle.clnp_machine.specs.Identifiers.{Identifiers, after_use, next, not_drawn}
 use Rattle.clnp_machine.specs.Unit as unit
 use Rattle.clnp_machine.specs.Unit.{Packet, value_of}
@@ -31,7 +31,7 @@ use Rattle.clnp_safety.specs.StepLaws.{StepLaws}
 use Rattle.clnp_safety.proofs.Deeds.{IsWhole, all_whole, discard_is_like, discard_reports}
 use Rattle.clnp_safety.proofs.Hellos.{only_then}
 use Rattle.clnp_safety.proofs.Ticking.{tick_reports}
-use Rattle.clnp_base.proofs.Choices.{one_of, none_mapped}
+use Rattle.clnp_machine.proofs.ClnpBase.Choices.{one_of, none_mapped}
 
 -- no identifier is drawn, and none of the units has one
 pub record DrawsNone (before after : Identifiers) (units : List unit.Unit) : Type 0 where

@@ -1,18 +1,18 @@
 -- A step of a system that is asked nothing keeps a world sound: what it makes is founded on what came, and what it sends and notes
 -- is as it should be.
-use Rattle.clnp_base.proofs.Lists.{AllByRecursion-append, AllByRecursion-both, AllByRecursion-contains, AllByRecursion-implies, AllByRecursion-mapped, AllByRecursion-slice_get}
+use Rattle.clnp_machine.proofs.ClnpBase.Lists.{AllByRecursion-append, AllByRecursion-both, AllByRecursion-contains, AllByRecursion-implies, AllByRecursion-mapped, AllByRecursion-slice_get}
 use Rattle.std.proofs.Common.{◌≡◌, ◌≢◌, ◌⊎◌, ◌∙◌, sym, ap, subst, ℕ, inl, inr, List, [], ◌∷◌, ◌++◌, length, map, slice_get, Some, arith}
 use Rattle.std.specs.List.{AllByRecursion}
 use Rattle.std.proofs.lemmas.List.Elements.{Contains-append_cases}
-use Rattle.nsap.specs.Address.{IsAddress}
-use Rattle.pdu_header.specs.declared.kind.Kind.{Kind}
-use Rattle.pdu_header.specs.declared.kind.Kind.TheVariants.{Er, Erq, Erp}
-use Rattle.scenario.specs.Scenario.{IsFit, Plan}
-use Rattle.clnp_plan.specs.Configuration.{IsAddressed, IsSystem, SystemConfiguration}
-use Rattle.clnp_plan.specs.declared.config.PortConfig.{PortConfig}
-use Rattle.clnp_plan.specs.declared.note.Note.{Note}
-use Rattle.reassembly.specs.Arrival.{Arrival}
-use Rattle.reassembly.specs.Buffer.{Buffer}
+use Rattle.clnp_machine.specs.Nsap.Address.{IsAddress}
+use Rattle.clnp_machine.specs.PduHeader.declared.kind.Kind.{Kind}
+use Rattle.clnp_machine.specs.PduHeader.declared.kind.Kind.TheVariants.{Er, Erq, Erp}
+use Rattle.clnp_network.specs.Scenario.Scenario.{IsFit, Plan}
+use Rattle.clnp_machine.specs.ClnpPlan.Configuration.{IsAddressed, IsSystem, SystemConfiguration}
+use Rattle.clnp_machine.specs.ClnpPlan.declared.config.PortConfig.{PortConfig}
+use Rattle.clnp_machine.specs.ClnpPlan.declared.note.Note.{Note}
+use Rattle.clnp_machine.specs.Reassembly.Arrival.{Arrival}
+use Rattle.clnp_machine.specs.Reassembly.Buffer.{Buffer}
 use Rattle.clnp_machine.specs.Unit as unit
 use Rattle.clnp_machine.specs.Unit.{DeclaredAt, Packet, wire}
 use Rattle.clnp_machine.specs.Content.{Labelled, Esis, Unlabelled}

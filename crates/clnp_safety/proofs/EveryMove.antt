@@ -1,17 +1,17 @@
 -- What each step of a system keeps, whatever comes to it, or whatever comes that a plan's events allow, each move keeps.
-use Rattle.clnp_base.proofs.Lists.{AllByRecursion-any, AllByRecursion-slice_get}
+use Rattle.clnp_machine.proofs.ClnpBase.Lists.{AllByRecursion-any, AllByRecursion-slice_get}
 use Rattle.std.proofs.Common.{◌≡◌, ℕ, refl, sym, subst, List, [], ◌∷◌, ◌++◌, ◌+◌, length, ◌-◌, Bool}
 use Rattle.std.specs.Prelude.{slice_get, Option, None, Some}
 use Rattle.std.specs.List.{AllByRecursion, range_with_len}
-use Rattle.nsap.specs.declared.target.Target.{Target}
-use Rattle.clnp_plan.specs.Journal.{Line}
-use Rattle.clnp_plan.specs.declared.ask.Ask.{Ask}
-use Rattle.clnp_plan.specs.declared.config.Limits.{Limits}
-use Rattle.scenario.specs.Scenario.{Plan, Subnetwork, octets_of}
-use Rattle.scenario.specs.declared.event.Event.{Event}
-use Rattle.scenario.specs.declared.event.Event.TheVariants.{Send, Echo, Deliver, Settle, Lose, Tick, Restart, Congest, Inject}
-use Rattle.scenario.specs.declared.event.Move.{Move}
-use Rattle.scenario.specs.declared.event.Move.TheVariants.{One, SettleOne, LoseOne, TickOne}
+use Rattle.clnp_machine.specs.Nsap.declared.target.Target.{Target}
+use Rattle.clnp_machine.specs.ClnpPlan.Journal.{Line}
+use Rattle.clnp_machine.specs.ClnpPlan.declared.ask.Ask.{Ask}
+use Rattle.clnp_machine.specs.ClnpPlan.declared.config.Limits.{Limits}
+use Rattle.clnp_network.specs.Scenario.Scenario.{Plan, Subnetwork, octets_of}
+use Rattle.clnp_network.specs.Scenario.declared.event.Event.{Event}
+use Rattle.clnp_network.specs.Scenario.declared.event.Event.TheVariants.{Send, Echo, Deliver, Settle, Lose, Tick, Restart, Congest, Inject}
+use Rattle.clnp_network.specs.Scenario.declared.event.Move.{Move}
+use Rattle.clnp_network.specs.Scenario.declared.event.Move.TheVariants.{One, SettleOne, LoseOne, TickOne}
 use Rattle.clnp_machine.specs.Unit as unit
 use Rattle.clnp_machine.specs.System.{SystemState, Input, AsksToSend, AsksForEcho, MomentComes, IsRestarted, IsCongested, Output, Transmits, SendsEsis, Notes, Effect}
 use Rattle.clnp_machine.specs.Step.{step}

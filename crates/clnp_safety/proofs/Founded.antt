@@ -1,15 +1,15 @@
 -- What is handed up of error reports and echo replies is founded on what was made before.
-use Rattle.clnp_base.proofs.Lists.{slice_get_some}
+use Rattle.clnp_machine.proofs.ClnpBase.Lists.{slice_get_some}
 use Rattle.std.proofs.Common.{◌≡◌, ◌∙◌, refl, sym, ap, subst, ℕ, true, List, slice_get, Some, Contains, bytes_eq, arith}
 use Rattle.std.specs.Prelude.{◌&&◌}
 use Rattle.std.proofs.lemmas.Bool.{and_parts}
 use Rattle.std.proofs.lemmas.List.Folds.{list_any-from_Any}
 use Rattle.std.proofs.lemmas.Option.{same_Some, slice_get_within}
-use Rattle.clnp_base.proofs.SameOctets.{same_from, same-itself}
-use Rattle.pdu_header.specs.declared.kind.Kind.TheVariants.{Er, Erp}
-use Rattle.echo.specs.Match.{echoes}
-use Rattle.scenario.specs.Scenario.{IsFit, Plan}
-use Rattle.clnp_plan.specs.Configuration.{SystemConfiguration}
+use Rattle.clnp_machine.proofs.ClnpBase.SameOctets.{same_from, same-itself}
+use Rattle.clnp_machine.specs.PduHeader.declared.kind.Kind.TheVariants.{Er, Erp}
+use Rattle.clnp_machine.specs.Echo.Match.{echoes}
+use Rattle.clnp_network.specs.Scenario.Scenario.{IsFit, Plan}
+use Rattle.clnp_machine.specs.ClnpPlan.Configuration.{SystemConfiguration}
 use Rattle.clnp_machine.specs.Unit as unit
 use Rattle.clnp_machine.specs.Unit.{DeclaredAt, Packet}
 use Rattle.clnp_machine.specs.System.{SystemState}

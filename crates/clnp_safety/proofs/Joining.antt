@@ -1,16 +1,16 @@
 -- The data of a whole buffer are those of its unit, and so are those of a packet that is all of its unit.
-use Rattle.clnp_base.proofs.Lists.{AllByRecursion-find}
+use Rattle.clnp_machine.proofs.ClnpBase.Lists.{AllByRecursion-find}
 use Rattle.std.proofs.Common.{◌≡◌, ◌∙◌, sym, ap, subst, refl, ℕ, ◌+◌, ◌-◌, ◌<◌, ◌≤◌, true, false, List, length, map, take, drop, get_or, Option, None, Some, arith}
 use Rattle.std.specs.Prelude.{◌==◌, ◌&&◌, ◌||◌, not, is_none, slice_index}
 use Rattle.std.specs.List.{AllByRecursion, range_with_len}
 use Rattle.std.proofs.lemmas.Bool.{and_parts, eqb-true, ltb-false, not-true}
 use Rattle.std.proofs.lemmas.List.{ext_get_or, take_all}
 use Rattle.std.proofs.lemmas.List.FromFn.{length-map-range_with_len, get_or-map-range_with_len}
-use Rattle.pdu_header.specs.Spelling.{header_length}
-use Rattle.reassembly.specs.Arrival.{Arrival, data_len, has, is_covered, earliest}
-use Rattle.reassembly.specs.Buffer.{Buffer, data_of, is_whole, octet_by}
-use Rattle.clnp_base.proofs.Ranges.{each_place}
-use Rattle.clnp_base.proofs.Found.{find_any}
+use Rattle.clnp_machine.specs.PduHeader.Spelling.{header_length}
+use Rattle.clnp_machine.specs.Reassembly.Arrival.{Arrival, data_len, has, is_covered, earliest}
+use Rattle.clnp_machine.specs.Reassembly.Buffer.{Buffer, data_of, is_whole, octet_by}
+use Rattle.clnp_machine.proofs.ClnpBase.Ranges.{each_place}
+use Rattle.clnp_machine.proofs.ClnpBase.Found.{find_any}
 use Rattle.clnp_machine.specs.Unit as unit
 use Rattle.clnp_machine.specs.Unit.{Packet, more_follows, value_of, value_with}
 use Rattle.clnp_machine.specs.Local.{header_size, is_all, octet_of}

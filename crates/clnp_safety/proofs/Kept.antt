@@ -1,16 +1,16 @@
 -- What holds of each buffer once a segment was offered, by the machine's laws.
-use Rattle.clnp_base.proofs.Lists.{AllByRecursion-contains, AllByRecursion-implies}
+use Rattle.clnp_machine.proofs.ClnpBase.Lists.{AllByRecursion-contains, AllByRecursion-implies}
 use Rattle.std.proofs.Common.{◌≡◌, sym, subst, ℕ, inl, inr, Bool, true, List, [], ◌∷◌, ◌++◌, Some, Contains}
 use Rattle.std.specs.List.{AllByRecursion, find}
 use Rattle.std.proofs.lemmas.Bool.{cases_Bool}
 use Rattle.std.proofs.lemmas.Option.{none-some, same_Some}
-use Rattle.reassembly.specs.declared.table.TableLimits.{TableLimits}
-use Rattle.reassembly.specs.Arrival.{Arrival, same_key}
-use Rattle.reassembly.specs.Buffer.{Buffer, after, opened_by, with_kept, without}
+use Rattle.clnp_machine.specs.Reassembly.declared.table.TableLimits.{TableLimits}
+use Rattle.clnp_machine.specs.Reassembly.Arrival.{Arrival, same_key}
+use Rattle.clnp_machine.specs.Reassembly.Buffer.{Buffer, after, opened_by, with_kept, without}
 use Rattle.clnp_machine.specs.Unit.{Packet}
 use Rattle.clnp_machine.specs.Told.{WasThereOrTakes}
 use Rattle.clnp_safety.specs.StepLaws.{StepLaws}
-pub use Rattle.reassembly.proofs.Shared.{due_is, made_whole, none_due, none_whole-after, same_key-refl, same_key-true}
+pub use Rattle.clnp_machine.proofs.Reassembly.Shared.{due_is, made_whole, none_due, none_whole-after, same_key-refl, same_key-true}
 
 pub find_passes : {X : Type 0} (p : X → Bool) (xs : List X) (x : X) → find p xs ≡ Some x → p x ≡ true
 find_passes p [] x e = absurd (none-some x e)

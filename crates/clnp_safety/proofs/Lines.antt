@@ -1,10 +1,10 @@
 -- What lines say where each of their notes is honest, and lines of no refusal.
-use Rattle.clnp_base.proofs.Lists.{AllByRecursion-implies}
+use Rattle.clnp_machine.proofs.ClnpBase.Lists.{AllByRecursion-implies}
 use Rattle.std.proofs.Common.{◌≡◌, ℕ, List, [], ◌∷◌, inl, inr, subst}
-use Rattle.clnp_plan.specs.Journal.{Line, Noted}
-use Rattle.clnp_plan.specs.declared.note.Note.{Note}
-use Rattle.clnp_plan.specs.declared.note.Note.TheVariants.{Refused, Got, Report, Echoed, Interference, Alien, Restart}
-use Rattle.scenario.specs.Scenario.{Plan}
+use Rattle.clnp_machine.specs.ClnpPlan.Journal.{Line, Noted}
+use Rattle.clnp_machine.specs.ClnpPlan.declared.note.Note.{Note}
+use Rattle.clnp_machine.specs.ClnpPlan.declared.note.Note.TheVariants.{Refused, Got, Report, Echoed, Interference, Alien, Restart}
+use Rattle.clnp_network.specs.Scenario.Scenario.{Plan}
 use Rattle.clnp_network.specs.World.{World}
 use Rattle.clnp_network.specs.Run.{Entry}
 use Rattle.clnp_network.specs.Safe.{HandsUp, IsFounded, NoRefusal, NoInterference, NoneIsAlien, SaysNoRestart, TellsNoRule, WasSent}

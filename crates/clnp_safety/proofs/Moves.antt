@@ -1,11 +1,11 @@
 -- What each move keeps.
-use Rattle.clnp_base.proofs.Lists.{AllByRecursion-implies}
+use Rattle.clnp_machine.proofs.ClnpBase.Lists.{AllByRecursion-implies}
 use Rattle.std.proofs.Common.{◌≡◌, ◌⊎◌, ℕ, inl, inr, List, [], ◌∷◌, ◌++◌, length, refl, sym, subst, arith}
 use Rattle.std.specs.Prelude.{slice_get, Some}
 use Rattle.std.specs.List.{AllByRecursion}
 use Rattle.std.proofs.lemmas.List.{append-nil}
-use Rattle.scenario.specs.Scenario.{Plan}
-use Rattle.scenario.specs.declared.event.Move.{Move}
+use Rattle.clnp_network.specs.Scenario.Scenario.{Plan}
+use Rattle.clnp_network.specs.Scenario.declared.event.Move.{Move}
 use Rattle.clnp_machine.specs.Unit as unit
 use Rattle.clnp_machine.specs.System.{SystemState}
 use Rattle.clnp_machine.specs.Steps.{IsNoRestart}

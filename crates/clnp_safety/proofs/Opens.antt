@@ -1,9 +1,9 @@
 -- The world of a scenario's declarations is sound: nothing is sent yet, and nothing is on its way.
 use Rattle.std.proofs.Common.{◌≡◌, ℕ, zero, suc, ◌+◌, List, [], ◌∷◌, length, refl, ap, subst, arith}
 use Rattle.std.specs.Prelude.{slice_get, Some}
-use Rattle.clnp_plan.specs.Configuration.{SystemConfiguration}
-use Rattle.clnp_plan.specs.declared.config.Limits.{Limits}
-use Rattle.scenario.specs.Scenario.{Plan}
+use Rattle.clnp_machine.specs.ClnpPlan.Configuration.{SystemConfiguration}
+use Rattle.clnp_machine.specs.ClnpPlan.declared.config.Limits.{Limits}
+use Rattle.clnp_network.specs.Scenario.Scenario.{Plan}
 use Rattle.clnp_machine.specs.System.{SystemState, first_state}
 use Rattle.clnp_network.specs.World.{states_from, first_world}
 use Rattle.clnp_safety.specs.Invariant.{SystemStands, WorldIsSound}

@@ -1,15 +1,15 @@
 -- Only a system that has the destination among its addresses hands up a unit.
-use Rattle.clnp_base.proofs.Lists.{AllByRecursion-implies, set_each}
+use Rattle.clnp_machine.proofs.ClnpBase.Lists.{AllByRecursion-implies, set_each}
 use Rattle.std.proofs.Common.{◌≡◌, ℕ, List, true, refl, sym, ap, ◌∙◌, subst}
 use Rattle.std.specs.Prelude.{slice_get, Some}
 use Rattle.std.specs.List.{AllByRecursion, list_any}
 use Rattle.std.specs.Str.{bytes_eq}
-use Rattle.clnp_plan.specs.Configuration.{SystemConfiguration}
-use Rattle.clnp_plan.specs.Journal.{Line, Noted}
-use Rattle.clnp_plan.specs.declared.note.Note.{Note}
-use Rattle.clnp_plan.specs.declared.note.Note.TheVariants.{Got}
-use Rattle.scenario.specs.Scenario.{Plan}
-use Rattle.scenario.specs.declared.event.Move.{Move}
+use Rattle.clnp_machine.specs.ClnpPlan.Configuration.{SystemConfiguration}
+use Rattle.clnp_machine.specs.ClnpPlan.Journal.{Line, Noted}
+use Rattle.clnp_machine.specs.ClnpPlan.declared.note.Note.{Note}
+use Rattle.clnp_machine.specs.ClnpPlan.declared.note.Note.TheVariants.{Got}
+use Rattle.clnp_network.specs.Scenario.Scenario.{Plan}
+use Rattle.clnp_network.specs.Scenario.declared.event.Move.{Move}
 use Rattle.clnp_machine.specs.System.{SystemState, Input, Output, Transmits, SendsEsis, Notes, Effect}
 use Rattle.clnp_machine.specs.Step.{step}
 use Rattle.clnp_machine.specs.Steps.{IsForOwn, NotesOnly}

@@ -1,14 +1,14 @@
 -- What was sent stays sent, a last entry that sends counts, units stay sound as time goes on, and requests stay pending where
 -- nothing was restarted.
-use Rattle.clnp_base.proofs.Lists.{AllByRecursion-implies, AllByRecursion-push}
+use Rattle.clnp_machine.proofs.ClnpBase.Lists.{AllByRecursion-implies, AllByRecursion-push}
 use Rattle.std.proofs.Common.{◌≤◌, ℕ, List, [], ◌∷◌, ◌++◌, inl, inr, subst, arith, Contains}
 use Rattle.std.specs.List.{AllByRecursion}
 use Rattle.std.proofs.lemmas.List.{append-nil}
 use Rattle.std.proofs.lemmas.List.Elements.{Contains-append_left}
-use Rattle.pdu_header.specs.declared.kind.Kind.{Kind}
-use Rattle.pdu_header.specs.declared.kind.Kind.TheVariants.{Dt, Er, Erq, Erp}
-use Rattle.clnp_plan.specs.Journal.{Line}
-use Rattle.scenario.specs.Scenario.{Plan}
+use Rattle.clnp_machine.specs.PduHeader.declared.kind.Kind.{Kind}
+use Rattle.clnp_machine.specs.PduHeader.declared.kind.Kind.TheVariants.{Dt, Er, Erq, Erp}
+use Rattle.clnp_machine.specs.ClnpPlan.Journal.{Line}
+use Rattle.clnp_network.specs.Scenario.Scenario.{Plan}
 use Rattle.clnp_machine.specs.Unit as unit
 use Rattle.clnp_network.specs.Run.{Entry}
 use Rattle.clnp_network.specs.Safe.{IsSend, NoRefusal, RequestedSinceRestart, SaysNoRestart, SaysRequested, WasSent}

@@ -1,10 +1,10 @@
 -- A redirect that is given to a system changes its next hop towards the redirect's destination alone, and no other system.
-use Rattle.clnp_base.proofs.Lists.{AllByRecursion-any, slice_get-set, slice_get-set_other}
+use Rattle.clnp_machine.proofs.ClnpBase.Lists.{AllByRecursion-any, slice_get-set, slice_get-set_other}
 use Rattle.std.proofs.Common.{◌≡◌, ◌∙◌, sym, ap, refl, ℕ, inl, inr, Bool, List}
 use Rattle.std.specs.Prelude.{slice_get, slice_set, Option, None, Some}
 use Rattle.std.proofs.lemmas.Bool.{cases_Bool}
 use Rattle.std.proofs.lemmas.Option.{slice_get_within}
-use Rattle.clnp_plan.specs.declared.config.Limits.{Limits}
+use Rattle.clnp_machine.specs.ClnpPlan.declared.config.Limits.{Limits}
 use Rattle.clnp_machine.specs.Content.{Content}
 use Rattle.clnp_machine.specs.System.{SystemState, FrameComes, Output, Transmits, SendsEsis, Notes, Effect}
 use Rattle.clnp_machine.specs.Step.{next_hop, step}

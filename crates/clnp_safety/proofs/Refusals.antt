@@ -1,18 +1,18 @@
 -- A send that is refused leaves the world as it was.
-use Rattle.clnp_base.proofs.Lists.{slice_set-same}
+use Rattle.clnp_machine.proofs.ClnpBase.Lists.{slice_set-same}
 use Rattle.std.proofs.Common.{◌≡◌, ℕ, List, [], ◌++◌, ◌∙◌, refl, ap}
 use Rattle.std.specs.Prelude.{slice_get, Option, None, Some}
-use Rattle.pdu_header.specs.declared.kind.Kind.TheVariants.{Dt}
-use Rattle.clnp_plan.specs.declared.ask.Ask.{Ask}
-use Rattle.clnp_plan.specs.declared.config.Limits.{Limits}
-use Rattle.clnp_plan.specs.declared.config.Role.{Role}
-use Rattle.clnp_plan.specs.declared.config.Role.TheVariants.{Host, Router}
-use Rattle.clnp_plan.specs.declared.note.Note.TheVariants.{Refused}
-use Rattle.scenario.specs.Scenario.{Plan, Subnetwork, octets_of}
-use Rattle.scenario.specs.declared.event.Event.{Event}
-use Rattle.scenario.specs.declared.event.Event.TheVariants.{Send}
-use Rattle.scenario.specs.declared.event.Move.{Move}
-use Rattle.scenario.specs.declared.event.Move.TheVariants.{One}
+use Rattle.clnp_machine.specs.PduHeader.declared.kind.Kind.TheVariants.{Dt}
+use Rattle.clnp_machine.specs.ClnpPlan.declared.ask.Ask.{Ask}
+use Rattle.clnp_machine.specs.ClnpPlan.declared.config.Limits.{Limits}
+use Rattle.clnp_machine.specs.ClnpPlan.declared.config.Role.{Role}
+use Rattle.clnp_machine.specs.ClnpPlan.declared.config.Role.TheVariants.{Host, Router}
+use Rattle.clnp_machine.specs.ClnpPlan.declared.note.Note.TheVariants.{Refused}
+use Rattle.clnp_network.specs.Scenario.Scenario.{Plan, Subnetwork, octets_of}
+use Rattle.clnp_network.specs.Scenario.declared.event.Event.{Event}
+use Rattle.clnp_network.specs.Scenario.declared.event.Event.TheVariants.{Send}
+use Rattle.clnp_network.specs.Scenario.declared.event.Move.{Move}
+use Rattle.clnp_network.specs.Scenario.declared.event.Move.TheVariants.{One}
 use Rattle.clnp_machine.specs.Unit as unit
 use Rattle.clnp_machine.specs.System.{SystemState, AsksToSend}
 use Rattle.clnp_machine.specs.Local.{refusal, unit_of, unless_refused}
@@ -20,7 +20,7 @@ use Rattle.clnp_machine.specs.Step.{effect_of}
 use Rattle.std.proofs.lemmas.List.{append-nil}
 use Rattle.clnp_network.specs.World.{World, after, comes_to, asks_role, asks_system, takes_effect, event_happens}
 use Rattle.clnp_network.specs.Safe.{AsksFor, IsSend, NoRefusal}
-use Rattle.clnp_plan.specs.declared.note.Note.{Note}
+use Rattle.clnp_machine.specs.ClnpPlan.declared.note.Note.{Note}
 use Rattle.clnp_safety.specs.Refusal.{LeavesNothing}
 use Rattle.clnp_safety.specs.StepLaws.{StepLaws}
 use Rattle.clnp_safety.proofs.Lines.{quiet_lines_refuse_nothing}

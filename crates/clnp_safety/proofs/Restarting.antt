@@ -1,17 +1,17 @@
 -- A restarted system is sound: it is quiet as long as an identifier of its units may rest, and waits for no answer.
-use Rattle.clnp_base.proofs.Lists.{AllByRecursion-implies, pair_at}
+use Rattle.clnp_machine.proofs.ClnpBase.Lists.{AllByRecursion-implies, pair_at}
 use Rattle.std.proofs.Common.{◌≡◌, ◌≢◌, ◌⊎◌, ◌∙◌, ◌<◌, refl, sym, ap, subst, ℕ, inl, inr, List, [], ◌++◌, length, map, get_or, Option, None, Some, option_map, arith}
 use Rattle.std.specs.Prelude.{slice_get}
 use Rattle.std.specs.List.{Contains}
 use Rattle.std.proofs.lemmas.Bool.{cases_eq, cases_order}
 use Rattle.std.proofs.lemmas.List.{append-nil}
 use Rattle.std.proofs.lemmas.Option.{get_or_from_slice_get, slice_get-map, slice_get_within}
-use Rattle.clnp_plan.specs.Configuration.{AreDistinct, SystemConfiguration}
-use Rattle.clnp_plan.specs.Journal.{Line, Noted}
-use Rattle.clnp_plan.specs.declared.note.Note.{Note}
-use Rattle.clnp_plan.specs.declared.note.Note.TheVariants as note
-use Rattle.scenario.specs.Scenario.{IsFit, Plan}
-use Rattle.scenario.specs.declared.event.Move.{Move}
+use Rattle.clnp_machine.specs.ClnpPlan.Configuration.{AreDistinct, SystemConfiguration}
+use Rattle.clnp_machine.specs.ClnpPlan.Journal.{Line, Noted}
+use Rattle.clnp_machine.specs.ClnpPlan.declared.note.Note.{Note}
+use Rattle.clnp_machine.specs.ClnpPlan.declared.note.Note.TheVariants as note
+use Rattle.clnp_network.specs.Scenario.Scenario.{IsFit, Plan}
+use Rattle.clnp_network.specs.Scenario.declared.event.Move.{Move}
 use Rattle.clnp_machine.specs.Identifiers as ids
 use Rattle.clnp_machine.specs.Identifiers.{Use}
 use Rattle.clnp_machine.specs.Unit as unit

@@ -1,21 +1,21 @@
 -- Each move keeps the world sound, and so does each series of moves.
-use Rattle.clnp_base.proofs.Lists.{AllByRecursion-from_places, AllByRecursion-implies, AllByRecursion-slice_get}
+use Rattle.clnp_machine.proofs.ClnpBase.Lists.{AllByRecursion-from_places, AllByRecursion-implies, AllByRecursion-slice_get}
 use Rattle.std.proofs.Common.{◌≡◌, ℕ, List, [], ◌∷◌, ◌++◌, ◌+◌, refl}
 use Rattle.std.specs.Prelude.{slice_get, Option, None, Some}
 use Rattle.std.specs.List.{AllByRecursion}
-use Rattle.clnp_plan.specs.Journal.{Line}
-use Rattle.scenario.specs.Scenario.{AsksFairly, AsksInForm, InjectsNothing, Plan, IsClosed, IsFit, octets_of}
-use Rattle.scenario.specs.declared.event.Event.{Event}
-use Rattle.scenario.specs.declared.event.Event.TheVariants.{Send, Echo, Deliver, Settle, Lose, Tick, Restart, Congest, Inject}
-use Rattle.scenario.specs.declared.event.Move.{Move}
-use Rattle.scenario.specs.declared.event.Move.TheVariants.{One, SettleOne, LoseOne, TickOne}
+use Rattle.clnp_machine.specs.ClnpPlan.Journal.{Line}
+use Rattle.clnp_network.specs.Scenario.Scenario.{AsksFairly, AsksInForm, InjectsNothing, Plan, IsClosed, IsFit, octets_of}
+use Rattle.clnp_network.specs.Scenario.declared.event.Event.{Event}
+use Rattle.clnp_network.specs.Scenario.declared.event.Event.TheVariants.{Send, Echo, Deliver, Settle, Lose, Tick, Restart, Congest, Inject}
+use Rattle.clnp_network.specs.Scenario.declared.event.Move.{Move}
+use Rattle.clnp_network.specs.Scenario.declared.event.Move.TheVariants.{One, SettleOne, LoseOne, TickOne}
 use Rattle.clnp_machine.specs.Unit as unit
 use Rattle.clnp_machine.specs.Unit.{Packet}
 use Rattle.clnp_machine.specs.Content.{Content, IsCarried, Labelled, Esis, Unlabelled}
 use Rattle.clnp_machine.specs.System.{SystemState}
 use Rattle.clnp_machine.specs.Steps.{IsRangeOf}
-use Rattle.reassembly.specs.Arrival.{Arrival}
-use Rattle.reassembly.specs.Buffer.{Buffer}
+use Rattle.clnp_machine.specs.Reassembly.Arrival.{Arrival}
+use Rattle.clnp_machine.specs.Reassembly.Buffer.{Buffer}
 use Rattle.clnp_network.specs.World.{World, Copy, after, event_happens, deliver, settle_one, lose_one, tick_one, first_world}
 use Rattle.clnp_network.specs.Run.{Entry, entries_of, moves_made, run, world_after}
 use Rattle.clnp_network.specs.Safe.{AsksFor, CarriesRanges, EachIsFounded, EachWasSent, FramesAreUnbroken, HoldsOneUnit, HoldsUnitsApart, IsHonest, IsSend, IsUnbroken, NoInterference, NoneIsAlien, RangeIn, TellsNoRule}

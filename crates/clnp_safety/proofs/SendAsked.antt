@@ -1,18 +1,18 @@
 -- The unit that is asked for, where it isn't refused.
 use Rattle.std.proofs.Common.{◌≡◌, ℕ, Bool, true, false, List, None, Some, Contains, ap, subst, ◌∙◌, sym, bytes_eq}
 use Rattle.std.proofs.lemmas.List.Folds.{Any-from_list_any}
-use Rattle.clnp_base.proofs.SameOctets.{same_from}
-use Rattle.pdu_header.specs.declared.kind.Kind.{Kind}
-use Rattle.clnp_plan.specs.declared.ask.Ask.{Ask}
+use Rattle.clnp_machine.proofs.ClnpBase.SameOctets.{same_from}
+use Rattle.clnp_machine.specs.PduHeader.declared.kind.Kind.{Kind}
+use Rattle.clnp_machine.specs.ClnpPlan.declared.ask.Ask.{Ask}
 use Rattle.clnp_machine.specs.Identifiers.{next, not_drawn}
 use Rattle.clnp_machine.specs.Unit as unit
 use Rattle.clnp_machine.specs.System.{SystemState}
 use Rattle.clnp_machine.specs.Local.{is_own, identifier_for, unit_of, not_drawn_note, identifier_refusal, refusal}
-use Rattle.scenario.specs.Scenario.{Plan}
+use Rattle.clnp_network.specs.Scenario.Scenario.{Plan}
 use Rattle.clnp_safety.specs.Invariant.{SystemIsSound}
 use Rattle.clnp_safety.specs.StepLaws.{StepLaws}
 use Rattle.clnp_safety.proofs.SendUnits.{IsDrawn, IsNew}
-use Rattle.clnp_base.proofs.Choices.{none_mapped}
+use Rattle.clnp_machine.proofs.ClnpBase.Choices.{none_mapped}
 
 -- an address of a system is among those of its declaration
 pub own_address : (s : SystemState) (address : List ℕ) → is_own s address ≡ true → Contains s.configuration.addresses address

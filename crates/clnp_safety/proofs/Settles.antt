@@ -1,10 +1,10 @@
 -- Settling, delivering and losing copies.
-use Rattle.clnp_base.proofs.Lists.{AllByRecursion-slice_get}
+use Rattle.clnp_machine.proofs.ClnpBase.Lists.{AllByRecursion-slice_get}
 use Rattle.std.proofs.Common.{◌≡◌, ◌≤◌, ℕ, List, ◌+◌, ◌-◌, false, refl, sym, subst, arith}
 use Rattle.std.specs.Prelude.{slice_get, Option, None, Some}
-use Rattle.scenario.specs.Scenario.{Plan, IsFit}
-use Rattle.esis_tables.specs.declared.fact.Place.{Place}
-use Rattle.clnp_plan.specs.Journal.{Line}
+use Rattle.clnp_network.specs.Scenario.Scenario.{Plan, IsFit}
+use Rattle.clnp_machine.specs.EsisTables.declared.fact.Place.{Place}
+use Rattle.clnp_machine.specs.ClnpPlan.Journal.{Line}
 use Rattle.clnp_machine.specs.Unit as unit
 use Rattle.clnp_machine.specs.System.{SystemState, Input}
 use Rattle.clnp_machine.specs.Step.{step}

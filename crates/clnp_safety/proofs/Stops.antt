@@ -1,8 +1,8 @@
 -- Which moves of a list are made, and what some of them write.
 use Rattle.std.proofs.Common.{◌≡◌, ℕ, List, [], ◌∷◌, ◌++◌, Bool, true, false, refl, sym, ap, ◌∙◌, append_assoc}
 use Rattle.std.specs.Prelude.{if◌then◌else◌, Option, None, Some}
-use Rattle.scenario.specs.Scenario.{Plan}
-use Rattle.scenario.specs.declared.event.Move.{Move}
+use Rattle.clnp_network.specs.Scenario.Scenario.{Plan}
+use Rattle.clnp_network.specs.Scenario.declared.event.Move.{Move}
 use Rattle.clnp_network.specs.World.{World, after, is_full, weight}
 use Rattle.clnp_network.specs.Run.{world_after, lines_text, text_of, until_full, full_weight}
 use Rattle.clnp_safety.specs.Growth.{IsFront, IsFullAt}

@@ -1,21 +1,21 @@
 -- When a moment comes, the buffers that are due are taken out, and what is left is sound; what is made is reports alone.
-use Rattle.clnp_base.proofs.Filters.{AllByRecursion-filter, filter-fewer}
-use Rattle.clnp_base.proofs.Lists.{AllByRecursion-implies, AllByRecursion-no_element}
-use Rattle.clnp_base.proofs.Sums.{sum_filter}
+use Rattle.clnp_machine.proofs.ClnpBase.Filters.{AllByRecursion-filter, filter-fewer}
+use Rattle.clnp_machine.proofs.ClnpBase.Lists.{AllByRecursion-implies, AllByRecursion-no_element}
+use Rattle.clnp_machine.proofs.ClnpBase.Sums.{sum_filter}
 use Rattle.std.proofs.Common.{◌≡◌, sym, ap, subst, refl, ℕ, zero, suc, ◌+◌, ◌<◌, ◌≤◌, true, false, not, List, [], ◌∷◌, ◌++◌, length, Option, None, Some, arith}
 use Rattle.std.specs.Prelude.{slice_get}
 use Rattle.std.specs.List.{AllByRecursion, Contains}
 use Rattle.std.proofs.lemmas.List.Elements.{recursion_from_All}
-use Rattle.scenario.specs.Scenario.{Plan}
-use Rattle.reassembly.specs.declared.segment.Key.{Key}
-use Rattle.reassembly.specs.Arrival.{same_key}
-use Rattle.reassembly.specs.Buffer.{Buffer, due, first_carried, held, is_whole, size_of, without}
+use Rattle.clnp_network.specs.Scenario.Scenario.{Plan}
+use Rattle.clnp_machine.specs.Reassembly.declared.segment.Key.{Key}
+use Rattle.clnp_machine.specs.Reassembly.Arrival.{same_key}
+use Rattle.clnp_machine.specs.Reassembly.Buffer.{Buffer, due, first_carried, held, is_whole, size_of, without}
 use Rattle.clnp_machine.specs.Identifiers.{Use}
 use Rattle.clnp_machine.specs.Unit as unit
 use Rattle.clnp_machine.specs.Unit.{DeclaredAt, Packet}
 use Rattle.clnp_machine.specs.Content.{Labelled}
-use Rattle.clnp_options.specs.Reasons.{reason_code}
-use Rattle.clnp_options.specs.declared.reasons.Reason.TheVariants.{LifetimeExpiredInReassembly}
+use Rattle.clnp_machine.specs.ClnpOptions.Reasons.{reason_code}
+use Rattle.clnp_machine.specs.ClnpOptions.declared.reasons.Reason.TheVariants.{LifetimeExpiredInReassembly}
 use Rattle.clnp_machine.specs.System.{SystemState}
 use Rattle.clnp_machine.specs.Steps.{KnowsAddresses}
 use Rattle.clnp_machine.specs.Local.{Action, Deed, Sends, Tells, at_moment, discard_first, expire, give_up_due, gives_up, made_in, tick}

@@ -1,11 +1,11 @@
 -- A tick of the clock comes to each system in turn.
-use Rattle.clnp_base.proofs.Lists.{AllByRecursion-implies, slice_get_none}
+use Rattle.clnp_machine.proofs.ClnpBase.Lists.{AllByRecursion-implies, slice_get_none}
 use Rattle.std.proofs.Common.{◌≡◌, ◌≤◌, ◌<◌, ℕ, zero, suc, List, ◌+◌, length, refl, sym, subst, arith}
 use Rattle.std.specs.Prelude.{slice_get}
 use Rattle.std.specs.List.{range_with_len}
 use Rattle.std.proofs.lemmas.Option.{slice_get_within}
-use Rattle.scenario.specs.Scenario.{IsFit, Plan}
-use Rattle.clnp_plan.specs.Journal.{Line}
+use Rattle.clnp_network.specs.Scenario.Scenario.{IsFit, Plan}
+use Rattle.clnp_machine.specs.ClnpPlan.Journal.{Line}
 use Rattle.clnp_machine.specs.Unit as unit
 use Rattle.clnp_machine.specs.System.{SystemState, MomentComes, then_does}
 use Rattle.clnp_machine.specs.Local.{made_in, tick}

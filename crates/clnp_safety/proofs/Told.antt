@@ -1,9 +1,9 @@
 -- What a system notes is told by what it does, or quiet; so is what it notes of others.
-use Rattle.clnp_base.proofs.Lists.{AllByRecursion-contains, AllByRecursion-implies}
+use Rattle.clnp_machine.proofs.ClnpBase.Lists.{AllByRecursion-contains, AllByRecursion-implies}
 use Rattle.std.proofs.Common.{inl, inr, List}
 use Rattle.std.specs.List.{AllByRecursion, flat_map}
-use Rattle.clnp_plan.specs.declared.note.Note.{Note}
-use Rattle.clnp_plan.specs.declared.note.Note.TheVariants.{Gone, Hear, Ignored}
+use Rattle.clnp_machine.specs.ClnpPlan.declared.note.Note.{Note}
+use Rattle.clnp_machine.specs.ClnpPlan.declared.note.Note.TheVariants.{Gone, Hear, Ignored}
 use Rattle.clnp_machine.specs.System.{SystemState, Output, Transmits, SendsEsis, Notes}
 use Rattle.clnp_machine.specs.Local.{Action, Tells}
 use Rattle.clnp_machine.specs.Step.{outputs_of}

@@ -1,16 +1,16 @@
 -- Units that were made: who made them, how long an identifier rests, and what stays sound while more are made.
-use Rattle.clnp_base.proofs.Lists.{pair_across, pair_cases, pairs_behind}
-use Rattle.clnp_base.proofs.Lists.{AllByRecursion-append, AllByRecursion-implies}
+use Rattle.clnp_machine.proofs.ClnpBase.Lists.{pair_across, pair_cases, pairs_behind}
+use Rattle.clnp_machine.proofs.ClnpBase.Lists.{AllByRecursion-append, AllByRecursion-implies}
 use Rattle.std.proofs.Common.{◌≡◌, ℕ, zero, suc, ◌+◌, ◌≤◌, ◌≢◌, ◌⊎◌, inl, inr, List, [], ◌∷◌, ◌++◌, Some, slice_get, Contains, length, flat_map, refl, sym, ap, subst, ◌∙◌, arith}
 use Rattle.std.proofs.Math.Nat.{le-max_left}
 use Rattle.std.proofs.lemmas.List.Elements.{Contains-append_left, Contains-append_right}
-use Rattle.reassembly.specs.Arrival.{Arrival}
-use Rattle.reassembly.specs.Buffer.{Buffer}
-use Rattle.scenario.specs.Scenario.{Plan, IsFit}
-use Rattle.clnp_plan.specs.Configuration.{SystemConfiguration, AreDistinct}
-use Rattle.clnp_options.specs.Edits.{HaveOneForm}
-use Rattle.pdu_header.specs.declared.kind.Kind.{Kind}
-use Rattle.pdu_header.specs.declared.kind.Kind.TheVariants.{Dt, Er, Erq, Erp}
+use Rattle.clnp_machine.specs.Reassembly.Arrival.{Arrival}
+use Rattle.clnp_machine.specs.Reassembly.Buffer.{Buffer}
+use Rattle.clnp_network.specs.Scenario.Scenario.{Plan, IsFit}
+use Rattle.clnp_machine.specs.ClnpPlan.Configuration.{SystemConfiguration, AreDistinct}
+use Rattle.clnp_machine.specs.ClnpOptions.Edits.{HaveOneForm}
+use Rattle.clnp_machine.specs.PduHeader.declared.kind.Kind.{Kind}
+use Rattle.clnp_machine.specs.PduHeader.declared.kind.Kind.TheVariants.{Dt, Er, Erq, Erp}
 use Rattle.clnp_machine.specs.Unit as unit
 use Rattle.clnp_machine.specs.Unit.{IsCarriable, Packet}
 use Rattle.clnp_machine.specs.Content.{Content, Labelled, Esis, Unlabelled}

@@ -1,5 +1,5 @@
 -- Uses of identifiers: where one may be drawn, each earlier use of it is long ago.
-use Rattle.clnp_base.proofs.Lists.{pairs_behind}
+use Rattle.clnp_machine.proofs.ClnpBase.Lists.{pairs_behind}
 use Rattle.std.proofs.Common.{◌≡◌, ℕ, zero, suc, ◌+◌, ◌<◌, ◌≤◌, inl, inr, List, [], ◌∷◌, ◌++◌, length, get_or, Option, None, Some, AllPairs, Contains, refl, sym, ap, subst, ◌∙◌, arith}
 use Rattle.std.specs.List.{AllByRecursion}
 use Rattle.std.specs.Option.{option_or}

@@ -1,8 +1,8 @@
 -- What comes to a system in a run, and what it gives out.
 use Rattle.std.specs.Prelude.{List}
-use Rattle.nsap.specs.Address.{IsAddress}
-use Rattle.clnp_plan.specs.declared.note.Note.{Note}
-use Rattle.esis_pdus.specs.Grammar.{IsPdu}
+use Rattle.clnp_machine.specs.Nsap.Address.{IsAddress}
+use Rattle.clnp_machine.specs.ClnpPlan.declared.note.Note.{Note}
+use Rattle.clnp_machine.specs.EsisPdus.Grammar.{IsPdu}
 use Rattle.clnp_machine.specs.Unit as unit
 use Rattle.clnp_machine.specs.Unit.{IsCarriable}
 use Rattle.clnp_machine.specs.Content.{IsCarried}

@@ -1,7 +1,7 @@
 -- Who hands up a data unit.
 use Rattle.std.specs.Prelude.{◌≡◌, ℕ, true, List, slice_get, Some}
-use Rattle.clnp_plan.specs.Journal.{Line, Noted}
-use Rattle.clnp_plan.specs.declared.note.Note.TheVariants.{Got}
+use Rattle.clnp_machine.specs.ClnpPlan.Journal.{Line, Noted}
+use Rattle.clnp_machine.specs.ClnpPlan.declared.note.Note.TheVariants.{Got}
 use Rattle.clnp_machine.specs.System.{SystemState}
 use Rattle.clnp_machine.specs.Local.{is_own}
 

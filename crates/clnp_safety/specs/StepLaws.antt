@@ -2,20 +2,20 @@
 use Rattle.std.specs.Prelude.{◌≡◌, ◌↔◌, ℕ, ◌≤◌, Bool, false, IsTrue, List, [], ◌++◌, None, All}
 use Rattle.std.specs.List.{AllByRecursion, Contains, flat_map}
 use Rattle.hex.specs.Hex.{IsBytes}
-use Rattle.nsap.specs.Address.{IsAddress}
-use Rattle.clnp_options.specs.Edits.{HaveOneForm}
-use Rattle.clnp_options.specs.Parameter.{Parameter}
-use Rattle.pdu_header.specs.Spelling.{header_length}
-use Rattle.echo.specs.Match.{Echoes, echoes}
-use Rattle.esis_pdus.specs.Grammar.{IsPdu}
-use Rattle.esis_pdus.specs.Spelling.{spelling}
-use Rattle.esis_pdus.specs.Value.{EsisValue}
-use Rattle.esis_tables.specs.declared.fact.Place.{Place}
-use Rattle.reassembly.specs.declared.table.TableLimits.{TableLimits}
-use Rattle.reassembly.specs.Arrival.{Arrival}
-use Rattle.reassembly.specs.Buffer as buffer
-use Rattle.reassembly.specs.Buffer.{Buffer, buffer_of, clashes, held, without}
-use Rattle.clnp_plan.specs.Configuration.{IsAddressed, IsSystem}
+use Rattle.clnp_machine.specs.Nsap.Address.{IsAddress}
+use Rattle.clnp_machine.specs.ClnpOptions.Edits.{HaveOneForm}
+use Rattle.clnp_machine.specs.ClnpOptions.Parameter.{Parameter}
+use Rattle.clnp_machine.specs.PduHeader.Spelling.{header_length}
+use Rattle.clnp_machine.specs.Echo.Match.{Echoes, echoes}
+use Rattle.clnp_machine.specs.EsisPdus.Grammar.{IsPdu}
+use Rattle.clnp_machine.specs.EsisPdus.Spelling.{spelling}
+use Rattle.clnp_machine.specs.EsisPdus.Value.{EsisValue}
+use Rattle.clnp_machine.specs.EsisTables.declared.fact.Place.{Place}
+use Rattle.clnp_machine.specs.Reassembly.declared.table.TableLimits.{TableLimits}
+use Rattle.clnp_machine.specs.Reassembly.Arrival.{Arrival}
+use Rattle.clnp_machine.specs.Reassembly.Buffer as buffer
+use Rattle.clnp_machine.specs.Reassembly.Buffer.{Buffer, buffer_of, clashes, held, without}
+use Rattle.clnp_machine.specs.ClnpPlan.Configuration.{IsAddressed, IsSystem}
 use Rattle.clnp_machine.specs.Unit as unit
 use Rattle.clnp_machine.specs.Unit.{IsCarriable, Packet, value_of, wire}
 use Rattle.clnp_machine.specs.Content.{Content, IsCarried, content_of, frame_of}

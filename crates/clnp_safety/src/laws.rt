@@ -1,9 +1,9 @@
 //! Laws of runs: each holds for every scenario, and its function does nothing.
 ghost use Rattle.std.specs.Prelude.{◌≡◌, ℕ, List, [], None, Some};
 ghost use Rattle.std.specs.List.{AllByRecursion};
-ghost use Rattle.clnp_plan.specs.declared.config.Limits.{Limits};
-ghost use Rattle.scenario.specs.Scenario.{Plan, IsClosed, IsFit};
-ghost use Rattle.scenario.specs.declared.event.Move.{Move};
+ghost use Rattle.clnp_machine.specs.ClnpPlan.declared.config.Limits.{Limits};
+ghost use Rattle.clnp_network.specs.Scenario.Scenario.{Plan, IsClosed, IsFit};
+ghost use Rattle.clnp_network.specs.Scenario.declared.event.Move.{Move};
 ghost use Rattle.clnp_network.specs.World.{World, after, first_world};
 ghost use Rattle.clnp_network.specs.Run.{Entry, entries_of, full_weight, run, text_of, until_full, world_after};
 ghost use Rattle.clnp_network.specs.Safe.{CarriesRanges, EachIsFounded, EachWasSent, FramesAreUnbroken, HoldsUnitsApart, IdentifiersRest, IsHonest, IsSend, NoRefusal, IsWithinBudgets, IsWithinLifetimes, KeepsHeaders, NoInterference, NoneIsAlien, RedirectsChangeOneNextHop, TellsNoRule};
@@ -209,8 +209,8 @@ fn laws_of_steps()
     machine::carriable_packets_break_no_rule();
     machine::esis_pdus_break_no_rule();
     machine::octets_have_a_content();
-    clnp_options::laws::edits_keep_the_form();
-    clnp_options::laws::edits_keep_options_formed();
-    pdu_header::laws::edited_pdus_are_pdus();
-    echo::laws::the_test_is_the_rule();
+    clnp_machine::clnp_options::laws::edits_keep_the_form();
+    clnp_machine::clnp_options::laws::edits_keep_options_formed();
+    clnp_machine::pdu_header::laws::edited_pdus_are_pdus();
+    clnp_machine::echo::laws::the_test_is_the_rule();
 }

@@ -1,0 +1,1 @@
+pub use Rattle.end_system.proofs.LocalEntity

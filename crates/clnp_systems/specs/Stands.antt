@@ -1,8 +1,8 @@
 -- What a system of the code stands for, be it a host or a router.
 use Rattle.clnp_machine.specs.System.{SystemState}
-use Rattle.clnp_plan.specs.Configuration.{SystemConfiguration}
-use Rattle.system_entity.specs.State.{SystemEntityState}
-use Rattle.system_entity.specs.Stands as entity
+use Rattle.clnp_machine.specs.ClnpPlan.Configuration.{SystemConfiguration}
+use Rattle.end_system.specs.SystemEntity.State.{SystemEntityState}
+use Rattle.end_system.specs.SystemEntity.Stands as entity
 use Rattle.clnp_systems.specs.declared.system.System.{System}
 use Rattle.clnp_systems.specs.declared.system.System.TheVariants.{Host, Router}
 

@@ -3,4 +3,6 @@
 
 mod system;
 
+pub use end_system;
+pub use router;
 pub use system::System;

@@ -1,22 +1,22 @@
 //! A system of a network.
 ghost use Rattle.std.specs.Prelude.{◌≡◌, ◌≤◌, ◌<◌, ◌+◌, ◌^◌, ℕ, Err, IfErr, IfNone, IfOk, IfSome, MatchResult, None, OnOk, OnErr, IsErr, true, length};
-ghost use Rattle.clnp_plan.specs.declared.ask.SendRefusal.TheVariants.{NoMemory as WantsMemory};
-ghost use Rattle.clnp_plan.specs.declared.config.Role.TheVariants as role;
+ghost use Rattle.clnp_machine.specs.ClnpPlan.declared.ask.SendRefusal.TheVariants.{NoMemory as WantsMemory};
+ghost use Rattle.clnp_machine.specs.ClnpPlan.declared.config.Role.TheVariants as role;
 ghost use Rattle.clnp_machine.specs.Content.{Content, IsCarried, frame_of};
 ghost use Rattle.clnp_machine.specs.Given.{Appends, AppendsFor};
 ghost use Rattle.clnp_machine.specs.Local.{refusal, request_unit};
 ghost use Rattle.clnp_machine.specs.Step.{step};
 ghost use Rattle.clnp_machine.specs.System.{SystemState, AsksForEcho, FrameComes, IsRestarted, IsCongested, MomentComes, first_state, next_number};
-ghost use Rattle.local_entity.specs.Local.{IsWhy};
-ghost use Rattle.system_entity.specs.Stands.{IsLeftBy};
+ghost use Rattle.end_system.specs.LocalEntity.Local.{IsWhy};
+ghost use Rattle.end_system.specs.SystemEntity.Stands.{IsLeftBy};
 ghost use Rattle.clnp_systems.specs.declared.system.System.TheVariants as variant;
 ghost use Rattle.clnp_systems.specs.Stands.{Stands, configuration_of, entity_of};
 
-use clnp_base::NoMemory;
-use clnp_plan::{Limits, Output, Role, SendRefusal, SystemConfig};
-use clnp_views::Frame;
+use clnp_machine::clnp_base::NoMemory;
+use clnp_machine::clnp_plan::{Limits, Output, Role, SendRefusal, SystemConfig};
+use clnp_machine::clnp_views::Frame;
+use clnp_machine::nsap::{Address, Snpa};
 use end_system::EndSystem;
-use nsap::{Address, Snpa};
 use router::Router;
 use std::alloc::Global;
 

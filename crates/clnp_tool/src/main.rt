@@ -5,8 +5,8 @@
 mod arguments;
 
 use crate::arguments::words;
-use clnp_base::{NoMemory, StdSink, StdSource};
-use clnp_commands::Status;
+use clnp_program::clnp_base::{NoMemory, StdSink, StdSource};
+use clnp_program::clnp_commands::Status;
 use clnp_program::{end, run};
 use std::io;
 use std::process::ExitCode;

@@ -4,8 +4,8 @@ use Rattle.std.specs.Prelude.{slice_get}
 use Rattle.std.specs.List.{AllByRecursion}
 use Rattle.std.proofs.lemmas.List.{take_all}
 use Rattle.std.proofs.lemmas.Option.{slice_get_past, slice_get_read}
-use Rattle.clnp_plan.specs.Journal.{Void, Late}
-use Rattle.clnp_plan.specs.declared.config.Limits.{Limits}
+use Rattle.clnp_machine.specs.ClnpPlan.Journal.{Void, Late}
+use Rattle.clnp_machine.specs.ClnpPlan.declared.config.Limits.{Limits}
 use Rattle.clnp_machine.specs.Content.{IsCarried}
 use Rattle.clnp_machine.specs.System.{FrameComes, SystemState}
 use Rattle.clnp_machine.specs.Step.{step}
@@ -17,8 +17,8 @@ use Rattle.clnp_world.specs.Parts.{Shows, Holds, IsRunning, Follows}
 use Rattle.clnp_world.specs.Stands.{IsBornWithUnit}
 use Rattle.clnp_world.specs.declared.network.Network.{Network}
 use Rattle.clnp_world.specs.declared.copy.FrameCopy.{FrameCopy}
-use Rattle.clnp_base.proofs.Lists.{AllByRecursion-slice_get, slice_get_some}
-use Rattle.clnp_base.proofs.ListSteps.{slice_get_map}
+use Rattle.clnp_machine.proofs.ClnpBase.Lists.{AllByRecursion-slice_get, slice_get_some}
+use Rattle.clnp_machine.proofs.ClnpBase.ListSteps.{slice_get_map}
 use Rattle.clnp_world.proofs.EachSteps.{each_length}
 use Rattle.clnp_world.proofs.ModelSteps.{configuration_of, configurations-give_each, copy-give_each, give_each-push, addressees_from-take}
 use Rattle.clnp_world.proofs.PutSteps.{Born, puts_nothing, puts_line, puts_then, counted}

@@ -2,14 +2,14 @@
 use Rattle.std.proofs.Common.{◌≡◌, ◌≤◌, ◌+◌, ◌∙◌, ℕ, cond, Bool, true, false, List, [], ◌∷◌, length, Option, Some, refl, sym, ap, subst}
 use Rattle.std.specs.Prelude.{is_none, slice_get}
 use Rattle.hex.specs.Hex.{IsBytes}
-use Rattle.nsap.specs.declared.target.Target.{Target}
-use Rattle.esis_pdus.specs.Reading as esis_reading
-use Rattle.esis_pdus.specs.Rules.{why_refused}
-use Rattle.pdu_header.specs.Reading.{rest_of}
-use Rattle.clnp_plan.specs.Journal.{Injected, Line}
+use Rattle.clnp_machine.specs.Nsap.declared.target.Target.{Target}
+use Rattle.clnp_machine.specs.EsisPdus.Reading as esis_reading
+use Rattle.clnp_machine.specs.EsisPdus.Rules.{why_refused}
+use Rattle.clnp_machine.specs.PduHeader.Reading.{rest_of}
+use Rattle.clnp_machine.specs.ClnpPlan.Journal.{Injected, Line}
 use Rattle.clnp_machine.specs.Content.{Esis, IsCarried, Labelled, Unlabelled, content_of, esis_value_in, frame_of, is_accepted, packet_from_outside, value_in}
 use Rattle.clnp_network.specs.World as network
-use Rattle.scenario.specs.Scenario.{Subnetwork}
+use Rattle.clnp_network.specs.Scenario.Scenario.{Subnetwork}
 use Rattle.clnp_world.specs.Lines.{Gains}
 use Rattle.clnp_world.specs.declared.lines.Lines.{Lines}
 use Rattle.clnp_world.specs.Seen.{frame_copy}

@@ -1,3 +1,4 @@
+pub use Rattle.clnp_network.proofs.Scenario
 pub mod ModelSteps
 pub mod LineSteps
 pub mod EachSteps

@@ -1,14 +1,14 @@
 -- Lines that come one behind the other.
 use Rattle.std.proofs.Common.{◌≡◌, ℕ, ◌+◌, List, [], ◌++◌, codes, refl, sym, ap, ◌∙◌, append-nil, append_assoc, arith}
 use Rattle.std.specs.Str.{bytes_eq}
-use Rattle.clnp_plan.specs.Journal.{Line}
+use Rattle.clnp_machine.specs.ClnpPlan.Journal.{Line}
 use Rattle.clnp_network.specs.Run.{lines_text}
 use Rattle.clnp_world.specs.Lines.{Gains, both, how_many, kind_of, no_lines, tally}
 use Rattle.clnp_world.specs.declared.lines.Counts.{Counts}
 use Rattle.clnp_world.specs.declared.lines.Lines.{Lines}
 use Rattle.clnp_world.specs.declared.lines.Lines.TheVariants.{Written, Counted}
 use Rattle.clnp_world.proofs.ModelSteps.{lines_text-append}
-use Rattle.clnp_base.proofs.Sums.{length_filter-append}
+use Rattle.clnp_machine.proofs.ClnpBase.Sums.{length_filter-append}
 
 -- the same counts
 counts-same : (g r e d x k s f o y : ℕ) → g ≡ k → r ≡ s → e ≡ f → d ≡ o → x ≡ y → Path Counts

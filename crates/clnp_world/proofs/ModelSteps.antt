@@ -4,12 +4,12 @@ use Rattle.std.specs.Prelude.{slice_get}
 use Rattle.std.specs.List.{AllByRecursion, position_or_len, range_with_len}
 use Rattle.std.proofs.lemmas.List.Recursion.{is_position_or_len}
 use Rattle.std.proofs.lemmas.List.Concat.{flat_map-append}
-use Rattle.clnp_plan.specs.Configuration.{SystemConfiguration}
-use Rattle.clnp_plan.specs.Journal.{Line, Late, line_text}
-use Rattle.clnp_plan.specs.declared.config.Limits.{Limits}
-use Rattle.clnp_plan.specs.declared.config.PortConfig.{PortConfig}
-use Rattle.clnp_plan.specs.declared.config.Role.{Role}
-use Rattle.nsap.specs.declared.target.Target.{Target}
+use Rattle.clnp_machine.specs.ClnpPlan.Configuration.{SystemConfiguration}
+use Rattle.clnp_machine.specs.ClnpPlan.Journal.{Line, Late, line_text}
+use Rattle.clnp_machine.specs.ClnpPlan.declared.config.Limits.{Limits}
+use Rattle.clnp_machine.specs.ClnpPlan.declared.config.PortConfig.{PortConfig}
+use Rattle.clnp_machine.specs.ClnpPlan.declared.config.Role.{Role}
+use Rattle.clnp_machine.specs.Nsap.declared.target.Target.{Target}
 use Rattle.clnp_machine.specs.Content.{Content, Esis, Labelled}
 use Rattle.clnp_machine.specs.Unit.{DeclaredAt, Maker}
 use Rattle.clnp_machine.specs.System.{SystemState, MomentComes, Output, Transmits, SendsEsis, Notes, Effect, first_state}
@@ -17,7 +17,7 @@ use Rattle.clnp_machine.specs.Step.{step}
 use Rattle.clnp_network.specs.World as network
 use Rattle.clnp_network.specs.Run.{lines_text}
 use Rattle.clnp_world.specs.Stands.{IsCurrent}
-use Rattle.clnp_base.proofs.ListSteps.{slice_get_front, take_push, map_set, all_set, range_push}
+use Rattle.clnp_machine.proofs.ClnpBase.ListSteps.{slice_get_front, take_push, map_set, all_set, range_push}
 pub use Rattle.clnp_machine.proofs.Deeds.{step_itself, step_moment}
 
 pub lines_text-append : (xs ys : List Line) → lines_text (xs ++ ys) ≡ lines_text xs ++ lines_text ys

@@ -5,19 +5,19 @@ use Rattle.std.specs.List.{AllByRecursion}
 use Rattle.std.proofs.lemmas.List.{length-map, map-append}
 use Rattle.std.proofs.lemmas.List.Sums.{sum_by-append}
 use Rattle.std.proofs.lemmas.Option.{slice_get_past, slice_get_read}
-use Rattle.nsap.specs.declared.target.Target.{Target}
-use Rattle.pdu_header.specs.Spelling.{header}
-use Rattle.pdu_header.proofs.Written.{length-header}
-use Rattle.esis_pdus.specs.Grammar.{IsPdu}
-use Rattle.esis_pdus.specs.Spelling.{spelling}
-use Rattle.esis_pdus.specs.Value.{EsisValue}
-use Rattle.esis_pdus.proofs.Frames.{laid_out}
-use Rattle.clnp_plan.specs.declared.config.PortConfig.{PortConfig}
-use Rattle.clnp_plan.specs.declared.note.Note.{Note}
-use Rattle.clnp_plan.specs.declared.output.Output as output
-use Rattle.clnp_plan.specs.declared.output.Output.TheVariants.{Transmit, Note as Told}
-use Rattle.clnp_plan.specs.declared.output.Sending.{Sending}
-use Rattle.clnp_plan.specs.Journal.{Noted, Transmitted, Line}
+use Rattle.clnp_machine.specs.Nsap.declared.target.Target.{Target}
+use Rattle.clnp_machine.specs.PduHeader.Spelling.{header}
+use Rattle.clnp_machine.proofs.PduHeader.Written.{length-header}
+use Rattle.clnp_machine.specs.EsisPdus.Grammar.{IsPdu}
+use Rattle.clnp_machine.specs.EsisPdus.Spelling.{spelling}
+use Rattle.clnp_machine.specs.EsisPdus.Value.{EsisValue}
+use Rattle.clnp_machine.proofs.EsisPdus.Frames.{laid_out}
+use Rattle.clnp_machine.specs.ClnpPlan.declared.config.PortConfig.{PortConfig}
+use Rattle.clnp_machine.specs.ClnpPlan.declared.note.Note.{Note}
+use Rattle.clnp_machine.specs.ClnpPlan.declared.output.Output as output
+use Rattle.clnp_machine.specs.ClnpPlan.declared.output.Output.TheVariants.{Transmit, Note as Told}
+use Rattle.clnp_machine.specs.ClnpPlan.declared.output.Sending.{Sending}
+use Rattle.clnp_machine.specs.ClnpPlan.Journal.{Noted, Transmitted, Line}
 use Rattle.clnp_machine.specs.Unit as unit
 use Rattle.clnp_machine.specs.Unit.{DeclaredAt, Maker, Packet, value_of, wire, IsCarriable}
 use Rattle.clnp_machine.specs.Content.{Content, Esis, IsCarried, Labelled, Unlabelled, frame_of}
@@ -32,7 +32,7 @@ use Rattle.clnp_world.specs.Stands.{IsBornWithUnit, StandEach}
 use Rattle.clnp_world.specs.Parts.{Shows, Puts, PutsCopies}
 use Rattle.clnp_world.specs.declared.network.Network.{Network}
 use Rattle.clnp_world.specs.declared.copy.FrameCopy.{FrameCopy}
-use Rattle.clnp_base.proofs.Lists.{AllByRecursion-append}
+use Rattle.clnp_machine.proofs.ClnpBase.Lists.{AllByRecursion-append}
 use Rattle.clnp_world.proofs.LineSteps.{gains_nothing, gains_more}
 use Rattle.clnp_world.proofs.ModelSteps.{put_all_out-push, systems-put_all_out}
 

@@ -2,21 +2,21 @@
 use Rattle.std.proofs.Common.{◌≡◌, ◌≤◌, ◌∙◌, ℕ, List, [], ◌∷◌, Option, Some, length, sym, ap, subst, arith}
 use Rattle.std.specs.Prelude.{slice_get, slice_set}
 use Rattle.std.proofs.lemmas.Option.{slice_get_past}
-use Rattle.clnp_plan.specs.Configuration.{SystemConfiguration}
-use Rattle.clnp_plan.specs.declared.config.Role.{Role}
-use Rattle.clnp_plan.specs.declared.config.Role.TheVariants.{Host, Router}
-use Rattle.pdu_header.specs.declared.kind.Kind.TheVariants.{Dt}
-use Rattle.clnp_plan.specs.declared.ask.Ask.{Ask}
-use Rattle.clnp_plan.specs.declared.note.Note.{Note}
-use Rattle.clnp_plan.specs.declared.output.Output.TheVariants.{Note as Told}
+use Rattle.clnp_machine.specs.ClnpPlan.Configuration.{SystemConfiguration}
+use Rattle.clnp_machine.specs.ClnpPlan.declared.config.Role.{Role}
+use Rattle.clnp_machine.specs.ClnpPlan.declared.config.Role.TheVariants.{Host, Router}
+use Rattle.clnp_machine.specs.PduHeader.declared.kind.Kind.TheVariants.{Dt}
+use Rattle.clnp_machine.specs.ClnpPlan.declared.ask.Ask.{Ask}
+use Rattle.clnp_machine.specs.ClnpPlan.declared.note.Note.{Note}
+use Rattle.clnp_machine.specs.ClnpPlan.declared.output.Output.TheVariants.{Note as Told}
 use Rattle.clnp_machine.specs.System.{SystemState, AsksForEcho, AsksToSend, Effect, Input}
 use Rattle.clnp_machine.specs.Local as local
 use Rattle.clnp_machine.specs.Step.{step, effect_of}
 use Rattle.clnp_systems.specs.declared.system.System.{System}
 use Rattle.clnp_machine.specs.Given.{Appends}
 use Rattle.clnp_network.specs.World as network
-use Rattle.system_entity.specs.State.{SystemEntityState}
-use Rattle.system_entity.specs.Stands as entity
+use Rattle.clnp_systems.specs.SystemEntity.State.{SystemEntityState}
+use Rattle.clnp_systems.specs.SystemEntity.Stands as entity
 use Rattle.clnp_systems.specs.Stands.{configuration_of, entity_of}
 use Rattle.clnp_world.specs.declared.lines.Lines.{Lines}
 use Rattle.clnp_world.specs.Parts.{Follows, Holds}
@@ -24,7 +24,7 @@ use Rattle.clnp_world.specs.Stands.{StandEach}
 use Rattle.clnp_world.specs.declared.network.Network.{Network}
 use Rattle.clnp_world.proofs.EachSteps.{each_length}
 use Rattle.clnp_world.proofs.GiveSteps.{follows_nothing}
-use Rattle.clnp_base.proofs.Lists.{slice_set-same}
+use Rattle.clnp_machine.proofs.ClnpBase.Lists.{slice_set-same}
 use Rattle.clnp_world.proofs.TakeSteps.{gives_note, is_there, with_node}
 
 -- the system's refusal is noted, and nothing else changes

@@ -3,12 +3,12 @@ use Rattle.std.proofs.Common.{◌≡◌, ℕ, ◌<◌, ◌≤◌, List, [], ◌�
 use Rattle.std.specs.Prelude.{slice_get}
 use Rattle.std.specs.Vec.{with_item}
 use Rattle.std.proofs.lemmas.Option.{slice_get_past, slice_get_within as within_get}
-use Rattle.clnp_plan.specs.declared.ask.SendRefusal.{SendRefusal}
-use Rattle.clnp_plan.specs.declared.ask.SendRefusal.TheVariants as refusal
-use Rattle.clnp_plan.specs.declared.note.Note.{Note}
-use Rattle.clnp_plan.specs.declared.output.Output as output
-use Rattle.clnp_plan.specs.declared.output.Output.TheVariants.{Note as Told}
-use Rattle.clnp_plan.specs.Journal.{Noted}
+use Rattle.clnp_machine.specs.ClnpPlan.declared.ask.SendRefusal.{SendRefusal}
+use Rattle.clnp_machine.specs.ClnpPlan.declared.ask.SendRefusal.TheVariants as refusal
+use Rattle.clnp_machine.specs.ClnpPlan.declared.note.Note.{Note}
+use Rattle.clnp_machine.specs.ClnpPlan.declared.output.Output as output
+use Rattle.clnp_machine.specs.ClnpPlan.declared.output.Output.TheVariants.{Note as Told}
+use Rattle.clnp_machine.specs.ClnpPlan.Journal.{Noted}
 use Rattle.clnp_machine.specs.System as machine
 use Rattle.clnp_machine.specs.System.{SystemState, Input, Notes, Effect}
 use Rattle.clnp_machine.specs.Step.{step}
@@ -18,20 +18,20 @@ use Rattle.clnp_systems.specs.Stands as clnp_systems
 use Rattle.clnp_machine.specs.Content.{Content, Unlabelled}
 use Rattle.clnp_machine.specs.Given.{Appends, AppendsFor, GiveAllFor}
 use Rattle.clnp_machine.proofs.Given.{appends_for}
-use Rattle.system_entity.specs.State.{SystemEntityState}
-use Rattle.system_entity.specs.Stands.{IsLeftBy}
-use Rattle.local_entity.specs.Local.{refusal_note}
+use Rattle.clnp_systems.specs.SystemEntity.State.{SystemEntityState}
+use Rattle.clnp_systems.specs.SystemEntity.Stands.{IsLeftBy}
+use Rattle.clnp_systems.specs.LocalEntity.Local.{refusal_note}
 use Rattle.clnp_systems.specs.Stands.{entity_of}
 use Rattle.clnp_world.specs.Lines.{Gains}
 use Rattle.clnp_world.specs.declared.lines.Lines.{Lines}
 use Rattle.clnp_world.specs.Parts.{Shows, Holds, Puts, Follows}
 use Rattle.clnp_world.specs.Stands.{IsBornWithUnit}
 use Rattle.clnp_world.specs.declared.network.Network.{Network}
-use Rattle.clnp_base.proofs.Lists.{AllByRecursion-slice_get, slice_get-set, slice_get_some}
+use Rattle.clnp_machine.proofs.ClnpBase.Lists.{AllByRecursion-slice_get, slice_get-set, slice_get_some}
 use Rattle.clnp_world.proofs.EachSteps.{each_length, each_at, each_set}
 use Rattle.clnp_world.proofs.ModelSteps.{current-takes_effect}
 use Rattle.clnp_world.proofs.PutSteps.{PutsOut, puts_none, puts_more, puts_note, puts_nothing}
-pub use Rattle.local_entity.proofs.Echoing.{says_why}
+pub use Rattle.clnp_systems.proofs.LocalEntity.Echoing.{says_why}
 
 -- the network with a system in the place of another
 abbrev pub with_node : Network → ℕ → System → Network

@@ -12,8 +12,8 @@ use Rattle.clnp_world.specs.declared.lines.Lines.{Lines}
 use Rattle.clnp_world.specs.Stands.{IsCurrent}
 use Rattle.clnp_world.specs.Parts.{Shows, IsBehind, Holds, Puts, Follows}
 use Rattle.clnp_world.specs.declared.network.Network.{Network}
-use Rattle.clnp_base.proofs.Lists.{AllByRecursion-implies, AllByRecursion-slice_get, slice_get_some}
-use Rattle.clnp_base.proofs.ListSteps.{all_set, all_take_set}
+use Rattle.clnp_machine.proofs.ClnpBase.Lists.{AllByRecursion-implies, AllByRecursion-slice_get, slice_get_some}
+use Rattle.clnp_machine.proofs.ClnpBase.ListSteps.{all_set, all_take_set}
 use Rattle.clnp_world.proofs.EachSteps.{each_length}
 use Rattle.clnp_world.proofs.ModelSteps.{tick_at, tick_each-more, systems-put_all_out, clock-put_all_out, step_moment}
 use Rattle.clnp_world.proofs.PutSteps.{puts_then}

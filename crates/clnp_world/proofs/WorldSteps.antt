@@ -2,8 +2,8 @@
 use Rattle.std.proofs.Common.{◌≡◌, ◌≤◌, ◌∙◌, ℕ, List, length, Option, None, Some, false, refl, sym, ap, arith}
 use Rattle.std.specs.Prelude.{slice_get, IfNone, IfSome, MatchOption}
 use Rattle.std.proofs.lemmas.Option.{slice_get_past, slice_get_within as within_get}
-use Rattle.clnp_plan.specs.Configuration.{SystemConfiguration}
-use Rattle.clnp_plan.specs.declared.config.Role.{Role}
+use Rattle.clnp_machine.specs.ClnpPlan.Configuration.{SystemConfiguration}
+use Rattle.clnp_machine.specs.ClnpPlan.declared.config.Role.{Role}
 use Rattle.clnp_machine.specs.System.{SystemState}
 use Rattle.clnp_network.specs.World as network
 use Rattle.clnp_systems.specs.Stands.{configuration_of}
@@ -12,7 +12,7 @@ use Rattle.clnp_world.specs.State.{WorldState}
 use Rattle.clnp_world.specs.Stands.{IsDeclared, Stands}
 use Rattle.clnp_world.specs.Parts.{Holds, state_of}
 use Rattle.clnp_world.specs.declared.network.Network.{Network}
-use Rattle.clnp_base.proofs.Lists.{slice_get_some}
+use Rattle.clnp_machine.proofs.ClnpBase.Lists.{slice_get_some}
 use Rattle.clnp_world.proofs.EachSteps.{each_at, each_length}
 
 -- what a caller sees of a network that isn't spent

@@ -1,3 +1,5 @@
+pub use Rattle.clnp_network.specs.Scenario
+pub use Rattle.clnp_network.specs as ClnpNetwork
 pub mod Lines
 pub mod Seen
 pub mod State

@@ -1,7 +1,7 @@
 -- What the code's copies are in the model.
 use Rattle.std.specs.Prelude.{ℕ, ◌+◌, List, [], ◌∷◌, length, map, sum, Option, None, Some}
-use Rattle.nsap.specs.declared.target.Target.{Target}
-use Rattle.clnp_plan.specs.declared.config.PortConfig.{PortConfig}
+use Rattle.clnp_machine.specs.Nsap.declared.target.Target.{Target}
+use Rattle.clnp_machine.specs.ClnpPlan.declared.config.PortConfig.{PortConfig}
 use Rattle.clnp_machine.specs.Content.{frame_of}
 use Rattle.clnp_network.specs.World.{Copy}
 use Rattle.clnp_world.specs.declared.copy.FrameCopy.{FrameCopy}

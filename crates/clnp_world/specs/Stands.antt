@@ -3,7 +3,7 @@ use Rattle.std.specs.Prelude.{◌≡◌, ◌≤◌, ℕ, List, [], ◌∷◌, tr
 use Rattle.std.specs.List.{AllByRecursion}
 use Rattle.clnp_machine.specs.Content.{Content, Labelled, Esis, Unlabelled, IsCarried}
 use Rattle.clnp_machine.specs.System.{SystemState}
-use Rattle.clnp_plan.specs.declared.config.Role.{Role}
+use Rattle.clnp_machine.specs.ClnpPlan.declared.config.Role.{Role}
 use Rattle.clnp_systems.specs.declared.system.System.{System}
 use Rattle.clnp_systems.specs.Stands as clnp_systems
 use Rattle.clnp_network.specs.World as network

@@ -3,9 +3,9 @@ ghost use Rattle.std.specs.Prelude.{◌≡◌, ◌==◌, ◌&&◌, ◌<◌, IfSo
 ghost use Rattle.std.specs.List.{list_any, position, position_or_len};
 ghost use Rattle.clnp_network.specs.World as network;
 
-use clnp_plan::{PortConfig, Role, SystemConfig};
-use clnp_views::Frame;
-use nsap::{Snpa, Target};
+use clnp_machine::clnp_plan::{PortConfig, Role, SystemConfig};
+use clnp_machine::clnp_views::Frame;
+use clnp_machine::nsap::{Snpa, Target};
 
 /// A frame that was put on a subnetwork, by its place among the declarations.
 #[derive(Drop)]

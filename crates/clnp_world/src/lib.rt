@@ -6,6 +6,7 @@ mod lines;
 mod network;
 mod world;
 
+pub use clnp_network::scenario;
+pub use clnp_network::scenario::Move;
 pub use lines::Counts;
-pub use scenario::Move;
 pub use world::{World, WorldRefusal};

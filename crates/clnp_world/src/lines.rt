@@ -1,11 +1,13 @@
 //! Where the lines of a move go.
 ghost use Rattle.std.specs.Prelude.{◌≡◌, ◌+◌, ◌∷◌, ℕ, List, [], IfSome, OnOk};
-ghost use Rattle.clnp_plan.specs.Journal.{Injected, Late, Noted, Transmitted, Void};
+ghost use Rattle.clnp_machine.specs.ClnpPlan.Journal.{Injected, Late, Noted, Transmitted, Void};
 ghost use Rattle.clnp_world.specs.Lines.{Gains, both, no_lines, tally};
 
-use clnp_base::NoMemory;
-use clnp_plan::{Note, injection_text, journal_text, late_text, transmission_text, void_text};
-use nsap::{Snpa, Target};
+use clnp_machine::clnp_base::NoMemory;
+use clnp_machine::clnp_plan::{
+    Note, injection_text, journal_text, late_text, transmission_text, void_text,
+};
+use clnp_machine::nsap::{Snpa, Target};
 use std::alloc::Global;
 
 /// How many lines of some kinds a journal has.

@@ -5,9 +5,9 @@ ghost use Rattle.clnp_world.specs.Parts.{Holds};
 ghost use Rattle.clnp_world.specs.Stands.{StandEach};
 
 use crate::copy::FrameCopy;
-use clnp_base::NoMemory;
+use clnp_machine::clnp_base::NoMemory;
+use clnp_network::scenario::Scenario;
 use clnp_systems::System;
-use scenario::Scenario;
 use std::alloc::Global;
 
 mod giving;

@@ -3,23 +3,23 @@ ghost use Rattle.std.specs.Prelude.{◌≡◌, ◌+◌, ◌<◌, ◌≤◌, ◌^
 ghost use Rattle.clnp_machine.specs.System.{SystemState};
 ghost use Rattle.clnp_network.specs.Run.{lines_text, world_end};
 ghost use Rattle.clnp_network.specs.World as network;
-ghost use Rattle.clnp_plan.specs.declared.config.Role.TheVariants as role;
+ghost use Rattle.clnp_machine.specs.ClnpPlan.declared.config.Role.TheVariants as role;
 ghost use Rattle.clnp_systems.specs.Stands.{configuration_of};
 ghost use Rattle.clnp_systems.specs.declared.system.System.{System};
 ghost use Rattle.clnp_systems.specs.declared.system.System.TheVariants as variant;
 ghost use Rattle.clnp_world.specs.Lines.{both, tally};
 ghost use Rattle.clnp_world.specs.Stands.{IsDeclared, IsLeftBy, Stands, TellsFull};
 ghost use Rattle.clnp_world.specs.declared.world.WorldRefusal.TheVariants.{NoMemory as WantsMemory};
-ghost use Rattle.end_system.specs.Stands as end_system;
-ghost use Rattle.router.specs.Stands as router_stands;
+ghost use Rattle.clnp_systems.specs.EndSystem.Stands as end_system;
+ghost use Rattle.clnp_systems.specs.Router.Stands as router_stands;
 
 use crate::lines::Counts;
 use crate::network::Network;
-use clnp_base::NoMemory;
-use clnp_plan::push_end;
-use end_system::EndSystem;
-use router::Router;
-use scenario::{Move, Scenario};
+use clnp_machine::clnp_base::NoMemory;
+use clnp_machine::clnp_plan::push_end;
+use clnp_network::scenario::{Move, Scenario};
+use clnp_systems::end_system::EndSystem;
+use clnp_systems::router::Router;
 use std::alloc::Global;
 use std::marker::Model;
 

@@ -1,7 +1,7 @@
 ghost use Rattle.std.specs.Prelude.{◌≤◌, length};
 
-use clnp_base::NoMemory;
-use clnp_views::{Frame, View};
+use segmenter::clnp_base::NoMemory;
+use segmenter::clnp_views::{Frame, View};
 
 /// Octets 7 to 12 of a frame, for a further owner.
 fn last_of(frame: &Frame) -> Result<View, NoMemory>

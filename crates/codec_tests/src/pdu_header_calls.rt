@@ -1,10 +1,10 @@
 //! Headers made and changed. All have the destination 47002701 and the source 47002702.
 ghost use Rattle.std.specs.Prelude.{◌≡◌, ℕ, IfSome};
-ghost use Rattle.pdu_header.specs.Parts.{AreFit};
+ghost use Rattle.segmenter.specs.PduHeader.Parts.{AreFit};
 
-use clnp_options::OptionList;
-use nsap::Address;
-use pdu_header::{Header, Kind, Parts, decode, encode};
+use segmenter::clnp_options::OptionList;
+use segmenter::nsap::Address;
+use segmenter::pdu_header::{Header, Kind, Parts, decode, encode};
 
 /// A data PDU of lifetime 10 with the data 6869, sealed.
 const FRAME: &[u8] =
@@ -14,8 +14,8 @@ const FRAME: &[u8] =
 fn plain() -> Option<Parts>
     ensures { IfSome result (λ parts. (body_len : ℕ) → AreFit parts body_len) }
 {
-    clnp_options::laws::spelled_options_read_back();
-    clnp_options::laws::reasons_stand_in_reports();
+    segmenter::clnp_options::laws::spelled_options_read_back();
+    segmenter::clnp_options::laws::reasons_stand_in_reports();
     let Ok(to) = Address::from_bytes(&[0x47, 0x00, 0x27, 0x01]) else {
         return None;
     };

@@ -1,7 +1,7 @@
 -- How long echo replies are.
 use Rattle.std.proofs.Common.{◌≡◌, ℕ, ◌+◌, ◌≤◌, nat_lt, false, List, [], ◌++◌, length, length-append, Option, Some, None, ap, arith, ◌↔◌}
 use Rattle.std.proofs.lemmas.Bool.Decides.{nat_tests}
-use Rattle.clnp_options.specs.Parameter.{Parameter, spelled}
+use Rattle.pdu_header.specs.ClnpOptions.Parameter.{Parameter, spelled}
 use Rattle.pdu_header.specs.Parts.{too_long}
 use Rattle.pdu_header.specs.Spelling.{counted, segmentation_octets}
 use Rattle.pdu_header.specs.Value.{SegmentationPart}

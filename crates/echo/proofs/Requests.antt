@@ -12,7 +12,7 @@ use Rattle.pdu_header.specs.Rules.{header_of, kind_of, octet, refusal, type_of}
 use Rattle.pdu_header.specs.Value.{PduValue}
 use Rattle.pdu_header.proofs.Frames.{front, is_front}
 use Rattle.echo.specs.Match.{AreRequest, Echoes, are_request, echoes}
-use Rattle.clnp_base.proofs.Choices.{none_is}
+use Rattle.pdu_header.proofs.ClnpBase.Choices.{none_is}
 
 -- the law that a frame is one PDU
 abbrev pub OneValue : Type 0

@@ -1,1 +1,2 @@
+pub use Rattle.system_entity.proofs.LocalEntity
 pub mod Passing

@@ -1,12 +1,12 @@
 -- What comes of a packet for another address, at a host.
 use Rattle.std.proofs.Common.{◌≡◌, ◌∙◌, refl, sym, ap, subst, ℕ, Bool, true, false, List, [], ◌∷◌, if◌then◌else◌}
 use Rattle.std.specs.Prelude.{◌==◌, ◌&&◌, not}
-use Rattle.esis_tables.specs.declared.fact.Place.{Place}
-use Rattle.clnp_options.specs.Reasons.{reason_code}
-use Rattle.clnp_options.specs.declared.reasons.Reason.TheVariants.{LifetimeExpiredInTransit}
-use Rattle.clnp_plan.specs.declared.config.Role.{Role}
-use Rattle.clnp_plan.specs.declared.config.Role.TheVariants.{Host}
-use Rattle.clnp_plan.specs.declared.note.Note.TheVariants.{NotMine}
+use Rattle.clnp_machine.specs.EsisTables.declared.fact.Place.{Place}
+use Rattle.clnp_machine.specs.ClnpOptions.Reasons.{reason_code}
+use Rattle.clnp_machine.specs.ClnpOptions.declared.reasons.Reason.TheVariants.{LifetimeExpiredInTransit}
+use Rattle.clnp_machine.specs.ClnpPlan.declared.config.Role.{Role}
+use Rattle.clnp_machine.specs.ClnpPlan.declared.config.Role.TheVariants.{Host}
+use Rattle.clnp_machine.specs.ClnpPlan.declared.note.Note.TheVariants.{NotMine}
 use Rattle.clnp_machine.specs.Content.{Content, Labelled}
 use Rattle.clnp_machine.specs.Esis.{tells_of_itself}
 use Rattle.clnp_machine.specs.Local.{is_own, receive, tells}

@@ -1,5 +1,5 @@
 -- What a host of the code stands for.
-use Rattle.clnp_plan.specs.declared.ask.SendRefusal.{SendRefusal}
+use Rattle.clnp_machine.specs.ClnpPlan.declared.ask.SendRefusal.{SendRefusal}
 use Rattle.clnp_machine.specs.System.{SystemState}
 use Rattle.system_entity.specs.Stands as entity
 use Rattle.end_system.specs.State.{HostState}

@@ -1,25 +1,25 @@
 //! The steps of a host.
 ghost use Rattle.std.specs.Prelude.{◌≡◌, ◌≤◌, ◌<◌, ◌+◌, ◌^◌, ℕ, IfErr, IfOk, OnOk, OnErr, IsErr, MatchResult, None, Some, Err, true, false, length};
-ghost use Rattle.clnp_options.specs.Grammar.{FitsKind};
-ghost use Rattle.clnp_options.specs.Parameter.{parameters};
-ghost use Rattle.pdu_header.specs.declared.kind.Kind.TheVariants.{Dt};
-ghost use Rattle.reassembly.specs.Buffer.{held};
-ghost use Rattle.clnp_plan.specs.declared.ask.SendRefusal.TheVariants.{NoMemory as WantsMemory};
-ghost use Rattle.clnp_plan.specs.declared.config.Role.TheVariants.{Host};
+ghost use Rattle.clnp_machine.specs.ClnpOptions.Grammar.{FitsKind};
+ghost use Rattle.clnp_machine.specs.ClnpOptions.Parameter.{parameters};
+ghost use Rattle.clnp_machine.specs.PduHeader.declared.kind.Kind.TheVariants.{Dt};
+ghost use Rattle.clnp_machine.specs.Reassembly.Buffer.{held};
+ghost use Rattle.clnp_machine.specs.ClnpPlan.declared.ask.SendRefusal.TheVariants.{NoMemory as WantsMemory};
+ghost use Rattle.clnp_machine.specs.ClnpPlan.declared.config.Role.TheVariants.{Host};
 ghost use Rattle.clnp_machine.specs.Content.{Content, IsCarried, frame_of};
 ghost use Rattle.clnp_machine.specs.Given.{Appends};
 ghost use Rattle.clnp_machine.specs.Local.{refusal, request_unit, unit_of};
 ghost use Rattle.clnp_machine.specs.Step.{Hop, next_hop, step};
 ghost use Rattle.clnp_machine.specs.System.{SystemState, AsksForEcho, AsksToSend, FrameComes, IsRestarted, IsCongested, MomentComes, first_state, next_number};
-ghost use Rattle.local_entity.specs.Local.{IsWhy};
+ghost use Rattle.system_entity.specs.LocalEntity.Local.{IsWhy};
 ghost use Rattle.end_system.specs.Stands.{IsLeftBy, Stands};
 
-use clnp_base::NoMemory;
-use clnp_plan::{Ask, Limits, Note, Output, SendRefusal, SystemConfig};
-use clnp_views::Frame;
-use esis_tables::Place;
-use nsap::{Address, Snpa, Target};
-use pdu_header::Kind;
+use clnp_machine::clnp_base::NoMemory;
+use clnp_machine::clnp_plan::{Ask, Limits, Note, Output, SendRefusal, SystemConfig};
+use clnp_machine::clnp_views::Frame;
+use clnp_machine::esis_tables::Place;
+use clnp_machine::nsap::{Address, Snpa, Target};
+use clnp_machine::pdu_header::Kind;
 use std::alloc::Global;
 use std::marker::Model;
 use system_entity::{Arrival, SystemEntity};
@@ -36,7 +36,7 @@ pub struct EndSystem {
 
 impl Model for EndSystem {
     ghost use Rattle.std.specs.Prelude.{◌≡◌};
-    ghost use Rattle.clnp_plan.specs.declared.config.Role.TheVariants.{Host};
+    ghost use Rattle.clnp_machine.specs.ClnpPlan.declared.config.Role.TheVariants.{Host};
     ghost use Rattle.end_system.specs.State.{HostState};
 
     ghost Value = { HostState };

@@ -1,6 +1,6 @@
 -- How long the reason for discard is among options.
 use Rattle.std.proofs.Common.{◌≡◌, ℕ, List, [], ◌∷◌, length, ap, ◌∙◌, arith}
-use Rattle.clnp_options.specs.Parameter.{Parameter, spelled}
+use Rattle.pdu_header.specs.ClnpOptions.Parameter.{Parameter, spelled}
 use Rattle.error_reports.specs.Report.{reason_option}
 
 alone_has_four : (code place : ℕ) → length (spelled (reason_option code place ∷ [])) ≡ 4

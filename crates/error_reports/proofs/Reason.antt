@@ -7,11 +7,11 @@ use Rattle.std.proofs.lemmas.Bool.Decides.{eqb_tells}
 use Rattle.std.proofs.lemmas.List.Folds.{list_any-from_Any}
 use Rattle.std.proofs.lemmas.List.Elements.{Contains-get_or, Contains-append_right, All-contains}
 use Rattle.std.proofs.lemmas.Grind.{elements}
-use Rattle.clnp_options.specs.Parameter.{Parameter, padding, parameters, parameters_after, reason}
-use Rattle.clnp_options.specs.Edits.{value_of}
-use Rattle.clnp_options.specs.Grammar.{HasForm, FitsKind}
-use Rattle.clnp_options.specs.Rules.{AreWellFormed, list_refusal, place_of, place_of_repeat}
-use Rattle.fletcher.specs.Checksum.{octet}
+use Rattle.pdu_header.specs.ClnpOptions.Parameter.{Parameter, padding, parameters, parameters_after, reason}
+use Rattle.pdu_header.specs.ClnpOptions.Edits.{value_of}
+use Rattle.pdu_header.specs.ClnpOptions.Grammar.{HasForm, FitsKind}
+use Rattle.pdu_header.specs.ClnpOptions.Rules.{AreWellFormed, list_refusal, place_of, place_of_repeat}
+use Rattle.pdu_header.specs.Fletcher.Checksum.{octet}
 use Rattle.pdu_header.specs.declared.kind.Kind.{Kind}
 use Rattle.pdu_header.specs.declared.kind.Kind.TheVariants.{Er}
 use Rattle.pdu_header.specs.Grammar.{is_report}

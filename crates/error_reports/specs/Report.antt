@@ -1,6 +1,6 @@
 -- The error report of a PDU's discard (ISO 8473, sections 6.10 and 7.9).
 use Rattle.std.specs.Prelude.{ℕ, Bool, false, List, [], ◌∷◌, None}
-use Rattle.clnp_options.specs.Parameter.{Parameter, reason}
+use Rattle.pdu_header.specs.ClnpOptions.Parameter.{Parameter, reason}
 use Rattle.pdu_header.specs.declared.kind.Kind.TheVariants.{Er}
 use Rattle.pdu_header.specs.Value.{PduValue}
 use Rattle.pdu_header.specs.Rules.{header_of, source_place}

@@ -1,7 +1,7 @@
 -- What an error report tells (ISO 8473, sections 7.9.5 and 7.9.6).
 use Rattle.std.specs.Prelude.{◌≡◌, ℕ, List, [], Contains, unwrap_or}
-use Rattle.clnp_options.specs.Parameter.{Parameter, reason}
-use Rattle.clnp_options.specs.Edits.{value_of}
+use Rattle.pdu_header.specs.ClnpOptions.Parameter.{Parameter, reason}
+use Rattle.pdu_header.specs.ClnpOptions.Edits.{value_of}
 use Rattle.pdu_header.specs.Rules.{octet}
 use Rattle.pdu_header.specs.declared.kind.Kind.TheVariants.{Er}
 use Rattle.pdu_header.specs.Value.{PduValue}

@@ -1,15 +1,15 @@
 //! Error reports made.
 ghost use Rattle.std.specs.Prelude.{◌≡◌, ◌≤◌, ◌++◌, ◌∷◌, [], ℕ, IfSome, List, None, is_some, length, take, true};
-ghost use Rattle.clnp_options.specs.Grammar.{FitsKind};
-ghost use Rattle.clnp_options.specs.Parameter.{parameters, spelled};
+ghost use Rattle.pdu_header.specs.ClnpOptions.Grammar.{FitsKind};
+ghost use Rattle.pdu_header.specs.ClnpOptions.Parameter.{parameters, spelled};
 ghost use Rattle.pdu_header.specs.Grammar.{Spells};
 ghost use Rattle.pdu_header.specs.Headers.{SpellsHeader};
 ghost use Rattle.pdu_header.specs.Parts.{AreFit, parts_length, parts_value};
 ghost use Rattle.pdu_header.specs.Rules.{header_of, is_reportable, refusal};
 ghost use Rattle.error_reports.specs.Report.{reason_option, report_of, source_of};
 
-use clnp_options::{OptionList, OptionRef};
-use nsap::Address;
+use pdu_header::clnp_options::{OptionList, OptionRef};
+use pdu_header::nsap::Address;
 use pdu_header::{Header, Kind, Parts, ReportTo, reportable};
 
 /// The error report of a frame's discard.
@@ -74,8 +74,8 @@ fn reason_alone(code: u8, place: u8) -> OptionList
     ensures fits { FitsKind true (parameters result) }
     ensures size { length (spelled (parameters result)) ≡ 4 }
 {
-    clnp_options::laws::formed_where_no_form_rule_is_broken();
-    clnp_options::laws::spelled_options_read_back();
+    pdu_header::clnp_options::laws::formed_where_no_form_rule_is_broken();
+    pdu_header::clnp_options::laws::spelled_options_read_back();
     let mut options = OptionList::new();
     let Ok(()) = options.push(OptionRef::Reason { code, place }) else {
         unreachable!()

@@ -1,14 +1,14 @@
 //! Error reports read.
 ghost use Rattle.std.specs.Prelude.{◌≡◌, ◌↔◌, ◌∷◌, [], All, Contains, IfOk, IsOk, Some, true};
-ghost use Rattle.clnp_options.specs.Edits.{value_of};
-ghost use Rattle.clnp_options.specs.Grammar.{FitsKind, HasForm};
-ghost use Rattle.clnp_options.specs.Parameter.{parameters, reason};
+ghost use Rattle.pdu_header.specs.ClnpOptions.Edits.{value_of};
+ghost use Rattle.pdu_header.specs.ClnpOptions.Grammar.{FitsKind, HasForm};
+ghost use Rattle.pdu_header.specs.ClnpOptions.Parameter.{parameters, reason};
 ghost use Rattle.pdu_header.specs.Grammar.{IsPdu};
 ghost use Rattle.pdu_header.specs.View.{pdu_value};
 ghost use Rattle.error_reports.specs.Report.{reason_option};
 ghost use Rattle.error_reports.specs.Told.{Tells, cause_in, place_in};
 
-use clnp_options::first_option;
+use pdu_header::clnp_options::first_option;
 use pdu_header::{Kind, Pdu};
 
 /// The code of the reason for discard (ISO 8473, section 7.9.5).

@@ -1,12 +1,12 @@
 -- Keys that are forgotten one after another.
 use Rattle.std.proofs.Common.{◌≡◌, ◌∙◌, refl, sym, ap, subst, ℕ, suc, ◌+◌, List, [], ◌∷◌, ◌++◌, map, length, Option, Some, None, append_assoc, length-append, arith}
 use Rattle.std.proofs.lemmas.List.{append-nil, map-append}
-use Rattle.esis_tables.specs.declared.fact.Gone.{Gone}
-use Rattle.esis_tables.specs.declared.tables.Tables.{Tables}
-use Rattle.esis_tables.specs.Fact.{Fact}
-use Rattle.esis_tables.specs.Stands as heard
-use Rattle.esis_tables.specs.Stands.{FlushesFirst}
-use Rattle.clnp_plan.specs.declared.output.Output.{Output}
+use Rattle.clnp_machine.specs.EsisTables.declared.fact.Gone.{Gone}
+use Rattle.clnp_machine.specs.EsisTables.declared.tables.Tables.{Tables}
+use Rattle.clnp_machine.specs.EsisTables.Fact.{Fact}
+use Rattle.clnp_machine.specs.EsisTables.Stands as heard
+use Rattle.clnp_machine.specs.EsisTables.Stands.{FlushesFirst}
+use Rattle.clnp_machine.specs.ClnpPlan.declared.output.Output.{Output}
 use Rattle.clnp_machine.specs.Esis.{gone_note}
 use Rattle.clnp_machine.specs.Given.{Appends, GiveAll}
 use Rattle.clnp_machine.specs.System as machine

@@ -3,9 +3,9 @@ use Rattle.std.proofs.Common.{◌≡◌, ◌∙◌, refl, sym, ap, ℕ, Bool, Li
 use Rattle.std.specs.Prelude.{◌||◌}
 use Rattle.std.specs.List.{list_any}
 use Rattle.std.proofs.lemmas.List.Folds.{list_any-append}
-use Rattle.esis_tables.specs.declared.fact.Place.{Place}
-use Rattle.esis_tables.specs.declared.fact.TableKind.TheVariants.{Es}
-use Rattle.clnp_plan.specs.declared.output.Output.{Output}
+use Rattle.clnp_machine.specs.EsisTables.declared.fact.Place.{Place}
+use Rattle.clnp_machine.specs.EsisTables.declared.fact.TableKind.TheVariants.{Es}
+use Rattle.clnp_machine.specs.ClnpPlan.declared.output.Output.{Output}
 use Rattle.clnp_machine.specs.Esis.{hears, hears_each, tells_new}
 use Rattle.clnp_machine.specs.Given.{Appends}
 use Rattle.clnp_machine.specs.System as machine

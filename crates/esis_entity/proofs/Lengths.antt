@@ -1,8 +1,8 @@
 -- How long an end system hello gets.
 use Rattle.std.proofs.Common.{ℕ, zero, suc, ◌*◌, ◌<◌, ◌≤◌, List, [], ◌∷◌, length, get_or, arith, length-append}
-use Rattle.clnp_options.specs.Grammar.{joined}
-use Rattle.clnp_options.specs.Parameter.{spelled}
-use Rattle.esis_pdus.specs.Making.{esh_length}
+use Rattle.clnp_machine.specs.ClnpOptions.Grammar.{joined}
+use Rattle.clnp_machine.specs.ClnpOptions.Parameter.{spelled}
+use Rattle.clnp_machine.specs.EsisPdus.Making.{esh_length}
 
 joined_few : (list : List (List ℕ)) → ((k : ℕ) (d : List ℕ) → k < length list → length (get_or list k d) ≤ 20) → length (joined list) ≤ 21 * length list
 unfolding joined

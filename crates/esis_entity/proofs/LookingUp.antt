@@ -1,10 +1,10 @@
 -- Which next hop is found.
 use Rattle.std.proofs.Common.{◌≡◌, ◌∙◌, ap, ℕ, List, Option, Some, None}
 use Rattle.std.specs.Option.{option_or}
-use Rattle.esis_tables.specs.declared.fact.Place.{Place}
-use Rattle.esis_tables.specs.declared.fact.TableKind.TheVariants.{Es, Rd}
-use Rattle.esis_tables.specs.Fact.{Fact}
-use Rattle.esis_tables.specs.NextHop.{current_place, last_router, next_hop}
+use Rattle.clnp_machine.specs.EsisTables.declared.fact.Place.{Place}
+use Rattle.clnp_machine.specs.EsisTables.declared.fact.TableKind.TheVariants.{Es, Rd}
+use Rattle.clnp_machine.specs.EsisTables.Fact.{Fact}
+use Rattle.clnp_machine.specs.EsisTables.NextHop.{current_place, last_router, next_hop}
 
 pub by_redirect : (now : ℕ) (to : List ℕ) (facts : List Fact) (place : Place) → Some place ≡ current_place now Rd to facts → Some place ≡ next_hop now to facts
 by_redirect now to facts place redirect = ap (λ (o : Option Place). option_or o (option_or (current_place now Es to facts) (last_router now facts))) redirect

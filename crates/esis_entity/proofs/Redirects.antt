@@ -1,15 +1,15 @@
 -- Redirects that aren't heard.
 use Rattle.std.proofs.Common.{arith, ◌≡◌, ◌≤◌, ◌∙◌, sym, ap, subst, ℕ, Bool, true, false, List, [], ◌∷◌, Result}
 use Rattle.std.specs.Prelude.{if◌then◌else◌, OnOk}
-use Rattle.esis_tables.specs.declared.fact.Gone.{Gone}
-use Rattle.esis_tables.specs.declared.fact.Place.{Place}
-use Rattle.esis_tables.specs.declared.fact.TableKind.TheVariants.{Rd}
-use Rattle.esis_tables.specs.Fact.{Fact}
-use Rattle.esis_tables.specs.NextHop.{is_router}
-use Rattle.esis_tables.specs.Stands as heard
-use Rattle.clnp_plan.specs.declared.config.Role.TheVariants.{Host}
-use Rattle.clnp_plan.specs.declared.note.Note.TheVariants as note
-use Rattle.clnp_plan.specs.declared.output.Output.{Output}
+use Rattle.clnp_machine.specs.EsisTables.declared.fact.Gone.{Gone}
+use Rattle.clnp_machine.specs.EsisTables.declared.fact.Place.{Place}
+use Rattle.clnp_machine.specs.EsisTables.declared.fact.TableKind.TheVariants.{Rd}
+use Rattle.clnp_machine.specs.EsisTables.Fact.{Fact}
+use Rattle.clnp_machine.specs.EsisTables.NextHop.{is_router}
+use Rattle.clnp_machine.specs.EsisTables.Stands as heard
+use Rattle.clnp_machine.specs.ClnpPlan.declared.config.Role.TheVariants.{Host}
+use Rattle.clnp_machine.specs.ClnpPlan.declared.note.Note.TheVariants as note
+use Rattle.clnp_machine.specs.ClnpPlan.declared.output.Output.{Output}
 use Rattle.clnp_machine.specs.Esis.{hears, redirect_heard}
 use Rattle.clnp_machine.specs.Given.{Appends}
 use Rattle.clnp_machine.specs.System as machine

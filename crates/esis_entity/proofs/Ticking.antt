@@ -1,10 +1,10 @@
 -- What is forgotten, and then said.
 use Rattle.std.proofs.Common.{◌≡◌, ◌∙◌, sym, subst, ℕ, List, [], map, Result, Ok, Err}
 use Rattle.std.specs.Prelude.{OnOk}
-use Rattle.esis_tables.specs.Gone.{gone}
-use Rattle.esis_tables.specs.Stands as heard
-use Rattle.esis_tables.specs.Stands.{limits_of}
-use Rattle.clnp_plan.specs.declared.output.Output.{Output}
+use Rattle.clnp_machine.specs.EsisTables.Gone.{gone}
+use Rattle.clnp_machine.specs.EsisTables.Stands as heard
+use Rattle.clnp_machine.specs.EsisTables.Stands.{limits_of}
+use Rattle.clnp_machine.specs.ClnpPlan.declared.output.Output.{Output}
 use Rattle.clnp_machine.specs.Esis.{forgets, gone_note, says_hello}
 use Rattle.clnp_machine.specs.Given.{Appends}
 use Rattle.clnp_machine.specs.System.{SystemState, then_does}

@@ -1,7 +1,7 @@
 -- What the entity's parts do.
 use Rattle.std.specs.Prelude.{◌≡◌, ℕ, Bool, List}
 use Rattle.std.specs.List.{list_any}
-use Rattle.clnp_plan.specs.declared.output.Output.{Output}
+use Rattle.clnp_machine.specs.ClnpPlan.declared.output.Output.{Output}
 use Rattle.clnp_machine.specs.Esis.{tells_new}
 use Rattle.clnp_machine.specs.Given.{Appends}
 use Rattle.clnp_machine.specs.System.{Effect}

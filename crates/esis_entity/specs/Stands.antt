@@ -1,7 +1,7 @@
 -- What the configuration entity of a system stands for.
 use Rattle.std.specs.Prelude.{◌≡◌, ℕ, []}
-use Rattle.esis_tables.specs.Stands as heard
-use Rattle.esis_tables.specs.Stands.{limits_of}
+use Rattle.clnp_machine.specs.EsisTables.Stands as heard
+use Rattle.clnp_machine.specs.EsisTables.Stands.{limits_of}
 use Rattle.clnp_machine.specs.System.{SystemState}
 use Rattle.clnp_machine.specs.Esis.{esis_limits}
 use Rattle.esis_entity.specs.State.{EsisState}

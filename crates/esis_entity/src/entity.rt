@@ -1,23 +1,23 @@
 //! The configuration entity of a system.
 ghost use Rattle.std.specs.Prelude.{◌≡◌, ◌≤◌, ◌<◌, ◌^◌, ℕ, IfOk, OnOk};
-ghost use Rattle.clnp_options.specs.Parameter.{parameters};
-ghost use Rattle.esis_pdus.specs.Value.{suggested};
-ghost use Rattle.esis_pdus.specs.View.{pdu_value};
-ghost use Rattle.esis_tables.specs.declared.fact.TableKind.TheVariants.{Es};
-ghost use Rattle.esis_tables.specs.NextHop as heard;
+ghost use Rattle.clnp_machine.specs.ClnpOptions.Parameter.{parameters};
+ghost use Rattle.clnp_machine.specs.EsisPdus.Value.{suggested};
+ghost use Rattle.clnp_machine.specs.EsisPdus.View.{pdu_value};
+ghost use Rattle.clnp_machine.specs.EsisTables.declared.fact.TableKind.TheVariants.{Es};
+ghost use Rattle.clnp_machine.specs.EsisTables.NextHop as heard;
 ghost use Rattle.clnp_machine.specs.Esis.{esis_comes, forgets, says_hello, tells_of_itself};
 ghost use Rattle.clnp_machine.specs.Given.{Appends};
-ghost use Rattle.clnp_plan.specs.declared.config.Limits.{Limits};
+ghost use Rattle.clnp_machine.specs.ClnpPlan.declared.config.Limits.{Limits};
 ghost use Rattle.clnp_machine.specs.Local.{restarted};
 ghost use Rattle.clnp_machine.specs.System.{SystemState, first_state, then_does};
 ghost use Rattle.esis_entity.specs.Stands.{Stands, StandsSince};
 
-use clnp_base::NoMemory;
-use clnp_plan::{Output, Role, SystemConfig};
-use esis_pdus::EsisPdu;
-use esis_tables::{EsisLimits, Place, Tables};
+use clnp_machine::clnp_base::NoMemory;
+use clnp_machine::clnp_plan::{Output, Role, SystemConfig};
+use clnp_machine::esis_pdus::EsisPdu;
+use clnp_machine::esis_tables::{EsisLimits, Place, Tables};
+use clnp_machine::nsap::{Address, Target};
 use hellos::hello;
-use nsap::{Address, Target};
 use output::send;
 use std::alloc::Global;
 use std::marker::Model;

@@ -1,17 +1,17 @@
 //! What a router tells of better ways (ISO 9542, section 6.8).
 ghost use Rattle.std.specs.Prelude.{◌≡◌, ◌∷◌, [], OnOk, ℕ};
 ghost use Rattle.std.specs.Option.{option_copied};
-ghost use Rattle.nsap.specs.declared.target.Target.TheVariants.{System};
+ghost use Rattle.clnp_machine.specs.Nsap.declared.target.Target.TheVariants.{System};
 ghost use Rattle.clnp_machine.specs.Esis.{redirect};
 ghost use Rattle.clnp_machine.specs.Given.{Appends};
 ghost use Rattle.clnp_machine.specs.System.{SystemState, SendsEsis};
 
 use crate::entity::output::send;
-use clnp_base::NoMemory;
-use clnp_plan::{Output, SystemConfig};
-use esis_pdus::rd;
-use esis_tables::Place;
-use nsap::{Address, Snpa, Target};
+use clnp_machine::clnp_base::NoMemory;
+use clnp_machine::clnp_plan::{Output, SystemConfig};
+use clnp_machine::esis_pdus::rd;
+use clnp_machine::esis_tables::Place;
+use clnp_machine::nsap::{Address, Snpa, Target};
 
 /// A system tells another, at a place of its own, of the better way to an address: the next system's address on that subnetwork,
 /// and its title where it isn't the system of the address itself. The redirect holds for as long as the system's configuration

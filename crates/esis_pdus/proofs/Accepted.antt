@@ -4,10 +4,10 @@ use Rattle.std.specs.Prelude.{nat_lt, option_map}
 use Rattle.std.specs.Option.{option_or}
 use Rattle.std.proofs.lemmas.Bool.{not-false, not_from_true, eqb-true, eq-eqb}
 use Rattle.std.proofs.lemmas.Bool.Decides.{nat_tests}
-use Rattle.clnp_base.proofs.Choices.{option_or-parts, option_or-none, not_below, below_not, not_picked}
-use Rattle.fletcher.specs.Checksum.{octet}
-use Rattle.clnp_options.specs.Parameter.{parameters}
-use Rattle.clnp_options.specs.Rules.{place_of_unfit}
+use Rattle.pdu_header.proofs.ClnpBase.Choices.{option_or-parts, option_or-none, not_below, below_not, not_picked}
+use Rattle.pdu_header.specs.Fletcher.Checksum.{octet}
+use Rattle.pdu_header.specs.ClnpOptions.Parameter.{parameters}
+use Rattle.pdu_header.specs.ClnpOptions.Rules.{place_of_unfit}
 use Rattle.pdu_header.specs.Rules.{has_right_checksum}
 use Rattle.esis_pdus.specs.declared.pdu.EsisRefusal.{EsisRefusal}
 use Rattle.esis_pdus.specs.declared.pdu.EsisRefusal.TheVariants.{Broken}

@@ -2,10 +2,10 @@
 use Rattle.std.proofs.Common.{◌≡◌, ◌∙◌, refl, sym, ap, subst, ℕ, ◌≤◌, ◌&&◌, ◌||◌, not, Bool, true, false, if◌then◌else◌, List, [], ◌∷◌, ◌++◌, length, drop, Option, Some, None, arith, append_assoc}
 use Rattle.std.specs.Prelude.{nat_le}
 use Rattle.std.proofs.lemmas.Bool.{and_parts, and_from, eqb-true, eq-eqb, ne_eqb, le-leb, leb-true}
-use Rattle.fletcher.specs.Checksum.{octet}
+use Rattle.pdu_header.specs.Fletcher.Checksum.{octet}
 use Rattle.hex.specs.Hex.{IsBytes}
-use Rattle.clnp_options.specs.Parameter.{parameters}
-use Rattle.clnp_options.specs.Grammar.{joined}
+use Rattle.pdu_header.specs.ClnpOptions.Parameter.{parameters}
+use Rattle.pdu_header.specs.ClnpOptions.Grammar.{joined}
 use Rattle.pdu_header.specs.Spelling.{counted}
 use Rattle.esis_pdus.specs.declared.pdu.EsisBody.{EsisBody}
 use Rattle.esis_pdus.specs.declared.pdu.EsisBody.TheVariants.{Esh, Ish, Rd}
@@ -18,7 +18,7 @@ use Rattle.esis_pdus.specs.Reading.{title_of, redirection, body_of}
 use Rattle.esis_pdus.proofs.FieldFacts.{is_field_split, addresses_split, address_is, bytes_of_field, bytes_of_behind, field_of_counted, behind_counted, is_field_counted, reads}
 use Rattle.esis_pdus.proofs.Options.{is_once, once_from, nothing_wrong}
 use Rattle.esis_pdus.proofs.Accepted.{IsAccepted}
-use Rattle.clnp_base.proofs.ListSteps.{bytes_of_drop}
+use Rattle.pdu_header.proofs.ClnpBase.ListSteps.{bytes_of_drop}
 
 -- ---- written again
 

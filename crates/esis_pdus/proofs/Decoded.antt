@@ -2,8 +2,8 @@
 use Rattle.std.proofs.Common.{◌≡◌, sym, subst, ℕ, List, Result, Ok, Err}
 use Rattle.std.specs.Prelude.{IfOk, OnErr}
 use Rattle.hex.specs.Hex.{IsBytes}
-use Rattle.fletcher.specs.Checksum.{octet}
-use Rattle.clnp_options.specs.Parameter.{parameters, spelled}
+use Rattle.pdu_header.specs.Fletcher.Checksum.{octet}
+use Rattle.pdu_header.specs.ClnpOptions.Parameter.{parameters, spelled}
 use Rattle.pdu_header.specs.Rules.{header_of}
 use Rattle.esis_pdus.specs.declared.pdu.EsisPdu.{EsisPdu}
 use Rattle.esis_pdus.specs.declared.pdu.EsisRefusal.{EsisRefusal}

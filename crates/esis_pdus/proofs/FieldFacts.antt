@@ -5,16 +5,16 @@ use Rattle.std.proofs.lemmas.Bool.{and_parts, and_from}
 use Rattle.std.proofs.lemmas.Bool.Decides.{nat_tests}
 use Rattle.std.proofs.lemmas.List.{take_at, drop_at, length-take-le, append-nil, length-drop, take_more}
 use Rattle.std.proofs.lemmas.List.Elements.{All-nil, All-cons, All-head, All-tail, All-append}
-use Rattle.fletcher.specs.Checksum.{octet}
-use Rattle.nsap.specs.Address.{IsAddress, address_of}
-use Rattle.nsap.specs.declared.fault.NsapFault.{NsapFault}
+use Rattle.pdu_header.specs.Fletcher.Checksum.{octet}
+use Rattle.pdu_header.specs.Nsap.Address.{IsAddress, address_of}
+use Rattle.pdu_header.specs.Nsap.declared.fault.NsapFault.{NsapFault}
 use Rattle.hex.specs.Hex.{IsBytes}
-use Rattle.clnp_options.specs.Grammar.{joined}
+use Rattle.pdu_header.specs.ClnpOptions.Grammar.{joined}
 use Rattle.pdu_header.specs.Spelling.{counted}
 use Rattle.esis_pdus.specs.Fields.{is_field, field, behind, are_addresses, addresses, behind_addresses, address_list, behind_address_list}
 use Rattle.esis_pdus.specs.Filled.{IsFilled}
-use Rattle.clnp_base.proofs.ListSteps.{bytes_of_drop, bytes_of_take}
-pub use Rattle.clnp_options.proofs.Titles.{joined-append, joined-nil}
+use Rattle.pdu_header.proofs.ClnpBase.ListSteps.{bytes_of_drop, bytes_of_take}
+pub use Rattle.pdu_header.proofs.ClnpOptions.Titles.{joined-append, joined-nil}
 
 -- ---- octets
 

@@ -3,10 +3,10 @@ use Rattle.std.proofs.Common.{◌≡◌, ◌∙◌, inl, inr, refl, sym, ap, sub
 use Rattle.std.specs.Prelude.{◌↔◌}
 use Rattle.std.proofs.lemmas.Bool.{eqb-false}
 use Rattle.std.proofs.lemmas.List.{take_at, drop_at, get_or_append_left}
-use Rattle.clnp_base.proofs.Choices.{option_or-parts, option_or-none}
+use Rattle.pdu_header.proofs.ClnpBase.Choices.{option_or-parts, option_or-none}
 use Rattle.hex.specs.Hex.{IsBytes}
-use Rattle.fletcher.specs.Checksum.{octet, IsSealed, sealed}
-use Rattle.clnp_options.specs.Parameter.{Parameter, parameters, spelled}
+use Rattle.pdu_header.specs.Fletcher.Checksum.{octet, IsSealed, sealed}
+use Rattle.pdu_header.specs.ClnpOptions.Parameter.{Parameter, parameters, spelled}
 use Rattle.pdu_header.specs.Spelling.{pair_of}
 use Rattle.pdu_header.specs.Rules.{pair_at, header_size, header_of, has_right_checksum}
 use Rattle.esis_pdus.specs.declared.pdu.EsisBody.{EsisBody}
@@ -21,7 +21,7 @@ use Rattle.esis_pdus.proofs.Options.{options_again, parameters-Forms, options_fi
 use Rattle.esis_pdus.proofs.Accepted.{IsAccepted, accepted, accepting, has_header, header_here}
 use Rattle.esis_pdus.proofs.Bodies.{has_body, reads_body}
 use Rattle.esis_pdus.proofs.Shape.{nine_bare, same_layout, sealing_again, bare_again, sealed_layout, pair_is_zero, pair_is_used, pair_again, pair_of_octets, right_from_test, unused_passes, sealed_passes, HasHeader, length_of_header, octet_of_header, sealed_is}
-use Rattle.clnp_base.proofs.ListSteps.{bytes_of_take}
+use Rattle.pdu_header.proofs.ClnpBase.ListSteps.{bytes_of_take}
 
 -- ---- what is spelled breaks no rule, and is read again
 

@@ -1,10 +1,10 @@
 -- Where the options of a header stand.
 use Rattle.std.proofs.Common.{◌≡◌, ℕ, ◌+◌, ◌-◌, ◌≤◌, List, length, drop, arith, length-drop}
-use Rattle.fletcher.specs.Checksum.{octet}
+use Rattle.pdu_header.specs.Fletcher.Checksum.{octet}
 use Rattle.esis_pdus.specs.Fields.{behind}
 use Rattle.esis_pdus.specs.Rules.{variable_part, is_esh, is_ish, options_part}
 use Rattle.esis_pdus.proofs.FieldFacts.{length_behind, length_behind_addresses}
-use Rattle.clnp_base.proofs.Choices.{one_of}
+use Rattle.pdu_header.proofs.ClnpBase.Choices.{one_of}
 
 -- the options stand behind the fixed part
 pub options_behind : (head : List ℕ) → 9 ≤ length head → 9 + length (options_part head) ≤ length head

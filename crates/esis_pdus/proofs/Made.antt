@@ -3,9 +3,9 @@ use Rattle.std.proofs.Common.{◌≡◌, ◌∙◌, refl, sym, ap, ℕ, zero, su
 use Rattle.std.specs.Prelude.{All}
 use Rattle.std.specs.List.{slice_set}
 use Rattle.std.proofs.lemmas.List.{append-nil}
-use Rattle.nsap.specs.Address.{IsAddress}
-use Rattle.clnp_options.specs.Parameter.{spelled}
-use Rattle.clnp_options.specs.Grammar.{joined}
+use Rattle.pdu_header.specs.Nsap.Address.{IsAddress}
+use Rattle.pdu_header.specs.ClnpOptions.Parameter.{spelled}
+use Rattle.pdu_header.specs.ClnpOptions.Grammar.{joined}
 use Rattle.pdu_header.specs.Parts.{checked}
 use Rattle.pdu_header.specs.Spelling.{counted, pair_of}
 use Rattle.esis_pdus.specs.declared.pdu.EsisBody.TheVariants.{Esh, Ish, Rd}

@@ -4,13 +4,13 @@ use Rattle.std.specs.Prelude.{All}
 use Rattle.std.proofs.lemmas.Bool.{cases_eq, eq-eqb, ne_eqb, eqb-true}
 use Rattle.std.proofs.lemmas.List.{append-nil, nil_from_length}
 use Rattle.std.proofs.lemmas.List.Elements.{All-nil, All-cons, All-head, All-tail}
-use Rattle.clnp_options.specs.Parameter.{Parameter, parameters, spelled, size_of}
-use Rattle.clnp_options.specs.Rules.{place_of_unfit}
-pub use Rattle.clnp_options.proofs.Parts.{split_of, parameters-of_spelled, parameters-Forms, spelled-nil}
+use Rattle.pdu_header.specs.ClnpOptions.Parameter.{Parameter, parameters, spelled, size_of}
+use Rattle.pdu_header.specs.ClnpOptions.Rules.{place_of_unfit}
+pub use Rattle.pdu_header.proofs.ClnpOptions.Parts.{split_of, parameters-of_spelled, parameters-Forms, spelled-nil}
 use Rattle.esis_pdus.specs.Timer.{timer, place_of_wrong_timer}
 use Rattle.esis_pdus.specs.Grammar.{HasOneTimer}
 use Rattle.esis_pdus.proofs.Timers.{timer_here, other_here, wrong_here}
-use Rattle.clnp_base.proofs.Lists.{pairs_first, pairs_others}
+use Rattle.pdu_header.proofs.ClnpBase.Lists.{pairs_first, pairs_others}
 use Rattle.std.proofs.lemmas.List.Kept.{AllPairs-cons}
 
 -- ---- options that fill a part

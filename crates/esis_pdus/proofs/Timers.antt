@@ -2,10 +2,10 @@
 use Rattle.std.proofs.Common.{◌≡◌, ◌≢◌, ◌∙◌, refl, sym, ap, ℕ, ◌+◌, ◌||◌, ◌==◌, not, Bool, true, false, List, [], ◌∷◌, length, Option, Some, None, is_some, arith}
 use Rattle.std.specs.Option.{option_or}
 use Rattle.std.proofs.lemmas.Bool.{eq-eqb, ne_eqb}
-use Rattle.clnp_options.specs.Parameter.{Parameter, parameters, size_of}
+use Rattle.pdu_header.specs.ClnpOptions.Parameter.{Parameter, parameters, size_of}
 use Rattle.pdu_header.specs.Rules.{pair_at}
 use Rattle.esis_pdus.specs.Timer.{place_of_wrong_timer, seconds_of}
-use Rattle.clnp_base.proofs.Choices.{or_false, option_or-nothing}
+use Rattle.pdu_header.proofs.ClnpBase.Choices.{or_false, option_or-nothing}
 
 pub nil_place : (seen : Bool) (place : ℕ) → place_of_wrong_timer seen place [] ≡ None
 unfolding place_of_wrong_timer

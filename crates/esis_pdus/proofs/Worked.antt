@@ -1,8 +1,8 @@
 -- Worked frames: what their values spell, and what the rules say of them.
 use Rattle.std.proofs.Common.{◌≡◌, ℕ, true, List, [], ◌∷◌, Some, None, refl}
-use Rattle.fletcher.specs.Checksum.{sealed, checksum_x, checksum_y}
-use Rattle.clnp_options.specs.Parameter.{spelled}
-use Rattle.clnp_options.specs.Grammar.{joined}
+use Rattle.pdu_header.specs.Fletcher.Checksum.{sealed, checksum_x, checksum_y}
+use Rattle.pdu_header.specs.ClnpOptions.Parameter.{spelled}
+use Rattle.pdu_header.specs.ClnpOptions.Grammar.{joined}
 use Rattle.esis_pdus.specs.declared.pdu.EsisBody.TheVariants.{Esh, Ish, Rd}
 use Rattle.esis_pdus.specs.Making.{value, timer_options}
 use Rattle.esis_pdus.specs.Spelling.{spelling}

@@ -1,6 +1,6 @@
 -- The fields of a header's address parts (ISO 9542, sections 7.3 and 7.4): a length octet, and then so many octets.
 use Rattle.std.specs.Prelude.{ℕ, zero, suc, ◌&&◌, nat_le, nat_lt, Bool, true, List, [], ◌∷◌, length, take, drop}
-use Rattle.fletcher.specs.Checksum.{octet}
+use Rattle.pdu_header.specs.Fletcher.Checksum.{octet}
 
 -- a field lies whole at the front of these octets, and has at least so many octets, and 20 at most
 abbrev pub is_field : ℕ → List ℕ → Bool

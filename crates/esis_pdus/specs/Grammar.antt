@@ -1,7 +1,7 @@
 -- Which octets are an ES-IS PDU: a relation between a value and its octets (ISO 9542, section 7).
 use Rattle.std.specs.Prelude.{◌≡◌, ℕ, ◌^◌, ◌<◌, ◌≤◌, List, ◌++◌, length, Option, None, Some, All, AllPairs}
-use Rattle.nsap.specs.Address.{IsAddress}
-use Rattle.clnp_options.specs.Parameter.{Parameter}
+use Rattle.pdu_header.specs.Nsap.Address.{IsAddress}
+use Rattle.pdu_header.specs.ClnpOptions.Parameter.{Parameter}
 use Rattle.esis_pdus.specs.declared.pdu.EsisBody.{EsisBody}
 use Rattle.esis_pdus.specs.declared.pdu.EsisBody.TheVariants.{Esh, Ish, Rd}
 use Rattle.esis_pdus.specs.Timer.{timer}

@@ -1,3 +1,7 @@
+pub use Rattle.pdu_header.specs.Fletcher
+pub use Rattle.pdu_header.specs.Nsap
+pub use Rattle.pdu_header.specs.ClnpOptions
+pub use Rattle.pdu_header.specs as PduHeader
 pub mod Fields
 pub mod Filled
 pub mod Timer

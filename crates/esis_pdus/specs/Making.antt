@@ -1,6 +1,6 @@
 -- The values of PDUs that this system makes.
 use Rattle.std.specs.Prelude.{ℕ, Bool, List, [], ◌∷◌, Option, None, Some, false}
-use Rattle.clnp_options.specs.Parameter.{Parameter}
+use Rattle.pdu_header.specs.ClnpOptions.Parameter.{Parameter}
 use Rattle.pdu_header.specs.Spelling.{pair_of}
 use Rattle.esis_pdus.specs.declared.pdu.EsisBody.{EsisBody}
 use Rattle.esis_pdus.specs.declared.pdu.EsisBody.TheVariants.{Esh}

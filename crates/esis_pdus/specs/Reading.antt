@@ -1,6 +1,6 @@
 -- The value that a header carries, read off field by field.
 use Rattle.std.specs.Prelude.{ℕ, ◌==◌, not, if◌then◌else◌, List, length, drop, Option, None, Some}
-use Rattle.clnp_options.specs.Parameter.{parameters}
+use Rattle.pdu_header.specs.ClnpOptions.Parameter.{parameters}
 use Rattle.pdu_header.specs.Rules.{pair_at, header_size}
 use Rattle.esis_pdus.specs.declared.pdu.EsisBody.{EsisBody}
 use Rattle.esis_pdus.specs.declared.pdu.EsisBody.TheVariants.{Esh, Ish, Rd}

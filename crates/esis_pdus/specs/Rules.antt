@@ -3,9 +3,9 @@
 -- header, the frame's first octets up to its length indicator (ISO 9542, section 7).
 use Rattle.std.specs.Prelude.{ℕ, ◌+◌, ◌-◌, ◌==◌, ◌&&◌, ◌||◌, not, nat_lt, Bool, false, if◌then◌else◌, List, [], ◌∷◌, length, drop, Option, None, Some, option_map, Result, MatchResult, ◌≡◌}
 use Rattle.std.specs.Option.{option_or}
-use Rattle.fletcher.specs.Checksum.{octet}
-use Rattle.clnp_options.specs.Parameter.{parameters}
-use Rattle.clnp_options.specs.Rules.{place_of_unfit}
+use Rattle.pdu_header.specs.Fletcher.Checksum.{octet}
+use Rattle.pdu_header.specs.ClnpOptions.Parameter.{parameters}
+use Rattle.pdu_header.specs.ClnpOptions.Rules.{place_of_unfit}
 use Rattle.pdu_header.specs.Rules.{header_size, header_of, has_right_checksum}
 use Rattle.esis_pdus.specs.declared.pdu.EsisRefusal.{EsisRefusal}
 use Rattle.esis_pdus.specs.declared.pdu.EsisRefusal.TheVariants.{NotEsis, Broken}

@@ -1,8 +1,8 @@
 -- The octets that spell an ES-IS value (ISO 9542, section 7).
 use Rattle.std.specs.Prelude.{ℕ, ◌+◌, if◌then◌else◌, List, [], ◌∷◌, ◌++◌, length, Option, None, Some}
-use Rattle.fletcher.specs.Checksum.{sealed}
-use Rattle.clnp_options.specs.Parameter.{spelled}
-use Rattle.clnp_options.specs.Grammar.{joined}
+use Rattle.pdu_header.specs.Fletcher.Checksum.{sealed}
+use Rattle.pdu_header.specs.ClnpOptions.Parameter.{spelled}
+use Rattle.pdu_header.specs.ClnpOptions.Grammar.{joined}
 use Rattle.pdu_header.specs.Spelling.{counted, pair_of}
 use Rattle.esis_pdus.specs.declared.pdu.EsisBody.{EsisBody}
 use Rattle.esis_pdus.specs.declared.pdu.EsisBody.TheVariants.{Esh, Ish, Rd}

@@ -1,6 +1,6 @@
 -- The suggested end system configuration timer, an option of an intermediate system hello (ISO 9542:1988).
 use Rattle.std.specs.Prelude.{ℕ, ◌+◌, ◌==◌, ◌&&◌, ◌||◌, not, Bool, if◌then◌else◌, List, [], ◌∷◌, length, Option, Some, None}
-use Rattle.clnp_options.specs.Parameter.{Parameter, size_of}
+use Rattle.pdu_header.specs.ClnpOptions.Parameter.{Parameter, size_of}
 use Rattle.pdu_header.specs.Rules.{pair_at}
 
 abbrev pub timer : ℕ

@@ -1,6 +1,6 @@
 -- The value that an ES-IS PDU carries (ISO 9542, section 7).
 use Rattle.std.specs.Prelude.{ℕ, Bool, List, Option, None}
-use Rattle.clnp_options.specs.Parameter.{Parameter}
+use Rattle.pdu_header.specs.ClnpOptions.Parameter.{Parameter}
 use Rattle.esis_pdus.specs.declared.pdu.EsisBody.{EsisBody}
 use Rattle.esis_pdus.specs.declared.pdu.EsisBody.TheVariants.{Esh, Ish, Rd}
 use Rattle.esis_pdus.specs.Timer.{seconds_of}

@@ -1,6 +1,6 @@
 -- What the code's types mean.
 use Rattle.std.specs.Prelude.{◌≡◌, ◌==◌, not}
-use Rattle.clnp_options.specs.Parameter.{parameters, spelled}
+use Rattle.pdu_header.specs.ClnpOptions.Parameter.{parameters, spelled}
 use Rattle.esis_pdus.specs.declared.pdu.EsisPdu.{EsisPdu}
 use Rattle.esis_pdus.specs.Value.{EsisValue}
 use Rattle.esis_pdus.specs.Grammar.{IsPdu}

@@ -1,11 +1,11 @@
 //! The addresses of an end system hello.
-ghost use Rattle.clnp_options.specs.Grammar.{joined};
+ghost use Rattle.pdu_header.specs.ClnpOptions.Grammar.{joined};
 ghost use Rattle.esis_pdus.specs.Fields.{address_list, are_addresses, behind_address_list, behind_addresses, is_address_list};
 ghost use Rattle.std.specs.Iterator.{YieldsFirstBy, item_count};
 ghost use Rattle.std.specs.Prelude.{◌≡◌, ◌+◌, IfSome, MatchOption, false, length, true};
 
 use crate::fields::field;
-use nsap::Address;
+use pdu_header::nsap::Address;
 use std::marker::Model;
 
 /// The addresses of an end system hello in order, which are read off its frame (ISO 9542, section 7.6).

@@ -1,5 +1,5 @@
 //! Frames read as ES-IS PDUs, by the rules E1 to E12.
-ghost use Rattle.clnp_options.specs.Parameter.{parameters};
+ghost use Rattle.pdu_header.specs.ClnpOptions.Parameter.{parameters};
 ghost use Rattle.esis_pdus.specs.Fields.{address_list, behind_address_list, field as field_octets, behind, is_address_list, is_field};
 ghost use Rattle.esis_pdus.specs.Reading.{body_of, redirection, rest_of, value_of};
 ghost use Rattle.esis_pdus.specs.Rules.{Gives, address_rules, first_broken, fixed_part_rules, frame_rules, is_ish, is_redirection, option_rules, options_part, options_place, refusal, why_refused};
@@ -9,7 +9,7 @@ ghost use Rattle.esis_pdus.specs.Value.{EsisValue, suggested};
 ghost use Rattle.esis_pdus.specs.View.{IsWritable, pdu_value};
 ghost use Rattle.esis_pdus.specs.Grammar.{BeginsWith};
 ghost use Rattle.esis_pdus.specs.Kinds.{code_of};
-ghost use Rattle.fletcher.specs.Checksum.{octet};
+ghost use Rattle.pdu_header.specs.Fletcher.Checksum.{octet};
 ghost use Rattle.pdu_header.specs.Rules as pdu_rules;
 ghost use Rattle.pdu_header.specs.Rules.{header_size};
 ghost use Rattle.std.specs.Prelude.{◌≡◌, ◌+◌, ◌==◌, ◌≤◌, ℕ, List, IfOk, IfSome, OnErr, MatchOption, MatchResult, None, Some, false, length, option_map, true, if◌then◌else◌};
@@ -20,8 +20,8 @@ use crate::hello::TIMER;
 use crate::kind::{Kind, kind_of};
 use crate::pdu::{EsisBody, EsisPdu, EsisRefusal};
 use byteorder::{BigEndian, ByteOrder};
-use clnp_options::{first_option, place_of_unfit};
-use nsap::{Address, Snpa};
+use pdu_header::clnp_options::{first_option, place_of_unfit};
+use pdu_header::nsap::{Address, Snpa};
 
 /// The first octet: the network layer protocol identifier of ISO 9542 (section 7.2).
 const PROTOCOL: u8 = 0x82;
@@ -164,7 +164,7 @@ fn has_right_checksum(head: &[u8]) -> bool
     requires at_most { length head.now ≤ 254 }
     ensures { result ≡ pdu_rules.has_right_checksum head.now }
 {
-    fletcher::is_right(head)
+    pdu_header::fletcher::is_right(head)
 }
 
 /// The addresses of a header of this kind, and its options. Refuses by E8 to E10.

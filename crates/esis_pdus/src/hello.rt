@@ -1,7 +1,7 @@
 //! The PDUs that this system makes.
-ghost use Rattle.clnp_options.specs.Grammar.{joined};
-ghost use Rattle.clnp_options.specs.Parameter.{spelled};
-ghost use Rattle.nsap.specs.Address.{IsAddress};
+ghost use Rattle.pdu_header.specs.ClnpOptions.Grammar.{joined};
+ghost use Rattle.pdu_header.specs.ClnpOptions.Parameter.{spelled};
+ghost use Rattle.pdu_header.specs.Nsap.Address.{IsAddress};
 ghost use Rattle.esis_pdus.specs.Grammar.{IsTitleOrNone, Spells};
 ghost use Rattle.esis_pdus.specs.Making.{esh_length, timer_options, value};
 ghost use Rattle.esis_pdus.specs.Rules.{refusal};
@@ -14,9 +14,9 @@ use crate::kind::Kind;
 use crate::pdu::EsisBody;
 use crate::write::{MOST, begun, finished, push_counted};
 use byteorder::{BigEndian, ByteOrder};
-use clnp_base::InlineOctets;
-use clnp_views::Head;
-use nsap::{Address, Snpa};
+use pdu_header::clnp_base::InlineOctets;
+use pdu_header::clnp_views::Head;
+use pdu_header::nsap::{Address, Snpa};
 
 /// The code of the suggested end system configuration timer (ISO 9542:1988).
 pub const TIMER: u8 = 0xc6;

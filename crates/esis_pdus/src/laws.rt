@@ -4,7 +4,7 @@ ghost use Rattle.hex.specs.Hex.{IsBytes};
 ghost use Rattle.esis_pdus.specs.Grammar.{BeginsWith};
 ghost use Rattle.esis_pdus.specs.Rules.{refusal};
 ghost use Rattle.esis_pdus.specs.Value.{EsisValue};
-ghost use Rattle.fletcher.specs.Checksum.{octet};
+ghost use Rattle.pdu_header.specs.Fletcher.Checksum.{octet};
 ghost use Rattle.std.specs.Prelude.{◌≡◌, ◌↔◌, ℕ, List, None};
 
 /// Of a frame at most one prefix spells a value, and it spells one value only.

@@ -17,3 +17,5 @@ pub use decoder::decode;
 pub use encoding::encode;
 pub use hello::{HelloRefusal, esh, ish, rd};
 pub use pdu::{EsisBody, EsisPdu, EsisRefusal};
+pub use pdu_header;
+pub use pdu_header::{clnp_base, clnp_options, nsap};

@@ -8,8 +8,8 @@ ghost use Rattle.std.specs.Prelude.{◌≡◌, ◌+◌, ◌≤◌, ◌++◌, len
 
 use crate::kind::{Kind, type_of};
 use byteorder::{BigEndian, ByteOrder};
-use clnp_base::InlineOctets;
-use clnp_views::Head;
+use pdu_header::clnp_base::InlineOctets;
+use pdu_header::clnp_views::Head;
 
 /// The network layer protocol identifier of ISO 9542 (section 7.2).
 const PROTOCOL: u8 = 0x82;
@@ -59,7 +59,7 @@ pub fn finished(plain: &InlineOctets<MOST>, sealed: bool) -> Head
     head.copy_from_slice(octets);
     head[1] = octets.len() as u8;
     if sealed {
-        fletcher::seal(head);
+        pdu_header::fletcher::seal(head);
     }
     Head::of(head)
 }

@@ -18,8 +18,8 @@ use Rattle.esis_tables.proofs.Histories.{distinct-latest, find_latest, latest-el
 use Rattle.esis_tables.proofs.Ranks.{distinct-key}
 use Rattle.esis_tables.proofs.Rising.{all_filter, filter_all, filter_none}
 use Rattle.esis_tables.proofs.Sorting.{length-sorted}
-use Rattle.clnp_base.proofs.Lists.{AllByRecursion-push, AllByRecursion-implies}
-use Rattle.clnp_base.proofs.Found.{is_some-find}
+use Rattle.nsap.proofs.ClnpBase.Lists.{AllByRecursion-push, AllByRecursion-implies}
+use Rattle.nsap.proofs.ClnpBase.Found.{is_some-find}
 
 pub same_table-itself : (table : TableKind) → same_table table table ≡ true
 same_table-itself Es = refl

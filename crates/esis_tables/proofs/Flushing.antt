@@ -9,7 +9,7 @@ use Rattle.esis_tables.specs.Gone.{ended_keys, key_of}
 use Rattle.esis_tables.specs.Keeps.{Keeps, AreDistinct, entries_of, without}
 use Rattle.esis_tables.specs.Order.{in_order}
 use Rattle.esis_tables.specs.State.{TableState, entry_for, closed, is_kept, is_of, key_in}
-use Rattle.clnp_base.proofs.SameOctets.{same-itself}
+use Rattle.nsap.proofs.ClnpBase.SameOctets.{same-itself}
 use Rattle.esis_tables.proofs.Hearing.{taken_kept}
 use Rattle.esis_tables.proofs.Keeping.{found_in, rising_of}
 use Rattle.esis_tables.proofs.Places.{find_is}

@@ -6,8 +6,8 @@ use Rattle.std.specs.Option.{option_or}
 use Rattle.esis_tables.specs.declared.fact.TableKind.{TableKind}
 use Rattle.esis_tables.specs.Fact.{Fact, has_key, is_about, last_of, latest, same_table}
 use Rattle.esis_tables.specs.Keeps.{AreDistinct, without}
-use Rattle.clnp_base.proofs.SameOctets.{same_from, same-back, other-back}
-use Rattle.clnp_base.proofs.Choices.{none_is, option_or-assoc, option_or-nothing}
+use Rattle.nsap.proofs.ClnpBase.SameOctets.{same_from, same-back, other-back}
+use Rattle.nsap.proofs.ClnpBase.Choices.{none_is, option_or-assoc, option_or-nothing}
 
 -- a fact, if it is about this key
 abbrev pub one_about : TableKind → List ℕ → Fact → Option Fact

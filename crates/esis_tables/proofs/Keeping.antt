@@ -7,12 +7,12 @@ use Rattle.esis_tables.specs.Fact.{Fact, has_key}
 use Rattle.esis_tables.specs.Keeps.{Keeps, entries_of, AreDistinct, without}
 use Rattle.esis_tables.specs.Order.{in_order, put_in, IsRising}
 use Rattle.esis_tables.specs.State.{TableState, IsAt, IsGap, entry_for, key_in, is_of, raised, closed}
-use Rattle.clnp_base.proofs.SameOctets.{other-back}
+use Rattle.nsap.proofs.ClnpBase.SameOctets.{other-back}
 use Rattle.esis_tables.proofs.Rising.{NoneHas, all_filter}
 use Rattle.esis_tables.proofs.Sorting.{in_order-rising, filter-in_order, in_order-push, list_any-in_order, find-in_order, map-in_order}
 use Rattle.esis_tables.proofs.Places.{remove_is, find_is, none_has, Splits}
 use Rattle.esis_tables.proofs.Ranks.{differ-entries, entries_of-push, entries_of-without}
-use Rattle.clnp_base.proofs.Lists.{AllByRecursion-push}
+use Rattle.nsap.proofs.ClnpBase.Lists.{AllByRecursion-push}
 
 pub rising_of : (table : TableState) (kept : List Fact) → Keeps table kept → IsRising key_in table.entries
 rising_of table kept keeps =

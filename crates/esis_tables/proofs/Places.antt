@@ -12,10 +12,10 @@ use Rattle.std.specs.declared.cmp.Ordering.TheVariants.{Equal}
 use Rattle.esis_tables.specs.declared.table.Entry.{Entry}
 use Rattle.esis_tables.specs.Order.{is_before, put_in, IsRising}
 use Rattle.esis_tables.specs.State.{IsAt, IsGap, key_in}
-use Rattle.clnp_base.proofs.SameOctets.{same_from, other-back}
+use Rattle.nsap.proofs.ClnpBase.SameOctets.{same_from, other-back}
 use Rattle.esis_tables.proofs.Addresses.{before-back, before-other, same_from_equal}
 use Rattle.esis_tables.proofs.Rising.{NoneHas, filter_all}
-use Rattle.clnp_base.proofs.Lists.{AllByRecursion-slice_get, AllByRecursion-implies}
+use Rattle.nsap.proofs.ClnpBase.Lists.{AllByRecursion-slice_get, AllByRecursion-implies}
 
 module _ {X : Type 0} (key : X → List ℕ) where
   pub sorted_from_rising : (xs : List X) → IsRising key xs → IsSortedByKey key (slice_cmp nat_cmp) xs

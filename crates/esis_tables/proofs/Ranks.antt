@@ -6,10 +6,10 @@ use Rattle.esis_tables.specs.declared.table.Entry.{Entry}
 use Rattle.esis_tables.specs.Fact.{Fact, has_key}
 use Rattle.esis_tables.specs.Keeps.{entries_of, AreDistinct, without}
 use Rattle.esis_tables.specs.State.{entry_for, key_in, is_of, raised, closed}
-use Rattle.clnp_base.proofs.SameOctets.{same_from}
+use Rattle.nsap.proofs.ClnpBase.SameOctets.{same_from}
 use Rattle.esis_tables.proofs.Rising.{Differ, NoneHas, filter_all}
 use Rattle.esis_tables.proofs.Steps.{with_rank}
-use Rattle.clnp_base.proofs.Lists.{AllByRecursion-implies}
+use Rattle.nsap.proofs.ClnpBase.Lists.{AllByRecursion-implies}
 use Rattle.std.proofs.lemmas.Option.{same_Some}
 
 -- a test that speaks of no rank is the same of facts and of their entries

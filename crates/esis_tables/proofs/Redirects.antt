@@ -8,7 +8,7 @@ use Rattle.esis_tables.specs.declared.fact.TableKind.{TableKind}
 use Rattle.esis_tables.specs.declared.fact.TableKind.TheVariants.{Es, Is, Rd}
 use Rattle.esis_tables.specs.Fact.{Fact, after, answer, current, currents, end_of, has_key, is_about, is_held, is_noted, last_of, same_table, while_held}
 use Rattle.esis_tables.specs.NextHop.{last, next_hop, place_of}
-use Rattle.clnp_base.proofs.SameOctets.{same_from, same-itself}
+use Rattle.nsap.proofs.ClnpBase.SameOctets.{same_from, same-itself}
 use Rattle.esis_tables.proofs.Current.{after-elsewhere, same_table-itself}
 use Rattle.esis_tables.proofs.Histories.{last_of-elsewhere, last_of-other}
 

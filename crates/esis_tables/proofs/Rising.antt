@@ -4,9 +4,9 @@ use Rattle.std.proofs.lemmas.Bool.{cases_Bool, cond_both}
 use Rattle.std.specs.List.{AllByRecursion, filter}
 use Rattle.std.specs.Str.{bytes_eq}
 use Rattle.esis_tables.specs.Order.{is_before, put_in, IsRising}
-use Rattle.clnp_base.proofs.SameOctets.{other-back}
+use Rattle.nsap.proofs.ClnpBase.SameOctets.{other-back}
 use Rattle.esis_tables.proofs.Addresses.{before-trans, after-other}
-use Rattle.clnp_base.proofs.Lists.{AllByRecursion-implies}
+use Rattle.nsap.proofs.ClnpBase.Lists.{AllByRecursion-implies}
 
 pub all_filter : {X : Type 0} (P : X → Type 0) (p : X → Bool) (xs : List X) → AllByRecursion P xs → AllByRecursion P (filter p xs)
 all_filter P p [] h = tt

@@ -5,9 +5,9 @@ use Rattle.std.specs.List.{AllByRecursion, filter, find, list_any}
 use Rattle.std.specs.Option.{option_to_list}
 use Rattle.std.specs.Str.{bytes_eq}
 use Rattle.esis_tables.specs.Order.{is_before, put_in, in_order, IsRising}
-use Rattle.clnp_base.proofs.SameOctets.{same_from, other-back}
+use Rattle.nsap.proofs.ClnpBase.SameOctets.{same_from, other-back}
 use Rattle.esis_tables.proofs.Rising.{NoneHas, Differ, length-put_in, put_in-rising, filter-put_in, all_put_in, filter_none}
-use Rattle.clnp_base.proofs.Choices.{or_false}
+use Rattle.nsap.proofs.ClnpBase.Choices.{or_false}
 
 module _ {X : Type 0} (key : X → List ℕ) where
   abbrev pub put_all : List X → List X → List X

@@ -11,7 +11,7 @@ ghost use Rattle.esis_tables.specs.Order.{IsRising, put_in};
 ghost use Rattle.esis_tables.specs.State.{IsAt, IsGap, closed, is_kept, is_kept_at, is_later_than, is_of, key_in, latest_kept, new_entry, place_in, place_while_kept, raised};
 
 use crate::fact::{Heard, Place};
-use clnp_base::NoMemory;
+use nsap::clnp_base::NoMemory;
 use nsap::{Address, Snpa};
 use std::alloc::Global;
 use std::marker::Model;

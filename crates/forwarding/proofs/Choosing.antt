@@ -5,13 +5,13 @@ use Rattle.std.specs.List.{AllByRecursion, find, list_any}
 use Rattle.std.proofs.lemmas.Bool.{cases_Bool, cases_lt, ltb-false, ltb-true, true≢false}
 use Rattle.std.proofs.lemmas.List.{length-take, length-take-le}
 use Rattle.std.proofs.lemmas.Option.{get_or_from_slice_get, none-some, same_Some, slice_get_within}
-use Rattle.clnp_base.proofs.Found.{contains_any}
-use Rattle.clnp_base.proofs.Lists.{AllByRecursion-contains, AllByRecursion-from_places, AllByRecursion-implies}
+use Rattle.nsap.proofs.ClnpBase.Found.{contains_any}
+use Rattle.nsap.proofs.ClnpBase.Lists.{AllByRecursion-contains, AllByRecursion-from_places, AllByRecursion-implies}
 use Rattle.nsap.specs.Prefix.{digits_of}
 use Rattle.forwarding.specs.declared.route.Route.{Route}
 use Rattle.forwarding.specs.Distinct.{AreDistinct, has_prefix}
 use Rattle.forwarding.specs.Longest.{IsLongest, is_covering, longer, longest, most_digits}
-use Rattle.clnp_base.proofs.SameOctets.{same_from, same_from_equal}
+use Rattle.nsap.proofs.ClnpBase.SameOctets.{same_from, same_from_equal}
 use Rattle.forwarding.proofs.Prefixes.{found_by_prefix, found_within, none_passes}
 
 -- ---- the most digits

@@ -9,7 +9,7 @@ use Rattle.std.specs.Ordering.{nat_cmp}
 use Rattle.std.proofs.lemmas.Bool.{cases_Bool, cases_eq}
 use Rattle.std.proofs.lemmas.List.Folds.{find-append}
 use Rattle.std.proofs.lemmas.Option.{same_Some, slice_get_within}
-use Rattle.clnp_base.proofs.Lists.{slice_get-set, slice_get-set_other}
+use Rattle.nsap.proofs.ClnpBase.Lists.{slice_get-set, slice_get-set_other}
 use Rattle.nsap.specs.Prefix.{digits_of}
 use Rattle.forwarding.specs.declared.route.Route.{Route}
 use Rattle.forwarding.specs.declared.routes.Routes.{Routes}
@@ -17,10 +17,10 @@ use Rattle.forwarding.specs.Distinct.{has_prefix}
 use Rattle.forwarding.specs.Longest.{longest}
 use Rattle.forwarding.specs.Stands.{Stands}
 use Rattle.forwarding.proofs.Choosing.{NoneAt, longest_at}
-use Rattle.clnp_base.proofs.SameOctets.{other_from, same_from}
+use Rattle.nsap.proofs.ClnpBase.SameOctets.{other_from, same_from}
 use Rattle.forwarding.proofs.Prefixes.{AreDistinct-push}
-use Rattle.clnp_base.proofs.Found.{find_none, is_some-find}
-use Rattle.clnp_base.proofs.Choices.{option_or-nothing, no_value}
+use Rattle.nsap.proofs.ClnpBase.Found.{find_none, is_some-find}
+use Rattle.nsap.proofs.ClnpBase.Choices.{option_or-nothing, no_value}
 
 -- whether a route of this prefix was there
 pub was_there : (routes : Routes) (list : List Route) (prefix : List ℕ) (n : ℕ) (map : BTreeMap (List ℕ) Route) (old : Option Route)

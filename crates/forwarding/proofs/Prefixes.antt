@@ -5,12 +5,12 @@ use Rattle.std.specs.List.{find, list_any, position_from}
 use Rattle.std.specs.Option.{is_some}
 use Rattle.std.proofs.lemmas.Bool.{cases_Bool, cases_order, true≢false}
 use Rattle.std.proofs.lemmas.Option.{none-some, same_Some, slice_get_within}
-use Rattle.clnp_base.proofs.SameOctets.{other-back, same_from, same_from_equal}
+use Rattle.nsap.proofs.ClnpBase.SameOctets.{other-back, same_from, same_from_equal}
 use Rattle.std.proofs.lemmas.Grind.{common_steps}
 use Rattle.std.proofs.lemmas.List.{length-take}
-use Rattle.clnp_base.proofs.Filters.{find-no_position, find-position}
-use Rattle.clnp_base.proofs.Found.{contains_any, find_any, is_some-find}
-use Rattle.clnp_base.proofs.Lists.{AllByRecursion-contains, AllByRecursion-push, AllByRecursion-slice_get}
+use Rattle.nsap.proofs.ClnpBase.Filters.{find-no_position, find-position}
+use Rattle.nsap.proofs.ClnpBase.Found.{contains_any, find_any, is_some-find}
+use Rattle.nsap.proofs.ClnpBase.Lists.{AllByRecursion-contains, AllByRecursion-push, AllByRecursion-slice_get}
 use Rattle.forwarding.specs.declared.route.Route.{Route}
 use Rattle.forwarding.specs.Distinct.{AreDistinct, IsTwice, has_prefix}
 

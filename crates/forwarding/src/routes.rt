@@ -9,7 +9,7 @@ ghost use Rattle.forwarding.specs.Longest.{longest};
 ghost use Rattle.forwarding.specs.Stands.{Stands};
 
 use crate::route::{Route, RouteRefusal};
-use clnp_base::NoMemory;
+use nsap::clnp_base::NoMemory;
 use nsap::{Address, Prefix};
 use std::alloc::Global;
 use std::array::from_fn;

@@ -1,6 +1,6 @@
 -- Actions of the model that were appended, one after another.
 use Rattle.std.proofs.Common.{◌≡◌, ◌∙◌, ap, List, [], ◌∷◌, ◌++◌, append_assoc}
-use Rattle.clnp_plan.specs.declared.note.Note.{Note}
+use Rattle.clnp_machine.specs.ClnpPlan.declared.note.Note.{Note}
 use Rattle.clnp_machine.specs.Local as machine
 use Rattle.clnp_machine.specs.Local.{Tells}
 use Rattle.local_entity.specs.declared.action.Action.{Action}

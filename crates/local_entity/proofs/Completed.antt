@@ -1,14 +1,14 @@
 -- The buffer that a segment makes whole.
 use Rattle.std.proofs.Common.{◌≡◌, ℕ, true, false, ◌&&◌, ◌==◌, List, [], ◌∷◌, ◌++◌, Option, Some, None, refl, sym, ap, ◌∙◌, subst, inl, inr, arith}
 use Rattle.std.proofs.lemmas.Bool.{and_parts, cases_Bool, eqb-true, not-false}
-use Rattle.clnp_views.specs.Extent.{Extent}
-use Rattle.reassembly.specs.declared.segment.Key.{Key}
-use Rattle.reassembly.specs.declared.segment.Shape.{Shape}
-use Rattle.reassembly.specs.declared.table.TableLimits.{TableLimits}
-use Rattle.reassembly.specs.Arrival.{Arrival, data_len, same_key, same_shape}
-use Rattle.reassembly.specs.Buffer.{Answer, Buffer, Whole, after, answer, answer_of, buffer_of, clashes, is_whole, refusal, with_kept}
-use Rattle.reassembly.specs.State.{IsWholeSlot, Names, Stands, TableState}
-use Rattle.clnp_base.proofs.Choices.{if_none}
+use Rattle.clnp_machine.specs.ClnpViews.Extent.{Extent}
+use Rattle.clnp_machine.specs.Reassembly.declared.segment.Key.{Key}
+use Rattle.clnp_machine.specs.Reassembly.declared.segment.Shape.{Shape}
+use Rattle.clnp_machine.specs.Reassembly.declared.table.TableLimits.{TableLimits}
+use Rattle.clnp_machine.specs.Reassembly.Arrival.{Arrival, data_len, same_key, same_shape}
+use Rattle.clnp_machine.specs.Reassembly.Buffer.{Answer, Buffer, Whole, after, answer, answer_of, buffer_of, clashes, is_whole, refusal, with_kept}
+use Rattle.clnp_machine.specs.Reassembly.State.{IsWholeSlot, Names, Stands, TableState}
+use Rattle.clnp_machine.proofs.ClnpBase.Choices.{if_none}
 use Rattle.std.proofs.lemmas.Option.{same_Some}
 use Rattle.local_entity.proofs.Buffers.{made_whole, refusal_not_whole, same_key-like, key_found}
 

@@ -1,11 +1,11 @@
 -- Echo requests answered, and replies taken for answers.
 use Rattle.std.proofs.Common.{◌≡◌, ◌∙◌, sym, ap, refl, subst, ℕ, false, List, Option, Some, None, length}
 use Rattle.std.specs.List.{find}
-use Rattle.clnp_plan.specs.declared.ask.Ask.{Ask}
-use Rattle.clnp_plan.specs.declared.ask.SendRefusal.{SendRefusal}
-use Rattle.clnp_plan.specs.declared.ask.SendRefusal.TheVariants as send
-use Rattle.clnp_plan.specs.declared.note.Note.{Note}
-use Rattle.pdu_header.specs.declared.kind.Kind.TheVariants.{Erp}
+use Rattle.clnp_machine.specs.ClnpPlan.declared.ask.Ask.{Ask}
+use Rattle.clnp_machine.specs.ClnpPlan.declared.ask.SendRefusal.{SendRefusal}
+use Rattle.clnp_machine.specs.ClnpPlan.declared.ask.SendRefusal.TheVariants as send
+use Rattle.clnp_machine.specs.ClnpPlan.declared.note.Note.{Note}
+use Rattle.clnp_machine.specs.PduHeader.declared.kind.Kind.TheVariants.{Erp}
 use Rattle.clnp_machine.specs.Unit as unit
 use Rattle.clnp_machine.specs.System.{SystemState}
 use Rattle.clnp_machine.specs.Local.{echo_ask, is_answer, is_replied, make, refusal, replies, takes_reply, tells, unit_of, unless_refused, without_answered}

@@ -1,18 +1,18 @@
 -- Buffers whose time has ended are taken out, one after another.
-use Rattle.clnp_options.specs.Reasons.{reason_code}
-use Rattle.clnp_options.specs.declared.reasons.Reason.TheVariants.{LifetimeExpiredInReassembly}
+use Rattle.clnp_machine.specs.ClnpOptions.Reasons.{reason_code}
+use Rattle.clnp_machine.specs.ClnpOptions.declared.reasons.Reason.TheVariants.{LifetimeExpiredInReassembly}
 use Rattle.std.proofs.Common.{◌≡◌, ℕ, zero, suc, ◌≤◌, Bool, true, false, cond, List, [], ◌∷◌, ◌++◌, Option, Some, None, refl, sym, ap, ◌∙◌, subst, arith, append_assoc, append-nil}
 use Rattle.std.specs.Prelude.{option_map, slice_get}
-use Rattle.pdu_header.specs.Rules.{is_reportable}
-use Rattle.clnp_views.specs.Extent.{Extent, seen}
-use Rattle.reassembly.specs.declared.table.Expired.{Expired}
-use Rattle.reassembly.specs.declared.segment.Key.{Key}
-use Rattle.reassembly.specs.Buffer as buffer
-use Rattle.reassembly.specs.Buffer.{Buffer, due, first_carried, without, without_due}
-use Rattle.reassembly.specs.Mapped.{map_buffer, map_buffers}
-use Rattle.reassembly.specs.State as table
-use Rattle.reassembly.specs.State.{TableState}
-use Rattle.clnp_plan.specs.declared.note.Note.TheVariants.{Expired as Ended}
+use Rattle.clnp_machine.specs.PduHeader.Rules.{is_reportable}
+use Rattle.clnp_machine.specs.ClnpViews.Extent.{Extent, seen}
+use Rattle.clnp_machine.specs.Reassembly.declared.table.Expired.{Expired}
+use Rattle.clnp_machine.specs.Reassembly.declared.segment.Key.{Key}
+use Rattle.clnp_machine.specs.Reassembly.Buffer as buffer
+use Rattle.clnp_machine.specs.Reassembly.Buffer.{Buffer, due, first_carried, without, without_due}
+use Rattle.clnp_machine.specs.Reassembly.Mapped.{map_buffer, map_buffers}
+use Rattle.clnp_machine.specs.Reassembly.State as table
+use Rattle.clnp_machine.specs.Reassembly.State.{TableState}
+use Rattle.clnp_machine.specs.ClnpPlan.declared.note.Note.TheVariants.{Expired as Ended}
 use Rattle.clnp_machine.specs.Unit.{Packet, wire}
 use Rattle.clnp_machine.specs.Content.{Labelled, frame_of}
 use Rattle.clnp_machine.specs.System.{SystemState}
@@ -26,7 +26,7 @@ use Rattle.local_entity.proofs.Offering.{stands_with}
 use Rattle.local_entity.proofs.Offers.{all_without}
 use Rattle.local_entity.proofs.Shown.{due_shown, without_shown}
 use Rattle.local_entity.proofs.Buffers.{first_carried-mapped}
-use Rattle.clnp_base.proofs.Choices.{none_mapped}
+use Rattle.clnp_machine.proofs.ClnpBase.Choices.{none_mapped}
 
 -- ---- one after another
 

@@ -1,8 +1,8 @@
 -- What an entity holds for reassembly.
 use Rattle.std.proofs.Common.{◌≡◌, ℕ, List, sym, ap, ◌∙◌}
-use Rattle.clnp_views.specs.Extent.{Extent, seen}
-use Rattle.reassembly.specs.Buffer.{Buffer, held}
-use Rattle.reassembly.specs.State as table
+use Rattle.clnp_machine.specs.ClnpViews.Extent.{Extent, seen}
+use Rattle.clnp_machine.specs.Reassembly.Buffer.{Buffer, held}
+use Rattle.clnp_machine.specs.Reassembly.State as table
 use Rattle.clnp_machine.specs.Unit.{wire}
 use Rattle.clnp_machine.specs.System.{SystemState}
 use Rattle.local_entity.specs.State.{EntityState}

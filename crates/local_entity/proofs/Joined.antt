@@ -3,13 +3,13 @@ use Rattle.std.proofs.Common.{◌≡◌, ℕ, ◌+◌, ◌-◌, ◌<◌, ◌≤�
 use Rattle.std.specs.Prelude.{slice_index}
 use Rattle.std.specs.List.{AllByRecursion, range_with_len}
 use Rattle.std.proofs.lemmas.Bool.{and_parts, cases_Bool, leb-true, ltb-true}
-use Rattle.clnp_base.proofs.Lists.{get_or-behind_part}
-use Rattle.clnp_base.proofs.Maps.{map-agree}
-use Rattle.pdu_header.specs.Spelling.{header, header_length}
-use Rattle.clnp_views.specs.Extent.{Extent, seen}
-use Rattle.reassembly.specs.Arrival.{Arrival, data_len, earliest, has, octet_in}
-use Rattle.reassembly.specs.Buffer.{Buffer, data_of, octet_by}
-use Rattle.reassembly.specs.Mapped.{map_arrival, map_buffer}
+use Rattle.clnp_machine.proofs.ClnpBase.Lists.{get_or-behind_part}
+use Rattle.clnp_machine.proofs.ClnpBase.Maps.{map-agree}
+use Rattle.clnp_machine.specs.PduHeader.Spelling.{header, header_length}
+use Rattle.clnp_machine.specs.ClnpViews.Extent.{Extent, seen}
+use Rattle.clnp_machine.specs.Reassembly.Arrival.{Arrival, data_len, earliest, has, octet_in}
+use Rattle.clnp_machine.specs.Reassembly.Buffer.{Buffer, data_of, octet_by}
+use Rattle.clnp_machine.specs.Reassembly.Mapped.{map_arrival, map_buffer}
 use Rattle.clnp_machine.specs.Unit.{Packet, value_of, wire, IsCarriable}
 use Rattle.clnp_machine.specs.Local.{octet_of, offered}
 use Rattle.clnp_machine.specs.Local.{IsAsOffered}

@@ -1,6 +1,6 @@
 -- A unit that is made.
 use Rattle.std.proofs.Common.{◌≡◌, ℕ, Option, None, List, [], ◌∷◌, sym, ap, subst}
-use Rattle.clnp_plan.specs.declared.note.Note.{Note}
+use Rattle.clnp_machine.specs.ClnpPlan.declared.note.Note.{Note}
 use Rattle.clnp_machine.specs.Unit.{Unit}
 use Rattle.clnp_machine.specs.System.{SystemState}
 use Rattle.clnp_machine.specs.Local.{Deed, Sends, Tells, makes, sent_note, unless_refused, with_made, with_use}

@@ -2,22 +2,22 @@
 use Rattle.std.proofs.Common.{◌≡◌, ℕ, ◌≤◌, false, List, Option, Some, None, length, map, refl, sym, ap, ◌∙◌, subst}
 use Rattle.std.specs.Prelude.{option_map}
 use Rattle.std.specs.List.{AllByRecursion, find}
-use Rattle.clnp_views.specs.Extent.{Extent, seen}
-use Rattle.reassembly.specs.declared.segment.Key.{Key}
-use Rattle.reassembly.specs.declared.segment.Segment.{Segment}
-use Rattle.reassembly.specs.declared.table.Accept.{Accept}
-use Rattle.reassembly.specs.declared.table.Accept.TheVariants as accept
-use Rattle.reassembly.specs.declared.table.TableLimits.{TableLimits}
-use Rattle.reassembly.specs.Arrival.{Arrival, arrival_of, octet_in}
-use Rattle.reassembly.specs.Buffer as buffer
-use Rattle.reassembly.specs.Buffer.{Answer, Buffer, after, answer, buffer_of, data_of, without}
-use Rattle.reassembly.specs.Mapped.{map_buffer}
-use Rattle.reassembly.specs.State as table
-use Rattle.reassembly.specs.State.{IsReady, TableState, said, was_kept}
-use Rattle.clnp_options.specs.Parameter.{Parameter}
-use Rattle.pdu_header.specs.declared.kind.Kind.{Kind}
-use Rattle.pdu_header.specs.declared.kind.Kind.TheVariants.{Dt, Er, Erq, Erp}
-use Rattle.clnp_plan.specs.declared.note.Note.{Note}
+use Rattle.clnp_machine.specs.ClnpViews.Extent.{Extent, seen}
+use Rattle.clnp_machine.specs.Reassembly.declared.segment.Key.{Key}
+use Rattle.clnp_machine.specs.Reassembly.declared.segment.Segment.{Segment}
+use Rattle.clnp_machine.specs.Reassembly.declared.table.Accept.{Accept}
+use Rattle.clnp_machine.specs.Reassembly.declared.table.Accept.TheVariants as accept
+use Rattle.clnp_machine.specs.Reassembly.declared.table.TableLimits.{TableLimits}
+use Rattle.clnp_machine.specs.Reassembly.Arrival.{Arrival, arrival_of, octet_in}
+use Rattle.clnp_machine.specs.Reassembly.Buffer as buffer
+use Rattle.clnp_machine.specs.Reassembly.Buffer.{Answer, Buffer, after, answer, buffer_of, data_of, without}
+use Rattle.clnp_machine.specs.Reassembly.Mapped.{map_buffer}
+use Rattle.clnp_machine.specs.Reassembly.State as table
+use Rattle.clnp_machine.specs.Reassembly.State.{IsReady, TableState, said, was_kept}
+use Rattle.clnp_machine.specs.ClnpOptions.Parameter.{Parameter}
+use Rattle.clnp_machine.specs.PduHeader.declared.kind.Kind.{Kind}
+use Rattle.clnp_machine.specs.PduHeader.declared.kind.Kind.TheVariants.{Dt, Er, Erq, Erp}
+use Rattle.clnp_machine.specs.ClnpPlan.declared.note.Note.{Note}
 use Rattle.clnp_machine.specs.Unit as unit
 use Rattle.clnp_machine.specs.Unit.{Packet, wire}
 use Rattle.clnp_machine.specs.Content.{Content}

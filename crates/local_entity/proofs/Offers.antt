@@ -2,12 +2,12 @@
 use Rattle.std.proofs.Common.{◌≡◌, ℕ, not, List, [], ◌∷◌, Option, Some, None, inl, inr}
 use Rattle.std.specs.List.{AllByRecursion}
 use Rattle.std.proofs.lemmas.Bool.{cases_Bool}
-use Rattle.reassembly.specs.declared.segment.Key.{Key}
-use Rattle.reassembly.specs.declared.table.TableLimits.{TableLimits}
-use Rattle.reassembly.specs.Arrival.{Arrival, same_key}
-use Rattle.reassembly.specs.Buffer.{Answer, Buffer, after, buffer_of, buffers_of, refusal, with_kept, without}
-use Rattle.clnp_base.proofs.Filters.{AllByRecursion-filter}
-use Rattle.clnp_base.proofs.Lists.{AllByRecursion-find, AllByRecursion-push}
+use Rattle.clnp_machine.specs.Reassembly.declared.segment.Key.{Key}
+use Rattle.clnp_machine.specs.Reassembly.declared.table.TableLimits.{TableLimits}
+use Rattle.clnp_machine.specs.Reassembly.Arrival.{Arrival, same_key}
+use Rattle.clnp_machine.specs.Reassembly.Buffer.{Answer, Buffer, after, buffer_of, buffers_of, refusal, with_kept, without}
+use Rattle.clnp_machine.proofs.ClnpBase.Filters.{AllByRecursion-filter}
+use Rattle.clnp_machine.proofs.ClnpBase.Lists.{AllByRecursion-find, AllByRecursion-push}
 
 module _ {C : Type 0} (P : Arrival C → Type 0) where
   -- each kept segment is so

@@ -1,12 +1,12 @@
 -- What the header of a unit is made from, and when it is too long.
 use Rattle.std.proofs.Common.{◌≡◌, ℕ, ◌<◌, Bool, true, Some, None, List, length, refl, sym, ap, arith, if◌then◌else◌}
 use Rattle.std.proofs.lemmas.Bool.Decides.{nat_tests}
-use Rattle.clnp_options.specs.Parameter.{parameters, spelled}
-use Rattle.clnp_options.specs.Rules.{IsWellFormed}
-use Rattle.pdu_header.specs.declared.pdu.SegPart.{SegPart}
-use Rattle.pdu_header.specs.declared.header.HeaderRefusal.TheVariants.{HeaderTooLong}
-use Rattle.pdu_header.specs.Parts.{too_long}
-pub use Rattle.pdu_header.proofs.Written.{length-header, options_spelled}
+use Rattle.clnp_machine.specs.ClnpOptions.Parameter.{parameters, spelled}
+use Rattle.clnp_machine.specs.ClnpOptions.Rules.{IsWellFormed}
+use Rattle.clnp_machine.specs.PduHeader.declared.pdu.SegPart.{SegPart}
+use Rattle.clnp_machine.specs.PduHeader.declared.header.HeaderRefusal.TheVariants.{HeaderTooLong}
+use Rattle.clnp_machine.specs.PduHeader.Parts.{too_long}
+pub use Rattle.clnp_machine.proofs.PduHeader.Written.{length-header, options_spelled}
 
 -- options have as many octets as they spell
 pub options_size : (octets options : List ℕ) → octets ≡ options → IsWellFormed octets → length (spelled (parameters options)) ≡ length octets

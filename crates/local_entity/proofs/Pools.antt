@@ -5,7 +5,7 @@ use Rattle.std.proofs.lemmas.Option.{slice_get_within}
 use Rattle.clnp_machine.specs.Identifiers.{Use, Identifiers, last_use, next, after_use}
 use Rattle.local_entity.specs.State.{PoolState}
 use Rattle.local_entity.specs.Pool.{Stands}
-use Rattle.clnp_base.proofs.Lists.{slice_get-set, slice_get-set_other, slice_get-push, slice_get-push_other, slice_get_some}
+use Rattle.clnp_machine.proofs.ClnpBase.Lists.{slice_get-set, slice_get-set_other, slice_get-push, slice_get-push_other, slice_get_some}
 use Rattle.local_entity.proofs.Uses.{last_use_there, last_use_elsewhere, has_last_use}
 
 -- the uses went round

@@ -3,17 +3,17 @@ use Rattle.std.proofs.Common.{◌≡◌, ℕ, zero, suc, ◌+◌, ◌-◌, ◌<�
 use Rattle.std.specs.Prelude.{◌==◌, is_none, nat_lt, option_map}
 use Rattle.std.proofs.lemmas.Bool.{cases_Bool, ltb-false, ltb-true}
 use Rattle.std.proofs.lemmas.List.{length-take-le, take_at}
-use Rattle.clnp_options.specs.Parameter.{parameters}
-use Rattle.clnp_views.specs.Extent.{seen}
-use Rattle.pdu_header.specs.declared.pdu.Pdu.{Pdu}
-use Rattle.pdu_header.specs.declared.pdu.SegPart.{SegPart}
-use Rattle.pdu_header.specs.Grammar.{BeginsWith, FitsUnit, IsSegment}
-use Rattle.pdu_header.specs.Spelling.{header, header_length, type_code}
-use Rattle.pdu_header.specs.Value.{PduValue, SegmentationPart}
-use Rattle.pdu_header.specs.View.{part_value, pdu_value}
-use Rattle.reassembly.specs.Arrival.{arrival_of}
-use Rattle.reassembly.specs.Mapped.{map_arrival}
-use Rattle.reassembly.specs.Offered.{MayCome}
+use Rattle.clnp_machine.specs.ClnpOptions.Parameter.{parameters}
+use Rattle.clnp_machine.specs.ClnpViews.Extent.{seen}
+use Rattle.clnp_machine.specs.PduHeader.declared.pdu.Pdu.{Pdu}
+use Rattle.clnp_machine.specs.PduHeader.declared.pdu.SegPart.{SegPart}
+use Rattle.clnp_machine.specs.PduHeader.Grammar.{BeginsWith, FitsUnit, IsSegment}
+use Rattle.clnp_machine.specs.PduHeader.Spelling.{header, header_length, type_code}
+use Rattle.clnp_machine.specs.PduHeader.Value.{PduValue, SegmentationPart}
+use Rattle.clnp_machine.specs.PduHeader.View.{part_value, pdu_value}
+use Rattle.clnp_machine.specs.Reassembly.Arrival.{arrival_of}
+use Rattle.clnp_machine.specs.Reassembly.Mapped.{map_arrival}
+use Rattle.clnp_machine.specs.Reassembly.Offered.{MayCome}
 use Rattle.clnp_machine.specs.Unit.{Packet, IsCarriable, value_of, wire}
 use Rattle.clnp_machine.specs.Steps.{CarriesOnePacket}
 use Rattle.clnp_machine.specs.Content.{Labelled}

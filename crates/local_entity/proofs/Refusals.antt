@@ -1,12 +1,12 @@
 -- Why a unit isn't made: the first cause that holds.
 use Rattle.std.proofs.Common.{◌≡◌, ℕ, ◌<◌, ◌≤◌, Bool, true, Option, Some, List, length, not, nat_lt, sym, ap, subst, ◌∙◌, arith, if◌then◌else◌}
 use Rattle.std.proofs.lemmas.Bool.Decides.{nat_tests}
-use Rattle.clnp_plan.specs.Configuration.{SystemConfiguration}
-use Rattle.clnp_plan.specs.declared.ask.SendRefusal.{SendRefusal}
-use Rattle.clnp_plan.specs.declared.ask.SendRefusal.TheVariants as send
-use Rattle.clnp_plan.specs.declared.note.Note.{Note}
-use Rattle.clnp_plan.specs.declared.note.Note.TheVariants.{Refused}
-use Rattle.clnp_plan.specs.declared.note.Why.TheVariants as why
+use Rattle.clnp_machine.specs.ClnpPlan.Configuration.{SystemConfiguration}
+use Rattle.clnp_machine.specs.ClnpPlan.declared.ask.SendRefusal.{SendRefusal}
+use Rattle.clnp_machine.specs.ClnpPlan.declared.ask.SendRefusal.TheVariants as send
+use Rattle.clnp_machine.specs.ClnpPlan.declared.note.Note.{Note}
+use Rattle.clnp_machine.specs.ClnpPlan.declared.note.Note.TheVariants.{Refused}
+use Rattle.clnp_machine.specs.ClnpPlan.declared.note.Why.TheVariants as why
 use Rattle.clnp_machine.specs.Unit.{Unit}
 use Rattle.clnp_machine.specs.System.{SystemState}
 use Rattle.clnp_machine.specs.Local.{has_address, header_size, identifier_refusal, is_own, refusal}

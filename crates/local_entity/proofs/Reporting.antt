@@ -5,7 +5,7 @@ use Rattle.clnp_machine.specs.Unit.{Unit}
 use Rattle.clnp_machine.specs.System.{SystemState, next_number}
 use Rattle.clnp_machine.specs.Local as machine
 use Rattle.clnp_machine.specs.Local.{Deed, Sends, Tells, discard, makes, report_unit, reports, reports_from, rests, sent_note}
-use Rattle.clnp_plan.specs.declared.note.Note.TheVariants as note
+use Rattle.clnp_machine.specs.ClnpPlan.declared.note.Note.TheVariants as note
 use Rattle.local_entity.specs.declared.action.Action.{Action}
 use Rattle.local_entity.specs.declared.action.Action.TheVariants.{Note as Noted}
 use Rattle.local_entity.specs.declared.action.Draft.{Draft}

@@ -4,10 +4,10 @@ use Rattle.std.specs.Prelude.{◌&&◌, option_map}
 use Rattle.std.specs.List.{find, position_from, remove}
 use Rattle.std.specs.Str.{bytes_eq}
 use Rattle.std.proofs.lemmas.Bool.{cases_Bool, ltb-false, ltb-true}
-use Rattle.clnp_views.specs.Extent.{seen}
-use Rattle.pdu_header.specs.declared.kind.Kind.{Kind}
-use Rattle.pdu_header.specs.declared.kind.Kind.TheVariants.{Dt, Er, Erq, Erp}
-use Rattle.echo.specs.Match.{echoes}
+use Rattle.clnp_machine.specs.ClnpViews.Extent.{seen}
+use Rattle.clnp_machine.specs.PduHeader.declared.kind.Kind.{Kind}
+use Rattle.clnp_machine.specs.PduHeader.declared.kind.Kind.TheVariants.{Dt, Er, Erq, Erp}
+use Rattle.clnp_machine.specs.Echo.Match.{echoes}
 use Rattle.clnp_machine.specs.Unit as unit
 use Rattle.clnp_machine.specs.Local.{is_answer, with_made, within_most, without_answered}
 use Rattle.local_entity.specs.declared.pending.Request.{Request}

@@ -5,25 +5,25 @@ use Rattle.std.specs.Prelude.{nat_lt, slice_get, slice_index_or}
 use Rattle.std.proofs.lemmas.Bool.Decides.{nat_tests}
 use Rattle.std.proofs.lemmas.List.{take_all}
 use Rattle.std.proofs.lemmas.Option.{slice_get_cases, slice_get_read}
-use Rattle.clnp_views.specs.Extent.{Extent, part, seen}
-use Rattle.pdu_header.specs.Value.{PduValue}
-use Rattle.pdu_header.specs.Spelling.{header, segment_length, spelling}
-use Rattle.pdu_header.specs.Grammar.{IsPdu}
-use Rattle.pdu_header.specs.Headers.{SpellsHeader}
-use Rattle.segmenter.specs.declared.cuts.Cut.{Cut}
-use Rattle.segmenter.specs.declared.cuts.NotPermitted.{NotPermitted}
-use Rattle.segmenter.specs.Cut as segmenter
-use Rattle.segmenter.specs.Cut.{Piece, given}
-use Rattle.clnp_base.proofs.Lists.{part_of_part}
-use Rattle.clnp_plan.specs.Configuration.{SystemConfiguration}
-use Rattle.clnp_plan.specs.declared.config.PortConfig.{PortConfig}
-use Rattle.clnp_plan.specs.declared.note.Note.TheVariants.{Discard}
-use Rattle.clnp_plan.specs.declared.output.Output.{Output}
-use Rattle.clnp_plan.specs.declared.output.Output.TheVariants.{Note as Noted}
+use Rattle.clnp_machine.specs.ClnpViews.Extent.{Extent, part, seen}
+use Rattle.clnp_machine.specs.PduHeader.Value.{PduValue}
+use Rattle.clnp_machine.specs.PduHeader.Spelling.{header, segment_length, spelling}
+use Rattle.clnp_machine.specs.PduHeader.Grammar.{IsPdu}
+use Rattle.clnp_machine.specs.PduHeader.Headers.{SpellsHeader}
+use Rattle.clnp_machine.specs.Segmenter.declared.cuts.Cut.{Cut}
+use Rattle.clnp_machine.specs.Segmenter.declared.cuts.NotPermitted.{NotPermitted}
+use Rattle.clnp_machine.specs.Segmenter.Cut as segmenter
+use Rattle.clnp_machine.specs.Segmenter.Cut.{Piece, given}
+use Rattle.clnp_machine.proofs.ClnpBase.Lists.{part_of_part}
+use Rattle.clnp_machine.specs.ClnpPlan.Configuration.{SystemConfiguration}
+use Rattle.clnp_machine.specs.ClnpPlan.declared.config.PortConfig.{PortConfig}
+use Rattle.clnp_machine.specs.ClnpPlan.declared.note.Note.TheVariants.{Discard}
+use Rattle.clnp_machine.specs.ClnpPlan.declared.output.Output.{Output}
+use Rattle.clnp_machine.specs.ClnpPlan.declared.output.Output.TheVariants.{Note as Noted}
 use Rattle.clnp_machine.specs.Unit.{IsCarriable, Packet, Unit as DataUnit, cut, value_of, whole_packet, wire}
 use Rattle.clnp_machine.specs.System.{SystemState, Transmits}
-use Rattle.clnp_options.specs.Reasons.{reason_code}
-use Rattle.clnp_options.specs.declared.reasons.Reason.TheVariants.{SegmentationNotPermitted}
+use Rattle.clnp_machine.specs.ClnpOptions.Reasons.{reason_code}
+use Rattle.clnp_machine.specs.ClnpOptions.declared.reasons.Reason.TheVariants.{SegmentationNotPermitted}
 use Rattle.clnp_machine.specs.Step.{first_sent, no_way, sent_on, transmissions}
 use Rattle.clnp_machine.specs.Given.{Appends, GiveAll, IsSentFor, frame_in}
 use Rattle.local_entity.specs.declared.sending.Hop.{Hop}

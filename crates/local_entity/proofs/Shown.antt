@@ -2,12 +2,12 @@
 use Rattle.std.proofs.Common.{◌≡◌, ℕ, List, length, sym, ap, ◌∙◌}
 use Rattle.std.specs.Prelude.{option_map}
 use Rattle.std.proofs.lemmas.List.{length-map}
-use Rattle.clnp_views.specs.Extent.{Extent, seen}
-use Rattle.reassembly.specs.declared.segment.Key.{Key}
-use Rattle.reassembly.specs.declared.table.TableLimits.{TableLimits}
-use Rattle.reassembly.specs.Arrival.{Arrival}
-use Rattle.reassembly.specs.Buffer.{Buffer, after, answer, buffer_of, due, without}
-use Rattle.reassembly.specs.Mapped.{map_arrival, map_buffer, map_buffers}
+use Rattle.clnp_machine.specs.ClnpViews.Extent.{Extent, seen}
+use Rattle.clnp_machine.specs.Reassembly.declared.segment.Key.{Key}
+use Rattle.clnp_machine.specs.Reassembly.declared.table.TableLimits.{TableLimits}
+use Rattle.clnp_machine.specs.Reassembly.Arrival.{Arrival}
+use Rattle.clnp_machine.specs.Reassembly.Buffer.{Buffer, after, answer, buffer_of, due, without}
+use Rattle.clnp_machine.specs.Reassembly.Mapped.{map_arrival, map_buffer, map_buffers}
 use Rattle.clnp_machine.specs.Unit.{Packet, wire}
 use Rattle.local_entity.proofs.Buffers.{after-mapped, answer-mapped, buffer_of-mapped, due-mapped, without-mapped}
 

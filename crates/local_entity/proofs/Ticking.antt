@@ -2,12 +2,12 @@
 use Rattle.std.proofs.Common.{◌≡◌, ℕ, ◌+◌, ◌<◌, ◌≤◌, true, false, not, List, [], ◌∷◌, Option, Some, None, length, refl, sym, ap, ◌∙◌, subst, arith, add-one, append-nil}
 use Rattle.std.specs.Prelude.{is_some}
 use Rattle.std.specs.List.{AllByRecursion}
-use Rattle.clnp_base.proofs.Filters.{filter-fewer}
-use Rattle.clnp_views.specs.Extent.{Extent}
-use Rattle.reassembly.specs.Arrival.{same_key}
-use Rattle.reassembly.specs.Buffer.{Buffer, due, is_whole, without, without_due}
-use Rattle.reassembly.specs.State as table
-use Rattle.reassembly.specs.State.{IsReady, TableState}
+use Rattle.clnp_machine.proofs.ClnpBase.Filters.{filter-fewer}
+use Rattle.clnp_machine.specs.ClnpViews.Extent.{Extent}
+use Rattle.clnp_machine.specs.Reassembly.Arrival.{same_key}
+use Rattle.clnp_machine.specs.Reassembly.Buffer.{Buffer, due, is_whole, without, without_due}
+use Rattle.clnp_machine.specs.Reassembly.State as table
+use Rattle.clnp_machine.specs.Reassembly.State.{IsReady, TableState}
 use Rattle.clnp_machine.specs.System.{SystemState}
 use Rattle.clnp_machine.specs.Local.{Deed, at_moment, expire, tick}
 use Rattle.local_entity.specs.declared.action.Action.{Action}
@@ -17,7 +17,7 @@ use Rattle.local_entity.proofs.Appending.{appends-more}
 use Rattle.local_entity.proofs.Expiry.{expire-ended, expire-moment, expire-more, none_due}
 use Rattle.local_entity.proofs.Shown.{length_shown}
 use Rattle.local_entity.proofs.Buffers.{due_is, none_whole-without_due, same_key-like}
-use Rattle.clnp_base.proofs.Choices.{no_value}
+use Rattle.clnp_machine.proofs.ClnpBase.Choices.{no_value}
 
 -- at another moment it stands for the same
 at_that_moment : (local : EntityState) (s : SystemState) (now : ℕ) → Stands local s → Stands local (at_moment now s)

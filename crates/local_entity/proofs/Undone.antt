@@ -1,14 +1,14 @@
 -- The segment that makes a unit whole, taken out again.
 use Rattle.std.proofs.Common.{◌≡◌, ◌∙◌, sym, ap, refl, subst, ℕ, ◌+◌, ◌<◌, true, false, inl, inr, List, [], ◌∷◌, ◌++◌, Some, map, nat_le, nat_lt, arith}
 use Rattle.std.proofs.lemmas.Bool.{and_parts, and_right, cases_Bool, leb-true, ltb-true}
-use Rattle.clnp_base.proofs.Ranges.{each_of_all}
-use Rattle.clnp_views.specs.Extent.{Extent}
-use Rattle.reassembly.specs.declared.segment.Segment.{Segment}
-use Rattle.reassembly.specs.declared.table.TableLimits.{TableLimits}
-use Rattle.reassembly.specs.Arrival.{Arrival, are_covered, arrival_of, data_len, has, is_covered, same_key}
-use Rattle.reassembly.specs.Buffer.{Buffer, Whole, after, answer, but_last, buffer_of, holding, is_whole, undone, with_kept}
-use Rattle.reassembly.specs.Ending.{is_empty, without_last}
-use Rattle.reassembly.specs.State.{Stands, TableState, opening_of, segments_of}
+use Rattle.clnp_machine.proofs.ClnpBase.Ranges.{each_of_all}
+use Rattle.clnp_machine.specs.ClnpViews.Extent.{Extent}
+use Rattle.clnp_machine.specs.Reassembly.declared.segment.Segment.{Segment}
+use Rattle.clnp_machine.specs.Reassembly.declared.table.TableLimits.{TableLimits}
+use Rattle.clnp_machine.specs.Reassembly.Arrival.{Arrival, are_covered, arrival_of, data_len, has, is_covered, same_key}
+use Rattle.clnp_machine.specs.Reassembly.Buffer.{Buffer, Whole, after, answer, but_last, buffer_of, holding, is_whole, undone, with_kept}
+use Rattle.clnp_machine.specs.Reassembly.Ending.{is_empty, without_last}
+use Rattle.clnp_machine.specs.Reassembly.State.{Stands, TableState, opening_of, segments_of}
 use Rattle.local_entity.proofs.Completed.{completed}
 use Rattle.std.proofs.lemmas.Option.{same_Some}
 use Rattle.local_entity.proofs.Buffers.{made_whole, same_key-like, but_last-push}

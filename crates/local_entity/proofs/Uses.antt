@@ -2,7 +2,7 @@
 use Rattle.std.proofs.Common.{◌≡◌, ℕ, zero, suc, ◌≢◌, List, [], ◌∷◌, ◌++◌, Some, None, slice_get, refl, ap, ◌∙◌, arith, sym}
 use Rattle.std.proofs.lemmas.Bool.Decides.{eqb_tells}
 use Rattle.std.specs.Option.{option_or}
-use Rattle.clnp_base.proofs.Choices.{option_or-assoc, option_or-nothing}
+use Rattle.clnp_machine.proofs.ClnpBase.Choices.{option_or-assoc, option_or-nothing}
 use Rattle.clnp_machine.specs.Identifiers.{Use, last_use}
 pub use Rattle.clnp_machine.proofs.Resting.{busy_rested, moment_for, moment_there, past_quiet}
 

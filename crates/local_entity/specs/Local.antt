@@ -1,16 +1,16 @@
 -- What the entity of a system at its own addresses stands for, and what it does.
 use Rattle.std.specs.Prelude.{◌≡◌, List, [], ◌∷◌, ◌++◌, Option, None, Some}
 use Rattle.std.specs.List.{AllByRecursion}
-use Rattle.clnp_views.specs.Extent.{Extent, seen}
-use Rattle.pdu_header.specs.Headers.{SpellsHeader}
-use Rattle.reassembly.specs.Buffer.{Buffer}
-use Rattle.reassembly.specs.Mapped.{map_buffers}
-use Rattle.reassembly.specs.State as table
-use Rattle.clnp_plan.specs.declared.ask.SendRefusal.{SendRefusal}
-use Rattle.clnp_plan.specs.declared.ask.SendRefusal.TheVariants as refusal
-use Rattle.clnp_plan.specs.declared.note.Note.{Note}
-use Rattle.clnp_plan.specs.declared.note.Note.TheVariants.{Refused}
-use Rattle.clnp_plan.specs.declared.note.Why.TheVariants as why
+use Rattle.clnp_machine.specs.ClnpViews.Extent.{Extent, seen}
+use Rattle.clnp_machine.specs.PduHeader.Headers.{SpellsHeader}
+use Rattle.clnp_machine.specs.Reassembly.Buffer.{Buffer}
+use Rattle.clnp_machine.specs.Reassembly.Mapped.{map_buffers}
+use Rattle.clnp_machine.specs.Reassembly.State as table
+use Rattle.clnp_machine.specs.ClnpPlan.declared.ask.SendRefusal.{SendRefusal}
+use Rattle.clnp_machine.specs.ClnpPlan.declared.ask.SendRefusal.TheVariants as refusal
+use Rattle.clnp_machine.specs.ClnpPlan.declared.note.Note.{Note}
+use Rattle.clnp_machine.specs.ClnpPlan.declared.note.Note.TheVariants.{Refused}
+use Rattle.clnp_machine.specs.ClnpPlan.declared.note.Why.TheVariants as why
 use Rattle.clnp_machine.specs.Unit as unit
 use Rattle.clnp_machine.specs.Unit.{Packet, wire, value_of, whole_packet}
 use Rattle.clnp_machine.specs.System.{SystemState, table_limits}

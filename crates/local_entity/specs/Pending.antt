@@ -1,10 +1,10 @@
 -- The echo requests of a system that are still to be answered, as the code notes them (RFC 1575).
 use Rattle.std.specs.Prelude.{ℕ, ◌&&◌, Bool, List, Option, None, Some}
 use Rattle.std.specs.Str.{bytes_eq}
-use Rattle.clnp_views.specs.Extent.{seen}
-use Rattle.pdu_header.specs.declared.kind.Kind.{Kind}
-use Rattle.pdu_header.specs.declared.kind.Kind.TheVariants.{Dt, Er, Erq, Erp}
-use Rattle.echo.specs.Match.{echoes}
+use Rattle.clnp_machine.specs.ClnpViews.Extent.{seen}
+use Rattle.clnp_machine.specs.PduHeader.declared.kind.Kind.{Kind}
+use Rattle.clnp_machine.specs.PduHeader.declared.kind.Kind.TheVariants.{Dt, Er, Erq, Erp}
+use Rattle.clnp_machine.specs.Echo.Match.{echoes}
 use Rattle.local_entity.specs.declared.pending.Request.{Request}
 
 -- a unit is noted where it is a request

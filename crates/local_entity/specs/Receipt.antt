@@ -1,17 +1,17 @@
 -- PDUs that come: what their units are for, whether one is all of its unit, the segment of the code that it is, and the arrival of the model.
 use Rattle.std.specs.Prelude.{◌≡◌, ℕ, ◌+◌, ◌==◌, ◌&&◌, not, if◌then◌else◌, Bool, List, length, Option, None, Some}
-use Rattle.clnp_views.specs.Extent.{part, seen, whole}
-use Rattle.pdu_header.specs.declared.pdu.Pdu.{Pdu}
-use Rattle.pdu_header.specs.declared.pdu.SegPart.{SegPart}
-use Rattle.pdu_header.specs.declared.kind.Kind.{Kind}
-use Rattle.pdu_header.specs.declared.kind.Kind.TheVariants.{Dt, Er, Erq, Erp}
-use Rattle.pdu_header.specs.Spelling.{type_code}
-use Rattle.clnp_options.specs.Parameter.{Parameter}
-use Rattle.error_reports.specs.Told.{cause_in, place_in}
-use Rattle.reassembly.specs.declared.segment.Segment.{Segment}
-use Rattle.reassembly.specs.Arrival.{Arrival, arrival_of}
-use Rattle.reassembly.specs.Buffer.{Answer, Buffer, Held, Whole, Interference, Repeat, NoSlot, Crowded, Many}
-use Rattle.reassembly.specs.Mapped.{map_arrival}
+use Rattle.clnp_machine.specs.ClnpViews.Extent.{part, seen, whole}
+use Rattle.clnp_machine.specs.PduHeader.declared.pdu.Pdu.{Pdu}
+use Rattle.clnp_machine.specs.PduHeader.declared.pdu.SegPart.{SegPart}
+use Rattle.clnp_machine.specs.PduHeader.declared.kind.Kind.{Kind}
+use Rattle.clnp_machine.specs.PduHeader.declared.kind.Kind.TheVariants.{Dt, Er, Erq, Erp}
+use Rattle.clnp_machine.specs.PduHeader.Spelling.{type_code}
+use Rattle.clnp_machine.specs.ClnpOptions.Parameter.{Parameter}
+use Rattle.clnp_machine.specs.ErrorReports.Told.{cause_in, place_in}
+use Rattle.clnp_machine.specs.Reassembly.declared.segment.Segment.{Segment}
+use Rattle.clnp_machine.specs.Reassembly.Arrival.{Arrival, arrival_of}
+use Rattle.clnp_machine.specs.Reassembly.Buffer.{Answer, Buffer, Held, Whole, Interference, Repeat, NoSlot, Crowded, Many}
+use Rattle.clnp_machine.specs.Reassembly.Mapped.{map_arrival}
 use Rattle.clnp_machine.specs.Unit.{Packet, wire}
 use Rattle.clnp_machine.specs.Local.{IsAsOffered}
 use Rattle.clnp_machine.specs.System.{SystemState}

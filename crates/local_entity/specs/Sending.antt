@@ -1,10 +1,10 @@
 -- The pieces of a PDU, as the code gives them out.
 use Rattle.std.specs.Prelude.{Bool, Option, Some, option_map}
-use Rattle.clnp_views.specs.Extent.{Extent, part}
-use Rattle.segmenter.specs.declared.cuts.Cut.{Cut}
-use Rattle.clnp_plan.specs.declared.output.Output.{Output}
-use Rattle.clnp_plan.specs.declared.output.Output.TheVariants.{Transmit}
-use Rattle.clnp_plan.specs.declared.output.Sending.{Sending}
+use Rattle.clnp_machine.specs.ClnpViews.Extent.{Extent, part}
+use Rattle.clnp_machine.specs.Segmenter.declared.cuts.Cut.{Cut}
+use Rattle.clnp_machine.specs.ClnpPlan.declared.output.Output.{Output}
+use Rattle.clnp_machine.specs.ClnpPlan.declared.output.Output.TheVariants.{Transmit}
+use Rattle.clnp_machine.specs.ClnpPlan.declared.output.Sending.{Sending}
 use Rattle.clnp_machine.specs.Step as machine
 use Rattle.local_entity.specs.declared.sending.Hop.{Hop}
 

@@ -1,7 +1,7 @@
 -- What a contract sees of a pool of identifiers, and of the entity of a system.
 use Rattle.std.specs.Prelude.{ℕ, List}
-use Rattle.reassembly.specs.State.{TableState}
-use Rattle.clnp_plan.specs.Configuration.{SystemConfiguration}
+use Rattle.clnp_machine.specs.Reassembly.State.{TableState}
+use Rattle.clnp_machine.specs.ClnpPlan.Configuration.{SystemConfiguration}
 use Rattle.local_entity.specs.declared.pending.Request.{Request}
 
 pub record PoolState : Type 0 where

@@ -1,15 +1,15 @@
 //! What a system does at its own addresses: it makes units, and receives what is for it (ISO/IEC 8473, sections 6.1, 6.2,
 //! 6.8 and 6.9).
 ghost use Rattle.std.specs.Prelude.{◌≡◌, ◌≤◌, ◌<◌, ◌+◌, ◌-◌, ◌^◌, ◌∷◌, [], ℕ, min, IfOk, OnOk, OnErr, List, MatchResult, None, Some, if◌then◌else◌, length, vec_capacity, vec_len};
-ghost use Rattle.clnp_options.specs.Grammar.{FitsKind};
-ghost use Rattle.clnp_options.specs.Parameter.{parameters, spelled};
-ghost use Rattle.clnp_views.specs.Extent.{seen};
-ghost use Rattle.clnp_plan.specs.declared.ask.SendRefusal.TheVariants.{TooLong};
-ghost use Rattle.pdu_header.specs.Grammar.{is_report};
-ghost use Rattle.pdu_header.specs.Headers.{SpellsHeader};
-ghost use Rattle.pdu_header.specs.Parts.{AreFit, parts_value};
-ghost use Rattle.reassembly.specs.Buffer.{held};
-ghost use Rattle.reassembly.specs.State.{IsReady};
+ghost use Rattle.clnp_machine.specs.ClnpOptions.Grammar.{FitsKind};
+ghost use Rattle.clnp_machine.specs.ClnpOptions.Parameter.{parameters, spelled};
+ghost use Rattle.clnp_machine.specs.ClnpViews.Extent.{seen};
+ghost use Rattle.clnp_machine.specs.ClnpPlan.declared.ask.SendRefusal.TheVariants.{TooLong};
+ghost use Rattle.clnp_machine.specs.PduHeader.Grammar.{is_report};
+ghost use Rattle.clnp_machine.specs.PduHeader.Headers.{SpellsHeader};
+ghost use Rattle.clnp_machine.specs.PduHeader.Parts.{AreFit, parts_value};
+ghost use Rattle.clnp_machine.specs.Reassembly.Buffer.{held};
+ghost use Rattle.clnp_machine.specs.Reassembly.State.{IsReady};
 ghost use Rattle.clnp_machine.specs.System.{SystemState, first_state, next_number};
 ghost use Rattle.clnp_machine.specs.Local as machine;
 ghost use Rattle.clnp_machine.specs.Local.{Sends, Tells, has_address, sent_note};
@@ -21,12 +21,12 @@ ghost use Rattle.local_entity.specs.Pool.{Stands as StandsFor};
 use crate::action::{Action, Draft, Made};
 use crate::pending::{Pending, Request};
 use crate::pool::{DrawRefusal, IdPool};
-use clnp_base::NoMemory;
-use clnp_plan::{Ask, Limits, Note, SendRefusal, SystemConfig};
-use clnp_views::View;
-use nsap::Address;
-use pdu_header::{Header, HeaderRefusal, Kind, Parts, SegPart};
-use reassembly::{Table, TableLimits};
+use clnp_machine::clnp_base::NoMemory;
+use clnp_machine::clnp_plan::{Ask, Limits, Note, SendRefusal, SystemConfig};
+use clnp_machine::clnp_views::View;
+use clnp_machine::nsap::Address;
+use clnp_machine::pdu_header::{Header, HeaderRefusal, Kind, Parts, SegPart};
+use clnp_machine::reassembly::{Table, TableLimits};
 use std::alloc::Global;
 use std::marker::Model;
 

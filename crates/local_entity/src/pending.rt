@@ -1,17 +1,17 @@
 //! Echo requests that are still to be answered (RFC 1575).
 ghost use Rattle.std.specs.Prelude.{◌≡◌, ◌<◌, [], List, IfOk, Some, length, option_map, slice_get};
 ghost use Rattle.std.specs.List.{find, position_from, remove};
-ghost use Rattle.pdu_header.specs.declared.kind.Kind.{Kind as KindOf};
+ghost use Rattle.clnp_machine.specs.PduHeader.declared.kind.Kind.{Kind as KindOf};
 ghost use Rattle.clnp_machine.specs.Unit as unit;
 ghost use Rattle.clnp_machine.specs.Local.{is_answer, with_made, without_answered};
 ghost use Rattle.local_entity.specs.Local.{AreRequests, IsRequest};
 ghost use Rattle.local_entity.specs.Pending.{answers, request_of};
 
-use clnp_base::NoMemory;
-use clnp_views::View;
-use echo::matches;
-use nsap::Address;
-use pdu_header::Kind;
+use clnp_machine::clnp_base::NoMemory;
+use clnp_machine::clnp_views::View;
+use clnp_machine::echo::matches;
+use clnp_machine::nsap::Address;
+use clnp_machine::pdu_header::Kind;
 use std::alloc::Global;
 use std::marker::Model;
 

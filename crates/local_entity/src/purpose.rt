@@ -1,12 +1,12 @@
 //! What data units are for.
 ghost use Rattle.std.specs.Prelude.{◌≡◌};
-ghost use Rattle.clnp_options.specs.Parameter.{parameters};
-ghost use Rattle.pdu_header.specs.Grammar.{IsPdu};
-ghost use Rattle.pdu_header.specs.View.{pdu_value};
+ghost use Rattle.clnp_machine.specs.ClnpOptions.Parameter.{parameters};
+ghost use Rattle.clnp_machine.specs.PduHeader.Grammar.{IsPdu};
+ghost use Rattle.clnp_machine.specs.PduHeader.View.{pdu_value};
 ghost use Rattle.local_entity.specs.Receipt.{purpose_of};
 
-use error_reports::read;
-use pdu_header::{Kind, Pdu};
+use clnp_machine::error_reports::read;
+use clnp_machine::pdu_header::{Kind, Pdu};
 
 /// What a unit is for, once it is whole.
 #[derive(Clone, Copy, PartialEq, Eq)]

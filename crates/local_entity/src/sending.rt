@@ -7,21 +7,21 @@ ghost use Rattle.clnp_machine.specs.Local.{Sends};
 ghost use Rattle.clnp_machine.specs.Step.{first_sent, sent_on};
 ghost use Rattle.clnp_machine.specs.System.{SystemState};
 ghost use Rattle.clnp_machine.specs.Unit.{Unit};
-ghost use Rattle.clnp_options.specs.Reasons.{reason_code};
-ghost use Rattle.clnp_plan.specs.declared.note.Note.TheVariants.{Discard};
-ghost use Rattle.clnp_plan.specs.declared.output.Output.TheVariants.{Transmit, Note as Noted};
-ghost use Rattle.segmenter.specs.Left.{IsCutOf};
+ghost use Rattle.clnp_machine.specs.ClnpOptions.Reasons.{reason_code};
+ghost use Rattle.clnp_machine.specs.ClnpPlan.declared.note.Note.TheVariants.{Discard};
+ghost use Rattle.clnp_machine.specs.ClnpPlan.declared.output.Output.TheVariants.{Transmit, Note as Noted};
+ghost use Rattle.clnp_machine.specs.Segmenter.Left.{IsCutOf};
 ghost use Rattle.local_entity.specs.declared.action.Action.TheVariants.{Send};
 ghost use Rattle.local_entity.specs.Local.{Does};
 ghost use Rattle.local_entity.specs.Sending.{hop_option, machine_hop, transmission};
 
 use crate::action::Made;
-use clnp_base::NoMemory;
-use clnp_options::Reason;
-use clnp_plan::{Note, Output, PortConfig, Sending, SystemConfig};
-use clnp_views::View;
-use nsap::Target;
-use segmenter::{Cut, Cuts, NotPermitted};
+use clnp_machine::clnp_base::NoMemory;
+use clnp_machine::clnp_options::Reason;
+use clnp_machine::clnp_plan::{Note, Output, PortConfig, Sending, SystemConfig};
+use clnp_machine::clnp_views::View;
+use clnp_machine::nsap::Target;
+use clnp_machine::segmenter::{Cut, Cuts, NotPermitted};
 
 /// Where a PDU goes next: the number of a port, and whom a frame is for on its subnetwork.
 #[derive(Clone, Copy, PartialEq, Eq)]

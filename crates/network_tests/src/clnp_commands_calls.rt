@@ -1,5 +1,5 @@
-use clnp_base::{Failed, MemSink, MemSource, Sink};
-use clnp_commands::{Status, clnp_main};
+use clnp_machine::clnp_base::{Failed, MemSink, MemSource, Sink};
+use clnp_program::clnp_commands::{Status, clnp_main};
 use std::alloc::Global;
 use std::process::Abort;
 

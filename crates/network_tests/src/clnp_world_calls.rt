@@ -1,6 +1,6 @@
-use clnp_base::lines;
-use clnp_world::{Counts, Move, World};
-use scenario::{Scenario, read};
+use clnp_machine::clnp_base::lines;
+use clnp_program::clnp_world::{Counts, Move, World};
+use clnp_program::scenario::{Scenario, read};
 use std::alloc::Global;
 use std::process::Abort;
 

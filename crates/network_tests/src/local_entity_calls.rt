@@ -1,15 +1,15 @@
 ghost use Rattle.std.specs.Prelude.{false};
-ghost use Rattle.clnp_options.specs.Grammar.{FitsKind};
-ghost use Rattle.clnp_options.specs.Parameter.{parameters};
+ghost use Rattle.clnp_machine.specs.ClnpOptions.Grammar.{FitsKind};
+ghost use Rattle.clnp_machine.specs.ClnpOptions.Parameter.{parameters};
 
-use clnp_base::{NoMemory, lines, push, push_decimal};
-use clnp_options::{OptionList, laws};
-use clnp_plan::{Ask, Limits, SystemConfig, journal_text};
-use clnp_views::Frame;
+use clnp_machine::clnp_base::{NoMemory, lines, push, push_decimal};
+use clnp_machine::clnp_options::{OptionList, laws};
+use clnp_machine::clnp_plan::{Ask, Limits, SystemConfig, journal_text};
+use clnp_machine::clnp_views::Frame;
+use clnp_machine::nsap::Address;
+use clnp_machine::pdu_header::{Kind, decode};
+use clnp_program::scenario::{Scenario, read};
 use local_entity::{Action, DrawRefusal, IdPool, Local};
-use nsap::Address;
-use pdu_header::{Kind, decode};
-use scenario::{Scenario, read};
 use std::alloc::Global;
 use std::process::Abort;
 

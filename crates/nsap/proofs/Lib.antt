@@ -1,3 +1,4 @@
+pub use Rattle.clnp_base.proofs as ClnpBase
 pub mod Digits
 pub mod HexTextFacts
 pub mod PrefixFacts

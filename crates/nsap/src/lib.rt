@@ -16,3 +16,4 @@ pub use crate::fault::NsapFault;
 pub use crate::prefix::Prefix;
 pub use crate::snpa::Snpa;
 pub use crate::target::Target;
+pub use clnp_base;

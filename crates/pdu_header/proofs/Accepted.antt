@@ -3,7 +3,7 @@ use Rattle.std.proofs.Common.{◌≡◌, ◌≢◌, ℕ, ◌+◌, ◌-◌, ◌�
 use Rattle.std.specs.Prelude.{nat_lt, ◌↔◌}
 use Rattle.std.proofs.lemmas.Bool.{not-false, not_from_true}
 use Rattle.std.proofs.lemmas.Bool.Decides.{nat_tests}
-use Rattle.clnp_base.proofs.Choices.{below_not, equal_is, if_none, is_equal, none_if, not_below, option_or-none, option_or-parts}
+use Rattle.nsap.proofs.ClnpBase.Choices.{below_not, equal_is, if_none, is_equal, none_if, not_below, option_or-none, option_or-parts}
 use Rattle.clnp_options.specs.Rules.{refusal as options_refusal}
 use Rattle.pdu_header.specs.Rules.{octet, type_of, kind_of, is_segmented, has_more, has_right_checksum, source_place, part_place, options_place, segment_size, is_bad_address, is_unfit_range, is_bad_range, options_part, fixed_part_refusal, addresses_refusal, lengths_refusal, header_refusal}
 

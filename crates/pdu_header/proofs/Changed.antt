@@ -2,7 +2,7 @@
 use Rattle.std.proofs.Common.{◌≡◌, ◌≢◌, ◌∙◌, refl, sym, ap, subst, ℕ, suc, ◌+◌, ◌-◌, ◌^◌, ◌<◌, ◌≤◌, Bool, true, false, Option, None, Some, List, ◌∷◌, ◌++◌, length, get_or, arith, length-append, append_assoc, inl, inr}
 use Rattle.std.specs.Prelude.{◌⊎◌, if◌then◌else◌, bit_and, bit_or, slice_set, slice_index}
 use Rattle.std.proofs.lemmas.List.{get_or-append-add, get_or-set_other}
-use Rattle.clnp_base.proofs.Lists.{set_pair}
+use Rattle.nsap.proofs.ClnpBase.Lists.{set_pair}
 use Rattle.fletcher.specs.Checksum.{octet}
 use Rattle.clnp_options.specs.Parameter.{spelled}
 use Rattle.pdu_header.specs.Value.{SegmentationPart, PduValue}

@@ -6,7 +6,7 @@ use Rattle.pdu_header.specs.Rules.{octet, pair_at}
 use Rattle.pdu_header.specs.Reading.{address_at}
 use Rattle.pdu_header.proofs.Shape.{pair_again, pair_of_octets}
 pub use Rattle.clnp_options.proofs.Agree.{accepted_anywhere, accepts_from, forms_of, parameters-Forms, spells_of, well_formed_from}
-use Rattle.clnp_base.proofs.ListSteps.{drop_next}
+use Rattle.nsap.proofs.ClnpBase.ListSteps.{drop_next}
 
 -- each is an octet
 abbrev pub AreOctets : List ℕ → Type 0

@@ -4,12 +4,12 @@ use Rattle.std.proofs.lemmas.List.{drop-replicate, drop-drop}
 use Rattle.std.proofs.lemmas.Slice.{drop-put_mid, take-put_mid}
 use borrow.Rule.Slice.PartMut.{put_mid}
 use Rattle.std.proofs.lemmas.Grind.{common_steps}
-use Rattle.clnp_base.proofs.Lists.{take_drop_swap}
+use Rattle.nsap.proofs.ClnpBase.Lists.{take_drop_swap}
 use Rattle.clnp_options.specs.Parameter.{Parameter, parameters, spelled}
 use Rattle.clnp_options.specs.Rules.{Accepts, IsWellFormed}
-use Rattle.clnp_base.specs.Inline.{IsInline, len_again}
+use Rattle.nsap.specs.ClnpBase.Inline.{IsInline, len_again}
 use Rattle.pdu_header.specs.Headers.{IsEdited}
-use Rattle.clnp_base.proofs.Laid.{length-put, inline-put}
+use Rattle.nsap.proofs.ClnpBase.Laid.{length-put, inline-put}
 
 pub held_push : (len count : ℕ) (cells piece new : List ℕ) → IsInline 254 len cells → count ≡ length piece → len + length piece ≤ 254 → new ≡ piece → IsInline 254 (len + length piece) (put_mid len count cells new)
 held_push len count cells piece new h e room n =

@@ -7,7 +7,7 @@ use Rattle.pdu_header.specs.declared.kind.Kind.TheVariants.{Dt, Er, Erq, Erp}
 use Rattle.pdu_header.specs.Layout.{type_code}
 use Rattle.pdu_header.specs.Grammar.{is_report}
 use Rattle.pdu_header.specs.Rules.{kind_of}
-use Rattle.clnp_base.proofs.Choices.{is_equal}
+use Rattle.nsap.proofs.ClnpBase.Choices.{is_equal}
 
 abbrev pub kind_read : ℕ → Kind
 kind_read type = unwrap_or (kind_of type) Dt

@@ -10,13 +10,13 @@ use Rattle.clnp_options.specs.declared.judge.OptionRefusal.{OptionRefusal}
 use Rattle.pdu_header.specs.Rules.{octet, header_size, header_of, data_size, extent_refusal, header_refusal, refusal, is_reportable, wants_report, type_of, is_bad_address, source_place}
 use Rattle.pdu_header.specs.Reading.{value_of, body_of, rest_of}
 use Rattle.pdu_header.proofs.Fields.{AreOctets}
-use Rattle.clnp_base.proofs.Choices.{below_not, equal_is, if_none, none_if, not_below, not_equal, option_or-none, option_or-parts}
+use Rattle.nsap.proofs.ClnpBase.Choices.{below_not, equal_is, if_none, none_if, not_below, not_equal, option_or-none, option_or-parts}
 use Rattle.pdu_header.proofs.Accepted.{accepted, accepting}
 use Rattle.pdu_header.proofs.Flags.{report_of_kind}
 use Rattle.pdu_header.proofs.Shape.{HasHeader, good_size, length_of_header, octet_of_header}
 use Rattle.pdu_header.proofs.Spelled.{IsHeader, header_is, spelled_as}
 use Rattle.pdu_header.proofs.Read.{read_as}
-use Rattle.clnp_base.proofs.ListSteps.{bytes_of_take}
+use Rattle.nsap.proofs.ClnpBase.ListSteps.{bytes_of_take}
 
 pub has_header : (frame : List ℕ) → extent_refusal frame ≡ None → HasHeader frame
 unfolding extent_refusal

@@ -2,7 +2,7 @@
 use Rattle.std.proofs.Common.{◌≡◌, ◌∙◌, refl, sym, ap, ℕ, zero, suc, ◌+◌, ◌-◌, ◌<◌, Bool, true, false, if◌then◌else◌, List, [], ◌∷◌, length, get_or, Option, None, Some, arith}
 use Rattle.std.specs.Prelude.{◌↔◌, option_map}
 use Rattle.std.specs.Option.{option_or}
-use Rattle.clnp_base.proofs.Choices.{option_or-assoc, option_or-nothing}
+use Rattle.nsap.proofs.ClnpBase.Choices.{option_or-assoc, option_or-nothing}
 use Rattle.clnp_options.specs.declared.judge.OptionRefusal.{OptionRefusal}
 use Rattle.clnp_options.specs.Rules.{form_refusal, list_refusal, refusal as options_refusal}
 use Rattle.pdu_header.specs.Rules.{addresses_refusal, extent_refusal, fixed_part_refusal, header_refusal, lengths_refusal, refusal}

@@ -1,3 +1,6 @@
+pub use Rattle.nsap.proofs.ClnpBase
+pub use Rattle.nsap.proofs as Nsap
+pub use Rattle.clnp_options.proofs as ClnpOptions
 pub mod Fields
 pub mod Accepted
 pub mod Flags

@@ -7,7 +7,7 @@ use Rattle.pdu_header.specs.Spelling.{header_length}
 use Rattle.pdu_header.specs.Grammar.{FitsUnit, IsPdu, IsSegment}
 use Rattle.pdu_header.specs.Rules.{is_unfit_range}
 use Rattle.pdu_header.proofs.Accepted.{good_range, range_is_good}
-use Rattle.clnp_base.proofs.Choices.{flag_is}
+use Rattle.nsap.proofs.ClnpBase.Choices.{flag_is}
 
 pub fits_where_tested : (head_len data_len : ℕ) (more : Bool) (part : SegmentationPart) → (is_unfit_range head_len part.total (part.offset + data_len) more ≡ false) ↔ FitsRange head_len data_len more part
 fits_where_tested head_len data_len more part = (

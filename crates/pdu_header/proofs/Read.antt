@@ -15,7 +15,7 @@ use Rattle.pdu_header.specs.Grammar.{is_report, IsSegment, IsPdu}
 use Rattle.pdu_header.specs.Rules.{octet, pair_at, type_of, kind_of, is_segmented, has_more, has_right_checksum, wants_report, source_place, part_place, options_place, segment_size, is_bad_address, data_size, is_unfit_range, is_bad_range, options_part}
 use Rattle.pdu_header.specs.Reading.{address_at, segmentation_at, value_of}
 use Rattle.pdu_header.proofs.Fields.{HasAddress, address_here, pair_here, accepts_from, accepted_anywhere, parameters-Forms}
-use Rattle.clnp_base.proofs.Choices.{below_not}
+use Rattle.nsap.proofs.ClnpBase.Choices.{below_not}
 use Rattle.pdu_header.proofs.Accepted.{IsAccepted, within_is, range_is_good}
 use Rattle.pdu_header.proofs.Flags.{kind_read, kind_of_code, code_is_small, report_of_code, AreFlags, flags_read}
 use Rattle.pdu_header.proofs.Shape.{sealed_layout, pair_is_zero, pair_is_used, pair_again, unused_passes, sealed_passes, sealed_is}

@@ -14,7 +14,7 @@ use Rattle.pdu_header.proofs.Fields.{AreOctets, address_split, pair_split, spell
 use Rattle.pdu_header.proofs.Accepted.{IsAccepted, IsWithin, within, good_range}
 use Rattle.pdu_header.proofs.Flags.{code_of_kind, report_of_kind, flags_again, flags_octet}
 use Rattle.pdu_header.proofs.Shape.{nine_bare, same_layout, sealing_again, bare_again, pair_is_zero, pair_is_used, pair_of_octets, right_from_test}
-use Rattle.clnp_base.proofs.ListSteps.{bytes_of_drop, bytes_of_take}
+use Rattle.nsap.proofs.ClnpBase.ListSteps.{bytes_of_drop, bytes_of_take}
 
 -- what stands where the addresses end is the segmentation part and the options
 pub part_split : (head : List ℕ) → AreOctets head → (i : ℕ) → part_place head ≡ i + 1

@@ -6,7 +6,7 @@ use Rattle.pdu_header.specs.Headers.{IsHeader, SpellsHeader}
 use Rattle.pdu_header.specs.Rules.{has_more, is_segmented, pair_at, part_place}
 use Rattle.pdu_header.specs.Reading.{segmentation_at, value_of}
 use Rattle.pdu_header.specs.View.{part_value}
-use Rattle.clnp_base.proofs.Choices.{not_below}
+use Rattle.nsap.proofs.ClnpBase.Choices.{not_below}
 use Rattle.pdu_header.proofs.Read.{read_as}
 
 pub tells_value : (v : PduValue) (octets : List ℕ) → SpellsHeader v octets → v ≡ value_of octets v.body

@@ -22,7 +22,7 @@ pub struct Cells {
 
 impl Model for Cells {
     ghost use Rattle.std.specs.Prelude.{◌-◌, ◌++◌, List, ℕ, length, take, replicate};
-    ghost use Rattle.clnp_base.specs.Inline.{IsInline, len_again, cells_again};
+    ghost use Rattle.nsap.specs.ClnpBase.Inline.{IsInline, len_again, cells_again};
 
     ghost Value = { List ℕ };
 

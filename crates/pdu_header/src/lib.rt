@@ -14,10 +14,15 @@ mod pdu;
 mod report;
 mod write;
 
+pub use clnp_options;
+pub use clnp_views;
 pub use decoder::decode;
 pub use encoding::{EncodeRefusal, encode};
+pub use fletcher;
 pub use header::{Header, HeaderRefusal};
 pub use kind::Kind;
+pub use nsap;
+pub use nsap::clnp_base;
 pub use parts::Parts;
 pub use pdu::{Broken, Pdu, Refusal, ReportTo, SegPart};
 pub use report::reportable;

@@ -14,7 +14,7 @@ use Rattle.reassembly.specs.Offered.{total_size}
 use Rattle.reassembly.specs.Sound.{IsSound}
 use Rattle.reassembly.specs.State.{TableState, KeepsSegments, Names, Stands, segments_of}
 use Rattle.reassembly.specs.Ending.{first_pdu, others_of, without_last}
-use Rattle.clnp_base.proofs.Lists.{AllByRecursion-find}
+use Rattle.nsap.proofs.ClnpBase.Lists.{AllByRecursion-find}
 use Rattle.reassembly.proofs.Undoing.{without_last-none_left}
 use Rattle.reassembly.proofs.Ended.{buffers-once, first_of, sound_without, stands_without}
 use Rattle.reassembly.proofs.Undone.{sound_undone, stands_undone, undone_is_without}

@@ -13,7 +13,7 @@ use Rattle.reassembly.specs.Offered.{openings_of, total_size}
 use Rattle.reassembly.specs.State.{KeepsSegments, Stands, TableState, opening_of, segments_of}
 use Rattle.reassembly.proofs.Keys.{same_key-sym}
 use Rattle.reassembly.proofs.Slots.{openings_of-same, openings_of-other}
-use Rattle.clnp_base.proofs.Sums.{sum-cons}
+use Rattle.nsap.proofs.ClnpBase.Sums.{sum-cons}
 
 -- the weights of the segments of each opening
 abbrev pub weights : (Segment → ℕ) → List Segment → List Opening → List ℕ

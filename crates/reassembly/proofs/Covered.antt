@@ -1,7 +1,7 @@
 -- Places that segments cover.
 use Rattle.std.proofs.Common.{arith, ◌≡◌, ℕ, ◌+◌, ◌-◌, ◌<◌, ◌≤◌, true, List}
 use Rattle.reassembly.specs.Arrival.{Arrival, are_covered, is_covered}
-use Rattle.clnp_base.proofs.Ranges.{all_by_each, each_of_all}
+use Rattle.nsap.proofs.ClnpBase.Ranges.{all_by_each, each_of_all}
 
 module _ {C : Type 0} where
   -- places that are covered, one by one

@@ -8,7 +8,7 @@ use Rattle.std.proofs.lemmas.List.Elements.{All-more, All-weaker}
 use Rattle.std.proofs.lemmas.Option.{none-some, same_Some, slice_get_read}
 use Rattle.reassembly.specs.declared.table.Opening.{Opening}
 use Rattle.reassembly.specs.Buffer.{Buffer, due, sooner, soonest}
-use Rattle.clnp_base.proofs.Filters.{AllByRecursion-filter}
+use Rattle.nsap.proofs.ClnpBase.Filters.{AllByRecursion-filter}
 
 module _ {C : Type 0} where
   pub no_due : (now : ℕ) (buffers : List (Buffer C)) → AllByRecursion (λ b. now < b.deadline) buffers → due now buffers ≡ None

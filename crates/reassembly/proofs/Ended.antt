@@ -18,10 +18,10 @@ use Rattle.reassembly.specs.Offered.{MayCome, openings_of, total_size}
 use Rattle.reassembly.specs.Sound.{IsSound}
 use Rattle.reassembly.specs.State.{TableState, KeepsSegments, Stands, opening_of, segments_of}
 use Rattle.reassembly.specs.Ending.{first_pdu, others_of}
-use Rattle.clnp_base.proofs.Filters.{AllByRecursion-filter, filter-filter, find-filter, remove-only}
-use Rattle.clnp_base.proofs.Lists.{AllByRecursion-map, AllByRecursion-slice_get}
-use Rattle.clnp_base.proofs.Maps.{filter-map, find-map}
-use Rattle.clnp_base.proofs.Sums.{length_filter, sum_filter}
+use Rattle.nsap.proofs.ClnpBase.Filters.{AllByRecursion-filter, filter-filter, find-filter, remove-only}
+use Rattle.nsap.proofs.ClnpBase.Lists.{AllByRecursion-map, AllByRecursion-slice_get}
+use Rattle.nsap.proofs.ClnpBase.Maps.{filter-map, find-map}
+use Rattle.nsap.proofs.ClnpBase.Sums.{length_filter, sum_filter}
 use Rattle.reassembly.proofs.Due.{due_at, no_due}
 use Rattle.reassembly.proofs.Keys.{same_key-like, same_key-true}
 

@@ -10,7 +10,7 @@ use Rattle.reassembly.specs.declared.segment.Segment.{Segment}
 use Rattle.reassembly.specs.Arrival.{same_key}
 use Rattle.reassembly.specs.State.{segments_of}
 use Rattle.reassembly.specs.Ending.{first_pdu, is_empty, is_start_of, others_of, without_last}
-use Rattle.clnp_base.proofs.Filters.{counted_at, filter-remove, find-no_position, find-position}
+use Rattle.nsap.proofs.ClnpBase.Filters.{counted_at, filter-remove, find-no_position, find-position}
 
 -- the first segment of a key that begins its unit
 pub first_start : (key : Key) (segments : List Segment) (index : ℕ) → position_from (is_start_of key) 0 segments ≡ Some index

@@ -14,7 +14,7 @@ use Rattle.reassembly.specs.Arrival.{same_key}
 use Rattle.reassembly.specs.Buffer.{Buffer, buffer_of, due, first_carried, without, without_due}
 use Rattle.reassembly.specs.Sound.{IsSound}
 use Rattle.reassembly.specs.State.{TableState, Names, Stands}
-use Rattle.clnp_base.proofs.Filters.{find-only}
+use Rattle.nsap.proofs.ClnpBase.Filters.{find-only}
 use Rattle.reassembly.proofs.Keys.{same_key-refl}
 use Rattle.reassembly.proofs.Ended.{buffers-once, due_of, none_due_of}
 

@@ -4,9 +4,9 @@ use Rattle.std.specs.Prelude.{is_none, is_some}
 use Rattle.std.specs.List.{Contains, list_all, list_any, range_with_len}
 use Rattle.std.proofs.lemmas.Bool.{cases_Bool, cases_lt, and_parts, and_from, leb-true, ltb-true, le-leb, lt-ltb, lt-leb, both_ways, false_from_ne_true}
 use Rattle.std.proofs.lemmas.List.{length-map}
-use Rattle.clnp_base.proofs.Choices.{below_not, none_is}
-use Rattle.clnp_base.proofs.Found.{any_contains, contains_any}
-use Rattle.clnp_base.proofs.Ranges.{all_by_each, each_of_all}
+use Rattle.nsap.proofs.ClnpBase.Choices.{below_not, none_is}
+use Rattle.nsap.proofs.ClnpBase.Found.{any_contains, contains_any}
+use Rattle.nsap.proofs.ClnpBase.Ranges.{all_by_each, each_of_all}
 use Rattle.reassembly.specs.declared.runs.Run.{Run}
 use Rattle.reassembly.specs.Runs.{AreJoined, cut, filled, filler, has_place, is_across, is_gap, is_hole, marked, named_in, renamed}
 

@@ -3,7 +3,7 @@ use Rattle.std.proofs.Common.{◌≡◌, ℕ, zero, suc, ◌+◌, ◌-◌, ◌�
 use Rattle.std.specs.Prelude.{drop, not, is_none, is_some, slice_get}
 use Rattle.std.specs.List.{list_any, position_from}
 use Rattle.std.proofs.lemmas.Bool.{both_ways, cases_Bool, and_parts, ltb-true, le-leb}
-use Rattle.clnp_base.proofs.Found.{position_none}
+use Rattle.nsap.proofs.ClnpBase.Found.{position_none}
 use Rattle.reassembly.specs.declared.segment.Key.{Key}
 use Rattle.reassembly.specs.declared.segment.Segment.{Segment}
 use Rattle.reassembly.specs.Arrival.{arrival_of, has, is_covered, same_key}
@@ -15,7 +15,7 @@ use Rattle.reassembly.proofs.Ended.{segments_of-others}
 use Rattle.reassembly.proofs.Keys.{same_key-other}
 use Rattle.reassembly.proofs.Filling.{or_else}
 use Rattle.reassembly.proofs.Run.{arrivals_of, covered_is, gives}
-use Rattle.clnp_base.proofs.ListSteps.{drop_next}
+use Rattle.nsap.proofs.ClnpBase.ListSteps.{drop_next}
 
 module _ {X : Type 0} (p : X → Bool) where
   pub position-push : (n : ℕ) (xs : List X) (x : X)

@@ -6,10 +6,10 @@ use Rattle.std.proofs.lemmas.List.{drop-append-le, drop-drop, drop-map, drop_at,
 use Rattle.std.proofs.lemmas.List.Edits.{insert-append_left, insert-append_right, length-insert}
 use Rattle.reassembly.specs.declared.runs.Run.{Run}
 use Rattle.std.proofs.lemmas.Option.{same_Some}
-use Rattle.clnp_base.proofs.Found.{is_first, none_found}
+use Rattle.nsap.proofs.ClnpBase.Found.{is_first, none_found}
 use Rattle.reassembly.specs.Runs.{cut, groups_of, is_across, total_runs}
 use Rattle.reassembly.proofs.Filling.{NoneAcross, any_parts, cut_none}
-use Rattle.clnp_base.proofs.Sums.{sum-cons}
+use Rattle.nsap.proofs.ClnpBase.Sums.{sum-cons}
 
 pub sum_before : (counts : List ℕ) (slot : ℕ) → slot < length counts → sum (take slot counts) + get_or counts slot 0 ≤ sum counts
 sum_before [] slot within = absurd (omega arith)

@@ -6,7 +6,7 @@ use Rattle.std.proofs.lemmas.List.Edits.{length-remove}
 use Rattle.std.proofs.lemmas.Bool.{cases_Bool, cases_eq, eq-eqb, ne_eqb}
 use Rattle.std.proofs.lemmas.List.{length-map, length-set, length_push}
 use Rattle.std.proofs.lemmas.Option.{same_Some, slice_get_within, none-some}
-use Rattle.clnp_base.proofs.Lists.{AllByRecursion-slice_get, slice_get-push, slice_get-push_other, slice_get-set, slice_get-set_other}
+use Rattle.nsap.proofs.ClnpBase.Lists.{AllByRecursion-slice_get, slice_get-push, slice_get-push_other, slice_get-set, slice_get-set_other}
 use Rattle.reassembly.specs.declared.runs.Run.{Run}
 use Rattle.reassembly.specs.declared.segment.Key.{Key}
 use Rattle.reassembly.specs.declared.segment.Segment.{Segment}
@@ -29,7 +29,7 @@ use Rattle.reassembly.proofs.Keys.{same_key-like, same_key-true}
 use Rattle.reassembly.proofs.Run.{arrivals_of}
 use Rattle.reassembly.proofs.Slots.{openings_of-other, openings_of-same}
 use Rattle.reassembly.proofs.Whole.{some_at}
-use Rattle.clnp_base.proofs.Sums.{sum-cons}
+use Rattle.nsap.proofs.ClnpBase.Sums.{sum-cons}
 
 -- ---- keys are of one opening each
 

@@ -19,7 +19,7 @@ use Rattle.reassembly.proofs.Keys.{same_key-like, same_key-sym}
 use Rattle.reassembly.proofs.Slots.{no_segments, openings_of-other, openings_of-same, slot_missing, slot_there}
 use Rattle.reassembly.proofs.Standing.{buffer_missing, buffer_there, of_found}
 use Rattle.reassembly.proofs.Opened.{openings_with-none, openings_with-some}
-use Rattle.clnp_base.proofs.Lists.{AllByRecursion-slice_get, AllByRecursion-push}
+use Rattle.nsap.proofs.ClnpBase.Lists.{AllByRecursion-slice_get, AllByRecursion-push}
 
 -- the buffer has the segments of its key among these
 abbrev pub Keeps : List Segment → Buffer Extent → Type 0

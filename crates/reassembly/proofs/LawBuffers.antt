@@ -10,7 +10,7 @@ use Rattle.reassembly.specs.Claims.{StaysWithDeadline, NoneIsEmpty}
 use Rattle.reassembly.proofs.Keys.{same_key-refl, same_key-true}
 use Rattle.reassembly.proofs.LawKept.{kept_or_not}
 use Rattle.std.proofs.lemmas.Option.{same_Some}
-use Rattle.clnp_base.proofs.Filters.{AllByRecursion-filter}
+use Rattle.nsap.proofs.ClnpBase.Filters.{AllByRecursion-filter}
 use Rattle.std.specs.List.{AllByRecursion}
 
 module _ {C : Type 0} where

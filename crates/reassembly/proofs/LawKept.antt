@@ -9,8 +9,8 @@ use Rattle.reassembly.specs.declared.table.TableLimits.{TableLimits}
 use Rattle.reassembly.specs.Arrival.{Arrival, same_key, are_covered}
 use Rattle.reassembly.specs.Buffer.{Buffer, Answer, Many, buffer_of, kept_in, clashes, size_of, held, kept, refusal, opened_by, with_kept, after, buffers_of, without, but_last, holding, undone}
 use Rattle.reassembly.specs.Claims.{KeepTo, MayBeKept}
-pub use Rattle.clnp_base.proofs.Choices.{if_none, none_is}
-use Rattle.clnp_base.proofs.Sums.{length_filter, sum_cons, sum_filter, sum_front, sum_one, sum_push}
+pub use Rattle.nsap.proofs.ClnpBase.Choices.{if_none, none_is}
+use Rattle.nsap.proofs.ClnpBase.Sums.{length_filter, sum_cons, sum_filter, sum_front, sum_one, sum_push}
 
 room_for : (new full : Bool) (n m : ℕ) → (new && full) ≡ false → full ≡ nat_le m n → new ≡ true → n < m
 room_for true full n m e f new = leb-false m n (sym f ∙ e)

@@ -5,10 +5,10 @@ use Rattle.std.proofs.lemmas.Bool.{cases_Bool}
 use Rattle.reassembly.specs.Arrival.{Arrival, data_len, has, is_covered, are_covered}
 use Rattle.reassembly.specs.Buffer.{Buffer, is_whole, data_of, octet_by}
 use Rattle.reassembly.specs.Claims.{IsCoveredBySome, IsWholeWhereCovered, HaveTheSame, Agree}
-use Rattle.clnp_base.proofs.Choices.{same_true}
-use Rattle.clnp_base.proofs.Found.{any_contains, contains_any, find_any, find_none}
-use Rattle.clnp_base.proofs.Maps.{list_all-agree, map-agree}
-use Rattle.clnp_base.proofs.Ranges.{each_place, from_each_place}
+use Rattle.nsap.proofs.ClnpBase.Choices.{same_true}
+use Rattle.nsap.proofs.ClnpBase.Found.{any_contains, contains_any, find_any, find_none}
+use Rattle.nsap.proofs.ClnpBase.Maps.{list_all-agree, map-agree}
+use Rattle.nsap.proofs.ClnpBase.Ranges.{each_place, from_each_place}
 
 module _ {C : Type 0} where
   pub covered_by_some : (arrivals : List (Arrival C)) (place : ℕ) → IsCoveredBySome arrivals place

@@ -11,7 +11,7 @@ use Rattle.reassembly.specs.Buffer.{Answer, Buffer, after, buffers_of, but_last,
 use Rattle.reassembly.specs.Claims.{AllEndInTime, EndsInTime}
 use Rattle.reassembly.proofs.LawDue.{due_of_none, none_due}
 use Rattle.reassembly.proofs.LawKept.{kept_or_not}
-use Rattle.clnp_base.proofs.Filters.{AllByRecursion-filter}
+use Rattle.nsap.proofs.ClnpBase.Filters.{AllByRecursion-filter}
 
 lesser : (a b : ℕ) → (min a b ≤ a) × (min a b ≤ b) × ((a ≤ min a b) ⊎ (b ≤ min a b))
 lesser a b =

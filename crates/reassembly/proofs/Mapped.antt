@@ -11,7 +11,7 @@ use Rattle.reassembly.specs.declared.table.TableLimits.{TableLimits}
 use Rattle.reassembly.specs.Arrival.{Arrival, same_key, data_len, has, is_covered, are_covered, earliest}
 use Rattle.reassembly.specs.Buffer.{Buffer, Answer, is_whole, buffer_of, kept_in, size_of, held, kept, clashes, shape_in, refusal, with_kept, is_whole_in, kept_answer, answer_of, buffers_of, answer, after, without, but_last, holding, undone, sooner, soonest, due, without_due, first_carried, octet_by, data_of}
 use Rattle.reassembly.specs.Mapped.{map_arrival, map_buffer, map_buffers}
-use Rattle.clnp_base.proofs.Maps.{filter-map, find-map, list_all-agree, list_any-map, map-agree, map-map}
+use Rattle.nsap.proofs.ClnpBase.Maps.{filter-map, find-map, list_all-agree, list_any-map, map-agree, map-map}
 
 module _ {C D : Type 0} (f : C → D) where
   -- ---- what is asked of buffers

@@ -14,7 +14,7 @@ use Rattle.reassembly.specs.NoWhole.{HasNoWhole, IsCompleted}
 use Rattle.reassembly.specs.State.{IsReady, IsWholeSlot, Names, Stands, TableState, said}
 pub use Rattle.reassembly.proofs.Ready.{none_whole-without_due}
 use Rattle.reassembly.proofs.Ready.{none_whole-after, none_whole-released, none_whole-undone, said_not_whole, whole_slot}
-use Rattle.clnp_base.proofs.Choices.{none_mapped}
+use Rattle.nsap.proofs.ClnpBase.Choices.{none_mapped}
 
 module _ (old new : TableState) (now : ℕ) (segment : Segment) (told : Accept) (ready : IsReady now old)
     (answered : (buffers : List (Buffer Extent)) → Stands old buffers → said told ≡ answer old.limits now (arrival_of segment) buffers)

@@ -14,7 +14,7 @@ use Rattle.reassembly.specs.Offered.{MayCome, openings_of, total_size}
 use Rattle.reassembly.specs.Sound.{IsSound}
 use Rattle.reassembly.proofs.Keys.{same_key-true, same_key-like}
 use Rattle.reassembly.proofs.Slots.{openings_of-same, openings_of-other}
-use Rattle.clnp_base.proofs.Lists.{AllByRecursion-push}
+use Rattle.nsap.proofs.ClnpBase.Lists.{AllByRecursion-push}
 
 module _ {X : Type 0} where
   pub slice_get_push : (xs : List X) (y : X) → slice_get (xs ++ y ∷ []) (length xs) ≡ Some y

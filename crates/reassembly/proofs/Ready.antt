@@ -15,7 +15,7 @@ use Rattle.reassembly.specs.declared.table.SlotNo.{SlotNo}
 use Rattle.reassembly.specs.Claims.{IsMadeWhole}
 use Rattle.reassembly.specs.State.{IsWholeSlot, Names, Stands, TableState, said}
 use Rattle.reassembly.proofs.Keys.{same_key-like}
-use Rattle.clnp_base.proofs.Filters.{AllByRecursion-filter}
+use Rattle.nsap.proofs.ClnpBase.Filters.{AllByRecursion-filter}
 use Rattle.reassembly.proofs.LawBuffers.{but_last-push, key_found, others_with_kept}
 
 -- a chain of tests that doesn't come to an answer of a whole unit

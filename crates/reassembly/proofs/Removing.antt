@@ -1,3 +1,3 @@
 -- Names that crates above still cite, from clnp_base.
-pub use Rattle.clnp_base.proofs.Filters.{AllByRecursion-filter}
-pub use Rattle.clnp_base.proofs.Lists.{AllByRecursion-find, AllByRecursion-implies as AllByRecursion-weaker}
+pub use Rattle.nsap.proofs.ClnpBase.Filters.{AllByRecursion-filter}
+pub use Rattle.nsap.proofs.ClnpBase.Lists.{AllByRecursion-find, AllByRecursion-implies as AllByRecursion-weaker}

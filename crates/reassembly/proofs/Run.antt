@@ -7,7 +7,7 @@ use Rattle.reassembly.specs.declared.segment.Key.{Key}
 use Rattle.reassembly.specs.declared.segment.Segment.{Segment}
 use Rattle.reassembly.specs.Arrival.{Arrival, arrival_of, earliest, has, is_covered, same_key}
 use Rattle.reassembly.specs.State.{segments_of}
-use Rattle.clnp_base.proofs.Maps.{find-map-filter, list_any-map-filter}
+use Rattle.nsap.proofs.ClnpBase.Maps.{find-map-filter, list_any-map-filter}
 
 -- whether a segment is one of the key and has the octet at a place
 abbrev pub gives : Key → ℕ → Segment → Bool

@@ -11,7 +11,7 @@ use Rattle.reassembly.specs.Buffer.{but_last}
 use Rattle.reassembly.specs.Offered.{total_size}
 use Rattle.reassembly.specs.State.{segments_of}
 use Rattle.reassembly.specs.Ending.{is_empty, others_of, without_last}
-use Rattle.clnp_base.proofs.Filters.{filter_not-none}
+use Rattle.nsap.proofs.ClnpBase.Filters.{filter_not-none}
 use Rattle.reassembly.proofs.Keys.{same_key-other}
 
 from_empty : (segments : List Segment) → is_empty segments ≡ true → segments ≡ []

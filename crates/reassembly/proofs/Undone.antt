@@ -14,8 +14,8 @@ use Rattle.reassembly.specs.Offered.{MayCome, openings_of, total_size}
 use Rattle.reassembly.specs.Sound.{IsSound}
 use Rattle.reassembly.specs.State.{TableState, KeepsSegments, Stands, opening_of, segments_of}
 use Rattle.reassembly.specs.Ending.{without_last}
-use Rattle.clnp_base.proofs.Filters.{AllByRecursion-none, filter_not-none}
-use Rattle.clnp_base.proofs.Lists.{AllByRecursion-implies}
+use Rattle.nsap.proofs.ClnpBase.Filters.{AllByRecursion-none, filter_not-none}
+use Rattle.nsap.proofs.ClnpBase.Lists.{AllByRecursion-implies}
 use Rattle.reassembly.proofs.Keys.{same_key-true, same_key-false_sym}
 use Rattle.reassembly.proofs.Undoing.{All-without_last, length-without_last, others-without_last, segments_of-without_last, size-without_last}
 

@@ -5,8 +5,8 @@ use Rattle.reassembly.specs.declared.segment.Key.{Key}
 use Rattle.reassembly.specs.declared.segment.Segment.{Segment}
 use Rattle.reassembly.specs.Arrival.{arrival_of, earliest, octet_in}
 use Rattle.reassembly.specs.Buffer.{octet_by}
-use Rattle.clnp_base.proofs.Found.{is_first}
-use Rattle.clnp_base.proofs.Ranges.{map-range-add, map_same}
+use Rattle.nsap.proofs.ClnpBase.Found.{is_first}
+use Rattle.nsap.proofs.ClnpBase.Ranges.{map-range-add, map_same}
 use Rattle.reassembly.proofs.Run.{arrivals_of, earliest_is, gives}
 
 -- the octet at a place, by the earliest segment of a key, and those at `len` places

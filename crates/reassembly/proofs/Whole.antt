@@ -11,7 +11,7 @@ use Rattle.reassembly.specs.Offered.{openings_of}
 use Rattle.reassembly.specs.State.{Names, Stands, TableState, opening_of}
 use Rattle.reassembly.proofs.Keys.{same_key-like}
 use Rattle.reassembly.proofs.Slots.{openings_of-other, openings_of-same}
-use Rattle.clnp_base.proofs.Lists.{AllByRecursion-slice_get}
+use Rattle.nsap.proofs.ClnpBase.Lists.{AllByRecursion-slice_get}
 
 -- an opening in the list is one of its key
 pub some_at : (openings : List Opening) (slot : ℕ) (opening : Opening) → slice_get openings slot ≡ Some opening → 1 ≤ openings_of opening.key openings

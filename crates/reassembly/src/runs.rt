@@ -5,7 +5,7 @@ ghost use Rattle.std.specs.List.{list_any, position_from, remove};
 ghost use Rattle.reassembly.specs.declared.runs.Run.{Run};
 ghost use Rattle.reassembly.specs.Runs.{cut, filled, is_across, is_gap, marked, named_in, renamed, total_runs, unfilled};
 
-use clnp_base::NoMemory;
+use nsap::clnp_base::NoMemory;
 use std::alloc::Global;
 use std::marker::Model;
 

@@ -13,8 +13,8 @@ ghost use Rattle.reassembly.specs.State.{IsReady, IsWholeSlot, MayKeep, Names, S
 use crate::pieces::Pieces;
 use crate::runs::{Runs, has_gap};
 use crate::segment::{Key, Segment, Shape};
-use clnp_base::NoMemory;
 use clnp_views::View;
+use nsap::clnp_base::NoMemory;
 use std::alloc::Global;
 use std::marker::Model;
 

@@ -1,11 +1,11 @@
 -- The options of a PDU while a router passes its own title in a source route.
 use Rattle.std.proofs.Common.{◌≡◌, ◌∙◌, refl, sym, ap, subst, ℕ, zero, suc, Bool, true, false, List, [], ◌∷◌, length, if◌then◌else◌, Option, Some}
 use Rattle.std.specs.Str.{bytes_eq}
-use Rattle.clnp_options.specs.Edits.{advanced, edited, recorded, target_of}
-use Rattle.clnp_options.specs.Parameter.{Parameter, recording, source_route}
-use Rattle.pdu_header.specs.Headers.{SpellsHeader, with_options}
-use Rattle.pdu_header.specs.Value.{PduValue}
-use Rattle.clnp_plan.specs.Configuration.{SystemConfiguration}
+use Rattle.clnp_machine.specs.ClnpOptions.Edits.{advanced, edited, recorded, target_of}
+use Rattle.clnp_machine.specs.ClnpOptions.Parameter.{Parameter, recording, source_route}
+use Rattle.clnp_machine.specs.PduHeader.Headers.{SpellsHeader, with_options}
+use Rattle.clnp_machine.specs.PduHeader.Value.{PduValue}
+use Rattle.clnp_machine.specs.ClnpPlan.Configuration.{SystemConfiguration}
 use Rattle.clnp_machine.specs.Esis.{title_of}
 use Rattle.clnp_machine.specs.Step.{is_named, most_titles, noting_congestion, options_behind, passing_own}
 use Rattle.clnp_machine.specs.System.{SystemState, first_state}

@@ -1,12 +1,12 @@
 -- Whether the source of a packet that goes on is told of a better way, and what it is told.
 use Rattle.std.proofs.Common.{◌≡◌, ◌∙◌, refl, sym, ap, ℕ, Bool, true, false, List, [], ◌∷◌, if◌then◌else◌, Option, None, Some}
 use Rattle.std.specs.Prelude.{◌==◌, ◌&&◌, is_none, is_some, not}
-use Rattle.clnp_options.specs.Edits.{target_of}
-use Rattle.clnp_options.specs.Parameter.{Parameter}
-use Rattle.esis_tables.specs.declared.fact.Place.{Place}
-use Rattle.esis_tables.specs.declared.fact.TableKind.TheVariants.{Es}
-use Rattle.esis_tables.specs.NextHop.{current_place}
-use Rattle.nsap.specs.declared.target.Target.TheVariants.{System}
+use Rattle.clnp_machine.specs.ClnpOptions.Edits.{target_of}
+use Rattle.clnp_machine.specs.ClnpOptions.Parameter.{Parameter}
+use Rattle.clnp_machine.specs.EsisTables.declared.fact.Place.{Place}
+use Rattle.clnp_machine.specs.EsisTables.declared.fact.TableKind.TheVariants.{Es}
+use Rattle.clnp_machine.specs.EsisTables.NextHop.{current_place}
+use Rattle.clnp_machine.specs.Nsap.declared.target.Target.TheVariants.{System}
 use Rattle.clnp_machine.specs.Esis.{redirect}
 use Rattle.clnp_machine.specs.Step.{is_at, is_redirected, redirects}
 use Rattle.clnp_machine.specs.System.{Output, SendsEsis, SystemState}

@@ -2,21 +2,21 @@
 use Rattle.std.proofs.Common.{◌≡◌, ◌∙◌, refl, sym, ap, subst, ℕ, ◌+◌, ◌-◌, ◌≤◌, Bool, true, false, Option, None, Some, Ok, Err, inr, List, [], ◌∷◌, ◌++◌, map, length, take, drop, if◌then◌else◌, arith, length-append, append_assoc}
 use Rattle.std.specs.Prelude.{Result, ◌&&◌, not, is_some, nat_le, slice_get}
 use Rattle.std.proofs.Math.Seq.{drop-append_seam, take-append_seam}
-use Rattle.esis_tables.specs.declared.fact.Place.{Place}
-use Rattle.clnp_options.specs.Reasons.{reason_code}
-use Rattle.clnp_options.specs.declared.reasons.Reason.TheVariants.{LifetimeExpiredInTransit, PathNotAcceptable, SegmentationNotPermitted}
-use Rattle.clnp_options.specs.Edits.{is_complete, target_of}
-use Rattle.clnp_options.specs.Parameter.{Parameter}
-use Rattle.clnp_views.specs.Extent.{Extent, part, seen, whole}
-use Rattle.pdu_header.specs.Headers.{SpellsHeader, with_lifetime, with_options}
-use Rattle.pdu_header.specs.Spelling.{header, segment_length}
-use Rattle.pdu_header.specs.Value.{PduValue}
-use Rattle.segmenter.specs.declared.cuts.Cut.{Cut}
-use Rattle.segmenter.specs.declared.cuts.NotPermitted.{NotPermitted}
-use Rattle.segmenter.specs.Cut as segmenter
-use Rattle.segmenter.specs.Cut.{Piece, given}
-use Rattle.clnp_plan.specs.Configuration.{IsPort, SystemConfiguration}
-use Rattle.clnp_plan.specs.declared.config.PortConfig.{PortConfig}
+use Rattle.clnp_machine.specs.EsisTables.declared.fact.Place.{Place}
+use Rattle.clnp_machine.specs.ClnpOptions.Reasons.{reason_code}
+use Rattle.clnp_machine.specs.ClnpOptions.declared.reasons.Reason.TheVariants.{LifetimeExpiredInTransit, PathNotAcceptable, SegmentationNotPermitted}
+use Rattle.clnp_machine.specs.ClnpOptions.Edits.{is_complete, target_of}
+use Rattle.clnp_machine.specs.ClnpOptions.Parameter.{Parameter}
+use Rattle.clnp_machine.specs.ClnpViews.Extent.{Extent, part, seen, whole}
+use Rattle.clnp_machine.specs.PduHeader.Headers.{SpellsHeader, with_lifetime, with_options}
+use Rattle.clnp_machine.specs.PduHeader.Spelling.{header, segment_length}
+use Rattle.clnp_machine.specs.PduHeader.Value.{PduValue}
+use Rattle.clnp_machine.specs.Segmenter.declared.cuts.Cut.{Cut}
+use Rattle.clnp_machine.specs.Segmenter.declared.cuts.NotPermitted.{NotPermitted}
+use Rattle.clnp_machine.specs.Segmenter.Cut as segmenter
+use Rattle.clnp_machine.specs.Segmenter.Cut.{Piece, given}
+use Rattle.clnp_machine.specs.ClnpPlan.Configuration.{IsPort, SystemConfiguration}
+use Rattle.clnp_machine.specs.ClnpPlan.declared.config.PortConfig.{PortConfig}
 use Rattle.clnp_machine.specs.Content.{Labelled}
 use Rattle.clnp_machine.specs.Given.{GiveAllFor, IsSentOnFor}
 use Rattle.clnp_machine.specs.Step as machine
@@ -24,9 +24,9 @@ use Rattle.clnp_machine.specs.Step.{discards, ends_at, forwarded, goes_on, goes_
 use Rattle.clnp_machine.specs.System.{Effect, SystemState, Transmits}
 use Rattle.clnp_machine.specs.Unit.{IsCarriable, Packet, cut, value_of}
 use Rattle.clnp_machine.proofs.Pieces.{AreBoth, AreThese, IsThis, cut_both}
-use Rattle.local_entity.specs.Sending.{machine_hop, piece_frame, transmission}
-use Rattle.local_entity.specs.declared.sending.Hop.{Hop}
-use Rattle.local_entity.proofs.Sent.{CutsSay, IsAnswer, piece_octets}
+use Rattle.system_entity.specs.LocalEntity.Sending.{machine_hop, piece_frame, transmission}
+use Rattle.system_entity.specs.LocalEntity.declared.sending.Hop.{Hop}
+use Rattle.system_entity.proofs.LocalEntity.Sent.{CutsSay, IsAnswer, piece_octets}
 use Rattle.system_entity.specs.Comes.{HasValue}
 use Rattle.system_entity.specs.declared.passing.Passing.{Passing}
 use Rattle.system_entity.specs.declared.way.Way.{Way}

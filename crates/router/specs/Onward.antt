@@ -1,19 +1,19 @@
 -- What a PDU for another address comes to.
 use Rattle.std.specs.Prelude.{◌≡◌, ◌-◌, ℕ, nat_le, true, is_some, if◌then◌else◌, List, ◌++◌, length, map, Option, None, Some, Result, Ok, Err}
-use Rattle.clnp_options.specs.Reasons.{reason_code}
-use Rattle.clnp_options.specs.declared.reasons.Reason.{Reason}
-use Rattle.clnp_views.specs.Extent.{Extent, seen}
+use Rattle.clnp_machine.specs.ClnpOptions.Reasons.{reason_code}
+use Rattle.clnp_machine.specs.ClnpOptions.declared.reasons.Reason.{Reason}
+use Rattle.clnp_machine.specs.ClnpViews.Extent.{Extent, seen}
 use Rattle.clnp_machine.specs.Content.{Labelled}
 use Rattle.clnp_machine.specs.Given.{GiveAllFor}
-use Rattle.clnp_plan.specs.declared.config.PortConfig.{PortConfig}
+use Rattle.clnp_machine.specs.ClnpPlan.declared.config.PortConfig.{PortConfig}
 use Rattle.clnp_machine.specs.Step.{discards, loss_at, options_behind, redirects}
-use Rattle.clnp_options.specs.Edits.{target_of}
+use Rattle.clnp_machine.specs.ClnpOptions.Edits.{target_of}
 use Rattle.clnp_machine.specs.System.{Effect, SystemState, Output as Given}
 use Rattle.clnp_machine.specs.Unit.{Packet, value_of}
-use Rattle.esis_tables.specs.declared.fact.Place.{Place}
-use Rattle.local_entity.specs.declared.sending.Hop.{Hop}
-use Rattle.local_entity.specs.Sending.{transmission}
-use Rattle.nsap.specs.declared.target.Target.TheVariants.{System}
+use Rattle.clnp_machine.specs.EsisTables.declared.fact.Place.{Place}
+use Rattle.system_entity.specs.LocalEntity.declared.sending.Hop.{Hop}
+use Rattle.system_entity.specs.LocalEntity.Sending.{transmission}
+use Rattle.clnp_machine.specs.Nsap.declared.target.Target.TheVariants.{System}
 use Rattle.system_entity.specs.Ways.{machine_way}
 use Rattle.system_entity.specs.declared.way.Way.{Way}
 use Rattle.router.specs.declared.onward.Onward.{Onward}

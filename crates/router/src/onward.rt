@@ -1,23 +1,23 @@
 //! In which pieces a PDU for another address goes on (ISO/IEC 8473, sections 6.4 and 6.7).
 ghost use Rattle.std.specs.Prelude.{◌≡◌, ℕ, IfOk, List, Some, length};
 ghost use Rattle.std.specs.List.{AllByRecursion};
-ghost use Rattle.clnp_plan.specs.Configuration.{IsPort};
+ghost use Rattle.clnp_machine.specs.ClnpPlan.Configuration.{IsPort};
 ghost use Rattle.clnp_machine.specs.Step.{goes_on_by, options_behind};
-ghost use Rattle.pdu_header.specs.Headers.{SpellsHeader, with_options};
+ghost use Rattle.clnp_machine.specs.PduHeader.Headers.{SpellsHeader, with_options};
 ghost use Rattle.clnp_machine.specs.System.{SystemState};
 ghost use Rattle.clnp_machine.specs.Unit.{IsCarriable, Packet, value_of};
 ghost use Rattle.system_entity.specs.Ways.{machine_way};
-ghost use Rattle.esis_tables.specs.declared.fact.Place.{Place};
-ghost use Rattle.pdu_header.specs.Value.{PduValue};
-ghost use Rattle.segmenter.specs.Left.{IsCutOf};
+ghost use Rattle.clnp_machine.specs.EsisTables.declared.fact.Place.{Place};
+ghost use Rattle.clnp_machine.specs.PduHeader.Value.{PduValue};
+ghost use Rattle.clnp_machine.specs.Segmenter.Left.{IsCutOf};
 ghost use Rattle.system_entity.specs.Comes.{HasValue};
 ghost use Rattle.router.specs.Onward.{ComesTo, life_left};
 
+use clnp_machine::clnp_options::Reason;
+use clnp_machine::clnp_plan::PortConfig;
 use clnp_machine::laws;
-use clnp_options::Reason;
-use clnp_plan::PortConfig;
-use pdu_header::Header;
-use segmenter::{Cuts, NotPermitted};
+use clnp_machine::pdu_header::Header;
+use clnp_machine::segmenter::{Cuts, NotPermitted};
 use system_entity::{Passing, Way};
 
 /// The pieces of a PDU, the way that they go, and whether it is the way to a title of a source route.

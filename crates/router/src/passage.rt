@@ -1,18 +1,18 @@
 //! What a router changes in the options of a PDU that goes on: it passes its own title in a source route, puts it in a recording of
 //! route, and notes that it is congested (ISO/IEC 8473, sections 6.14, 6.15 and 6.18).
 ghost use Rattle.std.specs.Prelude.{◌≡◌, ◌&&◌, IsSome, not, true};
-ghost use Rattle.clnp_options.specs.Edits.{edited, is_complete, recorded, target_of};
-ghost use Rattle.clnp_options.specs.Parameter.{recording};
-ghost use Rattle.clnp_options.specs.Reasons.{reason_code};
+ghost use Rattle.clnp_machine.specs.ClnpOptions.Edits.{edited, is_complete, recorded, target_of};
+ghost use Rattle.clnp_machine.specs.ClnpOptions.Parameter.{recording};
+ghost use Rattle.clnp_machine.specs.ClnpOptions.Reasons.{reason_code};
 ghost use Rattle.clnp_machine.specs.Esis.{title_of};
 ghost use Rattle.clnp_machine.specs.Step.{ends_at, is_named, most_titles, no_way_to, noting_congestion, options_behind, passing_own, towards};
 ghost use Rattle.clnp_machine.specs.System.{SystemState};
-ghost use Rattle.pdu_header.specs.Headers.{IsHeader, SpellsHeader, with_options};
-ghost use Rattle.pdu_header.specs.Value.{PduValue};
+ghost use Rattle.clnp_machine.specs.PduHeader.Headers.{IsHeader, SpellsHeader, with_options};
+ghost use Rattle.clnp_machine.specs.PduHeader.Value.{PduValue};
 
-use clnp_options::Reason;
-use nsap::Address;
-use pdu_header::Header;
+use clnp_machine::clnp_options::Reason;
+use clnp_machine::nsap::Address;
+use clnp_machine::pdu_header::Header;
 use system_entity::Way;
 
 /// No source route has so many titles, since its pointer is an octet.

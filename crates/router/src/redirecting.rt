@@ -2,7 +2,7 @@
 ghost use Rattle.std.specs.Prelude.{◌≡◌, ◌==◌, ◌&&◌, not};
 ghost use Rattle.clnp_machine.specs.Step.{is_at};
 
-use esis_tables::Place;
+use clnp_machine::esis_tables::Place;
 use system_entity::{Passing, Way};
 
 /// Whether a PDU that came from a place and goes on by a way may call for a redirect: redirects hold for a time, it goes on by

@@ -1,22 +1,22 @@
 //! The steps of a router.
 ghost use Rattle.std.specs.Prelude.{◌≡◌, ◌≤◌, ◌<◌, ◌+◌, ◌++◌, ◌^◌, ℕ, IfErr, IfOk, List, OnOk, OnErr, IsErr, MatchResult, None, Some, Err, true, is_none, is_some, length};
 ghost use Rattle.std.specs.List.{AllByRecursion};
-ghost use Rattle.reassembly.specs.Buffer.{held};
-ghost use Rattle.clnp_plan.specs.declared.ask.SendRefusal.TheVariants.{NoMemory as WantsMemory};
-ghost use Rattle.clnp_plan.specs.declared.config.Role.TheVariants.{Router as IsRouter};
+ghost use Rattle.clnp_machine.specs.Reassembly.Buffer.{held};
+ghost use Rattle.clnp_machine.specs.ClnpPlan.declared.ask.SendRefusal.TheVariants.{NoMemory as WantsMemory};
+ghost use Rattle.clnp_machine.specs.ClnpPlan.declared.config.Role.TheVariants.{Router as IsRouter};
 ghost use Rattle.clnp_machine.specs.Content.{Content, IsCarried, Labelled, frame_of};
 ghost use Rattle.clnp_machine.specs.Given.{Appends, AppendsFor};
 ghost use Rattle.clnp_machine.specs.Local.{refusal, request_unit};
 ghost use Rattle.clnp_machine.specs.Esis.{title_of};
 ghost use Rattle.clnp_machine.specs.Step.{goes_on, goes_on_with, is_redirected, options_behind, redirects, step, way_of};
-ghost use Rattle.clnp_options.specs.Edits.{target_of};
-ghost use Rattle.clnp_options.specs.Parameter.{Parameter};
-ghost use Rattle.pdu_header.specs.Headers.{SpellsHeader, with_options};
+ghost use Rattle.clnp_machine.specs.ClnpOptions.Edits.{target_of};
+ghost use Rattle.clnp_machine.specs.ClnpOptions.Parameter.{Parameter};
+ghost use Rattle.clnp_machine.specs.PduHeader.Headers.{SpellsHeader, with_options};
 ghost use Rattle.clnp_machine.specs.System.{SystemState, AsksForEcho, FrameComes, IsRestarted, IsCongested, MomentComes, first_state, next_number};
 ghost use Rattle.clnp_machine.specs.Unit.{IsCarriable, Packet, value_of, wire};
-ghost use Rattle.pdu_header.specs.Value.{PduValue};
-ghost use Rattle.segmenter.specs.Left.{IsCutOf};
-ghost use Rattle.local_entity.specs.Local.{IsWhy};
+ghost use Rattle.clnp_machine.specs.PduHeader.Value.{PduValue};
+ghost use Rattle.clnp_machine.specs.Segmenter.Left.{IsCutOf};
+ghost use Rattle.system_entity.specs.LocalEntity.Local.{IsWhy};
 ghost use Rattle.system_entity.specs.Comes.{HasValue, IsAtFront};
 ghost use Rattle.system_entity.specs.Ways.{machine_way, way_option};
 ghost use Rattle.router.specs.Onward.{ComesTo};
@@ -25,14 +25,14 @@ ghost use Rattle.router.specs.Stands.{IsLeftBy, Stands};
 use crate::onward::{Onward, by_port};
 use crate::passage::{behind, is_barred, is_off_route, no_way, towards};
 use crate::redirecting::{is_at, may_be_redirected};
-use clnp_base::NoMemory;
+use clnp_machine::clnp_base::NoMemory;
+use clnp_machine::clnp_options::Reason;
+use clnp_machine::clnp_plan::{Limits, Output, SendRefusal, SystemConfig};
+use clnp_machine::clnp_views::Frame;
+use clnp_machine::esis_tables::Place;
 use clnp_machine::laws;
-use clnp_options::Reason;
-use clnp_plan::{Limits, Output, SendRefusal, SystemConfig};
-use clnp_views::Frame;
-use esis_tables::Place;
-use nsap::{Address, Snpa};
-use pdu_header::Header;
+use clnp_machine::nsap::{Address, Snpa};
+use clnp_machine::pdu_header::Header;
 use std::alloc::Global;
 use std::marker::Model;
 use system_entity::{Arrival, Passing, SystemEntity, Way};
@@ -49,7 +49,7 @@ pub struct Router {
 
 impl Model for Router {
     ghost use Rattle.std.specs.Prelude.{◌≡◌};
-    ghost use Rattle.clnp_plan.specs.declared.config.Role.TheVariants.{Router as IsRouter};
+    ghost use Rattle.clnp_machine.specs.ClnpPlan.declared.config.Role.TheVariants.{Router as IsRouter};
     ghost use Rattle.router.specs.State.{RouterState};
 
     ghost Value = { RouterState };

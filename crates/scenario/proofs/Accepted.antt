@@ -5,8 +5,8 @@ use Rattle.std.proofs.lemmas.Bool.{leb-true, and_parts}
 use Rattle.std.proofs.lemmas.List.{length-map}
 use Rattle.std.proofs.lemmas.List.Sums.{sum_by-cons}
 use Rattle.std.proofs.lemmas.Result.{IfOk-at_ok}
-use Rattle.clnp_base.specs.Text.{lines_of, words_of}
-use Rattle.clnp_base.proofs.Lists.{AllByRecursion-implies}
+use Rattle.clnp_plan.specs.ClnpBase.Text.{lines_of, words_of}
+use Rattle.clnp_plan.proofs.ClnpBase.Lists.{AllByRecursion-implies}
 use Rattle.clnp_plan.specs.Configuration.{SystemConfiguration, IsSystem}
 use Rattle.clnp_plan.specs.declared.config.Limits.{Limits}
 use Rattle.scenario.specs.Scenario.{Plan, Subnetwork, IsFit, AsksFairly, AsksInForm, InjectsInForm, IsPlaced, IsFromHost, IsOfRouter, IsSaid, passed_by, ticks_of}

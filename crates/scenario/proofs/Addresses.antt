@@ -4,11 +4,11 @@ use Rattle.std.proofs.Common.{ℕ, ◌+◌, ◌&&◌, not, nat_le, nat_lt, List,
 use Rattle.std.specs.List.{AllByRecursion, flat_map, list_all}
 use Rattle.std.specs.Str.{bytes_eq}
 use Rattle.std.proofs.lemmas.List.Elements.{All-from_recursion}
-use Rattle.clnp_base.proofs.Lists.{AllByRecursion-mapped, AllByRecursion-push}
-use Rattle.clnp_base.specs.Text.{decimal_of, words_of}
-use Rattle.nsap.specs.Address.{IsAddress}
-use Rattle.nsap.specs.Prefix.{IsPrefix}
-use Rattle.forwarding.specs.declared.route.Route.{Route}
+use Rattle.clnp_plan.proofs.ClnpBase.Lists.{AllByRecursion-mapped, AllByRecursion-push}
+use Rattle.clnp_plan.specs.ClnpBase.Text.{decimal_of, words_of}
+use Rattle.clnp_plan.specs.Nsap.Address.{IsAddress}
+use Rattle.clnp_plan.specs.Nsap.Prefix.{IsPrefix}
+use Rattle.clnp_plan.specs.Forwarding.declared.route.Route.{Route}
 use Rattle.clnp_plan.specs.Configuration.{IsAddressed, IsAddressedRoute, SystemConfiguration}
 use Rattle.clnp_plan.specs.declared.config.PortConfig.{PortConfig}
 use Rattle.scenario.specs.Words.{wanted, name_word, declared_word, number_within, number_word, address_word, prefix_word, is_digits, is_taken, is_one_at_most, is_skipped, each_once, two_words, three_words, five_words, first_two, first_four}

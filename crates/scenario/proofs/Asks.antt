@@ -3,9 +3,9 @@ use Rattle.std.proofs.Common.{◌↔◌, ℕ, ◌&&◌, Bool, false, not, nat_le
 use Rattle.std.specs.List.{AllByRecursion}
 use Rattle.std.specs.Str.{bytes_eq}
 use Rattle.std.proofs.lemmas.Bool.{and_parts, not-true, true≢false}
-use Rattle.clnp_options.specs.Grammar.{FitsKind, Spells}
-use Rattle.clnp_options.specs.Parameter.{parameters, parameters_after}
-use Rattle.clnp_options.specs.Rules.{Accepts, refusal}
+use Rattle.clnp_plan.specs.ClnpOptions.Grammar.{FitsKind, Spells}
+use Rattle.clnp_plan.specs.ClnpOptions.Parameter.{parameters, parameters_after}
+use Rattle.clnp_plan.specs.ClnpOptions.Rules.{Accepts, refusal}
 use Rattle.clnp_plan.specs.Configuration.{SystemConfiguration}
 use Rattle.scenario.specs.Scenario.{AsksFairly}
 use Rattle.scenario.specs.Words.{literal, has_prefix, declared_word, address_word, data_word, number_word, life_word, octets_behind, options_read, options_word, one_word, two_words, four_words, first_four, each_once}

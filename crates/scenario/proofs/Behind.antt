@@ -4,13 +4,13 @@ use Rattle.std.specs.List.{AllByRecursion, position}
 use Rattle.std.specs.Str.{bytes_eq}
 use Rattle.std.proofs.lemmas.Bool.{leb-true, and_parts, true≢false}
 use Rattle.std.proofs.lemmas.List.Quantifiers.{position-Some}
-use Rattle.clnp_base.specs.Text.{decimal_of}
+use Rattle.clnp_plan.specs.ClnpBase.Text.{decimal_of}
 use Rattle.clnp_plan.specs.Configuration.{IsWithin}
 use Rattle.scenario.specs.Words.{◌>>=◌, wanted, found, is_name, declared_word, number_within, number_word, after_prefix, number_behind}
 use Rattle.scenario.specs.Grammar.{BadLine, at_line}
 use Rattle.scenario.specs.declared.code.Code.{Code}
 use Rattle.scenario.specs.declared.code.Code.TheVariants as bad
-use Rattle.clnp_base.proofs.Choices.{one_of}
+use Rattle.clnp_plan.proofs.ClnpBase.Choices.{one_of}
 use Rattle.scenario.specs.Events.{wish_word, wish_words, options_in, life_in}
 use Rattle.scenario.specs.declared.wish.Wish.{Wish}
 use Rattle.scenario.specs.declared.wish.Wish.TheVariants.{Lasting, NoReport, Whole, Options}

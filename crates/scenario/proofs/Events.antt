@@ -1,7 +1,7 @@
 -- Reading event lines one after the other, as a loop does.
 use Rattle.std.proofs.Common.{◌≡◌, ℕ, ◌+◌, true, false, List, [], ◌∷◌, ◌++◌, codes, Result, Ok, Err, refl, sym, ap, ◌∙◌}
 use Rattle.std.proofs.lemmas.List.{append-nil}
-use Rattle.clnp_base.specs.Text.{words_of}
+use Rattle.clnp_plan.specs.ClnpBase.Text.{words_of}
 use Rattle.clnp_plan.specs.Configuration.{SystemConfiguration}
 use Rattle.scenario.specs.declared.counts.Counts.{Counts}
 use Rattle.scenario.specs.declared.event.Event.{Event}

@@ -6,11 +6,11 @@ use Rattle.std.proofs.lemmas.Bool.{leb-true, ltb-true, eqb-true, and_parts, not-
 use Rattle.std.proofs.lemmas.List.{length-map, map-append}
 use Rattle.std.proofs.lemmas.List.Edits.{length-insert}
 use Rattle.std.proofs.lemmas.List.Sums.{count_by-le-length}
-use Rattle.clnp_base.proofs.Lists.{AllByRecursion-mapped, AllByRecursion-push}
-use Rattle.clnp_base.specs.Text.{decimal_of, words_of}
-use Rattle.forwarding.specs.Distinct as prefixes
-use Rattle.forwarding.specs.declared.route.Route.{Route}
-use Rattle.forwarding.proofs.Prefixes.{AreDistinct-push}
+use Rattle.clnp_plan.proofs.ClnpBase.Lists.{AllByRecursion-mapped, AllByRecursion-push}
+use Rattle.clnp_plan.specs.ClnpBase.Text.{decimal_of, words_of}
+use Rattle.clnp_plan.specs.Forwarding.Distinct as prefixes
+use Rattle.clnp_plan.specs.Forwarding.declared.route.Route.{Route}
+use Rattle.clnp_plan.proofs.Forwarding.Prefixes.{AreDistinct-push}
 use Rattle.clnp_plan.specs.Configuration.{IsWithin, HasItsAddresses, HasItsPorts, HasItsRoutes, IsPort, IsSystem, AreSettings, AreLimits, SystemConfiguration}
 use Rattle.clnp_plan.specs.declared.config.PortConfig.{PortConfig}
 use Rattle.clnp_plan.specs.declared.config.Role.{Role}

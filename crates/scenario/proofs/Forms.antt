@@ -3,16 +3,16 @@ use Rattle.std.proofs.Common.{◌≡◌, ℕ, zero, suc, ◌+◌, ◌/◌, ◌%�
 use Rattle.std.specs.List.{AllByRecursion, range_with_len}
 use Rattle.std.specs.Str.{bytes_eq}
 use Rattle.std.proofs.lemmas.Bool.{and_parts, not-true}
-use Rattle.clnp_base.proofs.Lists.{AllByRecursion-slice_get}
+use Rattle.clnp_plan.proofs.ClnpBase.Lists.{AllByRecursion-slice_get}
 use Rattle.hex.specs.Hex.{IsBytes, decode_of}
 use Rattle.hex.specs.declared.error.FromHexError.{FromHexError}
 use Rattle.hex.proofs.HexLemmas.{decode_of-ok}
-use Rattle.nsap.specs.Address.{IsAddress}
-use Rattle.nsap.specs.Text as nsap
-use Rattle.nsap.specs.declared.fault.NsapFault.{NsapFault}
-use Rattle.clnp_options.specs.Grammar.{AreFormed}
-use Rattle.clnp_options.specs.Parameter.{parameters, parameters_after}
-use Rattle.clnp_options.specs.Rules.{Accepts, refusal}
+use Rattle.clnp_plan.specs.Nsap.Address.{IsAddress}
+use Rattle.clnp_plan.specs.Nsap.Text as nsap
+use Rattle.clnp_plan.specs.Nsap.declared.fault.NsapFault.{NsapFault}
+use Rattle.clnp_plan.specs.ClnpOptions.Grammar.{AreFormed}
+use Rattle.clnp_plan.specs.ClnpOptions.Parameter.{parameters, parameters_after}
+use Rattle.clnp_plan.specs.ClnpOptions.Rules.{Accepts, refusal}
 use Rattle.clnp_plan.specs.Configuration.{IsSystem, IsWithin, SystemConfiguration}
 use Rattle.scenario.specs.Scenario.{AsksInForm, octets_of}
 use Rattle.scenario.specs.Words.{literal, has_prefix, after_prefix, digits_read, pattern_word, two_fields, declared_word, address_read, address_word, data_word, number_word, life_word, octets_behind, options_read, options_word, one_word, two_words, four_words, first_four, each_once}

@@ -1,6 +1,6 @@
 -- What holds of each event of a frame from outside holds of the one that a line gives.
 use Rattle.std.proofs.Common.{ℕ, List, nat_le, length, IfOk}
-use Rattle.nsap.specs.declared.target.Target.{Target}
+use Rattle.clnp_plan.specs.Nsap.declared.target.Target.{Target}
 use Rattle.scenario.specs.Words.{declared_word, address_word, four_words, frame_word, target_word}
 use Rattle.scenario.specs.Events.{inject_line}
 use Rattle.scenario.specs.declared.event.Event.{Event}

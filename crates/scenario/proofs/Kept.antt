@@ -7,9 +7,9 @@ use Rattle.std.proofs.lemmas.Bool.{true≢false, or_parts}
 use Rattle.std.proofs.lemmas.List.{map-append, append-nil, take-append-drop}
 use Rattle.std.proofs.lemmas.List.Elements.{filter-append}
 use Rattle.std.proofs.lemmas.Slice.Eq.{bytes_eq-Decides}
-use Rattle.clnp_base.proofs.Choices.{not_below, below_not, not_equal}
-use Rattle.clnp_base.proofs.Lists.{AllByRecursion-implies, AllByRecursion-mapped, AllByRecursion-put}
-use Rattle.clnp_base.proofs.Maps.{filter-map, map-map}
+use Rattle.clnp_plan.proofs.ClnpBase.Choices.{not_below, below_not, not_equal}
+use Rattle.clnp_plan.proofs.ClnpBase.Lists.{AllByRecursion-implies, AllByRecursion-mapped, AllByRecursion-put}
+use Rattle.clnp_plan.proofs.ClnpBase.Maps.{filter-map, map-map}
 use Rattle.clnp_plan.specs.Configuration.{SystemConfiguration}
 use Rattle.clnp_plan.specs.declared.config.PortConfig.{PortConfig}
 use Rattle.scenario.specs.Scenario.{Subnetwork, AreOnDifferent, IsOn, snpas_of}

@@ -3,7 +3,7 @@ use Rattle.std.proofs.Common.{◌≡◌, ℕ, zero, suc, ◌<◌, ◌==◌, ◌&
 use Rattle.std.proofs.lemmas.List.Folds.{list_any-append}
 use Rattle.std.specs.List.{list_any, flat_map}
 use Rattle.std.specs.Cmp.Lexicographic.{pointwise}
-use Rattle.clnp_base.proofs.Maps.{list_any-map-filter}
+use Rattle.clnp_plan.proofs.ClnpBase.Maps.{list_any-map-filter}
 use Rattle.scenario.specs.declared.fault.LineFault.{LineFault}
 use Rattle.scenario.specs.declared.fault.LineFault.TheVariants.{NoMemory}
 use Rattle.scenario.specs.Declarations.{changed_at, is_among, snpas_on, DeclaredSystem, NumberedPort, configuration_of}

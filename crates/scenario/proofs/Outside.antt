@@ -6,8 +6,8 @@ use Rattle.std.proofs.lemmas.Bool.{leb-true}
 use Rattle.hex.specs.Hex.{IsBytes, decode_of}
 use Rattle.hex.specs.declared.error.FromHexError.{FromHexError}
 use Rattle.hex.proofs.HexLemmas.{decode_of-ok}
-use Rattle.nsap.specs.Address.{IsAddress}
-use Rattle.clnp_base.specs.Text.{words_of, onto_first, ends_word}
+use Rattle.clnp_plan.specs.Nsap.Address.{IsAddress}
+use Rattle.clnp_plan.specs.ClnpBase.Text.{words_of, onto_first, ends_word}
 use Rattle.clnp_plan.specs.Configuration.{SystemConfiguration}
 use Rattle.scenario.specs.Scenario.{InjectsInForm, IsTarget}
 use Rattle.scenario.specs.Words.{declared_word, digits_read, address_word, data_word, number_word, one_word, two_words, four_words, first_four, each_once, frame_word, target_word}
@@ -15,7 +15,7 @@ use Rattle.scenario.specs.Events.{wish_words, wish_key, host_word, router_word, 
 use Rattle.scenario.specs.declared.event.Event.TheVariants.{Settle, Lose, Tick}
 use Rattle.scenario.proofs.Behind.{behind_result, behind_found, behind_wanted, behind_such, either_way, declared_is_within}
 use Rattle.scenario.proofs.Forms.{Laws, address_formed}
-use Rattle.clnp_base.proofs.Choices.{one_of}
+use Rattle.clnp_plan.proofs.ClnpBase.Choices.{one_of}
 
 -- Words that aren't empty.
 

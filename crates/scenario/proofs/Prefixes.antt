@@ -2,13 +2,13 @@
 use Rattle.std.proofs.Common.{◌≡◌, ℕ, nat_le, Bool, true, false, if◌then◌else◌, List, [], length, map, Option, None, Some, Result, Ok, Err, IfOk, refl, arith}
 use Rattle.std.proofs.lemmas.Bool.{leb-true}
 use Rattle.std.proofs.lemmas.List.{length-map}
-use Rattle.nsap.specs.Prefix.{IsPrefix, digit_value, is_star, prefix_of, prefix_or_fault}
-use Rattle.nsap.specs.Text.{bad_digit, without_dots}
-use Rattle.nsap.specs.declared.fault.NsapFault.{NsapFault}
-use Rattle.nsap.specs.declared.fault.NsapFault.TheVariants.{TooManyDigits}
+use Rattle.clnp_plan.specs.Nsap.Prefix.{IsPrefix, digit_value, is_star, prefix_of, prefix_or_fault}
+use Rattle.clnp_plan.specs.Nsap.Text.{bad_digit, without_dots}
+use Rattle.clnp_plan.specs.Nsap.declared.fault.NsapFault.{NsapFault}
+use Rattle.clnp_plan.specs.Nsap.declared.fault.NsapFault.TheVariants.{TooManyDigits}
 use Rattle.scenario.specs.Words.{address_read, prefix_word}
 use Rattle.scenario.proofs.Behind.{either_way}
-pub use Rattle.nsap.proofs.Digits.{digit_may_stand, digit_no_dot, spelled_few, values_small}
+pub use Rattle.clnp_plan.proofs.Nsap.Digits.{digit_may_stand, digit_no_dot, spelled_few, values_small}
 
 no_digits : IsPrefix []
 no_digits = record { few = omega arith; small = λ i. omega arith }

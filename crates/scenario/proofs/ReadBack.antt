@@ -2,7 +2,7 @@
 use Rattle.std.proofs.Common.{◌≡◌, ℕ, List, [], ◌∷◌, ◌++◌, length, codes, Ok, refl, sym, ap, ◌∙◌, append_assoc, arith}
 use Rattle.std.specs.List.{AllByRecursion, flat_map}
 use Rattle.std.proofs.lemmas.Result.{IfOk-at_ok}
-use Rattle.clnp_base.specs.Text.{lines_of}
+use Rattle.clnp_plan.specs.ClnpBase.Text.{lines_of}
 use Rattle.clnp_plan.specs.Configuration.{SystemConfiguration}
 use Rattle.scenario.specs.Canonical.{declarations_text, event_text, text_of}
 use Rattle.scenario.specs.Events.{nothing_counted}

@@ -3,10 +3,10 @@ use Rattle.std.proofs.Common.{◌≡◌, ℕ, ◌&&◌, false, not, nat_le, List
 use Rattle.std.specs.List.{AllByRecursion}
 use Rattle.std.specs.Str.{bytes_eq}
 use Rattle.std.proofs.lemmas.Bool.{leb-true, and_parts, not-true}
-use Rattle.clnp_base.proofs.Lists.{AllByRecursion-slice_get}
+use Rattle.clnp_plan.proofs.ClnpBase.Lists.{AllByRecursion-slice_get}
 use Rattle.hex.specs.Hex.{IsBytes}
-use Rattle.clnp_options.specs.Parameter.{parameters_after, spelled}
-use Rattle.clnp_options.specs.Rules.{refusal, form_refusal, list_refusal, place_of_repeat, place_of}
+use Rattle.clnp_plan.specs.ClnpOptions.Parameter.{parameters_after, spelled}
+use Rattle.clnp_plan.specs.ClnpOptions.Rules.{refusal, form_refusal, list_refusal, place_of_repeat, place_of}
 use Rattle.clnp_plan.specs.Configuration.{IsSystem, IsWithin, SystemConfiguration}
 use Rattle.scenario.specs.Scenario.{IsSaid, IsSaidBody, AreSaidOptions}
 use Rattle.scenario.specs.Words.{literal, has_prefix, after_prefix, pattern_word, two_fields, declared_word, address_word, data_word, number_word, life_word, octets_behind, options_read, options_word, one_word, two_words, four_words, first_four, each_once}

@@ -5,9 +5,9 @@ use Rattle.std.proofs.lemmas.List.{append-nil}
 use Rattle.std.proofs.lemmas.List.Sums.{sum_by-cons}
 use Rattle.std.proofs.lemmas.Result.{IfOk-at_ok}
 use Rattle.hex.specs.Hex.{IsBytes, decode_pairs}
-use Rattle.nsap.specs.Address.{IsAddress}
-use Rattle.nsap.specs.Text.{octets_of}
-use Rattle.clnp_base.proofs.Lists.{AllByRecursion-append, AllByRecursion-implies}
+use Rattle.clnp_plan.specs.Nsap.Address.{IsAddress}
+use Rattle.clnp_plan.specs.Nsap.Text.{octets_of}
+use Rattle.clnp_plan.proofs.ClnpBase.Lists.{AllByRecursion-append, AllByRecursion-implies}
 use Rattle.clnp_plan.specs.Configuration.{IsWithin, SystemConfiguration}
 use Rattle.clnp_plan.specs.declared.config.Role.TheVariants.{Host}
 use Rattle.scenario.specs.Grammar.{BadLine as Bad, plan_of, plan_at, events_from}
@@ -23,8 +23,8 @@ use Rattle.scenario.specs.declared.event.Event.TheVariants.{Send, Deliver, Settl
 use Rattle.scenario.proofs.Asks.{none_fair}
 use Rattle.scenario.proofs.Forms.{none_formed, pattern_octets}
 use Rattle.scenario.proofs.Said.{no_bytes, no_options_said}
-use Rattle.clnp_base.proofs.Choices.{one_of}
-use Rattle.clnp_base.proofs.Sums.{sum_front}
+use Rattle.clnp_plan.proofs.ClnpBase.Choices.{one_of}
+use Rattle.clnp_plan.proofs.ClnpBase.Sums.{sum_front}
 use Rattle.scenario.proofs.Behind.{is_within}
 
 -- The text of what is declared.

@@ -9,8 +9,8 @@ use Rattle.std.proofs.lemmas.List.Folds.{list_any_none}
 use Rattle.std.proofs.lemmas.List.Sums.{sum_by-cons}
 use Rattle.std.proofs.lemmas.List.Concat.{flat_map-append}
 use Rattle.std.proofs.lemmas.List.Quantifiers.{position-Some}
-use Rattle.clnp_base.proofs.Lists.{AllByRecursion-get_or, AllByRecursion-implies}
-use Rattle.clnp_base.proofs.SameOctets.{other_from, same_from}
+use Rattle.clnp_plan.proofs.ClnpBase.Lists.{AllByRecursion-get_or, AllByRecursion-implies}
+use Rattle.clnp_plan.proofs.ClnpBase.SameOctets.{other_from, same_from}
 use Rattle.clnp_plan.specs.Configuration.{SystemConfiguration}
 use Rattle.clnp_plan.specs.declared.config.PortConfig.{PortConfig}
 use Rattle.scenario.specs.Scenario.{Plan}

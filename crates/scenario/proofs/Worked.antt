@@ -2,9 +2,9 @@
 use Rattle.std.proofs.Common.{◌≡◌, ℕ, true, false, List, [], ◌∷◌, refl, Ok, codes}
 use Rattle.std.specs.Fmt.{digits}
 use Rattle.hex.specs.Hex.{encode_with, decode_pairs}
-use Rattle.nsap.specs.Text.{octets_of}
-use Rattle.clnp_options.specs.Parameter.{parameters_after, spelled}
-use Rattle.clnp_options.specs.Rules.{refusal, form_refusal, list_refusal, place_of_repeat, place_of}
+use Rattle.clnp_plan.specs.Nsap.Text.{octets_of}
+use Rattle.clnp_plan.specs.ClnpOptions.Parameter.{parameters_after, spelled}
+use Rattle.clnp_plan.specs.ClnpOptions.Rules.{refusal, form_refusal, list_refusal, place_of_repeat, place_of}
 use Rattle.clnp_plan.specs.Configuration.{SystemConfiguration}
 use Rattle.clnp_plan.specs.declared.config.Role.TheVariants.{Host}
 use Rattle.scenario.specs.Canonical.{system_text, belongings_text, text_of}

@@ -13,14 +13,14 @@ use Rattle.std.proofs.lemmas.Option.{slice_get_within, get_or_from_slice_get}
 use Rattle.std.proofs.lemmas.Str.Parse.{IsDigitsTest, FoldsDigits, IsNumeralModel, numerals_by_fold}
 use Rattle.hex.specs.Hex.{IsBytes, decode_of, encode_with, lower_digits, hex_digit_value}
 use Rattle.hex.proofs.HexLemmas.{decode_of-encode_lower, IsDigits-lower_digits}
-use Rattle.nsap.specs.Address.{IsAddress}
-use Rattle.nsap.specs.Text as nsap
-use Rattle.nsap.specs.Text.{hex_text}
-use Rattle.nsap.specs.declared.target.Target.{Target}
-use Rattle.nsap.specs.declared.target.Target.TheVariants.{System, EndSystems, Routers}
-use Rattle.clnp_base.specs.Text.{words_of, lines_of, onto_first, ends_word, is_digit, decimal_of}
-use Rattle.clnp_base.proofs.Decimals.{value_after}
-use Rattle.clnp_base.proofs.Lists.{AllByRecursion-append, AllByRecursion-implies}
+use Rattle.clnp_plan.specs.Nsap.Address.{IsAddress}
+use Rattle.clnp_plan.specs.Nsap.Text as nsap
+use Rattle.clnp_plan.specs.Nsap.Text.{hex_text}
+use Rattle.clnp_plan.specs.Nsap.declared.target.Target.{Target}
+use Rattle.clnp_plan.specs.Nsap.declared.target.Target.TheVariants.{System, EndSystems, Routers}
+use Rattle.clnp_plan.specs.ClnpBase.Text.{words_of, lines_of, onto_first, ends_word, is_digit, decimal_of}
+use Rattle.clnp_plan.proofs.ClnpBase.Decimals.{value_after}
+use Rattle.clnp_plan.proofs.ClnpBase.Lists.{AllByRecursion-append, AllByRecursion-implies}
 use Rattle.clnp_plan.specs.Configuration.{AreDistinct}
 use Rattle.clnp_plan.specs.Journal as journal
 use Rattle.clnp_plan.specs.Journal.{behind_space, line_of}
@@ -29,8 +29,8 @@ use Rattle.scenario.specs.Scenario.{IsTarget}
 use Rattle.scenario.specs.Words.{◌>>=◌, wanted, found, is_letter, is_letter_or_digit, is_name, declared_word, number_within, number_word, address_read, address_word, after_prefix, digits_read, has_prefix, target_word, frame_word, octets_behind, number_behind, is_skipped}
 use Rattle.scenario.specs.declared.code.Code.{Code}
 use Rattle.scenario.specs.declared.code.Code.TheVariants as bad
-use Rattle.clnp_base.proofs.Reading.{words_of-next, IsWithinLine, lines_of-line}
-use Rattle.clnp_base.proofs.SameOctets.{same-itself}
+use Rattle.clnp_plan.proofs.ClnpBase.Reading.{words_of-next, IsWithinLine, lines_of-line}
+use Rattle.clnp_plan.proofs.ClnpBase.SameOctets.{same-itself}
 
 -- ---- words of a line
 

@@ -6,14 +6,14 @@ use Rattle.std.proofs.lemmas.Bool.{cases_Bool, eq-eqb, ne_eqb, le-leb, lt-ltb}
 use Rattle.std.proofs.lemmas.List.{append-nil, length-map, map-append}
 use Rattle.std.proofs.lemmas.List.Elements.{filter-append, recursion_from_All}
 use Rattle.std.proofs.lemmas.Option.{slice_get_within}
-use Rattle.clnp_base.specs.Text.{lines_of, decimal_of, is_digit}
-use Rattle.clnp_base.proofs.Maps.{map-map}
-use Rattle.nsap.specs.Address.{IsAddress}
-use Rattle.nsap.specs.Prefix.{IsPrefix}
-use Rattle.nsap.specs.Text.{hex_text}
-use Rattle.forwarding.specs.Distinct as prefixes
-use Rattle.forwarding.specs.declared.route.Route.{Route}
-use Rattle.clnp_base.proofs.SameOctets.{other-back}
+use Rattle.clnp_plan.specs.ClnpBase.Text.{lines_of, decimal_of, is_digit}
+use Rattle.clnp_plan.proofs.ClnpBase.Maps.{map-map}
+use Rattle.clnp_plan.specs.Nsap.Address.{IsAddress}
+use Rattle.clnp_plan.specs.Nsap.Prefix.{IsPrefix}
+use Rattle.clnp_plan.specs.Nsap.Text.{hex_text}
+use Rattle.clnp_plan.specs.Forwarding.Distinct as prefixes
+use Rattle.clnp_plan.specs.Forwarding.declared.route.Route.{Route}
+use Rattle.clnp_plan.proofs.ClnpBase.SameOctets.{other-back}
 use Rattle.clnp_plan.specs.Configuration.{AreLimits, HasItsAddresses, HasItsPorts, HasItsRoutes, IsAddressed, IsAddressedRoute, IsPort, IsSystem, IsWithin, SystemConfiguration}
 use Rattle.clnp_plan.specs.declared.config.PortConfig.{PortConfig}
 use Rattle.clnp_plan.specs.declared.config.Role.{Role}

@@ -4,12 +4,12 @@ use Rattle.std.specs.List.{AllByRecursion, list_all, list_any, position, positio
 use Rattle.std.specs.Fmt.{decimal}
 use Rattle.std.proofs.Math.Seq.{take-append_seam, drop-append-add}
 use Rattle.std.proofs.lemmas.Bool.{and_parts, ne_eqb, le-leb, leb-true, lt-ltb}
-use Rattle.clnp_base.proofs.Lists.{AllByRecursion-slice_get, slice_get_some}
-use Rattle.clnp_base.specs.Text.{is_digit}
+use Rattle.clnp_plan.proofs.ClnpBase.Lists.{AllByRecursion-slice_get, slice_get_some}
+use Rattle.clnp_plan.specs.ClnpBase.Text.{is_digit}
 use Rattle.hex.specs.Hex.{IsBytes}
-use Rattle.nsap.specs.Text.{hex_text}
-use Rattle.nsap.specs.declared.target.Target.{Target}
-use Rattle.clnp_options.specs.Rules.{refusal}
+use Rattle.clnp_plan.specs.Nsap.Text.{hex_text}
+use Rattle.clnp_plan.specs.Nsap.declared.target.Target.{Target}
+use Rattle.clnp_plan.specs.ClnpOptions.Rules.{refusal}
 use Rattle.clnp_plan.specs.Configuration.{AreDistinct, SystemConfiguration}
 use Rattle.clnp_plan.specs.Journal as journal
 use Rattle.clnp_plan.specs.Journal.{line_of}
@@ -28,7 +28,7 @@ use Rattle.scenario.specs.declared.event.Event.TheVariants.{Send, Deliver, Settl
 use Rattle.scenario.specs.declared.wish.Wish.{Wish}
 use Rattle.scenario.specs.declared.wish.Wish.TheVariants.{Lasting, NoReport, Whole, Options}
 use Rattle.scenario.proofs.Written.{IsWord, spelled, decimal_is_word, decimal_digits, number_read, read_behind, number_read_behind, word_behind, keyed_is_word, address_is_word, ReadsBack, address_word_read, frame_word_read, spelled_is_word, octets_read_behind, target_is_word, target_word_read, name_is_word, declared_word_read, hex_is_word}
-use Rattle.clnp_base.proofs.ListSteps.{slice_get_map}
+use Rattle.clnp_plan.proofs.ClnpBase.ListSteps.{slice_get_map}
 
 -- ---- steps of a reading
 

@@ -5,8 +5,8 @@ use Rattle.std.specs.List.{AllByRecursion, position_from}
 use Rattle.std.proofs.lemmas.List.{length-map}
 use Rattle.hex.specs.Hex.{hex_digit_value, lower_digits}
 use Rattle.hex.proofs.HexLemmas.{IsDigits-lower_digits}
-use Rattle.nsap.specs.Prefix.{IsPrefix, digit_value, prefix_or_fault, prefix_spelled}
-use Rattle.nsap.specs.Text.{bad_digit, may_stand, without_dots}
+use Rattle.clnp_plan.specs.Nsap.Prefix.{IsPrefix, digit_value, prefix_or_fault, prefix_spelled}
+use Rattle.clnp_plan.specs.Nsap.Text.{bad_digit, may_stand, without_dots}
 use Rattle.scenario.specs.Canonical.{prefix_text}
 use Rattle.scenario.specs.Words.{address_read, prefix_word}
 use Rattle.scenario.proofs.Written.{IsPlain, IsWord, digit_plain, spelled}

@@ -3,8 +3,8 @@ use Rattle.std.specs.Prelude.{ℕ, ◌+◌, not, Bool, true, false, List, [], �
 use Rattle.std.specs.List.{flat_map}
 use Rattle.std.specs.Fmt.{decimal}
 use Rattle.hex.specs.Hex.{lower_digits}
-use Rattle.nsap.specs.Text.{hex_text}
-use Rattle.forwarding.specs.declared.route.Route.{Route}
+use Rattle.clnp_plan.specs.Nsap.Text.{hex_text}
+use Rattle.clnp_plan.specs.Forwarding.declared.route.Route.{Route}
 use Rattle.clnp_plan.specs.Configuration.{SystemConfiguration}
 use Rattle.clnp_plan.specs.Journal.{line_of, on_word, target_word}
 use Rattle.clnp_plan.specs.declared.ask.Ask.{Ask}

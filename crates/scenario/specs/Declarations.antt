@@ -3,15 +3,15 @@ use Rattle.std.specs.Prelude.{ℕ, ◌+◌, ◌==◌, ◌&&◌, ◌||◌, not, n
 use Rattle.std.specs.List.{list_any, list_all, flat_map, insert, count_by, range_with_len}
 use Rattle.std.specs.Str.{bytes_eq}
 use Rattle.std.specs.Cmp.Lexicographic.{pointwise}
-use Rattle.clnp_base.specs.Text.{decimal_of}
+use Rattle.clnp_plan.specs.ClnpBase.Text.{decimal_of}
 use Rattle.clnp_plan.specs.Configuration.{SystemConfiguration}
 use Rattle.clnp_plan.specs.declared.config.Limits.{Limits}
 use Rattle.clnp_plan.specs.declared.config.PortConfig.{PortConfig}
 use Rattle.clnp_plan.specs.declared.config.Settings.{Settings}
 use Rattle.clnp_plan.specs.declared.config.Role.{Role}
 use Rattle.clnp_plan.specs.declared.config.Role.TheVariants.{Host, Router}
-use Rattle.forwarding.specs.Distinct as prefixes
-use Rattle.forwarding.specs.declared.route.Route.{Route}
+use Rattle.clnp_plan.specs.Forwarding.Distinct as prefixes
+use Rattle.clnp_plan.specs.Forwarding.declared.route.Route.{Route}
 use Rattle.scenario.specs.Scenario.{Subnetwork}
 use Rattle.scenario.specs.Words.{◌>>=◌, wanted, found, name_word, declared_word, number_within, number_word, number_behind, is_digits, address_word, prefix_word, life_word, has_prefix, two_words, three_words, five_words, first_two, first_four, is_one_at_most, is_taken, each_once}
 use Rattle.scenario.specs.declared.code.Code.{Code}

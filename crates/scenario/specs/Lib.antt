@@ -1,3 +1,4 @@
+pub use Rattle.clnp_plan.specs as ClnpPlan
 pub mod Scenario
 pub mod Codes
 pub mod Grammar

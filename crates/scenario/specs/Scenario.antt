@@ -2,14 +2,14 @@
 use Rattle.std.specs.Prelude.{◌≡◌, ◌≢◌, ℕ, true, false, ◌+◌, ◌/◌, ◌%◌, ◌==◌, ◌<◌, ◌≤◌, List, [], ◌∷◌, ◌++◌, map, filter, length, slice_get, replicate, sum, Some, option_map, AllPairs}
 use Rattle.std.specs.List.{AllByRecursion, flat_map, range_with_len}
 use Rattle.hex.specs.Hex.{IsBytes}
-use Rattle.nsap.specs.Address.{IsAddress}
-use Rattle.nsap.specs.Prefix.{IsPrefix}
-use Rattle.nsap.specs.declared.target.Target.{Target}
-use Rattle.nsap.specs.declared.target.Target.TheVariants.{System, EndSystems, Routers}
-use Rattle.clnp_options.specs.Grammar.{FitsKind}
-use Rattle.clnp_options.specs.Parameter.{parameters}
-use Rattle.clnp_options.specs.Rules.{Accepts}
-use Rattle.forwarding.specs.declared.route.Route.{Route}
+use Rattle.clnp_plan.specs.Nsap.Address.{IsAddress}
+use Rattle.clnp_plan.specs.Nsap.Prefix.{IsPrefix}
+use Rattle.clnp_plan.specs.Nsap.declared.target.Target.{Target}
+use Rattle.clnp_plan.specs.Nsap.declared.target.Target.TheVariants.{System, EndSystems, Routers}
+use Rattle.clnp_plan.specs.ClnpOptions.Grammar.{FitsKind}
+use Rattle.clnp_plan.specs.ClnpOptions.Parameter.{parameters}
+use Rattle.clnp_plan.specs.ClnpOptions.Rules.{Accepts}
+use Rattle.clnp_plan.specs.Forwarding.declared.route.Route.{Route}
 use Rattle.clnp_plan.specs.Asking.{IsFormedAsk}
 use Rattle.clnp_plan.specs.Configuration.{AreDistinct, AreLimits, IsAddressed, IsSystem, IsWithin, SystemConfiguration}
 use Rattle.clnp_plan.specs.declared.ask.Ask.{Ask}

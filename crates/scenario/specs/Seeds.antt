@@ -5,8 +5,8 @@ use Rattle.clnp_plan.specs.declared.ask.Ask.{Ask}
 use Rattle.clnp_plan.specs.declared.config.PortConfig.{PortConfig}
 use Rattle.clnp_plan.specs.declared.config.Role.TheVariants.{Host, Router}
 use Rattle.clnp_plan.specs.declared.config.Settings.{Settings}
-use Rattle.forwarding.specs.declared.route.Route.{Route}
-use Rattle.nsap.specs.Prefix.{digits_of}
+use Rattle.clnp_plan.specs.Forwarding.declared.route.Route.{Route}
+use Rattle.clnp_plan.specs.Nsap.Prefix.{digits_of}
 use Rattle.scenario.specs.Declarations.{usual_settings}
 use Rattle.scenario.specs.Scenario.{Plan}
 use Rattle.scenario.specs.declared.event.Body.TheVariants.{Pattern}

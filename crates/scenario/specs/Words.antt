@@ -4,13 +4,13 @@ use Rattle.std.specs.List.{list_all, list_any, position}
 use Rattle.std.specs.Str.{bytes_eq}
 use Rattle.hex.specs.Hex.{decode_of}
 use Rattle.hex.specs.declared.error.FromHexError.{FromHexError}
-use Rattle.clnp_base.specs.Text.{decimal_of, is_digit}
-use Rattle.clnp_options.specs.Rules.{refusal}
-use Rattle.nsap.specs.Prefix.{prefix_of}
-use Rattle.nsap.specs.declared.target.Target.{Target}
-use Rattle.nsap.specs.declared.target.Target.TheVariants.{System, EndSystems, Routers}
-use Rattle.nsap.specs.Text.{octets_of}
-use Rattle.nsap.specs.declared.fault.NsapFault.{NsapFault}
+use Rattle.clnp_plan.specs.ClnpBase.Text.{decimal_of, is_digit}
+use Rattle.clnp_plan.specs.ClnpOptions.Rules.{refusal}
+use Rattle.clnp_plan.specs.Nsap.Prefix.{prefix_of}
+use Rattle.clnp_plan.specs.Nsap.declared.target.Target.{Target}
+use Rattle.clnp_plan.specs.Nsap.declared.target.Target.TheVariants.{System, EndSystems, Routers}
+use Rattle.clnp_plan.specs.Nsap.Text.{octets_of}
+use Rattle.clnp_plan.specs.Nsap.declared.fault.NsapFault.{NsapFault}
 use Rattle.scenario.specs.declared.code.Code.{Code}
 use Rattle.scenario.specs.declared.code.Code.TheVariants as bad
 use Rattle.scenario.specs.declared.event.Body.{Body}

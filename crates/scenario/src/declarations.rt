@@ -3,7 +3,7 @@ ghost use Rattle.std.specs.Prelude.{◌≡◌, ◌<◌, ◌≤◌, ◌==◌, ◌
 ghost use Rattle.std.specs.Cmp.Lexicographic.{pointwise};
 ghost use Rattle.std.specs.List.{position, list_any, list_all, flat_map};
 ghost use Rattle.std.specs.Str.{bytes_eq};
-ghost use Rattle.clnp_base.specs.Text.{words_of};
+ghost use Rattle.clnp_plan.specs.ClnpBase.Text.{words_of};
 ghost use Rattle.scenario.specs.Declarations.{nothing_declared, subnet_names, system_names, changed_at, is_among, has_port, snpas_on, takes_address, takes_port, mtu_at, with_address, with_port, is_router_at, router_word, has_numbered, port_word, has_route, takes_route, with_route, settings_of, limits_line, limits_of, subnet_line, system_line, address_line, transit_word, port_line, route_line, declaration_line, is_complete};
 ghost use Rattle.scenario.specs.Words.{is_taken, declared_word};
 ghost use Rattle.scenario.specs.Refusal.{Faults};
@@ -17,10 +17,10 @@ use crate::word::{
     address_word, declared, first_four, first_two, five_words, is_digits, is_name, is_one_at_most,
     mtu_word, name_word, number_word, prefix_word, same, snpa_word, three_words, two_words, wanted,
 };
-use clnp_base::next_word;
+use clnp_plan::clnp_base::next_word;
+use clnp_plan::forwarding::Route;
+use clnp_plan::nsap::{Address, Prefix, Snpa};
 use clnp_plan::{Limits, PortConfig, Role, Settings};
-use forwarding::Route;
-use nsap::{Address, Prefix, Snpa};
 use std::alloc::Global;
 use std::marker::Model;
 

@@ -1,9 +1,9 @@
 ghost use Rattle.std.specs.Prelude.{◌≡◌, replicate};
 ghost use Rattle.scenario.specs.Scenario.{moves_of};
 
-use clnp_base::Octets;
 use clnp_plan::Ask;
-use nsap::{Address, Snpa, Target};
+use clnp_plan::clnp_base::Octets;
+use clnp_plan::nsap::{Address, Snpa, Target};
 
 /// The octets of a data unit that is to be sent, in one of the two forms in which they are written.
 #[derive(Drop)]

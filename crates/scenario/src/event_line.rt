@@ -2,7 +2,7 @@
 ghost use Rattle.std.specs.Prelude.{◌≡◌, ◌<◌, ◌≤◌, map, length, slice_get, IfSome, IfOk, Ok, Err, MatchResult};
 ghost use Rattle.std.specs.List.{position};
 ghost use Rattle.std.specs.Str.{bytes_eq};
-ghost use Rattle.clnp_base.specs.Text.{words_of};
+ghost use Rattle.clnp_plan.specs.ClnpBase.Text.{words_of};
 ghost use Rattle.scenario.specs.Events.{own_life, is_host, is_host_at, host_word, send_line, deliver_line, count_line, tick_line, restart_line, echo_line, is_router_at, router_word, on_word, congest_line, inject_line, event_line};
 ghost use Rattle.scenario.specs.Scenario.{Subnetwork};
 ghost use Rattle.scenario.specs.Words.{declared_word};
@@ -18,7 +18,7 @@ use crate::word::{
     address_word, data_word, first_four, four_words, frame_word, is_name, number_word, one_word,
     same, snpa_word, target_word, two_words, wanted,
 };
-use clnp_base::next_word;
+use clnp_plan::clnp_base::next_word;
 use clnp_plan::{Role, SystemConfig};
 use std::alloc::Global;
 

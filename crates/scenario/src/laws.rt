@@ -18,15 +18,15 @@ ghost use Rattle.scenario.specs.Seeds.{storm};
 pub fn accepted_is_fit()
     ensures { (text : List ℕ) (plan : Plan) → plan_of text ≡ Ok plan → IsFit plan }
 {
-    clnp_options::laws::spelled_where_no_rule_is_broken();
-    nsap::laws::read_is_address();
+    clnp_plan::clnp_options::laws::spelled_where_no_rule_is_broken();
+    clnp_plan::nsap::laws::read_is_address();
 }
 
 /// What is written of a scenario is read as that scenario.
 pub fn what_is_written_is_read()
     ensures { (plan : Plan) → IsFit plan → plan_of (text_of plan) ≡ Ok plan }
 {
-    nsap::laws::text_reads_back();
+    clnp_plan::nsap::laws::text_reads_back();
 }
 
 /// What is written of a scenario that was read is read as the same scenario, and no two scenarios are written alike.

@@ -18,6 +18,8 @@ mod wish;
 mod word;
 mod writer;
 
+pub use clnp_plan;
+pub use clnp_plan::{clnp_base, clnp_views, esis_tables, forwarding, nsap, pdu_header};
 pub use code::Code;
 pub use event::{Body, Event, Move};
 pub use fault::ScenarioRefusal;

@@ -5,8 +5,8 @@ ghost use Rattle.clnp_plan.specs.Journal.{behind_space, line_of};
 ghost use Rattle.scenario.specs.Canonical.{keyed, prefix_text, spelled_behind};
 ghost use Rattle.scenario.specs.Lines.{word_text};
 
-use clnp_base::{NoMemory, push, push_decimal, push_hex};
-use nsap::Prefix;
+use clnp_plan::clnp_base::{NoMemory, push, push_decimal, push_hex};
+use clnp_plan::nsap::Prefix;
 
 /// A word of a line.
 #[derive(Clone, Copy)]

@@ -1,7 +1,7 @@
 //! The reader of scenario texts.
 ghost use Rattle.std.specs.Prelude.{◌≡◌, ◌+◌, ◌-◌, ◌^◌, ◌≤◌, ◌<◌, true, map, length, codes, IfOk, Ok, Err, MatchResult};
 ghost use Rattle.std.specs.List.{list_all, AllByRecursion};
-ghost use Rattle.clnp_base.specs.Text.{lines_of, words_of};
+ghost use Rattle.clnp_plan.specs.ClnpBase.Text.{lines_of, words_of};
 ghost use Rattle.clnp_plan.specs.Configuration.{IsSystem};
 ghost use Rattle.scenario.specs.Declarations.{declaration_line, is_complete, configuration_of};
 ghost use Rattle.scenario.specs.Events.{counted, are_few, nothing_counted};
@@ -23,8 +23,8 @@ use crate::laws;
 use crate::plan::{Scenario, Subnet};
 use crate::system::System;
 use crate::word::{is_line_of, is_skipped, same};
-use clnp_base::next_line;
 use clnp_plan::SystemConfig;
+use clnp_plan::clnp_base::next_line;
 use std::alloc::{AllocError, Global};
 
 /// A line that breaks the grammar, by its number and the code's.

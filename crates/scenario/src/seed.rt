@@ -7,10 +7,10 @@ use crate::event::{Body, Event};
 use crate::fault::ScenarioRefusal;
 use crate::plan::Scenario;
 use crate::reader::read;
-use clnp_base::NoMemory;
-use clnp_options::OptionList;
 use clnp_plan::Ask;
-use nsap::Address;
+use clnp_plan::clnp_base::NoMemory;
+use clnp_plan::clnp_options::OptionList;
+use clnp_plan::nsap::Address;
 use std::alloc::Global;
 
 /// Two local networks that two routers join, with two hosts on each.

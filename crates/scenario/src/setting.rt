@@ -2,7 +2,7 @@
 ghost use Rattle.std.specs.Prelude.{◌≡◌, Ok, Err, MatchResult};
 ghost use Rattle.std.specs.List.{list_any};
 ghost use Rattle.std.specs.Str.{bytes_eq};
-ghost use Rattle.clnp_base.specs.Text.{words_of};
+ghost use Rattle.clnp_plan.specs.ClnpBase.Text.{words_of};
 ghost use Rattle.scenario.specs.Declarations.{checksum_word, room_word, setting_word, setting_words, key_of, with_setting, usual_settings, settings_of};
 ghost use Rattle.scenario.specs.Words.{each_once};
 ghost use Rattle.scenario.specs.Refusal.{Faults};
@@ -10,8 +10,8 @@ ghost use Rattle.scenario.specs.Refusal.{Faults};
 use crate::code::Code;
 use crate::fault::LineFault;
 use crate::word::{has_prefix, life_word, number_behind, same};
-use clnp_base::next_word;
 use clnp_plan::Settings;
+use clnp_plan::clnp_base::next_word;
 use std::alloc::Global;
 
 /// A setting of a system.

@@ -3,15 +3,15 @@ ghost use Rattle.std.specs.Prelude.{◌≡◌, ◌≤◌, ◌==◌, ◌&&◌, �
 ghost use Rattle.std.specs.List.{list_any};
 ghost use Rattle.std.specs.Cmp.Lexicographic.{pointwise};
 ghost use Rattle.clnp_plan.specs.Configuration.{IsSystem};
-ghost use Rattle.forwarding.specs.Distinct as prefixes;
+ghost use Rattle.clnp_plan.specs.Forwarding.Distinct as prefixes;
 ghost use Rattle.scenario.specs.Declarations.{is_among, role_word, most_addresses, most_ports, is_router, takes_address, takes_port, takes_route, count_below, with_address, with_port, with_route, has_number, have_no_gap, is_complete, configuration_of};
 
 use crate::code::Code;
 use crate::fault::LineFault;
 use crate::word::same;
+use clnp_plan::forwarding::Route;
+use clnp_plan::nsap::{Address, Prefix, Snpa};
 use clnp_plan::{PortConfig, Role, Settings, SystemConfig};
-use forwarding::Route;
-use nsap::{Address, Prefix, Snpa};
 use std::alloc::{AllocError, Global};
 use std::marker::Model;
 

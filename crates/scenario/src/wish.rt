@@ -2,16 +2,16 @@
 ghost use Rattle.std.specs.Prelude.{◌≡◌, Ok, Err, MatchResult};
 ghost use Rattle.std.specs.List.{list_any};
 ghost use Rattle.std.specs.Str.{bytes_eq};
-ghost use Rattle.clnp_base.specs.Text.{words_of};
+ghost use Rattle.clnp_plan.specs.ClnpBase.Text.{words_of};
 ghost use Rattle.scenario.specs.Events.{wish_word, wish_words, is_no_report, is_whole, wish_key, life_in, options_in, ask_of};
 ghost use Rattle.scenario.specs.Words.{each_once};
 ghost use Rattle.scenario.specs.Refusal.{Faults};
 
 use crate::fault::LineFault;
 use crate::word::{has_prefix, life_word, literal, options_word, same};
-use clnp_base::next_word;
-use clnp_options::OptionList;
 use clnp_plan::Ask;
+use clnp_plan::clnp_base::next_word;
+use clnp_plan::clnp_options::OptionList;
 use std::alloc::Global;
 
 /// A wish for a unit that is sent.

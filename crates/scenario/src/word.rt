@@ -2,7 +2,7 @@
 ghost use Rattle.std.specs.Prelude.{◌≡◌, ◌<◌, ◌≤◌, length, IfOk, IfSome, None, Some, Ok, Err, MatchOption, MatchResult};
 ghost use Rattle.std.specs.Str.{bytes_eq};
 ghost use Rattle.std.specs.List.{list_all, list_any, position};
-ghost use Rattle.clnp_base.specs.Text.{words_of, is_digit, decimal_of};
+ghost use Rattle.clnp_plan.specs.ClnpBase.Text.{words_of, is_digit, decimal_of};
 ghost use Rattle.scenario.specs.Grammar.{is_line_of};
 ghost use Rattle.scenario.specs.Words.{one_word, two_words, three_words, four_words, five_words, first_two, first_four, is_one_at_most, wanted, found, literal, is_letter_or_digit, begins_with_letter, is_name, is_digits, is_skipped, number_within, name_word, number_word, address_word, prefix_word, has_prefix, after_prefix, octets_behind, number_behind, is_colon, two_fields, pattern_word, data_word, life_word, options_read, options_word, target_word, frame_word};
 ghost use Rattle.scenario.specs.Refusal.{Faults};
@@ -11,9 +11,9 @@ ghost use Rattle.scenario.specs.declared.code.Code.TheVariants as bad;
 use crate::code::Code;
 use crate::event::Body;
 use crate::fault::LineFault;
-use clnp_base::{Octets, decimal, next_word};
-use clnp_options::OptionList;
-use nsap::{Address, Prefix, Snpa, Target};
+use clnp_plan::clnp_base::{Octets, decimal, next_word};
+use clnp_plan::clnp_options::OptionList;
+use clnp_plan::nsap::{Address, Prefix, Snpa, Target};
 use std::alloc::Global;
 
 /// The word of a line that has one word.

@@ -2,7 +2,7 @@
 ghost use Rattle.std.specs.Prelude.{◌≡◌, ◌++◌, ◌≤◌, codes, length, map, slice_get, Ok, OnOk, OnErr};
 ghost use Rattle.std.specs.List.{flat_map};
 ghost use Rattle.std.specs.Fmt.{decimal};
-ghost use Rattle.nsap.specs.Text.{hex_text};
+ghost use Rattle.clnp_plan.specs.Nsap.Text.{hex_text};
 ghost use Rattle.clnp_plan.specs.Journal.{behind_space, line_of, on_word, target_word};
 ghost use Rattle.scenario.specs.Canonical as canonical;
 ghost use Rattle.scenario.specs.Canonical.{address_text, ask_words, belongings_text, event_text, limits_text, port_text, port_texts, route_text, subnet_text, system_text, text_of};
@@ -13,10 +13,10 @@ use crate::event::{Body, Event};
 use crate::laws;
 use crate::line::{Word, push_line, push_words};
 use crate::plan::{Scenario, Subnet};
-use clnp_base::{NoMemory, push};
+use clnp_plan::clnp_base::{NoMemory, push};
+use clnp_plan::forwarding::Route;
+use clnp_plan::nsap::{Address, Target};
 use clnp_plan::{Ask, Limits, PortConfig, Role, SystemConfig};
-use forwarding::Route;
-use nsap::{Address, Target};
 use std::alloc::Global;
 
 /// Appends the text of a scenario, from which `read` reads it again: each line with all its words, in one order, and

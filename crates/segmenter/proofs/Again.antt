@@ -12,7 +12,7 @@ use Rattle.segmenter.specs.Range.{Range, Partition, Tiles}
 use Rattle.segmenter.specs.Cut.{Piece, both, cut, cut_each, cut_through, data_room, ranges, segment, uncut, whole_range, within}
 use Rattle.segmenter.specs.Pieces.{AreMtus, IsSegmentOf, ranges_of, segment_at}
 use Rattle.segmenter.proofs.Claims.{cut_gives, piece_of, segments_tile}
-use Rattle.clnp_base.proofs.Lists.{AllByRecursion-append, AllByRecursion-implies, AllByRecursion-mapped, length_part}
+use Rattle.pdu_header.proofs.ClnpBase.Lists.{AllByRecursion-append, AllByRecursion-implies, AllByRecursion-mapped, length_part}
 use Rattle.segmenter.proofs.Segments.{segment_is_pdu, segment_of_segment, whole_is_segment}
 use Rattle.segmenter.proofs.Tiles.{tiles_append, tiles_at, tiles_partition, tiles_within}
 

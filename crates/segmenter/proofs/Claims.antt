@@ -10,11 +10,11 @@ use Rattle.pdu_header.specs.Grammar.{IsPdu}
 use Rattle.segmenter.specs.Range.{Range, Partition, Tiles}
 use Rattle.segmenter.specs.Cut.{Piece, cut, data_room, nth_range, ranges, segment, segments, uncut, whole_range}
 use Rattle.segmenter.specs.Pieces.{FillUp, Fits, KeepsUnit, marks, ranges_of}
-use Rattle.clnp_base.proofs.Lists.{AllByRecursion-map_any, AllByRecursion-mapped, length_part}
+use Rattle.pdu_header.proofs.ClnpBase.Lists.{AllByRecursion-map_any, AllByRecursion-mapped, length_part}
 use Rattle.segmenter.proofs.Quotients.{Ends, ends_all, ends_begins, ends_full, ends_next, ranges_tile, room_is_eights, room_is_full, room_fits}
 use Rattle.segmenter.proofs.Segments.{header_length-segment, segment_is_pdu, unit_fits}
 use Rattle.segmenter.proofs.Tiles.{tiles_partition, tiles_within}
-use Rattle.clnp_base.proofs.Choices.{flag_is}
+use Rattle.pdu_header.proofs.ClnpBase.Choices.{flag_is}
 
 pub cut_gives : (v : PduValue) (mtu : ℕ) (Q : List Piece → Type 0) → (segment_length v ≤ mtu → Q (uncut v ∷ [])) → ((part : SegmentationPart) → v.segmentation ≡ Some part → Q (segments v mtu part)) → IfSome (cut v mtu) Q
 cut_gives v mtu Q one many = go (nat_le (segment_length v) mtu) v.segmentation refl refl

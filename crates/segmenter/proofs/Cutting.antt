@@ -3,7 +3,7 @@ use Rattle.std.proofs.Common.{◌≡◌, ◌∙◌, sym, ap, subst, ℕ, ◌+◌
 use Rattle.std.specs.Prelude.{nat_lt, if◌then◌else◌}
 use Rattle.std.proofs.lemmas.List.{length-replicate}
 use Rattle.std.proofs.lemmas.Bool.Decides.{nat_tests}
-use Rattle.fletcher.specs.Checksum.{sealed}
+use Rattle.pdu_header.specs.Fletcher.Checksum.{sealed}
 use Rattle.pdu_header.specs.Value.{SegmentationPart, PduValue}
 use Rattle.pdu_header.specs.Spelling.{flags_and_type, header, header_length, pair_of, variable_part}
 use Rattle.pdu_header.specs.Grammar.{IsPdu, IsSegment}

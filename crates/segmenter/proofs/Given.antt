@@ -18,7 +18,7 @@ use Rattle.segmenter.specs.Range.{Range}
 use Rattle.segmenter.specs.Cut.{Piece, cut, data_room, given, nth_range, ranges, segment, segments, uncut}
 use Rattle.segmenter.specs.Left.{IsCutOf, IsCutting, IsPartOf, cuts_left, nth_cut, of_zeros, piece_header}
 use Rattle.segmenter.proofs.Cutting.{Tells, length-zeros, part_of_zeros, segment_header_is, zeros_spelled}
-use Rattle.clnp_base.proofs.Lists.{length_part}
+use Rattle.pdu_header.proofs.ClnpBase.Lists.{length_part}
 use Rattle.segmenter.proofs.Segments.{segment_is_pdu}
 
 -- ---- numbers

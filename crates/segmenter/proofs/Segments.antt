@@ -3,15 +3,15 @@ use Rattle.std.proofs.Common.{◌≡◌, ◌∙◌, refl, sym, ap, subst, ℕ, �
 use Rattle.std.specs.Prelude.{◌↔◌, nat_lt}
 use Rattle.std.proofs.lemmas.Bool.{ltb-false, le-ltb}
 use Rattle.std.proofs.lemmas.List.{take_all}
-use Rattle.clnp_options.specs.Parameter.{spelled}
+use Rattle.pdu_header.specs.ClnpOptions.Parameter.{spelled}
 use Rattle.pdu_header.specs.Value.{SegmentationPart, PduValue}
 use Rattle.pdu_header.specs.Spelling.{counted, header_length, segmentation_octets}
 use Rattle.pdu_header.specs.Grammar.{FitsUnit, IsSegment, IsPdu}
 use Rattle.pdu_header.specs.Headers.{at_offset, with_segment}
 use Rattle.segmenter.specs.Range.{Range}
 use Rattle.segmenter.specs.Cut.{segment, whole_range}
-use Rattle.clnp_base.proofs.Lists.{length_part, part_of_part}
-use Rattle.clnp_base.proofs.Choices.{flag_is}
+use Rattle.pdu_header.proofs.ClnpBase.Lists.{length_part, part_of_part}
+use Rattle.pdu_header.proofs.ClnpBase.Choices.{flag_is}
 
 -- ---- the flag that more follows
 

@@ -2,17 +2,17 @@
 use Rattle.std.proofs.Common.{◌≡◌, ◌∙◌, sym, ap, ℕ, Bool, false, List, Option, None, Some, option_map}
 use Rattle.std.specs.Option.{option_or}
 use Rattle.std.specs.Prelude.{if◌then◌else◌}
-use Rattle.esis_tables.specs.declared.fact.Place.{Place}
-use Rattle.esis_tables.specs.declared.fact.TableKind.TheVariants.{Es}
-use Rattle.esis_tables.specs.NextHop as heard
-use Rattle.clnp_plan.specs.declared.config.Role.{Role}
-use Rattle.clnp_plan.specs.declared.config.Role.TheVariants.{Host, Router}
+use Rattle.clnp_machine.specs.EsisTables.declared.fact.Place.{Place}
+use Rattle.clnp_machine.specs.EsisTables.declared.fact.TableKind.TheVariants.{Es}
+use Rattle.clnp_machine.specs.EsisTables.NextHop as heard
+use Rattle.clnp_machine.specs.ClnpPlan.declared.config.Role.{Role}
+use Rattle.clnp_machine.specs.ClnpPlan.declared.config.Role.TheVariants.{Host, Router}
 use Rattle.clnp_machine.specs.Step as machine
 use Rattle.clnp_machine.specs.Step.{Hop, by_route, hop_by, hop_of, host_hop, is_to_itself, next_hop, to_neighbour, unit_hop, way_of}
 use Rattle.clnp_machine.specs.System.{SystemState}
 use Rattle.clnp_machine.specs.Unit.{Unit as DataUnit}
-use Rattle.forwarding.specs.Longest.{longest}
-use Rattle.forwarding.specs.declared.route.Route.{Route}
+use Rattle.clnp_machine.specs.Forwarding.Longest.{longest}
+use Rattle.clnp_machine.specs.Forwarding.declared.route.Route.{Route}
 use Rattle.system_entity.specs.Ways.{way_option}
 use Rattle.system_entity.specs.declared.way.Way.{Way}
 

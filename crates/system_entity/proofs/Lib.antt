@@ -1,3 +1,4 @@
+pub use Rattle.local_entity.proofs as LocalEntity
 pub mod Parts
 pub mod Outputs
 pub mod Arrivals

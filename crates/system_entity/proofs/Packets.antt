@@ -2,11 +2,11 @@
 use Rattle.std.proofs.Common.{◌≡◌, ◌∙◌, refl, sym, ap, subst, ℕ, ◌+◌, ◌-◌, Bool, false, Option, None, Some, List, ◌++◌, length, take, drop, arith}
 use Rattle.std.specs.Prelude.{option_map, nat_lt}
 use Rattle.std.proofs.lemmas.List.{take_all}
-use Rattle.pdu_header.specs.Value.{SegmentationPart, PduValue}
-use Rattle.pdu_header.specs.Spelling.{header_length, spelling}
-use Rattle.pdu_header.specs.Grammar.{BeginsWith, IsPdu, IsSegment}
+use Rattle.clnp_machine.specs.PduHeader.Value.{SegmentationPart, PduValue}
+use Rattle.clnp_machine.specs.PduHeader.Spelling.{header_length, spelling}
+use Rattle.clnp_machine.specs.PduHeader.Grammar.{BeginsWith, IsPdu, IsSegment}
 use Rattle.clnp_machine.specs.Unit.{IsCarriable, Outside, Packet, more_follows, value_of, value_with, wire}
-use Rattle.clnp_base.proofs.Choices.{flag_is}
+use Rattle.clnp_machine.proofs.ClnpBase.Choices.{flag_is}
 
 abbrev identifier_of : Option SegmentationPart → Option ℕ
 identifier_of part = option_map (λ p. p.identifier) part

@@ -1,9 +1,9 @@
 -- The parts of an entity stand for states that differ in nothing that they keep.
 use Rattle.std.proofs.Common.{◌≡◌, ◌∙◌, refl, sym, ap, subst, ℕ, ◌≤◌, Bool, List, [], ◌∷◌, arith}
 use Rattle.std.specs.List.{AllByRecursion}
-use Rattle.reassembly.specs.Buffer.{Buffer}
-use Rattle.reassembly.specs.Mapped.{map_buffers}
-use Rattle.clnp_plan.specs.Configuration.{SystemConfiguration}
+use Rattle.clnp_machine.specs.Reassembly.Buffer.{Buffer}
+use Rattle.clnp_machine.specs.Reassembly.Mapped.{map_buffers}
+use Rattle.clnp_machine.specs.ClnpPlan.Configuration.{SystemConfiguration}
 use Rattle.clnp_machine.specs.Identifiers.{Identifiers}
 use Rattle.clnp_machine.specs.Local.{Deed, IsAsOffered, Sends, Tells, made_in}
 use Rattle.clnp_machine.specs.Local as machine
@@ -15,8 +15,8 @@ use Rattle.clnp_machine.specs.Unit.{Packet, Unit, wire}
 use Rattle.clnp_machine.specs.Esis.{esis_limits}
 use Rattle.esis_entity.specs.State.{EsisState}
 use Rattle.esis_entity.specs.Stands as esis_entity
-use Rattle.esis_tables.specs.Stands as heard
-use Rattle.esis_tables.specs.Fact.{Fact}
+use Rattle.clnp_machine.specs.EsisTables.Stands as heard
+use Rattle.clnp_machine.specs.EsisTables.Fact.{Fact}
 use Rattle.local_entity.specs.State.{EntityState}
 use Rattle.local_entity.specs.Local as local_entity
 use Rattle.local_entity.specs.Pool as pool

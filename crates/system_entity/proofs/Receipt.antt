@@ -2,18 +2,18 @@
 use Rattle.std.proofs.Common.{◌≡◌, ◌∙◌, refl, ap, ℕ, Bool, true, false, List, ◌++◌, if◌then◌else◌}
 use Rattle.std.specs.Prelude.{◌==◌, ◌&&◌, not}
 use Rattle.std.proofs.lemmas.List.{append-nil}
-use Rattle.esis_tables.specs.declared.fact.Place.{Place}
-use Rattle.clnp_plan.specs.declared.config.Role.{Role}
-use Rattle.clnp_plan.specs.declared.config.Role.TheVariants.{Host, Router}
+use Rattle.clnp_machine.specs.EsisTables.declared.fact.Place.{Place}
+use Rattle.clnp_machine.specs.ClnpPlan.declared.config.Role.{Role}
+use Rattle.clnp_machine.specs.ClnpPlan.declared.config.Role.TheVariants.{Host, Router}
 use Rattle.clnp_machine.specs.Content.{Labelled}
 use Rattle.clnp_machine.specs.Esis.{tells_of_itself, is_silent}
 use Rattle.clnp_machine.specs.Local.{Deed, discard, is_own, receive}
 use Rattle.clnp_machine.specs.Step.{content_comes, effect_of, is_asked_for, packet_comes, passes_by, responds}
 use Rattle.clnp_machine.specs.System.{SystemState, Effect, idles}
 use Rattle.clnp_machine.specs.Unit.{Packet}
-use Rattle.clnp_options.specs.Reasons.{reason_code}
-use Rattle.clnp_options.specs.declared.reasons.Reason.TheVariants.{LifetimeExpiredInTransit}
-use Rattle.clnp_base.proofs.Choices.{one_of}
+use Rattle.clnp_machine.specs.ClnpOptions.Reasons.{reason_code}
+use Rattle.clnp_machine.specs.ClnpOptions.declared.reasons.Reason.TheVariants.{LifetimeExpiredInTransit}
+use Rattle.clnp_machine.proofs.ClnpBase.Choices.{one_of}
 
 -- ---- answers to a group
 

@@ -1,8 +1,8 @@
 -- What the steps of a system do, between its calls and what it gives out.
 use Rattle.std.specs.Prelude.{◌≡◌, ℕ, true}
-use Rattle.reassembly.specs.State.{IsReady}
-use Rattle.clnp_plan.specs.declared.ask.SendRefusal.{SendRefusal}
-use Rattle.clnp_plan.specs.declared.ask.SendRefusal.TheVariants.{NoMemory}
+use Rattle.clnp_machine.specs.Reassembly.State.{IsReady}
+use Rattle.clnp_machine.specs.ClnpPlan.declared.ask.SendRefusal.{SendRefusal}
+use Rattle.clnp_machine.specs.ClnpPlan.declared.ask.SendRefusal.TheVariants.{NoMemory}
 use Rattle.clnp_machine.specs.Local.{Action, Sends, Tells}
 use Rattle.clnp_machine.specs.System.{SystemState}
 use Rattle.system_entity.specs.State.{SystemEntityState}

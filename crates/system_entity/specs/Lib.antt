@@ -1,3 +1,4 @@
+pub use Rattle.local_entity.specs as LocalEntity
 pub mod State
 pub mod Stands
 pub mod Ways

@@ -1,12 +1,12 @@
 -- What the entity of a system stands for.
 use Rattle.std.specs.Prelude.{◌≡◌, ℕ, ◌<◌, ◌≤◌, ◌^◌, false, true}
-use Rattle.reassembly.specs.State.{IsReady}
-use Rattle.clnp_plan.specs.declared.ask.SendRefusal.{SendRefusal}
-use Rattle.clnp_plan.specs.declared.ask.SendRefusal.TheVariants.{NoMemory}
+use Rattle.clnp_machine.specs.Reassembly.State.{IsReady}
+use Rattle.clnp_machine.specs.ClnpPlan.declared.ask.SendRefusal.{SendRefusal}
+use Rattle.clnp_machine.specs.ClnpPlan.declared.ask.SendRefusal.TheVariants.{NoMemory}
 use Rattle.clnp_machine.specs.System.{SystemState}
 use Rattle.esis_entity.specs.Stands as esis_entity
-use Rattle.forwarding.specs.Stands as routing
-use Rattle.forwarding.specs.declared.routes.Routes.{Routes}
+use Rattle.clnp_machine.specs.Forwarding.Stands as routing
+use Rattle.clnp_machine.specs.Forwarding.declared.routes.Routes.{Routes}
 use Rattle.local_entity.specs.Local as local_entity
 use Rattle.system_entity.specs.State.{SystemEntityState}
 

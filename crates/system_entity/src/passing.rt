@@ -1,12 +1,12 @@
 //! PDUs that are for another address.
-ghost use Rattle.pdu_header.specs.Headers.{SpellsHeader};
+ghost use Rattle.clnp_machine.specs.PduHeader.Headers.{SpellsHeader};
 ghost use Rattle.std.specs.Prelude.{◌≡◌, option_map};
 ghost use Rattle.clnp_machine.specs.Step.{begins_unit};
-ghost use Rattle.pdu_header.specs.View.{part_value, pdu_value};
+ghost use Rattle.clnp_machine.specs.PduHeader.View.{part_value, pdu_value};
 ghost use Rattle.system_entity.specs.Comes.{HasValue};
 
-use nsap::Address;
-use pdu_header::{Header, Pdu, SegPart};
+use clnp_machine::nsap::Address;
+use clnp_machine::pdu_header::{Header, Pdu, SegPart};
 
 /// A PDU with a lifetime left for an address that isn't the system's: all that is needed so that it goes on.
 #[derive(Clone, Copy, PartialEq, Eq)]

@@ -4,10 +4,10 @@ ghost use Rattle.clnp_machine.specs.Step as machine;
 ghost use Rattle.local_entity.specs.Sending.{machine_hop};
 ghost use Rattle.system_entity.specs.Ways.{machine_way};
 
-use esis_tables::Place;
-use forwarding::Route;
+use clnp_machine::esis_tables::Place;
+use clnp_machine::forwarding::Route;
+use clnp_machine::nsap::{Address, Snpa, Target};
 use local_entity::Hop;
-use nsap::{Address, Snpa, Target};
 
 /// The next system on a router's way to an address: one's port to its subnetwork, its address there, and its title where it is
 /// reached by a route.

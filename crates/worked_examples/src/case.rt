@@ -1,6 +1,6 @@
 //! The cases, as their file tells them.
 use crate::selection::Selection;
-use clnp_base::decimal;
+use clnp_program::clnp_base::decimal;
 use std::alloc::{AllocError, Global};
 
 /// A call of the program, and what it must come to.

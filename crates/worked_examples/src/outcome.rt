@@ -2,7 +2,7 @@
 
 use crate::case::Case;
 use crate::selection::{Selection, selected};
-use clnp_base::{MemSink, MemSource, NoMemory, words};
+use clnp_program::clnp_base::{MemSink, MemSource, NoMemory, words};
 use clnp_program::run;
 use std::alloc::{AllocError, Global};
 

@@ -3,15 +3,15 @@ ghost use Rattle.std.specs.Prelude.{◌≡◌, ◌+◌, ◌<◌, ◌≤◌, ◌�
 ghost use Rattle.clnp_machine.specs.System.{SystemState};
 ghost use Rattle.clnp_machine.specs.Step.{step};
 ghost use Rattle.clnp_network.specs.World as network;
-ghost use Rattle.clnp_plan.specs.Journal.{Late, Void};
+ghost use Rattle.clnp_machine.specs.ClnpPlan.Journal.{Late, Void};
 ghost use Rattle.clnp_world.specs.Lines.{Gains};
 ghost use Rattle.clnp_world.specs.Parts.{Follows, Holds, IsRunning, Shows};
 
 use super::Network;
 use crate::copy::{first_port, is_addressee, is_to_group};
 use crate::lines::Lines;
-use clnp_base::NoMemory;
-use clnp_plan::Limits;
+use clnp_machine::clnp_base::NoMemory;
+use clnp_machine::clnp_plan::Limits;
 use std::alloc::Global;
 
 /// Room for as many outputs is made before a frame comes to a system; most frames call for no more.

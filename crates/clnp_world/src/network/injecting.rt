@@ -7,10 +7,10 @@ ghost use Rattle.clnp_world.specs.Parts.{Follows, Holds};
 use super::Network;
 use crate::copy::FrameCopy;
 use crate::lines::Lines;
-use clnp_base::{NoMemory, Octets};
-use clnp_views::Frame;
-use nsap::{Snpa, Target};
-use scenario::Subnet;
+use clnp_machine::clnp_base::{NoMemory, Octets};
+use clnp_machine::clnp_views::Frame;
+use clnp_machine::nsap::{Snpa, Target};
+use clnp_network::scenario::Subnet;
 use std::alloc::Global;
 
 impl Network {

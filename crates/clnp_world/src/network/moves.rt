@@ -7,13 +7,13 @@ ghost use Rattle.clnp_world.specs.Lines.{both, tally};
 ghost use Rattle.clnp_world.specs.Parts.{Follows, FollowsIn, Holds, IsBehind, IsRunning, Puts, Shows};
 ghost use Rattle.clnp_systems.specs.Stands.{entity_of};
 ghost use Rattle.clnp_systems.specs.declared.system.System.{System};
-ghost use Rattle.scenario.specs.Scenario.{AsksFairly, InjectsInForm};
+ghost use Rattle.clnp_network.specs.Scenario.Scenario.{AsksFairly, InjectsInForm};
 
 use super::Network;
 use crate::lines::{Counts, Lines};
-use clnp_base::NoMemory;
-use clnp_plan::{Limits, Note};
-use scenario::{Event, Move, Scenario, Subnet};
+use clnp_machine::clnp_base::NoMemory;
+use clnp_machine::clnp_plan::{Limits, Note};
+use clnp_network::scenario::{Event, Move, Scenario, Subnet};
 use std::alloc::Global;
 use std::mem;
 

@@ -5,7 +5,7 @@ ghost use Rattle.clnp_machine.specs.Given.{GiveAllFor, GivesFor, body_of, frame_
 ghost use Rattle.clnp_machine.specs.System as machine;
 ghost use Rattle.clnp_machine.specs.System.{SystemState};
 ghost use Rattle.clnp_network.specs.World as network;
-ghost use Rattle.clnp_plan.specs.Journal.{Noted, Transmitted};
+ghost use Rattle.clnp_machine.specs.ClnpPlan.Journal.{Noted, Transmitted};
 ghost use Rattle.clnp_world.specs.Lines.{Gains};
 ghost use Rattle.clnp_world.specs.Parts.{Puts, PutsCopies, Shows};
 ghost use Rattle.clnp_world.specs.Seen.{frame_copies};
@@ -14,10 +14,10 @@ ghost use Rattle.clnp_world.specs.Stands.{IsBornWithUnit};
 use super::Network;
 use crate::copy::FrameCopy;
 use crate::lines::Lines;
-use clnp_base::NoMemory;
-use clnp_plan::{Note, Output, Sending, SystemConfig};
-use clnp_views::Frame;
-use nsap::Target;
+use clnp_machine::clnp_base::NoMemory;
+use clnp_machine::clnp_plan::{Note, Output, Sending, SystemConfig};
+use clnp_machine::clnp_views::Frame;
+use clnp_machine::nsap::Target;
 use std::alloc::Global;
 
 /// What a copy weighs beside the octets of its frame.

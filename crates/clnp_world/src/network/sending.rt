@@ -2,20 +2,20 @@
 ghost use Rattle.std.specs.Prelude.{◌≡◌, ◌+◌, ◌/◌, ◌%◌, IfOk, OnOk, Some, false};
 ghost use Rattle.clnp_machine.specs.System.{AsksForEcho, AsksToSend};
 ghost use Rattle.clnp_network.specs.World as network;
-ghost use Rattle.clnp_options.specs.Grammar.{FitsKind};
-ghost use Rattle.clnp_options.specs.Parameter.{parameters};
+ghost use Rattle.clnp_machine.specs.ClnpOptions.Grammar.{FitsKind};
+ghost use Rattle.clnp_machine.specs.ClnpOptions.Parameter.{parameters};
 ghost use Rattle.clnp_world.specs.Parts.{Follows, Holds};
-ghost use Rattle.local_entity.specs.Local as entity;
-ghost use Rattle.scenario.specs.Scenario.{octets_of};
-ghost use Rattle.scenario.specs.declared.event.Body.TheVariants.{Pattern};
+ghost use Rattle.clnp_systems.specs.LocalEntity.Local as entity;
+ghost use Rattle.clnp_network.specs.Scenario.Scenario.{octets_of};
+ghost use Rattle.clnp_network.specs.Scenario.declared.event.Body.TheVariants.{Pattern};
 
 use super::Network;
 use crate::lines::Lines;
-use clnp_base::NoMemory;
-use clnp_plan::{Ask, Note, SendRefusal, Why};
+use clnp_machine::clnp_base::NoMemory;
+use clnp_machine::clnp_plan::{Ask, Note, SendRefusal, Why};
+use clnp_machine::nsap::Address;
+use clnp_network::scenario::Body;
 use clnp_systems::System;
-use nsap::Address;
-use scenario::Body;
 use std::alloc::Global;
 
 impl Network {

@@ -3,18 +3,18 @@ ghost use Rattle.std.specs.Prelude.{◌≡◌, ◌<◌, ◌^◌, ℕ, if◌then�
 ghost use Rattle.clnp_machine.specs.Esis.{answers_new, esis_heard, follows, hears, hears_each, redirect_heard, tells_of_itself};
 ghost use Rattle.clnp_machine.specs.Given.{Appends};
 ghost use Rattle.clnp_machine.specs.System.{SystemState, idles};
-ghost use Rattle.clnp_plan.specs.declared.config.Role.TheVariants.{Host, Router};
-ghost use Rattle.esis_tables.specs.declared.fact.TableKind.TheVariants.{Is};
+ghost use Rattle.clnp_machine.specs.ClnpPlan.declared.config.Role.TheVariants.{Host, Router};
+ghost use Rattle.clnp_machine.specs.EsisTables.declared.fact.TableKind.TheVariants.{Is};
 ghost use Rattle.esis_entity.specs.Does.{Does, Hears};
 ghost use Rattle.esis_entity.specs.Stands.{Stands};
 
 use super::EsisEntity;
 use super::output::give_note;
-use clnp_base::NoMemory;
-use clnp_plan::{Note, Output, SystemConfig};
-use esis_pdus::{AddressList, EsisBody, EsisPdu};
-use esis_tables::{Heard, Place, TableKind};
-use nsap::{Address, Snpa};
+use clnp_machine::clnp_base::NoMemory;
+use clnp_machine::clnp_plan::{Note, Output, SystemConfig};
+use clnp_machine::esis_pdus::{AddressList, EsisBody, EsisPdu};
+use clnp_machine::esis_tables::{Heard, Place, TableKind};
+use clnp_machine::nsap::{Address, Snpa};
 
 impl EsisEntity {
     /// Hears a PDU as an end system, which answers an intermediate system that is new, and then follows its wish.

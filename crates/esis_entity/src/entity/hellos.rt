@@ -3,15 +3,15 @@ ghost use Rattle.std.specs.Prelude.{◌≡◌, ◌≤◌, OnOk, ℕ, length, sli
 ghost use Rattle.clnp_machine.specs.Esis.{end_system_hello as esh_of, first_of, hearers as hearers_of, hello_everywhere, holding_time as holding_time_of, intermediate_system_hello as ish_of, own_hello, wish as wish_of};
 ghost use Rattle.clnp_machine.specs.Given.{Appends};
 ghost use Rattle.clnp_machine.specs.System.{SystemState};
-ghost use Rattle.esis_pdus.specs.Grammar.{Spells};
-ghost use Rattle.esis_pdus.specs.Making.{esh_length};
+ghost use Rattle.clnp_machine.specs.EsisPdus.Grammar.{Spells};
+ghost use Rattle.clnp_machine.specs.EsisPdus.Making.{esh_length};
 
 use super::output::send;
-use clnp_base::NoMemory;
-use clnp_plan::{Output, Role, SystemConfig};
-use clnp_views::Head;
-use esis_pdus::{HelloRefusal, esh, ish};
-use nsap::{Address, Target};
+use clnp_machine::clnp_base::NoMemory;
+use clnp_machine::clnp_plan::{Output, Role, SystemConfig};
+use clnp_machine::clnp_views::Head;
+use clnp_machine::esis_pdus::{HelloRefusal, esh, ish};
+use clnp_machine::nsap::{Address, Target};
 
 /// Says hello on each port, as a system that says it once in `period` seconds.
 pub fn say_everywhere(

@@ -2,13 +2,13 @@
 ghost use Rattle.std.specs.Prelude.{◌∷◌, [], OnOk, ℕ};
 ghost use Rattle.clnp_machine.specs.Given.{Appends};
 ghost use Rattle.clnp_machine.specs.System.{Notes, SendsEsis};
-ghost use Rattle.esis_pdus.specs.Grammar.{Spells};
-ghost use Rattle.esis_pdus.specs.Value.{EsisValue};
+ghost use Rattle.clnp_machine.specs.EsisPdus.Grammar.{Spells};
+ghost use Rattle.clnp_machine.specs.EsisPdus.Value.{EsisValue};
 
-use clnp_base::NoMemory;
-use clnp_plan::{Note, Output, Sending};
-use clnp_views::Head;
-use nsap::Target;
+use clnp_machine::clnp_base::NoMemory;
+use clnp_machine::clnp_plan::{Note, Output, Sending};
+use clnp_machine::clnp_views::Head;
+use clnp_machine::nsap::Target;
 
 /// Gives out a note.
 pub fn give_note(note: Note, out: &mut Vec<Output>) -> Result<(), NoMemory>

@@ -1,9 +1,9 @@
 //! What a system does as time goes on (ISO 9542, sections 6.1, 6.2, 6.4 and 6.11).
 ghost use Rattle.std.specs.Prelude.{◌≡◌, ◌≤◌, ◌<◌, ◌^◌, ℕ, List, [], OnOk, map};
-ghost use Rattle.esis_tables.specs.Fact.{Fact};
-ghost use Rattle.esis_tables.specs.Gone.{gone};
-ghost use Rattle.esis_tables.specs.Stands as heard;
-ghost use Rattle.esis_tables.specs.Stands.{limits_of};
+ghost use Rattle.clnp_machine.specs.EsisTables.Fact.{Fact};
+ghost use Rattle.clnp_machine.specs.EsisTables.Gone.{gone};
+ghost use Rattle.clnp_machine.specs.EsisTables.Stands as heard;
+ghost use Rattle.clnp_machine.specs.EsisTables.Stands.{limits_of};
 ghost use Rattle.clnp_machine.specs.Esis.{gone_note, says_hello};
 ghost use Rattle.clnp_machine.specs.Given.{Appends};
 ghost use Rattle.clnp_machine.specs.System.{SystemState};
@@ -13,9 +13,9 @@ ghost use Rattle.esis_entity.specs.Stands.{Stands};
 use super::EsisEntity;
 use super::hellos::say_everywhere;
 use super::output::give_note;
-use clnp_base::NoMemory;
-use clnp_plan::{Note, Output, SystemConfig};
-use esis_tables::{Gone, Tables, laws};
+use clnp_machine::clnp_base::NoMemory;
+use clnp_machine::clnp_plan::{Note, Output, SystemConfig};
+use clnp_machine::esis_tables::{Gone, Tables, laws};
 
 /// Forgets what has ended, and notes each key.
 pub fn forget(tables: &mut Tables, now: u64, out: &mut Vec<Output>) -> Result<(), NoMemory>

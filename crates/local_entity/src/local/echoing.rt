@@ -1,7 +1,7 @@
 //! Echo requests answered, and replies taken for answers (RFC 1575).
 ghost use Rattle.std.specs.Prelude.{◌≡◌, ◌<◌, ◌^◌, ℕ, false, IfOk, OnOk, OnErr, Some};
-ghost use Rattle.clnp_options.specs.Grammar.{FitsKind};
-ghost use Rattle.clnp_options.specs.Parameter.{parameters};
+ghost use Rattle.clnp_machine.specs.ClnpOptions.Grammar.{FitsKind};
+ghost use Rattle.clnp_machine.specs.ClnpOptions.Parameter.{parameters};
 ghost use Rattle.clnp_machine.specs.Local as machine;
 ghost use Rattle.clnp_machine.specs.System.{SystemState};
 ghost use Rattle.local_entity.specs.Local as entity;
@@ -9,13 +9,13 @@ ghost use Rattle.local_entity.specs.Local.{Appends, Stands};
 
 use super::Local;
 use crate::action::Action;
-use clnp_base::NoMemory;
-use clnp_options::OptionList;
-use clnp_plan::{Ask, Note, SendRefusal, Why};
-use clnp_views::Frame;
-use echo::needs_id;
-use nsap::Address;
-use pdu_header::Kind;
+use clnp_machine::clnp_base::NoMemory;
+use clnp_machine::clnp_options::OptionList;
+use clnp_machine::clnp_plan::{Ask, Note, SendRefusal, Why};
+use clnp_machine::clnp_views::Frame;
+use clnp_machine::echo::needs_id;
+use clnp_machine::nsap::Address;
+use clnp_machine::pdu_header::Kind;
 use std::alloc::Global;
 
 impl Local {

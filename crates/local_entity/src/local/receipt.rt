@@ -1,11 +1,11 @@
 //! Receipt: PDUs for the system's own addresses, and reassembly buffers whose time has ended.
 ghost use Rattle.std.specs.Prelude.{◌≡◌, ◌≤◌, ◌<◌, ◌+◌, ◌^◌, ◌++◌, ◌∷◌, [], ℕ, List, IfOk, OnOk, OnErr, length};
-ghost use Rattle.clnp_options.specs.Parameter.{Parameter};
-ghost use Rattle.pdu_header.specs.declared.kind.Kind.{Kind as KindOf};
-ghost use Rattle.pdu_header.specs.Grammar.{BeginsWith};
-ghost use Rattle.pdu_header.specs.Spelling.{type_code};
-ghost use Rattle.pdu_header.specs.Value.{PduValue};
-ghost use Rattle.reassembly.specs.State.{IsReady};
+ghost use Rattle.clnp_machine.specs.ClnpOptions.Parameter.{Parameter};
+ghost use Rattle.clnp_machine.specs.PduHeader.declared.kind.Kind.{Kind as KindOf};
+ghost use Rattle.clnp_machine.specs.PduHeader.Grammar.{BeginsWith};
+ghost use Rattle.clnp_machine.specs.PduHeader.Spelling.{type_code};
+ghost use Rattle.clnp_machine.specs.PduHeader.Value.{PduValue};
+ghost use Rattle.clnp_machine.specs.Reassembly.State.{IsReady};
 ghost use Rattle.clnp_machine.specs.Unit.{Packet, IsCarriable, wire};
 ghost use Rattle.clnp_machine.specs.System.{SystemState};
 ghost use Rattle.clnp_machine.specs.Local as machine;
@@ -15,13 +15,13 @@ ghost use Rattle.local_entity.specs.Receipt.{purpose_of, segment_in, segment_par
 use super::Local;
 use crate::action::Action;
 use crate::purpose::{Purpose, purpose_in};
-use clnp_base::{NoMemory, Octets};
+use clnp_machine::clnp_base::{NoMemory, Octets};
+use clnp_machine::clnp_plan::Note;
+use clnp_machine::clnp_views::Frame;
 use clnp_machine::laws as machine_laws;
-use clnp_plan::Note;
-use clnp_views::Frame;
-use nsap::Address;
-use pdu_header::{Kind, Pdu, SegPart, decode, laws};
-use reassembly::{Key, Segment, Shape};
+use clnp_machine::nsap::Address;
+use clnp_machine::pdu_header::{Kind, Pdu, SegPart, decode, laws};
+use clnp_machine::reassembly::{Key, Segment, Shape};
 use std::alloc::Global;
 
 mod expiry;

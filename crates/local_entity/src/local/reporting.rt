@@ -1,6 +1,6 @@
 //! PDUs that are discarded, and the error reports of that (ISO/IEC 8473, sections 6.9 and 6.10).
 ghost use Rattle.std.specs.Prelude.{◌≡◌, ◌<◌, ◌≤◌, ◌+◌, ◌^◌, List, ℕ, OnOk, OnErr, IfSome, length, vec_capacity, vec_len};
-ghost use Rattle.clnp_views.specs.Extent.{seen};
+ghost use Rattle.clnp_machine.specs.ClnpViews.Extent.{seen};
 ghost use Rattle.clnp_machine.specs.Content.{Content, IsCarried, frame_of};
 ghost use Rattle.clnp_machine.specs.Local as machine;
 ghost use Rattle.clnp_machine.specs.System.{SystemState};
@@ -9,11 +9,11 @@ ghost use Rattle.local_entity.specs.Reporting.{IsReport};
 
 use super::Local;
 use crate::action::{Action, Draft};
-use clnp_base::NoMemory;
-use clnp_plan::Note;
-use clnp_views::{Frame, View};
-use error_reports::report;
-use pdu_header::Kind;
+use clnp_machine::clnp_base::NoMemory;
+use clnp_machine::clnp_plan::Note;
+use clnp_machine::clnp_views::{Frame, View};
+use clnp_machine::error_reports::report;
+use clnp_machine::pdu_header::Kind;
 use std::alloc::Global;
 
 impl Local {

@@ -1,12 +1,12 @@
 //! The steps of a system while it takes them: all that is given out is appended, or nothing.
 ghost use Rattle.std.specs.Prelude.{◌≡◌, ◌≢◌, ◌==◌, ◌≤◌, ◌<◌, ◌^◌, ◌+◌, ◌++◌, ℕ, Bool, true, false, List, [], ◌∷◌, IfErr, IfOk, OnOk, OnErr, MatchResult, None, Some, length, map};
 ghost use Rattle.std.specs.List.{AllByRecursion, flat_map};
-ghost use Rattle.clnp_options.specs.Grammar.{FitsKind};
-ghost use Rattle.clnp_options.specs.Parameter.{parameters};
-ghost use Rattle.pdu_header.specs.Grammar.{BeginsWith, is_report};
-ghost use Rattle.pdu_header.specs.Rules.{octet};
-ghost use Rattle.pdu_header.specs.Value.{PduValue};
-ghost use Rattle.reassembly.specs.State.{IsReady};
+ghost use Rattle.clnp_machine.specs.ClnpOptions.Grammar.{FitsKind};
+ghost use Rattle.clnp_machine.specs.ClnpOptions.Parameter.{parameters};
+ghost use Rattle.clnp_machine.specs.PduHeader.Grammar.{BeginsWith, is_report};
+ghost use Rattle.clnp_machine.specs.PduHeader.Rules.{octet};
+ghost use Rattle.clnp_machine.specs.PduHeader.Value.{PduValue};
+ghost use Rattle.clnp_machine.specs.Reassembly.State.{IsReady};
 ghost use Rattle.clnp_machine.specs.Content.{Content, IsCarried, Labelled, frame_of};
 ghost use Rattle.clnp_machine.specs.Given.{Appends};
 ghost use Rattle.clnp_machine.specs.Local as machine;
@@ -14,13 +14,13 @@ ghost use Rattle.clnp_machine.specs.Local.{is_own};
 ghost use Rattle.clnp_machine.specs.Step.{content_comes, effect_of, moment_comes, outputs_of, responds, unheard_note, unit_hop};
 ghost use Rattle.clnp_machine.specs.System.{SystemState, SendsEsis, next_number};
 ghost use Rattle.clnp_machine.specs.Esis.{redirect};
-ghost use Rattle.nsap.specs.declared.target.Target.TheVariants.{System};
+ghost use Rattle.clnp_machine.specs.Nsap.declared.target.Target.TheVariants.{System};
 ghost use Rattle.clnp_machine.specs.Unit.{IsCarriable, Packet, Unit, value_of, wire};
-ghost use Rattle.clnp_views.specs.Extent.{part, whole};
-ghost use Rattle.forwarding.specs.Stands as routing;
+ghost use Rattle.clnp_machine.specs.ClnpViews.Extent.{part, whole};
+ghost use Rattle.clnp_machine.specs.Forwarding.Stands as routing;
 ghost use Rattle.local_entity.specs.Local.{DoAll, Does, IsWhy};
 ghost use Rattle.local_entity.specs.Sending.{hop_option, transmission};
-ghost use Rattle.segmenter.specs.Left.{IsCutOf};
+ghost use Rattle.clnp_machine.specs.Segmenter.Left.{IsCutOf};
 ghost use Rattle.system_entity.specs.Comes.{ComesOf, HasValue, IsAtFront, LeavesAsItWas, TellsPdu};
 ghost use Rattle.system_entity.specs.Deeds.{IsAtWork, IsFresh, LeavesParts};
 ghost use Rattle.system_entity.specs.Stands.{PartsStand, PartsStandSince};
@@ -28,19 +28,19 @@ ghost use Rattle.system_entity.specs.Stands.{PartsStand, PartsStandSince};
 use super::{Arrival, SystemEntity};
 use crate::passing::Passing;
 use crate::way::Way;
-use clnp_base::NoMemory;
+use clnp_machine::clnp_base::NoMemory;
+use clnp_machine::clnp_options::Reason;
+use clnp_machine::clnp_plan::{Ask, Note, Output, Role, SendRefusal, SystemConfig};
+use clnp_machine::clnp_views::Frame;
+use clnp_machine::esis_pdus::EsisRefusal;
+use clnp_machine::esis_tables::Place;
+use clnp_machine::forwarding::{RouteRefusal, Routes};
 use clnp_machine::laws;
-use clnp_options::Reason;
-use clnp_plan::{Ask, Note, Output, Role, SendRefusal, SystemConfig};
-use clnp_views::Frame;
+use clnp_machine::nsap::Address;
+use clnp_machine::pdu_header::{Kind, Refusal, decode};
+use clnp_machine::segmenter::Cuts;
 use esis_entity::send_redirect;
-use esis_pdus::EsisRefusal;
-use esis_tables::Place;
-use forwarding::{RouteRefusal, Routes};
 use local_entity::{Action, Hop, give_pieces, send_unit};
-use nsap::Address;
-use pdu_header::{Kind, Refusal, decode};
-use segmenter::Cuts;
 use std::alloc::Global;
 
 impl SystemEntity {
@@ -223,7 +223,7 @@ impl SystemEntity {
         laws::a_frame_carries_one_esis_value();
         laws::no_frame_is_of_both_protocols();
         laws::hellos_leave_the_rest();
-        match esis_pdus::decode(frame.bytes()) {
+        match clnp_machine::esis_pdus::decode(frame.bytes()) {
             Ok(pdu) => {
                 let mut outputs = Vec::new(alloc);
                 let config = self.local.config();
@@ -368,7 +368,7 @@ impl SystemEntity {
 pub(super) fn routes_of(alloc: Global, config: &SystemConfig) -> Result<Routes, NoMemory>
     ensures { IfOk result (λ routes. routing.Stands routes config.now.routes) }
 {
-    forwarding::laws::one_place_is_twice();
+    clnp_machine::forwarding::laws::one_place_is_twice();
     config.is_system();
     match Routes::from_list(alloc, config.routes()) {
         Ok(routes) => Ok(routes),

@@ -1,10 +1,10 @@
 use Rattle.std.proofs.Common.{◌≡◌, ◌∷◌, [], ◌+◌, ◌≤◌, length, arith}
-use Rattle.clnp_base.specs.Text.{lines_of}
+use Rattle.clnp_machine.specs.ClnpBase.Text.{lines_of}
 use Rattle.clnp_commands.specs.ByLine.{checking, first_checked, Midway}
 use Rattle.clnp_commands.proofs.ByLine.{start}
 use Rattle.clnp_commands.proofs.Commands.{check_stopped, check_ended}
 use Rattle.clnp_commands.proofs.check.check.Goals as goal
-use Rattle.clnp_base.proofs.Reading.{lines_of-few}
+use Rattle.clnp_machine.proofs.ClnpBase.Reading.{lines_of-few}
 
 pub loop-line-init : goal.loop-line-init
 loop-line-init g c =

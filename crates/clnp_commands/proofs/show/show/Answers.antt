@@ -1,10 +1,10 @@
 use Rattle.std.proofs.Common.{◌≡◌, ◌∷◌, [], ◌+◌, ◌≤◌, length, arith}
-use Rattle.clnp_base.specs.Text.{lines_of}
+use Rattle.clnp_machine.specs.ClnpBase.Text.{lines_of}
 use Rattle.clnp_commands.specs.ByLine.{showing, Midway}
 use Rattle.clnp_commands.proofs.ByLine.{start}
 use Rattle.clnp_commands.proofs.Commands.{show_stopped, show_done, show_cut}
 use Rattle.clnp_commands.proofs.show.show.Goals as goal
-use Rattle.clnp_base.proofs.Reading.{lines_of-few}
+use Rattle.clnp_machine.proofs.ClnpBase.Reading.{lines_of-few}
 
 pub loop-line-init : goal.loop-line-init
 loop-line-init g c =

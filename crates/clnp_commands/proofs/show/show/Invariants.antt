@@ -1,5 +1,5 @@
 use Rattle.std.proofs.Common.{◌+◌, ◌≤◌, length}
-use Rattle.clnp_base.specs.Text.{lines_of}
+use Rattle.clnp_machine.specs.ClnpBase.Text.{lines_of}
 use Rattle.clnp_commands.specs.Sim.{most_input}
 use Rattle.clnp_commands.specs.ByLine.{showing, Midway}
 use Rattle.clnp_commands.proofs.show.show.Given as goal

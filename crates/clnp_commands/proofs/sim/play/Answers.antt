@@ -1,6 +1,6 @@
 use Rattle.std.proofs.Common.{[]}
 use Rattle.std.proofs.lemmas.Result.{err_from_is_err_and}
-use Rattle.clnp_network.specs.World.{first_world}
+use Rattle.clnp_world.specs.ClnpNetwork.World.{first_world}
 use Rattle.clnp_commands.proofs.Clocks.{time_at_first}
 use Rattle.clnp_commands.proofs.Playing.{journal_stopped, journal_ended, set_out}
 use Rattle.clnp_commands.proofs.sim.play.Goals as goal

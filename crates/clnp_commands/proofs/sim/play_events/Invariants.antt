@@ -1,8 +1,8 @@
 use Rattle.std.proofs.Common.{ℕ, ◌≤◌, List, ◌++◌, Option, take}
-use Rattle.scenario.specs.Scenario.{moves_from}
-use Rattle.scenario.specs.declared.event.Move.{Move}
-use Rattle.clnp_network.specs.World as network
-use Rattle.clnp_network.specs.Run.{world_after}
+use Rattle.clnp_world.specs.Scenario.Scenario.{moves_from}
+use Rattle.clnp_world.specs.Scenario.declared.event.Move.{Move}
+use Rattle.clnp_world.specs.ClnpNetwork.World as network
+use Rattle.clnp_world.specs.ClnpNetwork.Run.{world_after}
 use Rattle.clnp_world.specs.Stands.{Stands}
 use Rattle.clnp_commands.specs.Play.{UnderWay}
 use Rattle.clnp_commands.proofs.sim.play_events.Given as goal

@@ -1,5 +1,5 @@
 use Rattle.std.proofs.Common.{[], ◌∷◌}
-use Rattle.clnp_base.specs.declared.streams.Failed.{Failed}
+use Rattle.clnp_machine.specs.ClnpBase.declared.streams.Failed.{Failed}
 use Rattle.clnp_commands.proofs.Playing.{block_written, cut_short, full_before, made_one, refused_memory}
 use Rattle.clnp_commands.proofs.sim.play_move.Goals as goal
 

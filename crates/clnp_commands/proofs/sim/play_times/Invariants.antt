@@ -1,7 +1,7 @@
 use Rattle.std.proofs.Common.{ℕ, ◌≤◌, List, ◌++◌, Option, replicate}
-use Rattle.scenario.specs.declared.event.Move.{Move}
-use Rattle.clnp_network.specs.World as network
-use Rattle.clnp_network.specs.Run.{world_after}
+use Rattle.clnp_world.specs.Scenario.declared.event.Move.{Move}
+use Rattle.clnp_world.specs.ClnpNetwork.World as network
+use Rattle.clnp_world.specs.ClnpNetwork.Run.{world_after}
 use Rattle.clnp_world.specs.Stands.{Stands}
 use Rattle.clnp_commands.specs.Play.{UnderWay}
 use Rattle.clnp_commands.proofs.sim.play_times.Given as goal

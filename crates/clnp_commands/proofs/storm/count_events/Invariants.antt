@@ -1,6 +1,6 @@
 use Rattle.std.proofs.Common.{take}
-use Rattle.scenario.specs.Scenario.{moves_from}
-use Rattle.clnp_network.specs.World as network
+use Rattle.clnp_world.specs.Scenario.Scenario.{moves_from}
+use Rattle.clnp_world.specs.ClnpNetwork.World as network
 use Rattle.clnp_world.specs.Stands.{Stands}
 use Rattle.clnp_commands.specs.Counting.{Counted}
 use Rattle.clnp_commands.proofs.storm.count_events.Given as goal

@@ -2,7 +2,7 @@ use Rattle.std.proofs.Common.{◌≡◌, ◌<◌, ◌∙◌, sym, arith}
 use Rattle.std.proofs.lemmas.Bool.{true≢false}
 use Rattle.std.proofs.lemmas.List.{replicate_more}
 use Rattle.std.proofs.lemmas.Result.{err_from_is_err_and}
-use Rattle.scenario.specs.declared.event.Move.TheVariants.{SettleOne}
+use Rattle.clnp_world.specs.Scenario.declared.event.Move.TheVariants.{SettleOne}
 use Rattle.clnp_commands.proofs.Clocks.{time_for_next}
 use Rattle.clnp_commands.proofs.Runs.{replicate_next}
 use Rattle.clnp_commands.proofs.Storms.{count_none, count_more, count_rest, count_stopped}

@@ -1,5 +1,5 @@
 use Rattle.std.proofs.Common.{replicate}
-use Rattle.clnp_network.specs.World as network
+use Rattle.clnp_world.specs.ClnpNetwork.World as network
 use Rattle.clnp_world.specs.Stands.{Stands}
 use Rattle.clnp_commands.specs.Counting.{Counted}
 use Rattle.clnp_commands.proofs.storm.count_times.Given as goal

@@ -1,10 +1,10 @@
 use Rattle.std.proofs.Common.{List, []}
 use Rattle.std.specs.List.{AllByRecursion}
-use Rattle.scenario.specs.Scenario.{IsClosed}
-use Rattle.scenario.specs.declared.event.Move.{Move}
-use Rattle.clnp_network.specs.World.{first_world}
-use Rattle.clnp_network.specs.Run.{moves_made, run, world_after}
-use Rattle.clnp_network.specs.Safe.{CarriesRanges, EachIsFounded, FramesAreUnbroken, HoldsUnitsApart, IdentifiersRest, IsHonest, IsWithinBudgets, IsWithinLifetimes, NoInterference, NoneIsAlien, TellsNoRule}
+use Rattle.clnp_world.specs.Scenario.Scenario.{IsClosed}
+use Rattle.clnp_world.specs.Scenario.declared.event.Move.{Move}
+use Rattle.clnp_world.specs.ClnpNetwork.World.{first_world}
+use Rattle.clnp_world.specs.ClnpNetwork.Run.{moves_made, run, world_after}
+use Rattle.clnp_world.specs.ClnpNetwork.Safe.{CarriesRanges, EachIsFounded, FramesAreUnbroken, HoldsUnitsApart, IdentifiersRest, IsHonest, IsWithinBudgets, IsWithinLifetimes, NoInterference, NoneIsAlien, TellsNoRule}
 use Rattle.clnp_safety.specs.Outside.{CarriesRangesOrOutside, PdusAreUnbroken}
 use Rattle.clnp_commands.proofs.Fit.{of_fit}
 use Rattle.clnp_commands.proofs.top.every_run_is_safe.Goals as goal

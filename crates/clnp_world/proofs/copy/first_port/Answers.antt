@@ -1,9 +1,9 @@
 -- There is no such port.
 use Rattle.std.proofs.Common.{◌∙◌, ap, length, sym, List}
 use Rattle.std.specs.Prelude.{◌==◌, ◌&&◌}
-use Rattle.clnp_plan.specs.declared.config.PortConfig.{PortConfig}
+use Rattle.clnp_machine.specs.ClnpPlan.declared.config.PortConfig.{PortConfig}
 use Rattle.clnp_network.specs.World as network
-use Rattle.clnp_base.proofs.ListSteps.{first_past}
+use Rattle.clnp_machine.proofs.ClnpBase.ListSteps.{first_past}
 use Rattle.clnp_world.proofs.copy.first_port.Goals as goal
 
 pub returns-in-None : goal.returns-in-None

@@ -1,5 +1,5 @@
 use Rattle.std.proofs.Common.{refl}
-use Rattle.clnp_options.specs.Edits.{value_of}
+use Rattle.pdu_header.specs.ClnpOptions.Edits.{value_of}
 use Rattle.error_reports.proofs.laws.a_made_report_is_read_again.Goals as goal
 
 pub returns-clause-cause : goal.returns-clause-cause

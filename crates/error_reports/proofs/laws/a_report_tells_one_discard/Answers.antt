@@ -1,6 +1,6 @@
 use Rattle.std.proofs.Common.{rules, refl, sym, ap, ◌∷◌, [], unwrap_or}
-use Rattle.clnp_options.specs.Parameter.{reason}
-use Rattle.fletcher.specs.Checksum.{octet}
+use Rattle.pdu_header.specs.ClnpOptions.Parameter.{reason}
+use Rattle.pdu_header.specs.Fletcher.Checksum.{octet}
 use Rattle.error_reports.proofs.Reason.{its_reason, only}
 use Rattle.error_reports.proofs.laws.a_report_tells_one_discard.Goals as goal
 

@@ -1,6 +1,6 @@
 use Rattle.std.proofs.Common.{◌∷◌, [], ◌++◌, rules, subst, sym}
-use Rattle.clnp_options.specs.Parameter.{parameters}
-use Rattle.clnp_options.specs.Rules.{AreWellFormed}
+use Rattle.pdu_header.specs.ClnpOptions.Parameter.{parameters}
+use Rattle.pdu_header.specs.ClnpOptions.Rules.{AreWellFormed}
 use Rattle.error_reports.specs.Report.{reason_option}
 use Rattle.error_reports.proofs.Reason.{alone, alone_fits}
 use Rattle.error_reports.proofs.Lengths.{four}

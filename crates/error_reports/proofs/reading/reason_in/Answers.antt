@@ -1,7 +1,7 @@
 use Rattle.std.proofs.Common.{rules, sym, ◌∷◌, [], get_or}
 use Rattle.std.proofs.lemmas.List.Elements.{All-head, All-rest, All-same}
-use Rattle.clnp_options.specs.Grammar.{HasForm}
-use Rattle.clnp_options.specs.Parameter.{parameters, reason}
+use Rattle.pdu_header.specs.ClnpOptions.Grammar.{HasForm}
+use Rattle.pdu_header.specs.ClnpOptions.Parameter.{parameters, reason}
 use Rattle.error_reports.proofs.Reason.{ends, has_reason, none_left, passes, stands}
 use Rattle.error_reports.proofs.reading.reason_in.Goals as goal
 

@@ -1,7 +1,7 @@
 use Rattle.std.proofs.Common.{◌≡◌, All, length}
-use Rattle.clnp_options.specs.Edits.{value_of}
-use Rattle.clnp_options.specs.Grammar.{HasForm}
-use Rattle.clnp_options.specs.Parameter.{parameters, reason}
+use Rattle.pdu_header.specs.ClnpOptions.Edits.{value_of}
+use Rattle.pdu_header.specs.ClnpOptions.Grammar.{HasForm}
+use Rattle.pdu_header.specs.ClnpOptions.Parameter.{parameters, reason}
 use Rattle.error_reports.proofs.reading.reason_in.Given as goal
 
 abbrev pub invariant-loop-code : goal.invariant-loop-code

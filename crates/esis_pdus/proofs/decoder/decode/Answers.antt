@@ -1,5 +1,5 @@
 use Rattle.std.proofs.Common.{◌≡◌, ◌==◌, false, arith, rules}
-use Rattle.fletcher.specs.Checksum.{octet}
+use Rattle.pdu_header.specs.Fletcher.Checksum.{octet}
 use Rattle.esis_pdus.proofs.Frames.{other_protocol}
 use Rattle.esis_pdus.proofs.Decoded.{found, none, writable}
 use Rattle.esis_pdus.proofs.decoder.decode.Goals as goal

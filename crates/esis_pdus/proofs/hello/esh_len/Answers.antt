@@ -1,7 +1,7 @@
 use Rattle.std.proofs.Common.{◌≡◌, ap, length, take, arith, List, ℕ, ◌∷◌}
 use Rattle.std.proofs.lemmas.List.{take_all, length-append}
-use Rattle.clnp_options.specs.Grammar.{joined}
-use Rattle.nsap.specs.Address.{IsAddress}
+use Rattle.pdu_header.specs.ClnpOptions.Grammar.{joined}
+use Rattle.pdu_header.specs.Nsap.Address.{IsAddress}
 use Rattle.esis_pdus.proofs.FieldFacts.{joined-nil, joined_more, all_more}
 use Rattle.esis_pdus.proofs.Made.{esh_size}
 use Rattle.esis_pdus.proofs.hello.esh_len.Goals as goal

@@ -1,7 +1,7 @@
 use Rattle.std.proofs.Common.{◌≡◌, ◌+◌, ◌*◌, ◌≤◌, take, length}
 use Rattle.std.specs.Prelude.{All}
-use Rattle.clnp_options.specs.Grammar.{joined}
-use Rattle.nsap.specs.Address.{IsAddress}
+use Rattle.pdu_header.specs.ClnpOptions.Grammar.{joined}
+use Rattle.pdu_header.specs.Nsap.Address.{IsAddress}
 use Rattle.esis_pdus.proofs.hello.esh_len.Given as goal
 
 abbrev pub invariant-loop-address : goal.invariant-loop-address

@@ -1,6 +1,6 @@
 use Rattle.std.proofs.Common.{◌∙◌, sym, ap, ◌+◌, ◌++◌, length, take, arith, List, ℕ}
 use Rattle.std.proofs.lemmas.List.{append-nil, append_assoc, length-append}
-use Rattle.clnp_options.specs.Grammar.{joined}
+use Rattle.pdu_header.specs.ClnpOptions.Grammar.{joined}
 use Rattle.pdu_header.specs.Spelling.{counted}
 use Rattle.esis_pdus.proofs.FieldFacts.{joined-nil, joined_more, joined_part}
 use Rattle.esis_pdus.proofs.hello.push_addresses.Goals as goal

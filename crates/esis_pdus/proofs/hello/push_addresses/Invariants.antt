@@ -1,5 +1,5 @@
 use Rattle.std.proofs.Common.{◌≡◌, ◌++◌, take}
-use Rattle.clnp_options.specs.Grammar.{joined}
+use Rattle.pdu_header.specs.ClnpOptions.Grammar.{joined}
 use Rattle.esis_pdus.proofs.hello.push_addresses.Given as goal
 
 abbrev pub invariant-loop-address : goal.invariant-loop-address

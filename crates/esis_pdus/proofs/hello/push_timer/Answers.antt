@@ -1,6 +1,6 @@
 use Rattle.std.proofs.Common.{◌∙◌, sym, ap, ◌++◌, List, ℕ, Option}
 use Rattle.std.proofs.lemmas.List.{append-nil}
-use Rattle.clnp_options.specs.Parameter.{spelled}
+use Rattle.pdu_header.specs.ClnpOptions.Parameter.{spelled}
 use Rattle.esis_pdus.specs.Making.{timer_options}
 use Rattle.esis_pdus.proofs.Made.{spelled_timer}
 use Rattle.esis_pdus.proofs.hello.push_timer.Goals as goal

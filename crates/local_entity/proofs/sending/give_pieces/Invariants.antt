@@ -1,6 +1,6 @@
 use Rattle.std.proofs.Common.{◌≡◌, ◌++◌, map}
 use Rattle.std.specs.List.{AllByRecursion}
-use Rattle.segmenter.specs.Left.{IsCutOf}
+use Rattle.clnp_machine.specs.Segmenter.Left.{IsCutOf}
 use Rattle.local_entity.specs.Sending.{transmission}
 use Rattle.local_entity.proofs.sending.give_pieces.Given as goal
 

@@ -1,7 +1,7 @@
 -- The unit is cut, as its PDU is.
 use Rattle.std.proofs.Common.{◌≡◌, ◌∙◌, length, sym, ap}
 use Rattle.std.proofs.lemmas.Result.{on_ok_weaker}
-use Rattle.clnp_views.specs.Extent.{Extent, seen}
+use Rattle.clnp_machine.specs.ClnpViews.Extent.{Extent, seen}
 use Rattle.clnp_machine.specs.Unit.{value_of, whole_packet}
 use Rattle.local_entity.proofs.Sent.{unit_is_dropped, unit_is_sent, unit_length}
 use Rattle.local_entity.proofs.sending.send_on.Goals as goal

@@ -1,11 +1,11 @@
 //! Reassembly buffers whose time has ended (ISO/IEC 8473, section 6.9).
 ghost use Rattle.std.specs.Prelude.{◌≡◌, ◌<◌, ◌≤◌, ◌+◌, ◌^◌, ◌++◌, ◌∷◌, ℕ, List, Option, OnOk, OnErr, is_some, option_map, vec_capacity, vec_len};
-ghost use Rattle.clnp_views.specs.Extent.{Extent, seen};
-ghost use Rattle.reassembly.specs.Buffer as buffer;
-ghost use Rattle.reassembly.specs.Buffer.{Buffer};
-ghost use Rattle.reassembly.specs.State as table;
-ghost use Rattle.reassembly.specs.State.{IsReady};
-ghost use Rattle.clnp_plan.specs.declared.note.Note.TheVariants.{Expired};
+ghost use Rattle.clnp_machine.specs.ClnpViews.Extent.{Extent, seen};
+ghost use Rattle.clnp_machine.specs.Reassembly.Buffer as buffer;
+ghost use Rattle.clnp_machine.specs.Reassembly.Buffer.{Buffer};
+ghost use Rattle.clnp_machine.specs.Reassembly.State as table;
+ghost use Rattle.clnp_machine.specs.Reassembly.State.{IsReady};
+ghost use Rattle.clnp_machine.specs.ClnpPlan.declared.note.Note.TheVariants.{Expired};
 ghost use Rattle.clnp_machine.specs.Unit.{Packet, wire};
 ghost use Rattle.clnp_machine.specs.System.{SystemState};
 ghost use Rattle.clnp_machine.specs.Local as machine;
@@ -14,10 +14,10 @@ ghost use Rattle.local_entity.specs.Local.{Appends, Stands};
 use super::super::Local;
 use super::noting::note;
 use crate::action::Action;
-use clnp_base::NoMemory;
-use clnp_options::Reason;
-use clnp_plan::Note;
-use clnp_views::View;
+use clnp_machine::clnp_base::NoMemory;
+use clnp_machine::clnp_options::Reason;
+use clnp_machine::clnp_plan::Note;
+use clnp_machine::clnp_views::View;
 use std::alloc::Global;
 
 impl Local {

@@ -1,12 +1,12 @@
 //! Segments that are offered to the reassembly buffers (ISO/IEC 8473, section 6.8).
 ghost use Rattle.std.specs.Prelude.{◌≡◌, ◌≢◌, ◌≤◌, ◌<◌, ◌+◌, ◌^◌, [], ◌∷◌, List, Some, IfOk, OnOk, OnErr, vec_capacity, vec_len};
-ghost use Rattle.clnp_options.specs.Reasons.{reason_code};
-ghost use Rattle.clnp_views.specs.Extent.{Extent, seen};
-ghost use Rattle.reassembly.specs.Arrival.{Arrival, data_len, octet_in};
-ghost use Rattle.reassembly.specs.Buffer as buffer;
-ghost use Rattle.reassembly.specs.Buffer.{Buffer};
-ghost use Rattle.reassembly.specs.Offered.{MayCome};
-ghost use Rattle.reassembly.specs.State.{IsReady, IsWholeSlot, Names, Stands as TableStands, said};
+ghost use Rattle.clnp_machine.specs.ClnpOptions.Reasons.{reason_code};
+ghost use Rattle.clnp_machine.specs.ClnpViews.Extent.{Extent, seen};
+ghost use Rattle.clnp_machine.specs.Reassembly.Arrival.{Arrival, data_len, octet_in};
+ghost use Rattle.clnp_machine.specs.Reassembly.Buffer as buffer;
+ghost use Rattle.clnp_machine.specs.Reassembly.Buffer.{Buffer};
+ghost use Rattle.clnp_machine.specs.Reassembly.Offered.{MayCome};
+ghost use Rattle.clnp_machine.specs.Reassembly.State.{IsReady, IsWholeSlot, Names, Stands as TableStands, said};
 ghost use Rattle.clnp_machine.specs.Unit.{Packet};
 ghost use Rattle.clnp_machine.specs.Content.{Content, frame_of};
 ghost use Rattle.clnp_machine.specs.System.{SystemState};
@@ -18,11 +18,11 @@ use super::super::Local;
 use super::noting::note;
 use crate::action::Action;
 use crate::purpose::Purpose;
-use clnp_base::{NoMemory, Octets};
-use clnp_options::Reason;
-use clnp_plan::Note;
-use clnp_views::{Frame, View};
-use reassembly::{Accept, Segment, SlotNo, Table};
+use clnp_machine::clnp_base::{NoMemory, Octets};
+use clnp_machine::clnp_options::Reason;
+use clnp_machine::clnp_plan::Note;
+use clnp_machine::clnp_views::{Frame, View};
+use clnp_machine::reassembly::{Accept, Segment, SlotNo, Table};
 use std::alloc::Global;
 
 impl Local {

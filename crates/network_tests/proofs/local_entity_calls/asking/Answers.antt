@@ -1,7 +1,7 @@
 -- No options break no rule.
 use Rattle.std.proofs.Common.{List, ℕ, false, refl, sym, subst}
-use Rattle.clnp_options.specs.Grammar.{FitsKind}
-use Rattle.clnp_options.specs.Parameter.{parameters}
+use Rattle.clnp_machine.specs.ClnpOptions.Grammar.{FitsKind}
+use Rattle.clnp_machine.specs.ClnpOptions.Parameter.{parameters}
 use Rattle.network_tests.proofs.local_entity_calls.asking.Goals as goal
 
 pub returns : goal.returns

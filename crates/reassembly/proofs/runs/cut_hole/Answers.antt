@@ -2,11 +2,11 @@
 use Rattle.std.proofs.Common.{◌≡◌, ◌+◌, ◌-◌, ◌++◌, length, take, drop, Some, ap, sym, ◌∙◌, arith}
 use Rattle.std.specs.List.{position_from}
 use Rattle.std.proofs.lemmas.List.{length-take, length-drop}
-use Rattle.clnp_base.proofs.Found.{is_first}
+use Rattle.nsap.proofs.ClnpBase.Found.{is_first}
 use Rattle.reassembly.specs.Runs.{is_across}
 use Rattle.reassembly.proofs.Groups.{cut_counted, cut_inside, cut_missing, parted}
 use Rattle.reassembly.proofs.runs.cut_hole.Goals as goal
-use Rattle.clnp_base.proofs.Choices.{none_since}
+use Rattle.nsap.proofs.ClnpBase.Choices.{none_since}
 
 pub returns-in_default-clause-items : goal.returns-in_default-clause-items
 returns-in_default-clause-items c =

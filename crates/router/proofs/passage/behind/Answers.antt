@@ -1,6 +1,6 @@
 -- One edit follows another.
 use Rattle.clnp_machine.specs.Step.{most_titles, passing_own}
-use Rattle.pdu_header.specs.Headers.{with_options}
+use Rattle.clnp_machine.specs.PduHeader.Headers.{with_options}
 use Rattle.router.proofs.Behind.{is_behind}
 use Rattle.router.proofs.passage.behind.Goals as goal
 

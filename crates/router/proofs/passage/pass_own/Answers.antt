@@ -1,9 +1,9 @@
 -- So many passings are left as the loop has turns.
 use Rattle.std.proofs.Common.{◌≡◌, ◌∙◌, sym, ℕ, ◌+◌, ◌-◌, suc, arith}
-use Rattle.clnp_options.specs.Edits.{advanced, edited}
-use Rattle.clnp_options.specs.Parameter.{source_route}
+use Rattle.clnp_machine.specs.ClnpOptions.Edits.{advanced, edited}
+use Rattle.clnp_machine.specs.ClnpOptions.Parameter.{source_route}
 use Rattle.clnp_machine.specs.Step.{most_titles}
-use Rattle.pdu_header.specs.Headers.{with_options}
+use Rattle.clnp_machine.specs.PduHeader.Headers.{with_options}
 use Rattle.router.proofs.Behind.{begins, ends, ends_at_last, goes_on}
 use Rattle.router.proofs.passage.pass_own.Goals as goal
 

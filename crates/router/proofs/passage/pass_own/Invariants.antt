@@ -1,6 +1,6 @@
 use Rattle.std.proofs.Common.{◌≡◌, ◌-◌}
-use Rattle.pdu_header.specs.Headers.{IsHeader, SpellsHeader}
-use Rattle.pdu_header.specs.Value.{PduValue}
+use Rattle.clnp_machine.specs.PduHeader.Headers.{IsHeader, SpellsHeader}
+use Rattle.clnp_machine.specs.PduHeader.Value.{PduValue}
 use Rattle.clnp_machine.specs.Esis.{title_of}
 use Rattle.clnp_machine.specs.Step.{most_titles}
 use Rattle.clnp_machine.specs.System.{SystemState}

@@ -1,9 +1,9 @@
 -- The bit follows the title.
 use Rattle.std.proofs.Common.{sym, subst, Bool}
-use Rattle.clnp_options.specs.Edits.{edited, recorded}
-use Rattle.clnp_options.specs.Parameter.{recording}
+use Rattle.clnp_machine.specs.ClnpOptions.Edits.{edited, recorded}
+use Rattle.clnp_machine.specs.ClnpOptions.Parameter.{recording}
 use Rattle.clnp_machine.specs.Step.{noting_congestion}
-use Rattle.pdu_header.specs.Headers.{SpellsHeader, with_options}
+use Rattle.clnp_machine.specs.PduHeader.Headers.{SpellsHeader, with_options}
 use Rattle.router.proofs.passage.tell.Goals as goal
 
 pub returns-then-congested : goal.returns-then-congested

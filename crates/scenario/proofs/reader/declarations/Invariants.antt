@@ -1,5 +1,5 @@
 use Rattle.std.proofs.Common.{◌≡◌, ◌<◌, ◌+◌, ◌^◌, length}
-use Rattle.clnp_base.specs.Text.{lines_of}
+use Rattle.clnp_plan.specs.ClnpBase.Text.{lines_of}
 use Rattle.scenario.specs.Grammar.{declarations_from}
 use Rattle.scenario.proofs.reader.declarations.Given as goal
 

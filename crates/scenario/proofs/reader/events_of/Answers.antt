@@ -1,6 +1,6 @@
 use Rattle.std.proofs.Common.{length, map, List, ℕ, sym, ◌∙◌, ap, arith}
 use Rattle.std.proofs.lemmas.Result.{err_from_is_err_and}
-use Rattle.clnp_base.specs.Text.{lines_of}
+use Rattle.clnp_plan.specs.ClnpBase.Text.{lines_of}
 use Rattle.clnp_plan.specs.Configuration.{SystemConfiguration}
 use Rattle.scenario.specs.Scenario.{Subnetwork}
 use Rattle.scenario.specs.Events.{nothing_counted}

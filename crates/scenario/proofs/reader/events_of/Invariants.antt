@@ -1,5 +1,5 @@
 use Rattle.std.proofs.Common.{◌≡◌, ◌<◌, ◌+◌, ◌^◌, true, map, length}
-use Rattle.clnp_base.specs.Text.{lines_of}
+use Rattle.clnp_plan.specs.ClnpBase.Text.{lines_of}
 use Rattle.clnp_plan.specs.Configuration.{SystemConfiguration}
 use Rattle.scenario.specs.Scenario.{Subnetwork}
 use Rattle.scenario.specs.Events.{are_few, nothing_counted}

@@ -1,5 +1,5 @@
 use Rattle.std.proofs.Common.{◌∙◌, ap, map}
-use Rattle.clnp_base.specs.Text.{lines_of}
+use Rattle.clnp_plan.specs.ClnpBase.Text.{lines_of}
 use Rattle.scenario.specs.Declarations.{configuration_of}
 use Rattle.scenario.proofs.Accepted.{declared_systems, plan_is}
 use Rattle.scenario.proofs.reader.read.Goals as goal

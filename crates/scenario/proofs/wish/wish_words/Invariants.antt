@@ -1,5 +1,5 @@
 use Rattle.std.proofs.Common.{◌≡◌, length}
-use Rattle.clnp_base.specs.Text.{words_of}
+use Rattle.clnp_plan.specs.ClnpBase.Text.{words_of}
 use Rattle.scenario.specs.Events.{wish_words}
 use Rattle.scenario.proofs.Readings.{with_front}
 use Rattle.scenario.proofs.wish.wish_words.Given as goal

@@ -2,7 +2,7 @@ use Rattle.std.proofs.Common.{ℕ, List, take, drop, arith}
 use Rattle.pdu_header.specs.Value.{SegmentationPart, PduValue}
 use Rattle.pdu_header.specs.View.{part_value}
 use Rattle.segmenter.proofs.Cutting.{as_segment, carried, roomy}
-use Rattle.clnp_base.proofs.Lists.{length_part}
+use Rattle.pdu_header.proofs.ClnpBase.Lists.{length_part}
 use Rattle.segmenter.proofs.cuts.segment_header.Goals as goal
 
 pub overflow_sub-unit_len : goal.overflow_sub-unit_len

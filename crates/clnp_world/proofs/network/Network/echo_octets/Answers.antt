@@ -1,11 +1,11 @@
 -- The system makes an echo request, or its refusal is noted.
 use Rattle.std.proofs.Common.{[], ◌∷◌, arith, refl}
 use Rattle.std.proofs.lemmas.Result.{on_ok_weaker}
-use Rattle.clnp_plan.specs.declared.output.Output.TheVariants.{Note as Told}
+use Rattle.clnp_machine.specs.ClnpPlan.declared.output.Output.TheVariants.{Note as Told}
 use Rattle.clnp_machine.specs.Local.{refusal, request_unit}
 use Rattle.clnp_machine.specs.Step.{step}
 use Rattle.clnp_machine.specs.System.{SystemState, Input, AsksForEcho}
-use Rattle.system_entity.specs.Stands as entity
+use Rattle.clnp_systems.specs.SystemEntity.Stands as entity
 use Rattle.clnp_systems.specs.Stands.{entity_of}
 use Rattle.clnp_world.proofs.SendSteps.{refused_echo_gives, refused_echo_stands}
 use Rattle.clnp_world.proofs.TakeSteps.{with_node, does_follow, does_nothing, note_alone, from_none, leaves_same, says_why}

@@ -1,8 +1,8 @@
 -- The system at the event's place sends.
 use Rattle.std.proofs.Common.{ℕ, Some, sym, subst}
 use Rattle.std.proofs.lemmas.Result.{on_ok_weaker}
-use Rattle.scenario.specs.Scenario.{octets_of}
-use Rattle.scenario.specs.declared.event.Event.{Event}
+use Rattle.clnp_network.specs.Scenario.Scenario.{octets_of}
+use Rattle.clnp_network.specs.Scenario.declared.event.Event.{Event}
 use Rattle.clnp_machine.specs.System.{AsksToSend}
 use Rattle.clnp_network.specs.World as network
 use Rattle.clnp_world.specs.Parts.{Follows}

@@ -2,7 +2,7 @@
 use Rattle.std.proofs.Common.{◌≡◌, ◌+◌, ◌∙◌, ℕ, [], ◌∷◌, List, Some, subst, arith, refl}
 use Rattle.std.specs.Prelude.{slice_get}
 use Rattle.std.proofs.lemmas.Result.{on_ok_weaker}
-use Rattle.clnp_plan.specs.Journal.{Injected}
+use Rattle.clnp_machine.specs.ClnpPlan.Journal.{Injected}
 use Rattle.clnp_world.specs.Lines.{Gains}
 use Rattle.clnp_world.specs.Parts.{PutsCopies}
 use Rattle.clnp_world.proofs.InjectSteps.{injects_there, outside_copy}

@@ -1,9 +1,9 @@
 -- One output after another.
 use Rattle.std.proofs.Common.{◌≡◌, ◌∙◌, List, sym, refl, arith, subst, take}
 use Rattle.std.proofs.lemmas.List.{take_all}
-use Rattle.clnp_plan.specs.declared.output.Output.{Output}
+use Rattle.clnp_machine.specs.ClnpPlan.declared.output.Output.{Output}
 use Rattle.clnp_machine.specs.Given.{GiveAllFor}
-use Rattle.clnp_base.proofs.ListSteps.{take_push}
+use Rattle.clnp_machine.proofs.ClnpBase.ListSteps.{take_push}
 use Rattle.clnp_world.proofs.PutSteps.{PutsOut, puts_none, puts_more}
 use Rattle.clnp_world.proofs.network.Network.put_all_out.Goals as goal
 use Rattle.std.proofs.lemmas.Option.{slice_get_read}

@@ -1,7 +1,7 @@
 -- The port is read, or there is none at its number.
 use Rattle.std.proofs.Common.{◌∙◌, ap, arith}
 use Rattle.std.proofs.lemmas.Result.{on_ok_weaker}
-use Rattle.clnp_plan.specs.Configuration.{SystemConfiguration}
+use Rattle.clnp_machine.specs.ClnpPlan.Configuration.{SystemConfiguration}
 use Rattle.clnp_world.proofs.PutSteps.{copies_past, copies_read}
 use Rattle.clnp_world.proofs.network.Network.put_copy.Goals as goal
 

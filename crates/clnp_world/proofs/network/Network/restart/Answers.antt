@@ -1,8 +1,8 @@
 -- The system is restarted, and its note is written.
 use Rattle.std.proofs.Common.{[], ◌∷◌, refl, arith}
 use Rattle.std.proofs.lemmas.Result.{on_ok_weaker}
-use Rattle.clnp_plan.specs.declared.note.Note.TheVariants.{Restart}
-use Rattle.clnp_plan.specs.declared.output.Output.TheVariants.{Note as Told}
+use Rattle.clnp_machine.specs.ClnpPlan.declared.note.Note.TheVariants.{Restart}
+use Rattle.clnp_machine.specs.ClnpPlan.declared.output.Output.TheVariants.{Note as Told}
 use Rattle.clnp_machine.specs.System.{IsRestarted}
 use Rattle.clnp_systems.specs.Stands.{entity_of}
 use Rattle.clnp_world.proofs.TakeSteps.{with_node, does_follow, does_nothing, note_alone, gives_note}

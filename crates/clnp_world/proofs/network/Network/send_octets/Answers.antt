@@ -1,13 +1,13 @@
 -- The host sends, or its refusal is noted; a router is asked nothing.
 use Rattle.std.proofs.Common.{◌∙◌, [], ◌∷◌, Some, sym, ap, arith, refl}
 use Rattle.std.proofs.lemmas.Result.{on_ok_weaker}
-use Rattle.clnp_plan.specs.Configuration.{SystemConfiguration}
-use Rattle.clnp_plan.specs.declared.output.Output.TheVariants.{Note as Told}
+use Rattle.clnp_machine.specs.ClnpPlan.Configuration.{SystemConfiguration}
+use Rattle.clnp_machine.specs.ClnpPlan.declared.output.Output.TheVariants.{Note as Told}
 use Rattle.clnp_machine.specs.System.{SystemState, Input, AsksToSend}
 use Rattle.clnp_machine.specs.Step.{step}
 use Rattle.clnp_machine.specs.Local.{refusal, unit_of}
-use Rattle.pdu_header.specs.declared.kind.Kind.TheVariants.{Dt}
-use Rattle.system_entity.specs.Stands as entity
+use Rattle.clnp_machine.specs.PduHeader.declared.kind.Kind.TheVariants.{Dt}
+use Rattle.clnp_systems.specs.SystemEntity.Stands as entity
 use Rattle.clnp_systems.specs.declared.system.System.{System}
 use Rattle.clnp_systems.specs.declared.system.System.TheVariants as variant
 use Rattle.clnp_world.proofs.SendSteps.{refused_stands, refused_gives, asks_host, asks_nobody, asks_router, written_back}

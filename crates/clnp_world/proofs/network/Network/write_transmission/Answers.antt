@@ -1,7 +1,7 @@
 -- The next copy's number is one more than the copies that there are.
 use Rattle.std.proofs.Common.{◌≡◌, ◌∙◌, ap, arith, length}
 use Rattle.std.proofs.lemmas.Result.{on_ok_weaker}
-use Rattle.clnp_plan.specs.Configuration.{SystemConfiguration}
+use Rattle.clnp_machine.specs.ClnpPlan.Configuration.{SystemConfiguration}
 use Rattle.clnp_world.proofs.PutSteps.{same_transmission, counted}
 use Rattle.clnp_world.proofs.network.Network.write_transmission.Goals as goal
 

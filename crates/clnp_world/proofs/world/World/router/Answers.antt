@@ -1,7 +1,7 @@
 -- The router at a place stands for the system there.
 use Rattle.std.proofs.Common.{◌≡◌, ◌∙◌, Some, sym, ap, subst}
 use Rattle.std.proofs.lemmas.Option.{IfSome_then}
-use Rattle.clnp_plan.specs.declared.config.Role.TheVariants as role
+use Rattle.clnp_machine.specs.ClnpPlan.declared.config.Role.TheVariants as role
 use Rattle.clnp_systems.specs.Stands as clnp_systems
 use Rattle.clnp_systems.specs.Stands.{configuration_of}
 use Rattle.clnp_systems.specs.declared.system.System.{System}

@@ -1,11 +1,11 @@
 -- What its entity leaves to it is noted.
 use Rattle.std.proofs.Common.{◌∙◌, refl, sym, ap, subst, ℕ, List, [], ◌∷◌, ◌++◌}
 use Rattle.std.proofs.lemmas.Result.{on_ok_weaker}
-use Rattle.esis_tables.specs.declared.fact.Place.{Place}
-use Rattle.clnp_plan.specs.Configuration.{SystemConfiguration}
-use Rattle.clnp_plan.specs.declared.note.Note.TheVariants.{NotMine}
-use Rattle.clnp_plan.specs.declared.output.Output.{Output}
-use Rattle.clnp_plan.specs.declared.output.Output.TheVariants.{Note}
+use Rattle.clnp_machine.specs.EsisTables.declared.fact.Place.{Place}
+use Rattle.clnp_machine.specs.ClnpPlan.Configuration.{SystemConfiguration}
+use Rattle.clnp_machine.specs.ClnpPlan.declared.note.Note.TheVariants.{NotMine}
+use Rattle.clnp_machine.specs.ClnpPlan.declared.output.Output.{Output}
+use Rattle.clnp_machine.specs.ClnpPlan.declared.output.Output.TheVariants.{Note}
 use Rattle.clnp_machine.specs.Given.{Appends}
 use Rattle.clnp_machine.specs.Step.{content_comes}
 use Rattle.clnp_machine.specs.System.{Effect}

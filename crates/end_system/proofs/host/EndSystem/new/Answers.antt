@@ -1,6 +1,6 @@
 -- Its entity has the configuration of a host.
 use Rattle.std.proofs.Common.{◌∙◌, ap}
-use Rattle.clnp_plan.specs.Configuration.{SystemConfiguration}
+use Rattle.clnp_machine.specs.ClnpPlan.Configuration.{SystemConfiguration}
 use Rattle.end_system.proofs.host.EndSystem.new.Goals as goal
 
 pub invariant_of-result : goal.invariant_of-result

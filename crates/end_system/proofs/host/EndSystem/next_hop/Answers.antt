@@ -1,11 +1,11 @@
 -- A host always knows where it sends.
 use Rattle.std.proofs.Common.{◌≡◌, ◌∙◌, sym, ap, subst, None, Option, Some}
-use Rattle.clnp_plan.specs.Configuration.{SystemConfiguration}
-use Rattle.clnp_plan.specs.declared.config.Role.{Role}
+use Rattle.clnp_machine.specs.ClnpPlan.Configuration.{SystemConfiguration}
+use Rattle.clnp_machine.specs.ClnpPlan.declared.config.Role.{Role}
 use Rattle.clnp_machine.specs.Step as machine
 use Rattle.clnp_machine.specs.Step.{hop_of, host_hop, next_hop}
-use Rattle.esis_tables.specs.NextHop as heard
-use Rattle.local_entity.specs.Sending.{hop_option}
+use Rattle.clnp_machine.specs.EsisTables.NextHop as heard
+use Rattle.system_entity.specs.LocalEntity.Sending.{hop_option}
 use Rattle.system_entity.specs.Stands as entity
 use Rattle.end_system.specs.State.{HostState}
 use Rattle.end_system.proofs.host.EndSystem.next_hop.Goals as goal

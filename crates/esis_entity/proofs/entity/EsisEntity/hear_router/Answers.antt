@@ -1,4 +1,4 @@
-use Rattle.esis_tables.specs.declared.fact.TableKind.TheVariants.{Is}
+use Rattle.clnp_machine.specs.EsisTables.declared.fact.TableKind.TheVariants.{Is}
 use Rattle.clnp_machine.specs.Esis.{hears}
 use Rattle.clnp_machine.specs.System.{Effect}
 use Rattle.esis_entity.proofs.Effects.{does_answer}

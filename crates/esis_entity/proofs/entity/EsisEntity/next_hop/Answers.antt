@@ -1,6 +1,6 @@
 use Rattle.std.proofs.Common.{ap, sym, subst, []}
-use Rattle.esis_tables.specs.declared.tables.Tables.{Tables}
-use Rattle.esis_tables.specs.Stands as heard
+use Rattle.clnp_machine.specs.EsisTables.declared.tables.Tables.{Tables}
+use Rattle.clnp_machine.specs.EsisTables.Stands as heard
 use Rattle.esis_entity.specs.State.{EsisState}
 use Rattle.esis_entity.proofs.LookingUp.{by_redirect, by_router, by_system}
 use Rattle.esis_entity.proofs.entity.EsisEntity.next_hop.Goals as goal

@@ -1,6 +1,6 @@
 use Rattle.std.proofs.Common.{◌∙◌, ap, sym, subst, []}
-use Rattle.esis_tables.specs.Stands as heard
-use Rattle.esis_tables.specs.Stands.{limits_of}
+use Rattle.clnp_machine.specs.EsisTables.Stands as heard
+use Rattle.clnp_machine.specs.EsisTables.Stands.{limits_of}
 use Rattle.esis_entity.specs.State.{EsisState}
 use Rattle.esis_entity.proofs.Ticking.{does_tick, on_ok}
 use Rattle.esis_entity.proofs.entity.EsisEntity.tick.Goals as goal

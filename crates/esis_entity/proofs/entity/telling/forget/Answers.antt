@@ -1,5 +1,5 @@
 use Rattle.std.proofs.Common.{◌≡◌, ◌∙◌, refl, ℕ, ◌+◌, ◌-◌, ◌^◌, ◌<◌, ◌≤◌, [], ◌∷◌, length, arith}
-use Rattle.esis_tables.specs.Gone.{gone}
+use Rattle.clnp_machine.specs.EsisTables.Gone.{gone}
 use Rattle.clnp_machine.specs.Esis.{gone_note}
 use Rattle.esis_entity.proofs.Forgetting.{appended_length, all_forgotten, none_forgotten, one_forgotten}
 use Rattle.esis_entity.proofs.entity.telling.forget.Goals as goal

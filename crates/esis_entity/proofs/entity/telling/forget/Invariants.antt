@@ -1,8 +1,8 @@
 use Rattle.std.proofs.Common.{◌≡◌, ◌≤◌, ◌^◌, ◌-◌, ℕ, List, [], length}
-use Rattle.esis_tables.specs.Fact.{Fact}
-use Rattle.esis_tables.specs.Stands as heard
-use Rattle.esis_tables.specs.Gone.{gone}
-use Rattle.esis_tables.specs.Stands.{limits_of}
+use Rattle.clnp_machine.specs.EsisTables.Fact.{Fact}
+use Rattle.clnp_machine.specs.EsisTables.Stands as heard
+use Rattle.clnp_machine.specs.EsisTables.Gone.{gone}
+use Rattle.clnp_machine.specs.EsisTables.Stands.{limits_of}
 use Rattle.esis_entity.proofs.Forgetting.{ForgotSoFar}
 use Rattle.esis_entity.proofs.entity.telling.forget.Given as goal
 

@@ -1,5 +1,5 @@
 use Rattle.std.proofs.Common.{◌∙◌, ◌+◌, ◌-◌, ◌^◌, ℕ, min, ap}
-use Rattle.clnp_views.specs.Extent.{seen}
+use Rattle.clnp_machine.specs.ClnpViews.Extent.{seen}
 use Rattle.local_entity.proofs.Reporting.{told}
 use Rattle.local_entity.proofs.local.Local.discard_with_room.Goals as goal
 

@@ -1,8 +1,8 @@
 use Rattle.std.proofs.Common.{ℕ, [], ◌∷◌, Option, sym, ap, subst}
-use Rattle.clnp_options.specs.Reasons.{reason_code}
-use Rattle.clnp_options.specs.declared.reasons.Reason.TheVariants.{LifetimeExpiredInReassembly}
-use Rattle.clnp_plan.specs.declared.note.Note.TheVariants.{Expired}
-use Rattle.reassembly.specs.Buffer.{held}
+use Rattle.clnp_machine.specs.ClnpOptions.Reasons.{reason_code}
+use Rattle.clnp_machine.specs.ClnpOptions.declared.reasons.Reason.TheVariants.{LifetimeExpiredInReassembly}
+use Rattle.clnp_machine.specs.ClnpPlan.declared.note.Note.TheVariants.{Expired}
+use Rattle.clnp_machine.specs.Reassembly.Buffer.{held}
 use Rattle.clnp_machine.specs.Unit.{Packet}
 use Rattle.clnp_machine.specs.Content.{Labelled}
 use Rattle.clnp_machine.specs.Local.{Tells, discard, discard_first}

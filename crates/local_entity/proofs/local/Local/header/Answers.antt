@@ -1,11 +1,11 @@
 use Rattle.std.proofs.Common.{◌<◌, ◌∙◌, ap, subst}
 use Rattle.std.specs.Prelude.{ℕ, Some}
-use Rattle.pdu_header.specs.declared.header.HeaderRefusal.{HeaderRefusal}
-use Rattle.pdu_header.specs.Value.{PduValue}
-use Rattle.pdu_header.specs.Headers.{SpellsHeader}
-use Rattle.pdu_header.specs.Spelling.{header_length}
-use Rattle.pdu_header.specs.Parts.{parts_length}
-use Rattle.clnp_plan.specs.declared.ask.SendRefusal.TheVariants.{TooLong}
+use Rattle.clnp_machine.specs.PduHeader.declared.header.HeaderRefusal.{HeaderRefusal}
+use Rattle.clnp_machine.specs.PduHeader.Value.{PduValue}
+use Rattle.clnp_machine.specs.PduHeader.Headers.{SpellsHeader}
+use Rattle.clnp_machine.specs.PduHeader.Spelling.{header_length}
+use Rattle.clnp_machine.specs.PduHeader.Parts.{parts_length}
+use Rattle.clnp_machine.specs.ClnpPlan.declared.ask.SendRefusal.TheVariants.{TooLong}
 use Rattle.local_entity.proofs.Parts.{too_long_header}
 use Rattle.local_entity.proofs.local.Local.header.Goals as goal
 

@@ -1,5 +1,5 @@
 use Rattle.std.proofs.Common.{◌≡◌, subst}
-use Rattle.reassembly.specs.Buffer.{held}
+use Rattle.clnp_machine.specs.Reassembly.Buffer.{held}
 use Rattle.clnp_machine.specs.System.{SystemState}
 use Rattle.local_entity.specs.Local.{Stands}
 use Rattle.local_entity.specs.State.{EntityState}

@@ -1,6 +1,6 @@
 use Rattle.std.proofs.Common.{◌∙◌, ◌+◌, ◌^◌, ◌-◌, refl, ℕ, List, [], ◌∷◌, length, min, ap, sym, subst}
 use Rattle.std.proofs.lemmas.Result.{err_from_is_err_and}
-use Rattle.clnp_views.specs.Extent.{Extent, seen}
+use Rattle.clnp_machine.specs.ClnpViews.Extent.{Extent, seen}
 use Rattle.clnp_machine.specs.Local.{Sends, Tells, refusal, sent_note, unit_of, unless_refused}
 use Rattle.local_entity.specs.declared.action.Action.{Action}
 use Rattle.local_entity.specs.Local.{Appends, Stands}

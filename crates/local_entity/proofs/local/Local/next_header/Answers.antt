@@ -1,7 +1,7 @@
 use Rattle.std.proofs.Common.{◌≤◌, ◌∙◌, length, subst, sym, arith}
 use Rattle.std.proofs.lemmas.Result.{err_from_is_err_and}
 use Rattle.clnp_machine.specs.Local.{unit_of}
-use Rattle.clnp_plan.specs.declared.note.Note.{Note}
+use Rattle.clnp_machine.specs.ClnpPlan.declared.note.Note.{Note}
 use Rattle.std.specs.Prelude.{Option}
 use Rattle.local_entity.specs.Local.{IsWhy}
 use Rattle.local_entity.specs.Pool as pool

@@ -1,11 +1,11 @@
 -- By what comes of the segment.
 use Rattle.std.proofs.Common.{◌≡◌, ◌≤◌, ℕ, List, ap, refl, sym, ◌∙◌, subst, vec_capacity}
 use Rattle.std.proofs.Math.Seq.{take-length}
-use Rattle.clnp_views.specs.Extent.{seen}
-use Rattle.reassembly.specs.Arrival.{Arrival, arrival_of}
-use Rattle.reassembly.specs.Buffer.{after}
-use Rattle.reassembly.specs.Ending.{without_last}
-use Rattle.reassembly.specs.State.{IsReady, IsWholeSlot, Names, Stands as StandsFor, TableState, said}
+use Rattle.clnp_machine.specs.ClnpViews.Extent.{seen}
+use Rattle.clnp_machine.specs.Reassembly.Arrival.{Arrival, arrival_of}
+use Rattle.clnp_machine.specs.Reassembly.Buffer.{after}
+use Rattle.clnp_machine.specs.Reassembly.Ending.{without_last}
+use Rattle.clnp_machine.specs.Reassembly.State.{IsReady, IsWholeSlot, Names, Stands as StandsFor, TableState, said}
 use Rattle.clnp_machine.specs.Local.{Deed, hand_up, takes_in}
 use Rattle.local_entity.specs.declared.action.Action.{Action}
 use Rattle.local_entity.specs.Local.{Appends, Stands}

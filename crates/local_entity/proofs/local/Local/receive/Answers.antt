@@ -1,12 +1,12 @@
 -- By what the frame begins with.
 use Rattle.std.proofs.Common.{◌≤◌, ℕ, List, length, ap, sym, ◌∙◌, subst, arith}
 use Rattle.std.proofs.lemmas.Result.{on_ok_weaker}
-use Rattle.clnp_options.specs.Parameter.{parameters}
-use Rattle.pdu_header.specs.Grammar.{BeginsWith}
-use Rattle.pdu_header.specs.Value.{PduValue}
-use Rattle.pdu_header.specs.View.{pdu_value}
-use Rattle.reassembly.specs.declared.segment.Segment.{Segment}
-use Rattle.reassembly.specs.Offered.{MayCome}
+use Rattle.clnp_machine.specs.ClnpOptions.Parameter.{parameters}
+use Rattle.clnp_machine.specs.PduHeader.Grammar.{BeginsWith}
+use Rattle.clnp_machine.specs.PduHeader.Value.{PduValue}
+use Rattle.clnp_machine.specs.PduHeader.View.{pdu_value}
+use Rattle.clnp_machine.specs.Reassembly.declared.segment.Segment.{Segment}
+use Rattle.clnp_machine.specs.Reassembly.Offered.{MayCome}
 use Rattle.clnp_machine.specs.Content.{Labelled}
 use Rattle.clnp_machine.specs.Local.{Deed, hand_up, offered}
 use Rattle.local_entity.specs.Local.{Appends, Stands}

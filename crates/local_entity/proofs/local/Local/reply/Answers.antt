@@ -1,6 +1,6 @@
 use Rattle.std.proofs.Common.{◌∙◌, sym, ap, subst}
 use Rattle.std.proofs.Math.Seq.{take-length}
-use Rattle.clnp_views.specs.Extent.{Extent, seen}
+use Rattle.clnp_machine.specs.ClnpViews.Extent.{Extent, seen}
 use Rattle.clnp_machine.specs.Local.{Deed}
 use Rattle.local_entity.specs.State.{EntityState}
 use Rattle.local_entity.specs.Local.{Appends, Stands}

@@ -1,8 +1,8 @@
 -- Buffers are taken out until none is due.
 use Rattle.std.proofs.Common.{◌≡◌, ◌+◌, ℕ, List, refl, sym, ap, ◌∙◌, subst, arith}
-use Rattle.clnp_views.specs.Extent.{Extent}
-use Rattle.reassembly.specs.Buffer.{Buffer}
-use Rattle.reassembly.specs.State as table
+use Rattle.clnp_machine.specs.ClnpViews.Extent.{Extent}
+use Rattle.clnp_machine.specs.Reassembly.Buffer.{Buffer}
+use Rattle.clnp_machine.specs.Reassembly.State as table
 use Rattle.clnp_machine.specs.Local.{expire}
 use Rattle.local_entity.specs.State.{EntityState}
 use Rattle.local_entity.proofs.Ticking.{IsLeft, after_more, after_none, ended_early, left_first, left_more, ready_at_end, ready_early, ticked_appends, ticked_stands}

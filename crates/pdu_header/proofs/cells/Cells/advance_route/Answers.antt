@@ -1,10 +1,10 @@
 use Rattle.std.proofs.Common.{ap, arith, length}
 use Rattle.clnp_options.specs.Parameter.{source_route}
 use Rattle.clnp_options.specs.Edits.{edited, advanced}
-use Rattle.clnp_base.specs.Inline.{len_again}
+use Rattle.nsap.specs.ClnpBase.Inline.{len_again}
 use Rattle.pdu_header.proofs.Fill.{part_edited}
 use Rattle.pdu_header.proofs.cells.Cells.advance_route.Goals as goal
-use Rattle.clnp_base.proofs.Laid.{inline-put, part_size}
+use Rattle.nsap.proofs.ClnpBase.Laid.{inline-put, part_size}
 
 pub invariant_of-self : goal.invariant_of-self
 invariant_of-self c =

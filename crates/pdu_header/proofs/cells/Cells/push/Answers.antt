@@ -1,5 +1,5 @@
 use Rattle.std.proofs.Common.{ap, arith, length}
-use Rattle.clnp_base.specs.Inline.{len_again}
+use Rattle.nsap.specs.ClnpBase.Inline.{len_again}
 use Rattle.pdu_header.proofs.Fill.{held_push}
 use Rattle.pdu_header.proofs.cells.Cells.push.Goals as goal
 

@@ -8,8 +8,8 @@ use Rattle.reassembly.specs.Arrival.{arrival_of, is_covered, octet_in}
 use Rattle.reassembly.specs.Offered.{MayCome}
 use Rattle.reassembly.specs.Runs.{AreJoined, filler}
 use Rattle.reassembly.proofs.Covered.{each_covered, covered_rest}
-use Rattle.clnp_base.proofs.Found.{is_first}
-use Rattle.clnp_base.proofs.Lists.{AllByRecursion-get_or}
+use Rattle.nsap.proofs.ClnpBase.Found.{is_first}
+use Rattle.nsap.proofs.ClnpBase.Lists.{AllByRecursion-get_or}
 use Rattle.reassembly.proofs.Filling.{have_from, joined_order, not_behind}
 use Rattle.reassembly.proofs.Givers.{covered-giver}
 use Rattle.reassembly.proofs.Run.{arrivals_of, does_give, gives}

@@ -2,7 +2,7 @@
 use Rattle.std.proofs.Common.{length, map, ap, ◌∙◌, arith}
 use Rattle.std.specs.Prelude.{slice_get, slice_set}
 use Rattle.std.proofs.lemmas.List.{length-set}
-use Rattle.clnp_base.proofs.Lists.{slice_get-set, slice_get_some}
+use Rattle.nsap.proofs.ClnpBase.Lists.{slice_get-set, slice_get_some}
 use Rattle.reassembly.specs.Runs.{cut, marked, total_runs}
 use Rattle.reassembly.proofs.Filling.{length-cut}
 use Rattle.reassembly.proofs.Groups.{set-set, total-set}

@@ -2,7 +2,7 @@
 use Rattle.std.proofs.Common.{◌≡◌, ◌+◌, ◌-◌, ◌++◌, length, sum, map, take, drop, ap, sym, ◌∙◌, arith}
 use Rattle.std.proofs.lemmas.List.{get_or_default, length-map, set-get_or, with_items_is}
 use Rattle.std.specs.Prelude.{List, slice_set}
-use Rattle.clnp_base.proofs.Lists.{length_part}
+use Rattle.nsap.proofs.ClnpBase.Lists.{length_part}
 use Rattle.reassembly.specs.declared.runs.Run.{Run}
 use Rattle.reassembly.specs.Runs.{groups_of, marked}
 use Rattle.reassembly.proofs.Groups.{inside, fits, group_is, replaced, replaced_sum}

@@ -2,7 +2,7 @@
 use Rattle.std.proofs.Common.{◌≡◌, ◌+◌, ◌-◌, ◌≤◌, length, get_or, take, drop, ap, ◌∙◌, arith}
 use Rattle.clnp_views.specs.Extent.{seen}
 use Rattle.reassembly.specs.Arrival.{arrival_of, octet_in}
-use Rattle.clnp_base.proofs.Ranges.{part_by_each}
+use Rattle.nsap.proofs.ClnpBase.Ranges.{part_by_each}
 use Rattle.reassembly.proofs.segment.Segment.octets.Goals as goal
 
 pub returns : goal.returns

@@ -7,7 +7,7 @@ use Rattle.reassembly.specs.Offered.{openings_of}
 use Rattle.reassembly.specs.State.{Names, Stands, TableState, said, segments_of}
 use Rattle.std.specs.Prelude.{slice_get, slice_set}
 use Rattle.std.proofs.lemmas.Option.{slice_get_within}
-use Rattle.clnp_base.proofs.Lists.{AllByRecursion-slice_get, slice_get_some}
+use Rattle.nsap.proofs.ClnpBase.Lists.{AllByRecursion-slice_get, slice_get_some}
 use Rattle.reassembly.specs.declared.runs.Run.{Run}
 use Rattle.reassembly.specs.Index.{IsIndexOf}
 use Rattle.reassembly.specs.Runs.{filled}

@@ -9,7 +9,7 @@ use Rattle.reassembly.specs.State.{TableState}
 use Rattle.reassembly.proofs.Counted.{held_there, number_there}
 use Rattle.reassembly.proofs.Refusing.{by_budget, by_repeat, by_segments, by_shape, by_slots, clashes_there, covered_there, full_there, room_there, same_unit_there, slot_within}
 use Rattle.reassembly.proofs.table.Table.refusal.Goals as goal
-use Rattle.clnp_base.proofs.Choices.{none_since}
+use Rattle.nsap.proofs.ClnpBase.Choices.{none_since}
 
 pub other_shape-requires : goal.other_shape-requires
 other_shape-requires c = slot_within c.args.segment.now.key c.args.self.now.openings c.slot_of-slot.result (sym c.slot_of-slot.ensures)

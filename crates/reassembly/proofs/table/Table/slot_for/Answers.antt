@@ -13,7 +13,7 @@ use Rattle.reassembly.proofs.Indexing.{opened_index, total_few}
 use Rattle.reassembly.proofs.Slots.{no_segments, slot_there, slot_missing}
 use Rattle.reassembly.proofs.Opened.{openings_with-none, openings_with-some, sound_opened, slice_get_push}
 use Rattle.reassembly.proofs.table.Table.slot_for.Goals as goal
-use Rattle.clnp_base.proofs.Choices.{none_since}
+use Rattle.nsap.proofs.ClnpBase.Choices.{none_since}
 
 pub returns-in-Some-clause-opened : goal.returns-in-Some-clause-opened
 returns-in-Some-clause-opened c =

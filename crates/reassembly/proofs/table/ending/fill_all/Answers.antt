@@ -3,7 +3,7 @@ use Rattle.std.proofs.Common.{◌≡◌, ◌+◌, ◌<◌, ◌++◌, ◌∷◌, 
 use Rattle.std.specs.Prelude.{List, slice_get, slice_set}
 use Rattle.std.specs.List.{AllByRecursion}
 use Rattle.std.proofs.lemmas.List.{length-take, take_more, take-append-drop}
-use Rattle.clnp_base.proofs.Lists.{AllByRecursion-front, AllByRecursion-read, AllByRecursion-slice_get, slice_get_some}
+use Rattle.nsap.proofs.ClnpBase.Lists.{AllByRecursion-front, AllByRecursion-read, AllByRecursion-slice_get, slice_get_some}
 use Rattle.reassembly.specs.declared.runs.Run.{Run}
 use Rattle.reassembly.specs.declared.table.Opening.{Opening}
 use Rattle.reassembly.specs.declared.segment.Segment.{Segment}

@@ -3,7 +3,7 @@ use Rattle.std.proofs.Common.{◌≡◌, ◌-◌, ◌<◌, sym, ap, subst, suc, 
 use Rattle.std.proofs.lemmas.Option.{slice_get-get_or}
 use Rattle.reassembly.specs.Arrival.{same_key}
 use Rattle.reassembly.specs.State.{segments_of}
-use Rattle.clnp_base.proofs.Filters.{counted_at}
+use Rattle.nsap.proofs.ClnpBase.Filters.{counted_at}
 use Rattle.reassembly.proofs.Endings.{remove-last}
 use Rattle.reassembly.proofs.table.ending.last_of.Goals as goal
 

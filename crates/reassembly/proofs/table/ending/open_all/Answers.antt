@@ -2,7 +2,7 @@
 use Rattle.std.proofs.Common.{◌≡◌, ◌+◌, ◌<◌, ◌++◌, ◌∷◌, [], take, refl, ap, sym, subst, ◌∙◌, arith}
 use Rattle.std.specs.Prelude.{List}
 use Rattle.std.proofs.lemmas.List.{length-take, take_more}
-use Rattle.clnp_base.proofs.Lists.{AllByRecursion-read}
+use Rattle.nsap.proofs.ClnpBase.Lists.{AllByRecursion-read}
 use Rattle.reassembly.specs.declared.runs.Run.{Run}
 use Rattle.reassembly.specs.declared.table.Opening.{Opening}
 use Rattle.reassembly.specs.Arrival.{data_len}

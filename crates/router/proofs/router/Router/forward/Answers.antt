@@ -1,15 +1,15 @@
 -- The pieces go on under their own headers, over the data in the frame, and then the redirect, if there is one.
 use Rattle.std.proofs.Common.{◌≡◌, ◌∙◌, sym, ap, subst, ℕ, true, List, ◌++◌, length, map}
 use Rattle.std.proofs.lemmas.Result.{on_ok_weaker}
-use Rattle.clnp_views.specs.Extent.{Extent, part, seen, whole}
+use Rattle.clnp_machine.specs.ClnpViews.Extent.{Extent, part, seen, whole}
 use Rattle.clnp_machine.specs.Content.{Labelled}
 use Rattle.clnp_machine.specs.Given.{Appends, AppendsFor}
 use Rattle.clnp_machine.specs.Local.{discard}
 use Rattle.clnp_machine.specs.Step.{effect_of, options_behind, redirects}
 use Rattle.clnp_machine.specs.System.{Effect, Output, SystemState}
 use Rattle.clnp_machine.specs.Unit.{value_of}
-use Rattle.local_entity.specs.Sending.{transmission}
-use Rattle.local_entity.specs.declared.sending.Hop.{Hop}
+use Rattle.system_entity.specs.LocalEntity.Sending.{transmission}
+use Rattle.system_entity.specs.LocalEntity.declared.sending.Hop.{Hop}
 use Rattle.system_entity.specs.Stands as entity
 use Rattle.system_entity.specs.State.{SystemEntityState}
 use Rattle.system_entity.specs.Ways.{machine_way}

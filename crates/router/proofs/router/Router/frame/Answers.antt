@@ -1,9 +1,9 @@
 -- What its entity leaves to it is forwarded.
 use Rattle.std.proofs.Common.{◌∙◌, sym, ap, subst, ℕ, List}
 use Rattle.std.proofs.lemmas.Result.{on_ok_weaker}
-use Rattle.esis_tables.specs.declared.fact.Place.{Place}
-use Rattle.clnp_plan.specs.Configuration.{SystemConfiguration}
-use Rattle.clnp_plan.specs.declared.output.Output.{Output}
+use Rattle.clnp_machine.specs.EsisTables.declared.fact.Place.{Place}
+use Rattle.clnp_machine.specs.ClnpPlan.Configuration.{SystemConfiguration}
+use Rattle.clnp_machine.specs.ClnpPlan.declared.output.Output.{Output}
 use Rattle.clnp_machine.specs.Content.{Content, Labelled, frame_of}
 use Rattle.clnp_machine.specs.Given.{Appends, AppendsFor}
 use Rattle.clnp_machine.specs.Step.{content_comes}

@@ -1,8 +1,8 @@
 -- The packet calls for a redirect, and its source is known to be there.
 use Rattle.std.proofs.Common.{◌∙◌, sym, ap, subst, Bool}
 use Rattle.std.specs.Prelude.{◌&&◌}
-use Rattle.clnp_plan.specs.Configuration.{SystemConfiguration}
-use Rattle.clnp_plan.specs.declared.config.Settings.{Settings}
+use Rattle.clnp_machine.specs.ClnpPlan.Configuration.{SystemConfiguration}
+use Rattle.clnp_machine.specs.ClnpPlan.declared.config.Settings.{Settings}
 use Rattle.clnp_machine.specs.Step.{is_at}
 use Rattle.system_entity.specs.Stands as entity
 use Rattle.router.specs.State.{RouterState}

@@ -1,6 +1,6 @@
 -- Its entity has the configuration of a router.
 use Rattle.std.proofs.Common.{◌∙◌, ap}
-use Rattle.clnp_plan.specs.Configuration.{SystemConfiguration}
+use Rattle.clnp_machine.specs.ClnpPlan.Configuration.{SystemConfiguration}
 use Rattle.router.proofs.router.Router.new.Goals as goal
 
 pub invariant_of-result : goal.invariant_of-result

@@ -1,13 +1,13 @@
 -- The way is that of the title or the destination, the source route allows it, and its port is there.
 use Rattle.std.proofs.Common.{◌≡◌, ◌∙◌, sym, subst, List, None, Some}
 use Rattle.std.specs.Prelude.{slice_get}
-use Rattle.clnp_plan.specs.declared.config.PortConfig.{PortConfig}
-use Rattle.clnp_options.specs.Reasons.{reason_code}
+use Rattle.clnp_machine.specs.ClnpPlan.declared.config.PortConfig.{PortConfig}
+use Rattle.clnp_machine.specs.ClnpOptions.Reasons.{reason_code}
 use Rattle.clnp_machine.specs.Step.{options_behind}
 use Rattle.clnp_machine.specs.System.{Effect}
 use Rattle.clnp_machine.specs.Unit.{value_of}
-use Rattle.pdu_header.specs.Headers.{with_options}
-use Rattle.local_entity.proofs.Sent.{port_at, port_missing}
+use Rattle.clnp_machine.specs.PduHeader.Headers.{with_options}
+use Rattle.system_entity.proofs.LocalEntity.Sent.{port_at, port_missing}
 use Rattle.system_entity.specs.Stands as entity
 use Rattle.router.specs.Onward.{ComesTo}
 use Rattle.router.specs.State.{RouterState}

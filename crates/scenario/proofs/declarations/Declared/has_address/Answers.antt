@@ -1,7 +1,7 @@
 use Rattle.std.proofs.Common.{◌≡◌, ap, List, ℕ, nat_eq, sym, ◌∙◌}
 use Rattle.std.specs.Cmp.Lexicographic.{pointwise}
 use Rattle.scenario.specs.Declarations.{Declarations, DeclaredSystem}
-use Rattle.clnp_base.proofs.Maps.{list_any-flat_map}
+use Rattle.clnp_plan.proofs.ClnpBase.Maps.{list_any-flat_map}
 use Rattle.scenario.proofs.declarations.Declared.has_address.Goals as goal
 
 pub returns : goal.returns

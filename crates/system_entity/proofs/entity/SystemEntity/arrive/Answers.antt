@@ -1,8 +1,8 @@
 -- The frame is a packet's, or refused.
 use Rattle.std.proofs.Common.{◌∙◌, sym, ap, subst, Some}
 use Rattle.std.proofs.lemmas.Result.{IfOk-weaker}
-use Rattle.pdu_header.specs.Value.{PduValue}
-use Rattle.pdu_header.specs.View.{pdu_value}
+use Rattle.clnp_machine.specs.PduHeader.Value.{PduValue}
+use Rattle.clnp_machine.specs.PduHeader.View.{pdu_value}
 use Rattle.clnp_machine.specs.Given.{Appends}
 use Rattle.clnp_machine.specs.System.{Effect}
 use Rattle.system_entity.specs.Comes.{ComesOf, HasValue}

@@ -1,8 +1,8 @@
 -- A request is a unit that is made as its definition asks.
 use Rattle.std.proofs.Common.{◌≡◌, None, MatchResult, sym, subst}
 use Rattle.std.proofs.lemmas.Result.{on_ok_weaker}
-use Rattle.pdu_header.specs.declared.kind.Kind.TheVariants.{Erq}
-use Rattle.clnp_plan.specs.declared.ask.Ask.{Ask}
+use Rattle.clnp_machine.specs.PduHeader.declared.kind.Kind.TheVariants.{Erq}
+use Rattle.clnp_machine.specs.ClnpPlan.declared.ask.Ask.{Ask}
 use Rattle.clnp_machine.specs.Local as machine
 use Rattle.clnp_machine.specs.System.{next_number}
 use Rattle.local_entity.specs.Local.{IsWhy}

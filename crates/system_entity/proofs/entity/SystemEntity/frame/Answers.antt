@@ -1,8 +1,8 @@
 -- The step is whole, or nothing was done yet.
 use Rattle.std.proofs.Common.{refl, sym, subst, Bool, false, List}
-use Rattle.reassembly.specs.State.{IsReady}
-use Rattle.esis_tables.specs.declared.fact.Place.{Place}
-use Rattle.clnp_plan.specs.declared.output.Output.{Output}
+use Rattle.clnp_machine.specs.Reassembly.State.{IsReady}
+use Rattle.clnp_machine.specs.EsisTables.declared.fact.Place.{Place}
+use Rattle.clnp_machine.specs.ClnpPlan.declared.output.Output.{Output}
 use Rattle.clnp_machine.specs.Content.{Content}
 use Rattle.clnp_machine.specs.System.{SystemState}
 use Rattle.system_entity.specs.Comes.{ComesOf, LeavesAsItWas}

@@ -1,7 +1,7 @@
 -- What was heard tells it.
 use Rattle.std.proofs.Common.{◌∙◌, sym, ap, subst, ℕ, ◌≤◌}
-use Rattle.esis_tables.specs.declared.fact.TableKind.TheVariants.{Es}
-use Rattle.esis_tables.specs.NextHop.{current_place}
+use Rattle.clnp_machine.specs.EsisTables.declared.fact.TableKind.TheVariants.{Es}
+use Rattle.clnp_machine.specs.EsisTables.NextHop.{current_place}
 use Rattle.system_entity.specs.State.{SystemEntityState}
 use Rattle.system_entity.specs.Stands.{PartsStandSince}
 use Rattle.system_entity.proofs.entity.SystemEntity.neighbour.Goals as goal

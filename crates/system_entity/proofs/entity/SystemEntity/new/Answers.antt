@@ -1,7 +1,7 @@
 -- The parts stand for the first state.
 use Rattle.std.proofs.Common.{refl, sym, subst, arith}
-use Rattle.forwarding.specs.Stands as routing
-use Rattle.clnp_plan.specs.Configuration.{SystemConfiguration}
+use Rattle.clnp_machine.specs.Forwarding.Stands as routing
+use Rattle.clnp_machine.specs.ClnpPlan.Configuration.{SystemConfiguration}
 use Rattle.clnp_machine.specs.System.{first_state}
 use Rattle.system_entity.proofs.entity.SystemEntity.new.Goals as goal
 

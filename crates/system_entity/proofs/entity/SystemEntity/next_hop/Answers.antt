@@ -1,6 +1,6 @@
 -- What was heard tells it, or a router's way.
 use Rattle.std.proofs.Common.{◌∙◌, sym, ap, subst, ℕ, ◌≤◌, Option, Some, option_map}
-use Rattle.clnp_plan.specs.Configuration.{SystemConfiguration}
+use Rattle.clnp_machine.specs.ClnpPlan.Configuration.{SystemConfiguration}
 use Rattle.clnp_machine.specs.Step as machine
 use Rattle.clnp_machine.specs.Step.{hop_by}
 use Rattle.system_entity.specs.State.{SystemEntityState}

@@ -1,6 +1,6 @@
 -- An ES-IS PDU is heard, and what isn't one is noted.
 use Rattle.std.proofs.Common.{◌∙◌, sym, ap, subst, ℕ, List}
-use Rattle.pdu_header.specs.Rules.{octet}
+use Rattle.clnp_machine.specs.PduHeader.Rules.{octet}
 use Rattle.clnp_machine.specs.Given.{Appends}
 use Rattle.clnp_machine.specs.System.{Effect}
 use Rattle.system_entity.specs.Stands.{PartsStand}

@@ -1,7 +1,7 @@
 -- What the entity does is given out, and then the answer to a group.
 use Rattle.std.proofs.Common.{◌≡◌, ◌∙◌, ℕ, true, sym, ap, subst, List, ◌++◌}
 use Rattle.std.specs.List.{AllByRecursion}
-use Rattle.clnp_plan.specs.Configuration.{SystemConfiguration}
+use Rattle.clnp_machine.specs.ClnpPlan.Configuration.{SystemConfiguration}
 use Rattle.clnp_machine.specs.Given.{Appends}
 use Rattle.clnp_machine.specs.Local.{has_address, is_own, receive}
 use Rattle.clnp_machine.specs.Step.{effect_of, responds}

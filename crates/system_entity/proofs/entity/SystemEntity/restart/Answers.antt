@@ -1,7 +1,7 @@
 -- Both parts stand for the state after a restart.
 use Rattle.std.proofs.Common.{◌≡◌, ◌∙◌, refl, sym, subst, false, arith}
-use Rattle.forwarding.specs.Stands as routing
-use Rattle.clnp_plan.specs.Configuration.{SystemConfiguration}
+use Rattle.clnp_machine.specs.Forwarding.Stands as routing
+use Rattle.clnp_machine.specs.ClnpPlan.Configuration.{SystemConfiguration}
 use Rattle.clnp_machine.specs.Local.{restarted}
 use Rattle.clnp_machine.specs.System.{SystemState}
 use Rattle.system_entity.specs.State.{SystemEntityState}

@@ -1,6 +1,6 @@
 -- The step is whole: the entity stands for the state after it.
 use Rattle.std.proofs.Common.{refl, sym, subst, ℕ, false}
-use Rattle.reassembly.specs.State.{IsReady}
+use Rattle.clnp_machine.specs.Reassembly.State.{IsReady}
 use Rattle.clnp_machine.specs.Step.{moment_comes}
 use Rattle.system_entity.specs.State.{SystemEntityState}
 use Rattle.system_entity.specs.Stands.{PartsStand}

@@ -1,7 +1,7 @@
 -- A unit goes by the next hop, but for one that a router has for itself.
 use Rattle.std.proofs.Common.{◌≡◌, ◌∙◌, refl, sym, ap, subst, ℕ, false, List}
-use Rattle.clnp_plan.specs.Configuration.{SystemConfiguration}
-use Rattle.clnp_plan.specs.declared.config.Role.TheVariants.{Host, Router}
+use Rattle.clnp_machine.specs.ClnpPlan.Configuration.{SystemConfiguration}
+use Rattle.clnp_machine.specs.ClnpPlan.declared.config.Role.TheVariants.{Host, Router}
 use Rattle.clnp_machine.specs.Local.{has_address, is_own}
 use Rattle.clnp_machine.specs.Step.{next_hop}
 use Rattle.system_entity.specs.State.{SystemEntityState}

@@ -1,9 +1,9 @@
 -- A neighbour was heard of, or a route is configured.
 use Rattle.std.proofs.Common.{◌∙◌, sym, ap, subst, ℕ, ◌≤◌, None, Some}
 use Rattle.std.specs.Option.{option_copied}
-use Rattle.clnp_plan.specs.Configuration.{SystemConfiguration}
+use Rattle.clnp_machine.specs.ClnpPlan.Configuration.{SystemConfiguration}
 use Rattle.clnp_machine.specs.Step as machine
-use Rattle.forwarding.specs.Stands as routing
+use Rattle.clnp_machine.specs.Forwarding.Stands as routing
 use Rattle.system_entity.specs.State.{SystemEntityState}
 use Rattle.system_entity.specs.Stands.{PartsStandSince}
 use Rattle.system_entity.proofs.Hops.{way_heard, way_routed}

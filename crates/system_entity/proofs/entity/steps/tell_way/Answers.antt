@@ -1,6 +1,6 @@
 -- What is told is gathered apart.
 use Rattle.std.proofs.Common.{[], ◌∷◌, ℕ, List, Option, subst}
-use Rattle.nsap.specs.declared.target.Target.TheVariants.{System}
+use Rattle.clnp_machine.specs.Nsap.declared.target.Target.TheVariants.{System}
 use Rattle.clnp_machine.specs.Esis.{redirect}
 use Rattle.clnp_machine.specs.Given.{Appends}
 use Rattle.clnp_machine.specs.System.{Output, SendsEsis, SystemState}

@@ -1,8 +1,8 @@
 -- What was joined and what is left are the whole data, for which there is room.
 use Rattle.std.proofs.Common.{◌≡◌, ◌++◌, ℕ, List, length, sym, ap, ◌∙◌, arith, append_assoc, append-nil, length-append}
 use Rattle.std.proofs.lemmas.List.FromFn.{length-map-range_with_len}
-use Rattle.reassembly.specs.Arrival.{data_len, earliest, octet_in}
-use Rattle.reassembly.specs.Buffer.{octet_by}
+use Rattle.clnp_machine.specs.Reassembly.Arrival.{data_len, earliest, octet_in}
+use Rattle.clnp_machine.specs.Reassembly.Buffer.{octet_by}
 use Rattle.local_entity.proofs.local.receipt.offering.joined.Goals as goal
 
 pub loop-piece-preserved : goal.loop-piece-preserved
