@@ -4,7 +4,7 @@ ghost use Rattle.reassembly.specs.Offered.{MayCome};
 ghost use Rattle.reassembly.specs.NoWhole.{HasNoWhole, IsCompleted};
 ghost use Rattle.reassembly.specs.State.{IsWholeSlot};
 
-use crate::reassembly_calls::Step::{Clear, End, Fill, Offer, Rest, Undo, Whole};
+use crate::reassembly_calls::Step::{Clear, End, Fill, InSlot, Offer, Rest, Undo, Whole};
 use reassembly::{Accept, Key, Segment, Shape, SlotNo, Table, TableLimits};
 use scenario::clnp_views::Frame;
 use scenario::nsap::Address;
@@ -31,6 +31,8 @@ enum Step {
     /// A part makes its unit whole; so many octets are held then, and the pieces have these lengths. Then the buffer is
     /// released.
     Whole(Part, u32, &'static [usize]),
+    /// A part makes its unit whole, in this slot. Then the buffer is released.
+    InSlot(Part, SlotNo),
     /// A part makes its unit whole, and is taken out again.
     Undo(Part),
     /// The time of a unit's buffer has ended, with a PDU of so many octets, or with none.
@@ -293,6 +295,17 @@ const ENOUGH: &[Row] = &[
     ),
 ];
 
+/// Each of three units has its slot until its buffer is released, though another is released before it, and a later one
+/// takes the slot that is free.
+const SLOTS: &[Row] = &[
+    Row(0, Offer(Part(1, 33, 10, 0, 4), Accept::Held), (1, 1, 29)),
+    Row(0, Offer(Part(2, 33, 10, 0, 4), Accept::Held), (2, 2, 58)),
+    Row(0, InSlot(Part(1, 33, 10, 4, 4), SlotNo(0)), (1, 1, 29)),
+    Row(0, Offer(Part(3, 33, 10, 0, 4), Accept::Held), (2, 2, 58)),
+    Row(0, InSlot(Part(2, 33, 10, 4, 4), SlotNo(1)), (1, 1, 29)),
+    Row(0, InSlot(Part(3, 33, 10, 4, 4), SlotNo(0)), (0, 0, 0)),
+];
+
 /// The key of a unit that goes from one system to another.
 fn key(rt: &impl Abort, id: u16) -> Key {
     let from = Address::from_bytes(b"\x47\x00\x27\x02").expect(rt, "an address");
@@ -460,6 +473,24 @@ fn join(
     table.release(slot);
 }
 
+/// Offers a part that makes its unit whole, sees its slot, and releases the buffer.
+fn join_in(
+    rt: &impl Abort,
+    alloc: Global,
+    table: &mut Table,
+    now: u32,
+    part: Part,
+    unit: &[u8],
+    slot: SlotNo,
+)
+    requires { HasNoWhole table.old }
+    ensures { HasNoWhole table.new }
+{
+    let told = complete(rt, alloc, table, now, part, unit);
+    assert!(rt; told == slot);
+    table.release(told);
+}
+
 /// Offers a part that makes its unit whole, and takes it out again.
 fn undo(rt: &impl Abort, alloc: Global, table: &mut Table, now: u32, part: Part, unit: &[u8])
     requires { HasNoWhole table.old }
@@ -477,6 +508,7 @@ fn make(rt: &impl Abort, alloc: Global, table: &mut Table, now: u32, step: Step,
     match step {
         Offer(part, answer) => offer_part(rt, alloc, table, now, part, unit, answer),
         Whole(part, held, lens) => join(rt, alloc, table, now, part, unit, held, lens),
+        InSlot(part, slot) => join_in(rt, alloc, table, now, part, unit, slot),
         Undo(part) => undo(rt, alloc, table, now, part, unit),
         End(id, len) => see_end(rt, table, now, id, len),
         Rest => assert!(rt; table.expire(u64::from(now)).is_none()),
@@ -520,6 +552,7 @@ fn joins_units(rt: HostRuntime) {
             (LIMITS, FROM_THE_END),
             (LIMITS, BETWEEN_OTHERS),
             (enough, LONGEST),
+            (LIMITS, SLOTS),
         ],
     );
 }

@@ -10,5 +10,6 @@ mod words;
 
 pub use capture::{LineRefusal, MOST_OCTETS, read_capture};
 pub use esis_pdus;
+pub use esis_pdus::clnp_base;
 pub use line::show_line;
 pub use vector::{Verdict, check_line};

@@ -1,25 +1,13 @@
--- Pairs of hexadecimal digits read by a table.
-use Rattle.std.proofs.Common.{◌≡◌, ℕ, zero, suc, ◌+◌, ◌*◌, ◌<◌, ◌≤◌, Bool, true, ◌&&◌, ◌==◌, inl, inr, get_or, List, Option, Some, None, unwrap_or, Ok, Err, refl, sym, ap, arith}
-use Rattle.std.proofs.lemmas.Bool.{and_parts, cases_lt, eqb-true}
-use Rattle.hex.specs.Hex.{hex_digit_value, pair_value, value_at, digit_or_error}
+-- Pairs of hexadecimal digits, read by what each is worth, and what one digit is worth.
+use Rattle.std.proofs.Common.{◌≡◌, ◌∙◌, ℕ, ◌+◌, ◌*◌, ◌<◌, ◌≤◌, inl, inr, List, [], ◌∷◌, length, set, length-set, get_or, get_or-set_other, get_or-set_same, Option, Some, None, unwrap_or, Result, Ok, Err, refl, sym, ap, arith, replicate}
+use Rattle.std.specs.Prelude.{MatchResult}
+use Rattle.std.proofs.lemmas.List.{get_or-replicate, length-replicate}
+use Rattle.std.proofs.lemmas.Bool.{cases_eq, cases_lt}
+use Rattle.hex.specs.Hex.{decode_pairs, decode_sized, hex_digit_value, pair_value, value_at, digit_or_error}
+use Rattle.hex.specs.declared.error.FromHexError.{FromHexError}
 use Rattle.hex.specs.declared.error.FromHexError.TheVariants.{InvalidHexCharacter}
-
--- the first n places of a table have the values of the digits, and 255 for other characters
-unfoldable pub agrees_below : List ℕ → ℕ → Bool
-agrees_below t zero = true
-agrees_below t (suc n) = (get_or t n 0 == unwrap_or (hex_digit_value n) 255) && agrees_below t n
-
-pub agrees_at : (t : List ℕ) (n c : ℕ) → agrees_below t n ≡ true → c < n → get_or t c 0 ≡ unwrap_or (hex_digit_value c) 255
-unfolding agrees_below
-agrees_at t zero c h lt = absurd (omega arith)
-agrees_at t (suc n) c h lt =
-    let parts = and_parts (get_or t n 0 == unwrap_or (hex_digit_value n) 255) (agrees_below t n) h in
-    elim (cases_lt c n) [
-      | inl below ↦ agrees_at t n c parts.1 below
-      | inr top ↦
-          let e : c ≡ n = omega arith in
-          rw e (eqb-true (get_or t n 0) (unwrap_or (hex_digit_value n) 255) parts.0)
-    ]
+use Rattle.hex.proofs.Pairs.{decode_pairs-err_pair, decode_pairs-ok_pair, decode_sized-pairs}
+use Rattle.clnp_base.specs.Hexadecimal.{worth}
 
 is_digit : (o : Option ℕ) (v : ℕ) → v ≡ unwrap_or o 255 → v ≤ 15 → o ≡ Some v
 is_digit (Some w) v e le = ap Some (sym e)
@@ -56,3 +44,75 @@ pair-bad_low a b i high low ha lb hle gt =
     let va : value_at a i ≡ Ok high = ap (digit_or_error a i) (is_digit (hex_digit_value a) high ha hle) in
     let vb : value_at b (i + 1) ≡ Err (InvalidHexCharacter b (i + 1)) = ap (digit_or_error b (i + 1)) (no_digit (hex_digit_value b) low (value_small b) lb gt) in
     rw (va, vb) refl
+
+-- ---- one digit, read behind a `0`
+
+pub digit_decoded : (c v : ℕ) → hex_digit_value c ≡ Some v → decode_sized (48 ∷ c ∷ []) 1 ≡ Ok (v ∷ [])
+unfolding decode_pairs
+digit_decoded c v is =
+    let low : value_at c (0 + 1) ≡ Ok v = ap (digit_or_error c (0 + 1)) is in
+    let pair : pair_value 48 c 0 ≡ Ok (0 * 16 + v) = rw low refl in
+    let same : 0 * 16 + v ≡ v = omega arith in
+    decode_sized-pairs (48 ∷ c ∷ []) 1 refl refl
+    ∙ decode_pairs-ok_pair 0 48 c (0 * 16 + v) [] pair
+    ∙ ap (λ n. Ok (n ∷ [])) same
+
+pub no_digit_decoded : (c : ℕ) → hex_digit_value c ≡ None → decode_sized (48 ∷ c ∷ []) 1 ≡ Err (InvalidHexCharacter c (0 + 1))
+no_digit_decoded c is =
+    let low : value_at c (0 + 1) ≡ Err (InvalidHexCharacter c (0 + 1)) = ap (digit_or_error c (0 + 1)) is in
+    let pair : pair_value 48 c 0 ≡ Err (InvalidHexCharacter c (0 + 1)) = rw low refl in
+    decode_sized-pairs (48 ∷ c ∷ []) 1 refl refl ∙ decode_pairs-err_pair 0 48 c (InvalidHexCharacter c (0 + 1)) [] pair
+
+-- the octet is the digit's value, and there is none where the character is no digit, which is then worth so much
+abbrev pub IsWorth : (otherwise c : ℕ) → Result (List ℕ) FromHexError → Type 0
+IsWorth otherwise c read =
+    MatchResult read (λ octet. octet ≡ unwrap_or (hex_digit_value c) otherwise ∷ []) (λ e. unwrap_or (hex_digit_value c) otherwise ≡ otherwise)
+
+pub digit_read : (otherwise c : ℕ) (read : Result (List ℕ) FromHexError) → read ≡ decode_sized (48 ∷ c ∷ []) 1 → IsWorth otherwise c read
+digit_read otherwise c read is = rw is (by_value (hex_digit_value c) refl)
+  where
+    by_value : (value : Option ℕ) → hex_digit_value c ≡ value → IsWorth otherwise c (decode_sized (48 ∷ c ∷ []) 1)
+    by_value (Some v) some = rw (digit_decoded c v some) (ap (λ (o : Option ℕ). unwrap_or o otherwise ∷ []) (sym some))
+    by_value None none = rw (no_digit_decoded c none) (ap (λ (o : Option ℕ). unwrap_or o otherwise) none)
+
+-- ---- what was asked so far
+
+-- under each character that was asked stands what it is worth, and the first of the text were asked
+pub record Telling (values text : List ℕ) (count : ℕ) : Type 0 where
+  pub long : length values ≡ 256
+  pub each : (c : ℕ) → c < 256 → (get_or values c 0 ≡ 254 → ⊥) → get_or values c 0 ≡ worth c
+  pub told : (i : ℕ) → i < count → get_or values (get_or text i 0) 0 ≡ worth (get_or text i 0)
+
+pub telling_none : (text : List ℕ) → Telling (replicate 256 254) text 0
+telling_none text = record {
+  long = length-replicate {A = ℕ} 256 254;
+  each = λ c below asked. absurd (asked (get_or-replicate {A = ℕ} 256 c 254 0 below));
+  told = λ i below. absurd (omega arith);
+}
+
+pub telling_more : (values text : List ℕ) (count v : ℕ) → Telling values text count → get_or text count 0 < 256
+    → v ≡ worth (get_or text count 0) → Telling (set values (get_or text count 0) v) text (count + 1)
+telling_more values text count v so_far small is =
+    let place : ℕ = get_or text count 0 in
+    let long = so_far.long in
+    let here : get_or (set values place v) place 0 ≡ worth place = get_or-set_same values place v 0 (omega arith) ∙ is in
+    record {
+      long = length-set values place v ∙ long;
+      each = λ c below asked.
+          elim (cases_eq c place) [
+            | inl same ↦ ap (λ k. get_or (set values place v) k 0) same ∙ here ∙ sym (ap worth same)
+            | inr other ↦
+                let kept = get_or-set_other values place c v 0 other in
+                kept ∙ so_far.each c below (λ e. asked (kept ∙ e))
+          ];
+      told = λ i below.
+          elim (cases_eq (get_or text i 0) place) [
+            | inl same ↦ ap (λ k. get_or (set values place v) k 0) same ∙ here ∙ sym (ap worth same)
+            | inr other ↦
+                let earlier : i < count = elim (cases_lt i count) [
+                  | inl before ↦ before
+                  | inr after ↦ absurd (let last : i ≡ count = omega arith in other (ap (λ k. get_or text k 0) last))
+                ] in
+                get_or-set_other values place (get_or text i 0) v 0 other ∙ so_far.told i earlier
+          ];
+    }

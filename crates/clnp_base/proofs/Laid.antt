@@ -2,8 +2,7 @@
 use Rattle.std.proofs.Common.{◌≡◌, ℕ, ◌+◌, ◌-◌, ◌≤◌, ◌++◌, List, length, take, drop, replicate, arith, ap, sym, ◌∙◌}
 use Rattle.std.proofs.Math.Seq.{drop-append_seam}
 use Rattle.std.proofs.lemmas.List.{append_assoc, drop-drop, drop-replicate, length-append, length-drop, length-take-le}
-use Rattle.std.proofs.lemmas.List.{drop_at, take-take}
-use Rattle.std.proofs.lemmas.Slice.{drop-put_mid, take-put_mid, take-put_mid_below}
+use Rattle.std.proofs.lemmas.Slice.{drop-put_mid}
 use borrow.Rule.Slice.PartMut.{put_mid}
 use Rattle.clnp_base.specs.Inline.{IsInline}
 
@@ -71,20 +70,3 @@ part_size most len start cells part h within e =
     let w = h.within in
     let r = h.room in
     e ∙ length-take-le (len - start) (drop start cells) (omega (arith, length-drop start cells))
-
-pub front_of : (most len start : ℕ) (cells part : List ℕ) → IsInline most len cells → start ≤ len
-    → take start (take len (put_mid start (len - start) cells part)) ≡ take start (take len cells)
-front_of most len start cells part h within =
-    let w = h.within in
-    let r = h.room in
-    take-take start len (put_mid start (len - start) cells part) within
-    ∙ take-put_mid_below start (len - start) cells part start (omega arith) (omega arith)
-    ∙ sym (take-take start len cells within)
-
-pub behind_front : (most len start : ℕ) (cells part : List ℕ) → IsInline most len cells → start ≤ len → length part ≡ len - start
-    → drop start (take len (put_mid start (len - start) cells part)) ≡ part
-behind_front most len start cells part h within size =
-    let w = h.within in
-    let r = h.room in
-    ap (drop start) (take-put_mid start (len - start) cells part len (omega arith) (omega arith))
-    ∙ drop_at (take start cells) part start (length-take-le start cells (omega arith))

@@ -1,6 +1,6 @@
 -- What reading hexadecimal digits gives and refuses.
-use Rattle.std.specs.Prelude.{◌≡◌, ℕ, Bool, true, false, List, ◌++◌, Result, Ok, Err}
-use Rattle.hex.specs.Hex.{decode_of, decode_pairs}
+use Rattle.std.specs.Prelude.{◌≡◌, ℕ, ◌<◌, Bool, true, false, List, ◌++◌, length, slice_index, unwrap_or, Result, Ok, Err}
+use Rattle.hex.specs.Hex.{decode_of, decode_pairs, hex_digit_value}
 use Rattle.hex.specs.declared.error.FromHexError.{FromHexError}
 use Rattle.hex.specs.declared.error.FromHexError.TheVariants.{InvalidHexCharacter}
 
@@ -15,6 +15,14 @@ abbrev pub IsDigitRefusal : Result (List ℕ) FromHexError → Type 0
 IsDigitRefusal answer = (character place : ℕ) × (answer ≡ Err (InvalidHexCharacter character place))
 
 -- the octets are those that pairs of digits spell; or not all characters are digits
-abbrev pub Spells : Bool → List ℕ → List ℕ → Type 0
+abbrev pub Spells : Bool → (digits octets : List ℕ) → Type 0
 Spells true digits octets = decode_pairs 0 digits ≡ Ok octets
 Spells false digits octets = IsDigitRefusal (decode_pairs 0 digits)
+
+-- what a character is worth as a digit, and 255 where it is none
+abbrev pub worth : ℕ → ℕ
+worth character = unwrap_or (hex_digit_value character) 255
+
+-- under each character of a text stands what it is worth
+abbrev pub AreTold : (values text : List ℕ) → Type 0
+AreTold values text = (i : ℕ) → i < length text → slice_index values (slice_index text i) ≡ worth (slice_index text i)

@@ -2,5 +2,6 @@ pub mod Cuts
 pub mod Hexadecimal
 pub mod Inline
 pub mod Memory
+pub mod Moments
 pub mod Streams
 pub mod Text

@@ -1,7 +1,5 @@
 //! Octets that lie in the value itself.
-ghost use Rattle.std.specs.Prelude.{◌≡◌, ◌+◌, ◌<◌, ◌≤◌, ◌++◌, [], length, take, drop, nat_eq};
-ghost use Rattle.std.specs.List.{slice_set};
-ghost use Rattle.std.specs.Fn.{FnOnceReturnsAtMut, FnOnceTakesAtMut};
+ghost use Rattle.std.specs.Prelude.{◌≡◌, ◌+◌, ◌≤◌, ◌++◌, [], length, take, drop, nat_eq};
 ghost use Rattle.std.specs.Cmp.{partial_equiv_from_equiv};
 ghost use Rattle.std.specs.Cmp.Lexicographic.{nat_list_eq_equiv, pointwise};
 
@@ -84,37 +82,6 @@ impl<const MOST: usize> InlineOctets<MOST> {
         lay(&mut self.cells, start, piece);
         self.len = (start + piece.len()) as u8;
     }
-
-    /// Puts an octet in the place of the one at this index.
-    pub fn set(&mut self, index: usize, octet: u8)
-        requires { index < length self.old }
-        ensures { self.new ≡ slice_set self.old index octet }
-    {
-        self.cells[index] = octet;
-    }
-}
-
-impl<const MOST: usize> InlineOctets<MOST> {
-    /// Changes the octets from an index on in place, as the call of `change` does; their number stays.
-    pub fn change<F: FnOnce(&mut [u8])>(&mut self, start: usize, change: F)
-        requires start { start ≤ length self.old }
-        requires callable { FnOnceTakesAtMut F.FnOnce change (drop start self.old) }
-        ensures front { take start self.new ≡ take start self.old }
-        ensures changed { FnOnceReturnsAtMut F.FnOnce change (drop start self.old) tt (drop start self.new) }
-        ensures len { length self.new ≡ length self.old }
-    {
-        let len = self.len as usize;
-        let cells = &mut self.cells[..];
-        change_part(&mut cells[start..len], change);
-    }
-}
-
-/// Changes the octets as the call of `change` does.
-fn change_part<F: FnOnce(&mut [u8])>(part: &mut [u8], change: F)
-    requires { FnOnceTakesAtMut F.FnOnce change part.old }
-    ensures { FnOnceReturnsAtMut F.FnOnce change part.old tt part.new }
-{
-    change(part);
 }
 
 impl<const MOST: usize> PartialEq for InlineOctets<MOST> {

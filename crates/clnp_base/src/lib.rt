@@ -1,6 +1,8 @@
-//! Octets, their sources and sinks, and the lines, words and decimals of a text.
+//! Octets, their sources and sinks, clocks, and the lines, words and decimals of a text.
 #![tactic(auto)]
 
+mod clock;
+mod digits;
 mod inline;
 mod memory;
 mod octets;
@@ -9,6 +11,7 @@ mod standard;
 mod streams;
 mod text;
 
+pub use clock::{Clock, HalfSeconds, MemClock};
 pub use inline::InlineOctets;
 pub use memory::{MemSink, MemSource};
 pub use octets::{NoMemory, Octets};

@@ -61,6 +61,7 @@ impl Source for MemSource {
         ensures bound { ReadsAtMost result buf.new }
         ensures octets { ReadConsumes (Some self.old.left) (Some self.new.left) result buf.new }
         ensures later { self.old.faults ≤ self.new.faults }
+        ensures count { OnOk result (self.new.faults ≡ self.old.faults) }
         ensures failed { OnErr result (Rose self.old.faults self.new.faults) }
 
         ensures fails { IsErr result ↔ IsTrue (read_fails self.old) }
@@ -153,6 +154,7 @@ impl Sink for MemSink {
         ensures some { IfOk result (λ taken. 0 < length piece.now → 0 < taken) }
         ensures octets { WriteAppends (Some self.old.written) (Some self.new.written) result piece.now }
         ensures later { self.old.faults ≤ self.new.faults }
+        ensures count { OnOk result (self.new.faults ≡ self.old.faults) }
         ensures failed { OnErr result (Rose self.old.faults self.new.faults) }
 
         ensures fails { IsErr result ↔ IsTrue (write_fails self.old piece.now) }

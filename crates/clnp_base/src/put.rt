@@ -1,9 +1,10 @@
 //! Text put behind other text: pieces, hexadecimal digits and decimal numbers; and hexadecimal digits read.
-ghost use Rattle.std.specs.Prelude.{◌≡◌, ◌+◌, ◌*◌, ◌%◌, ◌≤◌, ◌<◌, ◌++◌, ◌↔◌, length, take, replicate, OnOk, OnErr, MatchResult, IsTrue, IsErr, unwrap_or};
+ghost use Rattle.std.specs.Prelude.{◌≡◌, ◌%◌, ◌++◌, ◌↔◌, length, replicate, OnOk, OnErr};
 ghost use Rattle.std.specs.Fmt.{decimal};
-ghost use Rattle.hex.specs.Hex.{decode_of, encode_lower, hex_digit_value};
-ghost use Rattle.clnp_base.specs.Hexadecimal.{AppendsSpelled, IsDigitRefusal, Spells};
+ghost use Rattle.hex.specs.Hex.{decode_of, encode_lower};
+ghost use Rattle.clnp_base.specs.Hexadecimal.{AppendsSpelled, IsDigitRefusal};
 
+use crate::digits::decode;
 use crate::octets::NoMemory;
 use itoa::Buffer;
 
@@ -88,7 +89,7 @@ pub fn push_unhex(digits: &[u8], out: &mut Vec<u8>) -> Result<(), HexFault>
     }
     let start = out.len();
     make_room(digits.len() / 2, out)?;
-    if spell(digits, &mut out[start..]) {
+    if decode(digits, &mut out[start..]) {
         return Ok(());
     }
     out.truncate(start);
@@ -104,45 +105,3 @@ fn make_room(count: usize, out: &mut Vec<u8>) -> Result<(), NoMemory>
     out.resize(out.len() + count, 0)?;
     Ok(())
 }
-
-/// Puts the octets that the digits spell into their place, and says whether all are digits.
-fn spell(digits: &[u8], place: &mut [u8]) -> bool
-    requires { length digits.now ≡ 2 * length place.old }
-    ensures { Spells result digits.now place.new }
-{
-    'octets: for i in 0..place.len() {
-        let high = digit_value(digits[2 * i]);
-        let low = digit_value(digits[2 * i + 1]);
-        if high > 15 || low > 15 {
-            return false;
-        }
-        place[i] = high * 16 + low;
-    }
-    true
-}
-
-/// The value of a hexadecimal digit, or 255 for another character.
-#[inline]
-fn digit_value(character: u8) -> u8
-    ensures { result ≡ unwrap_or (hex_digit_value character) 255 }
-{
-    DIGIT_VALUES[character as usize]
-}
-
-/// The value of each character that is a hexadecimal digit, and 255 for every other one.
-const DIGIT_VALUES: [u8; 256] = [
-    255, 255, 255, 255, 255, 255, 255, 255, 255, 255, 255, 255, 255, 255, 255, 255, 255, 255, 255,
-    255, 255, 255, 255, 255, 255, 255, 255, 255, 255, 255, 255, 255, 255, 255, 255, 255, 255, 255,
-    255, 255, 255, 255, 255, 255, 255, 255, 255, 255, 0, 1, 2, 3, 4, 5, 6, 7, 8, 9, 255, 255, 255,
-    255, 255, 255, 255, 10, 11, 12, 13, 14, 15, 255, 255, 255, 255, 255, 255, 255, 255, 255, 255,
-    255, 255, 255, 255, 255, 255, 255, 255, 255, 255, 255, 255, 255, 255, 255, 255, 10, 11, 12, 13,
-    14, 15, 255, 255, 255, 255, 255, 255, 255, 255, 255, 255, 255, 255, 255, 255, 255, 255, 255,
-    255, 255, 255, 255, 255, 255, 255, 255, 255, 255, 255, 255, 255, 255, 255, 255, 255, 255, 255,
-    255, 255, 255, 255, 255, 255, 255, 255, 255, 255, 255, 255, 255, 255, 255, 255, 255, 255, 255,
-    255, 255, 255, 255, 255, 255, 255, 255, 255, 255, 255, 255, 255, 255, 255, 255, 255, 255, 255,
-    255, 255, 255, 255, 255, 255, 255, 255, 255, 255, 255, 255, 255, 255, 255, 255, 255, 255, 255,
-    255, 255, 255, 255, 255, 255, 255, 255, 255, 255, 255, 255, 255, 255, 255, 255, 255, 255, 255,
-    255, 255, 255, 255, 255, 255, 255, 255, 255, 255, 255, 255, 255, 255, 255, 255, 255, 255, 255,
-    255, 255, 255, 255, 255, 255, 255, 255, 255, 255, 255, 255, 255, 255, 255, 255, 255, 255, 255,
-    255, 255, 255,
-];

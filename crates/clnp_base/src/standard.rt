@@ -42,8 +42,8 @@ impl<R: Read> Source for StdSource<R> {
         ensures bound { ReadsAtMost result buf.new }
         ensures octets { ReadConsumes (R.remaining self.old.reader) (R.remaining self.new.reader) result buf.new }
         ensures later { self.old.faults ≤ self.new.faults }
-        ensures failed { OnErr result (Rose self.old.faults self.new.faults) }
         ensures count { OnOk result (self.new.faults ≡ self.old.faults) }
+        ensures failed { OnErr result (Rose self.old.faults self.new.faults) }
     {
         match self.reader.read(buf) {
             Ok(came) => Ok(came),
@@ -93,8 +93,8 @@ impl<W: Write> Sink for StdSink<W> {
         ensures some { IfOk result (λ taken. 0 < length piece.now → 0 < taken) }
         ensures octets { WriteAppends (W.contents self.old.writer) (W.contents self.new.writer) result piece.now }
         ensures later { self.old.faults ≤ self.new.faults }
-        ensures failed { OnErr result (Rose self.old.faults self.new.faults) }
         ensures count { OnOk result (self.new.faults ≡ self.old.faults) }
+        ensures failed { OnErr result (Rose self.old.faults self.new.faults) }
     {
         match self.writer.write(piece) {
             Ok(taken) if taken > 0 || piece.is_empty() => Ok(taken),

@@ -23,11 +23,12 @@ pub trait Source {
     /// Fills the front of `buf` with the next octets, and says how many came.
     ///
     /// If `buf` isn't empty, at least one comes, except at the end of the input: there none.
-    /// After [`Failed`] no octet was taken; it is answered only where the count of faults rose.
+    /// After [`Failed`] no octet was taken; it is answered exactly where the count of faults rose.
     fn read(&mut self, buf: &mut [u8]) -> Result<usize, Failed>
         ensures bound { ReadsAtMost result buf.new }
         ensures octets { ReadConsumes (left self.old) (left self.new) result buf.new }
         ensures later { faults self.old ≤ faults self.new }
+        ensures count { OnOk result (faults self.new ≡ faults self.old) }
         ensures failed { OnErr result (Rose (faults self.old) (faults self.new)) };
 }
 
@@ -45,12 +46,13 @@ pub trait Sink {
     /// Takes octets from the front of `piece`, and says how many.
     ///
     /// If `piece` isn't empty, at least one is taken. After [`Failed`] none was; it is answered
-    /// only where the count of faults rose.
+    /// exactly where the count of faults rose.
     fn write(&mut self, piece: &[u8]) -> Result<usize, Failed>
         ensures bound { WritesAtMost result piece.now }
         ensures some { IfOk result (λ taken. 0 < length piece.now → 0 < taken) }
         ensures octets { WriteAppends (written self.old) (written self.new) result piece.now }
         ensures later { faults self.old ≤ faults self.new }
+        ensures count { OnOk result (faults self.new ≡ faults self.old) }
         ensures failed { OnErr result (Rose (faults self.old) (faults self.new)) };
 }
 
@@ -71,8 +73,9 @@ const CHUNK: usize = 4096;
 /// Reads to the end of the input, and appends what comes to `into`.
 ///
 /// At most `limit` octets may come, and no more than `limit + 1` are taken. `TooLong` is
-/// answered exactly where more than `limit` came, `Failed` only where the source failed. After
-/// a refusal the octets that were taken stay taken, and `into` has them.
+/// answered exactly where more than `limit` came, `Failed` exactly where the source failed, which
+/// ends the reading: at every other answer the count of faults is as it was. After a refusal the
+/// octets that were taken stay taken, and `into` has them.
 pub fn read_all<S: Source>(
     alloc: Global,
     source: &mut S,
@@ -87,6 +90,7 @@ pub fn read_all<S: Source>(
         (S.left source.old) (S.left source.new) }
     ensures within { result ≢ Err ReadStop.TooLong → PoursWithin limit into.old.items into.new.items
         (S.left source.old) (S.left source.new) }
+    ensures count { result ≢ Err ReadStop.Failed → S.faults source.new ≡ S.faults source.old }
     ensures failed { result ≡ Err ReadStop.Failed → Rose (S.faults source.old) (S.faults source.new) }
 {
     let Ok(mut chunk) = vec![in alloc; 0u8; CHUNK] else {
@@ -124,6 +128,7 @@ fn read_chunk<S: Source>(
     ensures kept { OnErr result (into.new.items ≡ into.old.items) }
     ensures left { OnErr result (Keeps (S.left source.old) (S.left source.new)) }
     ensures not_long { result ≢ Err ReadStop.TooLong }
+    ensures count { result ≢ Err ReadStop.Failed → S.faults source.new ≡ S.faults source.old }
     ensures failed { result ≡ Err ReadStop.Failed → Rose (S.faults source.old) (S.faults source.new) }
 {
     if into.reserve(chunk.len()).is_err() {
@@ -140,11 +145,13 @@ fn read_chunk<S: Source>(
 
 /// Writes the whole piece.
 ///
-/// After [`Failed`], which comes only where the sink failed, a front of the piece was written.
+/// After [`Failed`], which comes exactly where the sink failed, a front of the piece was written: the first failure
+/// ends the writing.
 pub fn write_all<K: Sink>(sink: &mut K, piece: &[u8]) -> Result<(), Failed>
     ensures later { K.faults sink.old ≤ K.faults sink.new }
     ensures done { OnOk result (Appends (K.written sink.old) (K.written sink.new) piece.now) }
     ensures front { OnErr result (AppendsFront (K.written sink.old) (K.written sink.new) piece.now) }
+    ensures count { OnOk result (K.faults sink.new ≡ K.faults sink.old) }
     ensures failed { OnErr result (Rose (K.faults sink.old) (K.faults sink.new)) }
 {
     let mut at = 0;

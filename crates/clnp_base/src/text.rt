@@ -1,4 +1,4 @@
-ghost use Rattle.std.specs.Prelude.{◌≡◌, ◌<◌, ◌≤◌, ◌∷◌, [], length, false, MatchOption, IfSome};
+ghost use Rattle.std.specs.Prelude.{◌≡◌, ◌-◌, ◌<◌, ◌≤◌, ◌∷◌, [], drop, length, false, MatchOption, IfSome};
 ghost use Rattle.clnp_base.specs.Text.{lines_of, words_of, begins_with, decimal_of};
 ghost use Rattle.clnp_base.specs.Cuts.{index_of, without_return, with_digit};
 
@@ -6,11 +6,12 @@ use std::marker::Model;
 
 /// The first line of a text and what follows it, where the text has a line.
 ///
-/// A line ends before a `\n` or with the text; one `\r` before the `\n` is dropped.
+/// A line ends before a `\n` or with the text; one `\r` before the `\n` is dropped. What follows is the end of the text.
 pub fn next_line(text: &[u8]) -> Option<(&[u8], &[u8])>
     ensures line { MatchOption result (lines_of text.now ≡ [])
         (λ cut. lines_of text.now ≡ cut.0.now ∷ lines_of cut.1.now) }
     ensures shorter { IfSome result (λ cut. length cut.1.now < length text.now) }
+    ensures rest { IfSome result (λ cut. cut.1.now ≡ drop (length text.now - length cut.1.now) text.now) }
 {
     if text.is_empty() {
         return None;

@@ -69,8 +69,10 @@ fn refuses_digits(rt: HostRuntime) {
 fn writes_texts(rt: HostRuntime) {
     let address = Address::from_text(b"47.00.FF").expect(&rt, "an address");
     let snpa = Snpa::from_bytes(&[0x02, 0xab]).expect(&rt, "a subnetwork address");
-    let mut out = Vec::new(rt.alloc());
-    assert!(rt; address.push_text(&mut out).is_ok() && snpa.push_text(&mut out).is_ok());
+    let alloc = rt.alloc();
+    let mut out = Vec::new(alloc);
+    assert!(rt; address.push_text(alloc, &mut out).is_ok());
+    assert!(rt; snpa.push_text(alloc, &mut out).is_ok());
     assert!(rt; out.as_slice() == b"4700ff02ab".as_slice());
 }
 
@@ -80,6 +82,22 @@ fn reads_prefixes(rt: HostRuntime) {
     assert!(rt; prefix.len() == 3 && prefix.digit(1) == 10);
     let all = Prefix::from_text(b"*").expect(&rt, "a prefix");
     assert!(rt; all < prefix);
+}
+
+#[test]
+fn writes_prefixes(rt: HostRuntime) {
+    let rows = [
+        ("4.A0f", "4a0f"),
+        ("47002702", "47002702"),
+        ("*", "*"),
+        (".", "*"),
+    ];
+    for (text, want) in rows {
+        let prefix = Prefix::from_text(text.as_bytes()).expect(&rt, "a prefix");
+        let mut out = Vec::new(rt.alloc());
+        assert!(rt; prefix.push_text(&mut out).is_ok(), "at {text}");
+        assert!(rt; out.as_slice() == want.as_bytes(), "at {text}");
+    }
 }
 
 #[test]

@@ -1,3 +1,5 @@
+pub use Rattle.pdu_header.proofs.ClnpBase
+pub use Rattle.pdu_header.proofs as PduHeader
 pub mod Worked
 pub mod FieldFacts
 pub mod Timers

@@ -1,3 +1,4 @@
+pub use Rattle.pdu_header.specs.ClnpBase
 pub use Rattle.pdu_header.specs.Fletcher
 pub use Rattle.pdu_header.specs.Nsap
 pub use Rattle.pdu_header.specs.ClnpOptions

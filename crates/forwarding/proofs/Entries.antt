@@ -1,13 +1,13 @@
--- What the maps have after one more route was put in.
-use Rattle.std.proofs.Common.{◌≡◌, ◌∙◌, ℕ, ◌+◌, ◌≤◌, true, false, cond, List, [], ◌∷◌, ◌++◌, Option, Some, None, ap, arith, inl, inr, length, refl, sym, take, length-take-le, Bor}
+-- What the maps have after a route was put in or taken out, and what is looked up in them.
+use Rattle.std.proofs.Common.{◌≡◌, ◌∙◌, ℕ, ◌+◌, ◌≤◌, true, false, cond, List, Option, Some, None, ap, arith, inl, inr, length, refl, sym, take, length-take-le, Bor}
 use Rattle.std.specs.Prelude.{slice_get, slice_set}
-use Rattle.std.specs.BTreeMap.{BTreeMap, Updates, get}
+use Rattle.std.specs.BTreeMap.{BTreeMap, IsUnchanged, Updates, get}
 use Rattle.std.specs.Cmp.Lexicographic.{slice_cmp, texts_ties}
 use Rattle.std.specs.List.{find, list_any}
 use Rattle.std.specs.Option.{is_some, option_copied}
 use Rattle.std.specs.Ordering.{nat_cmp}
+use Rattle.std.specs.Str.{bytes_eq}
 use Rattle.std.proofs.lemmas.Bool.{cases_Bool, cases_eq}
-use Rattle.std.proofs.lemmas.List.Folds.{find-append}
 use Rattle.std.proofs.lemmas.Option.{same_Some, slice_get_within}
 use Rattle.nsap.proofs.ClnpBase.Lists.{slice_get-set, slice_get-set_other}
 use Rattle.nsap.specs.Prefix.{digits_of}
@@ -15,58 +15,93 @@ use Rattle.forwarding.specs.declared.route.Route.{Route}
 use Rattle.forwarding.specs.declared.routes.Routes.{Routes}
 use Rattle.forwarding.specs.Distinct.{has_prefix}
 use Rattle.forwarding.specs.Longest.{longest}
+use Rattle.forwarding.specs.Setting.{set_in, without}
 use Rattle.forwarding.specs.Stands.{Stands}
 use Rattle.forwarding.proofs.Choosing.{NoneAt, longest_at}
+use Rattle.forwarding.proofs.Setting.{IsChangedAt, is_set, is_without}
 use Rattle.nsap.proofs.ClnpBase.SameOctets.{other_from, same_from}
-use Rattle.forwarding.proofs.Prefixes.{AreDistinct-push}
-use Rattle.nsap.proofs.ClnpBase.Found.{find_none, is_some-find}
-use Rattle.nsap.proofs.ClnpBase.Choices.{option_or-nothing, no_value}
+use Rattle.nsap.proofs.ClnpBase.Found.{is_some-find}
+use Rattle.nsap.proofs.ClnpBase.Choices.{no_value}
+
+-- the route of a prefix, where there is one
+pub found_at : (routes : Routes) (list : List Route) (prefix : List ℕ) (n : ℕ) (map : BTreeMap (List ℕ) Route) (found : Option Route)
+    → Stands routes list → n ≡ length prefix → slice_get routes.by_length n ≡ Some map → found ≡ get (slice_cmp nat_cmp) map prefix
+    → found ≡ find (has_prefix prefix) list
+found_at routes list prefix n map found stands size at is =
+    is ∙ stands.found prefix map (sym (ap (slice_get routes.by_length) size) ∙ at)
 
 -- whether a route of this prefix was there
 pub was_there : (routes : Routes) (list : List Route) (prefix : List ℕ) (n : ℕ) (map : BTreeMap (List ℕ) Route) (old : Option Route)
     → Stands routes list → n ≡ length prefix → slice_get routes.by_length n ≡ Some map → old ≡ get (slice_cmp nat_cmp) map prefix
     → is_some old ≡ list_any (has_prefix prefix) list
 was_there routes list prefix n map old stands size at is =
-    ap is_some (is ∙ stands.found prefix map (sym (ap (slice_get routes.by_length) size) ∙ at))
-    ∙ is_some-find (has_prefix prefix) list
+    ap is_some (found_at routes list prefix n map old stands size at is) ∙ is_some-find (has_prefix prefix) list
 
--- what is found after one more route
-found_new : (list : List Route) (route : Route) (prefix : List ℕ) → find (has_prefix prefix) list ≡ None → has_prefix prefix route ≡ true
-    → find (has_prefix prefix) (list ++ route ∷ []) ≡ Some route
-found_new list route prefix none own = rw (find-append, none, own) refl
+-- a route is there exactly where one is found
+pub ruleset finding = (is_some-find)
 
-found_other : (list : List Route) (route : Route) (prefix : List ℕ) → has_prefix prefix route ≡ false
-    → find (has_prefix prefix) (list ++ route ∷ []) ≡ find (has_prefix prefix) list
-found_other list route prefix other = rw (find-append, other) (option_or-nothing (find (has_prefix prefix) list))
-
--- one more route stands in the map of its length
-pub stands_added : (routes : Routes) (list : List Route) (route : Route) (n : ℕ) (map new : BTreeMap (List ℕ) Route)
-    → Stands routes list → n ≡ length route.prefix → slice_get routes.by_length n ≡ Some map
-    → Updates (slice_cmp nat_cmp) map new route.prefix (Some route) → list_any (has_prefix route.prefix) list ≡ false
-    → Stands (record { by_length = slice_set routes.by_length n new }) (list ++ route ∷ [])
-stands_added routes list route n map new stands size at updates absent = record {
-  distinct = AreDistinct-push list route stands.distinct absent;
-  found = λ prefix other there.
-      elim (cases_eq (length prefix) n) [
+-- the map of one length was changed at a prefix alone
+pub stands_updated : (routes : Routes) (list changed : List Route) (prefix : List ℕ) (n : ℕ) (map new : BTreeMap (List ℕ) Route) (now : Option Route)
+    → Stands routes list → n ≡ length prefix → slice_get routes.by_length n ≡ Some map
+    → Updates (slice_cmp nat_cmp) map new prefix now → IsChangedAt prefix now list changed
+    → Stands (record { by_length = slice_set routes.by_length n new }) changed
+stands_updated routes list changed prefix n map new now stands size at updates is = record {
+  distinct = is.distinct;
+  found = λ wanted other there.
+      elim (cases_eq (length wanted) n) [
         | inl same ↦
             let is_new : other ≡ new =
             same_Some other new
             (sym there ∙ ap (slice_get (slice_set routes.by_length n new)) same ∙ slice_get-set routes.by_length n new (slice_get_within routes.by_length n map at)) in
-            let old = stands.found prefix map (ap (slice_get routes.by_length) same ∙ at) in
-            ap (λ m. get (slice_cmp nat_cmp) m prefix) is_new
-            ∙ updates.0 prefix
-            ∙ ap (λ b. cond b (Some route) (get (slice_cmp nat_cmp) map prefix)) (sym (texts_ties route.prefix prefix))
-            ∙ (elim (cases_Bool (has_prefix prefix route)) [
-              | inl own ↦
-                  let none : find (has_prefix prefix) list ≡ None = rw (← same_from route.prefix prefix own) (find_none (has_prefix route.prefix) list absent) in
-                  rw own (sym (found_new list route prefix none own))
-              | inr foreign ↦ rw foreign (old ∙ sym (found_other list route prefix foreign))
+            let old = stands.found wanted map (ap (slice_get routes.by_length) same ∙ at) in
+            ap (λ m. get (slice_cmp nat_cmp) m wanted) is_new
+            ∙ updates.0 wanted
+            ∙ ap (λ b. cond b now (get (slice_cmp nat_cmp) map wanted)) (sym (texts_ties prefix wanted))
+            ∙ (elim (cases_Bool (bytes_eq prefix wanted)) [
+              | inl own ↦ rw own (sym is.found ∙ ap (λ p. find (has_prefix p) changed) (same_from prefix wanted own))
+              | inr foreign ↦ rw foreign (old ∙ sym (is.others wanted foreign))
             ])
         | inr differ ↦
-            let foreign : has_prefix prefix route ≡ false =
-            other_from route.prefix prefix (λ same. differ (sym (size ∙ ap length same))) in
-            stands.found prefix other (sym (slice_get-set_other routes.by_length n (length prefix) new (λ same. differ (sym same))) ∙ there)
-            ∙ sym (found_other list route prefix foreign)
+            let foreign : bytes_eq prefix wanted ≡ false =
+            other_from prefix wanted (λ same. differ (sym (size ∙ ap length same))) in
+            stands.found wanted other (sym (slice_get-set_other routes.by_length n (length wanted) new (λ same. differ (sym same))) ∙ there)
+            ∙ sym (is.others wanted foreign)
+      ];
+}
+
+-- a route was put in the map of its length
+pub stands_set : (routes : Routes) (list : List Route) (route : Route) (n : ℕ) (map new : BTreeMap (List ℕ) Route)
+    → Stands routes list → n ≡ length route.prefix → slice_get routes.by_length n ≡ Some map
+    → Updates (slice_cmp nat_cmp) map new route.prefix (Some route)
+    → Stands (record { by_length = slice_set routes.by_length n new }) (set_in route list)
+stands_set routes list route n map new stands size at updates =
+    stands_updated routes list (set_in route list) route.prefix n map new (Some route) stands size at updates (is_set route list stands.distinct)
+
+-- the route of a prefix was taken out of the map of its length
+pub stands_without : (routes : Routes) (list : List Route) (prefix : List ℕ) (n : ℕ) (map new : BTreeMap (List ℕ) Route)
+    → Stands routes list → n ≡ length prefix → slice_get routes.by_length n ≡ Some map
+    → Updates (slice_cmp nat_cmp) map new prefix None
+    → Stands (record { by_length = slice_set routes.by_length n new }) (without prefix list)
+stands_without routes list prefix n map new stands size at updates =
+    stands_updated routes list (without prefix list) prefix n map new None stands size at updates (is_without prefix list stands.distinct)
+
+-- a map that has the entries that it had
+pub stands_same : (routes : Routes) (list : List Route) (n : ℕ) (map new : BTreeMap (List ℕ) Route) → Stands routes list
+    → slice_get routes.by_length n ≡ Some map → IsUnchanged map new → Stands (record { by_length = slice_set routes.by_length n new }) list
+stands_same routes list n map new stands at unchanged = record {
+  distinct = stands.distinct;
+  found = λ wanted other there.
+      elim (cases_eq (length wanted) n) [
+        | inl same ↦
+            let is_new : other ≡ new =
+            same_Some other new
+            (sym there ∙ ap (slice_get (slice_set routes.by_length n new)) same ∙ slice_get-set routes.by_length n new (slice_get_within routes.by_length n map at)) in
+            let kept : get (slice_cmp nat_cmp) new wanted ≡ get (slice_cmp nat_cmp) map wanted = rw unchanged refl in
+            ap (λ m. get (slice_cmp nat_cmp) m wanted) is_new
+            ∙ kept
+            ∙ stands.found wanted map (ap (slice_get routes.by_length) same ∙ at)
+        | inr differ ↦
+            stands.found wanted other (sym (slice_get-set_other routes.by_length n (length wanted) new (λ same. differ (sym same))) ∙ there)
       ];
 }
 

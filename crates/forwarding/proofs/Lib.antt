@@ -1,3 +1,4 @@
 pub mod Choosing
 pub mod Entries
 pub mod Prefixes
+pub mod Setting

@@ -1,3 +1,4 @@
 pub mod Distinct
 pub mod Longest
+pub mod Setting
 pub mod Stands

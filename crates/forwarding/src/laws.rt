@@ -1,9 +1,10 @@
 //! Laws of the definitions that the contracts cite. The functions do nothing.
-ghost use Rattle.std.specs.Prelude.{◌≡◌, ◌↔◌, ◌++◌, ℕ, List, ◌∷◌, [], Some, None, false, true, Contains};
-ghost use Rattle.std.specs.List.{list_any};
+ghost use Rattle.std.specs.Prelude.{◌≡◌, ◌≢◌, ◌↔◌, ℕ, List, Some, None, false};
+ghost use Rattle.std.specs.List.{find, list_any};
 ghost use Rattle.forwarding.specs.declared.route.Route.{Route};
-ghost use Rattle.forwarding.specs.Distinct.{AreDistinct, IsTwice};
+ghost use Rattle.forwarding.specs.Distinct.{AreDistinct, IsTwice, has_prefix};
 ghost use Rattle.forwarding.specs.Longest.{IsLongest, is_covering, longest};
+ghost use Rattle.forwarding.specs.Setting.{set_in, without};
 
 /// The longest route for an address is one of the routes, covers the address, and no route that covers it has more digits.
 pub fn what_is_longest_covers()
@@ -31,4 +32,21 @@ pub fn one_place_is_twice()
     ensures one { (routes : List Route) (first second : ℕ) (first_again second_again : ℕ) → IsTwice routes first second
         → IsTwice routes first_again second_again → (first ≡ first_again) × (second ≡ second_again) }
     ensures none { (routes : List Route) (first second : ℕ) → IsTwice routes first second → AreDistinct routes → ⊥ }
+{}
+
+/// A route that is set is the one of its prefix, and a prefix that is removed has none; of every other prefix there is the route
+/// that there was.
+pub fn each_prefix_has_its_route()
+    ensures set { (route : Route) (routes : List Route) → find (has_prefix route.prefix) (set_in route routes) ≡ Some route }
+    ensures removed { (prefix : List ℕ) (routes : List Route) → find (has_prefix prefix) (without prefix routes) ≡ None }
+    ensures others_set { (route : Route) (other : List ℕ) (routes : List Route) → route.prefix ≢ other
+        → find (has_prefix other) (set_in route routes) ≡ find (has_prefix other) routes }
+    ensures others_removed { (prefix other : List ℕ) (routes : List Route) → prefix ≢ other
+        → find (has_prefix other) (without prefix routes) ≡ find (has_prefix other) routes }
+{}
+
+/// Where no two routes have one prefix, none have after one is set and after a prefix is removed.
+pub fn changed_routes_differ()
+    ensures set { (route : Route) (routes : List Route) → AreDistinct routes → AreDistinct (set_in route routes) }
+    ensures removed { (prefix : List ℕ) (routes : List Route) → AreDistinct routes → AreDistinct (without prefix routes) }
 {}

@@ -1,11 +1,12 @@
 //! The routes of a system.
-ghost use Rattle.std.specs.Prelude.{◌≡◌, ◌<◌, ℕ, List, [], ◌∷◌, ◌++◌, IfOk, None, Some, Err, slice_get, take, true, false};
-ghost use Rattle.std.specs.List.{list_any, position_from};
+ghost use Rattle.std.specs.Prelude.{◌≡◌, ℕ, List, [], Err, IfOk, OnErr, OnOk};
+ghost use Rattle.std.specs.List.{find, list_any, position_from};
 ghost use Rattle.std.specs.Option.{option_copied};
 ghost use Rattle.forwarding.specs.declared.route.Route.{Route};
 ghost use Rattle.forwarding.specs.declared.route.RouteRefusal.TheVariants.{Twice};
 ghost use Rattle.forwarding.specs.Distinct.{IsTwice, has_prefix};
 ghost use Rattle.forwarding.specs.Longest.{longest};
+ghost use Rattle.forwarding.specs.Setting.{set_in, without};
 ghost use Rattle.forwarding.specs.Stands.{Stands};
 
 use crate::route::{Route, RouteRefusal};
@@ -64,11 +65,41 @@ impl Routes {
     fn put(&mut self, route: Route) -> Result<bool, NoMemory>
         ensures there { (list : List Route) → Stands self.old list
             → IfOk result (λ there. there ≡ list_any (has_prefix route.prefix) list) }
-        ensures added { (list : List Route) → Stands self.old list
-            → IfOk result (λ there. there ≡ false → Stands self.new (list ++ route ∷ [])) }
+        ensures stands { (list : List Route) → Stands self.old list → OnOk result (Stands self.new (set_in route list)) }
+        ensures same { (list : List Route) → Stands self.old list → OnErr result (Stands self.new list) }
     {
         let old = self.by_length[route.prefix.len()].insert(route.prefix, route)?;
         Ok(old.is_some())
+    }
+
+    /// Takes the route of a prefix out, where there is one.
+    fn take_out(&mut self, prefix: &Prefix) -> Option<Route>
+        ensures route { (list : List Route) → Stands self.old list → result ≡ find (has_prefix prefix.now) list }
+        ensures stands { (list : List Route) → Stands self.old list → Stands self.new (without prefix.now list) }
+    {
+        self.by_length[prefix.len()].remove(prefix)
+    }
+
+    /// Sets the route of a prefix: from now on it is the one of its prefix, in the place of the one that there was, if any.
+    ///
+    /// # Errors
+    ///
+    /// `NoMemory`; the routes are then as they were.
+    pub fn set(&mut self, _alloc: Global, route: Route) -> Result<(), NoMemory>
+        ensures stands { (list : List Route) → Stands self.old list → OnOk result (Stands self.new (set_in route list)) }
+        ensures same { (list : List Route) → Stands self.old list → OnErr result (Stands self.new list) }
+    {
+        self.put(route)?;
+        Ok(())
+    }
+
+    /// Removes the route of a prefix, and tells whether there was one. It takes no memory.
+    #[tactic(auto, using(crate::proofs::Entries::finding))]
+    pub fn remove(&mut self, prefix: &Prefix) -> bool
+        ensures there { (list : List Route) → Stands self.old list → result ≡ list_any (has_prefix prefix.now) list }
+        ensures stands { (list : List Route) → Stands self.old list → Stands self.new (without prefix.now list) }
+    {
+        self.take_out(prefix).is_some()
     }
 
     /// The route with the most digits among those whose prefix covers the address. It takes no memory.

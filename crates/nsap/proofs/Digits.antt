@@ -1,9 +1,9 @@
 -- Hexadecimal digits in the texts of addresses and of prefixes, and what they are worth.
-use Rattle.std.proofs.Common.{◌≡◌, ℕ, zero, suc, ◌<◌, ◌≤◌, true, false, List, [], ◌∷◌, length, map, Some, Ok, None, inl, inr, refl, ap, arith}
-use Rattle.std.specs.Prelude.{slice_index}
+use Rattle.std.proofs.Common.{◌≡◌, ℕ, zero, suc, ◌<◌, ◌≤◌, true, false, List, [], ◌∷◌, length, map, Some, Ok, inl, inr, refl, ap, arith, get_or, ◌∙◌}
+use Rattle.std.specs.Prelude.{◌%◌, slice_index, None}
 use Rattle.std.specs.Option.{is_some}
 use Rattle.std.proofs.lemmas.Bool.{cases_eq, ne_eqb, le-leb}
-use Rattle.hex.specs.Hex.{hex_digit_value, is_hex_digit}
+use Rattle.hex.specs.Hex.{encode_lower, encode_with, hex_digit_value, is_hex_digit, lower_digits}
 use Rattle.nsap.specs.Prefix.{digit_value, prefix_spelled}
 use Rattle.nsap.specs.Text.{is_dot, may_stand}
 
@@ -22,7 +22,7 @@ digit_may_stand c d digit =
     let yes : is_hex_digit c ≡ true = ap is_some digit in
     rw (no, yes) refl
 
-value_small : (c : ℕ) → digit_value c < 16
+pub value_small : (c : ℕ) → digit_value c < 16
 value_small c = grind arith
 
 pub values_small : (digits : List ℕ) (i : ℕ) → slice_index (map digit_value digits) i < 16
@@ -33,3 +33,12 @@ values_small (digit ∷ rest) (suc i) = values_small rest i
 -- at most forty digits spell a prefix
 pub spelled_few : (digits : List ℕ) → length digits ≤ 40 → prefix_spelled digits ≡ Ok (map digit_value digits)
 spelled_few digits few = rw (le-leb (length digits) 40 few) refl
+
+-- ---- one digit, written as the low one of an octet
+
+pub written_digit : (value : ℕ) (digits : List ℕ) → value < 16 → digits ≡ encode_lower (value ∷ [])
+    → get_or digits 1 0 ≡ slice_index lower_digits value
+unfolding encode_with
+written_digit value digits small is =
+    let low : value % 16 ≡ value = omega arith in
+    ap (λ ds. get_or ds 1 0) is ∙ ap (slice_index lower_digits) low

@@ -2,7 +2,7 @@
 use Rattle.std.specs.Prelude.{ℕ, ◌/◌, ◌%◌, ◌<◌, ◌≤◌, nat_eq, nat_le, Bool, if◌then◌else◌, List, [], ◌∷◌, codes, length, map, slice_index, unwrap_or, Option, Some, None, Result, Ok, Err}
 use Rattle.std.specs.List.{flat_map, starts_with}
 use Rattle.std.specs.Str.{bytes_eq}
-use Rattle.hex.specs.Hex.{hex_digit_value}
+use Rattle.hex.specs.Hex.{hex_digit_value, lower_digits}
 use Rattle.nsap.specs.Text.{bad_digit, without_dots}
 use Rattle.nsap.specs.declared.fault.NsapFault.{NsapFault}
 use Rattle.nsap.specs.declared.fault.NsapFault.TheVariants.{BadDigit, TooManyDigits}
@@ -46,3 +46,10 @@ prefix_or_fault None digits = prefix_spelled digits
 -- What a text is read as: `*` alone is the prefix of no digits, and every other text is read as an address is, its dots skipped.
 abbrev pub prefix_of : List ℕ → Result (List ℕ) NsapFault
 prefix_of text = if is_star text then Ok [] else prefix_or_fault (bad_digit text) (without_dots text)
+
+-- ---- how a text is written
+
+-- each digit in lower case, without dots; the prefix of no digits is `*`
+abbrev pub prefix_text : (digits : List ℕ) → List ℕ
+prefix_text [] = codes "*"
+prefix_text (digit ∷ digits) = map (λ d. slice_index lower_digits d) (digit ∷ digits)

@@ -6,6 +6,7 @@ ghost use Rattle.nsap.specs.Text.{hex_text, octets_of};
 use crate::fault::NsapFault;
 use crate::octets::Octets;
 use clnp_base::NoMemory;
+use std::alloc::Global;
 use std::marker::Model;
 
 /// An NSAP address: 1 to 20 octets (ISO/IEC 8473, section 7.3).
@@ -70,7 +71,7 @@ impl Address {
     /// # Errors
     ///
     /// `NoMemory`; `out` is then as it was.
-    pub fn push_text(&self, out: &mut Vec<u8>) -> Result<(), NoMemory>
+    pub fn push_text(&self, _alloc: Global, out: &mut Vec<u8>) -> Result<(), NoMemory>
         ensures written { OnOk result (out.new.items ≡ out.old.items ++ hex_text self.now) }
         ensures same { OnErr result (out.new.items ≡ out.old.items) }
     {

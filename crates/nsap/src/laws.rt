@@ -3,7 +3,7 @@ ghost use Rattle.std.specs.Prelude.{◌≡◌, ◌*◌, ◌++◌, ◌↔◌, ℕ
 ghost use Rattle.std.specs.List.{AllPass};
 ghost use Rattle.hex.specs.Hex.{is_hex_digit};
 ghost use Rattle.nsap.specs.Address.{IsAddress};
-ghost use Rattle.nsap.specs.Prefix.{covers, digits_of, prefix_of};
+ghost use Rattle.nsap.specs.Prefix.{IsPrefix, covers, digits_of, prefix_of, prefix_text};
 ghost use Rattle.nsap.specs.Text.{hex_text, octets_of};
 
 /// What `push_text` writes of an address is read as the same address.
@@ -25,6 +25,11 @@ pub fn text_is_digits()
 /// What `push_text` writes of an address is read as the prefix of all its digits.
 pub fn text_reads_as_prefix()
     ensures { (octets : List ℕ) → IsAddress octets → prefix_of (hex_text octets) ≡ Ok (digits_of octets) }
+{}
+
+/// What `push_text` writes of a prefix is read as the same prefix.
+pub fn prefix_text_reads_back()
+    ensures { (digits : List ℕ) → IsPrefix digits → prefix_of (prefix_text digits) ≡ Ok digits }
 {}
 
 /// A prefix covers an address exactly where the address's digits are those of the prefix and then any others.

@@ -1,14 +1,16 @@
 //! Prefixes of NSAP addresses.
-ghost use Rattle.std.specs.Prelude.{◌≡◌, ◌<◌, ◌≤◌, IfOk, Some, length, map, nat_eq, refl, slice_index, take};
+ghost use Rattle.std.specs.Prelude.{◌≡◌, ◌<◌, ◌≤◌, ◌++◌, IfOk, OnErr, OnOk, Some, length, map, nat_eq, refl, slice_index, take};
 ghost use Rattle.std.specs.Cmp.{partial_equiv_from_equiv};
 ghost use Rattle.std.specs.Cmp.Lexicographic.{nat_list_cmp_total, nat_list_eq_equiv, pointwise, slice_cmp, texts_po, texts_ties};
 ghost use Rattle.std.specs.Ordering.{nat_cmp};
-ghost use Rattle.nsap.specs.Prefix.{IsPrefix, covers, digit_value, digits_of, prefix_of};
+ghost use Rattle.hex.specs.Hex.{lower_digits};
+ghost use Rattle.nsap.specs.Prefix.{IsPrefix, covers, digit_value, digits_of, prefix_of, prefix_text};
 
 use crate::address::Address;
 use crate::fault::NsapFault;
 use crate::text::{collect_digits, first_bad_digit};
-use clnp_base::InlineOctets;
+use clnp_base::{InlineOctets, NoMemory, push};
+use hex::FromHex;
 use std::cmp::Ordering;
 use std::marker::Model;
 
@@ -114,6 +116,32 @@ impl Prefix {
     {
         self.digits.as_bytes()[at]
     }
+
+    /// Appends the digits to `out` in lower case, without dots; where there are none, `*`.
+    ///
+    /// # Errors
+    ///
+    /// `NoMemory`; `out` is then as it was.
+    pub fn push_text(&self, out: &mut Vec<u8>) -> Result<(), NoMemory>
+        ensures written { OnOk result (out.new.items ≡ out.old.items ++ prefix_text self.now) }
+        ensures same { OnErr result (out.new.items ≡ out.old.items) }
+    {
+        if self.len() == 0 {
+            return push(b"*", out);
+        }
+        push(self.characters().as_bytes(), out)
+    }
+
+    /// The character of each digit, in lower case.
+    fn characters(&self) -> InlineOctets<MOST>
+        ensures { result ≡ map (λ digit. slice_index lower_digits digit) self.now }
+    {
+        let mut characters = InlineOctets::new();
+        for digit in self.digits.as_bytes() {
+            characters.push(&[character_of(*digit)]);
+        }
+        characters
+    }
 }
 
 impl PartialEq for Prefix {
@@ -163,15 +191,25 @@ fn read_values(digits: &mut [u8])
     }
 }
 
-/// The value of a hexadecimal digit, in either case.
+/// The value of a hexadecimal digit, in either case: that of the octet whose low digit it is.
 fn value_of(digit: u8) -> u8
     ensures value { result ≡ digit_value digit }
     ensures bound { result < 16 }
 {
-    match digit {
-        b'0'..=b'9' => digit - b'0',
-        b'A'..=b'F' => digit - b'A' + 10,
-        b'a'..=b'f' => digit - b'a' + 10,
-        _ => 0,
+    match <[u8; 1]>::from_hex([b'0', digit]) {
+        Ok(octet) => octet[0],
+        Err(_) => 0,
+    }
+}
+
+/// The hexadecimal digit of a value, in lower case: the low digit of the octet of that value.
+fn character_of(value: u8) -> u8
+    requires { value < 16 }
+    ensures { result ≡ slice_index lower_digits value }
+{
+    let mut digits = [0; 2];
+    match hex::encode_to_slice([value], &mut digits) {
+        Ok(()) => digits[1],
+        Err(_) => unreachable!(),
     }
 }

@@ -6,6 +6,7 @@ ghost use Rattle.nsap.specs.Text.{hex_text, octets_of};
 use crate::fault::NsapFault;
 use crate::octets::Octets;
 use clnp_base::NoMemory;
+use std::alloc::Global;
 use std::marker::Model;
 
 /// The address of a system's point of attachment to a subnetwork, its SNPA: 1 to 20 octets (ISO
@@ -71,7 +72,7 @@ impl Snpa {
     /// # Errors
     ///
     /// `NoMemory`; `out` is then as it was.
-    pub fn push_text(&self, out: &mut Vec<u8>) -> Result<(), NoMemory>
+    pub fn push_text(&self, _alloc: Global, out: &mut Vec<u8>) -> Result<(), NoMemory>
         ensures written { OnOk result (out.new.items ≡ out.old.items ++ hex_text self.now) }
         ensures same { OnErr result (out.new.items ≡ out.old.items) }
     {

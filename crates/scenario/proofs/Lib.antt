@@ -1,3 +1,4 @@
+pub use Rattle.clnp_plan.proofs.ClnpBase
 pub mod Readings
 pub mod Lists
 pub mod Events

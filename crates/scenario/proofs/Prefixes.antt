@@ -8,7 +8,7 @@ use Rattle.clnp_plan.specs.Nsap.declared.fault.NsapFault.{NsapFault}
 use Rattle.clnp_plan.specs.Nsap.declared.fault.NsapFault.TheVariants.{TooManyDigits}
 use Rattle.scenario.specs.Words.{address_read, prefix_word}
 use Rattle.scenario.proofs.Behind.{either_way}
-pub use Rattle.clnp_plan.proofs.Nsap.Digits.{digit_may_stand, digit_no_dot, spelled_few, values_small}
+use Rattle.clnp_plan.proofs.Nsap.Digits.{values_small}
 
 no_digits : IsPrefix []
 no_digits = record { few = omega arith; small = λ i. omega arith }

@@ -9,7 +9,7 @@ use Rattle.std.proofs.lemmas.Option.{slice_get_within}
 use Rattle.clnp_plan.specs.ClnpBase.Text.{lines_of, decimal_of, is_digit}
 use Rattle.clnp_plan.proofs.ClnpBase.Maps.{map-map}
 use Rattle.clnp_plan.specs.Nsap.Address.{IsAddress}
-use Rattle.clnp_plan.specs.Nsap.Prefix.{IsPrefix}
+use Rattle.clnp_plan.specs.Nsap.Prefix.{IsPrefix, prefix_text}
 use Rattle.clnp_plan.specs.Nsap.Text.{hex_text}
 use Rattle.clnp_plan.specs.Forwarding.Distinct as prefixes
 use Rattle.clnp_plan.specs.Forwarding.declared.route.Route.{Route}
@@ -19,7 +19,7 @@ use Rattle.clnp_plan.specs.declared.config.PortConfig.{PortConfig}
 use Rattle.clnp_plan.specs.declared.config.Role.{Role}
 use Rattle.clnp_plan.specs.declared.config.Role.TheVariants.{Host, Router}
 use Rattle.scenario.specs.Scenario.{AreOnDifferent, IsFit, IsOn, Plan, Subnetwork, snpas_of}
-use Rattle.scenario.specs.Canonical.{address_text, belongings_text, declarations_text, limits_text, port_text, port_texts, prefix_text, role_text, route_text, setting_texts, subnet_name, subnet_text, system_text}
+use Rattle.scenario.specs.Canonical.{address_text, belongings_text, declarations_text, limits_text, port_text, port_texts, role_text, route_text, setting_texts, subnet_name, subnet_text, system_text}
 use Rattle.scenario.specs.Words.{is_name, declared_word, number_within, is_digits}
 use Rattle.scenario.specs.Declarations.{Declarations, DeclaredSystem, NumberedPort, nothing_declared, system_names, changed_at, with_address, with_port, with_route, most_addresses, most_ports, snpas_on, mtu_at, role_word, is_router, is_complete}
 use Rattle.scenario.specs.Grammar.{declarations_from}

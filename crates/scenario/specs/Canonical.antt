@@ -1,8 +1,8 @@
 -- The text that a scenario is written as: each line with all its words, in one order.
-use Rattle.std.specs.Prelude.{ℕ, ◌+◌, not, Bool, true, false, List, [], ◌∷◌, ◌++◌, map, slice_get, slice_index, codes, Option, None, Some}
+use Rattle.std.specs.Prelude.{ℕ, ◌+◌, not, Bool, true, false, List, [], ◌∷◌, ◌++◌, map, slice_get, codes, Option, None, Some}
 use Rattle.std.specs.List.{flat_map}
 use Rattle.std.specs.Fmt.{decimal}
-use Rattle.hex.specs.Hex.{lower_digits}
+use Rattle.clnp_plan.specs.Nsap.Prefix.{prefix_text}
 use Rattle.clnp_plan.specs.Nsap.Text.{hex_text}
 use Rattle.clnp_plan.specs.Forwarding.declared.route.Route.{Route}
 use Rattle.clnp_plan.specs.Configuration.{SystemConfiguration}
@@ -28,11 +28,6 @@ keyed key number = key ++ decimal number
 -- a key and its octets in lower-case hexadecimal
 abbrev pub spelled_behind : (key octets : List ℕ) → List ℕ
 spelled_behind key octets = key ++ hex_text octets
-
--- a prefix is its digits; the prefix of no digits is `*`
-abbrev pub prefix_text : (digits : List ℕ) → List ℕ
-prefix_text [] = codes "*"
-prefix_text (digit ∷ digits) = map (λ d. slice_index lower_digits d) (digit ∷ digits)
 
 abbrev pub role_text : Role → List ℕ
 role_text Host = codes "host"

@@ -1,3 +1,7 @@
+pub use Rattle.clnp_plan.specs.ClnpBase
+pub use Rattle.clnp_plan.specs.Nsap
+pub use Rattle.clnp_plan.specs.ClnpOptions
+pub use Rattle.clnp_plan.specs.PduHeader
 pub use Rattle.clnp_plan.specs as ClnpPlan
 pub mod Scenario
 pub mod Codes

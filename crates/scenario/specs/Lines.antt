@@ -1,6 +1,7 @@
 -- The words of a line, as the code has them.
 use Rattle.std.specs.Prelude.{ℕ, List, ◌++◌, codes}
-use Rattle.scenario.specs.Canonical.{keyed, spelled_behind, prefix_text}
+use Rattle.clnp_plan.specs.Nsap.Prefix.{prefix_text}
+use Rattle.scenario.specs.Canonical.{keyed, spelled_behind}
 use Rattle.scenario.specs.declared.line.Word.{Word}
 use Rattle.scenario.specs.declared.line.Word.TheVariants.{Text, Number, Octets, Pattern, Digits}
 

@@ -2,7 +2,7 @@
 ghost use Rattle.std.specs.Prelude.{◌≡◌, ◌++◌, map, OnOk};
 ghost use Rattle.std.specs.List.{flat_map};
 ghost use Rattle.clnp_plan.specs.Journal.{behind_space, line_of};
-ghost use Rattle.scenario.specs.Canonical.{keyed, prefix_text, spelled_behind};
+ghost use Rattle.scenario.specs.Canonical.{keyed, spelled_behind};
 ghost use Rattle.scenario.specs.Lines.{word_text};
 
 use clnp_plan::clnp_base::{NoMemory, push, push_decimal, push_hex};
@@ -59,7 +59,7 @@ fn push_word(word: Word<'_>, out: &mut Vec<u8>) -> Result<(), NoMemory>
             push_number(b"pat:", u64::from(len), out)?;
             push_number(b":", u64::from(start), out)
         }
-        Word::Digits(prefix) => push_prefix(prefix, out),
+        Word::Digits(prefix) => prefix.push_text(out),
     }
 }
 
@@ -78,20 +78,3 @@ fn push_octets(key: &[u8], octets: &[u8], out: &mut Vec<u8>) -> Result<(), NoMem
     push(key, out)?;
     push_hex(octets, out)
 }
-
-/// Appends the digits of a prefix, or `*` where there are none.
-fn push_prefix(prefix: &Prefix, out: &mut Vec<u8>) -> Result<(), NoMemory>
-    ensures { OnOk result (out.new.items ≡ out.old.items ++ prefix_text prefix.now) }
-{
-    if prefix.len() == 0 {
-        return push(b"*", out);
-    }
-    for at in 0..prefix.len() {
-        let digit = DIGITS[usize::from(prefix.digit(at))];
-        push(&[digit], out)?;
-    }
-    Ok(())
-}
-
-/// The sixteen hexadecimal digits, in lower case.
-const DIGITS: [u8; 16] = *b"0123456789abcdef";

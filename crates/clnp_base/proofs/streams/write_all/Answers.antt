@@ -1,4 +1,4 @@
-use Rattle.std.proofs.Common.{arith, length-drop, length-take}
+use Rattle.std.proofs.Common.{◌∙◌, arith, length-drop, length-take}
 use Rattle.clnp_base.proofs.Pouring.{written_on}
 use Rattle.clnp_base.proofs.streams.write_all.Goals as goal
 
@@ -8,5 +8,5 @@ loop-at-preserved g c = (
   written_on c.args.piece.now c.loop-at.at c.in_ok-at.field-0
       (g.K.Sink.written c.args.sink.now) (g.K.Sink.written c.loop-at.sink) (g.K.Sink.written c.write.new.self)
       c.loop-at.invariant.1 c.in_ok-at.ensures.octets,
-  omega (arith, c.loop-at.invariant.2, c.in_ok-at.ensures.later),
+  c.in_ok-at.ensures.count ∙ c.loop-at.invariant.2,
 )

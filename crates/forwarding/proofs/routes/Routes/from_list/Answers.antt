@@ -1,7 +1,11 @@
-use Rattle.std.proofs.Common.{◌≡◌, refl, subst, take}
+use Rattle.std.proofs.Common.{◌≡◌, ◌∙◌, false, refl, subst, sym, take}
+use Rattle.std.specs.List.{list_any}
 use Rattle.std.proofs.lemmas.Option.{slice_get_read}
-use Rattle.forwarding.specs.Distinct.{IsTwice}
+use Rattle.nsap.proofs.ClnpBase.ListSteps.{take_push}
+use Rattle.forwarding.specs.Distinct.{IsTwice, has_prefix}
+use Rattle.forwarding.specs.Stands.{Stands}
 use Rattle.forwarding.proofs.Prefixes.{IsTwice-at, place_is_there}
+use Rattle.forwarding.proofs.Setting.{set_in_absent}
 use Rattle.forwarding.proofs.routes.Routes.from_list.Goals as goal
 
 pub unreachable-requires : goal.unreachable-requires
@@ -19,3 +23,14 @@ returns-then-branch-clause-twice c = λ first second e.
     (slice_get_read c.args.list.now _ c.loop-second.second c.index-list-second.result refl c.loop-second-test.true c.index-list-second.is)
     c.loop-second.invariant.distinct c.place_of.ensures c.in-Some.first c.in-Some.is in
     subst (λ n. IsTwice c.args.list.now first n) at_second (subst (λ n. IsTwice c.args.list.now n c.loop-second.second) at_first twice)
+
+pub loop-second-preserved : goal.loop-second-preserved
+loop-second-preserved c =
+    let before = take c.loop-second.second c.args.list.now in
+    let route = c.index-list-second.result in
+    let absent : list_any (has_prefix route.prefix) before ≡ false =
+    sym (c.in_ok-put.ensures.there before c.loop-second.invariant) ∙ c.if-branch.false in
+    let there = slice_get_read c.args.list.now _ c.loop-second.second route refl c.loop-second-test.true c.index-list-second.is in
+    subst (λ routes. Stands c.put.new.self routes)
+    (set_in_absent route before absent ∙ sym (take_push c.args.list.now c.loop-second.second route there).0)
+    (c.in_ok-put.ensures.stands before c.loop-second.invariant)

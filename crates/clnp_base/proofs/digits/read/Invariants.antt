@@ -1,7 +1,7 @@
 use Rattle.std.proofs.Common.{◌≡◌, ◌*◌, take, drop}
 use Rattle.hex.specs.Hex.{decode_pairs}
 use Rattle.hex.proofs.Pairs.{prepend}
-use Rattle.clnp_base.proofs.put.spell.Given as goal
+use Rattle.clnp_base.proofs.digits.read.Given as goal
 
 abbrev pub invariant-octets : goal.invariant-octets
 invariant-octets l =
