@@ -14,7 +14,6 @@ pub mod Reporting
 pub mod Offers
 pub mod Joined
 pub mod Completed
-pub mod Undone
 pub mod Offering
 pub mod Receiving
 pub mod Expiry

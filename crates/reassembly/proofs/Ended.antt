@@ -10,7 +10,7 @@ use Rattle.std.proofs.lemmas.Option.{none-some, same_Some}
 use Rattle.clnp_views.specs.Extent.{Extent}
 use Rattle.reassembly.specs.declared.segment.Key.{Key}
 use Rattle.reassembly.specs.declared.segment.Segment.{Segment}
-use Rattle.reassembly.specs.declared.table.Opening.{Opening}
+use Rattle.reassembly.specs.declared.openings.Opening.{Opening}
 use Rattle.reassembly.specs.declared.table.TableLimits.{TableLimits}
 use Rattle.reassembly.specs.Arrival.{Arrival, arrival_of, same_key}
 use Rattle.reassembly.specs.Buffer.{Buffer, due, first_carried, without}
@@ -67,19 +67,19 @@ module _ (openings : List Opening) (slot : ℕ) (opening : Opening) (at : slice_
     slots_fit = h.slots_fit;
   }
 
-  module _ (limits : TableLimits) (segments : List Segment) (buffers : List (Buffer Extent))
-      (stands : Stands (record { limits = limits; openings = openings; segments = segments }) buffers) where
+  module _ (limits : TableLimits) (segments : List Segment) (slots : List ℕ) (buffers : List (Buffer Extent))
+      (stands : Stands (record { limits = limits; openings = openings; slots = slots; segments = segments }) buffers) where
     pub buffers-once : length (filter (λ b. same_key b.key key) buffers) ≡ 1
     buffers-once =
         sym (length-map (filter (λ b. same_key b.key key) buffers) opening_of) ∙ ap length (sym (filter-map opening_of (λ o. same_key o.key key) buffers))
         ∙ ap (openings_of key) (sym stands.openings) ∙ counted-once
 
-    pub stands_without : Stands (record { limits = limits; openings = remove openings slot; segments = others_of key segments }) (without key buffers)
-    stands_without = record {
+    pub stands_without : (left : List ℕ) → Stands (record { limits = limits; openings = remove openings slot; slots = left; segments = others_of key segments }) (without key buffers)
+    stands_without left = record {
       openings = remove-slot ∙ ap (filter (λ o. not (same_key o.key key))) stands.openings ∙ filter-map opening_of (λ o. not (same_key o.key key)) buffers;
       segments = AllByRecursion-filter (λ b. not (same_key b.key key))
-          (KeepsSegments (record { limits = limits; openings = openings; segments = segments }))
-          (KeepsSegments (record { limits = limits; openings = remove openings slot; segments = others_of key segments }))
+          (KeepsSegments (record { limits = limits; openings = openings; slots = slots; segments = segments }))
+          (KeepsSegments (record { limits = limits; openings = remove openings slot; slots = left; segments = others_of key segments }))
           (λ b t k. k ∙ ap (map arrival_of) (sym (segments_of-others b.key key (not-true (same_key b.key key) t) segments))) buffers stands.segments;
     }
 

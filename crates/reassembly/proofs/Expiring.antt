@@ -1,19 +1,19 @@
 -- The opening that is found due is that of the due buffer.
-use Rattle.std.proofs.Common.{◌≡◌, ◌∙◌, sym, ap, subst, ℕ, ◌≤◌, ◌<◌, List, length, take, get_or, Option, Some, None}
+use Rattle.std.proofs.Common.{◌≡◌, ◌∙◌, sym, ap, subst, ℕ, ◌≤◌, ◌<◌, List, length, take, Option, Some, None}
 use Rattle.std.specs.Prelude.{slice_get}
 use Rattle.std.specs.List.{All}
 use Rattle.std.specs.Option.{option_map}
-use Rattle.std.proofs.lemmas.Option.{get_or_from_slice_get, slice_get_within}
+use Rattle.std.proofs.lemmas.Option.{same_Some, slice_get_within}
 use Rattle.clnp_views.specs.Extent.{Extent}
 use Rattle.reassembly.specs.declared.segment.Key.{Key}
 use Rattle.reassembly.specs.declared.segment.Segment.{Segment}
 use Rattle.reassembly.specs.declared.table.Expired.{Expired}
-use Rattle.reassembly.specs.declared.table.Opening.{Opening}
+use Rattle.reassembly.specs.declared.openings.Opening.{Opening}
 use Rattle.reassembly.specs.declared.table.TableLimits.{TableLimits}
 use Rattle.reassembly.specs.Arrival.{same_key}
 use Rattle.reassembly.specs.Buffer.{Buffer, buffer_of, due, first_carried, without, without_due}
 use Rattle.reassembly.specs.Sound.{IsSound}
-use Rattle.reassembly.specs.State.{TableState, Names, Stands}
+use Rattle.reassembly.specs.State.{TableState, IsAt, Stands}
 use Rattle.nsap.proofs.ClnpBase.Filters.{find-only}
 use Rattle.reassembly.proofs.Keys.{same_key-refl}
 use Rattle.reassembly.proofs.Ended.{buffers-once, due_of, none_due_of}
@@ -27,14 +27,14 @@ IsDueSlot now openings slot =
 abbrev pub expired_of : Buffer Extent → Expired
 expired_of ended = record { key = ended.key; first = first_carried ended }
 
-module _ (limits : TableLimits) (openings : List Opening) (segments : List Segment) (held now slot : ℕ) (table : TableState)
-    (view_is : record { limits = limits; openings = openings; segments = segments } ≡ table) (sound : IsSound limits openings segments held)
+module _ (limits : TableLimits) (openings : List Opening) (slots : List ℕ) (segments : List Segment) (held now slot : ℕ) (table : TableState)
+    (view_is : record { limits = limits; openings = openings; slots = slots; segments = segments } ≡ table) (sound : IsSound limits openings segments held)
     (found : IsDueSlot now openings slot) where
   pub due_within : slot < length openings
   due_within = slice_get_within openings slot found.0 found.1
 
   module _ (buffers : List (Buffer Extent)) (stands : Stands table buffers) where
-    stands_here : Stands (record { limits = limits; openings = openings; segments = segments }) buffers
+    stands_here : Stands (record { limits = limits; openings = openings; slots = slots; segments = segments }) buffers
     stands_here = subst (λ t. Stands t buffers) (sym view_is) stands
 
     the_due : (ended : Buffer Extent) × (due now buffers ≡ Some ended) × (ended.key ≡ found.0.key) × (slice_get buffers slot ≡ Some ended)
@@ -55,24 +55,24 @@ module _ (limits : TableLimits) (openings : List Opening) (segments : List Segme
     unfolding ended
     ended-at = the_due.3
 
-    named : Names table slot ended.key
+    named : IsAt table slot ended.key
     named = record { opening = found.0; stands_at = ap (λ t. slice_get t.openings slot) (sym view_is) ∙ found.1; key_is = sym ended-key }
 
     is_there : buffer_of ended.key buffers ≡ Some ended
     is_there =
         find-only (λ b. same_key b.key ended.key) buffers slot ended ended-at (same_key-refl ended.key)
-        (buffers-once openings slot found.0 found.1 ended.key (sym ended-key) sound.distinct limits segments buffers stands_here)
+        (buffers-once openings slot found.0 found.1 ended.key (sym ended-key) sound.distinct limits segments slots buffers stands_here)
 
-    pub due_gives : (read : Opening) → read ≡ get_or openings slot read → (first : Option Extent)
-        → ((bs : List (Buffer Extent)) (taken : Buffer Extent) → Stands table bs → Names table slot taken.key → buffer_of taken.key bs ≡ Some taken → first ≡ first_carried taken)
+    pub due_gives : (read : Opening) → slice_get openings slot ≡ Some read → (first : Option Extent)
+        → ((bs : List (Buffer Extent)) (taken : Buffer Extent) → Stands table bs → IsAt table slot taken.key → buffer_of taken.key bs ≡ Some taken → first ≡ first_carried taken)
         → (made : Expired) → made ≡ record { key = read.key; first = first } → Some made ≡ option_map expired_of (due now buffers)
     due_gives read is first gives made e =
-        let key : read.key ≡ ended.key = ap (λ o. o.key) (is ∙ get_or_from_slice_get openings slot found.0 read found.1) ∙ sym ended-key in
+        let key : read.key ≡ ended.key = ap (λ o. o.key) (same_Some read found.0 (sym is ∙ found.1)) ∙ sym ended-key in
         let same : made ≡ expired_of ended =
         e ∙ ap (λ k. record { key = k; first = first }) key ∙ ap (λ f. record { key = ended.key; first = f }) (gives buffers ended stands named is_there) in
         ap Some same ∙ sym (ap (option_map expired_of) ended-is)
 
-    pub due_leaves : (after : TableState) → ((bs : List (Buffer Extent)) (key : Key) → Stands table bs → Names table slot key → Stands after (without key bs))
+    pub due_leaves : (after : TableState) → ((bs : List (Buffer Extent)) (key : Key) → Stands table bs → IsAt table slot key → Stands after (without key bs))
         → Stands after (without_due (due now buffers) buffers)
     due_leaves after leaves =
         subst (λ o. Stands after (without_due o buffers)) (sym ended-is) (leaves buffers ended.key stands named)

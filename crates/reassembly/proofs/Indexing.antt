@@ -10,7 +10,7 @@ use Rattle.nsap.proofs.ClnpBase.Lists.{AllByRecursion-slice_get, slice_get-push,
 use Rattle.reassembly.specs.declared.runs.Run.{Run}
 use Rattle.reassembly.specs.declared.segment.Key.{Key}
 use Rattle.reassembly.specs.declared.segment.Segment.{Segment}
-use Rattle.reassembly.specs.declared.table.Opening.{Opening}
+use Rattle.reassembly.specs.declared.openings.Opening.{Opening}
 use Rattle.reassembly.specs.Arrival.{are_covered, arrival_of, data_len, is_covered, same_key}
 use Rattle.clnp_views.specs.Extent.{Extent}
 use Rattle.reassembly.specs.declared.table.TableLimits.{TableLimits}

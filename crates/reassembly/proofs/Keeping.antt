@@ -9,12 +9,12 @@ use Rattle.reassembly.specs.declared.segment.Key.{Key}
 use Rattle.reassembly.specs.declared.segment.Segment.{Segment}
 use Rattle.reassembly.specs.declared.segment.Shape.{Shape}
 use Rattle.reassembly.specs.declared.table.TableLimits.{TableLimits}
-use Rattle.reassembly.specs.declared.table.Opening.{Opening}
+use Rattle.reassembly.specs.declared.openings.Opening.{Opening}
 use Rattle.reassembly.specs.Arrival.{Arrival, arrival_of, are_covered, data_len, same_key}
 use Rattle.reassembly.specs.Buffer.{Buffer, Held, Whole, buffer_of, is_whole, kept_answer, opened_by, shape_in, with_kept}
 use Rattle.reassembly.specs.Kept.{opening_by, with_segment}
 use Rattle.reassembly.specs.Offered.{openings_of}
-use Rattle.reassembly.specs.State.{KeepsSegments, MayKeep, Stands, TableState, opening_of, segments_of, slot_of}
+use Rattle.reassembly.specs.State.{KeepsSegments, MayKeep, Stands, TableState, opening_of, segments_of, place_of}
 use Rattle.reassembly.proofs.Keys.{same_key-like, same_key-sym}
 use Rattle.reassembly.proofs.Slots.{no_segments, openings_of-other, openings_of-same, slot_missing, slot_there}
 use Rattle.reassembly.proofs.Standing.{buffer_missing, buffer_there, of_found}
@@ -101,11 +101,11 @@ with_kept-keeps limits now segments segment (buffer ∷ others) one all =
     ]
 
 -- the table with the segment stands for the buffers with it
-pub stands_with : (now : ℕ) (segment : Segment) (table : TableState) (buffers : List (Buffer Extent)) → Stands table buffers
+pub stands_with : (now slot : ℕ) (segment : Segment) (table : TableState) (buffers : List (Buffer Extent)) → Stands table buffers
     → AllByRecursion (λ other. openings_of other.key table.openings ≡ 1) table.segments
     → (openings_of segment.key table.openings ≡ 0) ⊎ (openings_of segment.key table.openings ≡ 1)
-    → Stands (with_segment now segment table) (with_kept table.limits now (arrival_of segment) buffers)
-stands_with now segment table buffers stands owned (inl none) =
+    → Stands (with_segment now segment slot table) (with_kept table.limits now (arrival_of segment) buffers)
+stands_with now slot segment table buffers stands owned (inl none) =
     let absent : openings_of segment.key (map opening_of buffers) ≡ 0 = rw (← stands.openings) none in
     let empty = no_segments segment.key table.openings table.segments none owned in
     let last : (arrival_of segment ∷ []) ≡ map arrival_of (segments_of segment.key (table.segments ++ segment ∷ []))
@@ -120,7 +120,7 @@ stands_with now segment table buffers stands owned (inl none) =
       segments = rw new (AllByRecursion-push (Keeps (table.segments ++ segment ∷ [])) buffers (opened_by table.limits now (arrival_of segment))
           (keep_others table.segments segment buffers absent stands.segments) last);
     }
-stands_with now segment table buffers stands owned (inr one) =
+stands_with now slot segment table buffers stands owned (inr one) =
     let there : openings_of segment.key (map opening_of buffers) ≡ 1 = rw (← stands.openings) one in
     record {
       openings = openings_with-some table.limits now segment table.openings (omega arith)
@@ -157,7 +157,7 @@ kept_answer-is table key shape buffers stands kept =
 
 -- a key has one opening or none
 pub none_or_one : (key : Key) (openings : List Opening) (slot : Option ℕ)
-    → AllByRecursion (λ opening. openings_of opening.key openings ≡ 1) openings → slot_of key openings ≡ slot
+    → AllByRecursion (λ opening. openings_of opening.key openings ≡ 1) openings → place_of key openings ≡ slot
     → (openings_of key openings ≡ 0) ⊎ (openings_of key openings ≡ 1)
 none_or_one key openings None distinct e = inl (slot_missing key 0 openings e)
 none_or_one key openings (Some slot) distinct e =
@@ -167,7 +167,7 @@ none_or_one key openings (Some slot) distinct e =
 
 -- the buffer of the segment's key, if there is one, is that of a unit of its shape
 pub shape_there : (table : TableState) (segment : Segment) (buffers : List (Buffer Extent)) (slot : Option ℕ) → Stands table buffers
-    → MayKeep table segment → slot_of segment.key table.openings ≡ slot
+    → MayKeep table segment → place_of segment.key table.openings ≡ slot
     → shape_in (buffer_of segment.key buffers) segment.shape ≡ segment.shape
 shape_there table segment buffers None stands may e =
     let missing = buffer_missing segment.key buffers (rw (← stands.openings) (slot_missing segment.key 0 table.openings e)) in
@@ -181,12 +181,12 @@ shape_there table segment buffers (Some slot) stands may e =
     rw there.found (may.same_unit slot (opening_of there.buffer) e here)
 
 -- the answer to a segment that is kept
-pub answer_with : (now : ℕ) (segment : Segment) (table : TableState) (buffers : List (Buffer Extent)) → Stands table buffers
-    → Stands (with_segment now segment table) (with_kept table.limits now (arrival_of segment) buffers) → MayKeep table segment
+pub answer_with : (now slot : ℕ) (segment : Segment) (table : TableState) (buffers : List (Buffer Extent)) → Stands table buffers
+    → Stands (with_segment now segment slot table) (with_kept table.limits now (arrival_of segment) buffers) → MayKeep table segment
     → kept_answer segment.key (with_kept table.limits now (arrival_of segment) buffers)
     ≡ cond (are_covered (map arrival_of (segments_of segment.key (table.segments ++ segment ∷ []))) 0 (data_len segment.shape)) Whole Held
-answer_with now segment table buffers stands after may =
-    let shape = shape_there table segment buffers (slot_of segment.key table.openings) stands may refl in
+answer_with now slot segment table buffers stands after may =
+    let shape = shape_there table segment buffers (place_of segment.key table.openings) stands may refl in
     let kept = kept_found table.limits now (arrival_of segment) buffers in
-    kept_answer-is (with_segment now segment table) segment.key segment.shape (with_kept table.limits now (arrival_of segment) buffers) after
+    kept_answer-is (with_segment now segment slot table) segment.key segment.shape (with_kept table.limits now (arrival_of segment) buffers) after
     (record { buffer = kept.buffer; found = kept.found; shape_is = kept.shape_is ∙ shape })

@@ -1,3 +1,4 @@
+pub mod AsBefore
 pub mod Closing
 pub mod Counted
 pub mod Covered
@@ -8,6 +9,7 @@ pub mod Expiring
 pub mod Filling
 pub mod Givers
 pub mod Groups
+pub mod InSlots
 pub mod Indexing
 pub mod Keeping
 pub mod Keys
@@ -29,6 +31,7 @@ pub mod SameKey
 pub mod Shared
 pub mod Slots
 pub mod Standing
+pub mod Staying
 pub mod Undoing
 pub mod Undone
 pub mod Walk

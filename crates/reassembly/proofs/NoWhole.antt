@@ -9,7 +9,7 @@ use Rattle.reassembly.specs.declared.table.Accept.TheVariants as accept
 use Rattle.reassembly.specs.declared.table.Expired.{Expired}
 use Rattle.reassembly.specs.declared.table.SlotNo.{SlotNo}
 use Rattle.reassembly.specs.Arrival.{arrival_of}
-use Rattle.reassembly.specs.Buffer.{Buffer, Whole, after, answer, answer_of, buffers_of, due, first_carried, kept_answer, refusal, undone, with_kept, without_due}
+use Rattle.reassembly.specs.Buffer.{Buffer, Whole, after, answer, answer_of, buffers_of, due, first_carried, kept_answer, refusal, undone, with_kept, without, without_due}
 use Rattle.reassembly.specs.NoWhole.{HasNoWhole, IsCompleted}
 use Rattle.reassembly.specs.State.{IsReady, IsWholeSlot, Names, Stands, TableState, said}
 pub use Rattle.reassembly.proofs.Ready.{none_whole-without_due}
@@ -48,6 +48,12 @@ module _ (old new : TableState) (now : ℕ) (segment : Segment) (told : Accept) 
         none_whole = none_whole-after old.limits now (arrival_of segment) ready.buffers ready.ready.none_whole
             (λ whole. said_not_whole told not (answered ready.buffers ready.stands ∙ whole));
       }
+
+pub released_none_whole : (old new : TableState) (slot : ℕ)
+    → ((buffers : List (Buffer Extent)) (key : Key) → Stands old buffers → Names old slot key → Stands new (without key buffers))
+    → IsCompleted old slot → HasNoWhole new
+released_none_whole old new slot stands is =
+    record { buffers = without is.key is.buffers; stands = stands is.buffers is.key is.stands is.named; none_whole = is.none_without }
 
 pub undone_none_whole : (old new : TableState) (slot : ℕ)
     → ((buffers : List (Buffer Extent)) (key : Key) → Stands old buffers → Names old slot key → Stands new (undone key buffers))

@@ -7,11 +7,12 @@ use Rattle.std.proofs.lemmas.List.Sums.{sum_by_push, sum-map}
 use Rattle.reassembly.specs.declared.segment.Key.{Key}
 use Rattle.reassembly.specs.declared.segment.Segment.{Segment}
 use Rattle.reassembly.specs.declared.table.TableLimits.{TableLimits}
-use Rattle.reassembly.specs.declared.table.Opening.{Opening}
+use Rattle.reassembly.specs.declared.openings.Opening.{Opening}
 use Rattle.reassembly.specs.Arrival.{same_key}
-use Rattle.reassembly.specs.Kept.{opening_by, openings_with}
+use Rattle.reassembly.specs.Kept.{opening_by, openings_with, slots_with}
 use Rattle.reassembly.specs.Offered.{MayCome, openings_of, total_size}
 use Rattle.reassembly.specs.Sound.{IsSound}
+use Rattle.reassembly.specs.State.{TableState}
 use Rattle.reassembly.proofs.Keys.{same_key-true, same_key-like}
 use Rattle.reassembly.proofs.Slots.{openings_of-same, openings_of-other}
 use Rattle.nsap.proofs.ClnpBase.Lists.{AllByRecursion-push}
@@ -114,4 +115,17 @@ pub openings_with-some : (limits : TableLimits) (now : ℕ) (segment : Segment) 
     → openings_with limits now segment openings ≡ openings
 openings_with-some limits now segment openings some =
     let test : (openings_of segment.key openings == 0) ≡ false = ne_eqb (openings_of segment.key openings) 0 (λ e. omega arith) in
+    rw test refl
+
+-- and the slots
+pub slots_with-none : (segment : Segment) (slot : ℕ) (table : TableState) → openings_of segment.key table.openings ≡ 0
+    → slots_with segment slot table ≡ table.slots ++ slot ∷ []
+slots_with-none segment slot table none =
+    let test : (openings_of segment.key table.openings == 0) ≡ true = rw none refl in
+    rw test refl
+
+pub slots_with-some : (segment : Segment) (slot : ℕ) (table : TableState) → 1 ≤ openings_of segment.key table.openings
+    → slots_with segment slot table ≡ table.slots
+slots_with-some segment slot table some =
+    let test : (openings_of segment.key table.openings == 0) ≡ false = ne_eqb (openings_of segment.key table.openings) 0 (λ e. omega arith) in
     rw test refl

@@ -12,11 +12,11 @@ use Rattle.reassembly.specs.declared.segment.Key.{Key}
 use Rattle.reassembly.specs.declared.segment.Segment.{Segment}
 use Rattle.reassembly.specs.declared.segment.Shape.{Shape}
 use Rattle.reassembly.specs.declared.table.TableLimits.{TableLimits}
-use Rattle.reassembly.specs.declared.table.Opening.{Opening}
+use Rattle.reassembly.specs.declared.openings.Opening.{Opening}
 use Rattle.reassembly.specs.Arrival.{Arrival, arrival_of, are_covered, same_shape}
 use Rattle.reassembly.specs.Buffer.{Buffer, Crowded, Interference, Many, NoSlot, Repeat, buffer_of, clashes, held, kept, kept_in, refusal, shape_in}
 use Rattle.reassembly.specs.Offered.{openings_of}
-use Rattle.reassembly.specs.State.{Stands, TableState, opening_of, segments_of, slot_of}
+use Rattle.reassembly.specs.State.{Stands, TableState, opening_of, segments_of, place_of}
 use Rattle.reassembly.proofs.Slots.{slot_missing, slot_there}
 use Rattle.reassembly.proofs.Standing.{buffer_missing, buffer_there, kept_there}
 
@@ -33,7 +33,7 @@ same_shape-Decides a b =
     (Decides-and (a.head_len == b.head_len) (a.kind == b.kind) (Decides-eqb a.head_len b.head_len) (Decides-eqb a.kind b.kind)))
 
 -- the place of an opening is one of the table
-pub slot_within : (key : Key) (openings : List Opening) (slot : Option ℕ) → slot_of key openings ≡ slot
+pub slot_within : (key : Key) (openings : List Opening) (slot : Option ℕ) → place_of key openings ≡ slot
     → IfSome slot (λ place. place < length openings)
 slot_within key openings None e = tt
 slot_within key openings (Some slot) e =
@@ -67,7 +67,7 @@ clashes_by buffer shape other false e is = record {
 }
 
 pub clashes_there : (table : TableState) (key : Key) (shape : Shape) (buffers : List (Buffer Extent)) (slot : Option ℕ) (other : Option Shape)
-    → Stands table buffers → slot_of key table.openings ≡ slot → IsOther table.openings shape slot other
+    → Stands table buffers → place_of key table.openings ≡ slot → IsOther table.openings shape slot other
     → Clashes (buffer_of key buffers) shape other
 clashes_there table key shape buffers None other stands e is =
     let missing = buffer_missing key buffers (subst (λ (openings : List Opening). openings_of key openings ≡ 0) stands.openings (slot_missing key 0 table.openings e)) in
@@ -77,7 +77,7 @@ clashes_there table key shape buffers None other stands e is =
       shape_is = λ kept f. absurd (let g : None ≡ Some kept = sym is ∙ f in cc);
     })
 clashes_there table key shape buffers (Some slot) other stands e is =
-    let there = buffer_there key 0 slot buffers (subst (λ (openings : List Opening). slot_of key openings ≡ Some slot) stands.openings e) in
+    let there = buffer_there key 0 slot buffers (subst (λ (openings : List Opening). place_of key openings ≡ Some slot) stands.openings e) in
     let at : there.at ≡ slot = (let f = there.counted in omega arith) in
     let here : slice_get table.openings slot ≡ Some (opening_of there.buffer)
     = subst (λ (n : ℕ). slice_get table.openings n ≡ Some (opening_of there.buffer)) at
@@ -87,17 +87,17 @@ clashes_there table key shape buffers (Some slot) other stands e is =
 
 -- there is no buffer where there is no opening
 pub none_there : (table : TableState) (key : Key) (buffers : List (Buffer Extent)) (slot : Option ℕ) → Stands table buffers
-    → slot_of key table.openings ≡ slot → is_none slot ≡ is_none (buffer_of key buffers)
+    → place_of key table.openings ≡ slot → is_none slot ≡ is_none (buffer_of key buffers)
 none_there table key buffers None stands e =
     let missing = buffer_missing key buffers (subst (λ (openings : List Opening). openings_of key openings ≡ 0) stands.openings (slot_missing key 0 table.openings e)) in
     sym (ap (λ (found : Option (Buffer Extent)). is_none found) missing)
 none_there table key buffers (Some slot) stands e =
-    let there = buffer_there key 0 slot buffers (subst (λ (openings : List Opening). slot_of key openings ≡ Some slot) stands.openings e) in
+    let there = buffer_there key 0 slot buffers (subst (λ (openings : List Opening). place_of key openings ≡ Some slot) stands.openings e) in
     sym (ap (λ (found : Option (Buffer Extent)). is_none found) there.found)
 
 -- a buffer whose shape is no other has this one
-pub same_unit_there : (openings : List Opening) (key : Key) (shape : Shape) (slot : Option ℕ) (other : Option Shape) → slot_of key openings ≡ slot
-    → IsOther openings shape slot other → other ≡ None → (place : ℕ) (opening : Opening) → slot_of key openings ≡ Some place
+pub same_unit_there : (openings : List Opening) (key : Key) (shape : Shape) (slot : Option ℕ) (other : Option Shape) → place_of key openings ≡ slot
+    → IsOther openings shape slot other → other ≡ None → (place : ℕ) (opening : Opening) → place_of key openings ≡ Some place
     → slice_get openings place ≡ Some opening → opening.shape ≡ shape
 same_unit_there openings key shape None other e is none place opening f there = absurd (let g : None ≡ Some place = sym e ∙ f in cc)
 same_unit_there openings key shape (Some slot) other e is none place opening f there =
@@ -109,7 +109,7 @@ same_unit_there openings key shape (Some slot) other e is none place opening f t
     ]
 
 -- a table that lacks no opening has room for one
-pub room_there : (openings : List Opening) (key : Key) (slots : ℕ) (slot : Option ℕ) → slot_of key openings ≡ slot
+pub room_there : (openings : List Opening) (key : Key) (slots : ℕ) (slot : Option ℕ) → place_of key openings ≡ slot
     → (is_none slot && nat_le slots (length openings)) ≡ false → openings_of key openings ≡ 0 → length openings < slots
 room_there openings key slots None e room none = leb-false slots (length openings) room
 room_there openings key slots (Some slot) e room none = let there = slot_there key 0 slot openings e in let some = there.some in absurd (omega arith)
@@ -128,7 +128,7 @@ covered_there table segment buffers segments there stands owned same told =
 
 -- there is no buffer and none is left, as the table's openings have it
 pub full_there : (table : TableState) (key : Key) (buffers : List (Buffer Extent)) (slot : Option ℕ) (full : Bool) → Stands table buffers
-    → slot_of key table.openings ≡ slot → full ≡ (is_none slot && nat_le table.limits.slots (length table.openings))
+    → place_of key table.openings ≡ slot → full ≡ (is_none slot && nat_le table.limits.slots (length table.openings))
     → (is_none (buffer_of key buffers) && nat_le table.limits.slots (length buffers)) ≡ full
 full_there table key buffers slot full stands e told =
     let none = none_there table key buffers slot stands e in

@@ -4,7 +4,7 @@ use Rattle.std.specs.List.{AllByRecursion, position_from}
 use Rattle.std.proofs.lemmas.Bool.{cases_Bool}
 use Rattle.reassembly.specs.declared.segment.Key.{Key}
 use Rattle.reassembly.specs.declared.segment.Segment.{Segment}
-use Rattle.reassembly.specs.declared.table.Opening.{Opening}
+use Rattle.reassembly.specs.declared.openings.Opening.{Opening}
 use Rattle.reassembly.specs.Arrival.{same_key}
 use Rattle.reassembly.specs.Offered.{openings_of}
 use Rattle.reassembly.specs.State.{segments_of}

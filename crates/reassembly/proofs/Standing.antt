@@ -2,14 +2,22 @@
 use Rattle.std.proofs.Common.{◌≡◌, ℕ, suc, ◌+◌, List, [], ◌∷◌, Option, Some, None, map, slice_get, ap, sym, ◌∙◌, refl, subst, inl, inr, arith}
 use Rattle.std.specs.List.{AllByRecursion}
 use Rattle.std.proofs.lemmas.Bool.{cases_Bool}
+use Rattle.std.proofs.lemmas.Option.{same_Some}
 use Rattle.clnp_views.specs.Extent.{Extent}
 use Rattle.reassembly.specs.declared.segment.Key.{Key}
+use Rattle.reassembly.specs.declared.openings.Opening.{Opening}
 use Rattle.reassembly.specs.Arrival.{arrival_of, same_key}
 use Rattle.reassembly.specs.Buffer.{Buffer, buffer_of, kept_in}
 use Rattle.reassembly.specs.Offered.{openings_of}
-use Rattle.reassembly.specs.State.{KeepsSegments, Stands, TableState, opening_of, segments_of}
+use Rattle.reassembly.specs.State.{IsAt, KeepsSegments, Stands, TableState, opening_of, segments_of}
 use Rattle.reassembly.proofs.Keys.{same_key-true}
 use Rattle.reassembly.proofs.Slots.{slot_from, openings_of-same, openings_of-other, no_segments}
+
+-- the key at a place is that of the opening there
+pub key_at : (table : TableState) (place : ℕ) (opening : Opening) (key : Key) → slice_get table.openings place ≡ Some opening → IsAt table place key
+    → opening.key ≡ key
+key_at table place opening key at is =
+    ap (λ (o : Opening). o.key) (same_Some opening is.opening (sym at ∙ is.stands_at)) ∙ is.key_is
 
 -- the buffer of a key is the one at the place of the key's first opening
 pub record IsThere (key : Key) (n slot : ℕ) (buffers : List (Buffer Extent)) : Type 0 where

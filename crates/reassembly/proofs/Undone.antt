@@ -6,7 +6,7 @@ use Rattle.std.proofs.lemmas.Bool.{cases_Bool}
 use Rattle.clnp_views.specs.Extent.{Extent}
 use Rattle.reassembly.specs.declared.segment.Key.{Key}
 use Rattle.reassembly.specs.declared.segment.Segment.{Segment}
-use Rattle.reassembly.specs.declared.table.Opening.{Opening}
+use Rattle.reassembly.specs.declared.openings.Opening.{Opening}
 use Rattle.reassembly.specs.declared.table.TableLimits.{TableLimits}
 use Rattle.reassembly.specs.Arrival.{Arrival, arrival_of, same_key}
 use Rattle.reassembly.specs.Buffer.{Buffer, but_last, holding, undone, without}
@@ -76,12 +76,12 @@ keep-holding : (table : TableState) (kept : List (Arrival Extent)) (buffer : Buf
 keep-holding table [] buffer others e h = h
 keep-holding table (arrival ∷ kept) buffer others e h = (e, h)
 
-module _ (key : Key) (limits : TableLimits) (segments : List Segment) (openings after : List Opening) where
+module _ (key : Key) (limits : TableLimits) (segments : List Segment) (openings after : List Opening) (slots left_slots : List ℕ) where
   abbrev old : TableState
-  old = record { limits = limits; openings = openings; segments = segments }
+  old = record { limits = limits; openings = openings; slots = slots; segments = segments }
 
   abbrev new : TableState
-  new = record { limits = limits; openings = after; segments = without_last key segments }
+  new = record { limits = limits; openings = after; slots = left_slots; segments = without_last key segments }
 
   keep-others : (buffer : Buffer Extent) → same_key buffer.key key ≡ false → KeepsSegments old buffer → KeepsSegments new buffer
   keep-others buffer f k =

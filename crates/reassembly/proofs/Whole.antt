@@ -4,11 +4,11 @@ use Rattle.std.specs.List.{AllByRecursion}
 use Rattle.std.proofs.lemmas.Bool.{cases_Bool}
 use Rattle.clnp_views.specs.Extent.{Extent}
 use Rattle.reassembly.specs.declared.segment.Key.{Key}
-use Rattle.reassembly.specs.declared.table.Opening.{Opening}
+use Rattle.reassembly.specs.declared.openings.Opening.{Opening}
 use Rattle.reassembly.specs.Arrival.{same_key}
 use Rattle.reassembly.specs.Buffer.{Buffer, buffer_of}
 use Rattle.reassembly.specs.Offered.{openings_of}
-use Rattle.reassembly.specs.State.{Names, Stands, TableState, opening_of}
+use Rattle.reassembly.specs.State.{IsAt, Stands, TableState, opening_of}
 use Rattle.reassembly.proofs.Keys.{same_key-like}
 use Rattle.reassembly.proofs.Slots.{openings_of-other, openings_of-same}
 use Rattle.nsap.proofs.ClnpBase.Lists.{AllByRecursion-slice_get}
@@ -48,7 +48,7 @@ opening_there key (first ∷ others) (suc slot) opening buffer one found e key_i
 
 pub named_there : (table : TableState) (buffers : List (Buffer Extent)) (buffer : Buffer Extent) (slot : ℕ) → Stands table buffers
     → AllByRecursion (λ opening. openings_of opening.key table.openings ≡ 1) table.openings
-    → buffer_of buffer.key buffers ≡ Some buffer → Names table slot buffer.key → slice_get table.openings slot ≡ Some (opening_of buffer)
+    → buffer_of buffer.key buffers ≡ Some buffer → IsAt table slot buffer.key → slice_get table.openings slot ≡ Some (opening_of buffer)
 named_there table buffers buffer slot stands distinct found named =
     let one = subst (λ (k : Key). openings_of k table.openings ≡ 1) named.key_is
     (AllByRecursion-slice_get (λ (opening : Opening). openings_of opening.key table.openings ≡ 1) table.openings slot named.opening named.stands_at distinct) in

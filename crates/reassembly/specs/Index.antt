@@ -4,7 +4,7 @@ use Rattle.std.specs.List.{AllByRecursion, position_from}
 use Rattle.reassembly.specs.declared.runs.Run.{Run}
 use Rattle.reassembly.specs.declared.segment.Key.{Key}
 use Rattle.reassembly.specs.declared.segment.Segment.{Segment}
-use Rattle.reassembly.specs.declared.table.Opening.{Opening}
+use Rattle.reassembly.specs.declared.openings.Opening.{Opening}
 use Rattle.reassembly.specs.declared.table.TableLimits.{TableLimits}
 use Rattle.reassembly.specs.Arrival.{arrival_of, data_len, has, same_key}
 use Rattle.reassembly.specs.Offered.{MayCome, openings_of}

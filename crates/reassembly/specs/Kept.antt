@@ -1,10 +1,11 @@
 -- What a table keeps once a segment is kept.
-use Rattle.std.specs.Prelude.{ℕ, ◌+◌, ◌==◌, min, if◌then◌else◌, List, [], ◌∷◌, ◌++◌}
+use Rattle.std.specs.Prelude.{◌≡◌, ℕ, ◌+◌, ◌==◌, min, if◌then◌else◌, List, [], ◌∷◌, ◌++◌}
+use Rattle.std.specs.List.{AllByRecursion}
 use Rattle.reassembly.specs.declared.segment.Segment.{Segment}
 use Rattle.reassembly.specs.declared.table.TableLimits.{TableLimits}
-use Rattle.reassembly.specs.declared.table.Opening.{Opening}
+use Rattle.reassembly.specs.declared.openings.Opening.{Opening}
 use Rattle.reassembly.specs.Offered.{openings_of}
-use Rattle.reassembly.specs.State.{TableState}
+use Rattle.reassembly.specs.State.{MayKeep, TableState}
 
 -- the opening that a segment makes
 abbrev pub opening_by : TableLimits → ℕ → Segment → Opening
@@ -16,9 +17,25 @@ abbrev pub openings_with : TableLimits → ℕ → Segment → List Opening → 
 openings_with limits now segment openings =
     if openings_of segment.key openings == 0 then openings ++ opening_by limits now segment ∷ [] else openings
 
-abbrev pub with_opening : ℕ → Segment → TableState → TableState
-with_opening now segment table = record table { openings = openings_with table.limits now segment table.openings }
+-- the slots with this one at the end, where the segment's key had no opening
+abbrev pub slots_with : Segment → ℕ → TableState → List ℕ
+slots_with segment slot table =
+    if openings_of segment.key table.openings == 0 then table.slots ++ slot ∷ [] else table.slots
 
--- the table with an opening for the segment, and the segment at the end
-abbrev pub with_segment : ℕ → Segment → TableState → TableState
-with_segment now segment table = record (with_opening now segment table) { segments = table.segments ++ segment ∷ [] }
+abbrev pub with_opening : ℕ → Segment → ℕ → TableState → TableState
+with_opening now segment slot table =
+    record table {
+      openings = openings_with table.limits now segment table.openings;
+      slots = slots_with segment slot table;
+    }
+
+-- the table with an opening for the segment, which has this slot where it is new, and the segment at the end
+abbrev pub with_segment : ℕ → Segment → ℕ → TableState → TableState
+with_segment now segment slot table = record (with_opening now segment slot table) { segments = table.segments ++ segment ∷ [] }
+
+-- The segment, for which there was room, is kept in addition to what the table kept, each segment of which had its opening.
+pub record IsKept (now : ℕ) (segment : Segment) (before after : TableState) : Type 0 where
+  pub may : MayKeep before segment
+  pub owned : AllByRecursion (λ other. openings_of other.key before.openings ≡ 1) before.segments
+  pub slot : ℕ
+  pub is : after ≡ with_segment now segment slot before

@@ -7,6 +7,7 @@ pub mod Kept
 pub mod Mapped
 pub mod NoWhole
 pub mod Offered
+pub mod Openings
 pub mod Runs
 pub mod Sound
 pub mod State

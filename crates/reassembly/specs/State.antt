@@ -5,17 +5,19 @@ use Rattle.clnp_views.specs.Extent.{Extent}
 use Rattle.reassembly.specs.declared.segment.Key.{Key}
 use Rattle.reassembly.specs.declared.segment.Segment.{Segment}
 use Rattle.reassembly.specs.declared.table.TableLimits.{TableLimits}
-use Rattle.reassembly.specs.declared.table.Opening.{Opening}
+use Rattle.reassembly.specs.declared.openings.Opening.{Opening}
 use Rattle.reassembly.specs.declared.table.Accept.{Accept}
 use Rattle.reassembly.specs.declared.table.Accept.TheVariants as accept
 use Rattle.reassembly.specs.Arrival.{arrival_of, same_key}
 use Rattle.reassembly.specs.Offered.{openings_of, total_size}
 use Rattle.reassembly.specs.Buffer.{Buffer, Answer, Held, Whole, Interference, Repeat, NoSlot, Crowded, Many, is_whole, buffer_of, due}
 
--- its numbers, the open buffers in the order of their opening, and the kept segments of all of them as they came
+-- its numbers, the open buffers in the order of their opening, the slot of each of them in the same order, and the kept
+-- segments of all of them as they came
 pub record TableState : Type 0 where
   pub limits : TableLimits
   pub openings : List Opening
+  pub slots : List ℕ
   pub segments : List Segment
 
 -- the kept segments of a key
@@ -35,11 +37,23 @@ pub record Stands (table : TableState) (buffers : List (Buffer Extent)) : Type 0
   pub openings : table.openings ≡ map opening_of buffers
   pub segments : AllByRecursion (KeepsSegments table) buffers
 
+-- the opening at a place has this key
+pub record IsAt (table : TableState) (place : ℕ) (key : Key) : Type 0 where
+  pub opening : Opening
+  pub stands_at : slice_get table.openings place ≡ Some opening
+  pub key_is : opening.key ≡ key
+
 -- a slot of the table is that of the buffer of this key
 pub record Names (table : TableState) (slot : ℕ) (key : Key) : Type 0 where
-  pub opening : Opening
-  pub stands_at : slice_get table.openings slot ≡ Some opening
-  pub key_is : opening.key ≡ key
+  pub place : ℕ
+  pub has_slot : slice_get table.slots place ≡ Some slot
+  pub is_at : IsAt table place key
+
+-- a buffer that is there before and after has the same slot
+abbrev pub SlotsStay : TableState → TableState → Type 0
+SlotsStay before after =
+    (slot : ℕ) (key : Key) (buffers : List (Buffer Extent)) (buffer : Buffer Extent) → Names before slot key → Stands after buffers
+    → buffer_of key buffers ≡ Some buffer → Names after slot key
 
 -- a slot of the table is that of a buffer which is whole
 pub record IsWholeSlot (table : TableState) (slot : ℕ) : Type 0 where
@@ -61,15 +75,15 @@ pub record IsReady (now : ℕ) (table : TableState) : Type 0 where
   pub ready : AreReady now buffers
 
 -- the place of the opening of a key
-abbrev pub slot_of : Key → List Opening → Option ℕ
-slot_of key openings = position_from (λ opening. same_key opening.key key) 0 openings
+abbrev pub place_of : Key → List Opening → Option ℕ
+place_of key openings = position_from (λ opening. same_key opening.key key) 0 openings
 
 -- there is room for a segment that is to be kept, and the buffer of its key is that of a unit of its shape
 pub record MayKeep (table : TableState) (segment : Segment) : Type 0 where
   pub within_budget : total_size table.segments + length segment.pdu.frame ≤ table.limits.budget
   pub few_segments : length table.segments < table.limits.segments
   pub few_openings : openings_of segment.key table.openings ≡ 0 → length table.openings < table.limits.slots
-  pub same_unit : (slot : ℕ) (opening : Opening) → slot_of segment.key table.openings ≡ Some slot
+  pub same_unit : (slot : ℕ) (opening : Opening) → place_of segment.key table.openings ≡ Some slot
       → slice_get table.openings slot ≡ Some opening → opening.shape ≡ segment.shape
 
 -- what the code's answer says

@@ -3,6 +3,7 @@
 #![tactic(auto)]
 
 pub mod laws;
+mod openings;
 mod pieces;
 mod runs;
 mod segment;

@@ -21,7 +21,8 @@ pub struct Run {
 
 /// The runs of each open unit, in the order of their openings.
 ///
-/// A contract sees a list of runs for each unit, and for how many units and runs there is room.
+/// A contract sees a list of runs for each unit, and for how many units and runs there is room. A unit is told by its place
+/// in that order, which isn't the slot of its buffer.
 #[derive(Drop)]
 pub struct Runs {
     /// How many runs each unit has.

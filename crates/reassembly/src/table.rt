@@ -5,11 +5,12 @@ ghost use Rattle.clnp_views.specs.Extent.{Extent};
 ghost use Rattle.reassembly.specs.Arrival.{are_covered, arrival_of, octet_in, same_shape};
 ghost use Rattle.reassembly.specs.Buffer as buffer;
 ghost use Rattle.reassembly.specs.Buffer.{Buffer};
-ghost use Rattle.reassembly.specs.Kept.{with_opening};
+ghost use Rattle.reassembly.specs.Kept.{IsKept, with_opening};
 ghost use Rattle.reassembly.specs.NoWhole.{HasNoWhole, IsCompleted};
 ghost use Rattle.reassembly.specs.Offered.{MayCome, openings_of};
-ghost use Rattle.reassembly.specs.State.{IsReady, IsWholeSlot, MayKeep, Names, Stands, said, segments_of, slot_of, was_kept};
+ghost use Rattle.reassembly.specs.State.{IsAt, IsReady, IsWholeSlot, MayKeep, Names, SlotsStay, Stands, place_of, said, segments_of, was_kept};
 
+use crate::openings::{Opening, Openings};
 use crate::pieces::Pieces;
 use crate::runs::{Runs, has_gap};
 use crate::segment::{Key, Segment, Shape};
@@ -33,7 +34,8 @@ pub struct TableLimits {
     pub hold: u8,
 }
 
-/// A buffer's place in its table, until the buffer is taken out.
+/// Where a buffer stands in its table. It stays so until the buffer is taken out, whatever comes of others; a later
+/// buffer may be given it then.
 #[derive(Clone, Copy, PartialEq, Eq)]
 pub struct SlotNo(pub usize);
 
@@ -64,15 +66,6 @@ pub struct Expired {
     pub first: Option<View>,
 }
 
-/// A buffer that is open.
-#[derive(Clone, Copy)]
-pub struct Opening {
-    key: Key,
-    shape: Shape,
-    /// The moment from which its time has ended.
-    deadline: u64,
-}
-
 /// Reassembly buffers: the open ones in the order of their opening, the segments of all of them in the order in which
 /// they came, and for each open one the runs of its places.
 ///
@@ -80,7 +73,7 @@ pub struct Opening {
 #[derive(Drop)]
 pub struct Table {
     limits: TableLimits,
-    openings: Vec<Opening>,
+    openings: Openings,
     segments: Vec<Segment>,
     runs: Runs,
     /// Room for other indices of the segments.
@@ -96,12 +89,12 @@ impl Model for Table {
 
     ghost Value = { TableState };
 
-    ghost view = { λ t. record { limits = t.limits; openings = t.openings.items; segments = t.segments.items } };
+    ghost view = { λ t. record { limits = t.limits; openings = t.openings.list; slots = t.openings.slots; segments = t.segments.items } };
 
     // Room for all that the limits allow was reserved when the table was made.
-    ghost invariant = { λ t. IsSound t.limits t.openings.items t.segments.items t.held
-        × (t.limits.slots ≤ vec_capacity t.openings) × (t.limits.segments ≤ vec_capacity t.segments)
-        × IsIndexed t.limits t.openings.items t.segments.items t.runs (vec_capacity t.names) };
+    ghost invariant = { λ t. IsSound t.limits t.openings.list t.segments.items t.held
+        × (t.limits.slots ≤ t.openings.room) × (t.limits.segments ≤ vec_capacity t.segments)
+        × IsIndexed t.limits t.openings.list t.segments.items t.runs (vec_capacity t.names) };
 }
 
 impl Table {
@@ -115,9 +108,7 @@ impl Table {
         ensures none_whole { IfOk result HasNoWhole }
         ensures limits { IfOk result (λ table. table.limits ≡ limits) }
     {
-        let Ok(openings) = Vec::with_capacity(alloc, usize::from(limits.slots)) else {
-            return Err(NoMemory);
-        };
+        let openings = Openings::new(alloc, usize::from(limits.slots))?;
         let Ok(segments) = Vec::with_capacity(alloc, usize::from(limits.segments)) else {
             return Err(NoMemory);
         };
@@ -159,33 +150,35 @@ impl Table {
         ensures completed { (slot : SlotNo) → result ≡ Accept.Whole slot → IsCompleted self.new slot.0 }
         ensures none_whole { ((slot : SlotNo) → result ≢ Accept.Whole slot) → HasNoWhole self.new }
         ensures same { was_kept result ≡ false → self.new ≡ self.old }
-        ensures segments { was_kept result ≡ true → self.new.segments ≡ self.old.segments ++ segment ∷ [] }
+        ensures kept { was_kept result ≡ true → IsKept now segment self.old self.new }
+        ensures slots { SlotsStay self.old self.new }
         ensures limits { self.new.limits ≡ self.old.limits }
     {
-        match self.refusal(&segment) {
+        let place = self.place_of(&segment.key);
+        match self.refusal(place, &segment) {
             Some(refusal) => refusal,
-            None => self.keep(now, segment),
+            None => self.keep(now, place, segment),
         }
     }
 
-    /// Why a segment isn't kept, if it isn't.
-    fn refusal(&self, segment: &Segment) -> Option<Accept>
-        requires { MayCome segment.now }
+    /// Why a segment isn't kept, if it isn't; its key has its opening at this place.
+    fn refusal(&self, place: Option<usize>, segment: &Segment) -> Option<Accept>
+        requires offered { MayCome segment.now }
+        requires place { place ≡ place_of segment.now.key self.now.openings }
         ensures refused { (buffers : List (Buffer Extent)) → Stands self.now buffers
             → option_map said result ≡ buffer.refusal self.now.limits (arrival_of segment.now) buffers }
         ensures not_kept { IfSome result (λ answer. was_kept answer ≡ false) }
         ensures room { IfNone result (MayKeep self.now segment.now) }
     {
-        let slot = self.slot_of(&segment.key);
-        if let Some(kept) = self.other_shape(slot, segment.shape) {
+        if let Some(kept) = self.other_shape(place, segment.shape) {
             let offered = segment.shape;
             return Some(Accept::Interference { kept, offered });
         }
         let held = self.held;
-        if self.is_there(slot, segment) {
+        if self.is_there(place, segment) {
             return Some(Accept::Repeat);
         }
-        if self.lacks_slot(slot) {
+        if self.lacks_slot(place) {
             let live = self.live();
             return Some(Accept::NoSlot { live });
         }
@@ -201,94 +194,95 @@ impl Table {
     }
 
     /// The shape of the buffer at a place, if it is another one than this.
-    fn other_shape(&self, slot: Option<usize>, shape: Shape) -> Option<Shape>
-        requires { IfSome slot (λ slot. slot < length self.now.openings) }
-        ensures { MatchOption slot (result ≡ None) (λ slot. (opening : Opening) → slice_get self.now.openings slot ≡ Some opening
+    fn other_shape(&self, place: Option<usize>, shape: Shape) -> Option<Shape>
+        requires { IfSome place (λ place. place < length self.now.openings) }
+        ensures { MatchOption place (result ≡ None) (λ place. (opening : Opening) → slice_get self.now.openings place ≡ Some opening
             → result ≡ (if same_shape opening.shape shape then None else Some opening.shape)) }
     {
-        let kept = self.openings[slot?].shape;
+        let kept = self.openings.at(place?).shape;
         if kept == shape { None } else { Some(kept) }
     }
 
-    /// Whether each octet of a segment is there, which the buffer of its key has at this place.
-    fn is_there(&self, slot: Option<usize>, segment: &Segment) -> bool
+    /// Whether each octet of a segment is there, whose key has its opening at this place.
+    fn is_there(&self, place: Option<usize>, segment: &Segment) -> bool
         requires offered { MayCome segment.now }
-        requires slot { slot_of segment.now.key self.now.openings ≡ slot }
-        requires shape { (place : ℕ) (opening : Opening) → slot ≡ Some place → slice_get self.now.openings place ≡ Some opening
+        requires place { place_of segment.now.key self.now.openings ≡ place }
+        requires shape { (at : ℕ) (opening : Opening) → place ≡ Some at → slice_get self.now.openings at ≡ Some opening
             → opening.shape ≡ segment.now.shape }
         ensures { result ≡ are_covered (map arrival_of (segments_of segment.now.key self.now.segments)) segment.now.offset (arrival_of segment.now).len }
     {
         let from = segment.offset;
         let to = segment.end();
-        match slot {
-            Some(slot) => !has_gap(self.runs.group(slot), from, to),
+        match place {
+            Some(place) => !has_gap(self.runs.group(place), from, to),
             None => from == to,
         }
     }
 
     /// Whether there is no buffer at this place, and none is free.
-    fn lacks_slot(&self, slot: Option<usize>) -> bool
-        ensures { result ≡ (is_none slot && nat_le self.now.limits.slots (length self.now.openings)) }
+    fn lacks_slot(&self, place: Option<usize>) -> bool
+        ensures { result ≡ (is_none place && nat_le self.now.limits.slots (length self.now.openings)) }
     {
-        slot.is_none() && self.openings.len() >= usize::from(self.limits.slots)
+        place.is_none() && self.openings.len() >= usize::from(self.limits.slots)
     }
 
-    /// Keeps a segment.
-    fn keep(&mut self, now: u64, segment: Segment) -> Accept
+    /// Keeps a segment, whose key has its opening at this place.
+    fn keep(&mut self, now: u64, place: Option<usize>, segment: Segment) -> Accept
         requires moment { now < 2 ^ 62 }
         requires offered { MayCome segment }
+        requires place { place ≡ place_of segment.key self.old.openings }
         requires room { MayKeep self.old segment }
         ensures answered { (buffers : List (Buffer Extent)) → Stands self.old buffers
             → said result ≡ buffer.kept_answer segment.key (buffer.with_kept self.old.limits now (arrival_of segment) buffers) }
         ensures stands { (buffers : List (Buffer Extent)) → Stands self.old buffers
             → Stands self.new (buffer.with_kept self.old.limits now (arrival_of segment) buffers) }
         ensures slot { (slot : SlotNo) → result ≡ Accept.Whole slot → Names self.new slot.0 segment.key }
-        ensures kept { was_kept result ≡ true }
-        ensures segments { self.new.segments ≡ self.old.segments ++ segment ∷ [] }
+        ensures was_kept { was_kept result ≡ true }
+        ensures kept { IsKept now segment self.old self.new }
         ensures limits { self.new.limits ≡ self.old.limits }
     {
-        let slot = self.slot_for(now, &segment);
+        let place = self.place_for(now, place, &segment);
         let shape = segment.shape;
         self.held += segment.pdu.frame_len() as u32;
         let index = self.segments.len() as u16;
-        self.runs.fill(slot, segment.offset, segment.end(), index);
+        self.runs.fill(place, segment.offset, segment.end(), index);
         let Ok(()) = self.segments.push(segment) else {
             unreachable!()
         };
-        if has_gap(self.runs.group(slot), 0, shape.data_len()) {
+        let slot = self.openings.slot_at(place);
+        if has_gap(self.runs.group(place), 0, shape.data_len()) {
             Accept::Held
         } else {
             Accept::Whole(SlotNo(slot))
         }
     }
 
-    /// The place of the buffer of a segment's key, which is opened where there is none.
-    fn slot_for(&mut self, now: u64, segment: &Segment) -> usize
+    /// The place of the opening of a segment's key, which has it at this place, and is given one where it has none.
+    fn place_for(&mut self, now: u64, place: Option<usize>, segment: &Segment) -> usize
         requires moment { now < 2 ^ 62 }
         requires offered { MayCome segment.now }
+        requires place { place ≡ place_of segment.now.key self.old.openings }
         requires room { openings_of segment.now.key self.old.openings ≡ 0 → length self.old.openings < self.old.limits.slots }
-        requires same_unit { (slot : ℕ) (opening : Opening) → slot_of segment.now.key self.old.openings ≡ Some slot
+        requires same_unit { (slot : ℕ) (opening : Opening) → place_of segment.now.key self.old.openings ≡ Some slot
             → slice_get self.old.openings slot ≡ Some opening → opening.shape ≡ segment.now.shape }
-        ensures opened { self.new ≡ with_opening now segment.now self.old }
-        ensures named { Names self.new result segment.now.key }
+        ensures opened { (slot : ℕ) × (self.new ≡ with_opening now segment.now slot self.old) }
+        ensures is_at { IsAt self.new result segment.now.key }
         ensures shaped { (opening : Opening) → slice_get self.new.openings result ≡ Some opening → opening.shape ≡ segment.now.shape }
         ensures distinct { AllByRecursion (λ opening. openings_of opening.key self.old.openings ≡ 1) self.old.openings }
         ensures owned { AllByRecursion (λ other. openings_of other.key self.old.openings ≡ 1) self.old.segments }
     {
-        if let Some(slot) = self.slot_of(&segment.key) {
-            return slot;
+        let limits = self.limits;
+        if let Some(place) = place {
+            return place;
         }
-        let slot = self.openings.len();
-        let opening = Opening {
+        let end = self.openings.len();
+        self.openings.push(Opening {
             key: segment.key,
             shape: segment.shape,
-            deadline: deadline_of(self.limits, now, segment.life),
-        };
-        let Ok(()) = self.openings.push(opening) else {
-            unreachable!()
-        };
+            deadline: deadline_of(limits, now, segment.life),
+        });
         self.runs.open(segment.shape.data_len());
-        slot
+        end
     }
 
     /// The data of a whole unit, piece by piece, each octet from the earliest segment that has it.
@@ -298,9 +292,10 @@ impl Table {
             → buffer.buffer_of whole.key buffers ≡ Some whole → Names self.now slot.0 whole.key
             → result ≡ buffer.data_of octet_in whole }
     {
-        let opening = self.openings[slot.0];
+        let place = self.place_at(slot);
+        let opening = self.openings.at(place);
         let end = usize::from(opening.shape.data_len());
-        Pieces::new(&self.segments, self.runs.group(slot.0), opening.key, end)
+        Pieces::new(&self.segments, self.runs.group(place), opening.key, end)
     }
 
     /// How many octets are held: of the whole frames in which kept segments came.
@@ -327,19 +322,20 @@ impl Table {
         self.openings.len() as u16
     }
 
-    /// The place of the buffer of a key.
-    fn slot_of(&self, key: &Key) -> Option<usize>
-        ensures { result ≡ slot_of key.now self.now.openings }
+    /// The place of the opening of a key.
+    fn place_of(&self, key: &Key) -> Option<usize>
+        ensures { result ≡ place_of key.now self.now.openings }
     {
-        slot_of(&self.openings, key)
+        self.openings.place_of(key)
     }
-}
 
-/// The place of the opening of a key.
-fn slot_of(openings: &[Opening], key: &Key) -> Option<usize>
-    ensures { result ≡ slot_of key.now openings.now }
-{
-    openings.iter().position(|opening| opening.key.is(key))
+    /// The place of the opening in a slot.
+    fn place_at(&self, slot: SlotNo) -> usize
+        requires { IsWholeSlot self.now slot.0 }
+        ensures { (key : Key) → Names self.now slot.0 key → IsAt self.now result key }
+    {
+        self.openings.place_at(slot.0)
+    }
 }
 
 /// The moment from which the time of a buffer has ended that a segment of this lifetime opens.

@@ -1,17 +1,20 @@
 //! Buffers taken out of the table, whole or because their time has ended.
-ghost use Rattle.std.specs.Prelude.{◌≡◌, ◌≢◌, ◌+◌, ◌*◌, ◌≤◌, ◌<◌, ◌^◌, List, [], if◌then◌else◌, length, nat_le, nat_lt, take, None, Some, IfNone, IfSome, MatchOption, option_map, slice_get, vec_capacity};
+ghost use Rattle.std.specs.Prelude.{◌≡◌, ◌≢◌, ◌+◌, ◌*◌, ◌≤◌, ◌<◌, ◌^◌, ℕ, List, [], if◌then◌else◌, length, nat_le, nat_lt, take, None, Some, IfNone, IfSome, MatchOption, option_map, slice_get, vec_capacity};
 ghost use Rattle.std.specs.List.{All, AllByRecursion, position_from, remove};
 ghost use Rattle.clnp_views.specs.Extent.{Extent};
-ghost use Rattle.reassembly.specs.declared.table.Opening.{Opening};
+ghost use Rattle.reassembly.specs.declared.openings.Opening.{Opening};
 ghost use Rattle.reassembly.specs.Offered.{total_size};
 ghost use Rattle.reassembly.specs.Buffer as buffer;
 ghost use Rattle.reassembly.specs.Buffer.{Buffer};
 ghost use Rattle.reassembly.specs.Ending.{first_pdu, is_start_of, others_of, places_without, without_last};
 ghost use Rattle.reassembly.specs.Index.{IsIndexOf, MayBeIndexed};
+ghost use Rattle.reassembly.specs.Kept.{IsKept};
 ghost use Rattle.reassembly.specs.NoWhole.{HasNoWhole, IsCompleted};
-ghost use Rattle.reassembly.specs.State.{IsReady, IsWholeSlot, Names, Stands, segments_of};
+ghost use Rattle.reassembly.specs.Openings.{AreWithout};
+ghost use Rattle.reassembly.specs.State.{IsAt, IsReady, IsWholeSlot, Names, SlotsStay, Stands, TableState, segments_of};
 
-use super::{Expired, Opening, SlotNo, Table, slot_of};
+use super::{Expired, SlotNo, Table};
+use crate::openings::Openings;
 use crate::runs::Runs;
 use crate::segment::{Key, Segment};
 use clnp_views::View;
@@ -23,23 +26,29 @@ impl Table {
         ensures stands { (buffers : List (Buffer Extent)) (key : Key) → Stands self.old buffers → Names self.old slot.0 key
             → Stands self.new (buffer.without key buffers) }
         ensures none_whole { IsCompleted self.old slot.0 → HasNoWhole self.new }
+        ensures slots { SlotsStay self.old self.new }
         ensures limits { self.new.limits ≡ self.old.limits }
     {
-        self.take_out(slot.0);
+        let place = self.place_at(slot);
+        self.take_out(place);
     }
 
-    /// Takes the segment that made a buffer whole out again: the last one of it.
+    /// Takes the segment that made a buffer whole out again: the last one of it. Where it is the one that was kept last, the
+    /// table is as it was before it came.
     pub fn undo(&mut self, slot: SlotNo)
         requires { IsWholeSlot self.old slot.0 }
         ensures stands { (buffers : List (Buffer Extent)) (key : Key) → Stands self.old buffers → Names self.old slot.0 key
             → Stands self.new (buffer.undone key buffers) }
         ensures none_whole { IsCompleted self.old slot.0 → HasNoWhole self.new }
+        ensures as_before { (before : TableState) (now : ℕ) (segment : Segment) → IsKept now segment before self.old
+            → Names self.old slot.0 segment.key → self.new ≡ before }
+        ensures slots { SlotsStay self.old self.new }
         ensures limits { self.new.limits ≡ self.old.limits }
-        ensures segments { (key : Key) → Names self.old slot.0 key → self.new.segments ≡ without_last key self.old.segments }
     {
-        let key = self.openings[slot.0].key;
+        let place = self.place_at(slot);
+        let key = self.openings.at(place).key;
         drop_last(&mut self.segments, &key);
-        close_empty(&mut self.openings, slot.0, &self.segments, &key);
+        close_empty(&mut self.openings, place, &self.segments, &key);
         self.held = total_size(&self.segments);
         reindex(&mut self.runs, &self.openings, &self.segments);
     }
@@ -53,11 +62,12 @@ impl Table {
             → Stands self.new (buffer.without_due (buffer.due now buffers) buffers) }
         ensures none_whole { HasNoWhole self.old → HasNoWhole self.new }
         ensures ready { HasNoWhole self.old → result ≡ None → IsReady now self.new }
+        ensures slots { SlotsStay self.old self.new }
         ensures limits { self.new.limits ≡ self.old.limits }
     {
-        let slot = due_slot(&self.openings, now)?;
-        let key = self.openings[slot].key;
-        let first = self.take_out(slot);
+        let place = due_place(&self.openings, now)?;
+        let key = self.openings.at(place).key;
+        let first = self.take_out(place);
         Some(Expired { key, first })
     }
 
@@ -74,16 +84,17 @@ impl Table {
     }
 
     /// Takes the buffer at a place out, and gives the PDU of its earliest segment at the beginning of the unit.
-    fn take_out(&mut self, slot: usize) -> Option<View>
-        requires { slot < length self.old.openings }
-        ensures stands { (buffers : List (Buffer Extent)) (key : Key) → Stands self.old buffers → Names self.old slot key
+    fn take_out(&mut self, place: usize) -> Option<View>
+        requires { place < length self.old.openings }
+        ensures stands { (buffers : List (Buffer Extent)) (key : Key) → Stands self.old buffers → IsAt self.old place key
             → Stands self.new (buffer.without key buffers) }
-        ensures first { (buffers : List (Buffer Extent)) (taken : Buffer Extent) → Stands self.old buffers → Names self.old slot taken.key
+        ensures first { (buffers : List (Buffer Extent)) (taken : Buffer Extent) → Stands self.old buffers → IsAt self.old place taken.key
             → buffer.buffer_of taken.key buffers ≡ Some taken → result ≡ buffer.first_carried taken }
+        ensures slots { SlotsStay self.old self.new }
         ensures limits { self.new.limits ≡ self.old.limits }
     {
-        let key = self.openings.remove(slot).key;
-        self.runs.remove(slot);
+        let key = self.openings.remove(place).key;
+        self.runs.remove(place);
         places_without(&mut self.names, &self.segments, &key);
         self.runs.rename(&self.names);
         let first = take_first(&mut self.segments, &key);
@@ -119,11 +130,11 @@ fn place_behind(place: u16, is_out: bool) -> u16
 }
 
 /// Makes the runs of each opening anew, from its segments.
-fn reindex(runs: &mut Runs, openings: &[Opening], segments: &[Segment])
-    requires kept { MayBeIndexed openings.now segments.now }
-    requires slots { length openings.now ≤ runs.old.slots }
-    requires room { 2 * length segments.now + length openings.now ≤ runs.old.room }
-    ensures index { IsIndexOf segments.now openings.now runs.new.groups }
+fn reindex(runs: &mut Runs, openings: &Openings, segments: &[Segment])
+    requires kept { MayBeIndexed openings.now.list segments.now }
+    requires slots { length openings.now.list ≤ runs.old.slots }
+    requires room { 2 * length segments.now + length openings.now.list ≤ runs.old.room }
+    ensures index { IsIndexOf segments.now openings.now.list runs.new.groups }
     ensures slots { runs.old.slots ≤ runs.new.slots }
     ensures room { runs.old.room ≤ runs.new.room }
 {
@@ -133,34 +144,34 @@ fn reindex(runs: &mut Runs, openings: &[Opening], segments: &[Segment])
 }
 
 /// Opens each unit, with all its places unfilled.
-fn open_all(runs: &mut Runs, openings: &[Opening])
+fn open_all(runs: &mut Runs, openings: &Openings)
     requires empty { runs.old.groups ≡ [] }
-    requires shaped { AllByRecursion (λ opening. opening.shape.head_len < opening.shape.total) openings.now }
-    requires slots { length openings.now ≤ runs.old.slots }
-    requires room { length openings.now ≤ runs.old.room }
-    ensures index { IsIndexOf [] openings.now runs.new.groups }
+    requires shaped { AllByRecursion (λ opening. opening.shape.head_len < opening.shape.total) openings.now.list }
+    requires slots { length openings.now.list ≤ runs.old.slots }
+    requires room { length openings.now.list ≤ runs.old.room }
+    ensures index { IsIndexOf [] openings.now.list runs.new.groups }
     ensures slots { runs.old.slots ≤ runs.new.slots }
     ensures room { runs.old.room ≤ runs.new.room }
 {
-    for opening in openings {
-        runs.open(opening.shape.data_len());
+    for place in 0..openings.len() {
+        runs.open(openings.at(place).shape.data_len());
     }
 }
 
 /// Fills the places of each segment, in the order in which they came.
-fn fill_all(runs: &mut Runs, openings: &[Opening], segments: &[Segment])
-    requires kept { MayBeIndexed openings.now segments.now }
-    requires index { IsIndexOf [] openings.now runs.old.groups }
-    requires room { 2 * length segments.now + length openings.now ≤ runs.old.room }
-    ensures index { IsIndexOf segments.now openings.now runs.new.groups }
+fn fill_all(runs: &mut Runs, openings: &Openings, segments: &[Segment])
+    requires kept { MayBeIndexed openings.now.list segments.now }
+    requires index { IsIndexOf [] openings.now.list runs.old.groups }
+    requires room { 2 * length segments.now + length openings.now.list ≤ runs.old.room }
+    ensures index { IsIndexOf segments.now openings.now.list runs.new.groups }
     ensures slots { runs.old.slots ≤ runs.new.slots }
     ensures room { runs.old.room ≤ runs.new.room }
 {
     for (index, segment) in segments.iter().enumerate() {
-        let Some(slot) = slot_of(openings, &segment.key) else {
+        let Some(place) = openings.place_of(&segment.key) else {
             unreachable!()
         };
-        runs.fill(slot, segment.offset, segment.end(), index as u16);
+        runs.fill(place, segment.offset, segment.end(), index as u16);
     }
 }
 
@@ -193,14 +204,14 @@ fn drop_last(segments: &mut Vec<Segment>, key: &Key)
 }
 
 /// Takes the opening of a key at a place out, if no segment has the key.
-fn close_empty(openings: &mut Vec<Opening>, slot: usize, segments: &[Segment], key: &Key)
-    requires { slot < length openings.old.items }
-    ensures closed { segments_of key.now segments.now ≡ [] → openings.new.items ≡ remove openings.old.items slot }
-    ensures open { segments_of key.now segments.now ≢ [] → openings.new.items ≡ openings.old.items }
-    ensures capacity { vec_capacity openings.new ≡ vec_capacity openings.old }
+fn close_empty(openings: &mut Openings, place: usize, segments: &[Segment], key: &Key)
+    requires { place < length openings.old.list }
+    ensures closed { segments_of key.now segments.now ≡ [] → AreWithout place openings.old openings.new }
+    ensures open { segments_of key.now segments.now ≢ [] → openings.new ≡ openings.old }
+    ensures room { openings.old.room ≤ openings.new.room }
 {
     if last_of(segments, key).is_none() {
-        openings.remove(slot);
+        openings.remove(place);
     }
 }
 
@@ -240,16 +251,17 @@ fn total_size(segments: &[Segment]) -> u32
 }
 
 /// The place of the opening with the earliest deadline that isn't above a moment, the first of equals.
-fn due_slot(openings: &[Opening], now: u64) -> Option<usize>
-    ensures none { IfNone result (All (λ opening. now < opening.deadline) openings.now) }
-    ensures due { IfSome result (λ slot. (opening : Opening) × (slice_get openings.now slot ≡ Some opening)
-        × (opening.deadline ≤ now) × All (λ other. (opening.deadline ≤ other.deadline)) openings.now
-        × All (λ other. opening.deadline < other.deadline) (take slot openings.now)) }
+fn due_place(openings: &Openings, now: u64) -> Option<usize>
+    ensures none { IfNone result (All (λ opening. now < opening.deadline) openings.now.list) }
+    ensures due { IfSome result (λ place. (opening : Opening) × (slice_get openings.now.list place ≡ Some opening)
+        × (opening.deadline ≤ now) × All (λ other. (opening.deadline ≤ other.deadline)) openings.now.list
+        × All (λ other. opening.deadline < other.deadline) (take place openings.now.list)) }
 {
     let mut found = None;
-    for (slot, opening) in openings.iter().enumerate() {
-        if is_sooner(openings, found, opening.deadline, now) {
-            found = Some(slot);
+    for place in 0..openings.len() {
+        let deadline = openings.at(place).deadline;
+        if is_sooner(openings, found, deadline, now) {
+            found = Some(place);
         }
     }
     found
@@ -257,13 +269,13 @@ fn due_slot(openings: &[Opening], now: u64) -> Option<usize>
 
 /// Whether a deadline is earlier than that of the opening found so far; where none is found, whether it isn't above a
 /// moment.
-fn is_sooner(openings: &[Opening], found: Option<usize>, deadline: u64, now: u64) -> bool
-    requires { IfSome found (λ slot. slot < length openings.now) }
-    ensures { MatchOption found (result ≡ nat_le deadline now) (λ slot. (opening : Opening) → slice_get openings.now slot ≡ Some opening
+fn is_sooner(openings: &Openings, found: Option<usize>, deadline: u64, now: u64) -> bool
+    requires { IfSome found (λ place. place < length openings.now.list) }
+    ensures { MatchOption found (result ≡ nat_le deadline now) (λ place. (opening : Opening) → slice_get openings.now.list place ≡ Some opening
         → result ≡ nat_lt deadline opening.deadline) }
 {
     match found {
-        Some(slot) => deadline < openings[slot].deadline,
+        Some(place) => deadline < openings.at(place).deadline,
         None => deadline <= now,
     }
 }

@@ -4,7 +4,7 @@ use Rattle.std.proofs.Math.Seq.{take-length}
 use Rattle.clnp_machine.specs.ClnpViews.Extent.{seen}
 use Rattle.clnp_machine.specs.Reassembly.Arrival.{Arrival, arrival_of}
 use Rattle.clnp_machine.specs.Reassembly.Buffer.{after}
-use Rattle.clnp_machine.specs.Reassembly.Ending.{without_last}
+use Rattle.clnp_machine.specs.Reassembly.Kept.{IsKept}
 use Rattle.clnp_machine.specs.Reassembly.State.{IsReady, IsWholeSlot, Names, Stands as StandsFor, TableState, said}
 use Rattle.clnp_machine.specs.Local.{Deed, hand_up, takes_in}
 use Rattle.local_entity.specs.declared.action.Action.{Action}
@@ -12,7 +12,6 @@ use Rattle.local_entity.specs.Local.{Appends, Stands}
 use Rattle.local_entity.specs.State.{EntityState}
 use Rattle.local_entity.specs.Seen.{state_of}
 use Rattle.local_entity.proofs.Completed.{completed, completed_slot}
-use Rattle.local_entity.proofs.Undone.{undone_same}
 use Rattle.local_entity.proofs.Offering.{kept_stands, offer_is, others, told_ready, told_stands, whole_appends, whole_ready, whole_stands}
 use Rattle.local_entity.proofs.local.Local.offer.Goals as goal
 use Rattle.local_entity.proofs.Buffers.{said_not_whole}
@@ -38,17 +37,10 @@ release-requires c =
 -- where it isn't handed up, the table is as before the segment came
 undone : (c : goal.After-drop-frame-inside-in_default-hand_up) → c.undo.new.self ≡ c.self.inside.table
 undone c =
-    let ready = subst (λ (e : EntityState). IsReady c.args.now e.table) (sym c.self.view_is) c.requires.ready in
     let table_is : c.self-in-Whole.inside.table ≡ c.accept.new.self = ap (λ (e : EntityState). e.table) c.self-in-Whole.view_is ∙ c.hand_up.ensures.table in
-    let later = after c.self.inside.table.limits c.args.now (arrival_of c.args.segment) ready.buffers in
-    let names = subst (λ (t : TableState). Names t c.in-Whole.slot.0 c.args.segment.key) (sym table_is) (c.accept.ensures.slot c.in-Whole.slot c.in-Whole.is) in
-    undone_same c.self.inside.table c.accept.new.self c.undo.new.self c.args.now c.args.segment ready.buffers ready.stands c.requires.offered.is_part
-    (sym (c.in-Whole.ensures.answered ready.buffers ready.stands))
-    (c.undo.ensures.limits ∙ ap (λ (t : TableState). t.limits) table_is ∙ c.accept.ensures.limits)
-    (c.undo.ensures.stands later c.args.segment.key
-    (subst (λ (t : TableState). StandsFor t later) (sym table_is) (c.in-Whole.ensures.stands ready.buffers ready.stands)) names)
-    (c.in-Whole.ensures.segments refl)
-    (c.undo.ensures.segments c.args.segment.key names ∙ ap (λ (t : TableState). without_last c.args.segment.key t.segments) table_is)
+    c.undo.ensures.as_before c.self.inside.table c.args.now c.args.segment
+    (subst (λ (t : TableState). IsKept c.args.now c.args.segment c.self.inside.table t) (sym table_is) (c.in-Whole.ensures.kept refl))
+    (subst (λ (t : TableState). Names t c.in-Whole.slot.0 c.args.segment.key) (sym table_is) (c.accept.ensures.slot c.in-Whole.slot c.in-Whole.is))
 
 pub returns-in_default-hand_up-clause-same : goal.returns-in_default-hand_up-clause-same
 returns-in_default-hand_up-clause-same c =

@@ -16,7 +16,7 @@ use Rattle.reassembly.proofs.table.Table.is_there.Goals as goal
 pub group-requires : goal.group-requires
 group-requires c =
     let t = c.self.inside in
-    let there = slot_there c.args.segment.now.key 0 c.in-Some.slot c.args.self.now.openings (c.requires.slot ∙ c.in-Some.is) in
+    let there = slot_there c.args.segment.now.key 0 c.in-Some.place c.args.self.now.openings (c.requires.place ∙ c.in-Some.is) in
     omega (
       arith,
       there.counted,
@@ -29,13 +29,13 @@ pub returns-in-Some : goal.returns-in-Some
 returns-in-Some c =
     let t = c.self.inside in
     let segment = c.args.segment.now in
-    let there = slot_there segment.key 0 c.in-Some.slot c.args.self.now.openings (c.requires.slot ∙ c.in-Some.is) in
-    let slot_is : there.at ≡ c.in-Some.slot = omega (arith, there.counted) in
-    let at : slice_get c.args.self.now.openings c.in-Some.slot ≡ Some there.opening
+    let there = slot_there segment.key 0 c.in-Some.place c.args.self.now.openings (c.requires.place ∙ c.in-Some.is) in
+    let slot_is : there.at ≡ c.in-Some.place = omega (arith, there.counted) in
+    let at : slice_get c.args.self.now.openings c.in-Some.place ≡ Some there.opening
     = subst (λ (n : ℕ). slice_get c.args.self.now.openings n ≡ Some there.opening) slot_is there.stands_at in
-    let at_here = ap (λ (v : TableState). slice_get v.openings c.in-Some.slot) c.self.view_is ∙ at in
-    let shape = c.requires.shape c.in-Some.slot there.opening c.in-Some.is at in
-    let are = c.self.invariant.3.index_is.each c.in-Some.slot there.opening c.group.result.now at_here c.group.ensures in
+    let at_here = ap (λ (v : TableState). slice_get v.openings c.in-Some.place) c.self.view_is ∙ at in
+    let shape = c.requires.shape c.in-Some.place there.opening c.in-Some.is at in
+    let are = c.self.invariant.3.index_is.each c.in-Some.place there.opening c.group.result.now at_here c.group.ensures in
     let high = ap data_len shape in
     let told = gap_tells_cover t.segments.items there.opening c.group.result.now segment.offset (arrival_of segment).len c.end-to.result are
     (sym c.end-to.ensures.end) (omega (arith, high, c.end-to.ensures.within)) in
@@ -46,7 +46,7 @@ returns-in-Some c =
 pub returns-in-None : goal.returns-in-None
 returns-in-None c =
     let segment = c.args.segment.now in
-    let missing = slot_missing segment.key 0 c.args.self.now.openings (c.requires.slot ∙ c.in-None.is) in
+    let missing = slot_missing segment.key 0 c.args.self.now.openings (c.requires.place ∙ c.in-None.is) in
     let owned = subst (λ (t : TableState). AllByRecursion (λ other. openings_of other.key t.openings ≡ 1) t.segments) c.self.view_is c.self.invariant.0.owned in
     let none = no_segments segment.key c.args.self.now.openings c.args.self.now.segments missing owned in
     empty_cover segment.offset (arrival_of segment).len c.end-to.result (sym c.end-to.ensures.end)

@@ -12,28 +12,28 @@ use Rattle.reassembly.proofs.table.Table.refusal.Goals as goal
 use Rattle.nsap.proofs.ClnpBase.Choices.{none_since}
 
 pub other_shape-requires : goal.other_shape-requires
-other_shape-requires c = slot_within c.args.segment.now.key c.args.self.now.openings c.slot_of-slot.result (sym c.slot_of-slot.ensures)
+other_shape-requires c = slot_within c.args.segment.now.key c.args.self.now.openings c.args.place (sym c.requires.place)
 
-pub is_there-requires-clause-slot : goal.is_there-requires-clause-slot
-is_there-requires-clause-slot c = sym c.slot_of-slot.ensures
+pub is_there-requires-clause-place : goal.is_there-requires-clause-place
+is_there-requires-clause-place c = sym c.requires.place
 
 pub is_there-requires-clause-shape : goal.is_there-requires-clause-shape
 is_there-requires-clause-shape c place opening e at =
-    same_unit_there c.args.self.now.openings c.args.segment.now.key c.args.segment.now.shape c.slot_of-slot.result c.other_shape.result
-    (sym c.slot_of-slot.ensures) c.other_shape.ensures (none_since c.other_shape.result c.in_default.not-Some) place opening
-    (sym c.slot_of-slot.ensures ∙ e) at
+    same_unit_there c.args.self.now.openings c.args.segment.now.key c.args.segment.now.shape c.args.place c.other_shape.result
+    (sym c.requires.place) c.other_shape.ensures (none_since c.other_shape.result c.in_default.not-Some) place opening
+    (sym c.requires.place ∙ e) at
 
 pub returns-in-Some-clause-refused : goal.returns-in-Some-clause-refused
 returns-in-Some-clause-refused c buffers stands =
-    let clash = clashes_there c.args.self.now c.args.segment.now.key c.args.segment.now.shape buffers c.slot_of-slot.result c.other_shape.result
-    stands (sym c.slot_of-slot.ensures) c.other_shape.ensures in
+    let clash = clashes_there c.args.self.now c.args.segment.now.key c.args.segment.now.shape buffers c.args.place c.other_shape.result
+    stands (sym c.requires.place) c.other_shape.ensures in
     sym (by_shape c.args.self.now.limits (arrival_of c.args.segment.now) buffers (clash.some c.in-Some.kept c.in-Some.is)
     ∙ ap (λ (shape : Shape). Some (Interference shape c.args.segment.now.shape)) (clash.shape_is c.in-Some.kept c.in-Some.is))
 
 pub returns-then-is_there-clause-refused : goal.returns-then-is_there-clause-refused
 returns-then-is_there-clause-refused c buffers stands =
-    let clash = clashes_there c.args.self.now c.args.segment.now.key c.args.segment.now.shape buffers c.slot_of-slot.result c.other_shape.result
-    stands (sym c.slot_of-slot.ensures) c.other_shape.ensures in
+    let clash = clashes_there c.args.self.now c.args.segment.now.key c.args.segment.now.shape buffers c.args.place c.other_shape.result
+    stands (sym c.requires.place) c.other_shape.ensures in
     let owned = subst (λ (t : TableState). AllByRecursion (λ other. openings_of other.key t.openings ≡ 1) t.segments) c.self.view_is c.self.invariant.0.owned in
     let covered = covered_there c.args.self.now c.args.segment.now buffers c.args.self.now.segments c.is_there.result stands owned refl c.is_there.ensures in
     sym (by_repeat c.args.self.now.limits (arrival_of c.args.segment.now) buffers
@@ -41,22 +41,22 @@ returns-then-is_there-clause-refused c buffers stands =
 
 pub returns-then-lacks_slot-clause-refused : goal.returns-then-lacks_slot-clause-refused
 returns-then-lacks_slot-clause-refused c buffers stands =
-    let clash = clashes_there c.args.self.now c.args.segment.now.key c.args.segment.now.shape buffers c.slot_of-slot.result c.other_shape.result
-    stands (sym c.slot_of-slot.ensures) c.other_shape.ensures in
+    let clash = clashes_there c.args.self.now c.args.segment.now.key c.args.segment.now.shape buffers c.args.place c.other_shape.result
+    stands (sym c.requires.place) c.other_shape.ensures in
     let owned = subst (λ (t : TableState). AllByRecursion (λ other. openings_of other.key t.openings ≡ 1) t.segments) c.self.view_is c.self.invariant.0.owned in
     let covered = covered_there c.args.self.now c.args.segment.now buffers c.args.self.now.segments c.is_there.result stands owned refl c.is_there.ensures in
-    let full = full_there c.args.self.now c.args.segment.now.key buffers c.slot_of-slot.result c.lacks_slot.result stands (sym c.slot_of-slot.ensures) c.lacks_slot.ensures in
+    let full = full_there c.args.self.now c.args.segment.now.key buffers c.args.place c.lacks_slot.result stands (sym c.requires.place) c.lacks_slot.ensures in
     ap (λ (n : ℕ). Some (NoSlot n)) (c.live-live.ensures.live buffers stands)
     ∙ sym (by_slots c.args.self.now.limits (arrival_of c.args.segment.now) buffers
     (clash.none (none_since c.other_shape.result c.in_default.not-Some)) (covered ∙ c.if-is_there.false) (full ∙ c.if-lacks_slot.true))
 
 pub returns-then-size-self-clause-refused : goal.returns-then-size-self-clause-refused
 returns-then-size-self-clause-refused c buffers stands =
-    let clash = clashes_there c.args.self.now c.args.segment.now.key c.args.segment.now.shape buffers c.slot_of-slot.result c.other_shape.result
-    stands (sym c.slot_of-slot.ensures) c.other_shape.ensures in
+    let clash = clashes_there c.args.self.now c.args.segment.now.key c.args.segment.now.shape buffers c.args.place c.other_shape.result
+    stands (sym c.requires.place) c.other_shape.ensures in
     let owned = subst (λ (t : TableState). AllByRecursion (λ other. openings_of other.key t.openings ≡ 1) t.segments) c.self.view_is c.self.invariant.0.owned in
     let covered = covered_there c.args.self.now c.args.segment.now buffers c.args.self.now.segments c.is_there.result stands owned refl c.is_there.ensures in
-    let full = full_there c.args.self.now c.args.segment.now.key buffers c.slot_of-slot.result c.lacks_slot.result stands (sym c.slot_of-slot.ensures) c.lacks_slot.ensures in
+    let full = full_there c.args.self.now c.args.segment.now.key buffers c.args.place c.lacks_slot.result stands (sym c.requires.place) c.lacks_slot.ensures in
     let holds : c.self.inside.held ≡ held buffers = c.self.invariant.0.held_is ∙ (ap (λ (t : TableState). total_size t.segments) c.self.view_is
     ∙ sym (held_there c.args.self.now buffers stands owned)) in
     let budget : c.self.inside.limits.budget ≡ c.args.self.now.limits.budget = ap (λ (t : TableState). t.limits.budget) c.self.view_is in
@@ -70,11 +70,11 @@ returns-then-size-self-clause-refused c buffers stands =
 
 pub returns-then-len-from-clause-refused : goal.returns-then-len-from-clause-refused
 returns-then-len-from-clause-refused c buffers stands =
-    let clash = clashes_there c.args.self.now c.args.segment.now.key c.args.segment.now.shape buffers c.slot_of-slot.result c.other_shape.result
-    stands (sym c.slot_of-slot.ensures) c.other_shape.ensures in
+    let clash = clashes_there c.args.self.now c.args.segment.now.key c.args.segment.now.shape buffers c.args.place c.other_shape.result
+    stands (sym c.requires.place) c.other_shape.ensures in
     let owned = subst (λ (t : TableState). AllByRecursion (λ other. openings_of other.key t.openings ≡ 1) t.segments) c.self.view_is c.self.invariant.0.owned in
     let covered = covered_there c.args.self.now c.args.segment.now buffers c.args.self.now.segments c.is_there.result stands owned refl c.is_there.ensures in
-    let full = full_there c.args.self.now c.args.segment.now.key buffers c.slot_of-slot.result c.lacks_slot.result stands (sym c.slot_of-slot.ensures) c.lacks_slot.ensures in
+    let full = full_there c.args.self.now c.args.segment.now.key buffers c.args.place c.lacks_slot.result stands (sym c.requires.place) c.lacks_slot.ensures in
     let holds : c.self.inside.held ≡ held buffers = c.self.invariant.0.held_is ∙ (ap (λ (t : TableState). total_size t.segments) c.self.view_is
     ∙ sym (held_there c.args.self.now buffers stands owned)) in
     let budget : c.self.inside.limits.budget ≡ c.args.self.now.limits.budget = ap (λ (t : TableState). t.limits.budget) c.self.view_is in
@@ -93,11 +93,11 @@ returns-then-len-from-clause-refused c buffers stands =
 
 pub returns-clause-refused : goal.returns-clause-refused
 returns-clause-refused c buffers stands =
-    let clash = clashes_there c.args.self.now c.args.segment.now.key c.args.segment.now.shape buffers c.slot_of-slot.result c.other_shape.result
-    stands (sym c.slot_of-slot.ensures) c.other_shape.ensures in
+    let clash = clashes_there c.args.self.now c.args.segment.now.key c.args.segment.now.shape buffers c.args.place c.other_shape.result
+    stands (sym c.requires.place) c.other_shape.ensures in
     let owned = subst (λ (t : TableState). AllByRecursion (λ other. openings_of other.key t.openings ≡ 1) t.segments) c.self.view_is c.self.invariant.0.owned in
     let covered = covered_there c.args.self.now c.args.segment.now buffers c.args.self.now.segments c.is_there.result stands owned refl c.is_there.ensures in
-    let full = full_there c.args.self.now c.args.segment.now.key buffers c.slot_of-slot.result c.lacks_slot.result stands (sym c.slot_of-slot.ensures) c.lacks_slot.ensures in
+    let full = full_there c.args.self.now c.args.segment.now.key buffers c.args.place c.lacks_slot.result stands (sym c.requires.place) c.lacks_slot.ensures in
     let holds : c.self.inside.held ≡ held buffers = c.self.invariant.0.held_is ∙ (ap (λ (t : TableState). total_size t.segments) c.self.view_is
     ∙ sym (held_there c.args.self.now buffers stands owned)) in
     let budget : c.self.inside.limits.budget ≡ c.args.self.now.limits.budget = ap (λ (t : TableState). t.limits.budget) c.self.view_is in
@@ -128,8 +128,8 @@ returns-clause-room c =
     record {
       within_budget = omega arith;
       few_segments = omega arith;
-      few_openings = room_there c.args.self.now.openings c.args.segment.now.key c.args.self.now.limits.slots c.slot_of-slot.result
-          (sym c.slot_of-slot.ensures) (sym c.lacks_slot.ensures ∙ c.if-lacks_slot.false);
-      same_unit = same_unit_there c.args.self.now.openings c.args.segment.now.key c.args.segment.now.shape c.slot_of-slot.result c.other_shape.result
-          (sym c.slot_of-slot.ensures) c.other_shape.ensures (none_since c.other_shape.result c.in_default.not-Some);
+      few_openings = room_there c.args.self.now.openings c.args.segment.now.key c.args.self.now.limits.slots c.args.place
+          (sym c.requires.place) (sym c.lacks_slot.ensures ∙ c.if-lacks_slot.false);
+      same_unit = same_unit_there c.args.self.now.openings c.args.segment.now.key c.args.segment.now.shape c.args.place c.other_shape.result
+          (sym c.requires.place) c.other_shape.ensures (none_since c.other_shape.result c.in_default.not-Some);
     }

@@ -5,4 +5,4 @@ use Rattle.reassembly.proofs.table.ending.fill_all.Given as goal
 
 abbrev pub invariant-loop-index : goal.invariant-loop-index
 invariant-loop-index l =
-    IsIndexOf (take l.index l.segments) l.openings l.runs.groups × (l.fn.runs.slots ≤ l.runs.slots) × (l.fn.runs.room ≤ l.runs.room)
+    IsIndexOf (take l.index l.segments) l.openings.list l.runs.groups × (l.fn.runs.slots ≤ l.runs.slots) × (l.fn.runs.room ≤ l.runs.room)

@@ -3,6 +3,6 @@ use Rattle.std.proofs.Common.{◌≤◌, [], take}
 use Rattle.reassembly.specs.Index.{IsIndexOf}
 use Rattle.reassembly.proofs.table.ending.open_all.Given as goal
 
-abbrev pub invariant-loop-opening : goal.invariant-loop-opening
-invariant-loop-opening l =
-    IsIndexOf [] (take l.opening-index l.openings) l.runs.groups × (l.fn.runs.slots ≤ l.runs.slots) × (l.fn.runs.room ≤ l.runs.room)
+abbrev pub invariant-loop-place : goal.invariant-loop-place
+invariant-loop-place l =
+    IsIndexOf [] (take l.place l.openings.list) l.runs.groups × (l.fn.runs.slots ≤ l.runs.slots) × (l.fn.runs.room ≤ l.runs.room)

@@ -1,0 +1,38 @@
+-- Openings, each in a slot of its own.
+use Rattle.std.specs.Prelude.{◌≡◌, ◌≢◌, ℕ, Bool, false, List, [], ◌∷◌, length, Option, None, Some}
+use Rattle.std.specs.List.{AllByRecursion, filter_map, remove}
+use Rattle.slab.specs.Slab.{ContainsKey, Slab, get, slab_len}
+use Rattle.reassembly.specs.declared.segment.Key.{Key}
+use Rattle.reassembly.specs.declared.openings.Opening.{Opening}
+use Rattle.reassembly.specs.Arrival.{same_key}
+
+-- the openings in the order in which they were made, their slots in the same order, and for how many there is room
+pub record OpeningsState : Type 0 where
+  pub list : List Opening
+  pub slots : List ℕ
+  pub room : ℕ
+
+-- the openings in these slots
+abbrev pub openings_in : Slab Opening → List ℕ → List Opening
+openings_in buffers slots = filter_map (get buffers) slots
+
+-- no slot stands twice
+abbrev pub AreApart : List ℕ → Type 0
+AreApart [] = Unit {0}
+AreApart (slot ∷ others) = AllByRecursion (λ other. other ≢ slot) others × AreApart others
+
+-- The slots that are taken are these, each once.
+pub record AreTaken (buffers : Slab Opening) (slots : List ℕ) : Type 0 where
+  pub taken : AllByRecursion (ContainsKey buffers) slots
+  pub apart : AreApart slots
+  pub number : slab_len buffers ≡ length slots
+
+-- whether what stands in a slot is an opening of this key
+abbrev pub is_of : Key → Option Opening → Bool
+is_of key None = false
+is_of key (Some opening) = same_key opening.key key
+
+-- the openings without the one at a place
+pub record AreWithout (place : ℕ) (before after : OpeningsState) : Type 0 where
+  pub list : after.list ≡ remove before.list place
+  pub slots : after.slots ≡ remove before.slots place
