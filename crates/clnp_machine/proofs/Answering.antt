@@ -44,11 +44,11 @@ use Rattle.clnp_plan.proofs.ClnpBase.Choices.{one_of}
 abbrev pub NonePasses : (Output → Bool) → List Output → Type 0
 NonePasses p outputs = AllByRecursion (λ output. p output ≡ false) outputs
 
-none_left : (p : Output → Bool) (outputs : List Output) → NonePasses p outputs → filter p outputs ≡ []
+pub none_left : (p : Output → Bool) (outputs : List Output) → NonePasses p outputs → filter p outputs ≡ []
 none_left p [] none = refl
 none_left p (output ∷ outputs) none = rw none.0 (none_left p outputs none.1)
 
-none_before : (p : Output → Bool) (outputs more : List Output) → NonePasses p outputs → filter p (outputs ++ more) ≡ filter p more
+pub none_before : (p : Output → Bool) (outputs more : List Output) → NonePasses p outputs → filter p (outputs ++ more) ≡ filter p more
 none_before p outputs more none =
     filter-append p outputs more ∙ ap (λ (front : List Output). front ++ filter p more) (none_left p outputs none)
 
@@ -58,7 +58,7 @@ pub hears_notes : (s : SystemState) (addresses : List (List ℕ)) (place : Place
 hears_notes s [] place holding = tt
 hears_notes s (address ∷ others) place holding = (refl, hears_notes (hears s Es address place holding).after others place holding)
 
-hears_hello : (s : SystemState) (addresses : List (List ℕ)) (place : Place) (holding : ℕ) → (hears_each s addresses place holding).after.hello ≡ s.hello
+pub hears_hello : (s : SystemState) (addresses : List (List ℕ)) (place : Place) (holding : ℕ) → (hears_each s addresses place holding).after.hello ≡ s.hello
 hears_hello s [] place holding = refl
 hears_hello s (address ∷ others) place holding = hears_hello (hears s Es address place holding).after others place holding
 
@@ -144,7 +144,7 @@ hello_causes s place v = heard_at s.configuration.role s place v.holding v.body 
 
 -- What a system does at its addresses sends no ES-IS PDU.
 
-pieces_silent : (hop : Hop) (pieces : List Packet) → NonePasses sends_esis (map (λ piece. Transmits hop.port hop.target piece) pieces)
+pub pieces_silent : (hop : Hop) (pieces : List Packet) → NonePasses sends_esis (map (λ piece. Transmits hop.port hop.target piece) pieces)
 pieces_silent hop [] = tt
 pieces_silent hop (piece ∷ pieces) = (refl, pieces_silent hop pieces)
 
@@ -241,7 +241,7 @@ pub octets_silent : (s : SystemState) (octets : List ℕ) → filter sends_esis 
 octets_silent s octets = none_left sends_esis _ (deeds_silent (octets_come s octets).after (octets_come s octets).actions)
 
 -- a property of what is done with octets
-octets_do : (P : Deed → Type 0) (s : SystemState) (octets : List ℕ) → ((reason place : ℕ) → P (discard s (Unlabelled octets) reason place))
+pub octets_do : (P : Deed → Type 0) (s : SystemState) (octets : List ℕ) → ((reason place : ℕ) → P (discard s (Unlabelled octets) reason place))
     → ((told : Note) → P (tells s told)) → P (octets_come s octets)
 octets_do P s octets discarded told = go (octet octets 1 == 0x81) (rule_broken octets)
   where

@@ -21,7 +21,7 @@ use Rattle.clnp_machine.proofs.Headers.{header_length-is, segment_kept}
 use Rattle.clnp_machine.proofs.Pieces.{part_length}
 
 -- A property of options that are kept where the system isn't named, and changed where it is.
-one_passed : (P : List Parameter → Type 0) (s : SystemState) (options deeper : List Parameter) (title : Option (List ℕ)) → P options
+pub one_passed : (P : List Parameter → Type 0) (s : SystemState) (options deeper : List Parameter) (title : Option (List ℕ)) → P options
     → (IsSome title → P deeper) → P (if is_named s title then deeper else options)
 one_passed P s options deeper None h k = h
 one_passed P s options deeper (Some title) h k = go (bytes_eq title (title_of s)) (k refl)

@@ -1,11 +1,13 @@
 -- A redirect that comes changes the next hop of its destination alone.
 use Rattle.std.proofs.Common.{◌≡◌, ◌∙◌, refl, sym, ap, subst, ℕ, Bool, true, false, List, [], ◌∷◌, Option, Some}
-use Rattle.std.specs.Prelude.{if◌then◌else◌}
+use Rattle.std.specs.Prelude.{if◌then◌else◌, option_map}
+use Rattle.std.specs.Option.{option_or}
+use Rattle.clnp_plan.specs.Forwarding.Longest.{longest}
 use Rattle.esis_pdus.specs.declared.pdu.EsisBody.{EsisBody}
 use Rattle.esis_pdus.specs.Value.{suggested}
 use Rattle.clnp_plan.specs.EsisTables.declared.fact.EsisLimits.{EsisLimits}
 use Rattle.clnp_plan.specs.EsisTables.declared.fact.Place.{Place}
-use Rattle.clnp_plan.specs.EsisTables.declared.fact.TableKind.TheVariants.{Rd}
+use Rattle.clnp_plan.specs.EsisTables.declared.fact.TableKind.TheVariants.{Es, Rd}
 use Rattle.clnp_plan.specs.EsisTables.Fact as facts
 use Rattle.clnp_plan.specs.EsisTables.Fact.{Fact}
 use Rattle.clnp_plan.specs.EsisTables.NextHop as heard
@@ -15,23 +17,27 @@ use Rattle.clnp_plan.specs.declared.note.Note.TheVariants.{Ignored}
 use Rattle.clnp_machine.specs.Content.{Content, Labelled, Esis, Unlabelled}
 use Rattle.clnp_machine.specs.System.{SystemState, Notes, FrameComes, gives}
 use Rattle.clnp_machine.specs.Esis.{esis_heard, esis_limits, heard_now, hears, redirect_heard}
-use Rattle.clnp_machine.specs.Step.{host_hop, hop_of, next_hop, step}
-use Rattle.clnp_machine.specs.Steps.{IsRedirectFor, KeepsNextHops}
+use Rattle.clnp_machine.specs.Step.{by_route, host_hop, hop_of, next_hop, step, to_neighbour}
+use Rattle.clnp_machine.specs.Steps.{IsRedirectFor, KeepsNextHop, KeepsNextHops}
 
--- what the tables say of a redirect that is heard
-abbrev KeepsOthers : Type 0
-KeepsOthers =
-    (limits : EsisLimits) (fact : Fact) (list : List Fact) (now : ℕ) (destination : List ℕ) → fact.table ≡ Rd → (fact.key ≡ destination → ⊥)
-    → heard.next_hop now destination (facts.after limits fact list) ≡ heard.next_hop now destination list
+-- what the tables say of a redirect that is heard: of the next hops towards other destinations, and of end systems
+pub record OnRedirects : Type 0 where
+  pub others : (limits : EsisLimits) (fact : Fact) (list : List Fact) (now : ℕ) (destination : List ℕ) → fact.table ≡ Rd
+      → (fact.key ≡ destination → ⊥) → heard.next_hop now destination (facts.after limits fact list) ≡ heard.next_hop now destination list
+  pub systems : (limits : EsisLimits) (fact : Fact) (list : List Fact) (now : ℕ) (key : List ℕ) → fact.table ≡ Rd
+      → facts.current now Es key (facts.after limits fact list) ≡ facts.current now Es key list
 
-module _ (law : KeepsOthers) (s : SystemState) (place : Place) (holding : ℕ) (destination via : List ℕ) where
+module _ (law : OnRedirects) (s : SystemState) (place : Place) (holding : ℕ) (destination via : List ℕ) where
+  abbrev better : Place
+  better = record { port = place.port; snpa = via }
+
   -- a host, whatever its configuration says that it is
   host_keeps : (address : List ℕ) → (address ≡ destination → ⊥) → s.configuration.role ≡ Host
-      → next_hop (redirect_heard Host s place holding destination via).after address ≡ next_hop s address
+      → KeepsNextHop s (redirect_heard Host s place holding destination via).after address
   host_keeps address other role = go (heard.is_router s.moment place.snpa s.facts)
     where
-      better : Place
-      better = record { port = place.port; snpa = via }
+      fact : Fact
+      fact = heard_now s Rd destination better holding
 
       by_role : (t : SystemState) → t.configuration.role ≡ Host → heard.next_hop t.moment address t.facts ≡ heard.next_hop s.moment address s.facts
           → next_hop t address ≡ next_hop s address
@@ -39,17 +45,21 @@ module _ (law : KeepsOthers) (s : SystemState) (place : Place) (holding : ℕ) (
           ap (λ (r : Role). hop_of r t address) same ∙ ap (λ (o : Option Place). Some (host_hop o)) kept ∙ ap (λ (r : Role). hop_of r s address) (sym role)
 
       go : (test : Bool)
-          → next_hop (if test then hears s Rd destination better holding else gives s (Notes (Ignored true) ∷ [])).after address ≡ next_hop s address
-      go true =
-          by_role (hears s Rd destination better holding).after role
-          (law (esis_limits s) (heard_now s Rd destination better holding) s.facts s.moment address refl (λ same. other (sym same)))
-      go false = refl
+          → KeepsNextHop s (if test then hears s Rd destination better holding else gives s (Notes (Ignored true) ∷ [])).after address
+      go true = record {
+        hop = by_role (hears s Rd destination better holding).after role
+            (law.others (esis_limits s) fact s.facts s.moment address refl (λ same. other (sym same)));
+        way = ap (λ (found : Option Fact).
+            option_or (option_map to_neighbour (option_map heard.place_of found)) (option_map by_route (longest address s.configuration.routes)))
+            (law.systems (esis_limits s) fact s.facts s.moment address refl);
+      }
+      go false = record { hop = refl; way = refl }
 
   redirect_keeps : (role : Role) → s.configuration.role ≡ role → KeepsNextHops destination s (redirect_heard role s place holding destination via).after
   redirect_keeps Host is = λ address other. host_keeps address other is
-  redirect_keeps Router is = λ address other. refl
+  redirect_keeps Router is = λ address other. record { hop = refl; way = refl }
 
-pub content_keeps : KeepsOthers → (s : SystemState) (port : ℕ) (sender : List ℕ) (to_group : Bool) (content : Content) (destination : List ℕ)
+pub content_keeps : OnRedirects → (s : SystemState) (port : ℕ) (sender : List ℕ) (to_group : Bool) (content : Content) (destination : List ℕ)
     → IsRedirectFor destination content → KeepsNextHops destination s (step s (FrameComes port sender to_group content)).after
 content_keeps law s port sender to_group (Labelled p following) destination is = absurd is
 content_keeps law s port sender to_group (Unlabelled octets) destination is = absurd is

@@ -29,12 +29,19 @@ not_within a b e = grind (arith, nat_tests)
 abbrev pub going : SystemState → (came : Place) → Packet → (options : List Parameter) → Way → List Packet → List Output
 going s came p options way pieces = transmissions (hop_by way) (Some pieces) ++ redirects s came p options way
 
+-- By which way a packet goes on: that which is known, by the source route that it came with, and by what is left of it.
+pub record IsItsWay (s : SystemState) (p : Packet) (way : Way) : Type 0 where
+  pub known : way_of s (towards p.unit.destination (target_of (options_behind s p.options))) ≡ Some way
+  pub on_route : (is_complete p.options && not (is_named s (target_of p.options))) ≡ false
+  pub ends :
+      (is_complete (options_behind s p.options) && not (ends_at (towards p.unit.destination (target_of (options_behind s p.options))) way.title)) ≡ false
+
 -- what holds of a packet that goes on in pieces, by a port that is there
 abbrev pub Onward : (Effect → Type 0) → SystemState → Place → Packet → Type 0
 Onward P s came p =
     let options = options_behind s p.options in
     (way : Way) (port : PortConfig) (pieces : List Packet) → slice_get s.configuration.ports way.place.port ≡ Some port → loss_at port < p.lifetime
-    → cut (forwarded p (loss_at port) options) port.mtu ≡ Some pieces → way_of s (towards p.unit.destination (target_of options)) ≡ Some way
+    → cut (forwarded p (loss_at port) options) port.mtu ≡ Some pieces → IsItsWay s p way
     → P (gives s (going s came p options way pieces))
 
 -- where a redirect follows it is towards the destination
@@ -61,20 +68,17 @@ module _ (P : Effect → Type 0) where
 
   module _ (s : SystemState) (came : Place) (p : Packet) (following : List ℕ)
       (dropped : (reason : ℕ) → IsOfNoRule reason → P (discards s p following reason)) where
-    module _ (onward : s.configuration.role ≡ Router → Onward P s came p) (router : s.configuration.role ≡ Router) where
+    module _ (onward : Onward P s came p) where
       abbrev options : List Parameter
       options = options_behind s p.options
 
-      abbrev IsWay : Way → Type 0
-      IsWay way = way_of s (towards p.unit.destination (target_of options)) ≡ Some way
-
       pieces_do : (way : Way) (port : PortConfig) (found : Option (List Packet)) → slice_get s.configuration.ports way.place.port ≡ Some port
-          → loss_at port < p.lifetime → cut (forwarded p (loss_at port) options) port.mtu ≡ found → IsWay way
+          → loss_at port < p.lifetime → cut (forwarded p (loss_at port) options) port.mtu ≡ found → IsItsWay s p way
           → P (pieces_go_on s came p following options way found)
       pieces_do way port None there alive e known = dropped _ segmentation
-      pieces_do way port (Some pieces) there alive e known = onward router way port pieces there alive e known
+      pieces_do way port (Some pieces) there alive e known = onward way port pieces there alive e known
 
-      by_port_does : (way : Way) (found : Option PortConfig) → slice_get s.configuration.ports way.place.port ≡ found → IsWay way
+      by_port_does : (way : Way) (found : Option PortConfig) → slice_get s.configuration.ports way.place.port ≡ found → IsItsWay s p way
           → P (goes_on_by s came p following options way found)
       by_port_does way None e known = dropped _ unknown
       by_port_does way (Some port) e known =
@@ -86,24 +90,26 @@ module _ (P : Effect → Type 0) where
       no_way_does None = dropped _ unknown
       no_way_does (Some title) = dropped _ unknown_in_route
 
-      on_its_way_does : (way : Option Way) → way_of s (towards p.unit.destination (target_of options)) ≡ way
-          → P (goes_on_way s came p following options way)
-      on_its_way_does None known = no_way_does (target_of options)
-      on_its_way_does (Some way) known =
+      on_its_way_does : (is_complete p.options && not (is_named s (target_of p.options))) ≡ false → (way : Option Way)
+          → way_of s (towards p.unit.destination (target_of options)) ≡ way → P (goes_on_way s came p following options way)
+      on_its_way_does on_route None known = no_way_does (target_of options)
+      on_its_way_does on_route (Some way) known =
           one_does (is_complete options && not (ends_at (towards p.unit.destination (target_of options)) way.title)) _
           (goes_on_by s came p following options way (slice_get s.configuration.ports way.place.port)) (λ off. dropped _ path)
-          (λ on. by_port_does way (slice_get s.configuration.ports way.place.port) refl known)
+          (λ on.
+          by_port_does way (slice_get s.configuration.ports way.place.port) refl (record { known = known; on_route = on_route; ends = on }))
 
-      goes_on_does : P (goes_on s came p following)
+      -- a packet that a router is to send on
+      pub goes_on_does : P (goes_on s came p following)
       goes_on_does =
           one_does (is_complete p.options && not (is_named s (target_of p.options))) _ (goes_on_with s came p following options) (λ off. dropped _ path)
-          (λ on. on_its_way_does (way_of s (towards p.unit.destination (target_of options))) refl)
+          (λ on. on_its_way_does on (way_of s (towards p.unit.destination (target_of options))) refl)
 
     module _ (onward : s.configuration.role ≡ Router → Onward P s came p) (left : P (effect_of (tells s (NotMine p.unit.destination)))) where
       -- a packet for another address
       pub passing_does : (role : Role) → s.configuration.role ≡ role → P (passes_by role s came p following)
       passing_does Host is = left
-      passing_does Router is = goes_on_does onward is
+      passing_does Router is = goes_on_does (onward is)
 
       -- whatever comes
       pub packet_does : (is_own s p.unit.destination ≡ true → P (effect_of (receive s p following))) → P (packet_comes s came p following)

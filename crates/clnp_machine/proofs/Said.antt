@@ -136,7 +136,7 @@ module _ (Q : EsisValue → Type 0) (s : SystemState) (own : (seconds : ℕ) →
       AllByRecursion-append (SendsSuch Q) (transmissions (hop_by way) (Some pieces)) (redirects s came p options way)
       (AllByRecursion-map_any (SendsSuch Q) (λ piece. Transmits way.place.port (System way.place.snpa) piece) pieces (λ piece. tt))
       (redirects_are (SendsSuch Q) s came p options way
-      (λ none. such way router (ap (way_of s) (sym (no_title p.unit.destination (target_of options) none)) ∙ known))))
+      (λ none. such way router (ap (way_of s) (sym (no_title p.unit.destination (target_of options) none)) ∙ known.known))))
       (tt, tt) (λ mine. deeds_its (receive s p following).after (receive s p following).actions)
 
   content_its : (place : Place) (to_group : Bool) (content : Content) → RedirectsSuch Q s content → SendsIts (content_comes s place to_group content).outputs

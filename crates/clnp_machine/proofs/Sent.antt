@@ -24,6 +24,7 @@ use Rattle.clnp_machine.proofs.Asked.{discard_makes}
 use Rattle.clnp_machine.proofs.Hellos.{only_comes, only_forgets, only_responds, only_says_hello, only_then}
 use Rattle.clnp_machine.specs.EditLaws.{EditLaws}
 use Rattle.clnp_machine.proofs.Behind.{behind_form}
+use Rattle.clnp_machine.proofs.Editing.{behind_edited}
 use Rattle.clnp_machine.proofs.Passing.{going, packet_does, passing_does, redirects_are}
 
 -- a range of so many places
@@ -76,7 +77,7 @@ module _ (p : Packet) where
       AllByRecursion-mapped (Within p.length) (IsPartOf p) (piece_of p) given (piece_is_part identifier identified) within
 
   -- what a packet is cut into
-  cut_is_parts : (mtu : ℕ) (given : List Packet) → cut p mtu ≡ Some given → AllByRecursion (IsPartOf p) given
+  pub cut_is_parts : (mtu : ℕ) (given : List Packet) → cut p mtu ≡ Some given → AllByRecursion (IsPartOf p) given
   cut_is_parts mtu given gives = go (nat_le (length (wire p)) mtu) p.unit.identifier refl gives
     where
       go : (one : Bool) (identifier : Option ℕ) → p.unit.identifier ≡ identifier
@@ -100,6 +101,7 @@ module _ (laws : EditLaws) (units : List unit.Unit) (u : unit.Unit) (made : Cont
       record {
         unit = subst (Contains units) (sym same) made;
         options = subst (λ (o : List Parameter). HaveOneForm q.options o) (h.options ∙ ap (λ (v : unit.Unit). v.options) (sym same)) (laws.form.same q.options);
+        edits = ([], h.options ∙ ap (λ (v : unit.Unit). v.options) (sym same));
         lifetime = rw same (omega arith);
         within = rw same (omega arith);
         whole = rw same h.whole;
@@ -131,6 +133,7 @@ pub range_later : (units more : List unit.Unit) (p : Packet) → IsRangeOf more 
 range_later units more p h = record {
   unit = Contains-append_right units more p.unit h.unit;
   options = h.options;
+  edits = h.edits;
   lifetime = h.lifetime;
   within = h.within;
   whole = h.whole;
@@ -155,6 +158,7 @@ pub range_sooner : (units more : List unit.Unit) (p : Packet) → IsRangeOf unit
 range_sooner units more p h = record {
   unit = Contains-append_left units more p.unit h.unit;
   options = h.options;
+  edits = h.edits;
   lifetime = h.lifetime;
   within = h.within;
   whole = h.whole;
@@ -173,6 +177,7 @@ module _ (laws : EditLaws) (s : SystemState) (p : Packet) where
         there = there;
         unit = same;
         options = λ carriable. subst (λ (o : List Parameter). HaveOneForm o p.options) (sym h.options) (behind_form laws s p.options carriable.pdu.options);
+        edits = let behind = behind_edited s p.options in (behind.0, h.options ∙ behind.1);
         hops = h.hops;
         lifetime = omega arith;
         alive = omega arith;
@@ -181,7 +186,7 @@ module _ (laws : EditLaws) (s : SystemState) (p : Packet) where
         whole = λ none. h.whole (ap (λ (u : unit.Unit). u.identifier) (sym same) ∙ none);
       }
 
-  onward : (came : Place) (way : Way) (port : PortConfig) (given : List Packet) → slice_get s.configuration.ports way.place.port ≡ Some port
+  pub onward : (came : Place) (way : Way) (port : PortConfig) (given : List Packet) → slice_get s.configuration.ports way.place.port ≡ Some port
       → loss_at port < p.lifetime → cut (forwarded p (loss_at port) (options_behind s p.options)) port.mtu ≡ Some given
       → AllByRecursion (SendsOn s p) (going s came p (options_behind s p.options) way given)
   onward came way port given there alive gives =

@@ -1,8 +1,8 @@
 -- What is so of a router's edits of options, as the laws of options and of PDUs say.
-use Rattle.std.specs.Prelude.{◌≡◌, ℕ, List, length, IsSome}
+use Rattle.std.specs.Prelude.{◌≡◌, ℕ, ◌+◌, ◌≤◌, List, length, IsSome}
 use Rattle.clnp_plan.specs.Nsap.Address.{IsAddress}
 use Rattle.clnp_plan.specs.ClnpOptions.Edits as edits
-use Rattle.clnp_plan.specs.ClnpOptions.Edits.{HaveOneForm, edited, target_of}
+use Rattle.clnp_plan.specs.ClnpOptions.Edits.{HaveOneForm, edited, route_left, target_of}
 use Rattle.clnp_plan.specs.ClnpOptions.Grammar.{AreFormed}
 use Rattle.clnp_plan.specs.ClnpOptions.Parameter.{Parameter, quality, recording, source_route, spelled}
 use Rattle.clnp_plan.specs.PduHeader.Grammar.{IsPdu}
@@ -28,3 +28,11 @@ pub record KeepPdus : Type 0 where
 pub record EditLaws : Type 0 where
   pub form : KeepForm
   pub pdus : KeepPdus
+
+-- A router's edits lead a source route on: fewer of its octets are left each time, and other edits leave where it leads.
+pub record RouteLaws : Type 0 where
+  pub recorded : (change : List ℕ → List ℕ) (options : List Parameter) → target_of (edited recording change options) ≡ target_of options
+  pub marked : (change : List ℕ → List ℕ) (options : List Parameter) → target_of (edited quality change options) ≡ target_of options
+  pub formed : (options : List Parameter) → AreFormed options → IsSome (target_of options) → AreFormed (edited source_route edits.advanced options)
+  pub left : (options : List Parameter) → AreFormed options → IsSome (target_of options)
+      → route_left (edited source_route edits.advanced options) + 1 ≤ route_left options

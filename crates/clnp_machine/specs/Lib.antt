@@ -23,3 +23,8 @@ pub mod Steps
 pub mod Told
 pub mod Given
 pub mod EditLaws
+pub mod Ports
+pub mod Ways
+pub mod Due
+pub mod Requests
+pub mod Edited

@@ -30,9 +30,10 @@ use Rattle.clnp_machine.specs.Unit as unit
 use Rattle.clnp_machine.specs.Unit.{DeclaredAt, Packet, IsCarriable, value_of, wire}
 use Rattle.clnp_machine.specs.Content.{Content, IsCarried, Labelled, Esis, Unlabelled}
 use Rattle.clnp_machine.specs.System.{SystemState, number_behind, Input, AsksToSend, AsksForEcho, FrameComes, MomentComes, IsRestarted, IsCongested, Output, Transmits, SendsEsis, Notes, Effect}
+use Rattle.clnp_machine.specs.Edited.{AreEdited}
 use Rattle.clnp_machine.specs.Esis.{own_hello, redirect}
 use Rattle.clnp_machine.specs.Local.{Deed, IsAsOffered, made_in, is_own, header_size, offered}
-use Rattle.clnp_machine.specs.Step.{loss_at, next_hop}
+use Rattle.clnp_machine.specs.Step.{loss_at, next_hop, way_of}
 
 -- it is still the same system, at its place, of the same configuration
 pub record StaysItself (before after : SystemState) : Type 0 where
@@ -49,12 +50,6 @@ moment_after s (FrameComes port sender to_group content) = s.moment
 moment_after s (MomentComes now) = now
 moment_after s IsRestarted = s.moment
 moment_after s (IsCongested on) = s.moment
-
--- nothing is asked of the system
-abbrev pub AsksNothing : Input → Type 0
-AsksNothing (AsksToSend from to octets ask) = ⊥
-AsksNothing (AsksForEcho from to octets) = ⊥
-AsksNothing _ = Unit {0}
 
 -- What comes to a system is fair: a unit that is asked for is formed as it should be, with options that a data unit may have;
 -- an echo is asked for between addresses; and a frame comes from an address, and carries what one may carry.
@@ -133,22 +128,25 @@ pub record IsEffect (s : SystemState) (effect : Effect) : Type 0 where
   pub fresh : AllByRecursion (IsFresh s s.moment) effect.units
 
 -- What holds of a packet of one of some units: it is a range of the unit, and all of it where the unit may not be
--- segmented; it was forwarded no more often than its lifetime allowed, and its options have the form of the unit's.
+-- segmented; it was forwarded no more often than its lifetime allowed, and its options are those of the unit but for what routers
+-- made of them, which keeps their form.
 pub record IsRangeOf (units : List unit.Unit) (p : Packet) : Type 0 where
   pub unit : Contains units p.unit
   pub options : HaveOneForm p.options p.unit.options
+  pub edits : AreEdited p.unit.options p.options
   pub lifetime : p.hops + p.lifetime ≤ p.unit.lifetime
   pub within : p.offset + p.length ≤ length p.unit.octets
   pub whole : p.unit.identifier ≡ None → (p.offset ≡ 0) × (p.length ≡ length p.unit.octets)
 
 -- What holds of a packet that goes on by a port, of one that came: it is a range of that one's, and all of it where its unit may
 -- not be segmented; it was forwarded once more, and its lifetime is lower by the port's transit, by 1 at least, and not over; its
--- options have the form of that one's, where a PDU can carry that one.
+-- options are those of that one but for what routers make of them, and have their form, where a PDU can carry that one.
 pub record GoesOnFrom (s : SystemState) (number : ℕ) (came p : Packet) : Type 0 where
   pub port : PortConfig
   pub there : slice_get s.configuration.ports number ≡ Some port
   pub unit : p.unit ≡ came.unit
   pub options : IsCarriable came → HaveOneForm p.options came.options
+  pub edits : AreEdited came.options p.options
   pub hops : p.hops ≡ came.hops + 1
   pub lifetime : p.lifetime + loss_at port ≡ came.lifetime
   pub alive : 1 ≤ p.lifetime
@@ -264,10 +262,14 @@ IsRedirectFor destination (Esis value following) =
     (via : List ℕ) × (title : Option (List ℕ)) × (value.body ≡ Rd destination via title)
 IsRedirectFor destination _ = ⊥
 
--- a system sends as before to each address but one
+-- a system sends as before to an address, and knows of the same way there, with the title of the next system on it
+pub record KeepsNextHop (before after : SystemState) (address : List ℕ) : Type 0 where
+  pub hop : next_hop after address ≡ next_hop before address
+  pub way : way_of after address ≡ way_of before address
+
+-- so it is of each address but one
 abbrev pub KeepsNextHops : (destination : List ℕ) → (before after : SystemState) → Type 0
-KeepsNextHops destination before after =
-    (address : List ℕ) → (address ≡ destination → ⊥) → next_hop after address ≡ next_hop before address
+KeepsNextHops destination before after = (address : List ℕ) → (address ≡ destination → ⊥) → KeepsNextHop before after address
 
 -- Reports and echoes.
 

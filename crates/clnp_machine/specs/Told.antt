@@ -1,5 +1,5 @@
 -- What a system tells of in what it does, and when it makes a unit.
-use Rattle.std.specs.Prelude.{◌≡◌, ◌≢◌, ℕ, ◌≤◌, ◌⊎◌, true, List, [], ◌∷◌, ◌++◌, length, Option, None, Some}
+use Rattle.std.specs.Prelude.{◌≡◌, ◌≢◌, ℕ, ◌+◌, ◌≤◌, ◌⊎◌, true, List, [], ◌∷◌, ◌++◌, length, Option, None, Some}
 use Rattle.std.specs.List.{AllByRecursion, Contains}
 use Rattle.clnp_plan.specs.PduHeader.Table.{table}
 use Rattle.reassembly.specs.declared.table.TableLimits.{TableLimits}
@@ -7,10 +7,11 @@ use Rattle.reassembly.specs.Arrival.{Arrival, same_key}
 use Rattle.reassembly.specs.Buffer.{Answer, Buffer, Interference, opened_by}
 use Rattle.clnp_plan.specs.declared.note.Note.{Note}
 use Rattle.clnp_plan.specs.declared.note.Note.TheVariants as note
+use Rattle.clnp_machine.specs.Identifiers.{Identifiers, last_use, next}
 use Rattle.clnp_machine.specs.Unit.{Packet, Unit as DataUnit}
 use Rattle.clnp_machine.specs.Content.{Unlabelled}
 use Rattle.clnp_machine.specs.System.{SystemState, Input, FrameComes}
-use Rattle.clnp_machine.specs.Local.{Action, Sends, Tells, header_size, identifier_refusal, is_own, most_octets}
+use Rattle.clnp_machine.specs.Local.{Action, Deed, Sends, Tells, header_size, identifier_refusal, is_own, made_in, most_octets}
 
 -- a note that neither hands up nor refuses, and tells of no interference and of no frame of no protocol
 abbrev pub NoteIsQuiet : Note → Type 0
@@ -44,6 +45,17 @@ pub record IsAllowed (s : SystemState) (u : DataUnit) : Type 0 where
   pub octets : length u.octets ≤ most_octets
   pub header : header_size u ≤ 254
   pub identifier : identifier_refusal s u.identifier ≡ None
+
+-- a deed leaves the state as it was, and makes no unit
+pub record LeavesRefused (s : SystemState) (deed : Deed) : Type 0 where
+  pub same : deed.after ≡ s
+  pub units : made_in deed.actions ≡ []
+
+-- The next identifier may be drawn at a moment: the quiet time is over, and so is the time for which the identifier rests since its
+-- last use, if it was used (ISO 8473, section 6.8).
+pub record MayBeDrawn (now : ℕ) (ids : Identifiers) : Type 0 where
+  pub quiet : ids.quiet ≤ now
+  pub rested : (used : ℕ) → last_use (next ids) ids.uses ≡ Some used → used + ids.reuse ≤ now
 
 -- Discards for a rule of PDUs.
 

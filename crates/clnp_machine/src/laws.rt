@@ -1,6 +1,6 @@
 //! Laws of one step of a system: each holds for every state and whatever comes, and its function
 //! does nothing.
-ghost use Rattle.std.specs.Prelude.{All, Bool, false, ◌≡◌, ◌==◌, ◌&&◌, ◌↔◌, ◌≤◌, ◌-◌, ℕ, None, Some, List, [], ◌++◌, length, map, not, option_map};
+ghost use Rattle.std.specs.Prelude.{All, Bool, false, true, ◌≡◌, ◌≢◌, ◌==◌, ◌&&◌, ◌↔◌, ◌⊎◌, ◌<◌, ◌≤◌, ◌+◌, ◌*◌, ◌-◌, ℕ, IsTrue, None, Some, List, [], ◌∷◌, ◌++◌, length, map, not, option_map, slice_get};
 ghost use Rattle.std.specs.List.{AllByRecursion, Contains, filter, flat_map, list_any};
 ghost use Rattle.hex.specs.Hex.{IsBytes};
 ghost use Rattle.clnp_plan.specs.PduHeader.declared.kind.Kind.{Kind};
@@ -11,27 +11,46 @@ ghost use Rattle.error_reports.specs.Report.{report_of};
 ghost use Rattle.echo.specs.Reply.{reply_of};
 ghost use Rattle.segmenter.specs.Cut as segmenter;
 ghost use Rattle.clnp_plan.specs.Nsap.Address.{IsAddress};
+ghost use Rattle.clnp_plan.specs.Nsap.declared.target.Target.TheVariants.{System, EndSystems};
+ghost use Rattle.clnp_plan.specs.ClnpOptions.Edits.{is_complete, target_of, value_of as option_value};
+ghost use Rattle.clnp_plan.specs.ClnpOptions.Parameter.{Parameter};
+ghost use Rattle.clnp_plan.specs.Forwarding.declared.route.Route.{Route};
+ghost use Rattle.clnp_plan.specs.Forwarding.Longest.{longest};
 ghost use Rattle.clnp_plan.specs.PduHeader.Rules.{header_of, is_reportable, kind_of, octet, type_of};
 ghost use Rattle.esis_pdus.specs.Grammar.{IsPdu};
 ghost use Rattle.esis_pdus.specs.Spelling.{spelling};
 ghost use Rattle.esis_pdus.specs.Value.{EsisValue};
+ghost use Rattle.reassembly.specs.declared.segment.Shape.{Shape};
 ghost use Rattle.reassembly.specs.declared.table.TableLimits.{TableLimits};
 ghost use Rattle.reassembly.specs.Arrival.{Arrival};
 ghost use Rattle.reassembly.specs.Buffer as buffer;
-ghost use Rattle.reassembly.specs.Buffer.{Buffer, buffer_of, clashes, held, without};
+ghost use Rattle.reassembly.specs.Buffer.{Buffer, buffer_of, clashes, due, first_carried, held, without};
 ghost use Rattle.clnp_plan.specs.Configuration.{IsAddressed, IsSystem};
 ghost use Rattle.clnp_plan.specs.EsisTables.declared.fact.Place.{Place};
+ghost use Rattle.clnp_plan.specs.EsisTables.declared.fact.TableKind.TheVariants.{Es, Rd};
+ghost use Rattle.clnp_plan.specs.EsisTables.NextHop.{current_place, last_router};
+ghost use Rattle.clnp_plan.specs.EsisTables.Gone.{gone};
 ghost use Rattle.clnp_plan.specs.declared.ask.Ask.{Ask};
+ghost use Rattle.clnp_plan.specs.declared.config.Limits.{Limits};
+ghost use Rattle.clnp_plan.specs.declared.config.PortConfig.{PortConfig};
+ghost use Rattle.clnp_plan.specs.declared.config.Role.TheVariants.{Host, Router};
+ghost use Rattle.clnp_plan.specs.declared.note.Note.TheVariants.{Crowded, Discard, Echoed, Expired, Interference, Many, NoSlot, Restart, Stray};
+ghost use Rattle.clnp_machine.specs.Identifiers.{Identifiers, not_drawn};
 ghost use Rattle.clnp_machine.specs.Unit.{Unit, Packet, IsCarriable, cut, value_of, whole_packet, wire};
 ghost use Rattle.clnp_machine.specs.Content.{Content, Esis, IsCarried, Labelled, Unlabelled, content_of, frame_of};
-ghost use Rattle.clnp_machine.specs.Esis.{esis_comes, forgets, own_hello, says_hello, tells_new, tells_of_itself, title_of};
-ghost use Rattle.clnp_machine.specs.Local.{Action, at_moment, discard, echo_ask, gives_up, header_size, made_in, make, receive, refusal, report_unit, tick, unit_of};
-ghost use Rattle.clnp_machine.specs.System.{SystemState, Input, FrameComes, IsRestarted};
+ghost use Rattle.clnp_machine.specs.Esis.{esis_comes, forgets, gone_note, hello_everywhere, own_hello, redirect, says_hello, tells_new, tells_of_itself, title_of};
+ghost use Rattle.clnp_machine.specs.Local.{Action, Tells, and_then, at_moment, discard, discard_first, echo_ask, gives_up, header_size, is_all, is_replied, made_in, make, makes, receive, refusal, report_unit, takes_in, tells, tick, unit_of};
+ghost use Rattle.clnp_machine.specs.System.{SystemState, Input, AsksForEcho, AsksToSend, FrameComes, IsRestarted, MomentComes, Notes, SendsEsis};
 ghost use Rattle.clnp_plan.specs.PduHeader.Headers.{with_lifetime, with_options};
 ghost use Rattle.clnp_machine.specs.EditLaws.{EditLaws};
-ghost use Rattle.clnp_machine.specs.Step.{forwarded, octets_come, options_behind, outputs_of, packet_comes, passes_by, responds, step};
+ghost use Rattle.clnp_machine.specs.Edited.{AreEdited, Edit, with_edits};
+ghost use Rattle.clnp_machine.specs.Step.{Hop, Way, first_sent, forwarded, hop_to, loss_at, next_hop, octets_come, options_behind, outputs_of, packet_comes, passes_by, responds, step, transmissions, way_of};
+ghost use Rattle.clnp_machine.specs.Due.{FollowsTimer, IsAskedByGroup, IsHelloDue, IsSuggested, KeepsHello, StaysUnlessEnded, begun_anew};
+ghost use Rattle.clnp_machine.specs.Ports.{ComesByPort, GoesByPort};
+ghost use Rattle.clnp_machine.specs.Requests.{AnswersNone, AnswersNothing, AnswersOldest, StayUnlessAnswered, newest};
+ghost use Rattle.clnp_machine.specs.Ways.{BeginsWithDiscard, CallsForRedirect, IsAllOfItsUnit, IsAllowedWay, IsDiscardedFor, IsFirstOrGoesOn, IsOnRoute, SendsItsWay, aim_of};
 ghost use Rattle.clnp_machine.specs.Steps.{AreCarriable, AreNumbered, IsAtMostReportOf, IsMadeFor, IsNoRestart, IsRedirectFor, KeepsAsOffered, KeepsNextHops, KnowsAddresses, ReportsOn, RestartsNothing, WasPendingOrMade, BreaksNoEsisRule, BreaksNoRule, CarriesOneEsisValue, CarriesOnePacket, IsAtMostItsHello, IsAtMostOneTo, IsDeed, IsEffect, IsFair, IsForOwn, GoesOnOrIsReported, IsFresh, IsRangeOf, IsWithinBudget, NotesOnly, OnlyHellos, SendsCarriable, SendsEsisPdus, SendsItsOwn, SendsRangesOrGoesOn, StaysItself, WasKeptOrComes, moment_after, segments_in, sends_esis, sends_frame};
-ghost use Rattle.clnp_machine.specs.Told.{IsAllowed, IsRefusal, IsToldBy, NoteIsQuiet, NotesNoRule, SpellsPdus, TellsNoInterference, TellsOnly, WasThereOrTakes};
+ghost use Rattle.clnp_machine.specs.Told.{IsAllowed, IsRefusal, IsToldBy, LeavesRefused, MayBeDrawn, NoteIsQuiet, NotesNoRule, SpellsPdus, TellsNoInterference, TellsOnly, WasThereOrTakes};
 
 /// A step leaves a system at its place with its configuration, at the moment that came last.
 pub fn a_system_stays_itself()
@@ -88,6 +107,13 @@ pub fn forwarding_costs_lifetime()
     laws_of_edits();
 }
 
+/// Hops count routers: each packet that is sent in a step has none, or goes on from the packet that came in the step, with one more.
+pub fn hops_count_routers()
+    ensures { (s : SystemState) (input : Input) → AllByRecursion (IsFirstOrGoesOn s input) (step s input).outputs }
+{
+    laws_of_edits();
+}
+
 /// The header of a packet is as long as that of its unit's initial PDU, however often it was forwarded: a
 /// router changes the values of options, and never their lengths.
 pub fn headers_keep_their_length()
@@ -95,6 +121,14 @@ pub fn headers_keep_their_length()
 {
     laws_of_edits();
 }
+
+/// What routers make of options leaves the value of each option but source routes, recordings and qualities of service as it was; and
+/// what a router makes of those of a packet is made by such edits.
+pub fn edits_change_three_options()
+    ensures others { (edits : List Edit) (code : ℕ) → code ≢ 0xc8 → code ≢ 0xcb → code ≢ 0xc3 → (options : List Parameter)
+        → option_value code (with_edits edits options) ≡ option_value code options }
+    ensures behind { (s : SystemState) (options : List Parameter) → AreEdited options (options_behind s options) }
+{}
 
 /// The PDU of a packet that goes on has the value of the one that came, but for its lifetime and options;
 /// and where a router has a title, a PDU can carry it.
@@ -117,6 +151,97 @@ pub fn what_is_sent_is_carriable()
     laws_of_edits();
 }
 
+/// All that a system sends goes by a port that is there, where what comes in a frame came by one.
+pub fn what_is_sent_goes_by_a_port()
+    ensures { (s : SystemState) (input : Input) → ComesByPort s input → AllByRecursion (GoesByPort s) (step s input).outputs }
+{}
+
+/// Behind a router no source route leads to the router itself, wherever in the route its title stands.
+pub fn a_source_route_leads_elsewhere()
+    ensures { (s : SystemState) (p : Packet) → IsCarriable p → (title : List ℕ) → target_of (options_behind s p.options) ≡ Some title
+        → title ≢ title_of s }
+{
+    clnp_plan::clnp_options::laws::edits_leave_the_source_route();
+    clnp_plan::clnp_options::laws::edits_keep_options_formed();
+    clnp_plan::clnp_options::laws::a_source_route_leads_on();
+}
+
+/// A packet for another address goes on by the way to the title to which its source route leads next, else to its
+/// destination, or it is discarded. With a complete source route it goes on only where it was led to this router, and to no
+/// other system before the next one of its route (ISO 8473, section 6.14).
+pub fn packets_go_their_way()
+    ensures { (s : SystemState) (came : Place) (p : Packet) (following : List ℕ) → let outputs = (passes_by Router s came p following).outputs in
+        AllByRecursion (SendsItsWay s p) outputs ⊎ BeginsWithDiscard outputs }
+{}
+
+/// Why a packet that comes is discarded, where it is for another address: its lifetime is over, before it came (`over`) or on
+/// the way (`transit`); its complete source route doesn't lead here (`off_route`), or another system stands before the next one
+/// of it (`not_next`); no way is known to its destination (`unknown`), or to the next title of its route (`unknown_in_route`); it
+/// may not be cut (`uncut`). Each with the octet of its reason (ISO 8473, section 7.9.5).
+pub fn discards_have_their_reasons()
+    ensures over { (s : SystemState) (came : Place) (p : Packet) (following : List ℕ) → p.lifetime ≡ 0
+        → IsDiscardedFor 0xa0 s p following (packet_comes s came p following) }
+    ensures off_route { (s : SystemState) (came : Place) (p : Packet) (following : List ℕ) → is_complete p.options ≡ true
+        → ¬ (target_of p.options ≡ Some (title_of s)) → IsDiscardedFor 0x93 s p following (passes_by Router s came p following) }
+    ensures unknown { (s : SystemState) (came : Place) (p : Packet) (following : List ℕ) → IsOnRoute s p → way_of s (aim_of s p) ≡ None
+        → target_of (options_behind s p.options) ≡ None → IsDiscardedFor 0x81 s p following (passes_by Router s came p following) }
+    ensures unknown_in_route { (s : SystemState) (came : Place) (p : Packet) (following : List ℕ) → IsOnRoute s p
+        → way_of s (aim_of s p) ≡ None → (title : List ℕ) → target_of (options_behind s p.options) ≡ Some title
+        → IsDiscardedFor 0x92 s p following (passes_by Router s came p following) }
+    ensures not_next { (s : SystemState) (came : Place) (p : Packet) (following : List ℕ) → IsOnRoute s p → (way : Way)
+        → way_of s (aim_of s p) ≡ Some way → is_complete (options_behind s p.options) ≡ true → (title : List ℕ) → way.title ≡ Some title
+        → title ≢ aim_of s p → IsDiscardedFor 0x93 s p following (passes_by Router s came p following) }
+    ensures transit { (s : SystemState) (came : Place) (p : Packet) (following : List ℕ) → IsOnRoute s p → (way : Way)
+        → way_of s (aim_of s p) ≡ Some way → IsAllowedWay s p way → (port : PortConfig)
+        → slice_get s.configuration.ports way.place.port ≡ Some port → p.lifetime ≤ loss_at port
+        → IsDiscardedFor 0xa0 s p following (passes_by Router s came p following) }
+    ensures uncut { (s : SystemState) (came : Place) (p : Packet) (following : List ℕ) → IsOnRoute s p → (way : Way)
+        → way_of s (aim_of s p) ≡ Some way → IsAllowedWay s p way → (port : PortConfig)
+        → slice_get s.configuration.ports way.place.port ≡ Some port → loss_at port < p.lifetime
+        → cut (forwarded p (loss_at port) (options_behind s p.options)) port.mtu ≡ None
+        → IsDiscardedFor 0x05 s p following (passes_by Router s came p following) }
+{}
+
+/// Why segments are discarded: one that meets another unit's in a buffer, one for which there is no room, and the first of a unit
+/// whose buffer's time has ended. And why a unit isn't sent: no way is known to its destination, or it may not be cut.
+pub fn discards_at_the_own_addresses_have_their_reasons()
+    ensures interference { (s : SystemState) (frame : Content) (arrival : Arrival Packet) (kept : List (Buffer Packet)) (there other : Shape)
+        → takes_in s frame arrival kept (buffer.Interference there other)
+        ≡ and_then (tells s (Interference arrival.key.id)) (λ t. discard t frame 0xc0 0) }
+    ensures no_slot { (s : SystemState) (frame : Content) (arrival : Arrival Packet) (kept : List (Buffer Packet)) (live : ℕ)
+        → takes_in s frame arrival kept (buffer.NoSlot live) ≡ and_then (tells s (NoSlot live)) (λ t. discard t frame 0x03 0) }
+    ensures crowded { (s : SystemState) (frame : Content) (arrival : Arrival Packet) (kept : List (Buffer Packet)) (held size : ℕ)
+        → takes_in s frame arrival kept (buffer.Crowded held size) ≡ and_then (tells s (Crowded held size)) (λ t. discard t frame 0x03 0) }
+    ensures many { (s : SystemState) (frame : Content) (arrival : Arrival Packet) (kept : List (Buffer Packet)) (segments : ℕ)
+        → takes_in s frame arrival kept (buffer.Many segments) ≡ and_then (tells s (Many segments)) (λ t. discard t frame 0x03 0) }
+    ensures expired { (s : SystemState) (p : Packet) → discard_first s (Some p) ≡ discard s (Labelled p []) 0xa1 0 }
+    ensures unknown { (s : SystemState) (u : Unit) → first_sent s u None ≡ Notes (Discard 0x81 0) ∷ [] }
+    ensures uncut { (hop : Hop) → transmissions hop None ≡ Notes (Discard 0x05 0) ∷ [] }
+{}
+
+/// A host sends towards an address to the better hop of a redirect for it, else to the end system of that address, else to the
+/// intermediate system that it heard last, else to all end systems on its first port (ISO 9542, section 6.5). A router
+/// sends to the end system of the address, else by the longest route that covers it.
+pub fn next_hops_are_what_is_known()
+    ensures redirected { (s : SystemState) (to : List ℕ) (place : Place) → s.configuration.role ≡ Host
+        → current_place s.moment Rd to s.facts ≡ Some place → next_hop s to ≡ Some (hop_to place) }
+    ensures end_system { (s : SystemState) (to : List ℕ) (place : Place) → s.configuration.role ≡ Host
+        → current_place s.moment Rd to s.facts ≡ None → current_place s.moment Es to s.facts ≡ Some place → next_hop s to ≡ Some (hop_to place) }
+    ensures intermediate_system { (s : SystemState) (to : List ℕ) (place : Place) → s.configuration.role ≡ Host
+        → current_place s.moment Rd to s.facts ≡ None → current_place s.moment Es to s.facts ≡ None
+        → last_router s.moment s.facts ≡ Some place → next_hop s to ≡ Some (hop_to place) }
+    ensures everyone { (s : SystemState) (to : List ℕ) → s.configuration.role ≡ Host → current_place s.moment Rd to s.facts ≡ None
+        → current_place s.moment Es to s.facts ≡ None → last_router s.moment s.facts ≡ None
+        → next_hop s to ≡ Some (record { port = 0; target = EndSystems }) }
+    ensures neighbour { (s : SystemState) (to : List ℕ) (place : Place) → s.configuration.role ≡ Router
+        → current_place s.moment Es to s.facts ≡ Some place → next_hop s to ≡ Some (hop_to place) }
+    ensures by_route { (s : SystemState) (to : List ℕ) (route : Route) → s.configuration.role ≡ Router
+        → current_place s.moment Es to s.facts ≡ None → longest to s.configuration.routes ≡ Some route
+        → next_hop s to ≡ Some (record { port = route.port; target = System route.snpa }) }
+    ensures nowhere { (s : SystemState) (to : List ℕ) → s.configuration.role ≡ Router → current_place s.moment Es to s.facts ≡ None
+        → longest to s.configuration.routes ≡ None → next_hop s to ≡ None }
+{}
+
 /// A system sends no ES-IS PDU but its own hello and, as a router, redirects. Where it is configured as
 /// a system with addresses, what comes is fair, and what it heard of is at addresses, each is one that
 /// a PDU can carry; and what it heard of then is at addresses again.
@@ -130,7 +255,7 @@ pub fn hellos_are_pdus()
     clnp_plan::forwarding::laws::what_is_longest_covers();
 }
 
-/// A redirect that comes to a system changes where it sends towards the redirect's destination alone.
+/// A redirect that comes to a system changes where it sends towards the redirect's destination alone, and no way of a router's.
 pub fn a_redirect_changes_one_next_hop()
     ensures { (s : SystemState) (port : ℕ) (sender : List ℕ) (to_group : Bool) (content : Content) (destination : List ℕ)
         → IsRedirectFor destination content
@@ -138,6 +263,57 @@ pub fn a_redirect_changes_one_next_hop()
 {
     clnp_plan::esis_tables::laws::a_redirect_changes_its_destination_alone();
 }
+
+/// A router that sends a packet on tells its source of a better way exactly where that is called for (ISO 9542, section 6.8):
+/// of the way to the packet's destination, in one redirect, to the place from which the packet came.
+pub fn redirects_are_sent_where_called_for()
+    ensures sent { (s : SystemState) (came : Place) (p : Packet) (following : List ℕ)
+        → let outputs = (passes_by Router s came p following).outputs in (list_any sends_esis outputs ≡ true) ↔ CallsForRedirect s came p outputs }
+    ensures better { (s : SystemState) (came : Place) (p : Packet) (following : List ℕ) (way : Way) → way_of s p.unit.destination ≡ Some way
+        → let sent = filter sends_esis (passes_by Router s came p following).outputs in
+        (sent ≡ []) ⊎ (sent ≡ SendsEsis came.port (System came.snpa) (redirect s p.unit.destination way.place.snpa way.title) ∷ []) }
+{}
+
+/// A hello is said exactly where one is due when a moment comes: on each port, in order; the next one is due a period later,
+/// from that moment on. Where none is due, none is said, and the next one stays as it was.
+pub fn a_hello_is_said_where_one_is_due()
+    ensures said { (s : SystemState) (now : ℕ) → IsHelloDue s now → filter sends_esis (step s (MomentComes now)).outputs ≡ hello_everywhere s }
+    ensures next { (s : SystemState) (now : ℕ) → IsHelloDue s now → (step s (MomentComes now)).after.next_hello ≡ now + 2 * s.hello }
+    ensures silent { (s : SystemState) (now : ℕ) → ¬ (IsHelloDue s now) → filter sends_esis (step s (MomentComes now)).outputs ≡ [] }
+    ensures stays { (s : SystemState) (now : ℕ) → ¬ (IsHelloDue s now) → (step s (MomentComes now)).after.next_hello ≡ s.next_hello }
+{}
+
+/// A system says hello as often as before, and its next one is due as before, whatever ES-IS PDU comes, but where a host that
+/// says hello at all hears an intermediate system suggest a period above 0: that period counts from then on, and the next
+/// hello is due no later than one such period from that moment on (ISO 9542:1988).
+pub fn a_suggested_period_is_followed()
+    ensures follows { (s : SystemState) (port : ℕ) (sender : List ℕ) (to_group : Bool) (value : EsisValue) (following : List ℕ) (seconds : ℕ)
+        → IsSuggested s value seconds → FollowsTimer seconds s (step s (FrameComes port sender to_group (Esis value following))).after }
+    ensures stays { (s : SystemState) (port : ℕ) (sender : List ℕ) (to_group : Bool) (value : EsisValue) (following : List ℕ)
+        → ((seconds : ℕ) → ¬ (IsSuggested s value seconds))
+        → KeepsHello s (step s (FrameComes port sender to_group (Esis value following))).after }
+{}
+
+/// When a moment comes, a system first tells of the buffers that end, each with the discard of the segment at the beginning of its
+/// unit, if one came; then of what it heard that has ended since its last moment; and then it says hello, if one is due.
+pub fn a_moment_is_told_in_order()
+    ensures order { (s : SystemState) (now : ℕ) → let ticked = tick s now in (step s (MomentComes now)).outputs
+        ≡ flat_map (outputs_of ticked.after) ticked.actions ++ (map gone_note (gone s.moment now s.facts) ++ (says_hello ticked.after).outputs) }
+    ensures ended { (s : SystemState) (ended : Buffer Packet) → let rest = without ended.key s.buffers in (gives_up s ended).actions
+        ≡ Tells (Expired ended.key.id (held rest)) ∷ (discard_first (record s { buffers = rest }) (first_carried ended)).actions }
+{}
+
+/// A host to which a packet comes tells the sender of itself exactly where it was asked for by a group (ISO 9542, section 6.6),
+/// whatever else comes of the packet.
+pub fn a_group_is_answered()
+    ensures answered { (s : SystemState) (port : ℕ) (sender : List ℕ) (to_group : Bool) (p : Packet) (following : List ℕ)
+        → s.configuration.role ≡ Host → IsAskedByGroup s to_group p
+        → filter sends_esis (step s (FrameComes port sender to_group (Labelled p following))).outputs
+        ≡ SendsEsis port (System sender) (own_hello s) ∷ [] }
+    ensures unanswered { (s : SystemState) (port : ℕ) (sender : List ℕ) (to_group : Bool) (p : Packet) (following : List ℕ)
+        → s.configuration.role ≡ Host → ¬ (IsAskedByGroup s to_group p)
+        → filter sends_esis (step s (FrameComes port sender to_group (Labelled p following))).outputs ≡ [] }
+{}
 
 /// An ES-IS PDU that comes makes a system send at most its own hello, to where the PDU came from, and
 /// no packet. A packet makes it send at most its own hello or one redirect, to where the packet came
@@ -176,10 +352,17 @@ pub fn only_owners_hand_up()
 {}
 
 /// A unit is made exactly where its source is the system's own, data and header are short enough, and
-/// an identifier can be drawn for it, if it needs one; where it isn't made, a refusal is noted.
+/// an identifier can be drawn for it, if it needs one; where it isn't made, a refusal is noted, and
+/// nothing changes. An identifier can be drawn exactly where the quiet time is over, and it rested long
+/// enough since its last use.
 pub fn units_are_made_where_allowed()
     ensures allowed { (s : SystemState) (u : Unit) → (refusal s u ≡ None) ↔ IsAllowed s u }
     ensures refused { (s : SystemState) (u : Unit) → IsRefusal (refusal s u) }
+    ensures made { (s : SystemState) (kind : Kind) (from to octets : List ℕ) (ask : Ask) → IsAllowed s (unit_of s kind from to octets ask)
+        → make s kind from to octets ask ≡ makes s (unit_of s kind from to octets ask) }
+    ensures unmade { (s : SystemState) (kind : Kind) (from to octets : List ℕ) (ask : Ask) → ¬ (IsAllowed s (unit_of s kind from to octets ask))
+        → LeavesRefused s (make s kind from to octets ask) }
+    ensures drawn { (now : ℕ) (ids : Identifiers) → (not_drawn now ids ≡ None) ↔ MayBeDrawn now ids }
 {}
 
 /// What is noted is told, or says that a unit is dropped; and where a moment comes, nothing is told of
@@ -203,6 +386,23 @@ pub fn ended_buffers_are_taken_out()
         → (gives_up s ended).after ≡ record s { buffers = without ended.key s.buffers; count = (gives_up s ended).after.count } }
 {}
 
+/// When a moment comes, each buffer whose time has ended is taken out: none is due afterwards. Each that is left was there
+/// before, and each that was there is left, unless one of its key has ended.
+pub fn each_ended_buffer_is_taken_out()
+    ensures none_due { (s : SystemState) (now : ℕ) → due now (step s (MomentComes now)).after.buffers ≡ None }
+    ensures there { (s : SystemState) (now : ℕ) → AllByRecursion (Contains s.buffers) (step s (MomentComes now)).after.buffers }
+    ensures stays { (s : SystemState) (now : ℕ) → AllByRecursion (StaysUnlessEnded now s.buffers (step s (MomentComes now)).after.buffers) s.buffers }
+{}
+
+/// A restart leaves a system as at its start, quiet for as long as an identifier rests, but for its place, its moment and the
+/// count of its units. It is noted, nothing else is given out, and no unit is made.
+pub fn a_restart_begins_anew()
+    ensures after { (s : SystemState) (limits : Limits) → limits.hold ≡ s.hold → limits.reuse ≡ s.identifiers.reuse
+        → (step s IsRestarted).after ≡ begun_anew s limits }
+    ensures outputs { (s : SystemState) → (step s IsRestarted).outputs ≡ Notes Restart ∷ [] }
+    ensures units { (s : SystemState) → (step s IsRestarted).units ≡ [] }
+{}
+
 /// Reports make no storm: where a frame is discarded at most one unit is made, which is its report and
 /// of which no report is wanted; the discard of an error report makes none.
 pub fn reports_make_no_storm()
@@ -213,6 +413,12 @@ pub fn reports_make_no_storm()
 {
     error_reports::laws::no_report_of_a_report();
 }
+
+/// Whatever comes in a frame makes a system make at most one unit.
+pub fn a_frame_makes_at_most_one_unit()
+    ensures { (s : SystemState) (port : ℕ) (sender : List ℕ) (to_group : Bool) (content : Content)
+        → length (step s (FrameComes port sender to_group content)).units ≤ 1 }
+{}
 
 /// The discard of a packet is reported exactly where its unit wants a report and isn't one; and the PDU
 /// of a report is that of the definition.
@@ -248,6 +454,22 @@ pub fn requests_are_kept()
     ensures few { (s : SystemState) (input : Input) → length s.pending ≤ 8 → length (step s input).after.pending ≤ 8 }
     ensures made { (s : SystemState) (input : Input) → AllByRecursion (WasPendingOrMade s (step s input)) (step s input).after.pending }
     ensures forgotten { (s : SystemState) → (step s IsRestarted).after.pending ≡ [] }
+{}
+
+/// Where an echo is asked for, the requests that are to be answered are then the last eight of those before and the one that is
+/// made, if it isn't refused. Else they stay, whatever comes, until a restart or a reply: a reply answers the oldest request that
+/// it may answer, which is then answered, and no other; where there is none it is stray.
+pub fn requests_are_the_last_and_answered_in_order()
+    ensures made { (s : SystemState) (from to octets : List ℕ) → length s.pending ≤ 8 → let effect = step s (AsksForEcho from to octets) in
+        effect.after.pending ≡ newest 8 (s.pending ++ effect.units) }
+    ensures stay { (s : SystemState) (input : Input) → AnswersNothing input → (step s input).after.pending ≡ s.pending }
+    ensures unless_answered { (s : SystemState) (port : ℕ) (sender : List ℕ) (to_group : Bool) (p : Packet) (following : List ℕ)
+        → StayUnlessAnswered p s.pending (step s (FrameComes port sender to_group (Labelled p following))).after.pending }
+    ensures answered { (s : SystemState) (source destination octets : List ℕ) (before : List Unit) (request : Unit) (behind : List Unit)
+        → AnswersOldest source destination octets s.pending before request behind
+        → is_replied s source destination octets ≡ tells (record s { pending = before ++ behind }) (Echoed source destination request.number) }
+    ensures stray { (s : SystemState) (source destination octets : List ℕ) → AnswersNone source destination octets s.pending
+        → is_replied s source destination octets ≡ tells s (Stray source destination) }
 {}
 
 /// That a system was restarted is noted only where it is.
@@ -287,6 +509,12 @@ pub fn packets_are_cut_as_their_values()
     ensures values { (p : Packet) (mtu : ℕ) → IsCarriable p → 512 ≤ mtu
         → option_map (map value_of) (cut p mtu) ≡ option_map (map (λ piece. piece.value)) (segmenter.cut (value_of p) mtu) }
     ensures carriable { (p : Packet) (mtu : ℕ) → IsCarriable p → 512 ≤ mtu → AreCarriable (cut p mtu) }
+{}
+
+/// A packet is taken for all of its unit exactly where the unit can't be segmented, or the packet's range has all places of the
+/// unit's data.
+pub fn a_packet_may_be_all_of_its_unit()
+    ensures { (p : Packet) → IsTrue (is_all p) ↔ IsAllOfItsUnit p }
 {}
 
 /// All octets from outside have a content: they are its frame, and a frame may carry it.

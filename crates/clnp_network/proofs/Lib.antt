@@ -1,2 +1,3 @@
 pub use Rattle.scenario.proofs as Scenario
 mod Worked
+pub mod Texts

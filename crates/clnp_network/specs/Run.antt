@@ -23,6 +23,9 @@ entries_of plan w (move ∷ moves) =
 abbrev pub lines_text : List Line → List ℕ
 lines_text lines = flat_map line_text lines
 
+abbrev pub entry_text : Entry → List ℕ
+entry_text entry = lines_text entry.lines
+
 -- the text that moves write
 abbrev pub text_of : Plan → World → List Move → List ℕ
 text_of plan w [] = []

@@ -9,7 +9,7 @@ use Rattle.scenario.specs.declared.event.Event.{Event}
 use Rattle.scenario.specs.declared.event.Event.TheVariants.{Send}
 use Rattle.scenario.specs.declared.event.Move.{Move}
 use Rattle.scenario.specs.declared.event.Move.TheVariants.{One, SettleOne, LoseOne, TickOne}
-use Rattle.clnp_machine.specs.PduHeader.declared.kind.Kind.TheVariants.{Erq, Erp}
+use Rattle.clnp_machine.specs.PduHeader.declared.kind.Kind.TheVariants.{Er, Erq, Erp}
 use Rattle.clnp_machine.specs.PduHeader.Rules.{header_of}
 use Rattle.clnp_machine.specs.PduHeader.Spelling.{header_length}
 use Rattle.clnp_machine.specs.Echo.Match.{Echoes}
@@ -17,12 +17,12 @@ use Rattle.clnp_machine.specs.EsisPdus.Grammar.{IsPdu}
 use Rattle.clnp_machine.specs.Content.{Labelled, Esis, Unlabelled, Content, frame_of}
 use Rattle.clnp_machine.specs.Unit as unit
 use Rattle.clnp_machine.specs.Unit.{DeclaredAt, Packet, value_of, wire}
-use Rattle.clnp_machine.specs.Local.{header_size, is_own}
+use Rattle.clnp_machine.specs.Local.{header_size, is_own, offered}
 use Rattle.clnp_machine.specs.System.{SystemState}
-use Rattle.clnp_machine.specs.Steps.{BreaksNoEsisRule, BreaksNoRule, IsRangeOf, IsRedirectFor, KeepsNextHops}
+use Rattle.clnp_machine.specs.Steps.{BreaksNoEsisRule, BreaksNoRule, IsRangeOf, IsRedirectFor, IsReportOf, KeepsNextHops, segments_in}
 use Rattle.clnp_machine.specs.Told.{NotesNoRule}
 use Rattle.clnp_machine.specs.Reassembly.Arrival.{Arrival}
-use Rattle.clnp_network.specs.World.{Numbered, World, after, give}
+use Rattle.clnp_network.specs.World.{Copy, Numbered, World, after, give}
 use Rattle.clnp_network.specs.Run.{Entry}
 use Rattle.clnp_machine.specs.Reassembly.Buffer.{Buffer, held}
 use Rattle.std.specs.List.{AllByRecursion, Contains}
@@ -70,6 +70,12 @@ EachWasSent plan past (entry ∷ later) =
 abbrev pub IsHonest : Plan → List Entry → Type 0
 IsHonest plan entries = EachWasSent plan [] entries
 
+-- one of some copies carries a packet, with what follows it in its frame
+pub record StandsInCopy (copies : List Copy) (p : Packet) (following : List ℕ) : Type 0 where
+  pub copy : Copy
+  pub there : Contains copies copy
+  pub carries : copy.content ≡ Labelled p following
+
 -- no system of the network holds more octets for reassembly than its budget
 abbrev pub IsWithinBudgets : World → Type 0
 IsWithinBudgets w = AllByRecursion (λ system. held system.buffers ≤ system.configuration.settings.budget) w.systems
@@ -83,6 +89,26 @@ MeetsLifetime (Unlabelled octets) = Unit {0}
 -- no PDU of the network was forwarded more often than its lifetime allowed
 abbrev pub IsWithinLifetimes : World → Type 0
 IsWithinLifetimes w = AllByRecursion (λ copy. MeetsLifetime copy.content) w.copies
+
+-- one of some copies carries the packet from which one went on: of the same unit, with one hop less, of which it is a range
+pub record WentOn (copies : List Copy) (p : Packet) : Type 0 where
+  pub came : Packet
+  pub following : List ℕ
+  pub stands : StandsInCopy copies came following
+  pub unit : p.unit ≡ came.unit
+  pub hops : p.hops ≡ came.hops + 1
+  pub from : came.offset ≤ p.offset
+  pub to : p.offset + p.length ≤ came.offset + came.length
+
+-- a packet wasn't forwarded, or went on from one in a copy
+abbrev pub HasItsHops : List Copy → Content → Type 0
+HasItsHops copies (Labelled packet following) = (packet.hops ≡ 0) ⊎ WentOn copies packet
+HasItsHops copies (Esis value following) = Unit {0}
+HasItsHops copies (Unlabelled octets) = Unit {0}
+
+-- so it is of each packet on the network
+abbrev pub HopsCountCopies : World → Type 0
+HopsCountCopies w = AllByRecursion (λ copy. HasItsHops w.copies copy.content) w.copies
 
 -- the header of a packet is as long as that of its unit's initial PDU
 abbrev pub KeepsHeader : Content → Type 0
@@ -116,14 +142,28 @@ IsUnbroken (Unlabelled octets) = ⊥
 abbrev pub FramesAreUnbroken : World → Type 0
 FramesAreUnbroken w = AllByRecursion (λ copy. IsUnbroken copy.content) w.copies
 
+-- a segment is kept as the packet in one of some copies was offered
+pub record CameInCopy (copies : List Copy) (arrival : Arrival Packet) : Type 0 where
+  pub following : List ℕ
+  pub is_offered : arrival ≡ offered arrival.carried following
+  pub stands : StandsInCopy copies arrival.carried following
+
+-- each segment that a system keeps came in a copy
+abbrev pub KeepsWhatCame : World → Type 0
+KeepsWhatCame w = AllByRecursion (λ system. AllByRecursion (CameInCopy w.copies) (segments_in system.buffers)) w.systems
+
+-- a segment is of a unit, and stands in one of some copies
+pub record IsSegmentOf (copies : List Copy) (u : unit.Unit) (arrival : Arrival Packet) : Type 0 where
+  pub unit : arrival.carried.unit ≡ u
+  pub stands : StandsInCopy copies arrival.carried []
+
 -- all segments of a buffer are of one unit that was made
-abbrev pub HoldsOneUnit : List unit.Unit → Buffer Packet → Type 0
-HoldsOneUnit units buffer =
-    (u : unit.Unit) × Contains units u × AllByRecursion (λ (arrival : Arrival Packet). arrival.carried.unit ≡ u) buffer.kept
+abbrev pub HoldsOneUnit : List unit.Unit → List Copy → Buffer Packet → Type 0
+HoldsOneUnit units copies buffer = (u : unit.Unit) × Contains units u × AllByRecursion (IsSegmentOf copies u) buffer.kept
 
 -- each buffer of each system does
 abbrev pub HoldsUnitsApart : World → Type 0
-HoldsUnitsApart w = AllByRecursion (λ system. AllByRecursion (HoldsOneUnit w.units) system.buffers) w.systems
+HoldsUnitsApart w = AllByRecursion (λ system. AllByRecursion (HoldsOneUnit w.units w.copies) system.buffers) w.systems
 
 -- of two units of one maker with one identifier the later was made so much later
 abbrev pub Rests : ℕ → (earlier later : unit.Unit) → Type 0
@@ -175,7 +215,19 @@ pub record IsMadeAt (w : World) (place : ℕ) (system : SystemState) (u : unit.U
   pub maker : u.maker ≡ DeclaredAt place
   pub there : slice_get w.systems place ≡ Some system
 
--- octets are the header of the PDU of a packet of a unit that the system with a name made
+-- a unit is the report of the discard of a packet that stands in one of some copies, and goes to the packet's source
+pub record ReportsOnCopy (copies : List Copy) (u : unit.Unit) : Type 0 where
+  pub packet : Packet
+  pub following : List ℕ
+  pub stands : StandsInCopy copies packet following
+  pub report : IsReportOf (wire packet) u
+  pub source : packet.unit.source ≡ u.destination
+
+-- each error report that was made is one
+abbrev pub ReportsStand : World → Type 0
+ReportsStand w = AllByRecursion (λ (u : unit.Unit). u.kind ≡ Er → ReportsOnCopy w.copies u) w.units
+
+-- octets are the header of the PDU of a packet of a unit that the system with a name made; a copy carries the packet
 pub record IsHeaderOfOwn (w : World) (name octets : List ℕ) : Type 0 where
   pub place : ℕ
   pub system : SystemState
@@ -183,6 +235,7 @@ pub record IsHeaderOfOwn (w : World) (name octets : List ℕ) : Type 0 where
   pub made : IsMadeAt w place system packet.unit
   pub named : system.configuration.name ≡ name
   pub range : IsRangeOf w.units packet
+  pub stands : StandsInCopy w.copies packet []
   pub header : octets ≡ header_of (wire packet)
 
 -- a line says that the system with a name made an echo request of this number, from one address to another

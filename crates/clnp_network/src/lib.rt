@@ -1,3 +1,6 @@
+//! The simulated network: its moves, the runs of scenarios and their journals, and what safe runs are.
 #![tactic(auto)]
+
+pub mod laws;
 
 pub use scenario;

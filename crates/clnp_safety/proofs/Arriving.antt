@@ -35,6 +35,7 @@ use Rattle.clnp_machine.specs.ClnpPlan.declared.config.Role.{Role}
 use Rattle.clnp_machine.specs.ClnpPlan.declared.config.Role.TheVariants.{Host, Router}
 use Rattle.clnp_network.specs.World.{World}
 use Rattle.clnp_network.specs.Run.{Entry}
+use Rattle.clnp_network.specs.Safe.{ReportsStand}
 use Rattle.clnp_safety.specs.Growth.{IsFront}
 use Rattle.clnp_safety.specs.Invariant.{BufferIsSound, Carries, IsBornWithUnit, IsMadeOn, IsPending, SystemIsSound, UnitsAreSound, WorldIsSound}
 use Rattle.clnp_safety.specs.StepLaws.{StepLaws}
@@ -62,7 +63,7 @@ pub later_range : (before units : List unit.Unit) (p : Packet) → IsFront befor
 later_range before units p front h = subst (λ us. IsRangeOf us p) (sym front.1) (range_sooner before front.0 p h)
 
 -- a network that is sound before a move, and the units so far
-module _ (laws : StepLaws) (plan : Plan) (fit : IsFit plan) (past : List Entry) (w : World) (h : WorldIsSound plan past w) (units : List unit.Unit)
+module _ (laws : StepLaws) (plan : Plan) (fit : IsFit plan) (past : List Entry) (w : World) (h : WorldIsSound plan past w) (stood : ReportsStand w) (units : List unit.Unit)
     (front : IsFront w.units units) (made : UnitsAreSound plan past w.clock units) (place : ℕ) (s : SystemState)
     (sound : SystemIsSound plan units w.clock place s) (pending : AllByRecursion (IsPending past w.units place s.configuration.name) s.pending) where
   -- what a deed leaves is sound, and what it tells is honest
@@ -130,7 +131,7 @@ module _ (laws : StepLaws) (plan : Plan) (fit : IsFit plan) (past : List Entry) 
                 (record { place = refl; configuration = refl; hold = refl; moment = refl; identifiers = refl; buffers = refl; known = λ known. known }) left;
             rest = made.rest;
           })
-          (reply_is_founded laws plan fit past w h p.unit range.unit place s sound.declared request it.0 erp it.1)
+          (reply_is_founded laws plan fit past w h stood p.unit range.unit place s sound.declared request it.0 erp it.1)
 
       hands_up : (kind : Kind) → p.unit.kind ≡ kind → Does (hand_up then kind p.unit.source p.unit.destination p.unit.octets options)
       hands_up Dt is =
@@ -139,7 +140,7 @@ module _ (laws : StepLaws) (plan : Plan) (fit : IsFit plan) (past : List Entry) 
           (subst (λ kind. IsMadeOn plan past w.units kind p.unit) is it.founded)
       hands_up Er is =
           tells_soundly plan past w s.configuration.name units w.clock place then _ may_then
-          (report_is_founded laws plan fit past w h p.unit range.unit place s sound.declared is own)
+          (report_is_founded laws plan fit past w h stood p.unit range.unit place s sound.declared is own)
       hands_up Erq is =
           make_soundly plan past w s.configuration.name units w.clock place laws then Erp p.unit.destination p.unit.source p.unit.octets
           (echo_ask then p.unit.destination p.unit.source (length p.unit.octets) false) may_then

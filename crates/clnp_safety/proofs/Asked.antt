@@ -26,8 +26,7 @@ use Rattle.clnp_machine.specs.Told.{NoteIsQuiet}
 use Rattle.clnp_network.specs.World.{World, Step, takes_effect, comes, comes_to, asks_role, asks_system, asks}
 use Rattle.clnp_network.specs.Run.{Entry}
 use Rattle.clnp_network.specs.Safe.{IsSend, NoRefusal, SaysNoRestart, SaysRequested}
-use Rattle.clnp_safety.specs.Invariant.{IsMadeOn, IsPending, NoteIsSound, NoteIsSteady, SystemStands, UnitIsSound, UnitsAreSound, WorldIsSound}
-use Rattle.clnp_safety.specs.Outputs.{ComesSoundly}
+use Rattle.clnp_safety.specs.Invariant.{IsMadeOn, IsPending, SystemStands, UnitIsSound, UnitsAreSound, WorldIsSound}
 use Rattle.clnp_safety.specs.StepLaws.{StepLaws}
 use Rattle.clnp_safety.proofs.Past.{pending_later, requested_last, sent_last, units_later}
 use Rattle.clnp_safety.proofs.Deeds.{make_soundly}
@@ -38,6 +37,7 @@ use Rattle.clnp_safety.proofs.Told.{outputs_note}
 use Rattle.clnp_safety.proofs.Units.{units_with}
 use Rattle.clnp_safety.proofs.Effects.{fresh_is_sound, notes_are_steady, others_stand, ports_after, step_gives_soundly}
 use Rattle.clnp_safety.proofs.Moves.{MoveIsSound, nothing_is_sound, stands_soundly, stay_pending}
+use Rattle.clnp_safety.proofs.Honest.{ComesSoundly, NoteIsSound, NoteIsSteady}
 
 -- the step by which a unit is sent
 abbrev pub sending : World → ℕ → SystemState → unit.Unit → Step

@@ -21,11 +21,10 @@ use Rattle.clnp_machine.specs.Steps.{GoesOnOf, IsWithinBudget, SendsRangesOrGoes
 use Rattle.clnp_network.specs.World.{World, Copy, copy_from, copy_from_outside, frame_to, sends_frame, put_out, takes_effect, with_effect, states_from, first_world}
 use Rattle.clnp_network.specs.Run.{world_after}
 use Rattle.clnp_network.specs.Safe.{IsWithinBudgets, IsWithinLifetimes, MeetsLifetime}
-use Rattle.clnp_safety.specs.Growth.{IsFront}
 use Rattle.clnp_safety.specs.StepLaws.{StepLaws}
 use Rattle.clnp_safety.proofs.Lines.{AnyLine, any_line_is_fine}
 use Rattle.clnp_safety.proofs.Steps.{Keeps, keeps-put_all_out, with_outside}
-use Rattle.clnp_safety.proofs.EveryMove.{AnyFrame, AnyInput, IsOfClock, any_events, asked_by_all, keeps-moves}
+use Rattle.clnp_safety.proofs.EveryMove.{AnyFrame, AnyInput, Follows, IsOfClock, any_events, asked_by_all, keeps-moves}
 use Rattle.clnp_safety.proofs.Units.{lives_within}
 use Rattle.clnp_machine.proofs.ClnpBase.ListSteps.{all_set}
 
@@ -46,8 +45,8 @@ goes_on_within s port (FrameComes at sender to_group (Labelled came following)) 
 goes_on_within s port _ p comes on = absurd on
 
 frame_comes_within : (w : World) (at : ℕ) (copy : Copy) → slice_get w.copies at ≡ Some copy → IsWithinLifetimes w
-    → (units : List unit.Unit) → IsFront w.units units → (s : SystemState) → ComesWithin (frame_to s copy)
-frame_comes_within w at copy there k units front s = AllByRecursion-slice_get Bounded w.copies at copy there k
+    → (v : World) → Follows w v → (s : SystemState) → ComesWithin (frame_to s copy)
+frame_comes_within w at copy there k v follows s = AllByRecursion-slice_get Bounded w.copies at copy there k
 
 copy_meets : (found : Option PortConfig) (target : Target) (maker : Maker) (birth : ℕ) (content : Content) → MeetsLifetime content
     → AllByRecursion Bounded (copy_from found target maker birth content)
@@ -100,9 +99,9 @@ outside_meets w subnet sender target octets any k =
 
 pub lifetimes_hold : StepLaws → (plan : Plan) (moves : List Move) → IsWithinLifetimes (world_after plan (first_world plan) moves)
 lifetimes_hold laws plan moves =
-    keeps-moves (λ units. ComesWithin) AnyFrame IsWithinLifetimes AnyLine
-    (record { steps = step_meets laws; frames = frame_comes_within; moments = λ units now. tt; restarts = λ units. tt; congestion = λ units on. tt; cursor = λ w next k. k; clock = λ w k. k; outside = outside_meets; injected = λ now copy subnet sender target. tt; fine = any_line_is_fine })
-    plan (λ units. asked_by_all ComesWithin (λ from to octets ask. tt) (λ from to octets. tt) plan.events) moves (first_world plan) tt
+    keeps-moves (λ w. ComesWithin) AnyFrame IsWithinLifetimes AnyLine
+    (record { steps = step_meets laws; frames = frame_comes_within; moments = λ w now. tt; restarts = λ w. tt; congestion = λ w on. tt; cursor = λ w next k. k; clock = λ w k. k; outside = outside_meets; injected = λ now copy subnet sender target. tt; fine = any_line_is_fine })
+    plan (λ w. asked_by_all ComesWithin (λ from to octets ask. tt) (λ from to octets. tt) plan.events) moves (first_world plan) tt
 
 -- Budgets.
 
@@ -127,7 +126,7 @@ opened_within limits place (system ∷ systems) = (omega arith, opened_within li
 
 pub budgets_hold : StepLaws → (plan : Plan) (moves : List Move) → IsWithinBudgets (world_after plan (first_world plan) moves)
 budgets_hold laws plan moves =
-    keeps-moves (λ units. AnyInput) AnyFrame IsWithinBudgets AnyLine
-    (record { steps = step_within laws; frames = λ w at copy e k units front s. tt; moments = λ units now. tt; restarts = λ units. tt; congestion = λ units on. tt; cursor = λ w next k. k; clock = λ w k. k; outside = λ w subnet sender target octets any k. k; injected = λ now copy subnet sender target. tt; fine = any_line_is_fine })
-    plan (λ units. any_events plan.events) moves (first_world plan)
+    keeps-moves (λ w. AnyInput) AnyFrame IsWithinBudgets AnyLine
+    (record { steps = step_within laws; frames = λ w at copy e k v follows s. tt; moments = λ w now. tt; restarts = λ w. tt; congestion = λ w on. tt; cursor = λ w next k. k; clock = λ w k. k; outside = λ w subnet sender target octets any k. k; injected = λ now copy subnet sender target. tt; fine = any_line_is_fine })
+    plan (λ w. any_events plan.events) moves (first_world plan)
     (opened_within plan.limits 0 plan.systems)

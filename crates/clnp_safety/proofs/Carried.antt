@@ -27,14 +27,14 @@ use Rattle.clnp_machine.specs.Steps.{GoesOnOf, IsFair, IsRangeOf, KeepsAsOffered
 use Rattle.clnp_network.specs.World.{World, Copy, copy_from, copy_from_outside, frame_to, sends_frame, put_out, takes_effect, with_effect, first_world}
 use Rattle.clnp_network.specs.Run.{world_after}
 use Rattle.clnp_network.specs.Safe.{KeepsHeader, KeepsHeaders, RangeIn}
-use Rattle.clnp_safety.specs.Growth.{IsFront}
-use Rattle.clnp_safety.specs.Outside.{CarriesRangesOrOutside, OutsideOrRange, PduIsUnbroken, PdusAreUnbroken}
+use Rattle.clnp_safety.specs.Outside.{CarriesRangesOrOutside, IsMadeBy, OutsideOrRange, PduIsUnbroken, PdusAreUnbroken}
 use Rattle.clnp_safety.specs.StepLaws.{StepLaws}
 use Rattle.clnp_safety.proofs.Effects.{configured}
-use Rattle.clnp_safety.proofs.EveryMove.{GivesOnly, IsOfClock, keeps-moves}
+use Rattle.clnp_safety.proofs.EveryMove.{Follows, GivesOnly, IsOfClock, keeps-moves}
 use Rattle.clnp_safety.proofs.Lines.{AnyLine, any_line_is_fine}
 use Rattle.clnp_safety.proofs.Opens.{opened}
 use Rattle.clnp_safety.proofs.Outputs.{PortsAreAddressed}
+use Rattle.clnp_safety.proofs.Traced.{outside_makes}
 use Rattle.clnp_safety.proofs.Units.{packet_goes_on, range_sooner, range_later}
 use Rattle.clnp_safety.proofs.Steps.{Keeps, keeps-map, keeps-put_all_out, with_outside}
 
@@ -48,14 +48,8 @@ IsInForm (Unlabelled octets) = Unit {0}
 abbrev IsOutsideOrOf : List unit.Unit → Packet → Type 0
 IsOutsideOrOf units p = (p.unit.maker ≡ Outside) ⊎ IsRangeOf units p
 
--- the copy of a packet was made by who made its unit
-abbrev IsMadeBy : Maker → Content → Type 0
-IsMadeBy maker (Labelled packet following) = maker ≡ packet.unit.maker
-IsMadeBy maker (Esis value following) = Unit {0}
-IsMadeBy maker (Unlabelled octets) = Unit {0}
-
 -- a frame comes from an address, and carries what one may carry: what was made outside, or a range of a unit that was made
-record IsCarriedInForm (units : List unit.Unit) (copy : Copy) : Type 0 where
+pub record IsCarriedInForm (units : List unit.Unit) (copy : Copy) : Type 0 where
   sender : IsAddress copy.sender
   carried : IsCarried copy.content
   form : IsInForm copy.content
@@ -63,18 +57,18 @@ record IsCarriedInForm (units : List unit.Unit) (copy : Copy) : Type 0 where
   origin : OutsideOrRange units copy
 
 -- the system at a place is that of the plan, keeps segments as they were offered, and heard of systems at addresses
-record IsOfPlan (plan : Plan) (place : ℕ) (s : SystemState) : Type 0 where
-  declared : slice_get plan.systems place ≡ Some s.configuration
-  kept : KeepsAsOffered s
-  known : KnowsAddresses s
+pub record IsOfPlan (plan : Plan) (place : ℕ) (s : SystemState) : Type 0 where
+  pub declared : slice_get plan.systems place ≡ Some s.configuration
+  pub kept : KeepsAsOffered s
+  pub known : KnowsAddresses s
 
 -- these units were made, each frame is such, and each system is that of the plan
-record AllIsCarriedBeside (plan : Plan) (units : List unit.Unit) (w : World) : Type 0 where
-  made : w.units ≡ units
-  copies : AllByRecursion (IsCarriedInForm units) w.copies
-  each : (place : ℕ) (s : SystemState) → slice_get w.systems place ≡ Some s → IsOfPlan plan place s
+pub record AllIsCarriedBeside (plan : Plan) (units : List unit.Unit) (w : World) : Type 0 where
+  pub made : w.units ≡ units
+  pub copies : AllByRecursion (IsCarriedInForm units) w.copies
+  pub each : (place : ℕ) (s : SystemState) → slice_get w.systems place ≡ Some s → IsOfPlan plan place s
 
-abbrev AllIsCarried : Plan → World → Type 0
+abbrev pub AllIsCarried : Plan → World → Type 0
 AllIsCarried plan w = AllIsCarriedBeside plan w.units w
 
 all_beside : (plan : Plan) (units : List unit.Unit) (w : World) → AllIsCarriedBeside plan units w → AllIsCarried plan w
@@ -106,7 +100,7 @@ abbrev FrameInForm : List unit.Unit → Input → Type 0
 FrameInForm units (FrameComes port sender to_group content) = IsInForm content × PacketIsKnown units content
 FrameInForm units _ = Unit {0}
 
-abbrev ComesFairly : List unit.Unit → Input → Type 0
+abbrev pub ComesFairly : List unit.Unit → Input → Type 0
 ComesFairly units input = IsFair input × FrameInForm units input
 
 packet_is_known : (units : List unit.Unit) (maker : Maker) (birth : ℕ) (content : Content) → IsMadeBy maker content → (maker ≡ Outside) ⊎ RangeIn units birth content
@@ -221,7 +215,7 @@ module _ (laws : StepLaws) (s : SystemState) (units : List unit.Unit) where
   sends_in_form input comes made (SendsEsis port target value) ranges sends = sends.1
 
 module _ (laws : StepLaws) (plan : Plan) (fit : IsFit plan) where
-  step_is_carried : (w : World) (place : ℕ) (s : SystemState) (input : Input) → slice_get w.systems place ≡ Some s → ComesFairly w.units input → IsOfClock w input
+  pub step_is_carried : (w : World) (place : ℕ) (s : SystemState) (input : Input) → slice_get w.systems place ≡ Some s → ComesFairly w.units input → IsOfClock w input
       → AllIsCarried plan w → Keeps (AllIsCarried plan) AnyLine (takes_effect w place (step s input))
   step_is_carried w place s input there comes at k =
       let effect : Effect = step s input in
@@ -251,12 +245,12 @@ module _ (laws : StepLaws) (plan : Plan) (fit : IsFit plan) where
             });
       }))
 
-  frame_comes_fairly : (w : World) (at : ℕ) (copy : Copy) → slice_get w.copies at ≡ Some copy → AllIsCarried plan w
-      → (units : List unit.Unit) → IsFront w.units units → (s : SystemState) → ComesFairly units (frame_to s copy)
-  frame_comes_fairly w at copy there k units front s =
+  pub frame_comes_fairly : (w : World) (at : ℕ) (copy : Copy) → slice_get w.copies at ≡ Some copy → AllIsCarried plan w
+      → (v : World) → Follows w v → (s : SystemState) → ComesFairly v.units (frame_to s copy)
+  frame_comes_fairly w at copy there k v follows s =
       let it = AllByRecursion-slice_get (IsCarriedInForm w.units) w.copies at copy there k.copies in
       let known = packet_is_known w.units copy.maker copy.birth copy.content it.made_by it.origin in
-      ((it.sender, it.carried), (it.form, subst (λ us. PacketIsKnown us copy.content) (sym front.1) (known_later w.units front.0 copy.content known)))
+      ((it.sender, it.carried), (it.form, subst (λ us. PacketIsKnown us copy.content) (sym follows.units.1) (known_later w.units follows.units.0 copy.content known)))
 
   -- a packet from outside is all of what is known of its unit
   outside_in_form : (number moment : ℕ) (octets : List ℕ) (accepted unrefused : Bool)
@@ -265,14 +259,6 @@ module _ (laws : StepLaws) (plan : Plan) (fit : IsFit plan) where
   outside_in_form number moment octets true unrefused = laws.headers.same (value_in octets).options
   outside_in_form number moment octets false true = tt
   outside_in_form number moment octets false false = tt
-
-  outside_makes : (number moment : ℕ) (octets : List ℕ) (accepted unrefused : Bool)
-      → IsMadeBy Outside
-      (if accepted then Labelled (packet_from_outside number moment (value_in octets)) (rest_of octets)
-      else if unrefused then Esis (esis_value_in octets) (esis_reading.rest_of octets) else Unlabelled octets)
-  outside_makes number moment octets true unrefused = refl
-  outside_makes number moment octets false true = tt
-  outside_makes number moment octets false false = tt
 
   outside_is_carried : (w : World) (subnet : ℕ) (sender : List ℕ) (target : Target) (octets : List ℕ) → IsBroughtFairly sender octets → AllIsCarried plan w
       → AllIsCarried plan (with_outside w subnet sender target octets)
@@ -291,7 +277,7 @@ module _ (laws : StepLaws) (plan : Plan) (fit : IsFit plan) where
     each = k.each;
   }
 
-  first_is_carried : AllIsCarried plan (first_world plan)
+  pub first_is_carried : AllIsCarried plan (first_world plan)
   first_is_carried = record {
     made = refl;
     copies = tt;
@@ -302,20 +288,20 @@ module _ (laws : StepLaws) (plan : Plan) (fit : IsFit plan) where
 
   all_is_carried : (moves : List Move) → AllIsCarried plan (world_after plan (first_world plan) moves)
   all_is_carried moves =
-      keeps-moves ComesFairly IsBroughtFairly (AllIsCarried plan) AnyLine
+      keeps-moves (λ v. ComesFairly v.units) IsBroughtFairly (AllIsCarried plan) AnyLine
       (record {
         steps = step_is_carried;
         frames = frame_comes_fairly;
-        moments = λ units now. (tt, tt);
-        restarts = λ units. (tt, tt);
-        congestion = λ units on. (tt, tt);
+        moments = λ v now. (tt, tt);
+        restarts = λ v. (tt, tt);
+        congestion = λ v on. (tt, tt);
         cursor = λ w next k. record { made = refl; copies = k.copies; each = k.each };
         clock = λ w k. record { made = refl; copies = k.copies; each = k.each };
         outside = outside_is_carried;
         injected = λ now copy subnet sender target. tt;
         fine = any_line_is_fine;
       })
-      plan (events_give plan fit) moves (first_world plan) first_is_carried
+      plan (λ v. events_give plan fit v.units) moves (first_world plan) first_is_carried
 
 -- What follows of it.
 

@@ -9,7 +9,7 @@ use Rattle.clnp_machine.specs.System.{SystemState, Input, IsCongested}
 use Rattle.clnp_machine.specs.Step.{congest, step}
 use Rattle.clnp_network.specs.World.{World, comes, comes_to, takes_effect}
 use Rattle.clnp_network.specs.Run.{Entry}
-use Rattle.clnp_safety.specs.Invariant.{NoteIsSteady, SystemStands, WorldIsSound}
+use Rattle.clnp_safety.specs.Invariant.{SystemStands, WorldIsSound}
 use Rattle.clnp_safety.specs.StepLaws.{StepLaws}
 use Rattle.clnp_safety.proofs.Deeds.{like_is_sound, tells_soundly}
 use Rattle.clnp_safety.proofs.Effects.{notes_are_steady, others_stand, pending_after, step_keeps}
@@ -17,6 +17,7 @@ use Rattle.clnp_safety.proofs.Hellos.{EffectIsSound, deed_is_sound}
 use Rattle.clnp_safety.proofs.Lines.{LineIs}
 use Rattle.clnp_safety.proofs.Moves.{IsSoundAt, MoveIsSound, kept_is_sound, nothing_is_sound, sound_at_clock}
 use Rattle.clnp_safety.proofs.Steps.{Keeps}
+use Rattle.clnp_safety.proofs.Honest.{NoteIsSteady}
 
 module _ (laws : StepLaws) (plan : Plan) (fit : IsFit plan) (past : List Entry) (move : Move) (w : World) (h : WorldIsSound plan past w) (place : ℕ) (on : Bool) where
   -- what holds of a system at a place, beside units

@@ -28,12 +28,13 @@ use Rattle.clnp_machine.specs.Told.{IsRefusal, NoteIsQuiet, TellsOnly}
 use Rattle.clnp_network.specs.World.{World}
 use Rattle.clnp_network.specs.Run.{Entry}
 use Rattle.clnp_network.specs.Safe.{Rests}
-use Rattle.clnp_safety.specs.Invariant.{AreUsesUntil, BufferIsSound, EachRests, IsInUses, NoteIsHonest, SystemIsSound}
+use Rattle.clnp_safety.specs.Invariant.{AreUsesUntil, BufferIsSound, EachRests, IsInUses, SystemIsSound}
 use Rattle.clnp_safety.specs.StepLaws.{StepLaws}
 use Rattle.clnp_safety.proofs.Lines.{quiet_is_honest}
 use Rattle.clnp_safety.proofs.SendAsked.{asked_is_new}
 use Rattle.clnp_safety.proofs.SendUnits.{IsNew, maker_after, new_rests}
 use Rattle.clnp_safety.proofs.Units.{buffer_later}
+use Rattle.clnp_safety.proofs.Honest.{NoteIsHonest}
 
 -- what the soundness of a system goes by is as before, and what it heard of is still at addresses
 pub record IsLike (s t : SystemState) : Type 0 where

@@ -19,13 +19,12 @@ use Rattle.clnp_machine.specs.Content.{Labelled, Esis, Unlabelled}
 use Rattle.clnp_machine.specs.System.{SystemState, Input, AsksToSend, AsksForEcho, FrameComes, Output, Transmits, SendsEsis, Notes, Effect}
 use Rattle.clnp_machine.specs.Local.{IsAsOffered}
 use Rattle.clnp_machine.specs.Step.{step}
-use Rattle.clnp_machine.specs.Steps.{AsksNothing, GoesOnOf, IsAtHand, IsFair, IsFresh, IsMadeFor, IsNoRestart, IsRangeOf, KeepsAsOffered, NotesOnly, ReportsOn, RestartsNothing, SendsCarriable, SendsEsisPdus, SendsRangesOrGoesOn, WasPendingOrMade, moment_after, segments_in}
+use Rattle.clnp_machine.specs.Steps.{GoesOnOf, IsAtHand, IsFair, IsFresh, IsMadeFor, IsNoRestart, IsRangeOf, KeepsAsOffered, NotesOnly, ReportsOn, RestartsNothing, SendsCarriable, SendsEsisPdus, SendsRangesOrGoesOn, WasPendingOrMade, moment_after, segments_in}
 use Rattle.clnp_machine.specs.Told.{NotesNoRule, SpellsPdus}
 use Rattle.clnp_network.specs.Run.{Entry}
 use Rattle.clnp_network.specs.World.{World, takes_effect}
 use Rattle.clnp_safety.specs.Growth.{IsFront}
-use Rattle.clnp_safety.specs.Invariant.{BufferIsSound, EachRests, IsMadeOn, IsOfUnit, IsPending, NoteIsHonest, NoteIsSound, NoteIsSteady, SystemIsSound, SystemStands, UnitIsSound, UnitsAreSound}
-use Rattle.clnp_safety.specs.Outputs.{ComesSoundly, OutputIsSound}
+use Rattle.clnp_safety.specs.Invariant.{BufferIsSound, EachRests, IsMadeOn, IsOfUnit, IsPending, SystemIsSound, SystemStands, UnitIsSound, UnitsAreSound}
 use Rattle.clnp_safety.specs.StepLaws.{StepLaws}
 use Rattle.clnp_safety.proofs.Deeds.{RepliesInOctets}
 use Rattle.clnp_safety.proofs.Grows.{front-more}
@@ -34,6 +33,7 @@ use Rattle.clnp_safety.proofs.Outputs.{PortsAreAddressed, Stands, takes_effect_s
 use Rattle.clnp_safety.proofs.SendAsked.{own_address}
 use Rattle.clnp_safety.proofs.Steps.{Keeps}
 use Rattle.clnp_safety.proofs.Units.{buffer_later, packet_goes_on, range_sooner, range_later, units_with}
+use Rattle.clnp_safety.proofs.Honest.{AsksNothing, ComesSoundly, NoteIsHonest, NoteIsSound, NoteIsSteady, OutputIsSound}
 
 -- What a step gives out is sound, where its notes are: what it sends is of units that are made in it, or of that of the packet
 -- that came.

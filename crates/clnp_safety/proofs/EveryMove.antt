@@ -19,7 +19,7 @@ use Rattle.clnp_network.specs.World.{World, Copy, Numbered, give_each, put_out, 
 use Rattle.clnp_network.specs.Run.{world_after}
 use Rattle.std.proofs.lemmas.List.{append-nil}
 use Rattle.clnp_safety.specs.Growth.{IsFront}
-use Rattle.clnp_safety.proofs.Grows.{front-more}
+use Rattle.clnp_safety.proofs.Grows.{effect_copies, front-more}
 use Rattle.clnp_safety.proofs.Lines.{AnyLine}
 use Rattle.clnp_safety.proofs.Steps.{keeps-map, keeps-put_all_out, InjectedIsFine, Keeps, NotGivenIsFine, keeps-nothing, keeps-followed_by, keeps-comes_to, keeps-asks, keeps-give_each, keeps-deliver, keeps-injects, with_outside}
 
@@ -57,21 +57,26 @@ module _ (Comes : Input → Type 0) (asked : (from to octets : List ℕ) (ask : 
 pub any_events : (events : List Event) → AllByRecursion (GivesOnly AnyInput AnyFrame) events
 any_events events = asked_by_all AnyInput (λ from to octets ask. tt) (λ from to octets. tt) events
 
--- the units of a world are more than some before
-abbrev GrowsFrom : List unit.Unit → (World → Type 0) → World → Type 0
-GrowsFrom units K w = K w × IsFront units w.units
+-- a world has the units and the copies of another one, and maybe more
+pub record Follows (before w : World) : Type 0 where
+  pub units : IsFront before.units w.units
+  pub copies : IsFront before.copies w.copies
+
+-- so it is of a world of which K holds
+abbrev GrowsFrom : World → (World → Type 0) → World → Type 0
+GrowsFrom before K w = K w × Follows before w
 
 -- K holds of the world after each step of a system of one of which it holds, and Q of the lines, where what comes is such
 -- as Comes says, as all is that asks nothing where K holds; K doesn't go by the cursor, and the clock may go
 -- on, and frames come from outside
-pub record EachStepKeeps (Comes : List unit.Unit → Input → Type 0) (Brings : List ℕ → List ℕ → Type 0) (K : World → Type 0) (Q : Line → Type 0) : Type 0 where
-  pub steps : (w : World) (place : ℕ) (s : SystemState) (input : Input) → slice_get w.systems place ≡ Some s → Comes w.units input → IsOfClock w input
+pub record EachStepKeeps (Comes : World → Input → Type 0) (Brings : List ℕ → List ℕ → Type 0) (K : World → Type 0) (Q : Line → Type 0) : Type 0 where
+  pub steps : (w : World) (place : ℕ) (s : SystemState) (input : Input) → slice_get w.systems place ≡ Some s → Comes w input → IsOfClock w input
       → K w → Keeps K Q (takes_effect w place (step s input))
-  pub frames : (w : World) (at : ℕ) (copy : Copy) → slice_get w.copies at ≡ Some copy → K w → (units : List unit.Unit) → IsFront w.units units
-      → (s : SystemState) → Comes units (frame_to s copy)
-  pub moments : (units : List unit.Unit) (now : ℕ) → Comes units (MomentComes now)
-  pub restarts : (units : List unit.Unit) → Comes units IsRestarted
-  pub congestion : (units : List unit.Unit) (on : Bool) → Comes units (IsCongested on)
+  pub frames : (w : World) (at : ℕ) (copy : Copy) → slice_get w.copies at ≡ Some copy → K w → (v : World) → Follows w v
+      → (s : SystemState) → Comes v (frame_to s copy)
+  pub moments : (w : World) (now : ℕ) → Comes w (MomentComes now)
+  pub restarts : (w : World) → Comes w IsRestarted
+  pub congestion : (w : World) (on : Bool) → Comes w (IsCongested on)
   pub cursor : (w : World) (next : ℕ) → K w → K (record w { cursor = next })
   pub clock : (w : World) → K w → K (record w { clock = w.clock + 1 })
   pub outside : (w : World) (subnet : ℕ) (sender : List ℕ) (target : Target) (octets : List ℕ) → Brings sender octets → K w
@@ -86,7 +91,7 @@ put_out_makes units system (Notes note) v same = record { world = same; lines = 
 put_out_makes units system (Transmits port target packet) v same = record { world = same; lines = (tt, tt) }
 put_out_makes units system (SendsEsis port target value) v same = record { world = same; lines = (tt, tt) }
 
-effect_makes : (w : World) (place : ℕ) (effect : Effect) → (takes_effect w place effect).world.units ≡ w.units ++ effect.units
+pub effect_makes : (w : World) (place : ℕ) (effect : Effect) → (takes_effect w place effect).world.units ≡ w.units ++ effect.units
 effect_makes w place effect =
     let units : List unit.Unit = w.units ++ effect.units in
     (keeps-put_all_out (λ (v : World). v.units ≡ units) AnyLine effect.after effect.outputs
@@ -94,8 +99,19 @@ effect_makes w place effect =
     (put_out_makes units effect.after) effect.outputs)
     (with_effect w place effect) refl).world
 
-module _ (Comes : List unit.Unit → Input → Type 0) (Brings : List ℕ → List ℕ → Type 0) (K : World → Type 0) (Q : Line → Type 0) (each : EachStepKeeps Comes Brings K Q) where
-  keeps-comes : (w : World) (place : ℕ) (input : Input) → Comes w.units input → IsOfClock w input → K w → Keeps K Q (comes w place input)
+follows-itself : (w : World) → Follows w w
+follows-itself w = record { units = ([], sym (append-nil w.units)); copies = ([], sym (append-nil w.copies)) }
+
+-- a world still follows after a system has taken a step
+follows_effect : (before w : World) (place : ℕ) (effect : Effect) → Follows before w → Follows before (takes_effect w place effect).world
+follows_effect before w place effect h = record {
+  units = subst (IsFront before.units) (sym (effect_makes w place effect)) (front-more before.units w.units effect.units h.units);
+  copies = let more = effect_copies w place effect in
+      subst (IsFront before.copies) (sym more.1) (front-more before.copies w.copies more.0 h.copies);
+}
+
+module _ (Comes : World → Input → Type 0) (Brings : List ℕ → List ℕ → Type 0) (K : World → Type 0) (Q : Line → Type 0) (each : EachStepKeeps Comes Brings K Q) where
+  keeps-comes : (w : World) (place : ℕ) (input : Input) → Comes w input → IsOfClock w input → K w → Keeps K Q (comes w place input)
   keeps-comes w place input may at k =
       keeps-comes_to K Q w place input (slice_get w.systems place) (λ none. k) (λ s there. each.steps w place s input there may at k)
 
@@ -103,15 +119,15 @@ module _ (Comes : List unit.Unit → Input → Type 0) (Brings : List ℕ → Li
   keeps-tick_each [] w k = keeps-nothing K Q w k
   keeps-tick_each (place ∷ places) w k =
       keeps-followed_by K Q K (comes w place (MomentComes w.clock)) (λ v. tick_each v places)
-      (keeps-comes w place (MomentComes w.clock) (each.moments w.units w.clock) refl k) (keeps-tick_each places)
+      (keeps-comes w place (MomentComes w.clock) (each.moments w w.clock) refl k) (keeps-tick_each places)
 
-  keeps-event : (subnets : List Subnetwork) (limits : Limits) (w : World) (asked : Option Event) → ((event : Event) → asked ≡ Some event → GivesOnly (Comes w.units) Brings event) → K w
+  keeps-event : (subnets : List Subnetwork) (limits : Limits) (w : World) (asked : Option Event) → ((event : Event) → asked ≡ Some event → GivesOnly (Comes w) Brings event) → K w
       → Keeps K Q (event_happens subnets limits w asked)
   keeps-event subnets limits w (Some (Deliver number system)) may k =
       keeps-deliver K Q each.fine limits w number system k
-      (λ copy e s there soon. each.steps w system s (frame_to s copy) there (each.frames w (number - 1) copy e k w.units ([], sym (append-nil w.units)) s) tt k)
-  keeps-event subnets limits w (Some (Restart system)) may k = keeps-comes w system IsRestarted (each.restarts w.units) tt k
-  keeps-event subnets limits w (Some (Congest system on)) may k = keeps-comes w system (IsCongested on) (each.congestion w.units on) tt k
+      (λ copy e s there soon. each.steps w system s (frame_to s copy) there (each.frames w (number - 1) copy e k w (follows-itself w) s) tt k)
+  keeps-event subnets limits w (Some (Restart system)) may k = keeps-comes w system IsRestarted (each.restarts w) tt k
+  keeps-event subnets limits w (Some (Congest system on)) may k = keeps-comes w system (IsCongested on) (each.congestion w on) tt k
   keeps-event subnets limits w (Some (Send system from to body ask)) may k =
       keeps-asks K Q w system (AsksToSend from to (octets_of body) ask) k
       (keeps-comes w system (AsksToSend from to (octets_of body) ask) (may (Send system from to body ask) refl) tt k)
@@ -130,25 +146,22 @@ module _ (Comes : List unit.Unit → Input → Type 0) (Brings : List ℕ → Li
       let given : Numbered = record { number = w.cursor + 1; copy = copy } in
       let places = addressees_from 0 copy w.systems in
       let first : World = record w { cursor = w.cursor + 1 } in
-      keeps-map (GrowsFrom w.units K) K Q (give_each limits given first places) (λ v h. h.0)
-      (keeps-give_each (GrowsFrom w.units K) Q each.fine limits given places
+      keeps-map (GrowsFrom w K) K Q (give_each limits given first places) (λ v h. h.0)
+      (keeps-give_each (GrowsFrom w K) Q each.fine limits given places
       (λ v place h s there soon.
       let input = frame_to s copy in
-      let taken = each.steps v place s input there (each.frames w w.cursor copy e k v.units h.1 s) tt h.0 in
-      record {
-        world = (taken.world, subst (IsFront w.units) (sym (effect_makes v place (step s input))) (front-more w.units v.units (step s input).units h.1));
-        lines = taken.lines;
-      })
-      first (each.cursor w (w.cursor + 1) k, ([], sym (append-nil w.units))))
+      let taken = each.steps v place s input there (each.frames w w.cursor copy e k v h.1 s) tt h.0 in
+      record { world = (taken.world, follows_effect w v place (step s input) h.1); lines = taken.lines })
+      first (each.cursor w (w.cursor + 1) k, record { units = ([], sym (append-nil w.units)); copies = ([], sym (append-nil w.copies)) }))
 
   keeps-lose : (w : World) (found : Option Copy) → K w → Keeps K Q (lose_copy w found)
   keeps-lose w None k = keeps-nothing K Q w k
   keeps-lose w (Some copy) k = keeps-nothing K Q (record w { cursor = w.cursor + 1 }) (each.cursor w (w.cursor + 1) k)
 
-  module _ (plan : Plan) (may : (units : List unit.Unit) → AllByRecursion (GivesOnly (Comes units) Brings) plan.events) where
+  module _ (plan : Plan) (may : (w : World) → AllByRecursion (GivesOnly (Comes w) Brings) plan.events) where
     pub keeps-move : (w : World) (move : Move) → K w → Keeps K Q (after plan w move)
     keeps-move w (One place) k =
-        keeps-event plan.subnets plan.limits w (slice_get plan.events place) (λ event there. AllByRecursion-slice_get (GivesOnly (Comes w.units) Brings) plan.events place event there (may w.units)) k
+        keeps-event plan.subnets plan.limits w (slice_get plan.events place) (λ event there. AllByRecursion-slice_get (GivesOnly (Comes w) Brings) plan.events place event there (may w)) k
     keeps-move w SettleOne k = keeps-settle plan.limits w (slice_get w.copies w.cursor) refl k
     keeps-move w LoseOne k = keeps-lose w (slice_get w.copies w.cursor) k
     keeps-move w TickOne k = keeps-tick_each (range_with_len 0 (length w.systems)) (record w { clock = w.clock + 1 }) (each.clock w k)

@@ -1,6 +1,6 @@
 -- What is handed up of error reports and echo replies is founded on what was made before.
-use Rattle.clnp_machine.proofs.ClnpBase.Lists.{slice_get_some}
-use Rattle.std.proofs.Common.{◌≡◌, ◌∙◌, refl, sym, ap, subst, ℕ, true, List, slice_get, Some, Contains, bytes_eq, arith}
+use Rattle.clnp_machine.proofs.ClnpBase.Lists.{AllByRecursion-contains, slice_get_some}
+use Rattle.std.proofs.Common.{◌≡◌, ◌∙◌, refl, sym, ap, subst, ℕ, true, List, [], slice_get, Some, Contains, bytes_eq, arith}
 use Rattle.std.specs.Prelude.{◌&&◌}
 use Rattle.std.proofs.lemmas.Bool.{and_parts}
 use Rattle.std.proofs.lemmas.List.Folds.{list_any-from_Any}
@@ -16,8 +16,9 @@ use Rattle.clnp_machine.specs.System.{SystemState}
 use Rattle.clnp_machine.specs.Local.{is_answer, is_own}
 use Rattle.clnp_network.specs.World.{World}
 use Rattle.clnp_network.specs.Run.{Entry}
-use Rattle.clnp_network.specs.Safe.{IsAnswered, IsHeaderOfOwn, RequestedSinceRestart}
-use Rattle.clnp_safety.specs.Invariant.{IsMadeOn, IsPending, IsReportIn, Owns, UnitIsSound, WorldIsSound}
+use Rattle.clnp_machine.specs.Steps.{IsRangeOf}
+use Rattle.clnp_network.specs.Safe.{IsAnswered, IsHeaderOfOwn, ReportsOnCopy, ReportsStand, RequestedSinceRestart, StandsInCopy}
+use Rattle.clnp_safety.specs.Invariant.{Carries, CopyIsSound, IsMadeOn, IsPending, Owns, UnitIsSound, WorldIsSound}
 use Rattle.clnp_safety.specs.StepLaws.{StepLaws}
 use Rattle.clnp_safety.proofs.BufferOffers.{unit_sound}
 use Rattle.clnp_safety.proofs.SendAsked.{own_address}
@@ -29,7 +30,8 @@ owned s address there =
     list_any-from_Any (λ other. bytes_eq other address) s.configuration.addresses
     (there.0, address, there.1, there.2, same-itself address)
 
-module _ (laws : StepLaws) (plan : Plan) (fit : IsFit plan) (past : List Entry) (w : World) (h : WorldIsSound plan past w) where
+module _ (laws : StepLaws) (plan : Plan) (fit : IsFit plan) (past : List Entry) (w : World) (h : WorldIsSound plan past w)
+    (stood : ReportsStand w) where
   -- the system at a place of a world, as it is declared
   record IsDeclared (place : ℕ) (configuration : SystemConfiguration) : Type 0 where
     system : SystemState
@@ -54,20 +56,24 @@ module _ (laws : StepLaws) (plan : Plan) (fit : IsFit plan) (past : List Entry) 
     module _ (place : ℕ) (s : SystemState) (declared : slice_get plan.systems place ≡ Some s.configuration) where
       pub report_is_founded : u.kind ≡ Er → is_own s u.destination ≡ true → IsHeaderOfOwn w s.configuration.name u.octets
       report_is_founded er own =
-          let report : IsReportIn w.units u = subst (λ kind. IsMadeOn plan past w.units kind u) er it.founded in
-          let of = unit_sound plan past w.clock w.units report.packet.unit h.made report.range.unit in
+          let report : ReportsOnCopy w.copies u =
+          AllByRecursion-contains (λ (v : unit.Unit). v.kind ≡ Er → ReportsOnCopy w.copies v) w.units u made stood er in
+          let carrier = AllByRecursion-contains (CopyIsSound w.units) w.copies report.stands.copy report.stands.there h.copies in
+          let carried : IsRangeOf w.units report.packet × (report.following ≡ []) = subst (Carries (IsRangeOf w.units)) report.stands.carries carrier.carries in
+          let of = unit_sound plan past w.clock w.units report.packet.unit h.made carried.0.unit in
           let owns : Owns plan place u.destination = record { system = s.configuration; there = declared; own = own_address s u.destination own } in
           let one : of.place ≡ place
-          = different_makers plan of.place place u.destination fit (subst (Owns plan of.place) report.destination of.owner) owns in
+          = different_makers plan of.place place u.destination fit (subst (Owns plan of.place) report.source of.owner) owns in
           let at = declared_at place s.configuration declared in
           record {
             place = place;
             system = at.system;
             packet = report.packet;
-            made = record { made = report.range.unit; maker = of.maker ∙ ap DeclaredAt one; there = at.there };
+            made = record { made = carried.0.unit; maker = of.maker ∙ ap DeclaredAt one; there = at.there };
             named = ap (λ (c : SystemConfiguration). c.name) at.same;
-            range = report.range;
-            header = report.data_are;
+            range = carried.0;
+            stands = subst (StandsInCopy w.copies report.packet) carried.1 report.stands;
+            header = report.report.data_are;
           }
 
       module _ (request : unit.Unit) (pending : IsPending past w.units place s.configuration.name request) where

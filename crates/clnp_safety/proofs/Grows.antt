@@ -84,6 +84,10 @@ grows_to w v cursor bound h = record {
 stays : (w : World) → Grown w.copies w.cursor w
 stays w = record { front = ([], sym (append-nil w.copies)); at = refl }
 
+-- a system that takes a step only adds copies
+pub effect_copies : (w : World) (place : ℕ) (effect : Effect) → IsFront w.copies (takes_effect w place effect).world.copies
+effect_copies w place effect = (takes_effect_grows w.copies w.cursor w place effect (stays w)).world.front
+
 nothing_grows : (w : World) → GrowsFrom w w
 nothing_grows w = grows_to w w w.cursor (λ k. k) (stays w)
 

@@ -34,3 +34,8 @@ pub mod Stops
 pub mod Drawing
 pub mod Resting
 pub mod Carried
+pub mod Standing
+pub mod Traced
+pub mod Honest
+pub mod Hopped
+pub mod Numbered

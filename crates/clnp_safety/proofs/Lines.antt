@@ -11,8 +11,8 @@ use Rattle.clnp_network.specs.Safe.{HandsUp, IsFounded, NoRefusal, NoInterferenc
 use Rattle.std.specs.List.{AllByRecursion}
 use Rattle.clnp_machine.specs.Steps.{IsNoRestart}
 use Rattle.clnp_machine.specs.Told.{NoteIsQuiet}
-use Rattle.clnp_safety.specs.Invariant.{NoteIsHonest, NoteIsSound}
 use Rattle.clnp_safety.proofs.Steps.{NotGivenIsFine}
+use Rattle.clnp_safety.proofs.Honest.{NoteIsHonest, NoteIsSound}
 
 -- a line notes only what Q holds of, beside the name of the system that notes it
 abbrev pub LineIs : (List ℕ → Note → Type 0) → Line → Type 0

@@ -12,12 +12,13 @@ use Rattle.clnp_machine.specs.Steps.{IsNoRestart}
 use Rattle.clnp_network.specs.World.{World, Step, nothing}
 use Rattle.clnp_network.specs.Run.{Entry}
 use Rattle.clnp_network.specs.Safe.{SaysNoRestart}
-use Rattle.clnp_safety.specs.Invariant.{CopyIsSound, IsPending, NoteIsSound, NoteIsSteady, SystemStands, UnitsAreSound, SystemsAreSound, WorldIsSound}
+use Rattle.clnp_safety.specs.Invariant.{CopyIsSound, IsPending, SystemStands, UnitsAreSound, SystemsAreSound, WorldIsSound}
 use Rattle.clnp_safety.proofs.Past.{pending_later, units_later}
 use Rattle.clnp_safety.proofs.Lines.{LineIs, lines_are, lines_say_no_restart}
 use Rattle.clnp_safety.proofs.Steps.{Keeps}
 use Rattle.clnp_safety.proofs.Outputs.{Stands}
 use Rattle.clnp_safety.proofs.Effects.{IsSoundWith}
+use Rattle.clnp_safety.proofs.Honest.{NoteIsSound, NoteIsSteady}
 
 -- each system is sound at this clock, and so are units and copies, since a world
 abbrev pub IsSoundAt : Plan → List Entry → World → ℕ → World → Type 0

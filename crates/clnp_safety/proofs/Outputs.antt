@@ -14,10 +14,10 @@ use Rattle.clnp_machine.specs.Steps.{IsRangeOf, NotesOnly}
 use Rattle.clnp_network.specs.World.{World, copy_from, sends_frame, put_out, with_effect, takes_effect}
 use Rattle.std.specs.List.{AllByRecursion}
 use Rattle.clnp_safety.specs.Invariant.{Carries, CopyIsSound, IsBornWithUnit}
-use Rattle.clnp_safety.specs.Outputs.{OutputIsSound}
 use Rattle.clnp_safety.proofs.Units.{copies_later}
 use Rattle.clnp_safety.proofs.Lines.{LineIs}
 use Rattle.clnp_safety.proofs.Steps.{Keeps, keeps-put_all_out}
+use Rattle.clnp_safety.proofs.Honest.{OutputIsSound}
 
 -- these units were made, P holds of the system at each place, at this clock, and the copies are sound
 pub record Stands (units : List unit.Unit) (now count : ℕ) (P : ℕ → SystemState → Type 0) (w : World) : Type 0 where

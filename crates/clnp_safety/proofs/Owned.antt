@@ -71,12 +71,12 @@ module _ (laws : StepLaws) (systems : List SystemState) where
       (set_each WasConfigured WasConfigured w.systems place effect.after k (λ other t apart h. h)
       (record { before = was.before; there = was.there; same = same ∙ was.same }))
 
-  each_by_owner : EachStepKeeps (λ units. AnyInput) AnyFrame AreConfigured ByOwner
-  each_by_owner = record { steps = takes_effect_by_owner; frames = λ w at copy e k units front s. tt; moments = λ units now. tt; restarts = λ units. tt; congestion = λ units on. tt; cursor = λ w next k. k; clock = λ w k. k; outside = λ w subnet sender target octets any k. k; injected = λ now copy subnet sender target. tt; fine = fine }
+  each_by_owner : EachStepKeeps (λ w. AnyInput) AnyFrame AreConfigured ByOwner
+  each_by_owner = record { steps = takes_effect_by_owner; frames = λ w at copy e k v follows s. tt; moments = λ w now. tt; restarts = λ w. tt; congestion = λ w on. tt; cursor = λ w next k. k; clock = λ w k. k; outside = λ w subnet sender target octets any k. k; injected = λ now copy subnet sender target. tt; fine = fine }
 
 unchanged : (laws : StepLaws) (w : World) → AreConfigured laws w.systems w
 unchanged laws w place s there = record { before = s; there = there; same = refl }
 
 pub move_by_owner : StepLaws → (plan : Plan) (w : World) (move : Move) → AllByRecursion (IsByOwner w.systems) (after plan w move).lines
 move_by_owner laws plan w move =
-    (keeps-move (λ units. AnyInput) AnyFrame (AreConfigured laws w.systems) (IsByOwner w.systems) (each_by_owner laws w.systems) plan (λ units. any_events plan.events) w move (unchanged laws w)).lines
+    (keeps-move (λ w. AnyInput) AnyFrame (AreConfigured laws w.systems) (IsByOwner w.systems) (each_by_owner laws w.systems) plan (λ w. any_events plan.events) w move (unchanged laws w)).lines

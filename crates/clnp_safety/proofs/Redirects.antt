@@ -1,14 +1,14 @@
 -- A redirect that is given to a system changes its next hop towards the redirect's destination alone, and no other system.
 use Rattle.clnp_machine.proofs.ClnpBase.Lists.{AllByRecursion-any, slice_get-set, slice_get-set_other}
-use Rattle.std.proofs.Common.{◌≡◌, ◌∙◌, sym, ap, refl, ℕ, inl, inr, Bool, List}
+use Rattle.std.proofs.Common.{◌≡◌, ◌∙◌, sym, ap, refl, subst, ℕ, inl, inr, Bool, List}
 use Rattle.std.specs.Prelude.{slice_get, slice_set, Option, None, Some}
 use Rattle.std.proofs.lemmas.Bool.{cases_Bool}
 use Rattle.std.proofs.lemmas.Option.{slice_get_within}
 use Rattle.clnp_machine.specs.ClnpPlan.declared.config.Limits.{Limits}
 use Rattle.clnp_machine.specs.Content.{Content}
 use Rattle.clnp_machine.specs.System.{SystemState, FrameComes, Output, Transmits, SendsEsis, Notes, Effect}
-use Rattle.clnp_machine.specs.Step.{next_hop, step}
-use Rattle.clnp_machine.specs.Steps.{IsRedirectFor, KeepsNextHops}
+use Rattle.clnp_machine.specs.Step.{step}
+use Rattle.clnp_machine.specs.Steps.{IsRedirectFor, KeepsNextHop, KeepsNextHops}
 use Rattle.clnp_network.specs.World.{Numbered, World, frame_to, give_to, is_late, put_out, takes_effect, with_effect}
 use Rattle.clnp_network.specs.Safe.{ChangesOneNextHop, RedirectsChangeOneNextHop}
 use Rattle.clnp_safety.proofs.Lines.{AnyLine}
@@ -25,7 +25,7 @@ put_out_has systems system (Transmits port target packet) v k = record { world =
 put_out_has systems system (SendsEsis port target value) v k = record { world = k; lines = (tt, tt) }
 
 -- a system that takes a step changes no other
-systems_after : (w : World) (place : ℕ) (effect : Effect) → (takes_effect w place effect).world.systems ≡ slice_set w.systems place effect.after
+pub systems_after : (w : World) (place : ℕ) (effect : Effect) → (takes_effect w place effect).world.systems ≡ slice_set w.systems place effect.after
 systems_after w place effect =
     let systems = slice_set w.systems place effect.after in
     (keeps-put_all_out (Has systems) AnyLine effect.after effect.outputs
@@ -35,7 +35,7 @@ systems_after w place effect =
 
 -- where nothing changes, no next hop does
 stays : (destination : List ℕ) (place : ℕ) (w : World) → ChangesOneNextHop destination place w w
-stays destination place w = record { others = λ other apart. refl; there = λ s here. (s, here, λ address apart. refl) }
+stays destination place w = record { others = λ other apart. refl; there = λ s here. (s, here, λ address apart. record { hop = refl; way = refl }) }
 
 -- a system takes a step after which it sends as before but to one address
 step_changes : (destination : List ℕ) (w : World) (place : ℕ) (s : SystemState) (effect : Effect) → slice_get w.systems place ≡ Some s
@@ -49,7 +49,7 @@ step_changes destination w place s effect here keeps = record {
     ap (λ systems. slice_get systems place) (systems_after w place effect)
         ∙ slice_get-set w.systems place effect.after (slice_get_within w.systems place s here),
     let one : s ≡ t = let same : Some s ≡ Some t = sym here ∙ at in cc in
-        λ address apart. keeps address apart ∙ ap (λ (u : SystemState). next_hop u address) one,
+        λ address apart. subst (λ (u : SystemState). KeepsNextHop u effect.after address) one (keeps address apart),
   );
 }
 

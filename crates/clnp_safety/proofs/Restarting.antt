@@ -20,13 +20,14 @@ use Rattle.clnp_machine.specs.Step.{restart, step}
 use Rattle.clnp_network.specs.World.{World, comes_to, takes_effect}
 use Rattle.clnp_network.specs.Run.{Entry}
 use Rattle.clnp_network.specs.Safe.{SaysNoRestart}
-use Rattle.clnp_safety.specs.Invariant.{AreUsesUntil, IsInUses, NoteIsSound, SystemIsSound, SystemStands, UnitsAreSound, WorldIsSound}
+use Rattle.clnp_safety.specs.Invariant.{AreUsesUntil, IsInUses, SystemIsSound, SystemStands, UnitsAreSound, WorldIsSound}
 use Rattle.clnp_safety.specs.StepLaws.{StepLaws}
 use Rattle.clnp_safety.proofs.BufferOffers.{unit_sound}
 use Rattle.clnp_safety.proofs.Effects.{IsSoundWith, others_stand, pending_after, step_keeps}
 use Rattle.clnp_safety.proofs.Lines.{LineIs, lines_are}
 use Rattle.clnp_safety.proofs.Moves.{IsPendingStill, MoveIsSound, moved_is_sound, nothing_is_sound, sound_at_clock}
 use Rattle.clnp_safety.proofs.Steps.{Keeps}
+use Rattle.clnp_safety.proofs.Honest.{NoteIsSound}
 
 -- a system that was restarted has no uses
 pub no_uses : (now : ℕ) → AreUsesUntil now []

@@ -249,17 +249,17 @@ first_rests plan = record {
 pub identifiers_rest : StepLaws → (plan : Plan) (moves : List Move) → IdentifiersRest plan.limits.reuse (world_after plan (first_world plan) moves)
 identifiers_rest laws plan moves =
     let reuse : ℕ = plan.limits.reuse in
-    (keeps-moves (λ units. AnyInput) AnyFrame (UnitsRest reuse) AnyLine
+    (keeps-moves (λ w. AnyInput) AnyFrame (UnitsRest reuse) AnyLine
     (record {
       steps = λ w place s input there any at k. keeps-resting laws reuse w place s input there at k;
-      frames = λ w at copy e k units front s. tt;
-      moments = λ units now. tt;
-      restarts = λ units. tt;
-      congestion = λ units on. tt;
+      frames = λ w at copy e k v follows s. tt;
+      moments = λ w now. tt;
+      restarts = λ w. tt;
+      congestion = λ w on. tt;
       cursor = λ w next k. record { rest = k.rest; each = k.each };
       clock = clock_goes_on reuse;
       outside = λ w subnet sender target octets any k. record { rest = k.rest; each = k.each };
       injected = λ now copy subnet sender target. tt;
       fine = any_line_is_fine;
     })
-    plan (λ units. any_events plan.events) moves (first_world plan) (first_rests plan)).rest
+    plan (λ w. any_events plan.events) moves (first_world plan) (first_rests plan)).rest

@@ -1,6 +1,6 @@
 -- Each move keeps the world sound, and so does each series of moves.
-use Rattle.clnp_machine.proofs.ClnpBase.Lists.{AllByRecursion-from_places, AllByRecursion-implies, AllByRecursion-slice_get}
-use Rattle.std.proofs.Common.{◌≡◌, ℕ, List, [], ◌∷◌, ◌++◌, ◌+◌, refl}
+use Rattle.clnp_machine.proofs.ClnpBase.Lists.{AllByRecursion-both, AllByRecursion-contains, AllByRecursion-from_places, AllByRecursion-implies, AllByRecursion-slice_get}
+use Rattle.std.proofs.Common.{◌≡◌, ℕ, List, [], ◌∷◌, ◌++◌, ◌+◌, append-nil, append_assoc, refl, subst, sym}
 use Rattle.std.specs.Prelude.{slice_get, Option, None, Some}
 use Rattle.std.specs.List.{AllByRecursion}
 use Rattle.clnp_machine.specs.ClnpPlan.Journal.{Line}
@@ -13,13 +13,14 @@ use Rattle.clnp_machine.specs.Unit as unit
 use Rattle.clnp_machine.specs.Unit.{Packet}
 use Rattle.clnp_machine.specs.Content.{Content, IsCarried, Labelled, Esis, Unlabelled}
 use Rattle.clnp_machine.specs.System.{SystemState}
-use Rattle.clnp_machine.specs.Steps.{IsRangeOf}
+use Rattle.clnp_machine.specs.Steps.{IsRangeOf, segments_in}
+use Rattle.clnp_machine.proofs.Gained.{each_kept}
 use Rattle.clnp_machine.specs.Reassembly.Arrival.{Arrival}
 use Rattle.clnp_machine.specs.Reassembly.Buffer.{Buffer}
 use Rattle.clnp_network.specs.World.{World, Copy, after, event_happens, deliver, settle_one, lose_one, tick_one, first_world}
 use Rattle.clnp_network.specs.Run.{Entry, entries_of, moves_made, run, world_after}
-use Rattle.clnp_network.specs.Safe.{AsksFor, CarriesRanges, EachIsFounded, EachWasSent, FramesAreUnbroken, HoldsOneUnit, HoldsUnitsApart, IsHonest, IsSend, IsUnbroken, NoInterference, NoneIsAlien, RangeIn, TellsNoRule}
-use Rattle.clnp_safety.specs.Invariant.{BufferIsSound, Carries, CopyIsSound, IsBornWithUnit, IsOfUnit, WorldIsSound}
+use Rattle.clnp_network.specs.Safe.{AsksFor, CameInCopy, CarriesRanges, EachIsFounded, EachWasSent, FramesAreUnbroken, HoldsOneUnit, HoldsUnitsApart, IsHonest, IsSegmentOf, IsSend, IsUnbroken, NoInterference, NoneIsAlien, RangeIn, ReportsStand, StandsInCopy, TellsNoRule}
+use Rattle.clnp_safety.specs.Invariant.{BufferIsSound, Carries, CopyIsSound, IsBornWithUnit, IsOfUnit, NetworkIsSound, WorldIsSound}
 use Rattle.clnp_safety.specs.StepLaws.{StepLaws}
 use Rattle.clnp_safety.proofs.Lines.{LinesAreSound, lines_are_apart, lines_are_founded, lines_are_honest, lines_are_known, lines_tell_no_rule}
 use Rattle.clnp_safety.proofs.Moves.{MoveIsSound, kept_is_sound, nothing_is_sound}
@@ -29,6 +30,7 @@ use Rattle.clnp_safety.proofs.Congesting.{congested_is_sound}
 use Rattle.clnp_safety.proofs.Ticks.{tick_one_is_sound}
 use Rattle.clnp_safety.proofs.Asked.{echo_is_asked, system_is_asked}
 use Rattle.clnp_safety.proofs.Opens.{first_world_is_sound}
+use Rattle.clnp_safety.proofs.Standing.{AllStands, all_stands, first_stands, move_stands}
 
 -- what a fair event asks in a plan without frames from outside
 record IsOfFitPlan (event : Event) : Type 0 where
@@ -37,7 +39,7 @@ record IsOfFitPlan (event : Event) : Type 0 where
   closed : InjectsNothing event
 
 module _ (laws : StepLaws) (plan : Plan) (fit : IsFit plan) (closed : IsClosed plan) where
-  module _ (past : List Entry) (w : World) (h : WorldIsSound plan past w) where
+  module _ (past : List Entry) (w : World) (h : WorldIsSound plan past w) (stood : ReportsStand w) where
     event_is_sound : (move : Move) (asked : Option Event) → ((event : Event) → asked ≡ Some event → IsOfFitPlan event)
         → ((from to octets : List ℕ) → AsksFor asked from to octets → IsSend plan move from to octets)
         → MoveIsSound plan past move w (event_happens plan.subnets plan.limits w asked)
@@ -46,7 +48,7 @@ module _ (laws : StepLaws) (plan : Plan) (fit : IsFit plan) (closed : IsClosed p
     event_is_sound move (Some (Lose count)) fair asks = nothing_is_sound plan past move w h
     event_is_sound move (Some (Tick count)) fair asks = nothing_is_sound plan past move w h
     event_is_sound move (Some (Deliver copy system)) fair asks =
-        kept_is_sound plan past move w w.clock (deliver plan.limits w copy system) (deliver_is_sound laws plan fit past w h copy system)
+        kept_is_sound plan past move w w.clock (deliver plan.limits w copy system) (deliver_is_sound laws plan fit past w h stood copy system)
     event_is_sound move (Some (Restart system)) fair asks = restarted_is_sound laws plan fit past move w h system
     event_is_sound move (Some (Congest system on)) fair asks = congested_is_sound laws plan fit past move w h system on
     event_is_sound move (Some (Send system from to body ask)) fair asks =
@@ -66,8 +68,8 @@ module _ (laws : StepLaws) (plan : Plan) (fit : IsFit plan) (closed : IsClosed p
 
     pub move_is_sound : (move : Move) → MoveIsSound plan past move w (after plan w move)
     move_is_sound (One place) = event_is_sound (One place) (slice_get plan.events place) (event_is_fair place) (λ from to octets asked. asked)
-    move_is_sound SettleOne = kept_is_sound plan past SettleOne w w.clock (settle_one plan.limits w) (settle_one_is_sound laws plan fit past w h)
-    move_is_sound LoseOne = kept_is_sound plan past LoseOne w w.clock (lose_one w) (lose_one_is_sound laws plan fit past w h)
+    move_is_sound SettleOne = kept_is_sound plan past SettleOne w w.clock (settle_one plan.limits w) (settle_one_is_sound laws plan fit past w h stood)
+    move_is_sound LoseOne = kept_is_sound plan past LoseOne w w.clock (lose_one w) (lose_one_is_sound laws plan fit past w h stood)
     move_is_sound TickOne = kept_is_sound plan past TickOne w (w.clock + 1) (tick_one w) (tick_one_is_sound laws plan fit past w h)
 
     -- the entry of a move, with those before it
@@ -75,71 +77,81 @@ module _ (laws : StepLaws) (plan : Plan) (fit : IsFit plan) (closed : IsClosed p
     with_entry move = past ++ record { move = move; lines = (after plan w move).lines } ∷ []
 
   moves_are_honest : (moves : List Move) (past : List Entry) (w : World) → WorldIsSound plan past w
-      → EachWasSent plan past (entries_of plan w moves)
-  moves_are_honest [] past w h = tt
-  moves_are_honest (move ∷ moves) past w h =
-      let this = move_is_sound past w h move in (
+      → AllStands plan w → EachWasSent plan past (entries_of plan w moves)
+  moves_are_honest [] past w h k = tt
+  moves_are_honest (move ∷ moves) past w h k =
+      let this = move_is_sound past w h k.reports move in (
         lines_are_honest plan past w (after plan w move).lines this.lines,
-        moves_are_honest moves (with_entry past w h move) (after plan w move).world this.world,
+        moves_are_honest moves (with_entry past w h k.reports move) (after plan w move).world this.world (move_stands laws plan fit closed w move k),
       )
 
-  moves_are_founded : (moves : List Move) (past : List Entry) (w : World) → WorldIsSound plan past w → EachIsFounded plan w past moves
-  moves_are_founded [] past w h = tt
-  moves_are_founded (move ∷ moves) past w h =
-      let this = move_is_sound past w h move in (
+  moves_are_founded : (moves : List Move) (past : List Entry) (w : World) → WorldIsSound plan past w → AllStands plan w → EachIsFounded plan w past moves
+  moves_are_founded [] past w h k = tt
+  moves_are_founded (move ∷ moves) past w h k =
+      let this = move_is_sound past w h k.reports move in (
         lines_are_founded plan past w (after plan w move).lines this.lines,
-        moves_are_founded moves (with_entry past w h move) (after plan w move).world this.world,
+        moves_are_founded moves (with_entry past w h k.reports move) (after plan w move).world this.world (move_stands laws plan fit closed w move k),
       )
 
   -- what follows of the lines of each move holds of all entries
   module _ (Q : List Line → Type 0)
       (follows : (past : List Entry) (w : World) (lines : List Line) → LinesAreSound plan past w lines → Q lines) where
-    moves_are : (moves : List Move) (past : List Entry) (w : World) → WorldIsSound plan past w
+    moves_are : (moves : List Move) (past : List Entry) (w : World) → WorldIsSound plan past w → AllStands plan w
         → AllByRecursion (λ (entry : Entry). Q entry.lines) (entries_of plan w moves)
-    moves_are [] past w h = tt
-    moves_are (move ∷ moves) past w h =
-        let this = move_is_sound past w h move in (
+    moves_are [] past w h k = tt
+    moves_are (move ∷ moves) past w h k =
+        let this = move_is_sound past w h k.reports move in (
           follows past w (after plan w move).lines this.lines,
-          moves_are moves (with_entry past w h move) (after plan w move).world this.world,
+          moves_are moves (with_entry past w h k.reports move) (after plan w move).world this.world (move_stands laws plan fit closed w move k),
         )
 
-  -- a world that moves lead to is sound beside some past
-  moves_are_sound : (moves : List Move) (past : List Entry) (w : World) → WorldIsSound plan past w
-      → (later : List Entry) × WorldIsSound plan later (world_after plan w moves)
-  moves_are_sound [] past w h = (past, h)
-  moves_are_sound (move ∷ moves) past w h =
-      moves_are_sound moves (with_entry past w h move) (after plan w move).world (move_is_sound past w h move).world
+  -- a world that moves lead to is sound beside their entries
+  moves_are_sound : (moves : List Move) (past : List Entry) (w : World) → WorldIsSound plan past w → AllStands plan w
+      → WorldIsSound plan (past ++ entries_of plan w moves) (world_after plan w moves)
+  moves_are_sound [] past w h k = subst (λ entries. WorldIsSound plan entries w) (sym (append-nil past)) h
+  moves_are_sound (move ∷ moves) past w h k =
+      let next = (after plan w move).world in
+      let entry : Entry = record { move = move; lines = (after plan w move).lines } in
+      subst (λ entries. WorldIsSound plan entries (world_after plan next moves)) (append_assoc past (entry ∷ []) (entries_of plan next moves))
+      (moves_are_sound moves (with_entry past w h k.reports move) next (move_is_sound past w h k.reports move).world (move_stands laws plan fit closed w move k))
 
 pub each_was_sent : StepLaws → (plan : Plan) → IsFit plan → IsClosed plan → (moves : List Move) → EachWasSent plan [] (entries_of plan (first_world plan) moves)
-each_was_sent laws plan fit closed moves = moves_are_honest laws plan fit closed moves [] (first_world plan) (first_world_is_sound plan)
+each_was_sent laws plan fit closed moves = moves_are_honest laws plan fit closed moves [] (first_world plan) (first_world_is_sound plan) (first_stands laws plan fit closed)
 
 pub run_is_honest : StepLaws → (plan : Plan) → IsFit plan → IsClosed plan → IsHonest plan (run plan)
 run_is_honest laws plan fit closed = each_was_sent laws plan fit closed (moves_made plan)
 
 pub each_is_founded : StepLaws → (plan : Plan) → IsFit plan → IsClosed plan → (moves : List Move) → EachIsFounded plan (first_world plan) [] moves
-each_is_founded laws plan fit closed moves = moves_are_founded laws plan fit closed moves [] (first_world plan) (first_world_is_sound plan)
+each_is_founded laws plan fit closed moves = moves_are_founded laws plan fit closed moves [] (first_world plan) (first_world_is_sound plan) (first_stands laws plan fit closed)
 
 pub none_interferes : StepLaws → (plan : Plan) → IsFit plan → IsClosed plan → (moves : List Move)
     → AllByRecursion (λ (entry : Entry). NoInterference entry.lines) (entries_of plan (first_world plan) moves)
 none_interferes laws plan fit closed moves =
-    moves_are laws plan fit closed NoInterference (λ past w lines is. lines_are_apart plan past w lines is) moves [] (first_world plan) (first_world_is_sound plan)
+    moves_are laws plan fit closed NoInterference (λ past w lines is. lines_are_apart plan past w lines is) moves [] (first_world plan) (first_world_is_sound plan) (first_stands laws plan fit closed)
 
 pub none_is_alien : StepLaws → (plan : Plan) → IsFit plan → IsClosed plan → (moves : List Move)
     → AllByRecursion (λ (entry : Entry). NoneIsAlien entry.lines) (entries_of plan (first_world plan) moves)
 none_is_alien laws plan fit closed moves =
-    moves_are laws plan fit closed NoneIsAlien (λ past w lines is. lines_are_known plan past w lines is) moves [] (first_world plan) (first_world_is_sound plan)
+    moves_are laws plan fit closed NoneIsAlien (λ past w lines is. lines_are_known plan past w lines is) moves [] (first_world plan) (first_world_is_sound plan) (first_stands laws plan fit closed)
 
 pub none_is_refused : StepLaws → (plan : Plan) → IsFit plan → IsClosed plan → (moves : List Move)
     → AllByRecursion (λ (entry : Entry). AllByRecursion TellsNoRule entry.lines) (entries_of plan (first_world plan) moves)
 none_is_refused laws plan fit closed moves =
     moves_are laws plan fit closed (AllByRecursion TellsNoRule) (λ past w lines is. lines_tell_no_rule plan past w lines is) moves [] (first_world plan)
-    (first_world_is_sound plan)
+    (first_world_is_sound plan) (first_stands laws plan fit closed)
 
 -- What is so of each world of a run.
 
-last_is_sound : StepLaws → (plan : Plan) → IsFit plan → IsClosed plan → (moves : List Move)
-    → (past : List Entry) × WorldIsSound plan past (world_after plan (first_world plan) moves)
-last_is_sound laws plan fit closed moves = moves_are_sound laws plan fit closed moves [] (first_world plan) (first_world_is_sound plan)
+pub last_is_sound : StepLaws → (plan : Plan) → IsFit plan → IsClosed plan → (moves : List Move)
+    → WorldIsSound plan (entries_of plan (first_world plan) moves) (world_after plan (first_world plan) moves)
+last_is_sound laws plan fit closed moves =
+    moves_are_sound laws plan fit closed moves [] (first_world plan) (first_world_is_sound plan) (first_stands laws plan fit closed)
+
+pub network_is_sound : StepLaws → (plan : Plan) → IsFit plan → IsClosed plan → (moves : List Move)
+    → NetworkIsSound plan (entries_of plan (first_world plan) moves) (world_after plan (first_world plan) moves)
+network_is_sound laws plan fit closed moves =
+    let stands = all_stands laws plan fit closed moves in
+    record { world = last_is_sound laws plan fit closed moves; kept = stands.came; reports = stands.reports }
 
 range_in : (units : List unit.Unit) (birth : ℕ) (content : Content) → Carries (IsRangeOf units) content → IsCarried content → IsBornWithUnit birth content
     → RangeIn units birth content
@@ -151,7 +163,7 @@ pub ranges_are_carried : StepLaws → (plan : Plan) → IsFit plan → IsClosed 
 ranges_are_carried laws plan fit closed moves =
     let w = world_after plan (first_world plan) moves in
     AllByRecursion-implies (CopyIsSound w.units) (λ (copy : Copy). RangeIn w.units copy.birth copy.content)
-    (λ copy h. range_in w.units copy.birth copy.content h.carries h.carried h.birth) w.copies (last_is_sound laws plan fit closed moves).1.copies
+    (λ copy h. range_in w.units copy.birth copy.content h.carries h.carried h.birth) w.copies (last_is_sound laws plan fit closed moves).copies
 
 unbroken : StepLaws → (units : List unit.Unit) (content : Content) → Carries (IsRangeOf units) content → IsCarried content → IsUnbroken content
 unbroken laws units (Labelled packet following) carries carried = laws.frames packet following carried
@@ -162,16 +174,29 @@ pub frames_are_unbroken : StepLaws → (plan : Plan) → IsFit plan → IsClosed
 frames_are_unbroken laws plan fit closed moves =
     let w = world_after plan (first_world plan) moves in
     AllByRecursion-implies (CopyIsSound w.units) (λ (copy : Copy). IsUnbroken copy.content)
-    (λ copy h. unbroken laws w.units copy.content h.carries h.carried) w.copies (last_is_sound laws plan fit closed moves).1.copies
+    (λ copy h. unbroken laws w.units copy.content h.carries h.carried) w.copies (last_is_sound laws plan fit closed moves).copies
 
-one_unit : (plan : Plan) (units : List unit.Unit) (buffer : Buffer Packet) → BufferIsSound plan units buffer → HoldsOneUnit units buffer
-one_unit plan units buffer h =
-    (h.unit, h.made, AllByRecursion-implies (IsOfUnit units h.unit) (λ (arrival : Arrival Packet). arrival.carried.unit ≡ h.unit) (λ arrival of. of.unit) buffer.kept h.kept)
+-- what a system keeps of a unit stands in copies that carry nothing behind it
+module _ (units : List unit.Unit) (copies : List Copy) (sound : AllByRecursion (CopyIsSound units) copies) where
+  segment_stands : (u : unit.Unit) (arrival : Arrival Packet) → IsOfUnit units u arrival → CameInCopy copies arrival → IsSegmentOf copies u arrival
+  segment_stands u arrival of came =
+      let carrier = AllByRecursion-contains (CopyIsSound units) copies came.stands.copy came.stands.there sound in
+      let carried : IsRangeOf units arrival.carried × (came.following ≡ []) = subst (Carries (IsRangeOf units)) came.stands.carries carrier.carries in
+      record { unit = of.unit; stands = subst (StandsInCopy copies arrival.carried) carried.1 came.stands }
+
+  one_unit : (plan : Plan) (buffer : Buffer Packet) → BufferIsSound plan units buffer → AllByRecursion (CameInCopy copies) buffer.kept
+      → HoldsOneUnit units copies buffer
+  one_unit plan buffer h came =
+      (h.unit, h.made, AllByRecursion-both (IsOfUnit units h.unit) (CameInCopy copies) (IsSegmentOf copies h.unit) (segment_stands h.unit) buffer.kept h.kept came)
 
 pub units_are_held_apart : StepLaws → (plan : Plan) → IsFit plan → IsClosed plan → (moves : List Move) → HoldsUnitsApart (world_after plan (first_world plan) moves)
 units_are_held_apart laws plan fit closed moves =
     let w = world_after plan (first_world plan) moves in
-    let sound = (last_is_sound laws plan fit closed moves).1 in
-    AllByRecursion-from_places (λ (system : SystemState). AllByRecursion (HoldsOneUnit w.units) system.buffers) w.systems
+    let sound = last_is_sound laws plan fit closed moves in
+    let came = (all_stands laws plan fit closed moves).came in
+    AllByRecursion-from_places (λ (system : SystemState). AllByRecursion (HoldsOneUnit w.units w.copies) system.buffers) w.systems
     (λ place s there.
-    AllByRecursion-implies (BufferIsSound plan w.units) (HoldsOneUnit w.units) (one_unit plan w.units) s.buffers (sound.systems.each place s there).sound.buffers)
+    AllByRecursion-both (BufferIsSound plan w.units) (λ (b : Buffer Packet). AllByRecursion (CameInCopy w.copies) b.kept) (HoldsOneUnit w.units w.copies)
+    (one_unit w.units w.copies sound.copies plan) s.buffers (sound.systems.each place s there).sound.buffers
+    (each_kept (CameInCopy w.copies) s.buffers
+    (AllByRecursion-slice_get (λ (system : SystemState). AllByRecursion (CameInCopy w.copies) (segments_in system.buffers)) w.systems place s there came)))

@@ -10,7 +10,8 @@ use Rattle.clnp_machine.specs.System.{SystemState, Input}
 use Rattle.clnp_machine.specs.Step.{step}
 use Rattle.clnp_network.specs.World.{World, Copy, Numbered, first_port, is_group, is_late, frame_to, takes_effect, addressees_from, settle_copy, settle_one, deliver, lose_copy, lose_one}
 use Rattle.clnp_network.specs.Run.{Entry}
-use Rattle.clnp_safety.specs.Invariant.{CopyIsSound, NoteIsSteady, SystemStands, WorldIsSound}
+use Rattle.clnp_network.specs.Safe.{ReportsStand}
+use Rattle.clnp_safety.specs.Invariant.{CopyIsSound, SystemStands, WorldIsSound}
 use Rattle.clnp_safety.specs.StepLaws.{StepLaws}
 use Rattle.clnp_safety.proofs.Lines.{LineIs}
 use Rattle.clnp_safety.proofs.Steps.{Keeps, NotGivenIsFine, keeps-nothing, keeps-give_each, keeps-deliver}
@@ -18,8 +19,10 @@ use Rattle.clnp_safety.proofs.Effects.{notes_are_steady, others_stand, pending_a
 use Rattle.clnp_safety.proofs.Arriving.{comes_young, arrival_is_sound}
 use Rattle.clnp_safety.proofs.Moves.{IsSoundAt, sound_at_clock}
 use Rattle.clnp_safety.proofs.Units.{copy_later}
+use Rattle.clnp_safety.proofs.Honest.{NoteIsSteady}
 
-module _ (laws : StepLaws) (plan : Plan) (fit : IsFit plan) (past : List Entry) (w : World) (h : WorldIsSound plan past w) where
+module _ (laws : StepLaws) (plan : Plan) (fit : IsFit plan) (past : List Entry) (w : World) (h : WorldIsSound plan past w)
+    (stood : ReportsStand w) where
   -- what the worlds of a settling keep
   abbrev Sound : World → Type 0
   Sound = IsSoundAt plan past w w.clock
@@ -47,7 +50,7 @@ module _ (laws : StepLaws) (plan : Plan) (fit : IsFit plan) (past : List Entry) 
       let from : Place = record { port = first_port copy s.configuration.role s.configuration.ports; snpa = copy.sender } in
       let input : Input = frame_to s copy in
       let now : CopyIsSound v.units copy = subst (λ us. CopyIsSound us copy) (sym k.front.1) (copy_later w.units k.front.0 copy carries) in
-      let done = arrival_is_sound laws plan fit past w h v.units k.front k.made place s it.sound it.pending from (is_group copy.target) copy.content
+      let done = arrival_is_sound laws plan fit past w h stood v.units k.front k.made place s it.sound it.pending from (is_group copy.target) copy.content
       carries.sender carries.carries carries.carried
       (comes_young plan.limits.age w.clock copy.birth copy.content carries.birth (is_soon copy v k.stands.clock soon)) in
       step_keeps laws plan fit past w w.clock (NoteIsSteady plan past w) Each Each v place s input w.clock it.sound tt it.sound.moment (now.sender, now.carries, now.carried)

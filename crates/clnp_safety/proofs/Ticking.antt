@@ -1,8 +1,8 @@
 -- When a moment comes, the buffers that are due are taken out, and what is left is sound; what is made is reports alone.
-use Rattle.clnp_machine.proofs.ClnpBase.Filters.{AllByRecursion-filter, filter-fewer}
+use Rattle.clnp_machine.proofs.ClnpBase.Filters.{AllByRecursion-filter}
 use Rattle.clnp_machine.proofs.ClnpBase.Lists.{AllByRecursion-implies, AllByRecursion-no_element}
 use Rattle.clnp_machine.proofs.ClnpBase.Sums.{sum_filter}
-use Rattle.std.proofs.Common.{◌≡◌, sym, ap, subst, refl, ℕ, zero, suc, ◌+◌, ◌<◌, ◌≤◌, true, false, not, List, [], ◌∷◌, ◌++◌, length, Option, None, Some, arith}
+use Rattle.std.proofs.Common.{◌≡◌, sym, subst, refl, ℕ, zero, suc, ◌+◌, ◌<◌, ◌≤◌, false, not, List, [], ◌∷◌, ◌++◌, length, Option, None, Some, arith}
 use Rattle.std.specs.Prelude.{slice_get}
 use Rattle.std.specs.List.{AllByRecursion, Contains}
 use Rattle.std.proofs.lemmas.List.Elements.{recursion_from_All}
@@ -19,17 +19,11 @@ use Rattle.clnp_machine.specs.ClnpOptions.declared.reasons.Reason.TheVariants.{L
 use Rattle.clnp_machine.specs.System.{SystemState}
 use Rattle.clnp_machine.specs.Steps.{KnowsAddresses}
 use Rattle.clnp_machine.specs.Local.{Action, Deed, Sends, Tells, at_moment, discard_first, expire, give_up_due, gives_up, made_in, tick}
+use Rattle.clnp_machine.proofs.Ending.{without_fewer}
 use Rattle.clnp_safety.specs.Invariant.{AreUsesUntil, BufferIsSound, IsInUses, SystemIsSound}
 use Rattle.clnp_safety.specs.StepLaws.{StepLaws}
 use Rattle.clnp_safety.proofs.Deeds.{IsReport, discard_reports}
-use Rattle.clnp_safety.proofs.Kept.{due_is, none_due, same_key-refl}
-
--- there are fewer without the due one
-without_fewer : (key : Key) (buffers before behind : List (Buffer Packet)) (ended : Buffer Packet) → buffers ≡ before ++ ended ∷ behind → ended.key ≡ key
-    → length (without key buffers) < length buffers
-without_fewer key buffers before behind ended stands is =
-    subst (λ l. length (without key l) < length l) (sym stands)
-    (filter-fewer (λ (b : Buffer Packet). not (same_key b.key key)) before ended behind (ap not (subst (λ k. same_key ended.key k ≡ true) is (same_key-refl ended.key))))
+use Rattle.clnp_safety.proofs.Kept.{due_is, none_due}
 
 module _ (laws : StepLaws) (plan : Plan) (units : List unit.Unit) (now place : ℕ) where
   -- what is so of the system while buffers are taken out: that which makes it sound, but that some may be due

@@ -14,7 +14,7 @@ use Rattle.clnp_machine.specs.Step.{effect_of, moment_comes}
 use Rattle.clnp_machine.specs.Told.{NoteIsQuiet, TellsOnly}
 use Rattle.clnp_network.specs.Run.{Entry}
 use Rattle.clnp_network.specs.World.{World, comes, tick_each, tick_one}
-use Rattle.clnp_safety.specs.Invariant.{EachRests, NoteIsSteady, SystemIsSound, SystemStands, WorldIsSound}
+use Rattle.clnp_safety.specs.Invariant.{EachRests, SystemIsSound, SystemStands, WorldIsSound}
 use Rattle.clnp_safety.specs.StepLaws.{StepLaws}
 use Rattle.clnp_safety.proofs.Past.{units_stay}
 use Rattle.clnp_safety.proofs.Deeds.{IsHonest, quiet_action, reports_are_sound, reports_reply_nothing, reports_rest}
@@ -25,6 +25,7 @@ use Rattle.clnp_safety.proofs.Hellos.{EffectIsSound, deed_is_sound, only_then, t
 use Rattle.clnp_safety.proofs.Ticking.{tick_is_sound, tick_reports}
 use Rattle.clnp_safety.proofs.Moves.{IsSoundAt, sound_at_clock}
 use Rattle.clnp_machine.proofs.Said.{says_known}
+use Rattle.clnp_safety.proofs.Honest.{NoteIsSteady}
 
 -- what comes of a moment
 moment_is_sound : StepLaws → (plan : Plan) (past : List Entry) (w : World) (name : List ℕ) (units : List unit.Unit) (before now place : ℕ) (s : SystemState) → before ≤ now

@@ -11,6 +11,8 @@ use Rattle.clnp_machine.specs.ClnpPlan.Configuration.{SystemConfiguration, AreDi
 use Rattle.clnp_machine.specs.ClnpOptions.Edits.{HaveOneForm}
 use Rattle.clnp_machine.specs.PduHeader.declared.kind.Kind.{Kind}
 use Rattle.clnp_machine.specs.PduHeader.declared.kind.Kind.TheVariants.{Dt, Er, Erq, Erp}
+use Rattle.clnp_machine.specs.Edited.{AreEdited}
+use Rattle.clnp_machine.proofs.Editing.{edited_again}
 use Rattle.clnp_machine.specs.Unit as unit
 use Rattle.clnp_machine.specs.Unit.{IsCarriable, Packet}
 use Rattle.clnp_machine.specs.Content.{Content, Labelled, Esis, Unlabelled}
@@ -93,6 +95,7 @@ packet_goes_on laws units s port came p on h carriable = record {
   unit = subst (Contains units) (sym on.unit) h.unit;
   options = laws.headers.chained p.options came.options p.unit.options (on.options carriable)
       (subst (λ (u : unit.Unit). HaveOneForm came.options u.options) (sym on.unit) h.options);
+  edits = edited_again p.unit.options came.options p.options (subst (λ (u : unit.Unit). AreEdited u.options came.options) (sym on.unit) h.edits) on.edits;
   lifetime = lives_within s port came p on h.lifetime;
   within =
       let from = on.from in

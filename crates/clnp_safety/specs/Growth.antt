@@ -1,6 +1,9 @@
 -- Copies stay for good, and are settled one after another, until there are too many.
-use Rattle.std.specs.Prelude.{◌≡◌, ℕ, ◌≤◌, true, List, ◌++◌, length}
-use Rattle.clnp_network.specs.World.{World, is_full, weight}
+use Rattle.std.specs.Prelude.{◌≡◌, ℕ, ◌-◌, ◌≤◌, true, List, ◌++◌, length, slice_get, Some}
+use Rattle.clnp_machine.specs.Nsap.declared.target.Target.{Target}
+use Rattle.clnp_machine.specs.ClnpPlan.Journal.{Line, Transmitted}
+use Rattle.clnp_machine.specs.Content.{frame_of}
+use Rattle.clnp_network.specs.World.{Copy, World, is_full, weight}
 
 -- the first list is a front of the second
 abbrev pub IsFront : {A : Type 0} → List A → List A → Type 0
@@ -14,3 +17,15 @@ IsWithinCopies w = w.cursor ≤ length w.copies
 pub record IsFullAt (w : World) (weighs : ℕ) : Type 0 where
   pub full : is_full w ≡ true
   pub weight : weight w ≡ weighs
+
+-- the copy with a number, which counts from 1, is for a target, and its frame is these octets
+pub record IsCopyAt (copies : List Copy) (number : ℕ) (target : Target) (octets : List ℕ) : Type 0 where
+  pub copy : Copy
+  pub there : slice_get copies (number - 1) ≡ Some copy
+  pub for_target : copy.target ≡ target
+  pub carries : frame_of copy.content ≡ octets
+
+-- where a line tells of a transmission it is the copy with its number
+abbrev pub TellsItsCopy : List Copy → Line → Type 0
+TellsItsCopy copies (Transmitted now name number port target octets) = IsCopyAt copies number target octets
+TellsItsCopy copies _ = Unit {0}

@@ -3,8 +3,6 @@ use Rattle.std.specs.Prelude.{◌≡◌, ℕ, ◌+◌, ◌≤◌, ◌<◌, ◌�
 use Rattle.std.specs.List.{AllByRecursion, Contains}
 use Rattle.clnp_network.specs.Scenario.Scenario.{Plan}
 use Rattle.clnp_machine.specs.ClnpPlan.Configuration.{SystemConfiguration}
-use Rattle.clnp_machine.specs.ClnpPlan.declared.note.Note.{Note}
-use Rattle.clnp_machine.specs.ClnpPlan.declared.note.Note.TheVariants.{Got, Report, Echoed, Interference, Alien}
 use Rattle.hex.specs.Hex.{IsBytes}
 use Rattle.clnp_machine.specs.Nsap.Address.{IsAddress}
 use Rattle.clnp_machine.specs.PduHeader.declared.kind.Kind.{Kind}
@@ -18,12 +16,11 @@ use Rattle.clnp_machine.specs.Unit as unit
 use Rattle.clnp_machine.specs.Unit.{DeclaredAt, Packet, IsCarriable, wire}
 use Rattle.clnp_machine.specs.Content.{Content, IsCarried, Labelled, Esis, Unlabelled}
 use Rattle.clnp_machine.specs.System.{SystemState}
-use Rattle.clnp_machine.specs.Steps.{IsNoRestart, IsRangeOf, KnowsAddresses}
-use Rattle.clnp_machine.specs.Told.{NotesNoRule}
+use Rattle.clnp_machine.specs.Steps.{IsRangeOf, KnowsAddresses}
 use Rattle.clnp_machine.specs.Local.{header_size, offered}
 use Rattle.clnp_network.specs.World.{World, Copy}
 use Rattle.clnp_network.specs.Run.{Entry}
-use Rattle.clnp_network.specs.Safe.{IsAnswered, IsHeaderOfOwn, RequestedSinceRestart, Rests, WasSent}
+use Rattle.clnp_network.specs.Safe.{KeepsWhatCame, ReportsStand, RequestedSinceRestart, Rests, WasSent}
 
 -- the system declared at a place has an address
 pub record Owns (plan : Plan) (place : ℕ) (address : List ℕ) : Type 0 where
@@ -155,22 +152,8 @@ pub record WorldIsSound (plan : Plan) (past : List Entry) (w : World) : Type 0 w
   pub copies : AllByRecursion (CopyIsSound w.units) w.copies
   pub systems : SystemsAreSound plan past w.units w.clock w.systems
 
--- A note of the system with a name, in a move of a network, says only what is so: what is handed up was sent before, or is founded
--- on what was made before; nothing interferes; and each frame is of a protocol.
-abbrev pub NoteIsHonest : Plan → List Entry → World → (name : List ℕ) → Note → Type 0
-NoteIsHonest plan past w name (Got from to octets) = WasSent plan past from to octets
-NoteIsHonest plan past w name (Report from to reason place octets) = IsHeaderOfOwn w name octets
-NoteIsHonest plan past w name (Echoed from to number) = IsAnswered w past name from to number
-NoteIsHonest plan past w name (Interference id) = ⊥
-NoteIsHonest plan past w name Alien = ⊥
-NoteIsHonest plan past w name _ = Unit {0}
-
--- so is what it says besides: no frame breaks a rule
-pub record NoteIsSound (plan : Plan) (past : List Entry) (w : World) (name : List ℕ) (note : Note) : Type 0 where
-  pub honest : NoteIsHonest plan past w name note
-  pub no_rule : NotesNoRule note
-
--- and no restart is noted
-pub record NoteIsSteady (plan : Plan) (past : List Entry) (w : World) (name : List ℕ) (note : Note) : Type 0 where
-  pub sound : NoteIsSound plan past w name note
-  pub no_restart : IsNoRestart note
+-- So it is, each segment that a system keeps stands in a copy, and each error report is of a packet that does.
+pub record NetworkIsSound (plan : Plan) (past : List Entry) (w : World) : Type 0 where
+  pub world : WorldIsSound plan past w
+  pub kept : KeepsWhatCame w
+  pub reports : ReportsStand w

@@ -2,6 +2,6 @@ pub mod Invariant
 pub mod Growth
 pub mod Refusal
 pub mod Owners
-pub mod Outputs
 pub mod StepLaws
 pub mod Outside
+pub mod Runs

@@ -23,7 +23,8 @@ use Rattle.clnp_machine.specs.System.{SystemState, Input, IsRestarted}
 use Rattle.clnp_machine.specs.Local.{Action, discard, gives_up, header_size, made_in, refusal, tick}
 use Rattle.clnp_machine.specs.Esis.{esis_comes, forgets, says_hello}
 use Rattle.clnp_machine.specs.Step.{outputs_of, responds, step}
-use Rattle.clnp_machine.specs.Steps.{BreaksNoEsisRule, BreaksNoRule, IsAtMostReportOf, IsFair, IsForOwn, IsFresh, IsMadeFor, IsNoRestart, IsWithinBudget, KeepsAsOffered, KnowsAddresses, NotesOnly, OnlyHellos, ReportsOn, RestartsNothing, SendsCarriable, SendsEsisPdus, SendsRangesOrGoesOn, StaysItself, WasPendingOrMade, moment_after}
+use Rattle.clnp_machine.specs.Steps.{BreaksNoEsisRule, BreaksNoRule, IsAtMostReportOf, IsFair, IsForOwn, IsFresh, IsMadeFor, IsNoRestart, IsWithinBudget, KeepsAsOffered, KnowsAddresses, NotesOnly, OnlyHellos, ReportsOn, RestartsNothing, SendsCarriable, SendsEsisPdus, SendsRangesOrGoesOn, StaysItself, WasKeptOrComes, WasPendingOrMade, moment_after, segments_in}
+use Rattle.clnp_machine.specs.Ways.{IsFirstOrGoesOn}
 use Rattle.clnp_machine.specs.Told.{IsAllowed, IsRefusal, IsToldBy, NoteIsQuiet, NotesNoRule, SpellsPdus, TellsNoInterference, TellsOnly, WasThereOrTakes}
 
 -- of a whole step
@@ -38,6 +39,7 @@ pub record OfSteps : Type 0 where
   pub forgotten : (s : SystemState) → (step s IsRestarted).after.pending ≡ []
   pub no_restart : (s : SystemState) (input : Input) → RestartsNothing input → AllByRecursion (NotesOnly IsNoRestart) (step s input).outputs
   pub ranges : (s : SystemState) (input : Input) → AllByRecursion (SendsRangesOrGoesOn s input (step s input).units) (step s input).outputs
+  pub hops : (s : SystemState) (input : Input) → AllByRecursion (IsFirstOrGoesOn s input) (step s input).outputs
   pub carriable : (s : SystemState) (input : Input) → IsSystem s.configuration → IsFair input → All IsAddress s.configuration.addresses
       → KeepsAsOffered s → AllByRecursion SendsCarriable (step s input).outputs
   pub kept : (s : SystemState) (input : Input) → IsFair input → KeepsAsOffered s → KeepsAsOffered (step s input).after
@@ -47,6 +49,7 @@ pub record OfSteps : Type 0 where
   pub no_rule : (s : SystemState) (input : Input) → SpellsPdus input → AllByRecursion (NotesOnly NotesNoRule) (step s input).outputs
   pub own : (s : SystemState) (input : Input) → AllByRecursion (NotesOnly (IsForOwn s)) (step s input).outputs
   pub budget : (s : SystemState) (input : Input) → IsWithinBudget s → IsWithinBudget (step s input).after
+  pub kept_or_come : (s : SystemState) (input : Input) → AllByRecursion (WasKeptOrComes s input) (segments_in (step s input).after.buffers)
 
 -- of what a system does at its own addresses
 pub record OfDeeds : Type 0 where

@@ -6,11 +6,13 @@ ghost use Rattle.clnp_network.specs.Scenario.Scenario.{Plan, IsClosed, IsFit};
 ghost use Rattle.clnp_network.specs.Scenario.declared.event.Move.{Move};
 ghost use Rattle.clnp_network.specs.World.{World, after, first_world};
 ghost use Rattle.clnp_network.specs.Run.{Entry, entries_of, full_weight, run, text_of, until_full, world_after};
-ghost use Rattle.clnp_network.specs.Safe.{CarriesRanges, EachIsFounded, EachWasSent, FramesAreUnbroken, HoldsUnitsApart, IdentifiersRest, IsHonest, IsSend, NoRefusal, IsWithinBudgets, IsWithinLifetimes, KeepsHeaders, NoInterference, NoneIsAlien, RedirectsChangeOneNextHop, TellsNoRule};
-ghost use Rattle.clnp_safety.specs.Growth.{IsFront, IsFullAt, IsWithinCopies};
-ghost use Rattle.clnp_safety.specs.Outside.{CarriesRangesOrOutside, PdusAreUnbroken};
+ghost use Rattle.clnp_network.specs.Safe.{CarriesRanges, EachIsFounded, EachWasSent, FramesAreUnbroken, HoldsUnitsApart, HopsCountCopies, IdentifiersRest, IsHonest, IsSend, NoRefusal, IsWithinBudgets, IsWithinLifetimes, KeepsHeaders, KeepsWhatCame, NoInterference, NoneIsAlien, RedirectsChangeOneNextHop, TellsNoRule};
+ghost use Rattle.clnp_safety.specs.Invariant.{NetworkIsSound};
+ghost use Rattle.clnp_safety.specs.Growth.{IsFront, IsFullAt, IsWithinCopies, TellsItsCopy};
+ghost use Rattle.clnp_safety.specs.Outside.{CarriesRangesOrOutside, EachHasItsMaker, PdusAreUnbroken};
 ghost use Rattle.clnp_safety.specs.Owners.{IsByOwner};
 ghost use Rattle.clnp_safety.specs.Refusal.{LeavesNothing};
+ghost use Rattle.clnp_safety.specs.Runs.{RunsAreSafe};
 ghost use Rattle.clnp_safety.specs.StepLaws.{StepLaws};
 
 use clnp_machine::laws as machine;
@@ -49,6 +51,14 @@ pub fn ranges_of_units_are_carried()
 /// nothing behind its PDU.
 pub fn all_but_frames_from_outside_carry_ranges()
     ensures { (plan : Plan) → IsFit plan → (moves : List Move) → CarriesRangesOrOutside (world_after plan (first_world plan) moves) }
+{
+    laws_of_steps();
+}
+
+/// Each copy was made by who made the unit of which it carries a packet, whatever the moves of whatever plan. What was made outside
+/// is what an event brought from outside, or a packet of the unit that this made known.
+pub fn copies_have_their_makers()
+    ensures { (plan : Plan) (moves : List Move) → EachHasItsMaker plan (world_after plan (first_world plan) moves) }
 {
     laws_of_steps();
 }
@@ -98,16 +108,37 @@ pub fn no_frame_is_alien()
 }
 
 /// Without frames from outside each reassembly buffer of a run holds segments of one unit that was
-/// made.
+/// made, each of which stands in a copy.
 pub fn units_are_held_apart()
     ensures { (plan : Plan) → IsFit plan → IsClosed plan → (moves : List Move) → HoldsUnitsApart (world_after plan (first_world plan) moves) }
 {
     laws_of_steps();
 }
 
+/// After each series of moves the network of a fit plan without frames from outside is sound, beside the entries that led to it:
+/// each unit is founded on them, and rests behind those before it; each copy carries a range of one, or an ES-IS value that a PDU
+/// can carry; each system is that of its declaration, at the clock's moment, with the uses of its identifiers in order, each of its
+/// units since its last restart among them, with buffers that hold segments of one unit each, that are neither due nor whole, and
+/// end before another unit can come to them, and with requests that it made since its last restart. What it keeps stands in
+/// copies, and so does the packet of which an error report is.
+pub fn networks_of_runs_are_sound()
+    ensures { (plan : Plan) → IsFit plan → IsClosed plan → (moves : List Move)
+        → NetworkIsSound plan (entries_of plan (first_world plan) moves) (world_after plan (first_world plan) moves) }
+{
+    laws_of_steps();
+}
+
+/// Each segment that a system keeps came in a copy, as which it was offered, whatever the moves of whatever plan, and whatever
+/// frames come from outside.
+pub fn what_is_kept_came_in_copies()
+    ensures { (plan : Plan) (moves : List Move) → KeepsWhatCame (world_after plan (first_world plan) moves) }
+{
+    laws_of_steps();
+}
+
 /// Without frames from outside, what a line of a run says of error reports and echo replies that came to
 /// a system is founded on what the system made: the data of a report are the header of a packet of a unit
-/// of its own, and an echo reply answers a request that it made since its last restart, and was made by
+/// of its own, which a copy carries, and an echo reply answers a request that it made since its last restart, and was made by
 /// an owner of its source.
 pub fn reports_and_echoes_are_of_its_own()
     ensures { (plan : Plan) → IsFit plan → IsClosed plan → (moves : List Move) → EachIsFounded plan (first_world plan) [] moves }
@@ -149,11 +180,28 @@ pub fn hops_are_within_lifetimes()
     laws_of_steps();
 }
 
+/// Hops count copies: where a copy carries a packet with hops, another one carries a packet of the same unit with one hop less, of
+/// which that is a range; whatever the moves of whatever plan, and whatever frames come from outside.
+pub fn hops_count_copies()
+    ensures { (plan : Plan) (moves : List Move) → HopsCountCopies (world_after plan (first_world plan) moves) }
+{
+    laws_of_steps();
+}
+
 /// The copies of a world stay, in their order, and no more of them are settled than there are.
 pub fn copies_only_grow()
     ensures copies { (plan : Plan) (w : World) (move : Move) → IsFront w.copies (after plan w move).world.copies }
     ensures cursor { (plan : Plan) (moves : List Move) → IsWithinCopies (world_after plan (first_world plan) moves) }
 {}
+
+/// Where a line of a move tells of a transmission, the copy with its number is for that target, and its frame is those octets,
+/// whatever the world and whatever the move: all that is sent goes by a port that is there.
+pub fn transmissions_are_copies()
+    ensures { (plan : Plan) (w : World) (move : Move) → AllByRecursion (TellsItsCopy (after plan w move).world.copies) (after plan w move).lines }
+{
+    laws_of_steps();
+    machine::what_is_sent_goes_by_a_port();
+}
 
 /// A send that is refused leaves the world as it was, and hands nothing up.
 pub fn refused_leaves_nothing()
@@ -185,6 +233,34 @@ pub fn text_only_grows()
     ensures { (plan : Plan) (w : World) (moves later : List Move) → IsFront moves later → IsFront (text_of plan w moves) (text_of plan w later) }
 {}
 
+/// The runs of a fit scenario are safe: what the laws above say of its journal, of its lines and of its networks, in one record with
+/// a part by its name for each, so that one clause may say it of the scenario that a text is.
+pub fn runs_are_safe()
+    ensures { (plan : Plan) → IsFit plan → RunsAreSafe plan }
+{
+    handed_up_was_sent();
+    no_unit_meets_another();
+    no_frame_is_refused();
+    no_frame_is_alien();
+    reports_and_echoes_are_of_its_own();
+    ranges_of_units_are_carried();
+    no_frame_breaks_a_rule();
+    units_are_held_apart();
+    networks_of_runs_are_sound();
+    all_but_frames_from_outside_carry_ranges();
+    no_pdu_breaks_a_rule();
+    copies_have_their_makers();
+    what_is_kept_came_in_copies();
+    budgets_are_kept();
+    identifiers_rest();
+    hops_are_within_lifetimes();
+    hops_count_copies();
+    headers_keep_their_length();
+    transmissions_are_copies();
+    a_redirect_changes_one_next_hop();
+    clnp_network::laws::the_journal_is_the_text_of_the_run();
+}
+
 /// What the machine's laws say of each step of a system.
 fn laws_of_steps()
     ensures { StepLaws }
@@ -192,12 +268,14 @@ fn laws_of_steps()
     machine::a_system_stays_itself();
     machine::new_units_are_fresh();
     machine::ranges_of_units_are_sent();
+    machine::hops_count_routers();
     machine::what_is_sent_is_carriable();
     machine::hellos_leave_the_rest();
     machine::hellos_are_pdus();
     machine::rules_are_noted_of_octets_alone();
     machine::only_owners_hand_up();
     machine::budgets_are_kept();
+    machine::segments_were_kept_or_come();
     machine::units_are_made_where_allowed();
     machine::what_is_noted_was_told();
     machine::ended_buffers_are_taken_out();

@@ -31,6 +31,7 @@ returns c =
         forgotten = c.requests_are_kept.ensures.forgotten;
         no_restart = c.only_restarts_are_noted_as_such.ensures;
         ranges = c.ranges_of_units_are_sent.ensures;
+        hops = c.hops_count_routers.ensures;
         carriable = c.what_is_sent_is_carriable.ensures.sent;
         kept = c.what_is_sent_is_carriable.ensures.kept;
         esis_pdus = c.hellos_are_pdus.ensures.pdus;
@@ -38,6 +39,7 @@ returns c =
         no_rule = c.rules_are_noted_of_octets_alone.ensures;
         own = c.only_owners_hand_up.ensures;
         budget = c.budgets_are_kept.ensures;
+        kept_or_come = c.segments_were_kept_or_come.ensures;
       };
       deeds = record {
         allowed = c.units_are_made_where_allowed.ensures.allowed;

@@ -1,0 +1,161 @@
+-- All that a system sends goes by a port that is there.
+use Rattle.std.proofs.Common.{◌≡◌, sym, ap, ℕ, zero, suc, ◌+◌, ◌<◌, ◌≤◌, Bool, true, false, List, [], ◌∷◌, length, Option, None, Some, arith}
+use Rattle.std.specs.Prelude.{◌&&◌, not, nat_le, if◌then◌else◌, slice_get}
+use Rattle.std.specs.List.{AllByRecursion, flat_map, list_any, range_with_len}
+use Rattle.std.proofs.lemmas.Option.{slice_get_within}
+use Rattle.clnp_plan.proofs.ClnpBase.Choices.{one_of}
+use Rattle.clnp_plan.proofs.ClnpBase.Lists.{AllByRecursion-append, AllByRecursion-implies, AllByRecursion-map_any, AllByRecursion-mapped}
+use Rattle.clnp_plan.specs.PduHeader.declared.kind.Kind.TheVariants.{Dt, Erq}
+use Rattle.esis_pdus.specs.declared.pdu.EsisBody.{EsisBody}
+use Rattle.esis_pdus.specs.declared.pdu.EsisBody.TheVariants as body
+use Rattle.esis_pdus.specs.declared.pdu.EsisBody.TheVariants.{Esh, Ish}
+use Rattle.esis_pdus.specs.Value.{suggested}
+use Rattle.clnp_plan.specs.EsisTables.declared.fact.Place.{Place}
+use Rattle.clnp_plan.specs.EsisTables.declared.fact.TableKind.TheVariants.{Is}
+use Rattle.clnp_plan.specs.EsisTables.Gone.{gone}
+use Rattle.clnp_plan.specs.Configuration.{SystemConfiguration}
+use Rattle.clnp_plan.specs.declared.config.PortConfig.{PortConfig}
+use Rattle.clnp_plan.specs.declared.config.Role.{Role}
+use Rattle.clnp_plan.specs.declared.config.Role.TheVariants.{Host, Router}
+use Rattle.clnp_machine.specs.Unit as unit
+use Rattle.clnp_machine.specs.Unit.{Packet, cut, whole_packet}
+use Rattle.clnp_machine.specs.Content.{Content, Esis, Labelled, Unlabelled}
+use Rattle.clnp_machine.specs.System.{SystemState, Input, AsksToSend, AsksForEcho, FrameComes, MomentComes, IsRestarted, IsCongested, Output, Transmits, SendsEsis, Notes, Effect, idles, then_does}
+use Rattle.clnp_machine.specs.Esis.{answers_new, end_system_heard, esis_heard, forgets, gone_note, hearers, hears, hears_each, intermediate_system_heard, is_silent, own_hello, redirect_heard, says_hello, tells_new, tells_of_itself}
+use Rattle.clnp_machine.specs.Local.{Action, Sends, Tells, discard, echo_ask, make, receive, requests_echo, tick}
+use Rattle.clnp_machine.specs.Ports.{ComesByPort, GoesByPort, HasPort}
+use Rattle.clnp_machine.specs.Step.{Hop, content_comes, first_sent, hop_by, is_asked_for, octets_come, options_behind, outputs_of, packet_comes, redirects, responds, sent_on, step, transmissions, unit_hop}
+use Rattle.clnp_machine.specs.Steps.{sends_frame}
+use Rattle.clnp_machine.proofs.Answering.{hears_notes, redirect_notes}
+use Rattle.clnp_machine.proofs.Deeds.{discard_is, make_is, octets_are, receive_is, tick_is}
+use Rattle.clnp_machine.proofs.Passing.{packet_does, redirects_are}
+
+-- each number of some in a row is below their end
+each_below : (from count most : ℕ) → from + count ≤ most → AllByRecursion (λ (i : ℕ). i < most) (range_with_len from count)
+each_below from zero most h = tt
+each_below from (suc count) most h = (omega arith, each_below (from + 1) count most (omega arith))
+
+module _ (s : SystemState) where
+  abbrev ByPorts : List Output → Type 0
+  ByPorts outputs = AllByRecursion (GoesByPort s) outputs
+
+  -- Packets.
+
+  transmitted_by : (hop : Hop) (found : Option (List Packet)) → HasPort s hop.port → ByPorts (transmissions hop found)
+  transmitted_by hop None there = (tt, tt)
+  transmitted_by hop (Some pieces) there =
+      AllByRecursion-map_any (GoesByPort s) (λ piece. Transmits hop.port hop.target piece) pieces (λ piece. there)
+
+  sent_by : (hop : Hop) (found : Option PortConfig) (u : unit.Unit) → slice_get s.configuration.ports hop.port ≡ found → ByPorts (sent_on hop found u)
+  sent_by hop None u e = (tt, tt)
+  sent_by hop (Some port) u e =
+      transmitted_by hop (cut (whole_packet u) port.mtu) (slice_get_within s.configuration.ports hop.port port e)
+
+  first_by : (t : SystemState) → t.configuration ≡ s.configuration → (u : unit.Unit) (hop : Option Hop) → ByPorts (first_sent t u hop)
+  first_by t same u None = (tt, tt)
+  first_by t same u (Some hop) =
+      sent_by hop (slice_get t.configuration.ports hop.port) u (ap (λ (c : SystemConfiguration). slice_get c.ports hop.port) (sym same))
+
+  deeds_by : (t : SystemState) → t.configuration ≡ s.configuration → (actions : List Action) → ByPorts (flat_map (outputs_of t) actions)
+  deeds_by t same [] = tt
+  deeds_by t same (Tells told ∷ actions) = (tt, deeds_by t same actions)
+  deeds_by t same (Sends u ∷ actions) =
+      AllByRecursion-append (GoesByPort s) (first_sent t u (unit_hop t u)) (flat_map (outputs_of t) actions) (first_by t same u (unit_hop t u))
+      (deeds_by t same actions)
+
+  packet_by : (came : Place) (p : Packet) (following : List ℕ) → HasPort s came.port → ByPorts (packet_comes s came p following).outputs
+  packet_by came p following here =
+      packet_does (λ effect. ByPorts effect.outputs) s came p following
+      (λ reason of_none.
+      let deed = discard s (Labelled p following) reason 0 in
+      deeds_by deed.after (discard_is s (Labelled p following) reason 0).itself.configuration deed.actions)
+      (λ router way port pieces there alive gives known.
+      let options = options_behind s p.options in
+      AllByRecursion-append (GoesByPort s) (transmissions (hop_by way) (Some pieces)) (redirects s came p options way)
+      (transmitted_by (hop_by way) (Some pieces) (slice_get_within s.configuration.ports way.place.port port there))
+      (redirects_are (GoesByPort s) s came p options way (λ none. here)))
+      (tt, tt) (λ mine. deeds_by (receive s p following).after (receive_is s p following).itself.configuration (receive s p following).actions)
+
+  -- What is said and heard.
+
+  noted_by : (output : Output) → sends_frame output ≡ false → GoesByPort s output
+  noted_by (Transmits port target packet) silent = absurd (cc)
+  noted_by (SendsEsis port target value) silent = absurd (cc)
+  noted_by (Notes note) silent = tt
+
+  hears_by : (t : SystemState) (addresses : List (List ℕ)) (place : Place) (holding : ℕ) → ByPorts (hears_each t addresses place holding).outputs
+  hears_by t addresses place holding =
+      AllByRecursion-implies (λ output. sends_frame output ≡ false) (GoesByPort s) noted_by (hears_each t addresses place holding).outputs
+      (hears_notes t addresses place holding)
+
+  one_by : (test : Bool) (first second : Effect) → ByPorts first.outputs → ByPorts second.outputs → ByPorts (if test then first else second).outputs
+  one_by test first second h k = one_of (λ (effect : Effect). ByPorts effect.outputs) test first second h k
+
+  told_by : (t : SystemState) (place : Place) → HasPort s place.port → ByPorts (tells_of_itself t place.port place.snpa).outputs
+  told_by t place here = one_by (is_silent t) (idles t) _ tt (here, tt)
+
+  says_by : (t : SystemState) → t.configuration ≡ s.configuration → ByPorts (says_hello t).outputs
+  says_by t same =
+      let count : length t.configuration.ports ≡ length s.configuration.ports = ap (λ (c : SystemConfiguration). length c.ports) same in
+      one_by (not (is_silent t) && nat_le t.next_hello t.moment) _ (idles t)
+      (AllByRecursion-mapped (λ (port : ℕ). port < length s.configuration.ports) (GoesByPort s)
+      (λ port. SendsEsis port (hearers t.configuration.role) (own_hello t)) (range_with_len 0 (length t.configuration.ports)) (λ port there. there)
+      (each_below 0 (length t.configuration.ports) (length s.configuration.ports) (omega arith)))
+      tt
+
+  answers_by : (heard : Effect) (place : Place) → HasPort s place.port → ByPorts heard.outputs → ByPorts (answers_new heard place).outputs
+  answers_by heard place here h =
+      let t = heard.after in
+      AllByRecursion-append (GoesByPort s) heard.outputs (if list_any tells_new heard.outputs then tells_of_itself t place.port place.snpa else idles t).outputs h
+      (one_by (list_any tells_new heard.outputs) _ _ (told_by t place here) tt)
+
+  end_system_by : (role : Role) (place : Place) (holding : ℕ) (addresses : List (List ℕ)) → HasPort s place.port
+      → ByPorts (end_system_heard role s place holding addresses).outputs
+  end_system_by Host place holding addresses here = hears_by s addresses place holding
+  end_system_by Router place holding addresses here = answers_by (hears_each s addresses place holding) place here (hears_by s addresses place holding)
+
+  intermediate_system_by : (role : Role) (place : Place) (holding : ℕ) (title : List ℕ) (timer : Option ℕ) → HasPort s place.port
+      → ByPorts (intermediate_system_heard role s place holding title timer).outputs
+  intermediate_system_by Host place holding title timer here =
+      let heard = hears s Is title place holding in
+      AllByRecursion-append (GoesByPort s) (answers_new heard place).outputs [] (answers_by heard place here (tt, tt)) tt
+  intermediate_system_by Router place holding title timer here = (tt, tt)
+
+  heard_by : (role : Role) (place : Place) (holding : ℕ) (told : EsisBody) (timer : Option ℕ) → HasPort s place.port
+      → ByPorts (esis_heard role s place holding told timer).outputs
+  heard_by role place holding (Esh addresses) timer here = end_system_by role place holding addresses here
+  heard_by role place holding (Ish title) timer here = intermediate_system_by role place holding title timer here
+  heard_by role place holding (body.Rd to via title) timer here =
+      AllByRecursion-implies (λ output. sends_frame output ≡ false) (GoesByPort s) noted_by (redirect_heard role s place holding to via).outputs
+      (redirect_notes role s place holding to via)
+
+  -- Whatever comes.
+
+  content_by : (place : Place) (to_group : Bool) (content : Content) → HasPort s place.port → ByPorts (content_comes s place to_group content).outputs
+  content_by place to_group (Labelled p following) here =
+      let come = packet_comes s place p following in
+      let t = come.after in
+      AllByRecursion-append (GoesByPort s) come.outputs (responds t place to_group p).outputs (packet_by place p following here)
+      (one_by (is_asked_for t.configuration.role t to_group p) _ _ (told_by t place here) tt)
+  content_by place to_group (Esis value following) here =
+      heard_by s.configuration.role place value.holding value.body (suggested value.body value.options) here
+  content_by place to_group (Unlabelled octets) here =
+      deeds_by (octets_come s octets).after (octets_are s octets).itself.configuration (octets_come s octets).actions
+
+  pub step_by : (input : Input) → ComesByPort s input → ByPorts (step s input).outputs
+  step_by (AsksToSend from to octets ask) here =
+      deeds_by (make s Dt from to octets ask).after (make_is s Dt from to octets ask).itself.configuration (make s Dt from to octets ask).actions
+  step_by (AsksForEcho from to octets) here =
+      let deed = requests_echo s from to octets in
+      deeds_by deed.after (make_is s Erq from to octets (echo_ask s from to (length octets) true)).itself.configuration deed.actions
+  step_by (FrameComes port sender to_group content) here = content_by (record { port = port; snpa = sender }) to_group content here
+  step_by (MomentComes now) here =
+      let deed = tick s now in
+      let t = deed.after in
+      let u = (forgets s.moment t).after in
+      AllByRecursion-append (GoesByPort s) (flat_map (outputs_of t) deed.actions) (then_does (forgets s.moment t) says_hello).outputs
+      (deeds_by t (tick_is s now).itself.configuration deed.actions)
+      (AllByRecursion-append (GoesByPort s) (forgets s.moment t).outputs (says_hello u).outputs
+      (AllByRecursion-map_any (GoesByPort s) gone_note (gone s.moment t.moment t.facts) (λ key. tt)) (says_by u (tick_is s now).itself.configuration))
+  step_by IsRestarted here = (tt, tt)
+  step_by (IsCongested on) here = (tt, tt)

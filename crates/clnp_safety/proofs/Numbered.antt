@@ -1,0 +1,271 @@
+-- Each transmission that a line tells of is the copy with its number, since all that is sent goes by a port that is there.
+use Rattle.clnp_machine.proofs.ClnpBase.Lists.{AllByRecursion-append, AllByRecursion-implies, set_each, slice_get-push, slice_get_some}
+use Rattle.std.proofs.Common.{◌≡◌, ◌∙◌, refl, sym, ap, subst, ℕ, zero, suc, ◌+◌, ◌-◌, ◌<◌, inl, inr, true, List, [], ◌∷◌, ◌++◌, append-nil, length, Option, None, Some, arith}
+use Rattle.std.specs.Prelude.{slice_get}
+use Rattle.std.specs.List.{AllByRecursion, list_any, range_with_len}
+use Rattle.std.proofs.lemmas.Bool.{cases_Bool}
+use Rattle.std.proofs.lemmas.Option.{same_Some}
+use Rattle.clnp_machine.specs.Nsap.declared.target.Target.{Target}
+use Rattle.clnp_machine.specs.ClnpPlan.Configuration.{SystemConfiguration}
+use Rattle.clnp_machine.specs.ClnpPlan.Journal.{Line, Transmitted, Void, Late}
+use Rattle.clnp_machine.specs.ClnpPlan.declared.config.Limits.{Limits}
+use Rattle.clnp_machine.specs.ClnpPlan.declared.config.PortConfig.{PortConfig}
+use Rattle.clnp_machine.specs.ClnpPlan.declared.config.Role.{Role}
+use Rattle.clnp_machine.specs.ClnpPlan.declared.config.Role.TheVariants.{Host, Router}
+use Rattle.clnp_network.specs.Scenario.Scenario.{Plan, Subnetwork, octets_of}
+use Rattle.clnp_network.specs.Scenario.declared.event.Event.{Event}
+use Rattle.clnp_network.specs.Scenario.declared.event.Event.TheVariants.{Send, Echo, Deliver, Settle, Lose, Tick, Restart, Congest, Inject}
+use Rattle.clnp_network.specs.Scenario.declared.event.Move.{Move}
+use Rattle.clnp_network.specs.Scenario.declared.event.Move.TheVariants.{One, SettleOne, LoseOne, TickOne}
+use Rattle.clnp_machine.specs.Unit.{Maker, DeclaredAt}
+use Rattle.clnp_machine.specs.Content.{Content, Labelled, Esis, frame_of}
+use Rattle.clnp_machine.specs.System.{SystemState, Input, AsksToSend, AsksForEcho, MomentComes, IsRestarted, IsCongested, Output, Transmits, SendsEsis, Notes, Effect}
+use Rattle.clnp_machine.specs.Ports.{ComesByPort, GoesByPort}
+use Rattle.clnp_machine.specs.Step.{step}
+use Rattle.clnp_network.specs.World.{World, Copy, Numbered, Step, addressees_from, after, asks_role, asks_system, comes, comes_to, copy_from, deliver_at, deliver_to, enters, event_happens, first_port, followed_by, frame_to, give, give_each, give_to, injects_on, is_addressee, is_late, lose_copy, nothing, put_all_out, put_out, sends_frame, settle_copy, takes_effect, tick_each, with_effect, writes}
+use Rattle.clnp_safety.specs.Growth.{IsCopyAt, IsFront, TellsItsCopy}
+use Rattle.clnp_safety.specs.StepLaws.{StepLaws}
+use Rattle.clnp_safety.proofs.Grows.{front-more}
+use Rattle.clnp_safety.proofs.Redirects.{systems_after}
+
+-- Copies stay where they are.
+
+got_before : {X : Type 0} (xs ys : List X) (i : ℕ) (x : X) → slice_get xs i ≡ Some x → slice_get (xs ++ ys) i ≡ Some x
+got_before [] ys i x e = absurd (cc)
+got_before (y ∷ xs) ys zero x e = e
+got_before (y ∷ xs) ys (suc i) x e = got_before xs ys i x e
+
+line_later : (copies more : List Copy) (line : Line) → TellsItsCopy copies line → TellsItsCopy (copies ++ more) line
+line_later copies more (Transmitted now name number port target octets) h = record {
+  copy = h.copy;
+  there = got_before copies more (number - 1) h.copy h.there;
+  for_target = h.for_target;
+  carries = h.carries;
+}
+line_later copies more _ h = tt
+
+-- the copies of a world stay after a part of a move, and each line tells of its copy
+record Tells (w : World) (taken : Step) : Type 0 where
+  front : IsFront w.copies taken.world.copies
+  lines : AllByRecursion (TellsItsCopy taken.world.copies) taken.lines
+
+tells_both : (w : World) (first : Step) (next : World → Step) → Tells w first → Tells first.world (next first.world) → Tells w (followed_by first next)
+tells_both w first next h k =
+    let later : List Copy = (next first.world).world.copies in
+    let more = k.front in
+    record {
+      front = subst (IsFront w.copies) (sym more.1) (front-more w.copies first.world.copies more.0 h.front);
+      lines = AllByRecursion-append (TellsItsCopy later) first.lines (next first.world).lines
+          (subst (λ (copies : List Copy). AllByRecursion (TellsItsCopy copies) first.lines) (sym more.1)
+          (AllByRecursion-implies (TellsItsCopy first.world.copies) (TellsItsCopy (first.world.copies ++ more.0)) (line_later first.world.copies more.0) first.lines
+          h.lines))
+          k.lines;
+    }
+
+tells_nothing : (w : World) → Tells w (nothing w)
+tells_nothing w = record { front = ([], sym (append-nil w.copies)); lines = tt }
+
+tells_line : (w : World) (line : Line) → TellsItsCopy w.copies line → Tells w (writes w line)
+tells_line w line h = record { front = ([], sym (append-nil w.copies)); lines = (h, tt) }
+
+-- What a system gives out.
+
+frame_tells : (system : SystemState) (w : World) (port : ℕ) (target : Target) (maker : Maker) (birth : ℕ) (content : Content)
+    → port < length system.configuration.ports → Tells w (sends_frame system w port target maker birth content)
+frame_tells system w port target maker birth content within =
+    let found = slice_get_some system.configuration.ports port within in
+    let at : length w.copies ≡ length w.copies + 1 - 1 = omega arith in
+    let copy : Copy = record { subnet = found.0.subnet; sender = found.0.snpa; target = target; maker = maker; birth = birth; content = content } in
+    record {
+      front = (copy_from (slice_get system.configuration.ports port) target maker birth content, refl);
+      lines = (
+        subst (λ (config : Option PortConfig).
+            IsCopyAt (w.copies ++ copy_from config target maker birth content) (length w.copies + 1) target (frame_of content)) (sym found.1)
+            (record { copy = copy; there = slice_get-push w.copies (length w.copies + 1 - 1) copy at; for_target = refl; carries = refl }),
+        tt,
+      );
+    }
+
+output_tells : (system : SystemState) (output : Output) → GoesByPort system output → (w : World) → Tells w (put_out system w output)
+output_tells system (Notes note) goes w = tells_line w _ tt
+output_tells system (Transmits port target packet) goes w =
+    frame_tells system w port target packet.unit.maker packet.unit.made (Labelled packet []) goes
+output_tells system (SendsEsis port target value) goes w = frame_tells system w port target (DeclaredAt system.place) w.clock (Esis value []) goes
+
+outputs_tell : (system : SystemState) (outputs : List Output) → AllByRecursion (GoesByPort system) outputs → (w : World) → Tells w (put_all_out system w outputs)
+outputs_tell system [] all w = tells_nothing w
+outputs_tell system (output ∷ outputs) all w =
+    tells_both w (put_out system w output) (λ v. put_all_out system v outputs) (output_tells system output all.0 w)
+    (outputs_tell system outputs all.1 (put_out system w output).world)
+
+goes_after : (s t : SystemState) → t.configuration ≡ s.configuration → (output : Output) → GoesByPort s output → GoesByPort t output
+goes_after s t same (Transmits port target packet) h = subst (λ (c : SystemConfiguration). port < length c.ports) (sym same) h
+goes_after s t same (SendsEsis port target value) h = subst (λ (c : SystemConfiguration). port < length c.ports) (sym same) h
+goes_after s t same (Notes note) h = tt
+
+-- the machine's law on ports
+abbrev pub GoByPorts : Type 0
+GoByPorts = (s : SystemState) (input : Input) → ComesByPort s input → AllByRecursion (GoesByPort s) (step s input).outputs
+
+-- the first port by which a copy comes in is there, where there is one
+first_is_there : (copy : Copy) (role : Role) (ports : List PortConfig) → list_any (enters copy role) ports ≡ true → first_port copy role ports < length ports
+first_is_there copy role [] any = absurd (cc)
+first_is_there copy role (port ∷ ports) any =
+    elim (cases_Bool (enters copy role port)) [
+      | inl here ↦ rw here (omega arith)
+      | inr other ↦ let rest = first_is_there copy role ports (rw other at any) in rw other (omega arith)
+    ]
+
+-- the systems of a world were configured as some others are at their places
+abbrev AreConfigured : List SystemState → World → Type 0
+AreConfigured base w =
+    (place : ℕ) (s : SystemState) → slice_get w.systems place ≡ Some s → (first : SystemState) × (slice_get base place ≡ Some first) × (s.configuration ≡ first.configuration)
+
+-- a copy is for the system at a place
+abbrev IsFor : List SystemState → Copy → ℕ → Type 0
+IsFor base copy place = (s : SystemState) → slice_get base place ≡ Some s → is_addressee copy s.configuration ≡ true
+
+each_is_for : (base : List SystemState) (copy : Copy) (from : ℕ) (systems : List SystemState) → ((k : ℕ) → slice_get systems k ≡ slice_get base (from + k))
+    → AllByRecursion (IsFor base copy) (addressees_from from copy systems)
+each_is_for base copy from [] same = tt
+each_is_for base copy from (system ∷ systems) same =
+    let first : slice_get base from ≡ Some system =
+    ap (slice_get base) (let none : from ≡ from + 0 = omega arith in none) ∙ sym (same 0) in
+    let rest = each_is_for base copy (from + 1) systems
+    (λ k. same (suc k) ∙ ap (slice_get base) (let next : from + suc k ≡ from + 1 + k = omega arith in next)) in
+    elim (cases_Bool (is_addressee copy system.configuration)) [
+      | inl is ↦ rw is ((λ s e. subst (λ (t : SystemState). is_addressee copy t.configuration ≡ true) (same_Some system s (sym first ∙ e)) is), rest)
+      | inr isnt ↦ rw isnt rest
+    ]
+
+module _ (laws : StepLaws) (ports : GoByPorts) where
+  effect_tells : (w : World) (place : ℕ) (s : SystemState) (input : Input) → ComesByPort s input → Tells w (takes_effect w place (step s input))
+  effect_tells w place s input comes =
+      let effect : Effect = step s input in
+      let told = outputs_tell effect.after effect.outputs
+      (AllByRecursion-implies (GoesByPort s) (GoesByPort effect.after) (goes_after s effect.after (laws.steps.itself s input).configuration) effect.outputs
+      (ports s input comes)) (with_effect w place effect) in
+      record { front = told.front; lines = told.lines }
+
+  comes_to_tells : (w : World) (place : ℕ) (input : Input) → ((s : SystemState) → ComesByPort s input) → (found : Option SystemState) → Tells w (comes_to w place input found)
+  comes_to_tells w place input any None = tells_nothing w
+  comes_to_tells w place input any (Some s) = effect_tells w place s input (any s)
+
+  comes_tells : (w : World) (place : ℕ) (input : Input) → ((s : SystemState) → ComesByPort s input) → Tells w (comes w place input)
+  comes_tells w place input any = comes_to_tells w place input any (slice_get w.systems place)
+
+  role_tells : (role : Role) (w : World) (place : ℕ) (input : Input) → ((s : SystemState) → ComesByPort s input) → Tells w (asks_role role w place input)
+  role_tells Host w place input any = comes_tells w place input any
+  role_tells Router w place input any = tells_nothing w
+
+  asks_tells : (w : World) (place : ℕ) (input : Input) → ((s : SystemState) → ComesByPort s input) → (found : Option SystemState) → Tells w (asks_system w place input found)
+  asks_tells w place input any None = tells_nothing w
+  asks_tells w place input any (Some system) = role_tells system.configuration.role w place input any
+
+  tick_each_tells : (places : List ℕ) (w : World) → Tells w (tick_each w places)
+  tick_each_tells [] w = tells_nothing w
+  tick_each_tells (place ∷ places) w =
+      tells_both w (comes w place (MomentComes w.clock)) (λ v. tick_each v places) (comes_tells w place (MomentComes w.clock) (λ s. tt))
+      (tick_each_tells places (comes w place (MomentComes w.clock)).world)
+
+  -- Copies that are given.
+
+  module _ (limits : Limits) (given : Numbered) where
+    give_to_tells : (w : World) (place : ℕ) (found : Option SystemState) → ((s : SystemState) → found ≡ Some s → is_addressee given.copy s.configuration ≡ true)
+        → Tells w (give_to limits given w place found)
+    give_to_tells w place None for = tells_nothing w
+    give_to_tells w place (Some s) for =
+        elim (cases_Bool (is_late limits w given.copy)) [
+          | inl late ↦ rw late (tells_line w (Late w.clock s.configuration.name given.number) tt)
+          | inr soon ↦
+              rw soon
+              (effect_tells w place s (frame_to s given.copy)
+              (first_is_there given.copy s.configuration.role s.configuration.ports (for s refl)))
+        ]
+
+    module _ (base : List SystemState) where
+      given_configured : (w : World) (place : ℕ) (found : Option SystemState) → slice_get w.systems place ≡ found → AreConfigured base w
+          → AreConfigured base (give_to limits given w place found).world
+      given_configured w place None e k = k
+      given_configured w place (Some s) e k =
+          let input = frame_to s given.copy in
+          let effect : Effect = step s input in
+          let was = k place s e in
+          elim (cases_Bool (is_late limits w given.copy)) [
+            | inl late ↦ rw late k
+            | inr soon ↦
+                rw soon
+                (subst (λ (systems : List SystemState). (at : ℕ) (t : SystemState) → slice_get systems at ≡ Some t
+                → (first : SystemState) × (slice_get base at ≡ Some first) × (t.configuration ≡ first.configuration))
+                (sym (systems_after w place effect))
+                (set_each (λ at t. (first : SystemState) × (slice_get base at ≡ Some first) × (t.configuration ≡ first.configuration))
+                (λ at t. (first : SystemState) × (slice_get base at ≡ Some first) × (t.configuration ≡ first.configuration)) w.systems place effect.after k
+                (λ other t apart h. h) (was.0, was.1, (laws.steps.itself s input).configuration ∙ was.2)))
+          ]
+
+      give_each_tells : (places : List ℕ) → AllByRecursion (IsFor base given.copy) places → (w : World) → AreConfigured base w → Tells w (give_each limits given w places)
+      give_each_tells [] for w k = tells_nothing w
+      give_each_tells (place ∷ places) for w k =
+          tells_both w (give limits given w place) (λ v. give_each limits given v places)
+          (give_to_tells w place (slice_get w.systems place)
+          (λ s e. let was = k place s e in subst (λ (c : SystemConfiguration). is_addressee given.copy c ≡ true) (sym was.2) (for.0 was.0 was.1)))
+          (give_each_tells places for.1 (give limits given w place).world (given_configured w place (slice_get w.systems place) refl k))
+
+  settle_tells : (limits : Limits) (w : World) (found : Option Copy) → Tells w (settle_copy limits w found)
+  settle_tells limits w None = tells_nothing w
+  settle_tells limits w (Some copy) =
+      let given : Numbered = record { number = w.cursor + 1; copy = copy } in
+      let told = give_each_tells limits given w.systems (addressees_from 0 copy w.systems)
+      (each_is_for w.systems copy 0 w.systems (λ k. ap (slice_get w.systems) (let same : k ≡ 0 + k = omega arith in same)))
+      (record w { cursor = w.cursor + 1 }) (λ place s e. (s, e, refl)) in
+      record { front = told.front; lines = told.lines }
+
+  lose_tells : (w : World) (found : Option Copy) → Tells w (lose_copy w found)
+  lose_tells w None = tells_nothing w
+  lose_tells w (Some copy) = record { front = ([], sym (append-nil w.copies)); lines = tt }
+
+  deliver_to_tells : (limits : Limits) (w : World) (number place : ℕ) (found : Option Copy) (system : SystemState) → slice_get w.systems place ≡ Some system
+      → Tells w (deliver_to limits w number place found system)
+  deliver_to_tells limits w number place None system e = tells_line w (Void w.clock system.configuration.name number) tt
+  deliver_to_tells limits w number place (Some copy) system e =
+      elim (cases_Bool (is_addressee copy system.configuration)) [
+        | inl is ↦
+            rw is
+            (give_to_tells limits (record { number = number; copy = copy }) w place (slice_get w.systems place)
+            (λ s there. subst (λ (t : SystemState). is_addressee copy t.configuration ≡ true) (same_Some system s (sym e ∙ there)) is))
+        | inr isnt ↦ rw isnt (tells_line w (Void w.clock system.configuration.name number) tt)
+      ]
+
+  deliver_tells : (limits : Limits) (w : World) (number place : ℕ) (found : Option SystemState) → slice_get w.systems place ≡ found
+      → Tells w (deliver_at limits w number place found)
+  deliver_tells limits w number place None e = tells_nothing w
+  deliver_tells limits w number place (Some system) e = deliver_to_tells limits w number place (slice_get w.copies (number - 1)) system e
+
+  injects_tells : (w : World) (subnet : ℕ) (found : Option Subnetwork) (sender : List ℕ) (target : Target) (octets : List ℕ)
+      → Tells w (injects_on w subnet found sender target octets)
+  injects_tells w subnet None sender target octets = tells_nothing w
+  injects_tells w subnet (Some declared) sender target octets = record { front = (_, refl); lines = (tt, tt) }
+
+  event_tells : (subnets : List Subnetwork) (limits : Limits) (w : World) (asked : Option Event) → Tells w (event_happens subnets limits w asked)
+  event_tells subnets limits w None = tells_nothing w
+  event_tells subnets limits w (Some (Settle count)) = tells_nothing w
+  event_tells subnets limits w (Some (Lose count)) = tells_nothing w
+  event_tells subnets limits w (Some (Tick count)) = tells_nothing w
+  event_tells subnets limits w (Some (Deliver copy system)) = deliver_tells limits w copy system (slice_get w.systems system) refl
+  event_tells subnets limits w (Some (Restart system)) = comes_tells w system IsRestarted (λ s. tt)
+  event_tells subnets limits w (Some (Congest system on)) = comes_tells w system (IsCongested on) (λ s. tt)
+  event_tells subnets limits w (Some (Send system from to body ask)) =
+      asks_tells w system (AsksToSend from to (octets_of body) ask) (λ s. tt) (slice_get w.systems system)
+  event_tells subnets limits w (Some (Echo system from to body)) = comes_tells w system (AsksForEcho from to (octets_of body)) (λ s. tt)
+  event_tells subnets limits w (Some (Inject subnet from to octets)) = injects_tells w subnet (slice_get subnets subnet) from to octets
+
+  move_tells : (plan : Plan) (w : World) (move : Move) → Tells w (after plan w move)
+  move_tells plan w (One place) = event_tells plan.subnets plan.limits w (slice_get plan.events place)
+  move_tells plan w SettleOne = settle_tells plan.limits w (slice_get w.copies w.cursor)
+  move_tells plan w LoseOne = lose_tells w (slice_get w.copies w.cursor)
+  move_tells plan w TickOne =
+      let told = tick_each_tells (range_with_len 0 (length w.systems)) (record w { clock = w.clock + 1 }) in
+      record { front = told.front; lines = told.lines }
+
+  pub lines_tell : (plan : Plan) (w : World) (move : Move) → AllByRecursion (TellsItsCopy (after plan w move).world.copies) (after plan w move).lines
+  lines_tell plan w move = (move_tells plan w move).lines

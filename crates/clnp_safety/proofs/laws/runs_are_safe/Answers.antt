@@ -1,0 +1,29 @@
+use Rattle.clnp_network.specs.Run.{moves_made}
+use Rattle.clnp_safety.proofs.laws.runs_are_safe.Goals as goal
+
+pub returns : goal.returns
+returns c plan fit = record {
+  closed = λ closed. record {
+    safe = c.handed_up_was_sent.ensures.run plan fit closed;
+    apart = c.no_unit_meets_another.ensures plan fit closed (moves_made plan);
+    unrefused = c.no_frame_is_refused.ensures plan fit closed (moves_made plan);
+    known = c.no_frame_is_alien.ensures plan fit closed (moves_made plan);
+    founded = c.reports_and_echoes_are_of_its_own.ensures plan fit closed;
+    carried = c.ranges_of_units_are_carried.ensures plan fit closed;
+    unbroken = c.no_frame_breaks_a_rule.ensures plan fit closed;
+    held_apart = c.units_are_held_apart.ensures plan fit closed;
+    sound = c.networks_of_runs_are_sound.ensures plan fit closed;
+  };
+  journal_is = c.the_journal_is_the_text_of_the_run.ensures.journal plan;
+  traced = c.all_but_frames_from_outside_carry_ranges.ensures plan fit;
+  obeyed = c.no_pdu_breaks_a_rule.ensures plan fit;
+  made = c.copies_have_their_makers.ensures plan;
+  kept = c.what_is_kept_came_in_copies.ensures plan;
+  bounded = c.budgets_are_kept.ensures plan;
+  rest = c.identifiers_rest.ensures plan;
+  lifetimes = c.hops_are_within_lifetimes.ensures plan;
+  hops = c.hops_count_copies.ensures plan;
+  headers = c.headers_keep_their_length.ensures plan fit;
+  told = c.transmissions_are_copies.ensures plan;
+  redirects = c.a_redirect_changes_one_next_hop.ensures plan.limits;
+}

@@ -1,0 +1,54 @@
+-- What is safe about the runs of a scenario, and about whatever moves of it, each part by its name.
+use Rattle.std.specs.Prelude.{◌≡◌, List, [], ◌++◌}
+use Rattle.std.specs.List.{AllByRecursion, flat_map}
+use Rattle.clnp_network.specs.Scenario.Scenario.{Plan, IsClosed}
+use Rattle.clnp_network.specs.Scenario.declared.event.Move.{Move}
+use Rattle.clnp_network.specs.World.{World, after, first_world}
+use Rattle.clnp_network.specs.Run.{Entry, ending, entries_of, entry_text, journal, last_world, run, stopped_at, world_after}
+use Rattle.clnp_network.specs.Safe.{CarriesRanges, EachIsFounded, FramesAreUnbroken, HoldsUnitsApart, HopsCountCopies, IdentifiersRest, IsHonest, IsWithinBudgets, IsWithinLifetimes, KeepsHeaders, KeepsWhatCame, NoInterference, NoneIsAlien, RedirectsChangeOneNextHop, TellsNoRule}
+use Rattle.clnp_safety.specs.Growth.{TellsItsCopy}
+use Rattle.clnp_safety.specs.Invariant.{NetworkIsSound}
+use Rattle.clnp_safety.specs.Outside.{CarriesRangesOrOutside, EachHasItsMaker, PdusAreUnbroken}
+
+-- Without frames from outside.
+pub record ClosedRunsAreSafe (plan : Plan) : Type 0 where
+  -- the run hands up only what it sent before
+  pub safe : IsHonest plan (run plan)
+  -- no segment meets another unit's in a buffer
+  pub apart : AllByRecursion (λ (entry : Entry). NoInterference entry.lines) (run plan)
+  -- no line says that a frame broke a rule of its protocol, or was of none
+  pub unrefused : AllByRecursion (λ (entry : Entry). AllByRecursion TellsNoRule entry.lines) (run plan)
+  pub known : AllByRecursion (λ (entry : Entry). NoneIsAlien entry.lines) (run plan)
+  -- what lines say of reports and echo replies is founded on what the system made
+  pub founded : (moves : List Move) → EachIsFounded plan (first_world plan) [] moves
+  -- each copy carries a range of a unit that was made, or an ES-IS PDU, and its frame breaks no rule
+  pub carried : (moves : List Move) → CarriesRanges (world_after plan (first_world plan) moves)
+  pub unbroken : (moves : List Move) → FramesAreUnbroken (world_after plan (first_world plan) moves)
+  -- each buffer holds segments of one unit, which stand in copies
+  pub held_apart : (moves : List Move) → HoldsUnitsApart (world_after plan (first_world plan) moves)
+  -- and the whole network is sound beside the entries that led to it
+  pub sound : (moves : List Move) → NetworkIsSound plan (entries_of plan (first_world plan) moves) (world_after plan (first_world plan) moves)
+
+-- What is safe about the runs of a scenario, whatever comes from outside, and besides where nothing does.
+pub record RunsAreSafe (plan : Plan) : Type 0 where
+  pub closed : IsClosed plan → ClosedRunsAreSafe plan
+  -- the journal is the text of the run
+  pub journal_is : journal plan ≡ flat_map entry_text (run plan) ++ ending (stopped_at plan) (last_world plan)
+  -- what a copy carries was made outside, or is such a range or ES-IS PDU; what carries a PDU breaks no rule
+  pub traced : (moves : List Move) → CarriesRangesOrOutside (world_after plan (first_world plan) moves)
+  pub obeyed : (moves : List Move) → PdusAreUnbroken (world_after plan (first_world plan) moves)
+  -- what was made outside was brought by an event
+  pub made : (moves : List Move) → EachHasItsMaker plan (world_after plan (first_world plan) moves)
+  -- what a system keeps came in a copy, and no more octets than it may hold
+  pub kept : (moves : List Move) → KeepsWhatCame (world_after plan (first_world plan) moves)
+  pub bounded : (moves : List Move) → IsWithinBudgets (world_after plan (first_world plan) moves)
+  -- identifiers rest
+  pub rest : (moves : List Move) → IdentifiersRest plan.limits.reuse (world_after plan (first_world plan) moves)
+  -- hops and lifetime are within the unit's lifetime, hops count copies, and headers keep their length
+  pub lifetimes : (moves : List Move) → IsWithinLifetimes (world_after plan (first_world plan) moves)
+  pub hops : (moves : List Move) → HopsCountCopies (world_after plan (first_world plan) moves)
+  pub headers : (moves : List Move) → KeepsHeaders (world_after plan (first_world plan) moves)
+  -- each transmission that a line tells of is the copy with its number
+  pub told : (w : World) (move : Move) → AllByRecursion (TellsItsCopy (after plan w move).world.copies) (after plan w move).lines
+  -- a redirect changes its destination's next hop alone
+  pub redirects : (w : World) → RedirectsChangeOneNextHop plan.limits w
