@@ -10,3 +10,4 @@ pub mod Play
 pub mod Storm
 pub mod Counting
 pub mod Exit
+pub mod Serves

@@ -1,5 +1,5 @@
 //! A call of the program over its words, its input, its output and standard error.
-ghost use Rattle.std.specs.Prelude.{◌≡◌, map, string_bytes};
+ghost use Rattle.std.specs.Prelude.{◌≡◌, ◌≤◌, map, string_bytes};
 ghost use Rattle.clnp_commands.specs.ClnpBase.Streams.{Rose};
 ghost use Rattle.clnp_program.specs.Answers.{Answers, Ends, Informs};
 
@@ -18,8 +18,14 @@ pub fn run<S: Source, K: Sink, E: Sink>(
     sink: &mut K,
     errors: &mut E,
 ) -> u8
-    ensures { (status : Status) × Ends status result (E.written errors.old) (E.written errors.new) (Rose (E.faults errors.old) (E.faults errors.new))
+    // The counts of faults never fall.
+    ensures later { (S.faults source.old ≤ S.faults source.new)
+        × ((K.faults sink.old ≤ K.faults sink.new) × (E.faults errors.old ≤ E.faults errors.new)) }
+
+    // There is a status that the words, the source and the sink come to, and the exit number and what is said are its.
+    ensures answers { (status : Status) × Ends status result (E.written errors.old) (E.written errors.new) (Rose (E.faults errors.old) (E.faults errors.new))
         × Answers (map string_bytes words.now) (S.left source.old) (S.left source.new) (K.written sink.old) (K.written sink.new)
+        (source.new ≡ source.old) (sink.new ≡ sink.old)
         (Rose (S.faults source.old) (S.faults source.new)) (Rose (K.faults sink.old) (K.faults sink.new)) status }
 {
     let status = answer(alloc, words, source, sink);
@@ -30,7 +36,8 @@ pub fn run<S: Source, K: Sink, E: Sink>(
 ///
 /// Where standard error fails too, the exit number alone tells.
 pub fn end<E: Sink>(status: Status, errors: &mut E) -> u8
-    ensures { Ends status result (E.written errors.old) (E.written errors.new) (Rose (E.faults errors.old) (E.faults errors.new)) }
+    ensures later { E.faults errors.old ≤ E.faults errors.new }
+    ensures ends { Ends status result (E.written errors.old) (E.written errors.new) (Rose (E.faults errors.old) (E.faults errors.new)) }
 {
     let _ = report(status, errors);
     status.exit_number()
@@ -43,7 +50,9 @@ fn answer<S: Source, K: Sink>(
     source: &mut S,
     sink: &mut K,
 ) -> Status
-    ensures { Answers (map string_bytes words.now) (S.left source.old) (S.left source.new) (K.written sink.old) (K.written sink.new)
+    ensures later { (S.faults source.old ≤ S.faults source.new) × (K.faults sink.old ≤ K.faults sink.new) }
+    ensures answers { Answers (map string_bytes words.now) (S.left source.old) (S.left source.new) (K.written sink.old) (K.written sink.new)
+        (source.new ≡ source.old) (sink.new ≡ sink.old)
         (Rose (S.faults source.old) (S.faults source.new)) (Rose (K.faults sink.old) (K.faults sink.new)) result }
 {
     match information(words) {
@@ -54,7 +63,8 @@ fn answer<S: Source, K: Sink>(
 
 /// Writes a text about the program.
 fn inform<K: Sink>(text: &str, sink: &mut K) -> Status
-    ensures { Informs text.now (K.written sink.old) (K.written sink.new) (Rose (K.faults sink.old) (K.faults sink.new)) result }
+    ensures later { K.faults sink.old ≤ K.faults sink.new }
+    ensures informs { Informs text.now (K.written sink.old) (K.written sink.new) (Rose (K.faults sink.old) (K.faults sink.new)) result }
 {
     match write_all(sink, text.as_bytes()) {
         Ok(()) => Status::Done,

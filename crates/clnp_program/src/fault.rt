@@ -1,14 +1,22 @@
 //! How a call of the program ends: what is said on standard error, and the exit number.
-ghost use Rattle.std.specs.Prelude.{◌≡◌, ◌≤◌, ◌++◌, OnOk, OnErr};
+ghost use Rattle.std.specs.Prelude.{◌≡◌, ◌≤◌, ◌++◌, codes, OnOk, OnErr};
 ghost use Rattle.std.specs.Io.KnownBytes.{Appends};
-ghost use Rattle.std.specs.Fmt.{decimal};
 ghost use Rattle.clnp_commands.specs.ClnpBase.Streams.{Rose};
-ghost use Rattle.clnp_program.specs.Texts.{code_name, fault_of, fault_text, said};
+ghost use Rattle.clnp_program.specs.Answers.{Tells, TellsFault};
+ghost use Rattle.clnp_program.specs.Faults.{fault_of};
+ghost use Rattle.clnp_program.specs.Texts.{behind_fault, wanted};
 
+use arrayvec::ArrayString;
 use clnp_commands::Status;
 use clnp_commands::clnp_base::{Failed, Sink, write_all};
-use itoa::Buffer;
+use clnp_commands::scenario::Code;
+use std::fmt::Write;
 use thiserror::Error;
+
+/// The end of the line of bad words, and which words are commands.
+const WANTED: &str = "
+clnp: wanted: clnp sim < SCENARIO, clnp show < CAPTURE, clnp check < VECTORS, or clnp storm SEED
+";
 
 /// Why a call of the program didn't do all that was asked.
 #[derive(Clone, Copy, Debug, PartialEq, Eq, Error)]
@@ -54,15 +62,18 @@ impl Fault {
     }
 }
 
-/// Says what went wrong, if anything did. It takes no memory.
-///
-/// What is derived for `Display` has the same texts, and no contract.
+/// The most octets of the text of a fault. None has half as many.
+const MOST_TEXT: usize = 120;
+
+/// Says what went wrong, if anything did: the line of the fault, and behind that of bad words which words are
+/// commands. It takes no memory.
 ///
 /// # Errors
 ///
 /// `Failed` where the sink failed.
 pub(crate) fn report<K: Sink>(status: Status, errors: &mut K) -> Result<(), Failed>
-    ensures said { OnOk result (Appends (K.written errors.old) (K.written errors.new) (said status)) }
+    ensures later { K.faults errors.old ≤ K.faults errors.new }
+    ensures said { OnOk result (Tells (fault_of status) (K.written errors.old) (K.written errors.new)) }
     ensures failed { OnErr result (Rose (K.faults errors.old) (K.faults errors.new)) }
 {
     match Fault::of(status) {
@@ -73,87 +84,53 @@ pub(crate) fn report<K: Sink>(status: Status, errors: &mut K) -> Result<(), Fail
 
 /// Writes the line of a fault, and behind that of bad words which words are commands.
 fn write_fault<K: Sink>(fault: Fault, errors: &mut K) -> Result<(), Failed>
-    ensures written { OnOk result (Appends (K.written errors.old) (K.written errors.new) (fault_text fault)) }
-    ensures failed { OnErr result (Rose (K.faults errors.old) (K.faults errors.new)) }
-{
-    match fault {
-        Fault::BadWords { at } => write_bad_words(at, errors),
-        Fault::TooLong => write_all(errors, b"clnp: input too long\n"),
-        Fault::BadInput { line, code } => write_bad_input(line, code, errors),
-        Fault::WorldFull { octets } => {
-            write_number(b"clnp: world full at ", octets, b" octets\n", errors)
-        }
-        Fault::ReadFault => write_all(errors, b"clnp: read fault\n"),
-        Fault::WriteFault => write_all(errors, b"clnp: write fault\n"),
-        Fault::NoMemory => write_all(errors, b"clnp: no memory\n"),
-    }
-}
-
-/// Writes that the words are no command, and which words are.
-fn write_bad_words<K: Sink>(at: usize, errors: &mut K) -> Result<(), Failed>
-    ensures written { OnOk result (Appends (K.written errors.old) (K.written errors.new) (fault_text (Fault.BadWords at))) }
     ensures later { K.faults errors.old ≤ K.faults errors.new }
+    ensures written { OnOk result (TellsFault fault (K.written errors.old) (K.written errors.new)) }
     ensures failed { OnErr result (Rose (K.faults errors.old) (K.faults errors.new)) }
 {
-    write_number(
-        b"clnp: bad words at ",
-        at as u64,
-        b"\nclnp: wanted: clnp sim < SCENARIO, clnp show < CAPTURE, clnp check < VECTORS, or clnp storm SEED\n",
-        errors,
-    )
-}
-
-/// Writes which line of the input is bad, and the name of the code of what it breaks.
-fn write_bad_input<K: Sink>(line: u32, code: u8, errors: &mut K) -> Result<(), Failed>
-    ensures written { OnOk result (Appends (K.written errors.old) (K.written errors.new) (fault_text (Fault.BadInput line code))) }
-    ensures later { K.faults errors.old ≤ K.faults errors.new }
-    ensures failed { OnErr result (Rose (K.faults errors.old) (K.faults errors.new)) }
-{
-    write_number(b"clnp: bad input at line ", u64::from(line), b": ", errors)?;
-    write_pair(code_name(code).as_bytes(), b"\n", errors)
-}
-
-/// Writes a number in decimal digits between two pieces.
-fn write_number<K: Sink>(
-    front: &[u8],
-    number: u64,
-    end: &[u8],
-    errors: &mut K,
-) -> Result<(), Failed>
-    ensures written { OnOk result (Appends (K.written errors.old) (K.written errors.new) (front.now ++ (decimal number ++ end.now))) }
-    ensures later { K.faults errors.old ≤ K.faults errors.new }
-    ensures failed { OnErr result (Rose (K.faults errors.old) (K.faults errors.new)) }
-{
-    let mut buffer = Buffer::new();
-    write_all(errors, front)?;
-    write_pair(buffer.format(number).as_bytes(), end, errors)
+    let text = text_of(fault);
+    write_all(errors, b"clnp: ")?;
+    write_pair(text.as_str().as_bytes(), behind(fault).as_bytes(), errors)
 }
 
 /// Writes two pieces, one behind the other.
 fn write_pair<K: Sink>(front: &[u8], end: &[u8], errors: &mut K) -> Result<(), Failed>
-    ensures written { OnOk result (Appends (K.written errors.old) (K.written errors.new) (front.now ++ end.now)) }
     ensures later { K.faults errors.old ≤ K.faults errors.new }
+    ensures written { OnOk result (Appends (K.written errors.old) (K.written errors.new) (front.now ++ end.now)) }
     ensures failed { OnErr result (Rose (K.faults errors.old) (K.faults errors.new)) }
 {
     write_all(errors, front)?;
     write_all(errors, end)
 }
 
-/// The name of the code of what a line of an input breaks.
-fn code_name(code: u8) -> &'static str
-    ensures { result.now ≡ code_name code }
+/// The text of a fault, which is the one that is derived for it.
+///
+/// No clause speaks of a derived text, so the program's runs show it. Each fault has room; one that had none would be
+/// cut short.
+fn text_of(fault: Fault) -> ArrayString<MOST_TEXT> {
+    let mut text = ArrayString::new();
+    let _ = write!(text, "{fault}");
+    text
+}
+
+/// What stands behind the text of a fault: the end of its line, and behind bad words which words are commands.
+fn behind(fault: Fault) -> &'static str
+    ensures { result.now ≡ behind_fault fault }
 {
-    match code {
-        1 => "header",
-        2 => "syntax",
-        3 => "number",
-        4 => "address",
-        5 => "unknown-name",
-        6 => "dup-name",
-        7 => "dup-address",
-        8 => "limits",
-        9 => "mtu",
-        10 => "count",
-        _ => "other",
+    match fault {
+        Fault::BadWords { .. } => behind_bad_words(),
+        _ => "\n",
     }
+}
+
+/// The end of a line, and which words are commands.
+fn behind_bad_words() -> &'static str
+    ensures { result.now ≡ codes "\n" ++ wanted }
+{
+    WANTED
+}
+
+/// The name of the code of what a line of an input breaks.
+fn code_name(code: u8) -> &'static str {
+    Code::of_number(code).map_or("other", Code::name)
 }
