@@ -1,0 +1,9 @@
+pub mod Plain
+pub mod ReadBack
+pub mod Steps
+pub mod Bytes
+pub mod Checksums
+pub mod ClnpLines
+pub mod EsisLines
+pub mod Packed
+pub mod Answered

@@ -1,0 +1,8 @@
+use Rattle.std.proofs.Common.{length}
+use Rattle.capture_text.proofs.tests.are_no_lines.Given as goal
+
+abbrev pub invariant-loop-change : goal.invariant-loop-change
+invariant-loop-change l = Unit {0}
+
+abbrev pub decreases-loop-change : goal.decreases-loop-change
+decreases-loop-change l = length l.left

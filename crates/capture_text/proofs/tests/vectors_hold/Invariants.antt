@@ -1,0 +1,8 @@
+use Rattle.std.proofs.Common.{length}
+use Rattle.capture_text.proofs.tests.vectors_hold.Given as goal
+
+abbrev pub invariant-loop-vector : goal.invariant-loop-vector
+invariant-loop-vector l = Unit {0}
+
+abbrev pub decreases-loop-vector : goal.decreases-loop-vector
+decreases-loop-vector l = length l.left

@@ -1,0 +1,5 @@
+pub mod Packing
+pub mod Said
+pub mod Words
+pub mod Laid
+pub mod View

@@ -1,0 +1,84 @@
+//! The digits of a shown line, read as octets of a frame. What no octets can hold is shown of no frame.
+ghost use Rattle.std.specs.Prelude.{◌≡◌, Some, MatchOption, MatchResult, None};
+ghost use Rattle.hex.specs.Hex.{decode_sized};
+ghost use Rattle.capture_text.specs.Said.{number_in, octets_in, with_counted, with_number, with_octets, with_option};
+ghost use Rattle.capture_text.specs.View.{Misses};
+
+use crate::refusal::PackRefusal;
+use captures::clnp_base::{HexFault, decimal, push, push_unhex};
+
+/// The most octets that one octet counts.
+const MOST_COUNTED: usize = 255;
+
+/// Appends the octets that hexadecimal digits spell.
+pub(crate) fn push_octets(digits: &[u8], out: &mut Vec<u8>) -> Result<(), PackRefusal>
+    ensures { let reading = with_octets out.old.items digits.now in
+        MatchResult result (λ _. reading ≡ Some out.new.items) (λ refusal. Misses refusal reading) }
+{
+    match push_unhex(digits, out) {
+        Ok(()) => Ok(()),
+        Err(HexFault::OddLength) => Err(PackRefusal::NotShown),
+        Err(HexFault::BadDigit) => Err(PackRefusal::NotShown),
+        Err(HexFault::NoMemory) => Err(PackRefusal::NoMemory),
+    }
+}
+
+/// Appends the octets that hexadecimal digits spell, behind their number.
+pub(crate) fn push_counted(digits: &[u8], out: &mut Vec<u8>) -> Result<(), PackRefusal>
+    ensures { let reading = with_counted out.old.items digits.now in
+        MatchResult result (λ _. reading ≡ Some out.new.items) (λ refusal. Misses refusal reading) }
+{
+    let count = digits.len() / 2;
+    if count > MOST_COUNTED {
+        return Err(PackRefusal::NotShown);
+    }
+    push(&[count as u8], out)?;
+    push_octets(digits, out)
+}
+
+/// Appends an option: its code, the length of its value, its value.
+pub(crate) fn push_option(text: &[u8], out: &mut Vec<u8>) -> Result<(), PackRefusal>
+    ensures { let reading = with_option out.old.items text.now in
+        MatchResult result (λ _. reading ≡ Some out.new.items) (λ refusal. Misses refusal reading) }
+{
+    if text.len() < 3 {
+        return Err(PackRefusal::NotShown);
+    }
+    let (code, _) = text.split_at(2);
+    let (_, value) = text.split_at(3);
+    push_octets(code, out)?;
+    push_counted(value, out)
+}
+
+/// The number that decimal digits spell, where two octets hold it.
+pub(crate) fn number_in(digits: &[u8]) -> Option<u16>
+    ensures { result ≡ number_in digits.now }
+{
+    match decimal(digits) {
+        Some(number) if number <= 65_535 => Some(number as u16),
+        _ => None,
+    }
+}
+
+/// Appends the two octets of a number.
+pub(crate) fn push_number(digits: &[u8], out: &mut Vec<u8>) -> Result<(), PackRefusal>
+    ensures { let reading = with_number out.old.items digits.now in
+        MatchResult result (λ _. reading ≡ Some out.new.items) (λ refusal. Misses refusal reading) }
+{
+    let Some(number) = number_in(digits) else {
+        return Err(PackRefusal::NotShown);
+    };
+    push(&number.to_be_bytes(), out)?;
+    Ok(())
+}
+
+/// The two octets that four hexadecimal digits spell.
+pub(crate) fn pair_in(digits: &[u8]) -> Option<[u8; 2]>
+    ensures { MatchOption result (octets_in (decode_sized digits.now 2) ≡ None) (λ pair. octets_in (decode_sized digits.now 2) ≡ Some pair) }
+{
+    let mut pair = [0; 2];
+    match hex::decode_to_slice(digits, &mut pair) {
+        Ok(()) => Some(pair),
+        Err(_) => None,
+    }
+}

@@ -1,0 +1,186 @@
+//! What the words of a shown line say of a frame.
+ghost use Rattle.std.specs.Prelude.{◌≡◌, Some, MatchResult};
+ghost use Rattle.captures.specs.ClnpBase.Text.{words_of};
+ghost use Rattle.capture_text.specs.Said.{nothing, says_data, says_listed, says_number, says_rest, says_sum};
+ghost use Rattle.capture_text.specs.Words.{says_address, says_field, says_word, says_words};
+ghost use Rattle.capture_text.specs.View.{Misses, said_by};
+
+use crate::digits::{number_in, pair_in, push_counted, push_number, push_octets, push_option};
+use crate::refusal::PackRefusal;
+use crate::words::behind;
+use captures::clnp_base::next_word;
+use std::alloc::Global;
+
+/// The most addresses that one octet counts.
+const MOST_ADDRESSES: u8 = 255;
+
+/// What words say of a frame, in octets.
+#[derive(Drop)]
+pub(crate) struct Pieces {
+    /// The lifetime in ticks of 500 ms, or the holding time in seconds.
+    pub(crate) number: u16,
+    /// The two octets of the checksum.
+    pub(crate) sum: [u8; 2],
+    /// How many addresses of an end system hello.
+    pub(crate) addresses: u8,
+    /// The header's octets behind its fixed part: addresses, segmentation part, options.
+    pub(crate) part: Vec<u8>,
+    /// How many octets of data.
+    pub(crate) size: usize,
+    /// The data, and what follows the PDU in its frame.
+    pub(crate) behind: Vec<u8>,
+}
+
+/// What the words of a line say together.
+pub(crate) fn pieces_of(alloc: Global, line: &[u8]) -> Result<Pieces, PackRefusal>
+    ensures { let reading = says_words nothing (words_of line.now) in
+        MatchResult result (λ pieces. reading ≡ Some (said_by pieces)) (λ refusal. Misses refusal reading) }
+{
+    let mut pieces = Pieces::new(alloc);
+    let mut left = line;
+    while let Some((word, others)) = next_word(left) {
+        pieces.add(word)?;
+        left = others;
+    }
+    Ok(pieces)
+}
+
+impl Pieces {
+    /// What no word says.
+    fn new(alloc: Global) -> Pieces
+        ensures { said_by result ≡ nothing }
+    {
+        Pieces {
+            number: 0,
+            sum: [0; 2],
+            addresses: 0,
+            part: Vec::new(alloc),
+            size: 0,
+            behind: Vec::new(alloc),
+        }
+    }
+
+    /// Adds what a word says of the fixed part, or of what stands behind the header.
+    #[tactic(auto, unfolding(crate::specs::Words::says_word))]
+    fn add(&mut self, word: &[u8]) -> Result<(), PackRefusal>
+        ensures { let reading = says_word (said_by self.old) word.now in
+            MatchResult result (λ _. reading ≡ Some (said_by self.new)) (λ refusal. Misses refusal reading) }
+    {
+        if let Some(digits) = behind(b"life=", word) {
+            return self.add_number(digits);
+        }
+        if let Some(digits) = behind(b"hold=", word) {
+            return self.add_number(digits);
+        }
+        if let Some(digits) = behind(b"sum=", word) {
+            return self.add_sum(digits);
+        }
+        if let Some(digits) = behind(b"data=", word) {
+            return self.add_data(digits);
+        }
+        if let Some(digits) = behind(b"rest=", word) {
+            return self.add_rest(digits);
+        }
+        self.add_address(word)
+    }
+
+    /// Adds an address.
+    #[tactic(auto, unfolding(crate::specs::Words::says_address))]
+    fn add_address(&mut self, word: &[u8]) -> Result<(), PackRefusal>
+        ensures { let reading = says_address (said_by self.old) word.now in
+            MatchResult result (λ _. reading ≡ Some (said_by self.new)) (λ refusal. Misses refusal reading) }
+    {
+        if let Some(digits) = behind(b"to=", word) {
+            return push_counted(digits, &mut self.part);
+        }
+        if let Some(digits) = behind(b"from=", word) {
+            return push_counted(digits, &mut self.part);
+        }
+        if let Some(digits) = behind(b"via=", word) {
+            return push_counted(digits, &mut self.part);
+        }
+        if let Some(digits) = behind(b"title=", word) {
+            return push_counted(digits, &mut self.part);
+        }
+        if let Some(digits) = behind(b"addr=", word) {
+            return self.add_listed(digits);
+        }
+        self.add_field(word)
+    }
+
+    /// Adds a field of the segmentation part, or an option.
+    #[tactic(auto, unfolding(crate::specs::Words::says_field))]
+    fn add_field(&mut self, word: &[u8]) -> Result<(), PackRefusal>
+        ensures { let reading = says_field (said_by self.old) word.now in
+            MatchResult result (λ _. reading ≡ Some (said_by self.new)) (λ refusal. Misses refusal reading) }
+    {
+        if let Some(digits) = behind(b"id=", word) {
+            return push_octets(digits, &mut self.part);
+        }
+        if let Some(digits) = behind(b"off=", word) {
+            return push_number(digits, &mut self.part);
+        }
+        if let Some(digits) = behind(b"total=", word) {
+            return push_number(digits, &mut self.part);
+        }
+        if let Some(text) = behind(b"opt=", word) {
+            return push_option(text, &mut self.part);
+        }
+        Err(PackRefusal::NotShown)
+    }
+
+    /// Adds the lifetime or the holding time.
+    fn add_number(&mut self, digits: &[u8]) -> Result<(), PackRefusal>
+        ensures { let reading = says_number (said_by self.old) digits.now in
+            MatchResult result (λ _. reading ≡ Some (said_by self.new)) (λ refusal. Misses refusal reading) }
+    {
+        let Some(number) = number_in(digits) else {
+            return Err(PackRefusal::NotShown);
+        };
+        self.number = number;
+        Ok(())
+    }
+
+    /// Adds the checksum.
+    fn add_sum(&mut self, digits: &[u8]) -> Result<(), PackRefusal>
+        ensures { let reading = says_sum (said_by self.old) digits.now in
+            MatchResult result (λ _. reading ≡ Some (said_by self.new)) (λ refusal. Misses refusal reading) }
+    {
+        let Some(sum) = pair_in(digits) else {
+            return Err(PackRefusal::NotShown);
+        };
+        self.sum = sum;
+        Ok(())
+    }
+
+    /// Adds the data.
+    fn add_data(&mut self, digits: &[u8]) -> Result<(), PackRefusal>
+        ensures { let reading = says_data (said_by self.old) digits.now in
+            MatchResult result (λ _. reading ≡ Some (said_by self.new)) (λ refusal. Misses refusal reading) }
+    {
+        push_octets(digits, &mut self.behind)?;
+        self.size = digits.len() / 2;
+        Ok(())
+    }
+
+    /// Adds what follows the PDU in its frame.
+    fn add_rest(&mut self, digits: &[u8]) -> Result<(), PackRefusal>
+        ensures { let reading = says_rest (said_by self.old) digits.now in
+            MatchResult result (λ _. reading ≡ Some (said_by self.new)) (λ refusal. Misses refusal reading) }
+    {
+        push_octets(digits, &mut self.behind)
+    }
+
+    /// Adds an address of an end system hello.
+    fn add_listed(&mut self, digits: &[u8]) -> Result<(), PackRefusal>
+        ensures { let reading = says_listed (said_by self.old) digits.now in
+            MatchResult result (λ _. reading ≡ Some (said_by self.new)) (λ refusal. Misses refusal reading) }
+    {
+        if self.addresses == MOST_ADDRESSES {
+            return Err(PackRefusal::NotShown);
+        }
+        push_counted(digits, &mut self.part)?;
+        self.addresses += 1;
+        Ok(())
+    }
+}

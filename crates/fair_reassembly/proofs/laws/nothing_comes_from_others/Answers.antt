@@ -1,0 +1,8 @@
+use Rattle.fair_reassembly.proofs.Alone.{alone, same}
+use Rattle.fair_reassembly.proofs.laws.nothing_comes_from_others.Goals as goal
+
+pub returns-clause-alone : goal.returns-clause-alone
+returns-clause-alone c = λ s place frames. alone s place frames
+
+pub returns-clause-same : goal.returns-clause-same
+returns-clause-same c = λ s place frames others e. same s place frames others e

@@ -1,0 +1,6 @@
+pub use Rattle.reassembly.specs as Reassembly
+pub mod Coming
+pub mod Tables
+pub mod Calls
+pub mod Classes
+pub mod Claims

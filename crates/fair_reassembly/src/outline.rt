@@ -1,0 +1,82 @@
+//! What a PDU says of the segment that it is.
+ghost use Rattle.std.specs.Prelude.{◌≡◌, ◌+◌, ◌≤◌, length};
+ghost use Rattle.fair_reassembly.specs.Coming.{of_unit, outlined, segment_by};
+ghost use Rattle.pdu_header.specs.Spelling.{type_code};
+
+use pdu_header::clnp_views::View;
+use pdu_header::{Kind, Pdu, SegPart};
+use reassembly::{Key, Segment, Shape};
+
+/// A segment but for its octets: of which unit and shape it is, its place and lifetime, and how many octets its PDU has.
+#[derive(Clone, Copy)]
+pub(crate) struct Outline {
+    key: Key,
+    shape: Shape,
+    offset: u16,
+    life: u8,
+    octets: usize,
+}
+
+impl Outline {
+    /// What a PDU with this segmentation part says.
+    pub(crate) fn of(pdu: &Pdu<'_>, part: SegPart) -> Outline
+        requires head { length pdu.now.head.now ≤ 254 }
+        requires octets { length pdu.now.head.now + length pdu.now.body.now ≤ 70000 }
+        ensures { result ≡ outlined pdu.now part }
+    {
+        let key = Key {
+            from: pdu.from,
+            to: pdu.to,
+            id: part.id,
+        };
+        let shape = Shape {
+            total: part.total,
+            head_len: pdu.head.len() as u8,
+            kind: type_code(pdu.kind),
+        };
+        Outline {
+            key,
+            shape,
+            offset: part.offset,
+            life: pdu.life,
+            octets: pdu.head.len() + pdu.body.len(),
+        }
+    }
+
+    /// The segment, whose PDU stands at the front of a frame.
+    pub(crate) fn segment(self, frame: View) -> Segment
+        requires { self.octets ≤ frame.len }
+        ensures { result ≡ segment_by self frame }
+    {
+        Segment {
+            key: self.key,
+            shape: self.shape,
+            offset: self.offset,
+            life: self.life,
+            pdu: frame.narrow(0, self.octets),
+        }
+    }
+}
+
+/// The segmentation part of a PDU that isn't all of its unit (ISO/IEC 8473, section 7.4).
+pub(crate) fn of_unit(part: Option<SegPart>, more: bool) -> Option<SegPart>
+    ensures { result ≡ of_unit part more }
+{
+    let part = part?;
+    if part.offset == 0 && !more {
+        return None;
+    }
+    Some(part)
+}
+
+/// The type of a PDU of this kind, as its octet says (ISO/IEC 8473, section 7.2.7; RFC 1575, section 4).
+fn type_code(kind: Kind) -> u8
+    ensures { result ≡ type_code kind }
+{
+    match kind {
+        Kind::Er => 1,
+        Kind::Dt => 28,
+        Kind::Erq => 30,
+        Kind::Erp => 31,
+    }
+}

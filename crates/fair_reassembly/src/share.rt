@@ -1,0 +1,11 @@
+//! Sources that have a share.
+
+use pdu_header::nsap::Address;
+use reassembly::TableLimits;
+
+/// A source that has reassembly buffers of its own, and the numbers that these keep to.
+#[derive(Clone, Copy, PartialEq, Eq)]
+pub struct Share {
+    pub from: Address,
+    pub limits: TableLimits,
+}

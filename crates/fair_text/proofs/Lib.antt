@@ -1,0 +1,4 @@
+pub mod Sums
+pub mod Apart
+pub mod Accepted
+mod Worked

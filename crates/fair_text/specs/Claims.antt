@@ -1,0 +1,16 @@
+-- What is so of an accepted text.
+use Rattle.std.specs.Prelude.{◌^◌, ◌≤◌, ◌<◌, length}
+use Rattle.std.specs.List.{AllByRecursion}
+use Rattle.fair_reassembly.specs.declared.came.Came.{Came}
+use Rattle.fair_reassembly.specs.Tables.{AreDistinct, sources_of}
+use Rattle.fair_text.specs.Grammar.{Capture}
+
+-- a frame of at most 70,000 octets, which came at a moment below 2 ^ 32
+pub record IsInRange (came : Came) : Type 0 where
+  pub moment : came.moment < 2 ^ 32
+  pub few : length came.frame ≤ 70000
+
+-- no source has two shares, and each frame is in its ranges
+pub record IsAccepted (capture : Capture) : Type 0 where
+  pub distinct : AreDistinct (sources_of capture.shares.shares)
+  pub in_range : AllByRecursion IsInRange capture.frames

@@ -1,0 +1,4 @@
+pub mod Claims
+pub mod Grammar
+pub mod Output
+pub mod Refusal

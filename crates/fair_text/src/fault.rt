@@ -1,0 +1,55 @@
+//! Why a text or one of its lines is refused.
+
+use scenario::Code;
+use std::alloc::AllocFailed;
+
+/// Why a text isn't one of captured traffic.
+#[derive(Clone, Copy, Debug, PartialEq, Eq)]
+pub enum CaptureRefusal {
+    /// The first line that breaks the grammar, from 1, and the number of the `Code` of what it breaks.
+    BadLine { line: u32, code: u8 },
+    /// Memory was refused.
+    NoMemory,
+}
+
+impl<T: Drop> From<AllocFailed<T>> for CaptureRefusal {
+    ghost use Rattle.std.specs.Prelude.{◌≡◌};
+    ghost use Rattle.fair_text.specs.declared.fault.CaptureRefusal.TheVariants.{NoMemory};
+
+    ghost from_gives = { λ _ refusal. refusal ≡ NoMemory };
+
+    fn from(_refused: AllocFailed<T>) -> CaptureRefusal {
+        CaptureRefusal::NoMemory
+    }
+}
+
+/// Why a line isn't read.
+#[derive(Clone, Copy, Debug)]
+pub(crate) enum LineFault {
+    /// What the line breaks.
+    Broken(Code),
+    /// Memory was refused.
+    NoMemory,
+}
+
+impl From<Code> for LineFault {
+    ghost use Rattle.std.specs.Prelude.{◌≡◌};
+    ghost use Rattle.fair_text.specs.declared.fault.LineFault.TheVariants.{Broken};
+
+    ghost from_gives = { λ code fault. fault ≡ Broken code };
+
+    fn from(code: Code) -> LineFault {
+        LineFault::Broken(code)
+    }
+}
+
+impl<T: Drop> From<AllocFailed<T>> for LineFault {
+    ghost use Rattle.std.specs.Prelude.{◌≡◌};
+    ghost use Rattle.fair_text.specs.declared.fault.LineFault.TheVariants.{NoMemory};
+
+    ghost from_gives = { λ _ fault. fault ≡ NoMemory };
+
+    fn from(_refused: AllocFailed<T>) -> LineFault {
+        LineFault::NoMemory
+    }
+}

@@ -1,0 +1,5 @@
+pub use Rattle.nsap.specs.ClnpBase
+pub mod Links
+pub mod Memory
+pub mod Outbox
+pub mod Ports

@@ -1,0 +1,121 @@
+//! Calls of boards.
+use crate::noting::{Notes, NotingLink, link_of, no_notes};
+use link_board::clnp_base::NoMemory;
+use link_board::nsap::Target;
+use link_board::{Board, Link, Polled, Ports, Sent};
+use std::alloc::Global;
+use std::cell::RefCell;
+use std::process::Abort;
+use std::rc::Rc;
+
+/// A link that gives a frame of the octets `hi`, fails at these calls, and notes what is done with it.
+fn noting_link(
+    alloc: Global,
+    fails: &[u64],
+    notes: &Rc<RefCell<Notes>>,
+) -> Result<NotingLink, NoMemory> {
+    Ok(NotingLink {
+        link: link_of(alloc, &[b"hi"], fails)?,
+        notes: notes.clone()?,
+    })
+}
+
+/// A look at a port, or nothing where it isn't attached or there is no room.
+fn look<B: Ports>(board: &mut B, port: usize, buf: &mut [u8]) -> Option<Polled> {
+    if port >= board.count() || buf.len() < 70_000 {
+        return None;
+    }
+    if !board.is_attached(port) {
+        return None;
+    }
+    Some(board.look(port, buf))
+}
+
+/// Sends `ok` on a port, or does nothing where it isn't attached.
+fn put<B: Ports>(board: &mut B, port: usize) -> Option<Sent> {
+    if port >= board.count() {
+        return None;
+    }
+    if !board.is_attached(port) {
+        return None;
+    }
+    Some(board.put(port, Target::EndSystems, b"o", b"k"))
+}
+
+/// Whether a look saw two octets.
+fn saw_two(came: Option<Polled>) -> bool {
+    matches!(came, Some(Polled::Frame(got)) if got.len == 2)
+}
+
+/// Whether of two ports the first one's link fails at its third call, a sending, and the other goes on.
+fn goes_on<B: Ports>(board: &mut B, buf: &mut [u8]) -> bool {
+    saw_two(look(board, 0, buf))
+        && look(board, 0, buf) == Some(Polled::Nothing)
+        && put(board, 0) == Some(Sent::Detached)
+        && look(board, 0, buf).is_none()
+        && put(board, 0).is_none()
+        && saw_two(look(board, 1, buf))
+        && put(board, 1) == Some(Sent::Done)
+        && look(board, 1, buf) == Some(Polled::Nothing)
+        && look(board, 2, buf).is_none()
+}
+
+#[test]
+fn a_link_fails_and_the_other_goes_on(rt: HostRuntime) {
+    let alloc = rt.alloc();
+    let first = no_notes(alloc).expect(&rt, "memory");
+    let second = no_notes(alloc).expect(&rt, "memory");
+    let mut links: Vec<Box<dyn Link>> = Vec::new(alloc);
+    let failing = noting_link(alloc, &[3], &first).expect(&rt, "memory");
+    links
+        .push(Box::new(alloc, failing).expect(&rt, "memory"))
+        .expect(&rt, "memory");
+    let sound = noting_link(alloc, &[], &second).expect(&rt, "memory");
+    links
+        .push(Box::new(alloc, sound).expect(&rt, "memory"))
+        .expect(&rt, "memory");
+    let mut board = Board::new(alloc, links).expect(&rt, "memory");
+    let mut room = vec![in alloc; 0u8; 70_000].expect(&rt, "memory");
+    assert!(rt; board.len() == 2);
+    assert!(rt; goes_on(&mut board, room.as_mut_slice()));
+    let first = first.try_borrow().expect(&rt, "free");
+    assert!(rt; first.empties == 1 && first.sent.is_empty() && !first.dropped);
+    let second = second.try_borrow().expect(&rt, "free");
+    assert!(rt;
+        second.empties == 1 && second.sent.as_slice() == b"ok".as_slice() && !second.dropped
+    );
+}
+
+#[test]
+fn drops_the_links_that_are_gone(rt: HostRuntime) {
+    let alloc = rt.alloc();
+    let first = no_notes(alloc).expect(&rt, "memory");
+    let second = no_notes(alloc).expect(&rt, "memory");
+    let mut links: Vec<Box<dyn Link>> = Vec::new(alloc);
+    let failing = noting_link(alloc, &[1], &first).expect(&rt, "memory");
+    links
+        .push(Box::new(alloc, failing).expect(&rt, "memory"))
+        .expect(&rt, "memory");
+    let sound = noting_link(alloc, &[], &second).expect(&rt, "memory");
+    links
+        .push(Box::new(alloc, sound).expect(&rt, "memory"))
+        .expect(&rt, "memory");
+    let mut board = Board::new(alloc, links).expect(&rt, "memory");
+    let mut room = vec![in alloc; 0u8; 70_000].expect(&rt, "memory");
+    assert!(rt; look(&mut board, 0, room.as_mut_slice()) == Some(Polled::Detached));
+    assert!(rt; !is_dropped(&first));
+    board.drop_gone();
+    assert!(rt; is_dropped(&first) && !is_dropped(&second));
+    assert!(rt; board.len() == 2 && saw_two(look(&mut board, 1, room.as_mut_slice())));
+    assert!(rt; look(&mut board, 0, room.as_mut_slice()).is_none());
+    board.drop();
+    assert!(rt; is_dropped(&second));
+}
+
+/// Whether it is noted that the link was dropped.
+fn is_dropped(notes: &Rc<RefCell<Notes>>) -> bool {
+    match notes.try_borrow() {
+        Ok(notes) => notes.dropped,
+        Err(_) => false,
+    }
+}

@@ -1,0 +1,11 @@
+//! Tests of links, boards and clocks, with a link of their own that notes what is done with it.
+#![tactic(auto)]
+
+#[cfg(test)]
+mod board_calls;
+#[cfg(test)]
+mod clock_calls;
+#[cfg(test)]
+mod link_calls;
+#[cfg(test)]
+mod noting;

@@ -1,0 +1,9 @@
+pub mod Faults
+pub mod File
+pub mod Frames
+pub mod Magic
+pub mod Making
+pub mod Numbers
+pub mod Reading
+pub mod Stages
+pub mod View

@@ -1,0 +1,27 @@
+//! Ethernet captures in the classic pcap form: files read piece by piece, frames looked into, files made.
+//!
+//! A file is a header of 24 octets and records. The header's magic number tells in which order the octets of each
+//! number of the file stand, and whether fractions of seconds are micro- or nanoseconds. A record is a time, a length,
+//! and a frame's octets. In an Ethernet frame an OSI PDU stands behind a length (ISO 8802-3) and the octets FE FE 03
+//! (ISO 8802-2).
+#![tactic(auto)]
+
+mod captured;
+mod fault;
+mod header;
+pub mod laws;
+mod making;
+mod order;
+mod reader;
+mod seeing;
+mod stage;
+mod taking;
+
+pub use captured::Record;
+pub use fault::{CutFile, PcapFault};
+pub use making::{put_frame, put_header};
+pub use nsap;
+pub use nsap::clnp_base;
+pub use reader::PcapReader;
+pub use seeing::{Seen, see};
+pub use taking::Took;
