@@ -15,4 +15,4 @@ for folder in edits/*/; do
     fi
 done
 cd "$room/clone" || exit 2
-rt ci "$@"
+rt must-fail "$@"

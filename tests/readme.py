@@ -1,5 +1,5 @@
 #!/usr/bin/env python3
-"""Runs the commands of the README's fenced `sh` blocks and compares what they write with what stands below them.
+"""Runs the commands of the fenced `sh` blocks of the documents below and compares what they write with what stands there.
 
 A command is a line that begins with `$ `; what it writes, on standard error too, stands below it, up to the next
 command or the end of the block. Blocks without such a line are only read.
@@ -10,6 +10,7 @@ import subprocess
 import sys
 
 ROOT = os.path.dirname(os.path.dirname(os.path.abspath(__file__)))
+DOCUMENTS = ["README.md", "docs/FIRST.md", "docs/TOUR.md", "docs/FORMATS.md"]
 
 
 def examples(text):
@@ -24,18 +25,24 @@ def examples(text):
         yield from found
 
 
-def main():
-    with open(os.path.join(ROOT, "README.md"), encoding="utf-8") as readme:
-        found = list(examples(readme.read()))
-    failed = 0
+def differing(document):
+    """How many examples a document has, and how many of them differ."""
+    with open(os.path.join(ROOT, document), encoding="utf-8") as opened:
+        found = list(examples(opened.read()))
+    differ = 0
     for command, wanted in found:
         ran = subprocess.run(["bash", "-c", command], cwd=ROOT, stdout=subprocess.PIPE, stderr=subprocess.STDOUT)
         came = ran.stdout.decode()
         if came != wanted:
-            failed += 1
-            print(f"README.md: `{command}` writes\n{came}and not\n{wanted}", file=sys.stderr)
-    print(f"README.md: {len(found)} examples, {failed} differ")
-    if failed or not found:
+            differ += 1
+            print(f"{document}: `{command}` writes\n{came}and not\n{wanted}", file=sys.stderr)
+    print(f"{document}: {len(found)} examples, {differ} differ")
+    return len(found), differ
+
+
+def main():
+    counted = [differing(document) for document in DOCUMENTS]
+    if any(differ or not found for found, differ in counted):
         sys.exit(1)
 
 

@@ -1,0 +1,269 @@
+#!/usr/bin/env python3
+"""Looks whether what the documents name is there.
+
+- docs/PROMISES.md: each crate, call, clause and part in the second column of its tables. A row's second column has
+  references, each behind a `;`: the crate, its calls, and behind them the clauses. What a reference doesn't name it has
+  from the one before in its row, and a row's first one from the heading above the table. Likewise the list of calls that
+  the program doesn't make.
+- every document: each file that stands in backquotes or in a command of a fenced block, and each heading that stands in
+  quotes behind a document's name.
+- docs/ARCHITECTURE.md: its picture and its table of crates have each crate of crates.txt, and no other; in the picture each
+  stands on those that it stands on there; the list of what must be believed
+  has each file that `tests/believed.py` finds, and no other.
+- docs/clnp.1: where mandoc is installed, its lint finds nothing.
+
+usage: tests/documents.py [FOLDER], the folder of a repository; without one it is that of this file.
+"""
+import glob
+import os
+import re
+import shutil
+import subprocess
+import sys
+
+import believed
+
+ROOT = os.path.abspath(sys.argv[1] if len(sys.argv) > 1 else os.path.join(os.path.dirname(__file__), ".."))
+DOCUMENTS = ["README.md", "docs/*.md", "docs/*.1", "tests/README.md", "edits/README.md"]
+SUFFIXES = (".md", ".txt", ".py", ".sh", ".rt", ".antt", ".rs", ".1", ".edit")
+FOLDERS = ("crates/", "docs/", "tests/", "edits/", "examples/", "bench/", "tools/", ".ci/", "./")
+# what stands in a crate's own folder is named without it
+IN_A_CRATE = ("src/", "specs/", "proofs/", "must-fail/", "data/")
+NAMES = r"`([^`\n]+)`"
+
+wrong = []
+
+
+def text_of(path):
+    with open(os.path.join(ROOT, path), encoding="utf-8") as opened:
+        return opened.read()
+
+
+def paths_of(pattern):
+    found = glob.glob(os.path.join(ROOT, pattern), recursive=True)
+    return sorted(os.path.relpath(path, ROOT) for path in found)
+
+
+def crate_names():
+    return re.findall(r"^([a-z0-9_]+):", text_of("crates.txt"), re.MULTILINE)
+
+
+# What a crate has.
+
+
+class Crate:
+    """The calls of a crate with their clauses, its types, and the parts of its records."""
+
+    def __init__(self, name):
+        self.calls, self.types, self.records = {}, set(), {}
+        for path in paths_of(f"crates/{name}/src/**/*.rt"):
+            self.add_code(path)
+        for path in paths_of(f"crates/{name}/specs/**/*.antt"):
+            self.add_definitions(path)
+
+    def add_code(self, path):
+        module = "laws::" if os.path.basename(path) == "laws.rt" else ""
+        owner, call = "", None
+        for line in text_of(path).splitlines():
+            if begun := re.match(r"impl(?:<[^>]*>)? (?:\w+(?:<.*>)? for )?(?:&\w* ?)?(\w+)|(?:pub )?trait (\w+)", line):
+                owner = (begun[1] or begun[2]) + "::"
+            elif line == "}":
+                owner = ""
+            if declared := re.match(r"(?:pub(?:\(\w+\))? )?(?:struct|enum|trait) (\w+)", line):
+                self.types.add(declared[1])
+            if named := re.match(r"\s*(?:pub(?:\([a-z]+\))? )?(?:const )?fn (\w+)", line):
+                call = self.calls.setdefault((module or owner) + named[1], set())
+            if call is not None and (clause := re.match(r"\s*ensures (\w*) ?\{", line)):
+                call.add(clause[1] or "its one clause")
+
+    def add_definitions(self, path):
+        record = None
+        for line in text_of(path).splitlines():
+            if begun := re.match(r"(?:pub )?record (\w+)", line):
+                record = self.records.setdefault(begun[1], set())
+            elif part := re.match(r"  (?:pub )?(\w+) :", line):
+                if record is not None:
+                    record.add(part[1])
+            elif line and not line.startswith(" "):
+                record = None
+
+    def calls_named(self, name):
+        """The calls of a name, with their clauses: `Type::call` and `laws::law`, or a call's name alone."""
+        return {call: clauses for call, clauses in self.calls.items() if call == name or call.split("::")[-1] == name}
+
+
+# What the promises name.
+
+
+class Reading:
+    """How far a row's second column was read."""
+
+    def __init__(self, crates, place):
+        self.crates, self.place = crates, place
+        self.crate, self.calls, self.record, self.named = None, {}, None, 0
+
+    def wrong(self, what):
+        wrong.append(f"docs/PROMISES.md, line {self.place}: {what}")
+
+    def reference(self, text):
+        """Reads a reference: what names calls in it begins a new list of them."""
+        begins = True
+        for at, found in enumerate(re.findall(r"`([^`]+)`|(its one clause|their one clause)", text)):
+            name = found[0] or "its one clause"
+            self.named += 1
+            if at > 0 and self.is_clause(name):
+                begins = True
+            elif name in self.crates:
+                self.crate, self.calls, self.record = self.crates[name], {}, None
+            elif self.crate is None:
+                self.wrong(f"`{name}` stands behind no crate")
+            elif self.is_clause(name):
+                begins = True
+            elif found := self.crate.calls_named(name):
+                self.calls = found if begins else {**self.calls, **found}
+                begins, self.record = False, None
+            elif name in self.crate.records:
+                self.record = self.crate.records[name]
+            elif name not in self.crate.types:
+                self.wrong(f"`{name}` is neither a call, a type or a record of its crate nor a clause of the calls before it")
+
+    def is_clause(self, name):
+        if self.record is not None and name in self.record:
+            return True
+        return any(name in clauses for clauses in self.calls.values())
+
+
+def judge_promises():
+    crates = {name: Crate(name) for name in crate_names()}
+    rows = references = 0
+    for place, line in enumerate(text_of("docs/PROMISES.md").splitlines(), 1):
+        if line.startswith("#"):
+            heading = line
+        if line.startswith("- `") and "not called" in heading:
+            reading = Reading(crates, place)
+            for reference in re.split(r"[;.] ", line):
+                reading.reference(reference)
+            references += reading.named
+        cells = re.split(r" \| ", line.strip("| ")) if line.startswith("| ") else []
+        if len(cells) != 3 or cells[0] in ("Promise", "Call") or set(cells[0]) == {"-"}:
+            continue
+        reading = Reading(crates, place)
+        for name in re.findall(NAMES, heading):
+            reading.reference(f"`{name}`")
+        reading.named = 0
+        for reference in cells[1].split(";"):
+            reading.reference(reference)
+        rows += 1
+        references += reading.named
+        if reading.named == 0:
+            reading.wrong("no call and no clause is named")
+        if not re.match(r"(yes|no)\b", cells[2]):
+            reading.wrong("the last column begins neither with yes nor with no")
+    return rows, references
+
+
+# What every document names.
+
+
+def is_there(name, document, crate):
+    """Whether a file or folder is there: from the repository's root, the document's folder, or that of a crate: the one
+    that stands before the name in its line, or any."""
+    name = name.removeprefix("./")
+    beginnings = [os.path.join("crates", crate)] if name.startswith(IN_A_CRATE) else ["", os.path.dirname(document)]
+    return any(paths_of(os.path.join(beginning, name)) for beginning in beginnings)
+
+
+def is_file(name):
+    """Whether a name in a document is that of a file or folder. NAME, CRATE and the like stand for a name."""
+    if re.search(r"[\s<>{}$]|\.\.|(^|/)[A-Z]+(/|$|\.(rt|antt|edit))", name):
+        return False
+    return name.startswith(FOLDERS + IN_A_CRATE) or ("/" not in name and name.endswith(SUFFIXES))
+
+
+def files_named(text):
+    """The names of files in a document, each with the crate before it: in backquotes, and in commands of fenced blocks."""
+    crates = set(crate_names())
+    fenced = re.findall(r"^```\w*\n(.*?)^```$", text, re.MULTILINE | re.DOTALL)
+    for command in (line[2:] for block in fenced for line in block.splitlines() if line.startswith("$ ")):
+        yield from ((word, "*") for word in re.split(r"[\s;()<>|'\"]+", command) if is_file(word))
+    for line in re.sub(r"^```\w*\n.*?^```$", "", text, flags=re.MULTILINE | re.DOTALL).splitlines():
+        crate = "*"
+        for name in re.findall(NAMES, line):
+            if name in crates:
+                crate = name
+            elif is_file(name):
+                yield name, crate
+
+
+def judge_files():
+    files = headings = 0
+    for document in (path for pattern in DOCUMENTS for path in paths_of(pattern)):
+        text = text_of(document)
+        for name, crate in sorted(set(files_named(text))):
+            files += 1
+            if not is_there(name, document, crate):
+                wrong.append(f"{document}: `{name}` isn't there" + (f" in `{crate}`" if crate != "*" else ""))
+        for name, heading in re.findall(r"`([\w/]+\.md)`, \"([^\"]+)\"", text):
+            headings += 1
+            path = next((path for path in (name, os.path.join(os.path.dirname(document), name)) if paths_of(path)), None)
+            if path and not re.search(rf"^#+ {re.escape(heading)}( \(|$)", text_of(path), re.MULTILINE):
+                wrong.append(f"{document}: `{name}` has no heading \"{heading}\"")
+    return files, headings
+
+
+def section(document, heading):
+    """What stands in a document below a heading, up to the next one."""
+    found = re.search(rf"^## {re.escape(heading)}$(.*?)(?=^## |\Z)", text_of(document), re.MULTILINE | re.DOTALL)
+    if found is None:
+        wrong.append(f"{document}: there is no heading \"{heading}\"")
+    return found[1] if found else ""
+
+
+def judge_crates():
+    below = section("docs/ARCHITECTURE.md", "The crates")
+    listed, known = re.findall(r"^\| `(\w+)` \|", below, re.MULTILINE), crate_names()
+    drawn = {name: (on or "").split(", ") for name, on in re.findall(r"^  (\w+)  +\S.*\n(?: +on (.*)\n)?", below, re.MULTILINE)}
+    for name, on in re.findall(r"^([a-z0-9_]+):(.*)$", text_of("crates.txt"), re.MULTILINE):
+        if sorted(drawn.get(name, [])) != (sorted(set(on.split()) & set(known)) or [""]):
+            wrong.append(f"docs/ARCHITECTURE.md: in the picture `{name}` doesn't stand on those of crates.txt:{on}")
+    for name in sorted(set(known) - set(listed)):
+        wrong.append(f"docs/ARCHITECTURE.md: no row of its table is of the crate `{name}`")
+    for name in sorted(set(listed) - set(known)):
+        wrong.append(f"docs/ARCHITECTURE.md: the crate `{name}` isn't in crates.txt")
+
+
+def judge_believed():
+    listed = set()
+    for row in re.findall(r"^\| `.*$", section("docs/ARCHITECTURE.md", "What must be read and believed"), re.MULTILINE):
+        crate, specs, code = (re.sub(r"\(.*?\)", "", cell) for cell in row.strip("|").split("|"))
+        crate = re.findall(NAMES, crate)[0]
+        listed.update(f"crates/{crate}/specs/{name}.antt" for name in re.findall(NAMES, specs))
+        listed.update(f"crates/{crate}/src/{name}.rt" for name in re.findall(NAMES, code))
+    believed.ROOT, believed.CRATES = ROOT, crate_names()
+    found = set(believed.files())
+    for path in sorted(found - listed):
+        wrong.append(f"docs/ARCHITECTURE.md: `{path}` isn't in the list of what must be believed")
+    for path in sorted(listed - found):
+        wrong.append(f"docs/ARCHITECTURE.md: `{path}` needn't be believed, or isn't there")
+
+
+def judge_manual():
+    if shutil.which("mandoc"):
+        ran = subprocess.run(["mandoc", "-T", "lint", "docs/clnp.1"], cwd=ROOT, capture_output=True, text=True)
+        wrong.extend(ran.stdout.splitlines())
+
+
+def main():
+    rows, references = judge_promises()
+    files, headings = judge_files()
+    judge_crates()
+    judge_believed()
+    judge_manual()
+    for line in wrong:
+        print(line, file=sys.stderr)
+    print(f"documents: {rows} promises with {references} names, {files} files and {headings} headings named, {len(wrong)} wrong")
+    if wrong or not (rows and references and files):
+        sys.exit(1)
+
+
+main()
