@@ -1,0 +1,13 @@
+//! The commands that go over the lines of captured frames: what writes a line of text for each frame, and what judges
+//! vectors.
+#![tactic(auto)]
+
+mod check;
+mod fault;
+mod show;
+
+pub use captures;
+pub use check::{Tally, check};
+pub use command_base;
+pub use command_base::clnp_base;
+pub use show::show;
