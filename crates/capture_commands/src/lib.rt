@@ -2,12 +2,10 @@
 //! vectors.
 #![tactic(auto)]
 
-mod check;
+pub mod check;
 mod fault;
-mod show;
+pub mod show;
 
 pub use captures;
-pub use check::{Tally, check};
 pub use command_base;
 pub use command_base::clnp_base;
-pub use show::show;
