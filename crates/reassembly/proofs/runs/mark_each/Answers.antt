@@ -3,7 +3,7 @@ use Rattle.std.proofs.Common.{◌<◌, length, arith}
 use Rattle.std.proofs.lemmas.List.Edits.{map_over_more}
 use Rattle.std.proofs.lemmas.List.{get_or_default}
 use Rattle.reassembly.specs.Runs.{marked}
-use Rattle.reassembly.proofs.runs.mark_holes.Goals as goal
+use Rattle.reassembly.proofs.runs.mark_each.Goals as goal
 
 pub loop-run-preserved : goal.loop-run-preserved
 loop-run-preserved c =
