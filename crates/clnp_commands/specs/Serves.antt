@@ -4,8 +4,15 @@ use Rattle.std.specs.Io.KnownBytes.{Consumes, Keeps}
 use Rattle.capture_commands.specs.CommandBase.declared.status.Status.{Status}
 use Rattle.capture_commands.specs.CommandBase.declared.status.Status.TheVariants.{Done, BadWords, TooLong, BadInput, WorldFull, ReadFault, WriteFault, NoMemory}
 use Rattle.capture_commands.specs.CommandBase.ComesAs.{Task, most_input}
+use Rattle.pcap_commands.specs.declared.form.Form.{Form}
+use Rattle.pcap_commands.specs.declared.form.Form.TheVariants.{Shown, Remade}
+use Rattle.pcap_commands.specs.Serves.{ServesFile}
 use Rattle.clnp_commands.specs.declared.command.Command.{Command}
-use Rattle.clnp_commands.specs.declared.command.Command.TheVariants.{Storm}
+use Rattle.clnp_commands.specs.declared.command.Command.TheVariants.{Whole, Streamed}
+use Rattle.clnp_commands.specs.declared.command.WholeCommand.{WholeCommand}
+use Rattle.clnp_commands.specs.declared.command.WholeCommand.TheVariants.{Storm}
+use Rattle.clnp_commands.specs.declared.command.StreamedCommand.{StreamedCommand}
+use Rattle.clnp_commands.specs.declared.command.StreamedCommand.TheVariants.{PcapShow, PcapLines}
 use Rattle.clnp_commands.specs.Tasks.{CalledBy, task}
 use Rattle.clnp_commands.specs.Words.{command_of, Reads}
 
@@ -18,20 +25,20 @@ Excuses read_rose write_rose WriteFault = write_rose
 Excuses read_rose write_rose _ = ⊥
 
 -- All of a command's input was read: this is the status that both call for, and the output that they call for was written.
-pub record Outputs (command : Command) (left_before left_after before after : Option (List ℕ)) (status : Status) : Type 0 where
+pub record Outputs (command : WholeCommand) (left_before left_after before after : Option (List ℕ)) (status : Status) : Type 0 where
   pub text : List ℕ
   pub reads : Reads command left_before left_after text
   pub called : CalledBy command text status
   pub appends : (task command text).whole before after
 
 -- All of a command's input was read, and a front of the output that both call for was written.
-pub record OutputsFront (command : Command) (left_before left_after before after : Option (List ℕ)) : Type 0 where
+pub record OutputsFront (command : WholeCommand) (left_before left_after before after : Option (List ℕ)) : Type 0 where
   pub text : List ℕ
   pub reads : Reads command left_before left_after text
   pub appends : (task command text).front before after
 
 -- All of a command's input was read, and whole parts of the output that both call for were written, from the first on.
-pub record OutputsParts (command : Command) (left_before left_after before after : Option (List ℕ)) : Type 0 where
+pub record OutputsParts (command : WholeCommand) (left_before left_after before after : Option (List ℕ)) : Type 0 where
   pub text : List ℕ
   pub reads : Reads command left_before left_after text
   pub appends : (task command text).parts before after
@@ -48,10 +55,10 @@ pub record TakesWithin (left_before left_after : Option (List ℕ)) : Type 0 whe
   pub consumed : Consumes left_before left_after came
   pub within : length came ≤ most_input
 
--- What a call comes to whose words are this command, and that answers this status: `left` is what the source has left,
+-- What a call comes to whose words are this command, which reads its whole input first, and that answers this status: `left` is what the source has left,
 -- `before` and `after` what stands in the sink, where they tell it; `same_source` and `same_sink` say that they are as they
 -- were, `read_rose` and `write_rose` that they failed in this call.
-pub record ServesCommand (command : Command) (left_before left_after before after : Option (List ℕ)) (same_source same_sink read_rose write_rose : Type 0) (status : Status) : Type 0 where
+pub record ServesCommand (command : WholeCommand) (left_before left_after before after : Option (List ℕ)) (same_source same_sink read_rose write_rose : Type 0) (status : Status) : Type 0 where
   -- Where the source tells its octets, the answer is the one that command and octets call for, but for want of memory and for
   -- faults that came in this call.
   pub answer : IfSome left_before (λ text. CalledBy command text status ⊎ Excuses read_rose write_rose status)
@@ -87,12 +94,19 @@ pub record Refuses (at : ℕ) (same_source same_sink : Type 0) (status : Status)
   pub answer : status ≡ BadWords at
   pub untouched : same_source × same_sink
 
+-- the form of the lines that a command writes of the records of an Ethernet capture
+abbrev pub form_of : StreamedCommand → Form
+form_of PcapShow = Shown
+form_of PcapLines = Remade
+
 -- what a call comes to whose words are a command, or are none
 abbrev pub ServesAs : Result Command ℕ → (left_before left_after before after : Option (List ℕ)) → (same_source same_sink read_rose write_rose : Type 0) → Status → Type 0
 ServesAs (Err at) left_before left_after before after same_source same_sink read_rose write_rose status =
     Refuses at same_source same_sink status
-ServesAs (Ok command) left_before left_after before after same_source same_sink read_rose write_rose status =
+ServesAs (Ok (Whole command)) left_before left_after before after same_source same_sink read_rose write_rose status =
     ServesCommand command left_before left_after before after same_source same_sink read_rose write_rose status
+ServesAs (Ok (Streamed command)) left_before left_after before after same_source same_sink read_rose write_rose status =
+    ServesFile (form_of command) left_before left_after before after read_rose write_rose status
 
 -- what a call comes to that answers the words with this status
 abbrev pub Serves : (words : List (List ℕ)) → (left_before left_after before after : Option (List ℕ)) → (same_source same_sink read_rose write_rose : Type 0) → Status → Type 0

@@ -12,8 +12,11 @@ use Rattle.capture_commands.specs.CommandBase.ByLine.{task_of}
 use Rattle.capture_commands.specs.CommandBase.ComesAs.{Task, most_input}
 use Rattle.capture_commands.specs.Show.{showing}
 use Rattle.capture_commands.specs.Check.{checking, first_checked}
-use Rattle.clnp_commands.specs.declared.command.Command.{Command}
-use Rattle.clnp_commands.specs.declared.command.Command.TheVariants.{Sim, Show, Check, Storm}
+use Rattle.capture_commands.specs.Pack.{packing}
+use Rattle.pcap_commands.specs.Make.{make_task}
+use Rattle.fair_commands.specs.Reassemble.{reassemble_task}
+use Rattle.clnp_commands.specs.declared.command.WholeCommand.{WholeCommand}
+use Rattle.clnp_commands.specs.declared.command.WholeCommand.TheVariants.{Sim, Show, Check, Pack, PcapMake, Reassemble, Storm}
 use Rattle.clnp_commands.specs.Sim.{AppendsWholeMoves}
 use Rattle.clnp_commands.specs.Storm.{storm_line, storm_output, storm_stopped_at}
 use Rattle.clnp_commands.specs.Words.{reads}
@@ -54,12 +57,15 @@ storm_task seed = record {
 }
 
 -- What a command and an input that isn't too long call for: the journal of a scenario; the lines that show the frames of a
--- capture, up to its first bad line; the verdicts on vectors, up to the first bad line, and their counts; or the line of a
--- storm.
-abbrev pub task : Command → List ℕ → Task
+-- capture, the verdicts on vectors and their counts, the frames that shown lines pack to, or the Ethernet capture that is made
+-- of the lines of frames, each up to the first bad line; what comes of captured frames; or the line of a storm.
+abbrev pub task : WholeCommand → List ℕ → Task
 task Sim text = sim_task text
 task Show text = task_of showing 1 (lines_of text)
 task Check text = task_of checking first_checked (lines_of text)
+task Pack text = task_of packing 1 (lines_of text)
+task PcapMake text = make_task (lines_of text)
+task Reassemble text = reassemble_task text
 task (Storm seed) text = storm_task seed
 
 -- the answer that an input calls for: too long where it is, else that of its task
@@ -68,5 +74,5 @@ CalledWithin true task status = status ≡ TooLong
 CalledWithin false task status = task.calls status
 
 -- the answer that a command and an input call for
-abbrev pub CalledBy : Command → List ℕ → Status → Type 0
+abbrev pub CalledBy : WholeCommand → List ℕ → Status → Type 0
 CalledBy command text status = CalledWithin (reads command && nat_lt most_input (length text)) (task command text) status

@@ -4,15 +4,24 @@ use Rattle.std.specs.Str.{bytes_eq}
 use Rattle.std.specs.Io.KnownBytes.{Keeps}
 use Rattle.clnp_machine.specs.ClnpBase.Text.{decimal_of}
 use Rattle.clnp_commands.specs.declared.command.Command.{Command}
-use Rattle.clnp_commands.specs.declared.command.Command.TheVariants.{Sim, Show, Check, Storm}
+use Rattle.clnp_commands.specs.declared.command.Command.TheVariants.{Whole, Streamed}
+use Rattle.clnp_commands.specs.declared.command.WholeCommand.{WholeCommand}
+use Rattle.clnp_commands.specs.declared.command.WholeCommand.TheVariants.{Sim, Show, Check, Pack, PcapMake, Reassemble, Storm}
+use Rattle.clnp_commands.specs.declared.command.StreamedCommand.{StreamedCommand}
+use Rattle.clnp_commands.specs.declared.command.StreamedCommand.TheVariants.{PcapShow, PcapLines}
 use Rattle.clnp_commands.specs.Sim.{ReadsWhole}
 
 -- the command of this name that reads an input
 abbrev pub command_named : List ℕ → Option Command
 command_named word =
-    if bytes_eq word (codes "sim") then Some Sim
-    else if bytes_eq word (codes "show") then Some Show
-    else if bytes_eq word (codes "check") then Some Check
+    if bytes_eq word (codes "sim") then Some (Whole Sim)
+    else if bytes_eq word (codes "show") then Some (Whole Show)
+    else if bytes_eq word (codes "check") then Some (Whole Check)
+    else if bytes_eq word (codes "pack") then Some (Whole Pack)
+    else if bytes_eq word (codes "pcap-show") then Some (Streamed PcapShow)
+    else if bytes_eq word (codes "pcap-make") then Some (Whole PcapMake)
+    else if bytes_eq word (codes "pcap-lines") then Some (Streamed PcapLines)
+    else if bytes_eq word (codes "reassemble") then Some (Whole Reassemble)
     else None
 
 -- a command stands alone; other words give the first place, from 0, at which they are no command
@@ -24,7 +33,7 @@ alone (Some command) (second ∷ others) = Err 1
 -- the seed stands alone behind `storm`
 abbrev pub storm_with : (seed : Option ℕ) → (others : List (List ℕ)) → Result Command ℕ
 storm_with None others = Err 1
-storm_with (Some seed) [] = Ok (Storm seed)
+storm_with (Some seed) [] = Ok (Whole (Storm seed))
 storm_with (Some seed) (third ∷ others) = Err 2
 
 -- what the words behind `storm` make of it
@@ -32,17 +41,20 @@ abbrev pub storm_of : (others : List (List ℕ)) → Result Command ℕ
 storm_of [] = Err 1
 storm_of (second ∷ others) = storm_with (decimal_of second) others
 
--- The command that the words are: `sim`, `show` or `check` alone, or `storm` and its seed. Words that are no command give
--- the first place, from 0, at which they are none; their number where more are needed.
+-- The command that the words are: its name alone, or `storm` and its seed. Words that are no command give the first place,
+-- from 0, at which they are none; their number where more are needed.
 abbrev pub command_of : List (List ℕ) → Result Command ℕ
 command_of [] = Err 0
 command_of (word ∷ others) = if bytes_eq word (codes "storm") then storm_of others else alone (command_named word) others
 
 -- whether a command reads an input
-abbrev pub reads : Command → Bool
+abbrev pub reads : WholeCommand → Bool
 reads Sim = true
 reads Show = true
 reads Check = true
+reads Pack = true
+reads PcapMake = true
+reads Reassemble = true
 reads (Storm seed) = false
 
 -- What a command takes from the source: all that was left, or nothing.
@@ -52,5 +64,5 @@ Takes false before after text = Keeps before after × (text ≡ [])
 
 -- The input of a command: all that was left in the source; that of a command that reads none is empty, and the source
 -- keeps what was left.
-abbrev pub Reads : Command → (before after : Option (List ℕ)) → (text : List ℕ) → Type 0
+abbrev pub Reads : WholeCommand → (before after : Option (List ℕ)) → (text : List ℕ) → Type 0
 Reads command before after text = Takes (reads command) before after text

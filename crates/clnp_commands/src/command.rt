@@ -7,14 +7,38 @@ use clnp_machine::clnp_base::decimal;
 /// A command of the program. The name of one that reads an input stands alone on the command line.
 #[derive(Clone, Copy, PartialEq, Eq)]
 pub enum Command {
+    /// One that writes nothing before it has read its whole input, if it reads one.
+    Whole(WholeCommand),
+    /// One that works while it reads.
+    Streamed(StreamedCommand),
+}
+
+/// A command that writes nothing before it has read its whole input, if it reads one.
+#[derive(Clone, Copy, PartialEq, Eq)]
+pub enum WholeCommand {
     /// Writes the journal of a scenario.
     Sim,
     /// Shows the frames of a capture.
     Show,
     /// Judges vectors.
     Check,
+    /// Packs shown lines back to frames.
+    Pack,
+    /// Makes an Ethernet capture of the lines of frames.
+    PcapMake,
+    /// Joins the units of captured traffic, with a share for each source.
+    Reassemble,
     /// Counts what a run of the scenario of a seed comes to.
     Storm { seed: u64 },
+}
+
+/// A command that works while it reads.
+#[derive(Clone, Copy, PartialEq, Eq)]
+pub enum StreamedCommand {
+    /// Shows the records of an Ethernet capture.
+    PcapShow,
+    /// Writes the frames of an Ethernet capture as lines of which one can be made.
+    PcapLines,
 }
 
 impl Command {
@@ -39,7 +63,7 @@ impl Command {
             return Err(1);
         };
         match decimal(word.as_bytes()) {
-            Some(seed) if behind.is_empty() => Ok(Command::Storm { seed }),
+            Some(seed) if behind.is_empty() => Ok(Command::Whole(WholeCommand::Storm { seed })),
             Some(_) => Err(2),
             None => Err(1),
         }
@@ -50,23 +74,40 @@ impl Command {
         ensures { result ≡ command_named word.now }
     {
         if word == "sim" {
-            Some(Command::Sim)
+            Some(Command::Whole(WholeCommand::Sim))
         } else if word == "show" {
-            Some(Command::Show)
+            Some(Command::Whole(WholeCommand::Show))
         } else if word == "check" {
-            Some(Command::Check)
+            Some(Command::Whole(WholeCommand::Check))
+        } else if word == "pack" {
+            Some(Command::Whole(WholeCommand::Pack))
+        } else if word == "pcap-show" {
+            Some(Command::Streamed(StreamedCommand::PcapShow))
+        } else if word == "pcap-make" {
+            Some(Command::Whole(WholeCommand::PcapMake))
+        } else if word == "pcap-lines" {
+            Some(Command::Streamed(StreamedCommand::PcapLines))
+        } else if word == "reassemble" {
+            Some(Command::Whole(WholeCommand::Reassemble))
         } else {
             None
         }
     }
+}
 
+impl WholeCommand {
     /// Whether the command reads an input.
     pub fn reads(self) -> bool
         ensures { result ≡ reads self }
     {
         match self {
-            Command::Sim | Command::Show | Command::Check => true,
-            Command::Storm { .. } => false,
+            WholeCommand::Sim
+            | WholeCommand::Show
+            | WholeCommand::Check
+            | WholeCommand::Pack
+            | WholeCommand::PcapMake
+            | WholeCommand::Reassemble => true,
+            WholeCommand::Storm { .. } => false,
         }
     }
 }

@@ -9,10 +9,10 @@ mod sim;
 mod storm;
 mod top;
 
+pub use capture_commands::command_base;
 pub use clnp_machine::clnp_base;
 pub use clnp_world;
 pub use clnp_world::scenario;
-pub use capture_commands::command_base;
-pub use command::Command;
+pub use command::{Command, StreamedCommand, WholeCommand};
 pub use command_base::Status;
 pub use top::clnp_main;

@@ -7,19 +7,23 @@ ghost use Rattle.clnp_world.specs.Scenario.Scenario.{IsClosed};
 ghost use Rattle.clnp_world.specs.Scenario.Seeds as seeds;
 ghost use Rattle.clnp_safety.specs.Runs.{RunsAreSafe};
 ghost use Rattle.clnp_commands.specs.Words.{reads, Reads};
-ghost use Rattle.clnp_commands.specs.Serves.{Serves, TakesTooMany, TakesWithin};
+ghost use Rattle.pcap_commands.specs.Serves.{ServesFile};
+ghost use Rattle.clnp_commands.specs.Serves.{Serves, ServesCommand, TakesTooMany, TakesWithin, form_of};
 ghost use Rattle.clnp_commands.specs.Tasks.{task};
 ghost use Rattle.capture_commands.specs.CommandBase.ComesAs.{ComesAs, most_input};
 
-use crate::command::Command;
+use crate::command::{Command, StreamedCommand, WholeCommand};
 use crate::sim::sim;
 use crate::storm::storm;
-use capture_commands::command_base::Status;
 use capture_commands::check::check;
+use capture_commands::command_base::Status;
+use capture_commands::pack::pack;
 use capture_commands::show::show;
 use clnp_machine::clnp_base::{ReadStop, Sink, Source, read_all};
 use clnp_safety::laws::runs_are_safe;
 use clnp_world::scenario::laws;
+use fair_commands::reassemble;
+use pcap_commands::{pcap_lines, pcap_make, pcap_show};
 use std::alloc::Global;
 
 /// The most octets of an input.
@@ -30,8 +34,11 @@ const MOST_INPUT: usize = 16_777_216;
 /// `sim` reads a scenario text and writes its journal. Nothing is written before the whole text
 /// was accepted. `show` reads a capture and writes a line for each of its frames, up to the first
 /// bad line. `check` reads vectors and writes the verdict on each, up to the first bad line, and at
-/// the end how many passed and how many failed. `storm` reads nothing: it runs the scenario that its
-/// seed makes, and writes one line of what the run's journal counts.
+/// the end how many passed and how many failed. `pack` reads shown lines and writes the frame that
+/// each packs to, up to the first bad line. `pcap-show` and `pcap-lines` read an Ethernet capture and
+/// write a line for each of its records while they read; `pcap-make` makes one of such lines.
+/// `reassemble` reads captured frames and writes what comes of each. `storm` reads nothing: it runs the
+/// scenario that its seed makes, and writes one line of what the run's journal counts.
 pub fn clnp_main<S: Source, K: Sink>(
     alloc: Global,
     words: &[String],
@@ -54,16 +61,48 @@ pub fn clnp_main<S: Source, K: Sink>(
     ensures safe { (text : List ℕ) → IfOk (plan_of text) RunsAreSafe }
 {
     every_run_is_safe();
-    let command = match Command::of(words) {
-        Ok(command) => command,
-        Err(at) => return Status::BadWords { at },
-    };
+    match Command::of(words) {
+        Ok(Command::Whole(command)) => serve(alloc, command, source, sink),
+        Ok(Command::Streamed(command)) => serve_streamed(alloc, command, source, sink),
+        Err(at) => Status::BadWords { at },
+    }
+}
+
+/// Runs a command that writes nothing before it has read its whole input, if it reads one.
+fn serve<S: Source, K: Sink>(
+    alloc: Global,
+    command: WholeCommand,
+    source: &mut S,
+    sink: &mut K,
+) -> Status
+    ensures later { (S.faults source.old ≤ S.faults source.new) × (K.faults sink.old ≤ K.faults sink.new) }
+    ensures serves { ServesCommand command (S.left source.old) (S.left source.new) (K.written sink.old) (K.written sink.new)
+        (source.new ≡ source.old) (sink.new ≡ sink.old)
+        (Rose (S.faults source.old) (S.faults source.new)) (Rose (K.faults sink.old) (K.faults sink.new)) result }
+{
     let mut text = Vec::new(alloc);
     match read_input(alloc, command, source, &mut text) {
         Ok(()) => obey(alloc, command, text.as_slice(), sink),
         Err(ReadStop::Failed) => Status::ReadFault,
         Err(ReadStop::TooLong) => Status::TooLong,
         Err(ReadStop::NoMemory) => Status::NoMemory,
+    }
+}
+
+/// Runs a command that works while it reads.
+fn serve_streamed<S: Source, K: Sink>(
+    alloc: Global,
+    command: StreamedCommand,
+    source: &mut S,
+    sink: &mut K,
+) -> Status
+    ensures later { (S.faults source.old ≤ S.faults source.new) × (K.faults sink.old ≤ K.faults sink.new) }
+    ensures serves { ServesFile (form_of command) (S.left source.old) (S.left source.new) (K.written sink.old) (K.written sink.new)
+        (Rose (S.faults source.old) (S.faults source.new)) (Rose (K.faults sink.old) (K.faults sink.new)) result }
+{
+    match command {
+        StreamedCommand::PcapShow => pcap_show(alloc, source, sink),
+        StreamedCommand::PcapLines => pcap_lines(alloc, source, sink),
     }
 }
 
@@ -80,7 +119,7 @@ fn every_run_is_safe()
 /// Reads the input of a command that reads one.
 fn read_input<S: Source>(
     alloc: Global,
-    command: Command,
+    command: WholeCommand,
     source: &mut S,
     text: &mut Vec<u8>,
 ) -> Result<(), ReadStop>
@@ -100,16 +139,19 @@ fn read_input<S: Source>(
 }
 
 /// Runs a command on the text of its input.
-fn obey<K: Sink>(alloc: Global, command: Command, text: &[u8], sink: &mut K) -> Status
+fn obey<K: Sink>(alloc: Global, command: WholeCommand, text: &[u8], sink: &mut K) -> Status
     requires { length text.now ≤ most_input }
     ensures later { K.faults sink.old ≤ K.faults sink.new }
     ensures comes_to { ComesAs (task command text.now) (K.written sink.old) (K.written sink.new) result }
     ensures failed { result ≡ Status.WriteFault → Rose (K.faults sink.old) (K.faults sink.new) }
 {
     match command {
-        Command::Sim => sim(alloc, text, sink),
-        Command::Show => show(alloc, text, sink),
-        Command::Check => check(alloc, text, sink),
-        Command::Storm { seed } => storm(alloc, seed, sink),
+        WholeCommand::Sim => sim(alloc, text, sink),
+        WholeCommand::Show => show(alloc, text, sink),
+        WholeCommand::Check => check(alloc, text, sink),
+        WholeCommand::Pack => pack(alloc, text, sink),
+        WholeCommand::PcapMake => pcap_make(alloc, text, sink),
+        WholeCommand::Reassemble => reassemble(alloc, text, sink),
+        WholeCommand::Storm { seed } => storm(alloc, seed, sink),
     }
 }
