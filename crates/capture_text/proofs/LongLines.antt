@@ -1,6 +1,6 @@
 -- A shown line has at least two characters for each octet of its frame; and the digits of an accepted frame are a line of a
 -- capture, of that frame.
-use Rattle.std.proofs.Common.{◌≡◌, ℕ, ◌+◌, ◌*◌, ◌/◌, ◌<◌, ◌≤◌, ◌==◌, false, inl, inr, List, [], ◌∷◌, ◌++◌, length, slice_index, codes, Option, None, Some, is_some, Ok, refl, sym, ap, subst, ◌∙◌, arith, length-append}
+use Rattle.std.proofs.Common.{◌≡◌, ℕ, ◌+◌, ◌*◌, ◌/◌, ◌<◌, ◌≤◌, false, inl, inr, List, [], ◌∷◌, ◌++◌, length, slice_index, codes, Option, None, Some, ap, ◌∙◌, arith, length-append}
 use Rattle.std.specs.Fmt.{decimal}
 use Rattle.std.proofs.lemmas.Bool.{ne_eqb}
 use Rattle.hex.specs.Hex.{IsBytes, encode_with, hex_digit_value, lower_digits}
@@ -8,7 +8,6 @@ use Rattle.hex.proofs.HexLemmas.{IsDigits-lower_digits, decode_of-encode_lower, 
 use Rattle.captures.specs.ClnpOptions.Grammar.{joined}
 use Rattle.captures.specs.ClnpOptions.Parameter.{Parameter, spelled, spelling}
 use Rattle.captures.specs.Nsap.Text.{hex_text}
-use Rattle.captures.specs.PduHeader.Grammar as clnp
 use Rattle.captures.specs.PduHeader.Spelling.{counted, header, header_length, pair_of, segmentation_octets, variable_part}
 use Rattle.captures.specs.PduHeader.Value.{SegmentationPart, PduValue}
 use Rattle.captures.proofs.PduHeader.Written.{length-header}
@@ -20,11 +19,11 @@ use Rattle.captures.specs.EsisPdus.Value.{EsisValue}
 use Rattle.captures.proofs.EsisPdus.Frames.{laid_out}
 use Rattle.captures.specs.Captures as capture
 use Rattle.captures.specs.Captures.{capture_of, is_skipped, most_octets}
-use Rattle.captures.specs.Words.{octet_word, pair_word, option_text, options_text, checksum_of}
-use Rattle.captures.specs.Shown.{ShowsValue, kind_word, flags_word, letters_of, front_text, kind_and_flags_text, segmentation_text, value_text}
+use Rattle.captures.specs.Words.{pair_word, option_text, options_text, checksum_of}
+use Rattle.captures.specs.Shown.{ShowsValue, front_text, kind_and_flags_text, segmentation_text, value_text}
 use Rattle.captures.specs.EsisShown.{ShowsEsis, address_text, addresses_text, body_text, esis_text, esis_word}
 use Rattle.captures.proofs.CaptureFacts as facts
-use Rattle.capture_text.specs.Packing.{IsAccepted, Packs, PacksWithin}
+use Rattle.capture_text.specs.Packing.{IsAccepted, Packs}
 use Rattle.capture_text.proofs.Packed.{value_of}
 use Rattle.capture_text.proofs.ReadBack.{half}
 
@@ -56,9 +55,15 @@ segmentation_long None = omega arith
 segmentation_long (Some part) =
     let total : List ℕ = codes " total=" ++ decimal part.total in
     let off : List ℕ = codes " off=" ++ (decimal part.offset ++ total) in
-    omega (arith, digits_behind (codes " id=") (pair_of part.identifier) off, length-append (codes " off=") (decimal part.offset ++ total),
-    length-append (decimal part.offset) total, length-append (codes " total=") (decimal part.total),
-    length-append (pair_of part.identifier) (pair_of part.offset ++ pair_of part.total), length-append (pair_of part.offset) (pair_of part.total))
+    omega (
+      arith,
+      digits_behind (codes " id=") (pair_of part.identifier) off,
+      length-append (codes " off=") (decimal part.offset ++ total),
+      length-append (decimal part.offset) total,
+      length-append (codes " total=") (decimal part.total),
+      length-append (pair_of part.identifier) (pair_of part.offset ++ pair_of part.total),
+      length-append (pair_of part.offset) (pair_of part.total),
+    )
 
 -- ---- PDUs of CLNP
 
@@ -69,29 +74,57 @@ front_long v sum =
     let to : List ℕ = codes " to=" ++ (hex_text v.destination ++ from) in
     let sums : List ℕ = codes " sum=" ++ (pair_word sum ++ to) in
     let life : List ℕ = codes " life=" ++ (decimal v.lifetime ++ sums) in
-    omega (arith, length-append (kind_and_flags_text v) life, length-append (codes " life=") (decimal v.lifetime ++ sums), length-append (decimal v.lifetime) sums,
-    digits_behind (codes " sum=") (pair_of sum) to, digits_behind (codes " to=") v.destination from, last_digits (codes " from=") v.source)
+    omega (
+      arith,
+      length-append (kind_and_flags_text v) life,
+      length-append (codes " life=") (decimal v.lifetime ++ sums),
+      length-append (decimal v.lifetime) sums,
+      digits_behind (codes " sum=") (pair_of sum) to,
+      digits_behind (codes " to=") v.destination from,
+      last_digits (codes " from=") v.source,
+    )
 
 variable_long : (v : PduValue) → length (variable_part v) ≡ 2 + length v.destination + length v.source + length (segmentation_octets v.segmentation) + length (spelled v.options)
 variable_long v =
-    omega (arith, length-append (counted v.destination) (counted v.source ++ (segmentation_octets v.segmentation ++ spelled v.options)),
-    length-append (counted v.source) (segmentation_octets v.segmentation ++ spelled v.options), length-append (segmentation_octets v.segmentation) (spelled v.options))
+    omega (
+      arith,
+      length-append (counted v.destination) (counted v.source ++ (segmentation_octets v.segmentation ++ spelled v.options)),
+      length-append (counted v.source) (segmentation_octets v.segmentation ++ spelled v.options),
+      length-append (segmentation_octets v.segmentation) (spelled v.options),
+    )
 
 value_long : (v : PduValue) (sum : ℕ) (rest : List ℕ)
     → 2 * (header_length v + length v.body + length rest) ≤ length (value_text v sum rest)
 value_long v sum rest =
     let body : List ℕ = codes " data=" ++ (hex_text v.body ++ (codes " rest=" ++ hex_text rest)) in
     let options : List ℕ = options_text v.options ++ body in
-    omega (arith, front_long v sum, variable_long v, segmentation_long v.segmentation, options_long v.options,
-    length-append (front_text v sum) (segmentation_text v.segmentation ++ options), length-append (segmentation_text v.segmentation) options,
-    length-append (options_text v.options) body, digits_behind (codes " data=") v.body (codes " rest=" ++ hex_text rest), last_digits (codes " rest=") rest)
+    omega (
+      arith,
+      front_long v sum,
+      variable_long v,
+      segmentation_long v.segmentation,
+      options_long v.options,
+      length-append (front_text v sum) (segmentation_text v.segmentation ++ options),
+      length-append (segmentation_text v.segmentation) options,
+      length-append (options_text v.options) body,
+      digits_behind (codes " data=") v.body (codes " rest=" ++ hex_text rest),
+      last_digits (codes " rest=") rest,
+    )
 
 clnp_long : (line frame : List ℕ) → ShowsValue frame line → 2 * length frame ≤ length line
 clnp_long line frame shows =
     let v : PduValue = shows.value in
     let octets = shows.begins.octets in
-    omega (arith, ap length shows.text, value_long v (checksum_of frame) shows.rest, ap length shows.begins.split, length-append octets shows.rest,
-    ap length shows.begins.spells.octets_are, length-append (header v) v.body, length-header v)
+    omega (
+      arith,
+      ap length shows.text,
+      value_long v (checksum_of frame) shows.rest,
+      ap length shows.begins.split,
+      length-append octets shows.rest,
+      ap length shows.begins.spells.octets_are,
+      length-append (header v) v.body,
+      length-header v,
+    )
 
 -- ---- PDUs of ES-IS
 
@@ -99,8 +132,13 @@ addresses_long : (addresses : List (List ℕ)) → 2 * length (joined addresses)
 unfolding joined addresses_text
 addresses_long [] = omega arith
 addresses_long (address ∷ others) =
-    omega (arith, addresses_long others, length-append (length address ∷ address) (joined others), length-append (address_text address) (addresses_text others),
-    last_digits (codes " addr=") address)
+    omega (
+      arith,
+      addresses_long others,
+      length-append (length address ∷ address) (joined others),
+      length-append (address_text address) (addresses_text others),
+      last_digits (codes " addr=") address,
+    )
 
 body_long : (body : EsisBody) → 2 * length (body_octets body) ≤ 2 + length (body_text body)
 unfolding body_text
@@ -108,9 +146,14 @@ body_long (Esh addresses) = omega (arith, addresses_long addresses)
 body_long (Ish title) = omega (arith, last_digits (codes " title=") title)
 body_long (Rd to via title) =
     let name : List ℕ = title_octets title in
-    omega (arith, length-append (counted to) (counted via ++ counted name), length-append (counted via) (counted name),
-    digits_behind (codes " to=") to (codes " via=" ++ (hex_text via ++ (codes " title=" ++ hex_text name))),
-    digits_behind (codes " via=") via (codes " title=" ++ hex_text name), last_digits (codes " title=") name)
+    omega (
+      arith,
+      length-append (counted to) (counted via ++ counted name),
+      length-append (counted via) (counted name),
+      digits_behind (codes " to=") to (codes " via=" ++ (hex_text via ++ (codes " title=" ++ hex_text name))),
+      digits_behind (codes " via=") via (codes " title=" ++ hex_text name),
+      last_digits (codes " title=") name,
+    )
 
 esis_value_long : (v : EsisValue) (sum : ℕ) (rest : List ℕ) → 2 * (esis.header_length v + length rest) ≤ length (esis_text v sum rest)
 esis_value_long v sum rest =
@@ -118,10 +161,19 @@ esis_value_long v sum rest =
     let behind_sum : List ℕ = body_text v.body ++ behind_body in
     let sums : List ℕ = codes " sum=" ++ (pair_word sum ++ behind_sum) in
     let hold : List ℕ = codes " hold=" ++ (decimal v.holding ++ sums) in
-    omega (arith, length-append (esis_word v.body) hold, length-append (codes " hold=") (decimal v.holding ++ sums), length-append (decimal v.holding) sums,
-    digits_behind (codes " sum=") (pair_of sum) behind_sum, length-append (body_text v.body) behind_body,
-    length-append (options_text v.options) (codes " rest=" ++ hex_text rest), last_digits (codes " rest=") rest,
-    body_long v.body, options_long v.options, length-append (body_octets v.body) (spelled v.options))
+    omega (
+      arith,
+      length-append (esis_word v.body) hold,
+      length-append (codes " hold=") (decimal v.holding ++ sums),
+      length-append (decimal v.holding) sums,
+      digits_behind (codes " sum=") (pair_of sum) behind_sum,
+      length-append (body_text v.body) behind_body,
+      length-append (options_text v.options) (codes " rest=" ++ hex_text rest),
+      last_digits (codes " rest=") rest,
+      body_long v.body,
+      options_long v.options,
+      length-append (body_octets v.body) (spelled v.options),
+    )
 
 esis_octets : (v : EsisValue) → length (esis.spelling v) ≡ esis.header_length v
 esis_octets v = let out = laid_out v in ap length out.layout ∙ omega arith
@@ -130,8 +182,15 @@ esis_long : (line frame : List ℕ) → ShowsEsis frame line → 2 * length fram
 esis_long line frame shows =
     let v : EsisValue = shows.value in
     let octets = shows.begins.octets in
-    omega (arith, ap length shows.text, esis_value_long v (checksum_of frame) shows.rest, ap length shows.begins.split, length-append octets shows.rest,
-    ap length shows.begins.spells.octets_are, esis_octets v)
+    omega (
+      arith,
+      ap length shows.text,
+      esis_value_long v (checksum_of frame) shows.rest,
+      ap length shows.begins.split,
+      length-append octets shows.rest,
+      ap length shows.begins.spells.octets_are,
+      esis_octets v,
+    )
 
 pub shown_long : (line frame : List ℕ) → Packs line frame → 2 * length frame ≤ length line
 shown_long line frame packs =

@@ -1,5 +1,5 @@
 -- A shown line, and the digits of a frame, are one line of a text each.
-use Rattle.std.proofs.Common.{◌≡◌, ℕ, ◌/◌, ◌%◌, ◌<◌, ◌==◌, Bool, true, false, inl, inr, List, [], ◌∷◌, ◌++◌, slice_index, codes, Option, None, Some, is_some, refl, sym, subst}
+use Rattle.std.proofs.Common.{◌≡◌, ℕ, ◌/◌, ◌%◌, ◌<◌, Bool, true, false, inl, inr, List, [], ◌∷◌, ◌++◌, slice_index, codes, Option, None, Some, is_some, refl, sym, subst}
 use Rattle.std.specs.Prelude.{nat_lt}
 use Rattle.std.specs.List.{AllByRecursion, list_all}
 use Rattle.std.specs.Fmt.{decimal}
@@ -18,9 +18,9 @@ use Rattle.captures.specs.EsisPdus.declared.pdu.EsisBody.{EsisBody}
 use Rattle.captures.specs.EsisPdus.declared.pdu.EsisBody.TheVariants.{Esh, Ish, Rd}
 use Rattle.captures.specs.EsisPdus.Spelling.{title_octets}
 use Rattle.captures.specs.EsisPdus.Value.{EsisValue}
-use Rattle.captures.specs.Words.{octet_word, pair_word, option_text, options_text, checksum_of}
-use Rattle.captures.specs.Shown.{ShowsValue, kind_word, flags_word, letters_of, front_text, kind_and_flags_text, segmentation_text, value_text}
-use Rattle.captures.specs.EsisShown.{ShowsEsis, address_text, addresses_text, body_text, esis_text, esis_word}
+use Rattle.captures.specs.Words.{pair_word, option_text, options_text, checksum_of}
+use Rattle.captures.specs.Shown.{kind_word, flags_word, letters_of, front_text, kind_and_flags_text, segmentation_text, value_text}
+use Rattle.captures.specs.EsisShown.{address_text, addresses_text, body_text, esis_text, esis_word}
 use Rattle.captures.proofs.ClnpBase.Lists.{AllByRecursion-append, AllByRecursion-implies}
 use Rattle.captures.proofs.ClnpBase.Reading.{IsWithinLine, lines_of-line}
 use Rattle.capture_text.specs.Packing.{Packs}

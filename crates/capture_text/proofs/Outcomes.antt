@@ -1,7 +1,6 @@
 -- What comes of packing a line is computed as the relations say.
-use Rattle.std.proofs.Common.{◌≡◌, ◌↔◌, ℕ, zero, suc, ◌==◌, ◌&&◌, Bool, true, false, if◌then◌else◌, List, [], ◌∷◌, length, Option, Some, None, MatchBool, inl, inr, ◌⊎◌, refl, sym, ap, subst, ◌∙◌, arith}
+use Rattle.std.proofs.Common.{◌≡◌, ◌↔◌, ℕ, zero, suc, ◌==◌, ◌&&◌, Bool, true, false, if◌then◌else◌, List, [], ◌∷◌, length, Option, Some, None, MatchBool, inl, inr, refl, sym, ap, subst, ◌∙◌, arith}
 use Rattle.std.specs.Prelude.{is_none, nat_lt}
-use Rattle.std.specs.List.{list_all}
 use Rattle.std.specs.Str.{bytes_eq}
 use Rattle.std.proofs.lemmas.Bool.{and_from, and_parts, lt-ltb, ltb-true, true≢false}
 use Rattle.hex.specs.Hex.{IsBytes}
@@ -18,7 +17,7 @@ use Rattle.captures.specs.Captures.{is_skipped, most_octets}
 use Rattle.captures.specs.Words.{checksum_of}
 use Rattle.captures.specs.Shown.{Shows, ShowsValue, value_text}
 use Rattle.captures.specs.EsisShown.{ShowsEsis, esis_text}
-use Rattle.captures.proofs.ClnpBase.Choices.{below_not, not_below}
+use Rattle.captures.proofs.ClnpBase.Choices.{not_below}
 use Rattle.captures.proofs.ClnpBase.SameOctets.{same_from, same_from_equal}
 use Rattle.captures.proofs.PduHeader.Frames as pdu_frames
 use Rattle.captures.proofs.EsisPdus.Frames as esis_frames
