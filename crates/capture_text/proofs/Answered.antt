@@ -13,23 +13,23 @@ use Rattle.capture_text.specs.View.{Misses}
 use Rattle.capture_text.proofs.Packed.{accepted, asked, one_frame, one_some, read_back}
 
 -- a skipped line is none of a refused frame
-skipped_packable : (line : List ℕ) → is_skipped line ≡ true → is_unpackable line ≡ true → ⊥
+pub skipped_packable : (line : List ℕ) → is_skipped line ≡ true → is_unpackable line ≡ true → ⊥
 skipped_packable [] skipped unpackable = cc
 skipped_packable (c ∷ cs) skipped unpackable =
     let P : ℕ → Type 0 = λ n. is_unpackable (n ∷ cs) ≡ true in
     let f : is_unpackable (35 ∷ cs) ≡ true = subst P (eqb-true c 35 skipped) unpackable in
     absurd (true≢false (sym f))
 
-not_both : (line : List ℕ) → PacksTooMuch line → (frame : List ℕ) → PacksWithin line frame → ⊥
+pub not_both : (line : List ℕ) → PacksTooMuch line → (frame : List ℕ) → PacksWithin line frame → ⊥
 not_both line many frame within =
     let same : many.frame ≡ frame = one_frame line many.frame frame many.packs within.packs in
     let e : length many.frame ≡ length frame = ap length same in
     absurd (omega (arith, e, many.many, within.few))
 
-not_skipped : (line : List ℕ) → is_skipped line ≡ true → IsAsked line → ⊥
+pub not_skipped : (line : List ℕ) → is_skipped line ≡ true → IsAsked line → ⊥
 not_skipped line skipped is = let f = is.unskipped in cc
 
-not_unpackable : (line : List ℕ) → is_unpackable line ≡ true → IsAsked line → ⊥
+pub not_unpackable : (line : List ℕ) → is_unpackable line ≡ true → IsAsked line → ⊥
 not_unpackable line unpackable is = let f = is.packable in cc
 
 pub skipped : (r : Result Bool PackRefusal) (line : List ℕ) → Tells r line → (r ≡ Ok false) ↔ (is_skipped line ≡ true)

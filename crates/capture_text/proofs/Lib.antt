@@ -7,3 +7,6 @@ pub mod ClnpLines
 pub mod EsisLines
 pub mod Packed
 pub mod Answered
+pub mod Outcomes
+pub mod OneLine
+pub mod LongLines

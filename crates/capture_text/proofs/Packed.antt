@@ -32,7 +32,8 @@ shown_by true (Some r) esis frame line accepted shown = cc accepted
 shown_by false clnp None frame line accepted shown = inr shown
 shown_by false clnp (Some r) frame line accepted shown = cc accepted
 
-value_of : (line frame : List ℕ) → Packs line frame → ShowsValue frame line ⊎ ShowsEsis frame line
+-- an accepted frame is shown as a PDU of CLNP or as one of ES-IS
+pub value_of : (line frame : List ℕ) → Packs line frame → ShowsValue frame line ⊎ ShowsEsis frame line
 value_of line frame packs = shown_by (octet frame 1 == 0x81) (refusal frame) (why_refused frame) frame line packs.accepted packs.shown
 
 -- the frame that is read of a line is the frame that it packs to

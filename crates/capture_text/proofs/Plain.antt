@@ -65,7 +65,7 @@ last_word word is = ap (λ (t : List ℕ). words_of t) (sym (append-nil word)) �
 hex_digit_plain : (c v : ℕ) → hex_digit_value c ≡ Some v → 32 < c
 hex_digit_plain c v h = grind (arith)
 
-digit_plain : (d : ℕ) → d < 16 → 32 < slice_index lower_digits d
+pub digit_plain : (d : ℕ) → d < 16 → 32 < slice_index lower_digits d
 digit_plain d h = hex_digit_plain (slice_index lower_digits d) d (IsDigits-lower_digits d h)
 
 pub hex_plain : (octets : List ℕ) → IsBytes octets → AllByRecursion IsPlain (hex_text octets)

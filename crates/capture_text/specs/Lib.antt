@@ -3,3 +3,4 @@ pub mod Said
 pub mod Words
 pub mod Laid
 pub mod View
+pub mod Outcome
