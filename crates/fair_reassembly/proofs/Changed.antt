@@ -1,9 +1,10 @@
 -- A table that became another one in its place.
-use Rattle.std.proofs.Common.{◌≡◌, ℕ, ◌<◌, List, length, get_or, refl, sym, subst}
+use Rattle.std.proofs.Common.{◌≡◌, ℕ, ◌<◌, List, length, get_or, refl, sym, ap, ◌∙◌, subst, set-set}
 use Rattle.std.specs.Prelude.{Some, slice_get, slice_set}
-use Rattle.std.proofs.lemmas.Option.{slice_get_read}
+use Rattle.std.proofs.lemmas.Option.{same_Some, slice_get_read, slice_get_within}
+use Rattle.pdu_header.proofs.ClnpBase.Lists.{slice_get-set, slice_set-same}
 use Rattle.reassembly.specs.State.{TableState}
-use Rattle.fair_reassembly.specs.Tables.{ChangesTable, FairState}
+use Rattle.fair_reassembly.specs.Tables.{ChangesTable, FairState, with_table}
 
 pub there : (tables : List TableState) (place : ℕ) (table : TableState) → place < length tables → table ≡ get_or tables place table
     → slice_get tables place ≡ Some table
@@ -25,3 +26,38 @@ module _ (place : ℕ) (sources : List (List ℕ)) (tables : List TableState) (b
         changes = changes;
         rest = refl;
       })
+
+-- one change behind another of the table at the same place
+module _ (place : ℕ) (Changes Then Both : TableState → TableState → Type 0) where
+  -- the table that stands there then
+  pub stands_then : (before after : FairState) → (c : ChangesTable place before after Changes) → slice_get after.tables place ≡ Some c.new
+  stands_then before after c =
+      ap (λ (s : FairState). slice_get s.tables place) c.rest
+      ∙ slice_get-set before.tables place c.new (slice_get_within before.tables place c.old c.stood)
+
+  pub changed_as : (before after : FairState) → ((old new : TableState) → slice_get after.tables place ≡ Some new → Changes old new → Both old new)
+      → ChangesTable place before after Changes → ChangesTable place before after Both
+  changed_as before after weaker c =
+      record { old = c.old; new = c.new; stood = c.stood; changes = weaker c.old c.new (stands_then before after c) c.changes; rest = c.rest }
+
+  pub changed_then : (before between after : FairState)
+      → ((old mid new : TableState) → slice_get between.tables place ≡ Some mid → Changes old mid → Then mid new → Both old new)
+      → ChangesTable place before between Changes → ChangesTable place between after Then → ChangesTable place before after Both
+  changed_then before between after both c d =
+      let mid = stands_then before between c in
+      let same : d.old ≡ c.new = same_Some d.old c.new (sym d.stood ∙ mid) in
+      let twice : List TableState → FairState = λ tables. record { sources = before.sources; tables = tables } in
+      record {
+        old = c.old;
+        new = d.new;
+        stood = c.stood;
+        changes = both c.old c.new d.new mid c.changes (subst (λ (table : TableState). Then table d.new) same d.changes);
+        rest = d.rest ∙ ap (with_table place d.new) c.rest ∙ ap twice (set-set before.tables place c.new d.new);
+      }
+
+  -- nothing changed
+  pub unchanged : (state : FairState) (table : TableState) → slice_get state.tables place ≡ Some table → Both table table
+      → ChangesTable place state state Both
+  unchanged state table at same =
+      let inside : List TableState → FairState = λ tables. record { sources = state.sources; tables = tables } in
+      record { old = table; new = table; stood = at; changes = same; rest = sym (ap inside (slice_set-same state.tables place table at)) }

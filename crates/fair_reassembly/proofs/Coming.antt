@@ -95,6 +95,7 @@ pub offered : (now : ℕ) (frame : List ℕ) (v : PduValue) (before after : Fair
 offered now frame v before after place told segment found alive some place_is same changes = record {
   alive = alive;
   found = found;
+  stands_in = (there_is v.segmentation v.more found some).0;
   is_part = some;
   place_is = place_is;
   offered = subst (λ (x : Segment). ChangesTable place before after (Accepts now x told)) same changes;

@@ -1,6 +1,8 @@
 -- What is kept over frames: the numbers of a table, and that no buffer is whole.
-use Rattle.std.proofs.Common.{◌≡◌, ◌≤◌, ℕ, zero, suc, ◌==◌, List, [], ◌∷◌, length, map, sum, Option, None, Some, refl, arith}
-use Rattle.std.specs.Prelude.{fold}
+use Rattle.std.proofs.Common.{◌≡◌, ◌+◌, ◌<◌, ◌≤◌, ℕ, zero, suc, ◌==◌, List, [], ◌∷◌, length, map, sum, get_or, Option, None, Some, refl, sym, ap, ◌∙◌, subst, arith}
+use Rattle.std.specs.Prelude.{fold, slice_get, unwrap_or}
+use Rattle.std.proofs.lemmas.List.{length-map}
+use Rattle.std.proofs.lemmas.List.FromFn.{fill_by_all}
 use Rattle.pdu_header.proofs.ClnpBase.Choices.{one_of}
 use Rattle.pdu_header.proofs.ClnpBase.Sums.{sum_cons}
 use Rattle.pdu_header.specs.ClnpViews.Extent.{Extent}
@@ -15,7 +17,9 @@ use Rattle.reassembly.specs.Claims.{KeepTo, NoneIsWhole}
 use Rattle.reassembly.proofs.Shared.{kept_within, none_whole-after, none_whole-released, none_whole-without, without_within}
 use Rattle.fair_reassembly.specs.Claims.{budget_of_all, held_by_all, places_of}
 use Rattle.fair_reassembly.specs.declared.came.Came.{Came}
+use Rattle.fair_reassembly.specs.declared.share.Share.{Share}
 use Rattle.fair_reassembly.specs.Classes.{Effect, Shares, arrives, buffers_behind, class_buffers, comes, ends_due, expire, frames_of, limits_at, offers, takes, takes_in}
+use Rattle.fair_reassembly.specs.Tables.{limits_of}
 use Rattle.fair_reassembly.specs.Coming.{part_of, segment_in, value_in}
 
 pub fold_keeps : {A B : Type 0} (P : B → Type 0) (f : B → A → B) → ((b : B) (x : A) → P b → P (f b x)) → (b : B) → P b → (xs : List A) → P (fold f b xs)
@@ -103,7 +107,24 @@ sum_within f g below (x ∷ xs) =
     let d = sum_within f g below xs in
     omega arith
 
+-- the budgets, by the places of the tables
+budget_at : (limits : List TableLimits) (other : TableLimits) (place : ℕ) → place < length limits
+    → get_or (map (λ (one : TableLimits). one.budget) limits) place 0 ≡ (unwrap_or (slice_get limits place) other).budget
+budget_at [] other place within = absurd (omega arith)
+budget_at (one ∷ limits) other zero within = refl
+budget_at (one ∷ limits) other (suc place) within = budget_at limits other place (omega arith)
+
+budgets_by_place : (s : Shares)
+    → map (λ (one : TableLimits). one.budget) (limits_of s.others s.shares) ≡ map (λ place. (limits_at s place).budget) (places_of s)
+budgets_by_place s =
+    let all = limits_of s.others s.shares in
+    let budget : TableLimits → ℕ = λ one. one.budget in
+    let many : length all ≡ length s.shares + 1 = omega (arith, length-map s.shares (λ (share : Share). share.limits)) in
+    fill_by_all (λ (place : ℕ). (limits_at s place).budget) (map budget all) (length s.shares + 1) 0 (length-map all budget ∙ many)
+    (λ place within. budget_at all s.others place (omega arith))
+
 pub held_within : (s : Shares) (frames : List Came) → held_by_all s frames ≤ budget_of_all s
 held_within s frames =
-    sum_within (λ (place : ℕ). held (class_buffers s place frames)) (λ (place : ℕ). (limits_at s place).budget)
-    (λ place. (within_limits (limits_at s place) (frames_of s place frames)).budget) (places_of s)
+    subst (λ (most : ℕ). held_by_all s frames ≤ most) (sym (ap sum (budgets_by_place s)))
+    (sum_within (λ (place : ℕ). held (class_buffers s place frames)) (λ (place : ℕ). (limits_at s place).budget)
+    (λ place. (within_limits (limits_at s place) (frames_of s place frames)).budget) (places_of s))

@@ -1,10 +1,13 @@
 -- Tables without buffers, one after the other.
-use Rattle.std.proofs.Common.{◌≡◌, suc, List, [], ◌∷◌, ◌++◌, length, refl, ap}
+use Rattle.std.proofs.Common.{◌≡◌, ℕ, zero, suc, List, [], ◌∷◌, ◌++◌, length, Some, refl, ap, subst}
+use Rattle.std.specs.Prelude.{slice_get, unwrap_or}
+use Rattle.std.proofs.lemmas.Option.{same_Some}
 use Rattle.reassembly.specs.declared.table.TableLimits.{TableLimits}
 use Rattle.reassembly.specs.State.{TableState}
 use Rattle.std.proofs.lemmas.List.{map-append}
 use Rattle.fair_reassembly.specs.declared.share.Share.{Share}
-use Rattle.fair_reassembly.specs.Tables.{AreOpened, IsOpened, limits_of}
+use Rattle.fair_reassembly.specs.Behind.{StandBehind}
+use Rattle.fair_reassembly.specs.Tables.{AreNew, AreOpened, FairState, IsOpened, limits_of}
 
 pub opened-push : (limits : List TableLimits) (tables : List TableState) (last : TableLimits) (table : TableState)
     → AreOpened limits tables → IsOpened last table → AreOpened (limits ++ last ∷ []) (tables ++ table ∷ [])
@@ -19,6 +22,23 @@ opened-length [] [] all = refl
 opened-length [] (first ∷ tables) all = absurd all
 opened-length (first ∷ limits) [] all = absurd all
 opened-length (first ∷ limits) (here ∷ tables) all = ap suc (opened-length limits tables all.1)
+
+-- the table at a place is opened with the numbers at that place
+opened_at : (limits : List TableLimits) (tables : List TableState) (other : TableLimits) (place : ℕ) (table : TableState)
+    → AreOpened limits tables → slice_get tables place ≡ Some table → IsOpened (unwrap_or (slice_get limits place) other) table
+opened_at [] [] other place table all at = absurd (cc)
+opened_at [] (first ∷ tables) other place table all at = absurd all
+opened_at (first ∷ limits) [] other place table all at = absurd all
+opened_at (first ∷ limits) (here ∷ tables) other zero table all at = subst (IsOpened first) (same_Some here table at) all.0
+opened_at (first ∷ limits) (here ∷ tables) other (suc place) table all at = opened_at limits tables other place table all.1 at
+
+-- new tables stand behind no frames
+pub new_behind : (others : TableLimits) (shares : List Share) (state : FairState) → AreNew others shares state
+    → StandBehind (record { others = others; shares = shares }) [] state
+new_behind others shares state new = record {
+  sources = new.sources;
+  each = λ place table at. opened_at (limits_of others shares) state.tables others place table new.tables at;
+}
 
 -- the numbers of the tables of one share more
 pub limits-push : (others : TableLimits) (shares : List Share) (share : Share)

@@ -45,3 +45,15 @@ module _ (sources : List (List ℕ)) (i : ℕ) (source : List ℕ) (distinct : A
 
   pub has_its_table : place_of sources source ≡ i + 1
   has_its_table = by (position_from (λ other. bytes_eq other source) 0 sources) refl
+
+  belongs : (found : Option ℕ) (from : List ℕ) → position_from (λ other. bytes_eq other from) 0 sources ≡ found → place_behind found ≡ i + 1 → from ≡ source
+  belongs None from e place = absurd (omega arith)
+  belongs (Some at) from e place =
+      let first = is_first (λ other. bytes_eq other from) at sources e in
+      let here : at ≡ i = omega arith in
+      let stands : slice_get sources at ≡ Some source = ap (slice_get sources) here ∙ there in
+      sym (same_from source from (first.passes source (sym (get_or_from_slice_get sources at source source stands))))
+
+  -- and no other source has it
+  pub has_it_alone : (from : List ℕ) → place_of sources from ≡ i + 1 → from ≡ source
+  has_it_alone from place = belongs (position_from (λ other. bytes_eq other from) 0 sources) from refl place

@@ -53,6 +53,7 @@ pub record Releases (slot : ℕ) (old new : TableState) : Type 0 where
 pub record IsOffered (now : ℕ) (frame : List ℕ) (v : PduValue) (before after : FairState) (place : ℕ) (told : Accept) : Type 0 where
   pub alive : 1 ≤ v.lifetime
   pub found : SegmentationPart
+  pub stands_in : v.segmentation ≡ Some found
   pub is_part : part_of v ≡ Some found
   pub place_is : place ≡ place_of before.sources v.source
   pub offered : ChangesTable place before after (Accepts now (segment_in frame v found) told)

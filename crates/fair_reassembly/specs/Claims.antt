@@ -1,10 +1,11 @@
 -- What is claimed of the tables of sources, and of what is told.
 use Rattle.std.specs.Prelude.{◌≡◌, ◌≢◌, ℕ, ◌+◌, List, length, map, sum, slice_get}
 use Rattle.std.specs.List.{range_with_len}
+use Rattle.reassembly.specs.declared.table.TableLimits.{TableLimits}
 use Rattle.reassembly.specs.Buffer.{held}
 use Rattle.fair_reassembly.specs.declared.came.Came.{Came}
-use Rattle.fair_reassembly.specs.Classes.{Shares, class_buffers, limits_at}
-use Rattle.fair_reassembly.specs.Tables.{FairState}
+use Rattle.fair_reassembly.specs.Classes.{Shares, class_buffers}
+use Rattle.fair_reassembly.specs.Tables.{FairState, limits_of}
 
 -- every table but that at a place stayed as it was, and no table came or went
 pub record OthersStay (place : ℕ) (before after : FairState) : Type 0 where
@@ -20,4 +21,4 @@ abbrev pub held_by_all : Shares → List Came → ℕ
 held_by_all s frames = sum (map (λ place. held (class_buffers s place frames)) (places_of s))
 
 abbrev pub budget_of_all : Shares → ℕ
-budget_of_all s = sum (map (λ place. (limits_at s place).budget) (places_of s))
+budget_of_all s = sum (map (λ (limits : TableLimits). limits.budget) (limits_of s.others s.shares))

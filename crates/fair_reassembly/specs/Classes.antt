@@ -1,6 +1,7 @@
 -- What is told of frames that come from many sources. The class of a frame is its source, where that has a share, and all other
 -- sources together where it has none. What is told of a frame is what comes of it behind the frames of its class alone.
-use Rattle.std.specs.Prelude.{ℕ, zero, suc, ◌==◌, if◌then◌else◌, Bool, false, List, [], ◌∷◌, ◌++◌, length, filter, fold, Option, None, Some, slice_get, unwrap_or}
+use Rattle.std.specs.Prelude.{ℕ, zero, suc, ◌==◌, ◌&&◌, if◌then◌else◌, Bool, false, List, [], ◌∷◌, ◌++◌, length, filter, fold, Option, None, Some, slice_get, unwrap_or}
+use Rattle.std.specs.Str.{bytes_eq}
 use Rattle.pdu_header.specs.ClnpViews.Extent.{Extent}
 use Rattle.pdu_header.specs.declared.kind.Kind.{Kind}
 use Rattle.pdu_header.specs.Value.{PduValue, SegmentationPart}
@@ -125,6 +126,10 @@ is_class place (Some other) = other == place
 -- whether a frame is of a class
 abbrev pub is_of : Shares → ℕ → Came → Bool
 is_of s place came = is_class place (class_of s came)
+
+-- whether a PDU of this source stands at the front of a frame
+abbrev pub is_from : List ℕ → Came → Bool
+is_from source came = is_accepted came.frame && bytes_eq (value_in came.frame).source source
 
 -- the frames of a class
 abbrev pub frames_of : Shares → ℕ → List Came → List Came

@@ -2,7 +2,9 @@
 use Rattle.std.specs.Prelude.{◌≡◌, ℕ, ◌+◌, List, [], ◌∷◌, map, Option, None, Some, slice_get, slice_set}
 use Rattle.std.specs.List.{position_from}
 use Rattle.std.specs.Str.{bytes_eq}
+use Rattle.pdu_header.specs.ClnpViews.Extent.{Extent}
 use Rattle.reassembly.specs.declared.table.TableLimits.{TableLimits}
+use Rattle.reassembly.specs.Buffer.{Buffer}
 use Rattle.reassembly.specs.NoWhole.{HasNoWhole}
 use Rattle.reassembly.specs.State.{Stands, TableState}
 use Rattle.fair_reassembly.specs.declared.share.Share.{Share}
@@ -33,11 +35,15 @@ AreDistinct sources =
 abbrev pub limits_of : TableLimits → List Share → List TableLimits
 limits_of others shares = others ∷ map (λ (share : Share). share.limits) shares
 
--- a table that keeps nothing, with these numbers
-pub record IsOpened (limits : TableLimits) (table : TableState) : Type 0 where
-  pub stands : Stands table []
+-- a table that stands for these buffers, none of them whole, and keeps to these numbers
+pub record Keeps (limits : TableLimits) (buffers : List (Buffer Extent)) (table : TableState) : Type 0 where
+  pub stands : Stands table buffers
   pub none_whole : HasNoWhole table
   pub limits_are : table.limits ≡ limits
+
+-- a table that keeps nothing, with these numbers
+abbrev pub IsOpened : TableLimits → TableState → Type 0
+IsOpened limits table = Keeps limits [] table
 
 abbrev pub AreOpened : List TableLimits → List TableState → Type 0
 AreOpened [] [] = Unit {0}

@@ -1,5 +1,5 @@
 //! The tables of sources.
-ghost use Rattle.std.specs.Prelude.{◌≡◌, ◌+◌, ◌<◌, ◌≤◌, ◌^◌, ℕ, List, None, Some, IfOk, IfSome, length, slice_get};
+ghost use Rattle.std.specs.Prelude.{◌≡◌, ◌+◌, ◌<◌, ◌≤◌, ◌^◌, ℕ, List, [], None, Some, IfOk, IfSome, length, slice_get};
 ghost use Rattle.std.specs.List.{position_from};
 ghost use Rattle.std.specs.Str.{bytes_eq};
 ghost use Rattle.pdu_header.specs.ClnpViews.Extent.{Extent, whole};
@@ -9,6 +9,7 @@ ghost use Rattle.reassembly.specs.Buffer as buffer;
 ghost use Rattle.reassembly.specs.Buffer.{Buffer};
 ghost use Rattle.reassembly.specs.Offered.{MayCome};
 ghost use Rattle.reassembly.specs.State.{IsReady, IsWholeSlot, Names, Stands};
+ghost use Rattle.fair_reassembly.specs.Behind.{StandBehind};
 ghost use Rattle.fair_reassembly.specs.Calls.{Accepts, Expires, Releases, Takes};
 ghost use Rattle.fair_reassembly.specs.Coming.{value_in};
 ghost use Rattle.fair_reassembly.specs.Tables.{AreDistinct, AreNew, AreOpened, At, ChangesTable, IsAt, limits_of, place_of, sources_of};
@@ -67,6 +68,7 @@ impl FairTable {
         ensures new { IfOk result (AreNew others shares.now) }
         ensures places { IfOk result (λ state. (i : ℕ) (share : ShareOf) → slice_get shares.now i ≡ Some share
             → place_of state.sources share.from ≡ i + 1) }
+        ensures behind { IfOk result (StandBehind (record { others = others; shares = shares.now }) []) }
     {
         let sources = sources_of(alloc, shares)?;
         let tables = tables_for(alloc, others, shares)?;

@@ -1,4 +1,6 @@
+pub use Rattle.scenario.proofs.ClnpBase
+pub use Rattle.fair_reassembly.proofs as FairReassembly
 pub mod Sums
-pub mod Apart
 pub mod Accepted
+pub mod Apart
 mod Worked

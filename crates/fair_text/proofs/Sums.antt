@@ -1,15 +1,11 @@
 -- Sums over the tables of some shares, where there is one share more.
 use Rattle.std.proofs.Common.{◌≡◌, ℕ, ◌+◌, ◌<◌, List, [], ◌∷◌, ◌++◌, length, map, sum, take, get_or, sym, ap, ◌∙◌}
-use Rattle.std.proofs.lemmas.List.{map-append, take_more}
+use Rattle.std.proofs.lemmas.List.{take_more}
 use Rattle.scenario.proofs.ClnpBase.Sums.{sum_push}
 use Rattle.fair_reassembly.specs.Reassembly.declared.table.TableLimits.{TableLimits}
 use Rattle.fair_reassembly.specs.declared.share.Share.{Share}
 use Rattle.fair_reassembly.specs.Tables.{limits_of}
-
-limits-push : (others : TableLimits) (shares : List Share) (share : Share)
-    → limits_of others (shares ++ share ∷ []) ≡ limits_of others shares ++ share.limits ∷ []
-limits-push others shares share =
-    ap (λ (l : List TableLimits). others ∷ l) (map-append (λ (s : Share). s.limits) shares (share ∷ []))
+use Rattle.fair_reassembly.proofs.Opened.{limits-push}
 
 pub sum_more : (f : TableLimits → ℕ) (others : TableLimits) (shares : List Share) (i : ℕ) (share : Share) → i < length shares
     → share ≡ get_or shares i share

@@ -2,6 +2,7 @@
 use Rattle.std.specs.Prelude.{◌^◌, ◌≤◌, ◌<◌, length}
 use Rattle.std.specs.List.{AllByRecursion}
 use Rattle.fair_reassembly.specs.declared.came.Came.{Came}
+use Rattle.fair_reassembly.specs.Claims.{budget_of_all}
 use Rattle.fair_reassembly.specs.Tables.{AreDistinct, sources_of}
 use Rattle.fair_text.specs.Grammar.{Capture}
 
@@ -10,7 +11,8 @@ pub record IsInRange (came : Came) : Type 0 where
   pub moment : came.moment < 2 ^ 32
   pub few : length came.frame ≤ 70000
 
--- no source has two shares, and each frame is in its ranges
+-- no source has two shares, all tables together hold at most so many octets, and each frame is in its ranges
 pub record IsAccepted (capture : Capture) : Type 0 where
   pub distinct : AreDistinct (sources_of capture.shares.shares)
+  pub budget : budget_of_all capture.shares ≤ 16777216
   pub in_range : AllByRecursion IsInRange capture.frames

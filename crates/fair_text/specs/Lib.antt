@@ -1,4 +1,11 @@
+pub use Rattle.scenario.specs as Scenario
+pub use Rattle.scenario.specs.ClnpBase
+pub use Rattle.scenario.specs.ClnpPlan.ClnpViews
+pub use Rattle.scenario.specs.PduHeader
+pub use Rattle.fair_reassembly.specs as FairReassembly
 pub mod Claims
+pub mod Fair
 pub mod Grammar
 pub mod Output
 pub mod Refusal
+pub mod Telling

@@ -5,7 +5,8 @@ use Rattle.std.specs.List.{flat_map}
 use Rattle.scenario.specs.Nsap.Text.{hex_text}
 use Rattle.scenario.specs.PduHeader.Spelling.{pair_of}
 use Rattle.scenario.specs.ClnpPlan.Journal.{kind_word, line_of, octets_word}
-use Rattle.fair_reassembly.specs.Classes.{Account, Told, Unread, Expired, Dead, Joined, Held, Repeat, Interference, NoSlot, Crowded, Many, accounts, accounts_of, frames_of}
+use Rattle.fair_reassembly.specs.declared.came.Came.{Came}
+use Rattle.fair_reassembly.specs.Classes.{Account, Shares, Told, Unread, Expired, Dead, Joined, Held, Repeat, Interference, NoSlot, Crowded, Many, accounts, accounts_of, frames_of}
 use Rattle.fair_text.specs.Grammar.{Capture}
 
 -- the words behind the moment
@@ -34,10 +35,13 @@ account_text account = flat_map (told_line account.came.moment) account.told
 abbrev pub end_line : ℕ → List ℕ
 end_line frames = line_of (codes "end") (decimal frames ∷ [])
 
+-- the lines of frames, one after the other
+abbrev pub frames_text : Shares → List Came → List ℕ
+frames_text s frames = flat_map account_text (accounts s frames)
+
 -- the lines of all frames, and the last line
 abbrev pub output_of : Capture → List ℕ
-output_of capture =
-    flat_map account_text (accounts capture.shares capture.frames) ++ end_line (length capture.frames)
+output_of capture = frames_text capture.shares capture.frames ++ end_line (length capture.frames)
 
 -- the lines of the frames of a class, by the place of its table
 abbrev pub lines_of_class : ℕ → Capture → List ℕ

@@ -7,9 +7,13 @@ mod fault;
 mod frame_line;
 pub mod laws;
 mod reader;
+mod told;
 mod word;
 
 pub use capture::Capture;
+pub use fair_reassembly;
 pub use fault::CaptureRefusal;
 pub use reader::read;
-pub use scenario::clnp_base;
+pub use scenario;
+pub use scenario::{clnp_base, clnp_views, nsap, pdu_header};
+pub use told::{Told, push_end, push_told};

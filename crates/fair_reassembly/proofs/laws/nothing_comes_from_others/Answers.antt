@@ -1,4 +1,5 @@
 use Rattle.fair_reassembly.proofs.Alone.{alone, same}
+use Rattle.fair_reassembly.proofs.Sources.{source_alone}
 use Rattle.fair_reassembly.proofs.laws.nothing_comes_from_others.Goals as goal
 
 pub returns-clause-alone : goal.returns-clause-alone
@@ -6,3 +7,6 @@ returns-clause-alone c = λ s place frames. alone s place frames
 
 pub returns-clause-same : goal.returns-clause-same
 returns-clause-same c = λ s place frames others e. same s place frames others e
+
+pub returns-clause-source : goal.returns-clause-source
+returns-clause-source c = λ s i share frames distinct there. source_alone s i share distinct there frames

@@ -3,7 +3,7 @@ use Rattle.std.proofs.lemmas.List.{length-map}
 use Rattle.pdu_header.proofs.ClnpBase.ListSteps.{slice_get_map}
 use Rattle.fair_reassembly.specs.declared.share.Share.{Share}
 use Rattle.fair_reassembly.specs.Tables.{limits_of, place_of, sources_of}
-use Rattle.fair_reassembly.proofs.Opened.{opened-length}
+use Rattle.fair_reassembly.proofs.Opened.{new_behind, opened-length}
 use Rattle.fair_reassembly.proofs.Places.{has_its_table}
 use Rattle.fair_reassembly.proofs.fair.FairTable.new.Goals as goal
 
@@ -18,3 +18,7 @@ pub returns-clause-places : goal.returns-clause-places
 returns-clause-places c i share at =
     ap (λ (l : List (List ℕ)). place_of l share.from) c.in_ok-sources.ensures
     ∙ has_its_table (sources_of c.args.shares.now) i share.from c.requires (slice_get_map (λ (s : Share). s.from) c.args.shares.now i share at)
+
+pub returns-clause-behind : goal.returns-clause-behind
+returns-clause-behind c =
+    new_behind c.args.others c.args.shares.now _ (record { sources = c.in_ok-sources.ensures; tables = c.in_ok-tables.ensures })
