@@ -8,3 +8,4 @@ pub mod Counting
 pub mod Words
 pub mod Tasks
 pub mod Serves
+pub mod Agree

@@ -10,6 +10,7 @@ ghost use Rattle.clnp_commands.specs.Words.{reads, Reads};
 ghost use Rattle.pcap_commands.specs.Serves.{ServesFile};
 ghost use Rattle.clnp_commands.specs.Serves.{Serves, ServesCommand, TakesTooMany, TakesWithin, form_of};
 ghost use Rattle.clnp_commands.specs.Tasks.{task};
+ghost use Rattle.clnp_commands.specs.Agree.{TextsAgree};
 ghost use Rattle.capture_commands.specs.CommandBase.ComesAs.{ComesAs, most_input};
 
 use crate::command::{Command, StreamedCommand, WholeCommand};
@@ -59,8 +60,12 @@ pub fn clnp_main<S: Source, K: Sink>(
 
     // The runs of each text that is a scenario are safe.
     ensures safe { (text : List ℕ) → IfOk (plan_of text) RunsAreSafe }
+
+    // What commands make of one another's output, and what a share is worth.
+    ensures agree { TextsAgree }
 {
     every_run_is_safe();
+    texts_agree();
     match Command::of(words) {
         Ok(Command::Whole(command)) => serve(alloc, command, source, sink),
         Ok(Command::Streamed(command)) => serve_streamed(alloc, command, source, sink),
@@ -114,6 +119,17 @@ fn every_run_is_safe()
     laws::accepted_is_fit();
     laws::storms_are_scenarios();
     runs_are_safe();
+}
+
+/// What commands make of one another's output, and what a share is worth.
+fn texts_agree()
+    ensures { TextsAgree }
+{
+    capture_commands::laws::what_is_shown_is_packed_again();
+    capture_commands::laws::what_is_packed_is_shown_again();
+    pcap_commands::laws::lines_make_the_frames_again();
+    pcap_commands::laws::a_made_file_gives_its_lines_again();
+    fair_commands::fair_text::laws::shares_are_fair();
 }
 
 /// Reads the input of a command that reads one.

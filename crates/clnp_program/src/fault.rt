@@ -15,7 +15,7 @@ use thiserror::Error;
 
 /// The end of the line of bad words, and which words are commands.
 const WANTED: &str = "
-clnp: wanted: clnp sim < SCENARIO, clnp show < CAPTURE, clnp check < VECTORS, or clnp storm SEED
+clnp: wanted: sim, show, check, pack, pcap-show, pcap-make, pcap-lines, reassemble, or storm; clnp --help tells of each
 ";
 
 /// Why a call of the program didn't do all that was asked.
@@ -132,5 +132,13 @@ fn behind_bad_words() -> &'static str
 
 /// The name of the code of what a line of an input breaks.
 fn code_name(code: u8) -> &'static str {
-    Code::of_number(code).map_or("other", Code::name)
+    match code {
+        11 => "magic",
+        12 => "version",
+        13 => "link-type",
+        14 => "record-length",
+        15 => "cut-file",
+        16 => "not-packable",
+        _ => Code::of_number(code).map_or("other", Code::name),
+    }
 }

@@ -1,0 +1,35 @@
+-- What commands make of one another's output, and what a share is worth.
+use Rattle.std.specs.Prelude.{◌≡◌, ℕ, ◌≤◌, List, length, map, IfOk}
+use Rattle.hex.specs.Hex.{IsBytes}
+use Rattle.clnp_machine.specs.ClnpBase.Text.{lines_of}
+use Rattle.capture_commands.specs.CommandBase.declared.status.Status.TheVariants.{Done}
+use Rattle.capture_commands.specs.RoundTrip.{EndsPlainly, IsAcceptedCapture, PacksTo, ShowsAs, without_skipped}
+use Rattle.pcap_commands.specs.PcapFrames.File.{Captured}
+use Rattle.pcap_commands.specs.PcapFrames.Making.{frames_in, made_record}
+use Rattle.pcap_commands.specs.PcapFrames.Reading.{Ending, IsReadAs}
+use Rattle.pcap_commands.specs.declared.form.Form.TheVariants.{Remade}
+use Rattle.pcap_commands.specs.Laws.{lines_of_frames}
+use Rattle.pcap_commands.specs.Lines.{TellsRecords}
+use Rattle.pcap_commands.specs.Make.{frames_of, make_status}
+use Rattle.fair_commands.specs.FairText.Fair.{IsFair}
+use Rattle.fair_commands.specs.FairText.Grammar.{capture_of}
+
+pub record TextsAgree : Type 0 where
+  -- Of a capture in lower case without skipped lines, each line of which ends by `\n` alone, whose frames are accepted and have
+  -- at most 70,000 octets each: `pack` of what `show` writes for it is the capture, and isn't longer.
+  pub shown_packed : (capture : List ℕ) → IsAcceptedCapture capture
+      → (text : List ℕ) × ShowsAs capture text × PacksTo text capture × (length capture ≤ length text)
+  -- Of a text each line of which ends by `\n` alone and on which `pack` is done: `show` of what `pack` wrote, which isn't longer,
+  -- is that text without its skipped lines.
+  pub packed_shown : (text packed : List ℕ) → EndsPlainly text → PacksTo text packed
+      → ShowsAs packed (without_skipped text) × (length packed ≤ length text)
+  -- Of what `pcap-lines` writes of the records of a file `pcap-make` makes a file with the same OSI frames in their order, but for
+  -- those whose PDU has no octets.
+  pub lines_made : (octets output : List ℕ) (records : List Captured) (ending : Ending) → IsBytes octets
+      → IsReadAs octets records ending → TellsRecords Remade 1 records output
+      → (make_status 1 (lines_of output) ≡ Done) × (frames_of (lines_of output) ≡ frames_in records)
+  -- Of the file that `pcap-make` makes of lines `pcap-lines` writes the lines of its frames, and nothing else.
+  pub made_lines : (lines : List (List ℕ)) (output : List ℕ) → TellsRecords Remade 1 (map made_record (frames_of lines)) output
+      → output ≡ lines_of_frames (frames_of lines)
+  -- `reassemble`: a source with a share gets the lines that it would get alone, and no table holds more than its budget.
+  pub fair : (text : List ℕ) → IfOk (capture_of text) IsFair
