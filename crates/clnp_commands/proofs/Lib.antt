@@ -7,6 +7,3 @@ pub mod Counting
 pub mod Still
 pub mod Storms
 pub mod Fit
-pub mod ByLine
-pub mod Outputs
-pub mod Commands

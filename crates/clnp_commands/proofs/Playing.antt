@@ -14,27 +14,10 @@ use Rattle.clnp_world.specs.State.{WorldState}
 use Rattle.clnp_world.specs.Stands.{Stands}
 use Rattle.clnp_commands.specs.declared.sim.Stop.{Stop}
 use Rattle.clnp_commands.specs.declared.sim.Stop.TheVariants as stop
-use Rattle.clnp_commands.specs.ByLine.{FlushOf}
+use Rattle.capture_commands.specs.CommandBase.ByLine.{FlushOf}
 use Rattle.clnp_commands.specs.Play.{FullOf, PieceOf, UnderWay, StopOf, JournalStopOf, JournalOf}
+use Rattle.capture_commands.proofs.CommandBase.Fronts.{front-behind, front-longer}
 use Rattle.clnp_commands.proofs.Runs.{world_after-append, text_of_more, full_weight-behind, full_stays, all_are_made, until_full-behind, until_full-longer}
-
--- a front of what comes behind something that was written whole
-pub front-behind : (a b c : Option (List ℕ)) (piece more : List ℕ) → Appends a b piece → AppendsFront b c more → AppendsFront a c (piece ++ more)
-front-behind a b c piece more p q = record {
-  count = length piece + q.count;
-  within = omega (arith, length-append piece more, q.within);
-  appends = rw (take-append-add piece more q.count) (Appends-trans a b c piece (take q.count more) p q.appends);
-}
-
--- a front of the first part is a front of the whole
-pub front-longer : (a b : Option (List ℕ)) (piece more : List ℕ) → AppendsFront a b piece → AppendsFront a b (piece ++ more)
-front-longer a b piece more q =
-    let h : q.count ≤ length piece = q.within in
-    record {
-      count = q.count;
-      within = omega (arith, length-append piece more, q.within);
-      appends = rw take-append-le q.appends;
-    }
 
 -- where playing stopped, it did so before any moves that come later
 StopOf-longer : (plan : Plan) (model : network.World) (moves later : List Move) (a b : Option (List ℕ)) (e : Stop)

@@ -18,12 +18,11 @@ use Rattle.clnp_world.specs.declared.world.WorldRefusal.TheVariants as refusal
 use Rattle.clnp_world.specs.Lines.{both, no_lines}
 use Rattle.clnp_world.specs.declared.lines.Counts.{Counts}
 use Rattle.clnp_commands.specs.declared.storm.Summary.{Summary}
-use Rattle.clnp_commands.specs.declared.command.Command.TheVariants.{Storm}
-use Rattle.clnp_commands.specs.declared.status.Status.{Status}
-use Rattle.clnp_commands.specs.declared.status.Status.TheVariants as status
-use Rattle.clnp_commands.specs.ByLine.{EndOf}
-use Rattle.clnp_commands.specs.Words.{run_status}
-use Rattle.clnp_commands.specs.Play.{ComesTo}
+use Rattle.capture_commands.specs.CommandBase.declared.status.Status.{Status}
+use Rattle.capture_commands.specs.CommandBase.declared.status.Status.TheVariants as status
+use Rattle.capture_commands.specs.CommandBase.ByLine.{EndOf}
+use Rattle.clnp_commands.specs.Tasks.{run_status, storm_task}
+use Rattle.capture_commands.specs.CommandBase.ComesAs.{ComesAs}
 use Rattle.clnp_commands.specs.Storm.{counts_of, line_of_run, line_unless, storm_line, storm_stopped_at, summary_text}
 use Rattle.clnp_commands.specs.Counting.{Counted, StopsAt, SumOf, tally_of}
 use Rattle.clnp_commands.proofs.Counting.{counts_of-append, moves_counts, tally_of-append, text_of-ends, both-assoc, both-none, none-both}
@@ -127,7 +126,7 @@ kept (Some xs) (Some ys) p = p ∙ append-nil xs
 
 -- what writing the line of a storm comes to
 pub storm_ended : (seed : ℕ) (plan : Plan) (summary : Summary) (a b : Option (List ℕ)) (answer : Status) → plan ≡ storm seed
-    → SumOf seed plan (Ok summary) → EndOf (summary_text summary) a b answer → ComesTo (Storm seed) [] a b answer
+    → SumOf seed plan (Ok summary) → EndOf (summary_text summary) a b answer → ComesAs (storm_task seed) a b answer
 storm_ended seed plan summary a b status.Done is sum p =
     let here = storm_is seed plan is in
     let stop : storm_stopped_at seed ≡ None = here.0 ∙ sum.0 in
@@ -145,7 +144,7 @@ storm_ended seed plan summary a b status.ReadFault is sum p = absurd p
 
 -- the run of a storm was stopped
 pub storm_full : (seed : ℕ) (plan : Plan) (octets : ℕ) (a : Option (List ℕ)) → plan ≡ storm seed → stopped_at plan ≡ Some octets
-    → ComesTo (Storm seed) [] a a (status.WorldFull octets)
+    → ComesAs (storm_task seed) a a (status.WorldFull octets)
 storm_full seed plan octets a is full =
     let stop : storm_stopped_at seed ≡ Some octets = (storm_is seed plan is).0 ∙ full in
     (ap run_status stop, subst (λ (t : List ℕ). Appends a a t) (sym (ap (λ (t : Option ℕ). line_unless t (storm_line seed)) stop)) (Appends-nil a))

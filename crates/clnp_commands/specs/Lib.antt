@@ -1,13 +1,10 @@
 pub use Rattle.clnp_machine.specs.ClnpBase
-pub mod Words
+pub use Rattle.capture_commands.specs.CommandBase
 pub mod Sim
-pub mod Output
-pub mod Show
-pub mod Check
-pub mod ByLine
 pub mod Time
 pub mod Play
 pub mod Storm
 pub mod Counting
-pub mod Exit
+pub mod Words
+pub mod Tasks
 pub mod Serves

@@ -1,5 +1,5 @@
--- What the parts of the program come to: playing moves, playing a scenario, and commands.
-use Rattle.std.specs.Prelude.{◌≡◌, ℕ, ◌⊎◌, List, ◌++◌, Option, None, Some, Result, Ok, Err}
+-- What playing moves comes to, and playing a scenario.
+use Rattle.std.specs.Prelude.{◌≡◌, ℕ, List, ◌++◌, Option, None, Some, Result, Ok, Err}
 use Rattle.std.specs.Io.KnownBytes.{Appends, Keeps}
 use Rattle.clnp_machine.specs.ClnpBase.Streams.{AppendsFront}
 use Rattle.clnp_world.specs.Scenario.Scenario.{Plan}
@@ -8,12 +8,8 @@ use Rattle.clnp_world.specs.ClnpNetwork.World as network
 use Rattle.clnp_world.specs.ClnpNetwork.Run.{text_of, world_after, journal, full_weight, stopped_at, until_full}
 use Rattle.clnp_world.specs.State.{WorldState}
 use Rattle.clnp_world.specs.Stands.{Stands}
-use Rattle.clnp_commands.specs.declared.status.Status.{Status}
-use Rattle.clnp_commands.specs.declared.status.Status.TheVariants as status
 use Rattle.clnp_commands.specs.declared.sim.Stop.{Stop}
 use Rattle.clnp_commands.specs.declared.sim.Stop.TheVariants as stop
-use Rattle.clnp_commands.specs.declared.command.Command.{Command}
-use Rattle.clnp_commands.specs.Words.{status_of, AppendsOutput, AppendsOutputFront, AppendsOutputParts}
 use Rattle.clnp_commands.specs.Sim.{AppendsMoves, AppendsWholeMoves}
 
 -- What writing a piece comes to: it was written; a front of it was; or nothing was.
@@ -68,16 +64,3 @@ JournalStopOf plan before after (stop.WorldFull octets) = (stopped_at plan ≡ S
 abbrev pub JournalOf : {A : Type 0} → Plan → Option (List ℕ) → Option (List ℕ) → Result A Stop → Type 0
 JournalOf plan before after (Ok _) = (stopped_at plan ≡ None) × Appends before after (journal plan)
 JournalOf plan before after (Err e) = JournalStopOf plan before after e
-
--- What a command comes to on a text that isn't too long.
-abbrev pub ComesTo : Command → List ℕ → Option (List ℕ) → Option (List ℕ) → Status → Type 0
-ComesTo command text before after status.Done = (status_of command text ≡ status.Done) × AppendsOutput command text before after
-ComesTo command text before after (status.BadInput line code) =
-    (status_of command text ≡ status.BadInput line code) × AppendsOutput command text before after
-ComesTo command text before after (status.WorldFull octets) =
-    (status_of command text ≡ status.WorldFull octets) × AppendsOutput command text before after
-ComesTo command text before after status.WriteFault = AppendsOutputFront command text before after
-ComesTo command text before after status.NoMemory = Keeps before after ⊎ AppendsOutputParts command text before after
-ComesTo command text before after (status.BadWords at) = ⊥
-ComesTo command text before after status.TooLong = ⊥
-ComesTo command text before after status.ReadFault = ⊥

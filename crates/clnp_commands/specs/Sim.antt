@@ -5,10 +5,7 @@ use Rattle.clnp_world.specs.Scenario.Scenario.{Plan}
 use Rattle.clnp_world.specs.Scenario.declared.event.Move.{Move}
 use Rattle.clnp_world.specs.ClnpNetwork.World.{World, first_world}
 use Rattle.clnp_world.specs.ClnpNetwork.Run.{text_of, moves_made}
-
--- the most octets of an input
-abbrev pub most_input : ℕ
-most_input = 16777216
+use Rattle.capture_commands.specs.CommandBase.ComesAs.{most_input}
 
 -- the text is all that was left in the source, isn't too long, and was read to its end
 pub record ReadsWhole (before after : Option (List ℕ)) (text : List ℕ) : Type 0 where

@@ -4,19 +4,15 @@
 //! shows its frames as text, judges vectors of frames, and counts what a storm of events comes to.
 #![tactic(auto)]
 
-mod block;
-mod check;
 mod command;
-mod number;
-mod show;
 mod sim;
-mod status;
 mod storm;
 mod top;
 
 pub use clnp_machine::clnp_base;
 pub use clnp_world;
 pub use clnp_world::scenario;
+pub use capture_commands::command_base;
 pub use command::Command;
-pub use status::Status;
+pub use command_base::Status;
 pub use top::clnp_main;

@@ -6,13 +6,12 @@ ghost use Rattle.clnp_world.specs.Scenario.Scenario.{IsFit, moves_of};
 ghost use Rattle.clnp_world.specs.ClnpNetwork.World as network;
 ghost use Rattle.clnp_world.specs.ClnpNetwork.Run.{moves_of_plan, world_after, world_end};
 ghost use Rattle.clnp_world.specs.Stands.{Stands};
-ghost use Rattle.clnp_commands.specs.Sim.{most_input};
-ghost use Rattle.clnp_commands.specs.Play.{ComesTo, FullOf, JournalOf, PieceOf, PlayOf, UnderWay};
+ghost use Rattle.capture_commands.specs.CommandBase.ComesAs.{ComesAs, most_input};
+ghost use Rattle.clnp_commands.specs.Tasks.{sim_task};
+ghost use Rattle.clnp_commands.specs.Play.{FullOf, JournalOf, PieceOf, PlayOf, UnderWay};
 ghost use Rattle.clnp_commands.specs.Time.{HasTime};
 
-use crate::block::{flush, flush_full};
-use crate::command::Command;
-use crate::status::Status;
+use capture_commands::command_base::{Status, flush, flush_full};
 use clnp_machine::clnp_base::{Failed, Sink};
 use clnp_world::scenario::{Event, Move, Scenario, ScenarioRefusal};
 use clnp_world::{World, WorldRefusal};
@@ -22,7 +21,7 @@ use std::alloc::Global;
 pub fn sim<K: Sink>(alloc: Global, text: &[u8], sink: &mut K) -> Status
     requires { length text.now ≤ most_input }
     ensures later { K.faults sink.old ≤ K.faults sink.new }
-    ensures comes_to { ComesTo Command.Sim text.now (K.written sink.old) (K.written sink.new) result }
+    ensures comes_to { ComesAs (sim_task text.now) (K.written sink.old) (K.written sink.new) result }
     ensures failed { result ≡ Status.WriteFault → Rose (K.faults sink.old) (K.faults sink.new) }
 {
     few_lines();

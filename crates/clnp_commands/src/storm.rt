@@ -5,15 +5,14 @@ ghost use Rattle.clnp_world.specs.Scenario.Scenario.{moves_of};
 ghost use Rattle.clnp_world.specs.ClnpNetwork.World as network;
 ghost use Rattle.clnp_world.specs.ClnpNetwork.Run.{moves_of_plan};
 ghost use Rattle.clnp_world.specs.Stands.{Stands};
-ghost use Rattle.clnp_commands.specs.ByLine.{EndOf};
-ghost use Rattle.clnp_commands.specs.Play.{ComesTo};
+ghost use Rattle.capture_commands.specs.CommandBase.ByLine.{EndOf};
+ghost use Rattle.capture_commands.specs.CommandBase.ComesAs.{ComesAs};
+ghost use Rattle.clnp_commands.specs.Tasks.{storm_task};
 ghost use Rattle.clnp_commands.specs.Time.{HasTime};
 ghost use Rattle.clnp_commands.specs.Storm.{counts_text, summary_text};
 ghost use Rattle.clnp_commands.specs.Counting.{CountOf, SumOf};
 
-use crate::command::Command;
-use crate::number::push_number;
-use crate::status::Status;
+use capture_commands::command_base::{Status, push_number};
 use clnp_machine::clnp_base::{NoMemory, Sink, push, write_all};
 use clnp_world::scenario::{Event, Move, Scenario, from_seed};
 use clnp_world::{Counts, World, WorldRefusal};
@@ -57,7 +56,7 @@ fn push_counts(counts: &Counts, out: &mut Vec<u8>) -> Result<(), NoMemory>
 /// Runs the scenario of a seed, and writes a line of what it comes to.
 pub fn storm<K: Sink>(alloc: Global, seed: u64, sink: &mut K) -> Status
     ensures later { K.faults sink.old ≤ K.faults sink.new }
-    ensures comes_to { ComesTo (Command.Storm seed) [] (K.written sink.old) (K.written sink.new) result }
+    ensures comes_to { ComesAs (storm_task seed) (K.written sink.old) (K.written sink.new) result }
     ensures failed { result ≡ Status.WriteFault → Rose (K.faults sink.old) (K.faults sink.new) }
 {
     let Ok(scenario) = from_seed(alloc, seed) else {

@@ -8,15 +8,15 @@ ghost use Rattle.clnp_world.specs.Scenario.Seeds as seeds;
 ghost use Rattle.clnp_safety.specs.Runs.{RunsAreSafe};
 ghost use Rattle.clnp_commands.specs.Words.{reads, Reads};
 ghost use Rattle.clnp_commands.specs.Serves.{Serves, TakesTooMany, TakesWithin};
-ghost use Rattle.clnp_commands.specs.Sim.{most_input};
-ghost use Rattle.clnp_commands.specs.Play.{ComesTo};
+ghost use Rattle.clnp_commands.specs.Tasks.{task};
+ghost use Rattle.capture_commands.specs.CommandBase.ComesAs.{ComesAs, most_input};
 
-use crate::check::check;
 use crate::command::Command;
-use crate::show::show;
 use crate::sim::sim;
-use crate::status::Status;
 use crate::storm::storm;
+use capture_commands::command_base::Status;
+use capture_commands::check::check;
+use capture_commands::show::show;
 use clnp_machine::clnp_base::{ReadStop, Sink, Source, read_all};
 use clnp_safety::laws::runs_are_safe;
 use clnp_world::scenario::laws;
@@ -103,7 +103,7 @@ fn read_input<S: Source>(
 fn obey<K: Sink>(alloc: Global, command: Command, text: &[u8], sink: &mut K) -> Status
     requires { length text.now ≤ most_input }
     ensures later { K.faults sink.old ≤ K.faults sink.new }
-    ensures comes_to { ComesTo command text.now (K.written sink.old) (K.written sink.new) result }
+    ensures comes_to { ComesAs (task command text.now) (K.written sink.old) (K.written sink.new) result }
     ensures failed { result ≡ Status.WriteFault → Rose (K.faults sink.old) (K.faults sink.new) }
 {
     match command {

@@ -2,9 +2,9 @@
 use Rattle.std.specs.Prelude.{◌≡◌, ℕ, ◌⊎◌, List, ◌++◌, codes, Option, None, Some}
 use Rattle.std.specs.Io.KnownBytes.{Appends, Keeps}
 use Rattle.clnp_commands.specs.ClnpBase.Streams.{AppendsFront}
-use Rattle.clnp_commands.specs.declared.status.Status.{Status}
-use Rattle.clnp_commands.specs.declared.status.Status.TheVariants.{Done, WriteFault}
-use Rattle.clnp_commands.specs.Exit.{exit_number}
+use Rattle.clnp_commands.specs.CommandBase.declared.status.Status.{Status}
+use Rattle.clnp_commands.specs.CommandBase.declared.status.Status.TheVariants.{Done, WriteFault}
+use Rattle.clnp_commands.specs.CommandBase.Exit.{exit_number}
 use Rattle.clnp_commands.specs.Serves.{Serves}
 use Rattle.clnp_program.specs.Texts.{behind_fault, information}
 use Rattle.clnp_program.specs.declared.fault.Fault.{Fault}

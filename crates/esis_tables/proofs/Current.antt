@@ -15,7 +15,7 @@ use Rattle.esis_tables.specs.Order.{in_order}
 use Rattle.esis_tables.specs.Stands.{KeepsCurrent}
 use Rattle.esis_tables.specs.State.{TableState}
 use Rattle.esis_tables.proofs.Histories.{distinct-latest, find_latest, latest-elsewhere, latest-there}
-use Rattle.esis_tables.proofs.Ranks.{distinct-key}
+use Rattle.esis_tables.proofs.Numbers.{distinct-key}
 use Rattle.esis_tables.proofs.Rising.{all_filter, filter_all, filter_none}
 use Rattle.esis_tables.proofs.Sorting.{length-sorted}
 use Rattle.nsap.proofs.ClnpBase.Lists.{AllByRecursion-push, AllByRecursion-implies}

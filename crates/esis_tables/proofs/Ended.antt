@@ -8,7 +8,7 @@ use Rattle.esis_tables.specs.Fact.{Fact, current, currents, has_key, is_held, la
 use Rattle.esis_tables.specs.Gone.{gone_keys, key_of}
 use Rattle.esis_tables.specs.Keeps.{AreDistinct}
 use Rattle.esis_tables.specs.Order.{IsRising}
-use Rattle.esis_tables.proofs.Ranks.{distinct-key}
+use Rattle.esis_tables.proofs.Numbers.{distinct-key}
 use Rattle.esis_tables.proofs.Histories.{distinct-latest, find_latest}
 use Rattle.esis_tables.proofs.Rising.{Differ, NoneHas, all_filter}
 use Rattle.esis_tables.proofs.Sorting.{in_order-rising, list_any-in_order}

@@ -1,19 +1,19 @@
 -- The first entry whose time has ended.
-use Rattle.std.proofs.Common.{◌≡◌, ℕ, zero, suc, ◌+◌, ◌<◌, Bool, true, false, cond, not, List, [], ◌∷◌, None, Some, refl, sym, ap, subst, ◌∙◌, inl, inr, arith, length, map, slice_get, remove}
-use Rattle.std.proofs.lemmas.Bool.{cases_Bool, not-true}
+use Rattle.std.proofs.Common.{◌≡◌, ℕ, zero, suc, ◌+◌, ◌<◌, ◌≤◌, Bool, true, false, cond, not, List, [], ◌∷◌, None, Some, refl, sym, ap, subst, ◌∙◌, inl, inr, arith, length, map, slice_get, remove}
+use Rattle.std.proofs.lemmas.Bool.{cases_Bool, lt-ltb, not-true}
 use Rattle.std.proofs.lemmas.Option.{slice_get_within, same_Some}
-use Rattle.std.specs.List.{filter, find, position_from}
+use Rattle.std.specs.List.{AllByRecursion, filter, find, position_from}
 use Rattle.esis_tables.specs.declared.table.Entry.{Entry}
 use Rattle.esis_tables.specs.Fact.{Fact, has_key, is_held}
 use Rattle.esis_tables.specs.Gone.{ended_keys, key_of}
 use Rattle.esis_tables.specs.Keeps.{Keeps, AreDistinct, entries_of, without}
 use Rattle.esis_tables.specs.Order.{in_order}
-use Rattle.esis_tables.specs.State.{TableState, entry_for, closed, is_kept, is_of, key_in}
+use Rattle.esis_tables.specs.State.{TableState, entry_for, is_kept, is_of, key_in}
 use Rattle.nsap.proofs.ClnpBase.SameOctets.{same-itself}
-use Rattle.esis_tables.proofs.Hearing.{taken_kept}
-use Rattle.esis_tables.proofs.Keeping.{found_in, rising_of}
+use Rattle.esis_tables.proofs.Keeping.{found_in, rising_of, taken_kept}
 use Rattle.esis_tables.proofs.Places.{find_is}
-use Rattle.esis_tables.proofs.Ranks.{differ-entries, distinct-key, found_first, found_later, without_none}
+use Rattle.esis_tables.proofs.Numbers.{differ-entries, distinct-key, found_first, found_later, without_none}
+use Rattle.esis_tables.proofs.Rising.{filter_none}
 use Rattle.esis_tables.proofs.Sorting.{filter-in_order, map-in_order}
 
 -- the first item that passes a test stands at this place
@@ -65,44 +65,45 @@ none_found p start (x ∷ xs) h =
 abbrev pub has_ended : ℕ → Entry → Bool
 has_ended now entry = not (is_kept now entry)
 
-keys-entries : (now : ℕ) (kept : List Fact)
-    → map key_in (filter (has_ended now) (entries_of kept)) ≡ map key_of (filter (λ fact. not (is_held now fact)) kept)
-keys-entries now [] = refl
-keys-entries now (fact ∷ later) =
+keys-entries : (now : ℕ) (number : List ℕ → ℕ) (kept : List Fact)
+    → map key_in (filter (has_ended now) (entries_of number kept)) ≡ map key_of (filter (λ fact. not (is_held now fact)) kept)
+keys-entries now number [] = refl
+keys-entries now number (fact ∷ later) =
     elim (cases_Bool (not (is_held now fact))) [
-      | inl t ↦ rw t (ap (λ l. fact.key ∷ l) (keys-entries now later))
-      | inr f ↦ rw f (keys-entries now later)
+      | inl t ↦ rw t (ap (λ l. fact.key ∷ l) (keys-entries now number later))
+      | inr f ↦ rw f (keys-entries now number later)
     ]
 
 -- the keys of the ended entries are those of the ended facts, in order
 pub ended_is : (now : ℕ) (table : TableState) (kept : List Fact) → Keeps table kept
     → ended_keys now kept ≡ map key_in (filter (has_ended now) table.entries)
 ended_is now table kept keeps =
-    let entries : List Entry = entries_of kept in
-    ap (in_order (λ key. key)) (sym (keys-entries now kept))
+    let entries : List Entry = entries_of keeps.number kept in
+    ap (in_order (λ key. key)) (sym (keys-entries now keeps.number kept))
     ∙ sym (map-in_order key_in (λ key. key) key_in (λ e. refl) (filter (has_ended now) entries))
-    ∙ ap (map key_in) (sym (filter-in_order key_in (has_ended now) entries (differ-entries kept keeps.distinct)))
+    ∙ ap (map key_in) (sym (filter-in_order key_in (has_ended now) entries (differ-entries keeps.number kept keeps.distinct)))
     ∙ ap (λ l. map key_in (filter (has_ended now) l)) (sym keeps.entries)
-
-keys_closed : (now gap : ℕ) (entries : List Entry)
-    → map key_in (filter (has_ended now) (map (closed gap) entries)) ≡ map key_in (filter (has_ended now) entries)
-keys_closed now gap [] = refl
-keys_closed now gap (entry ∷ rest) =
-    elim (cases_Bool (has_ended now entry)) [
-      | inl t ↦ rw t (ap (λ l. entry.key ∷ l) (keys_closed now gap rest))
-      | inr f ↦ rw f (keys_closed now gap rest)
-    ]
 
 pub none_ended : (now : ℕ) (table : TableState) (kept : List Fact) → Keeps table kept
     → position_from (has_ended now) 0 table.entries ≡ None → ended_keys now kept ≡ []
 none_ended now table kept keeps none = ended_is now table kept keeps ∙ ap (map key_in) (none_found (has_ended now) 0 table.entries none)
 
+-- before the soonest end none has ended
+pub none_ended_before : (now soonest : ℕ) (table : TableState) (kept : List Fact) → Keeps table kept → now < soonest
+    → AllByRecursion (λ (entry : Entry). soonest ≤ entry.until) table.entries → ended_keys now kept ≡ []
+none_ended_before now soonest table kept keeps before bound =
+    ended_is now table kept keeps ∙ ap (map key_in) (filter_none (has_ended now) table.entries (all_hold table.entries bound))
+  where
+    all_hold : (entries : List Entry) → AllByRecursion (λ (entry : Entry). soonest ≤ entry.until) entries → AllByRecursion (λ entry. has_ended now entry ≡ false) entries
+    all_hold [] all = tt
+    all_hold (entry ∷ rest) all = (ap not (lt-ltb now entry.until (omega (arith, before, all.0))), all_hold rest all.1)
+
 -- the first ended entry is taken out
 module _ (now : ℕ) (table new : TableState) (kept : List Fact) (keeps : Keeps table kept) (at : ℕ) (entry : Entry)
     (found : position_from (has_ended now) 0 table.entries ≡ Some at) (there : slice_get table.entries at ≡ Some entry)
-    (is : new.entries ≡ map (closed entry.rank) (remove table.entries at)) where
+    (is : new.entries ≡ remove table.entries at) where
   pub flushed_keeps : Keeps new (without entry.key kept)
-  flushed_keeps = taken_kept table new entry.key kept at entry keeps there (same-itself entry.key) is
+  flushed_keeps = taken_kept table kept keeps new entry.key at entry there (same-itself entry.key) is
 
   pub flushed_first : ended_keys now kept ≡ entry.key ∷ ended_keys now (without entry.key kept)
   flushed_first =
@@ -114,22 +115,22 @@ module _ (now : ℕ) (table new : TableState) (kept : List Fact) (keeps : Keeps 
       ended_is now table kept keeps
       ∙ ap (map key_in) rest
       ∙ ap (λ (e : Entry). e.key ∷ map key_in (filter (has_ended now) (remove table.entries at))) item
-      ∙ ap (λ l. entry.key ∷ l) (sym (keys_closed now entry.rank (remove table.entries at)))
       ∙ ap (λ l. entry.key ∷ map key_in (filter (has_ended now) l)) (sym is)
       ∙ ap (λ l. entry.key ∷ l) (sym (ended_is now new (without entry.key kept) flushed_keeps))
 
 -- what is held is so without an ended entry
-held_without : (now : ℕ) (key : List ℕ) (kept : List Fact) (entry : Entry) → AreDistinct kept → find (is_of key) (entries_of kept) ≡ Some entry
+held_without : (now : ℕ) (key : List ℕ) (number : List ℕ → ℕ) (kept : List Fact) (entry : Entry) → AreDistinct kept
+    → find (is_of key) (entries_of number kept) ≡ Some entry
     → is_kept now entry ≡ false → filter (is_held now) (without key kept) ≡ filter (is_held now) kept
-held_without now key [] entry distinct found ended = refl
-held_without now key (fact ∷ later) entry distinct found ended =
+held_without now key number [] entry distinct found ended = refl
+held_without now key number (fact ∷ later) entry distinct found ended =
     elim (cases_Bool (has_key key fact)) [
       | inl t ↦
-          let here : entry_for fact (length later + 1) ≡ entry = found_first key fact later entry found t in
+          let here : entry_for fact (number fact.key) ≡ entry = found_first number key fact later entry found t in
           let not_held : is_held now fact ≡ false = subst (λ (e : Entry). is_kept now e ≡ false) (sym here) ended in
           let alone : without key later ≡ later = without_none key later (distinct-key key fact later distinct t) in
           rw t (rw not_held (ap (filter (is_held now)) alone))
-      | inr f ↦ rw f (step_on (is_held now fact) (held_without now key later entry distinct.1 (found_later key fact later entry found f) ended))
+      | inr f ↦ rw f (step_on (is_held now fact) (held_without now key number later entry distinct.1 (found_later number key fact later entry found f) ended))
     ]
   where
     step_on : (b : Bool) → filter (is_held now) (without key later) ≡ filter (is_held now) later
@@ -145,9 +146,9 @@ flushed_held now table kept keeps at entry found there =
     let place : first.place ≡ at = omega (arith, first.counted) in
     let item : first.item ≡ entry = same_Some _ _ (sym first.stands_at ∙ ap (slice_get table.entries) place ∙ there) in
     let ended : is_kept now entry ≡ false = not-true (is_kept now entry) (subst (λ (e : Entry). has_ended now e ≡ true) item first.passes) in
-    let its : find (is_of entry.key) (entries_of kept) ≡ Some entry =
+    let its : find (is_of entry.key) (entries_of keeps.number kept) ≡ Some entry =
     sym (found_in table kept keeps entry.key) ∙ find_is key_in table.entries at entry entry.key (rising_of table kept keeps) there (same-itself entry.key) in
-    held_without now entry.key kept entry keeps.distinct its ended
+    held_without now entry.key keeps.number kept entry keeps.distinct its ended
 
 pub within_found : (now : ℕ) (entries : List Entry) (at : ℕ) → position_from (has_ended now) 0 entries ≡ Some at → at < length entries
 within_found now entries at found =

@@ -1,16 +1,17 @@
 -- The entry that was heard last.
-use Rattle.std.proofs.Common.{◌≡◌, ℕ, ◌+◌, ◌<◌, ◌≤◌, true, false, ◌&&◌, nat_lt, List, [], ◌∷◌, Option, None, Some, MatchOption, ◌⊎◌, refl, sym, ap, subst, ◌∙◌, inl, inr, arith, length, fold}
+use Rattle.std.proofs.Common.{◌≡◌, ℕ, ◌<◌, ◌≤◌, true, false, ◌&&◌, nat_lt, List, [], ◌∷◌, Option, None, Some, MatchOption, ◌⊎◌, refl, sym, ap, subst, ◌∙◌, inl, inr, arith, fold}
 use Rattle.std.proofs.lemmas.Bool.{cases_Bool, ltb-true, ltb-false, and_parts, and_cases, both_ways, false_from_ne_true}
 use Rattle.std.specs.List.{AllByRecursion, filter}
 use Rattle.std.specs.Option.{option_map, option_or}
 use Rattle.esis_tables.specs.declared.fact.Place.{Place}
 use Rattle.esis_tables.specs.declared.table.Entry.{Entry}
 use Rattle.esis_tables.specs.Fact.{Fact, is_held}
-use Rattle.esis_tables.specs.Keeps.{Keeps, entries_of}
+use Rattle.esis_tables.specs.Keeps.{AreNumbered, Keeps, entries_of}
 use Rattle.esis_tables.specs.NextHop.{last, place_of}
 use Rattle.esis_tables.specs.Order.{in_order, put_in, is_before}
 use Rattle.esis_tables.specs.State.{TableState, is_kept, is_later_than, key_in, latest_kept, place_in}
 use Rattle.esis_tables.proofs.Rising.{filter_none}
+use Rattle.esis_tables.proofs.Sorting.{all_in_order-back}
 use Rattle.std.proofs.lemmas.Option.{same_Some}
 
 -- the entry is one of these
@@ -18,15 +19,15 @@ abbrev Among : Entry → List Entry → Type 0
 Among entry [] = ⊥
 Among entry (first ∷ rest) = (first ≡ entry) ⊎ Among entry rest
 
--- an entry that holds has at least this rank
-abbrev HasNoLess : ℕ → ℕ → Entry → Type 0
-HasNoLess now rank entry = is_kept now entry ≡ true → rank ≤ entry.rank
+-- an entry that holds has at most this number
+abbrev HasNoGreater : ℕ → ℕ → Entry → Type 0
+HasNoGreater now number entry = is_kept now entry ≡ true → entry.number ≤ number
 
 -- the latest one of those that hold, and of one found before
 record IsLatest (now : ℕ) (found : Option Entry) (entries : List Entry) (latest : Entry) : Type 0 where
   pub among : (found ≡ Some latest) ⊎ (Among latest entries × (is_kept now latest ≡ true))
-  pub least : AllByRecursion (HasNoLess now latest.rank) entries
-  pub found_no_less : (entry : Entry) → found ≡ Some entry → latest.rank ≤ entry.rank
+  pub greatest : AllByRecursion (HasNoGreater now latest.number) entries
+  pub found_no_later : (entry : Entry) → found ≡ Some entry → entry.number ≤ latest.number
 
 record IsNone (now : ℕ) (found : Option Entry) (entries : List Entry) : Type 0 where
   pub none_found : found ≡ None
@@ -43,16 +44,16 @@ taken now found x xs None holds later tells = absurd (some_none tells.none_found
     some_none h = cc
 taken now found x xs (Some latest) holds later tells = record {
   among = inr (among_more tells.among);
-  least = ((λ _. tells.found_no_less x refl), tells.least);
-  found_no_less = λ entry there. below entry (subst (λ (f : Option Entry). is_later_than x f ≡ true) there later);
+  greatest = ((λ _. tells.found_no_later x refl), tells.greatest);
+  found_no_later = λ entry there. below entry (subst (λ (f : Option Entry). is_later_than x f ≡ true) there later);
 }
   where
     among_more : (Some x ≡ Some latest) ⊎ (Among latest xs × (is_kept now latest ≡ true)) → Among latest (x ∷ xs) × (is_kept now latest ≡ true)
     among_more (inl e) = let s = same_Some _ _ e in (inl s, subst (λ (l : Entry). is_kept now l ≡ true) s holds)
     among_more (inr a) = (inr a.0, a.1)
 
-    below : (entry : Entry) → is_later_than x (Some entry) ≡ true → latest.rank ≤ entry.rank
-    below entry later = omega (arith, tells.found_no_less x refl, ltb-true x.rank entry.rank later)
+    below : (entry : Entry) → is_later_than x (Some entry) ≡ true → entry.number ≤ latest.number
+    below entry later = omega (arith, tells.found_no_later x refl, ltb-true entry.number x.number later)
 
 kept_on : (now : ℕ) (found : Option Entry) (x : Entry) (xs : List Entry) (r : Option Entry) → (is_kept now x && is_later_than x found) ≡ false
     → Tells now found xs r → Tells now found (x ∷ xs) r
@@ -65,36 +66,36 @@ kept_on now found x xs None passed tells = record {
     not_kept h = elim (and_cases (is_kept now x) true h) [ inl e ↦ e | inr e ↦ absurd (cc) ]
 kept_on now found x xs (Some latest) passed tells = record {
   among = among_more tells.among;
-  least = (low found refl, tells.least);
-  found_no_less = tells.found_no_less;
+  greatest = (low found refl, tells.greatest);
+  found_no_later = tells.found_no_later;
 }
   where
     among_more : (found ≡ Some latest) ⊎ (Among latest xs × (is_kept now latest ≡ true)) → (found ≡ Some latest) ⊎ (Among latest (x ∷ xs) × (is_kept now latest ≡ true))
     among_more (inl e) = inl e
     among_more (inr a) = inr (inr a.0, a.1)
 
-    low : (o : Option Entry) → found ≡ o → is_kept now x ≡ true → latest.rank ≤ x.rank
+    low : (o : Option Entry) → found ≡ o → is_kept now x ≡ true → x.number ≤ latest.number
     low None is holds =
         elim (and_cases (is_kept now x) true (subst (λ (f : Option Entry). (is_kept now x && is_later_than x f) ≡ false) is passed)) [
           | inl e ↦ absurd (both_ways (is_kept now x) e holds)
           | inr e ↦ absurd (cc)
         ]
     low (Some o) is holds =
-        elim (and_cases (is_kept now x) (nat_lt x.rank o.rank) (subst (λ (f : Option Entry). (is_kept now x && is_later_than x f) ≡ false) is passed)) [
+        elim (and_cases (is_kept now x) (nat_lt o.number x.number) (subst (λ (f : Option Entry). (is_kept now x && is_later_than x f) ≡ false) is passed)) [
           | inl e ↦ absurd (both_ways (is_kept now x) e holds)
-          | inr e ↦ omega (arith, tells.found_no_less o is, ltb-false x.rank o.rank e)
+          | inr e ↦ omega (arith, tells.found_no_later o is, ltb-false o.number x.number e)
         ]
 
 tells_latest : (now : ℕ) (found : Option Entry) (entries : List Entry) → Tells now found entries (latest_kept now found entries)
 tells_latest now None [] = record { none_found = refl; none_holds = tt }
 tells_latest now (Some entry) [] = record {
   among = inl refl;
-  least = tt;
-  found_no_less = λ other same. at_most other same;
+  greatest = tt;
+  found_no_later = λ other same. at_most other same;
 }
   where
-    at_most : (other : Entry) → Some entry ≡ Some other → entry.rank ≤ other.rank
-    at_most other same = subst (λ (e : Entry). entry.rank ≤ e.rank) (same_Some _ _ same) (omega arith)
+    at_most : (other : Entry) → Some entry ≡ Some other → other.number ≤ entry.number
+    at_most other same = subst (λ (e : Entry). e.number ≤ entry.number) (same_Some _ _ same) (omega arith)
 tells_latest now found (x ∷ xs) =
     elim (cases_Bool (is_kept now x && is_later_than x found)) [
       | inl t ↦
@@ -123,30 +124,15 @@ among_put_all entry sorted (x ∷ xs) among =
       | inr a ↦ elim (among_put_in entry x sorted a) [ inl e ↦ inl (inl e) | inr b ↦ inr b ]
     ]
 
-all_put_in-back : (P : Entry → Type 0) (x : Entry) (xs : List Entry) → AllByRecursion P (put_in key_in x xs) → P x × AllByRecursion P xs
-all_put_in-back P x [] all = all
-all_put_in-back P x (y ∷ ys) all =
-    elim (cases_Bool (is_before x.key y.key)) [
-      | inl t ↦ let all' = rw t at all in (all'.0, all'.1)
-      | inr f ↦ let all' = rw f at all in let rest = all_put_in-back P x ys all'.1 in (rest.0, (all'.0, rest.1))
-    ]
-
-all_put_all-back : (P : Entry → Type 0) (sorted xs : List Entry) → AllByRecursion P (fold (λ s x. put_in key_in x s) sorted xs)
-    → AllByRecursion P sorted × AllByRecursion P xs
-all_put_all-back P sorted [] all = (all, tt)
-all_put_all-back P sorted (x ∷ xs) all =
-    let rest = all_put_all-back P (put_in key_in x sorted) xs all in
-    let here = all_put_in-back P x sorted rest.0 in
-    (here.1, (here.0, rest.1))
-
-none_higher : (now n : ℕ) (kept : List Fact) → length kept < n → AllByRecursion (HasNoLess now n) (entries_of kept)
-    → AllByRecursion (λ fact. is_held now fact ≡ false) kept
-none_higher now n [] few all = tt
-none_higher now n (fact ∷ later) few all =
-    (false_from_ne_true (is_held now fact) (λ holds. absurd (too_low (all.0 holds))), none_higher now n later (omega arith) all.1)
+-- what was heard after the latest that holds doesn't hold
+none_later : (now n : ℕ) (number : List ℕ → ℕ) (kept : List Fact) → AllByRecursion (λ fact. n < number fact.key) kept
+    → AllByRecursion (HasNoGreater now n) (entries_of number kept) → AllByRecursion (λ fact. is_held now fact ≡ false) kept
+none_later now n number [] above all = tt
+none_later now n number (fact ∷ later) above all =
+    (false_from_ne_true (is_held now fact) (λ holds. absurd (too_high above.0 (all.0 holds))), none_later now n number later above.1 all.1)
   where
-    too_low : n ≤ length later + 1 → ⊥
-    too_low h = omega arith
+    too_high : n < number fact.key → number fact.key ≤ n → ⊥
+    too_high h k = omega (arith, h, k)
 
 or_some : (o : Option Fact) (other : Option Fact) (place : Place) → option_map place_of o ≡ Some place → option_map place_of (option_or o other) ≡ Some place
 or_some None other place h = absurd (none_some h)
@@ -155,39 +141,40 @@ or_some None other place h = absurd (none_some h)
     none_some e = cc
 or_some (Some fact) other place h = h
 
-latest_place : (now : ℕ) (kept : List Fact) (latest : Entry) → Among latest (entries_of kept) → is_kept now latest ≡ true
-    → AllByRecursion (HasNoLess now latest.rank) (entries_of kept)
+latest_place : (now : ℕ) (number : List ℕ → ℕ) (kept : List Fact) (latest : Entry) → AreNumbered number kept → Among latest (entries_of number kept)
+    → is_kept now latest ≡ true → AllByRecursion (HasNoGreater now latest.number) (entries_of number kept)
     → option_map place_of (last (filter (is_held now) kept)) ≡ Some latest.place
-latest_place now [] latest among holds least = absurd among
-latest_place now (fact ∷ later) latest (inl e) holds least =
+latest_place now number [] latest numbered among holds greatest = absurd among
+latest_place now number (fact ∷ later) latest numbered (inl e) holds greatest =
     let held : is_held now fact ≡ true = subst (λ (l : Entry). is_kept now l ≡ true) (sym e) holds in
-    let low : AllByRecursion (HasNoLess now (length later + 1)) (entries_of later) =
-    subst (λ (l : Entry). AllByRecursion (HasNoLess now l.rank) (entries_of later)) (sym e) least.1 in
-    let alone : filter (is_held now) later ≡ [] = filter_none (is_held now) later (none_higher now (length later + 1) later (omega arith) low) in
+    let high : AllByRecursion (HasNoGreater now (number fact.key)) (entries_of number later) =
+    subst (λ (l : Entry). AllByRecursion (HasNoGreater now l.number) (entries_of number later)) (sym e) greatest.1 in
+    let alone : filter (is_held now) later ≡ [] = filter_none (is_held now) later (none_later now (number fact.key) number later numbered.0 high) in
     rw held (rw alone (ap (λ (l : Entry). Some l.place) e))
-latest_place now (fact ∷ later) latest (inr a) holds least =
-    let step = latest_place now later latest a holds least.1 in
+latest_place now number (fact ∷ later) latest numbered (inr a) holds greatest =
+    let step = latest_place now number later latest numbered.1 a holds greatest.1 in
     elim (cases_Bool (is_held now fact)) [
       | inl t ↦ rw t (or_some (last (filter (is_held now) later)) (Some fact) latest.place step)
       | inr f ↦ rw f step
     ]
 
-none_held : (now : ℕ) (kept : List Fact) → AllByRecursion (λ entry. is_kept now entry ≡ false) (entries_of kept)
+none_held : (now : ℕ) (number : List ℕ → ℕ) (kept : List Fact) → AllByRecursion (λ entry. is_kept now entry ≡ false) (entries_of number kept)
     → AllByRecursion (λ fact. is_held now fact ≡ false) kept
-none_held now [] none = tt
-none_held now (fact ∷ later) none = (none.0, none_held now later none.1)
+none_held now number [] none = tt
+none_held now number (fact ∷ later) none = (none.0, none_held now number later none.1)
 
-answered : (now : ℕ) (kept : List Fact) (result : Option Entry) → Tells now None (in_order key_in (entries_of kept)) result
+answered : (now : ℕ) (number : List ℕ → ℕ) (kept : List Fact) (result : Option Entry) → AreNumbered number kept
+    → Tells now None (in_order key_in (entries_of number kept)) result
     → option_map place_in result ≡ option_map place_of (last (filter (is_held now) kept))
-answered now kept None tells =
-    let none = all_put_all-back (λ entry. is_kept now entry ≡ false) [] (entries_of kept) tells.none_holds in
-    sym (ap (λ l. option_map place_of (last l)) (filter_none (is_held now) kept (none_held now kept none.1)))
-answered now kept (Some latest) tells =
+answered now number kept None numbered tells =
+    let none = all_in_order-back key_in (λ entry. is_kept now entry ≡ false) (entries_of number kept) tells.none_holds in
+    sym (ap (λ l. option_map place_of (last l)) (filter_none (is_held now) kept (none_held now number kept none)))
+answered now number kept (Some latest) numbered tells =
     elim tells.among [
       | inl e ↦ absurd (none_some e)
       | inr a ↦
-          elim (among_put_all latest [] (entries_of kept) a.0) [
-            | inl b ↦ sym (latest_place now kept latest b a.1 (all_put_all-back (HasNoLess now latest.rank) [] (entries_of kept) tells.least).1)
+          elim (among_put_all latest [] (entries_of number kept) a.0) [
+            | inl b ↦ sym (latest_place now number kept latest numbered b a.1 (all_in_order-back key_in (HasNoGreater now latest.number) (entries_of number kept) tells.greatest))
             | inr b ↦ absurd b
           ]
     ]
@@ -200,4 +187,5 @@ pub last_kept : (now : ℕ) (table : TableState) (kept : List Fact) → Keeps ta
     → option_map place_in (latest_kept now None table.entries) ≡ option_map place_of (last (filter (is_held now) kept))
 last_kept now table kept keeps =
     ap (λ l. option_map place_in (latest_kept now None l)) keeps.entries
-    ∙ answered now kept (latest_kept now None (in_order key_in (entries_of kept))) (tells_latest now None (in_order key_in (entries_of kept)))
+    ∙ answered now keeps.number kept (latest_kept now None (in_order key_in (entries_of keeps.number kept))) keeps.numbered
+    (tells_latest now None (in_order key_in (entries_of keeps.number kept)))

@@ -2,8 +2,8 @@ pub mod Addresses
 pub mod Rising
 pub mod Sorting
 pub mod Places
-pub mod Steps
-pub mod Ranks
+pub mod Numbers
+pub mod Gaps
 pub mod Keeping
 pub mod Hearing
 pub mod Flushing

@@ -37,22 +37,22 @@ pub held_nowhere : (now : ℕ) (entries : List Entry) (key : List ℕ) (at : ℕ
 held_nowhere now entries key at gap =
     sym (ap (place_while_kept now) (find_none key_in entries key (none_has key_in entries at key (splits_of entries key at gap))))
 
-place-entries : (now : ℕ) (key : List ℕ) (kept : List Fact)
-    → place_while_kept now (find (is_of key) (entries_of kept)) ≡ option_map place_of (while_held now (find (has_key key) kept))
-place-entries now key [] = refl
-place-entries now key (fact ∷ later) =
+place-entries : (now : ℕ) (key : List ℕ) (number : List ℕ → ℕ) (kept : List Fact)
+    → place_while_kept now (find (is_of key) (entries_of number kept)) ≡ option_map place_of (while_held now (find (has_key key) kept))
+place-entries now key number [] = refl
+place-entries now key number (fact ∷ later) =
     elim (cases_Bool (has_key key fact)) [
       | inl t ↦ rw t (elim (cases_Bool (is_held now fact)) [
         | inl h ↦ rw h refl
         | inr e ↦ rw e refl
       ])
-      | inr f ↦ rw f (place-entries now key later)
+      | inr f ↦ rw f (place-entries now key number later)
     ]
 
 -- the place of a key in a table is that of the kept fact
 pub place_kept : (now : ℕ) (key : List ℕ) (table : TableState) (kept : List Fact) → Keeps table kept
     → place_while_kept now (find (is_of key) table.entries) ≡ option_map place_of (while_held now (find (has_key key) kept))
-place_kept now key table kept keeps = ap (place_while_kept now) (found_in table kept keeps key) ∙ place-entries now key kept
+place_kept now key table kept keeps = ap (place_while_kept now) (found_in table kept keeps key) ∙ place-entries now key keeps.number kept
 
 any-filter : {X : Type 0} (p q : X → Bool) (xs : List X) → list_any (λ x. p x && q x) xs ≡ list_any q (filter p xs)
 any-filter p q [] = refl
@@ -65,5 +65,5 @@ any-filter p q (x ∷ xs) =
 pub at_kept : (now : ℕ) (snpa : List ℕ) (table : TableState) (kept : List Fact) → Keeps table kept
     → list_any (is_kept_at now snpa) table.entries ≡ list_any (is_at snpa) (filter (is_held now) kept)
 at_kept now snpa table kept keeps =
-    any_kept (is_kept_at now snpa) (λ fact. is_held now fact && is_at snpa fact) (λ fact rank. refl) table kept keeps
+    any_kept (is_kept_at now snpa) (λ fact. is_held now fact && is_at snpa fact) (λ fact number. refl) table kept keeps
     ∙ any-filter (is_held now) (is_at snpa) kept

@@ -1,10 +1,10 @@
 -- Where a key is in a rising list, or would go.
-use Rattle.std.proofs.Common.{◌≡◌, ℕ, zero, suc, ◌+◌, ◌<◌, ◌≤◌, true, false, not, List, [], ◌∷◌, None, Some, Ok, Err, Result, refl, sym, ap, subst, ◌∙◌, arith, length, slice_get, get_or, insert, remove, IfOk, IfErr}
+use Rattle.std.proofs.Common.{◌≡◌, ℕ, zero, suc, ◌+◌, ◌<◌, ◌≤◌, true, false, not, List, [], ◌∷◌, None, Some, Ok, Err, Result, refl, sym, ap, subst, ◌∙◌, arith, length, slice_get, slice_set, get_or, insert, remove, IfOk, IfErr}
 use Rattle.std.proofs.lemmas.Cmp.{nat_list_cmp_total}
 use Rattle.std.proofs.lemmas.List.Sorted.{searchable_from_sorted}
 use Rattle.std.proofs.lemmas.Option.{slice_get-get_or}
 use Rattle.std.specs.Cmp.Lexicographic.{slice_cmp}
-use Rattle.std.specs.List.{AllWithin, HoldsAt, filter, find}
+use Rattle.std.specs.List.{AllByRecursion, AllWithin, HoldsAt, filter, find}
 use Rattle.std.specs.List.Sorted.{IsBinarySearchResult, IsSearchInRange, IsSortedByKey}
 use Rattle.std.specs.Ordering.{nat_cmp, is_lt, ordering_reverse}
 use Rattle.std.specs.Str.{bytes_eq}
@@ -14,7 +14,7 @@ use Rattle.esis_tables.specs.Order.{is_before, put_in, IsRising}
 use Rattle.esis_tables.specs.State.{IsAt, IsGap, key_in}
 use Rattle.nsap.proofs.ClnpBase.SameOctets.{same_from, other-back}
 use Rattle.esis_tables.proofs.Addresses.{before-back, before-other, same_from_equal}
-use Rattle.esis_tables.proofs.Rising.{NoneHas, filter_all}
+use Rattle.esis_tables.proofs.Rising.{NoneHas, filter_all, put_in-front}
 use Rattle.nsap.proofs.ClnpBase.Lists.{AllByRecursion-slice_get, AllByRecursion-implies}
 
 module _ {X : Type 0} (key : X → List ℕ) where
@@ -48,6 +48,24 @@ module _ {X : Type 0} (key : X → List ℕ) where
       let before = AllByRecursion-slice_get (λ z. is_before (key y) (key z) ≡ true) ys i x there rising.0 in
       let other = other_before y x k before same in
       rw other (ap (λ l. y ∷ l) (remove_is ys i x k rising.1 there same))
+
+  -- the one item of this key, written over
+  pub set_is : (xs : List X) (i : ℕ) (x new : X) (k : List ℕ) → IsRising key xs → slice_get xs i ≡ Some x → bytes_eq (key x) k ≡ true → key new ≡ k
+      → slice_set xs i new ≡ put_in key new (filter (λ y. not (bytes_eq (key y) k)) xs)
+  set_is [] i x new k rising there same its = absurd (cc)
+  set_is (y ∷ ys) zero x new k rising there same its =
+      let e : y ≡ x = cc in
+      let here : bytes_eq (key y) k ≡ true = subst (λ z. bytes_eq (key z) k ≡ true) (sym e) same in
+      let others : filter (λ z. not (bytes_eq (key z) k)) ys ≡ ys = sym (remove_is (y ∷ ys) zero y k rising refl here ∙ rw here refl) in
+      let front : put_in key new ys ≡ new ∷ ys =
+      put_in-front key new ys (subst (λ j. AllByRecursion (λ z. is_before j (key z) ≡ true) ys) (same_from (key y) k here ∙ sym its) rising.0) in
+      rw here (sym (ap (put_in key new) others ∙ front))
+  set_is (y ∷ ys) (suc i) x new k rising there same its =
+      let before = AllByRecursion-slice_get (λ z. is_before (key y) (key z) ≡ true) ys i x there rising.0 in
+      let other = other_before y x k before same in
+      let not_before : is_before (key new) (key y) ≡ false =
+      before-back (key y) (key new) (subst (λ j. is_before (key y) j ≡ true) (same_from (key x) k same ∙ sym its) before) in
+      rw other (rw not_before (ap (λ l. y ∷ l) (set_is ys i x new k rising.1 there same its)))
 
   pub find_is : (xs : List X) (i : ℕ) (x : X) (k : List ℕ) → IsRising key xs → slice_get xs i ≡ Some x → bytes_eq (key x) k ≡ true
       → find (λ y. bytes_eq (key y) k) xs ≡ Some x

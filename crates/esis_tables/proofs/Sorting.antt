@@ -77,6 +77,25 @@ module _ {X : Type 0} (key : X → List ℕ) where
       put_all-push sorted [] = refl
       put_all-push sorted (y ∷ ys) = put_all-push (put_in key y sorted) ys
 
+  -- what holds of each item in order holds of each
+  all_put_in-back : (P : X → Type 0) (x : X) (xs : List X) → AllByRecursion P (put_in key x xs) → P x × AllByRecursion P xs
+  all_put_in-back P x [] all = all
+  all_put_in-back P x (y ∷ ys) all =
+      elim (cases_Bool (is_before (key x) (key y))) [
+        | inl t ↦ let all' = rw t at all in (all'.0, all'.1)
+        | inr f ↦ let all' = rw f at all in let rest = all_put_in-back P x ys all'.1 in (rest.0, (all'.0, rest.1))
+      ]
+
+  all_put_all-back : (P : X → Type 0) (sorted xs : List X) → AllByRecursion P (put_all sorted xs) → AllByRecursion P sorted × AllByRecursion P xs
+  all_put_all-back P sorted [] all = (all, tt)
+  all_put_all-back P sorted (x ∷ xs) all =
+      let rest = all_put_all-back P (put_in key x sorted) xs all in
+      let here = all_put_in-back P x sorted rest.0 in
+      (here.1, (here.0, rest.1))
+
+  pub all_in_order-back : (P : X → Type 0) (xs : List X) → AllByRecursion P (in_order key xs) → AllByRecursion P xs
+  all_in_order-back P xs all = (all_put_all-back P [] xs all).1
+
   list_any-put_in : (p : X → Bool) (x : X) (xs : List X) → list_any p (put_in key x xs) ≡ list_any p (x ∷ xs)
   list_any-put_in p x [] = refl
   list_any-put_in p x (y ∷ ys) = grind (arith, cases_Bool (is_before (key x) (key y)), cases_Bool (p x), cases_Bool (p y), list_any-put_in p x ys)

@@ -75,7 +75,7 @@ stands_later tables facts before now stands le =
 pub keeps_nothing : (table : TableKind) (state : TableState) (now : ℕ) → state.entries ≡ [] → KeepsCurrent table state [] now []
 keeps_nothing table state now empty = record {
   kept = [];
-  keeps = record { entries = empty; distinct = tt };
+  keeps = record { number = λ key. 0; entries = empty; numbered = tt; distinct = tt };
   current = refl;
   left_is = refl;
 }

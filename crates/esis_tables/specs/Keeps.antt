@@ -1,5 +1,5 @@
 -- Which facts one table keeps.
-use Rattle.std.specs.Prelude.{◌≡◌, ℕ, ◌+◌, ◌==◌, nat_le, not, false, if◌then◌else◌, List, [], ◌∷◌, ◌++◌, length, filter}
+use Rattle.std.specs.Prelude.{◌≡◌, ℕ, ◌<◌, ◌==◌, nat_le, not, false, if◌then◌else◌, List, [], ◌∷◌, ◌++◌, length, filter, map}
 use Rattle.std.specs.List.{AllByRecursion, list_any}
 use Rattle.esis_tables.specs.declared.fact.Heard.{Heard}
 use Rattle.esis_tables.specs.declared.fact.Heard.TheVariants.{New, Again, Zero, Full}
@@ -8,20 +8,26 @@ use Rattle.esis_tables.specs.Fact.{Fact, has_key, is_noted}
 use Rattle.esis_tables.specs.Order.{in_order}
 use Rattle.esis_tables.specs.State.{TableState, entry_for, key_in}
 
--- the entries of facts in the order of hearing: the rank is 1 for the last one, 2 for the one before it, and so on
-abbrev pub entries_of : List Fact → List Entry
-entries_of [] = []
-entries_of (fact ∷ later) =
-    entry_for fact (length later + 1) ∷ entries_of later
+-- the entries of facts, by the numbers under which their keys were heard
+abbrev pub entries_of : (List ℕ → ℕ) → List Fact → List Entry
+entries_of number facts = map (λ fact. entry_for fact (number fact.key)) facts
+
+-- each fact has a greater number than those before it
+abbrev pub AreNumbered : (List ℕ → ℕ) → List Fact → Type 0
+AreNumbered number [] = Unit {0}
+AreNumbered number (fact ∷ later) =
+    AllByRecursion (λ other. number fact.key < number other.key) later × AreNumbered number later
 
 -- no two facts have one key
 abbrev pub AreDistinct : List Fact → Type 0
 AreDistinct [] = Unit {0}
 AreDistinct (fact ∷ later) = AllByRecursion (λ other. has_key fact.key other ≡ false) later × AreDistinct later
 
--- a table keeps these facts, which stand in the order of hearing
+-- a table keeps these facts, which stand in the order of hearing: their numbers rise
 pub record Keeps (table : TableState) (facts : List Fact) : Type 0 where
-  pub entries : table.entries ≡ in_order key_in (entries_of facts)
+  pub number : List ℕ → ℕ
+  pub entries : table.entries ≡ in_order key_in (entries_of number facts)
+  pub numbered : AreNumbered number facts
   pub distinct : AreDistinct facts
 
 -- the kept facts but those of a key

@@ -3,6 +3,7 @@ pub mod Fact
 pub mod Gone
 pub mod Keeps
 pub mod NextHop
+pub mod Numbers
 pub mod Order
 pub mod Stands
 pub mod State

@@ -1,6 +1,6 @@
 -- What a table keeps, and where a key is in it.
-use Rattle.std.specs.Prelude.{◌≡◌, ℕ, ◌+◌, ◌-◌, ◌≤◌, ◌^◌, true, Bool, ◌&&◌, min, nat_lt, fold, if◌then◌else◌, List, length, Option, None, Some, slice_get}
-use Rattle.std.specs.List.{AllWithin}
+use Rattle.std.specs.Prelude.{◌≡◌, ℕ, ◌≤◌, true, Bool, ◌&&◌, nat_lt, fold, if◌then◌else◌, List, length, Option, None, Some, slice_get}
+use Rattle.std.specs.List.{AllByRecursion, AllWithin}
 use Rattle.std.specs.Str.{bytes_eq}
 use Rattle.esis_tables.specs.declared.fact.Place.{Place}
 use Rattle.esis_tables.specs.declared.table.Entry.{Entry}
@@ -12,13 +12,9 @@ pub record TableState : Type 0 where
   pub limit : ℕ
   pub entries : List Entry
 
--- the entry of a fact at a rank
+-- the entry of a fact, by the number of its hearing
 abbrev pub entry_for : Fact → ℕ → Entry
-entry_for fact rank = record { key = fact.key; place = fact.place; until = end_of fact; rank = rank }
-
--- a new entry, which has no rank yet
-abbrev pub new_entry : List ℕ → Place → ℕ → Entry
-new_entry key place until = record { key = key; place = place; until = until; rank = 0 }
+entry_for fact number = record { key = fact.key; place = fact.place; until = end_of fact; number = number }
 
 abbrev pub key_in : Entry → List ℕ
 key_in entry = entry.key
@@ -42,13 +38,10 @@ pub record IsGap (entries : List Entry) (key : List ℕ) (place : ℕ) : Type 0 
   pub before : AllWithin (λ entry. is_before entry.key key ≡ true) entries 0 place
   pub behind : AllWithin (λ entry. is_before key entry.key ≡ true) entries place (length entries)
 
--- an entry after one more hearing
-abbrev pub raised : Entry → Entry
-raised entry = record entry { rank = min (entry.rank + 1) (2 ^ 16 - 1) }
-
--- an entry after the one of this rank is taken out
-abbrev pub closed : ℕ → Entry → Entry
-closed rank entry = record entry { rank = (if nat_lt rank entry.rank then entry.rank - 1 else entry.rank) }
+-- no time of an entry ends before a moment, and none was heard after a number
+pub record AreBounded (soonest last : ℕ) (entries : List Entry) : Type 0 where
+  pub end : AllByRecursion (λ entry. soonest ≤ entry.until) entries
+  pub heard : AllByRecursion (λ entry. entry.number ≤ last) entries
 
 abbrev pub place_in : Entry → Place
 place_in entry = entry.place
@@ -65,7 +58,7 @@ is_kept_at now snpa entry = is_kept now entry && bytes_eq entry.place.snpa snpa
 -- whether an entry was heard after another, if there is one
 abbrev pub is_later_than : Entry → Option Entry → Bool
 is_later_than entry None = true
-is_later_than entry (Some other) = nat_lt entry.rank other.rank
+is_later_than entry (Some other) = nat_lt other.number entry.number
 
 -- the one that was heard last of those that hold, and of one found before
 abbrev pub latest_kept : ℕ → Option Entry → List Entry → Option Entry

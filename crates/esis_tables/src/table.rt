@@ -1,14 +1,15 @@
 //! The keys of one kind.
-ghost use Rattle.std.specs.Prelude.{◌≡◌, ◌+◌, ◌*◌, ◌<◌, ◌≤◌, ◌-◌, ◌^◌, nat_le, insert, ℕ, List, [], ◌∷◌, true, false, not, length, map, remove, IfErr, IfOk, IfSome, MatchOption, filter, None, Some, slice_get};
-ghost use Rattle.std.specs.List.{find, list_any, position_from};
+ghost use Rattle.std.specs.Prelude.{◌≡◌, ◌+◌, ◌*◌, ◌<◌, ◌≤◌, ◌-◌, ◌^◌, nat_le, insert, ℕ, List, [], ◌∷◌, not, length, map, remove, IfErr, IfOk, IfSome, MatchOption, filter, None, Some, slice_get, slice_set};
+ghost use Rattle.std.specs.List.{AllByRecursion, find, list_any, position_from};
 ghost use Rattle.std.specs.List.Sorted.{IsSearchInRange};
 ghost use Rattle.std.specs.Option.{option_map};
 ghost use Rattle.esis_tables.specs.declared.fact.TableKind.{TableKind};
 ghost use Rattle.esis_tables.specs.Fact.{Fact, has_key, hearing, is_held};
 ghost use Rattle.esis_tables.specs.Gone.{ended_keys};
 ghost use Rattle.esis_tables.specs.Keeps.{Keeps, answer_of, kept_after, without};
-ghost use Rattle.esis_tables.specs.Order.{IsRising, put_in};
-ghost use Rattle.esis_tables.specs.State.{IsAt, IsGap, closed, is_kept, is_kept_at, is_later_than, is_of, key_in, latest_kept, new_entry, place_in, place_while_kept, raised};
+ghost use Rattle.esis_tables.specs.Order.{IsRising};
+ghost use Rattle.esis_tables.specs.Numbers.{KeepTheSame, count_above, is_less_than, least_above, lowered};
+ghost use Rattle.esis_tables.specs.State.{IsAt, IsGap, is_kept, is_kept_at, is_later_than, is_of, key_in, latest_kept, place_in, place_while_kept};
 
 use crate::fact::{Heard, Place};
 use nsap::clnp_base::NoMemory;
@@ -23,8 +24,8 @@ pub struct Entry {
     place: Place,
     /// The moment from which its time has ended.
     until: u64,
-    /// Its rank by last hearing, from 1 for the latest.
-    rank: u16,
+    /// The number of the hearing: what was heard later has a greater one.
+    number: u64,
 }
 
 /// The keys of one kind, sorted.
@@ -34,18 +35,23 @@ pub struct Entry {
 pub struct Table {
     limit: u16,
     entries: Vec<Entry>,
+    /// A moment before which no time of an entry ends, so that a flush before it looks at none.
+    soonest: u64,
+    /// The greatest number that was given.
+    last: u64,
 }
 
 impl Model for Table {
     ghost use Rattle.std.specs.Prelude.{◌<◌, ◌≤◌, ◌^◌, vec_capacity, vec_len};
-    ghost use Rattle.esis_tables.specs.State.{TableState};
+    ghost use Rattle.esis_tables.specs.State.{AreBounded, TableState};
 
     ghost Value = { TableState };
 
     ghost view = { λ t. record { limit = t.limit; entries = t.entries.items } };
 
     // Room for all that the limit allows was reserved when the table was made.
-    ghost invariant = { λ t. (vec_len t.entries ≤ t.limit) × (t.limit ≤ vec_capacity t.entries) × (t.limit < 2 ^ 16) };
+    ghost invariant = { λ t. (vec_len t.entries ≤ t.limit) × (t.limit ≤ vec_capacity t.entries) × (t.limit < 2 ^ 16)
+        × AreBounded t.soonest t.last t.entries.items };
 }
 
 impl Table {
@@ -61,7 +67,12 @@ impl Table {
         let Ok(entries) = Vec::with_capacity(alloc, usize::from(limit)) else {
             return Err(NoMemory);
         };
-        Ok(Table { limit, entries })
+        Ok(Table {
+            limit,
+            entries,
+            soonest: u64::MAX,
+            last: 0,
+        })
     }
 
     /// Notes that the system of a key is reached at a place, for `hold` seconds from `now` on.
@@ -73,32 +84,42 @@ impl Table {
             → Keeps self.new (kept_after self.old.limit (hearing now table key place hold) kept) }
         ensures limit { self.new.limit ≡ self.old.limit }
     {
-        let full = self.is_full();
-        let known = self.forget(&key);
         if hold == 0 {
+            self.forget(&key);
             return Heard::Zero;
         }
-        if full && !known {
-            let entries = self.len();
-            return Heard::Full { entries };
+        let number = self.next_number();
+        let until = end_of_hold(now, hold);
+        let entry = Entry {
+            key,
+            place,
+            until,
+            number,
+        };
+        match self.find(&key) {
+            Ok(at) => {
+                self.write_over(at, entry);
+                Heard::Again
+            }
+            Err(at) => {
+                if self.is_full() {
+                    let entries = self.len();
+                    return Heard::Full { entries };
+                }
+                self.put_at(at, entry);
+                Heard::New
+            }
         }
-        self.note(key, place, end_of_hold(now, hold));
-        if known { Heard::Again } else { Heard::New }
     }
 
-    /// Takes the entry of a key out, and tells whether there was one.
-    fn forget(&mut self, key: &Address) -> bool
-        ensures known { (kept : List Fact) → Keeps self.old kept → result ≡ list_any (has_key key.now) kept }
+    /// Takes the entry of a key out, if there is one.
+    fn forget(&mut self, key: &Address)
         ensures keeps { (kept : List Fact) → Keeps self.old kept → Keeps self.new (without key.now kept) }
-        ensures room { result ≡ true → length self.new.entries < length self.old.entries }
-        ensures same { result ≡ false → self.new ≡ self.old }
         ensures limit { self.new.limit ≡ self.old.limit }
     {
-        let Ok(at) = self.find(key) else {
-            return false;
-        };
-        self.take_out(at);
-        true
+        if let Ok(at) = self.find(key) {
+            self.take_out(at);
+        }
     }
 
     /// Whether the table keeps as many keys as it may.
@@ -116,60 +137,58 @@ impl Table {
         self.entries.len() as u16
     }
 
-    /// Puts in an entry of a key that has none, as the latest.
-    fn note(&mut self, key: Address, place: Place, until: u64)
-        requires { length self.old.entries < self.old.limit }
-        ensures entries { IsRising key_in self.old.entries → list_any (is_of key) self.old.entries ≡ false
-            → self.new.entries ≡ map raised (put_in key_in (new_entry key place until) self.old.entries) }
-        ensures fits { length self.old.entries < 2 ^ 16 - 1 }
+    /// A number above those of all entries.
+    ///
+    /// Numbers rise by one with each hearing. Where the last one that fits was given, after 2^64 hearings, the entries are
+    /// numbered anew.
+    fn next_number(&mut self) -> u64
+        ensures above { AllByRecursion (λ entry. entry.number < result) self.new.entries }
+        ensures keeps { (kept : List Fact) → Keeps self.old kept → Keeps self.new kept }
         ensures limit { self.new.limit ≡ self.old.limit }
     {
-        let at = self.place_for(&key);
-        let entry = Entry {
-            key,
-            place,
-            until,
-            rank: 0,
-        };
-        self.put_at(at, entry);
-    }
-
-    /// The place to which an entry of a key goes that has none.
-    fn place_for(&self, key: &Address) -> usize
-        ensures within { result ≤ length self.now.entries }
-        ensures gap { IsRising key_in self.now.entries → list_any (is_of key.now) self.now.entries ≡ false
-            → IsGap self.now.entries key.now result }
-    {
-        match self.find(key) {
-            Ok(at) => at,
-            Err(at) => at,
+        if self.last < u64::MAX {
+            return self.last + 1;
         }
+        let number = number_anew(&mut self.entries);
+        self.last = number;
+        number
     }
 
-    /// Puts an entry in at a place, and lets all ranks go up by one.
+    /// Puts an entry in at a place, with a number above those of all others.
     fn put_at(&mut self, at: usize, entry: Entry)
         requires place { at ≤ length self.old.entries }
         requires room { length self.old.entries < self.old.limit }
-        ensures entries { self.new.entries ≡ map raised (insert self.old.entries at entry) }
-        ensures fits { length self.old.entries < 2 ^ 16 - 1 }
+        requires above { AllByRecursion (λ other. other.number < entry.number) self.old.entries }
+        ensures entries { self.new.entries ≡ insert self.old.entries at entry }
         ensures limit { self.new.limit ≡ self.old.limit }
     {
+        self.soonest = self.soonest.min(entry.until);
+        self.last = entry.number;
         let Ok(()) = self.entries.insert(at, entry) else {
             unreachable!()
         };
-        raise_ranks(&mut self.entries);
+    }
+
+    /// Puts an entry in the place of another, with a number above those of all others.
+    fn write_over(&mut self, at: usize, entry: Entry)
+        requires place { at < length self.old.entries }
+        requires above { AllByRecursion (λ other. other.number < entry.number) self.old.entries }
+        ensures entries { self.new.entries ≡ slice_set self.old.entries at entry }
+        ensures limit { self.new.limit ≡ self.old.limit }
+    {
+        self.soonest = self.soonest.min(entry.until);
+        self.last = entry.number;
+        self.entries[at] = entry;
     }
 
     /// Takes the entry at a place out.
     fn take_out(&mut self, at: usize) -> Entry
         requires { at < length self.old.entries }
         ensures entry { slice_get self.old.entries at ≡ Some result }
-        ensures entries { self.new.entries ≡ map (closed result.rank) (remove self.old.entries at) }
+        ensures entries { self.new.entries ≡ remove self.old.entries at }
         ensures limit { self.new.limit ≡ self.old.limit }
     {
-        let entry = self.entries.remove(at);
-        close_rank(&mut self.entries, entry.rank);
-        entry
+        self.entries.remove(at)
     }
 
     /// Takes out the entry with the least key of those whose time has ended, and gives the key.
@@ -182,7 +201,13 @@ impl Table {
             → IfSome result (λ key. filter (is_held now) (without key kept) ≡ filter (is_held now) kept) }
         ensures limit { self.new.limit ≡ self.old.limit }
     {
-        let at = self.first_ended(now)?;
+        if now < self.soonest {
+            return None;
+        }
+        let Some(at) = self.first_ended(now) else {
+            self.soonest = soonest_end(&self.entries);
+            return None;
+        };
         Some(self.take_out(at).key)
     }
 
@@ -261,27 +286,87 @@ fn is_later(entry: &Entry, other: &Option<Entry>) -> bool
     ensures { result ≡ is_later_than entry.now other.now }
 {
     match other {
-        Some(other) => entry.rank < other.rank,
+        Some(other) => entry.number > other.number,
         None => true,
     }
 }
 
-/// Makes room for rank 1: each rank goes up by one.
-fn raise_ranks(entries: &mut [Entry])
-    ensures { entries.new ≡ map raised entries.old }
+/// A moment before which no time of some entries ends.
+fn soonest_end(entries: &[Entry]) -> u64
+    ensures { AllByRecursion (λ entry. result ≤ entry.until) entries.now }
 {
-    for entry in entries.iter_mut() {
-        entry.rank = entry.rank.saturating_add(1);
+    let mut soonest = u64::MAX;
+    for entry in entries {
+        soonest = soonest.min(entry.until);
+    }
+    soonest
+}
+
+/// Numbers entries from 1 on, in the order of their numbers, and gives the next number.
+fn number_anew(entries: &mut [Entry]) -> u64
+    requires { length entries.old < 2 ^ 16 }
+    ensures same { KeepTheSame entries.old entries.new }
+    ensures above { AllByRecursion (λ entry. entry.number < result) entries.new }
+{
+    let count = entries.len();
+    for number in 0..count {
+        close_gap(entries, number as u64);
+    }
+    count as u64 + 1
+}
+
+/// Lowers the numbers above a number, so that the least of them is the next one.
+fn close_gap(entries: &mut [Entry], number: u64)
+    ensures same { KeepTheSame entries.old entries.new }
+    ensures fewer { count_above (number + 1) entries.new ≤ count_above number entries.old - 1 }
+{
+    if let Some(least) = least_above(entries, number) {
+        lower(entries, number, least - number - 1);
     }
 }
 
-/// Closes the gap at a rank: each rank above it goes down by one.
-fn close_rank(entries: &mut [Entry], rank: u16)
-    ensures { entries.new ≡ map (closed rank) entries.old }
+/// The least number above this one.
+fn least_above(entries: &[Entry], number: u64) -> Option<u64>
+    ensures { result ≡ least_above number None entries.now }
+{
+    let mut least: Option<u64> = None;
+    for entry in entries {
+        if number < entry.number && is_less(entry.number, least) {
+            least = Some(entry.number);
+        }
+    }
+    least
+}
+
+/// Whether a number is less than another, if there is one.
+fn is_less(number: u64, other: Option<u64>) -> bool
+    ensures { result ≡ is_less_than number other }
+{
+    match other {
+        Some(other) => number < other,
+        None => true,
+    }
+}
+
+/// Lets the numbers above this one go down by so much.
+fn lower(entries: &mut [Entry], above: u64, by: u64)
+    ensures { entries.new ≡ map (lowered above by) entries.old }
 {
     for entry in entries.iter_mut() {
-        if entry.rank > rank {
-            entry.rank -= 1;
+        *entry = lowered(*entry, above, by);
+    }
+}
+
+/// An entry, whose number goes down by so much where it is above this one.
+fn lowered(entry: Entry, above: u64, by: u64) -> Entry
+    ensures { result ≡ lowered above by entry }
+{
+    if above < entry.number {
+        Entry {
+            number: entry.number.saturating_sub(by),
+            ..entry
         }
+    } else {
+        entry
     }
 }

@@ -136,7 +136,7 @@ not_across place run never =
       | inr f ↦ f
     ]
 
-none_behind : (place from to : ℕ) (runs : List Run) → AreJoined from to runs → place ≤ from → NoneAcross place runs
+pub none_behind : (place from to : ℕ) (runs : List Run) → AreJoined from to runs → place ≤ from → NoneAcross place runs
 none_behind place from to [] joined low = refl
 none_behind place from to (run ∷ others) joined low =
     rw (not_across place run (λ a. omega (arith, a.low, joined.0))) (none_behind place run.to to others joined.1.1 (omega (arith, joined.0, joined.1.0)))

@@ -7,6 +7,7 @@ pub mod Ended
 pub mod Endings
 pub mod Expiring
 pub mod Filling
+pub mod Searching
 pub mod Givers
 pub mod Groups
 pub mod InSlots

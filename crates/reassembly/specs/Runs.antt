@@ -34,6 +34,10 @@ abbrev pub AreJoined : ℕ → ℕ → List Run → Type 0
 AreJoined from to [] = from ≡ to
 AreJoined from to (run ∷ others) = (run.from ≡ from) × ((run.from < run.to) × AreJoined run.to to others)
 
+-- the runs stand one behind the other
+abbrev pub AreInOrder : List Run → Type 0
+AreInOrder runs = (low : ℕ) × (high : ℕ) × AreJoined low high runs
+
 -- how many of the runs are pieces
 abbrev pub pieces : List Run → ℕ
 pieces runs = length (filter (λ run. not (is_hole run)) runs)

@@ -1,9 +1,9 @@
 //! Runs of places of a unit's data: holes, and pieces that kept segments fill. The runs of all open units stand in one
 //! list, those of one unit together.
 ghost use Rattle.std.specs.Prelude.{◌≡◌, ◌+◌, ◌<◌, ◌≤◌, ◌^◌, List, [], ◌∷◌, ◌++◌, drop, length, map, not, sum, take, None, Some, IfOk, slice_get, slice_set, vec_capacity};
-ghost use Rattle.std.specs.List.{list_any, position_from, remove};
+ghost use Rattle.std.specs.List.{AllByRecursion, list_any, position_from, remove};
 ghost use Rattle.reassembly.specs.declared.runs.Run.{Run};
-ghost use Rattle.reassembly.specs.Runs.{cut, filled, is_across, is_gap, marked, named_in, renamed, total_runs, unfilled};
+ghost use Rattle.reassembly.specs.Runs.{AreInOrder, cut, filled, is_across, is_gap, marked, named_in, renamed, total_runs, unfilled};
 
 use nsap::clnp_base::NoMemory;
 use std::alloc::Global;
@@ -92,6 +92,7 @@ impl Runs {
     /// Fills the holes of a unit from a place to the place before another: they are pieces of a segment then.
     pub fn fill(&mut self, slot: usize, from: u16, to: u16, by: u16)
         requires slot { slot < length self.old.groups }
+        requires order { (runs : List Run) → slice_get self.old.groups slot ≡ Some runs → AreInOrder runs }
         requires room { total_runs self.old.groups + 2 ≤ self.old.room }
         ensures groups { (runs : List Run) → slice_get self.old.groups slot ≡ Some runs
             → self.new.groups ≡ slice_set self.old.groups slot (filled from to by runs) }
@@ -106,6 +107,7 @@ impl Runs {
     /// Cuts the hole of a unit that a place lies in, so that one begins there.
     fn cut(&mut self, slot: usize, place: u16)
         requires slot { slot < length self.old.groups }
+        requires order { (runs : List Run) → slice_get self.old.groups slot ≡ Some runs → AreInOrder runs }
         requires room { total_runs self.old.groups < self.old.room }
         ensures groups { (runs : List Run) → slice_get self.old.groups slot ≡ Some runs
             → self.new.groups ≡ slice_set self.old.groups slot (cut place runs) }
@@ -119,7 +121,8 @@ impl Runs {
 
     /// Makes the holes of a unit that lie from a place to the place before another pieces of a segment.
     fn mark(&mut self, slot: usize, from: u16, to: u16, by: u16)
-        requires { slot < length self.old.groups }
+        requires slot { slot < length self.old.groups }
+        requires order { (runs : List Run) → slice_get self.old.groups slot ≡ Some runs → AreInOrder runs }
         ensures groups { (runs : List Run) → slice_get self.old.groups slot ≡ Some runs
             → self.new.groups ≡ slice_set self.old.groups slot (map (marked from to by) runs) }
         ensures slots { self.old.slots ≤ self.new.slots }
@@ -164,9 +167,39 @@ impl Runs {
 
 /// Whether a hole has a place from `from` to the place before `to`.
 pub fn has_gap(runs: &[Run], from: u16, to: u16) -> bool
+    requires { AreInOrder runs.now }
+    ensures { result ≡ list_any (is_gap from to) runs.now }
+{
+    let last = begun_before(runs, to);
+    let first = ended_by(&runs[..last], from);
+    is_gap_among(&runs[first..last], from, to)
+}
+
+/// Whether one of some runs is a hole with a place from `from` to the place before `to`.
+fn is_gap_among(runs: &[Run], from: u16, to: u16) -> bool
     ensures { result ≡ list_any (is_gap from to) runs.now }
 {
     runs.iter().any(|run| is_gap(run, from, to))
+}
+
+/// How many runs end by a place: the first ones.
+fn ended_by(runs: &[Run], place: u16) -> usize
+    requires { AreInOrder runs.now }
+    ensures within { result ≤ length runs.now }
+    ensures ended { AllByRecursion (λ run. run.to ≤ place) (take result runs.now) }
+    ensures others { AllByRecursion (λ run. place < run.to) (drop result runs.now) }
+{
+    runs.partition_point(|run| run.to <= place)
+}
+
+/// How many runs begin before a place: the first ones.
+fn begun_before(runs: &[Run], place: u16) -> usize
+    requires { AreInOrder runs.now }
+    ensures within { result ≤ length runs.now }
+    ensures begun { AllByRecursion (λ run. run.from < place) (take result runs.now) }
+    ensures others { AllByRecursion (λ run. place ≤ run.from) (drop result runs.now) }
+{
+    runs.partition_point(|run| run.from < place)
 }
 
 /// Whether a run is a hole with a place from `from` to the place before `to`.
@@ -193,6 +226,7 @@ fn start_of(counts: &[usize], slot: usize) -> usize
 fn cut_hole(runs: &mut Vec<Run>, start: usize, count: usize, place: u16) -> usize
     requires within { start + count ≤ length runs.old.items }
     requires room { length runs.old.items < vec_capacity runs.old }
+    requires order { AreInOrder (take count (drop start runs.old.items)) }
     ensures items { runs.new.items ≡ take start runs.old.items
         ++ (cut place (take count (drop start runs.old.items)) ++ drop count (drop start runs.old.items)) }
     ensures count { result ≡ length (cut place (take count (drop start runs.old.items))) }
@@ -211,13 +245,30 @@ fn cut_hole(runs: &mut Vec<Run>, start: usize, count: usize, place: u16) -> usiz
 
 /// The index of the hole that a place lies in, and doesn't begin.
 fn hole_across(runs: &[Run], place: u16) -> Option<usize>
+    requires { AreInOrder runs.now }
     ensures { result ≡ position_from (is_across place) 0 runs.now }
 {
-    runs.iter().position(|run| run.by.is_none() && run.from < place && place < run.to)
+    let at = ended_by(runs, place);
+    let run = runs.get(at)?;
+    if run.by.is_none() && run.from < place {
+        Some(at)
+    } else {
+        None
+    }
 }
 
 /// Makes each hole from a place to the place before another a piece of a segment.
 fn mark_holes(runs: &mut [Run], from: u16, to: u16, by: u16)
+    requires { AreInOrder runs.old }
+    ensures { runs.new ≡ map (marked from to by) runs.old }
+{
+    let last = begun_before(runs, to);
+    let first = ended_by(&runs[..last], from);
+    mark_each(&mut runs[first..last], from, to, by);
+}
+
+/// The same, by a walk over the runs.
+fn mark_each(runs: &mut [Run], from: u16, to: u16, by: u16)
     ensures { runs.new ≡ map (marked from to by) runs.old }
 {
     for run in runs.iter_mut() {

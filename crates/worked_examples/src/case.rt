@@ -1,6 +1,6 @@
 //! The cases, as their file tells them.
 use crate::selection::Selection;
-use clnp_program::clnp_base::decimal;
+use clnp_program::clnp_base::{HexFault, decimal, push_unhex};
 use std::alloc::{AllocError, Global};
 
 /// A call of the program, and what it must come to.
@@ -47,6 +47,8 @@ pub fn take_line<'a>(case: &mut Case<'a>, line: &'a [u8]) -> Result<(), AllocErr
         [b'(', b' ', text @ ..] => push_returned_line(text, &mut case.input)?,
         [b'[', b' ', text @ ..] => case.input.extend_from_slice(text)?,
         [b'>', b' ', text @ ..] => push_line(text, &mut case.output)?,
+        [b'{', b' ', digits @ ..] => case.is_read &= has_octets(digits, &mut case.input)?,
+        [b'}', b' ', digits @ ..] => case.is_read &= has_octets(digits, &mut case.output)?,
         [b'!', b' ', text @ ..] => push_line(text, &mut case.said)?,
         [b'$', b' ', text @ ..] => case.words = text,
         [b'?', b' ', text @ ..] => take_number(case, text),
@@ -54,6 +56,15 @@ pub fn take_line<'a>(case: &mut Case<'a>, line: &'a [u8]) -> Result<(), AllocErr
         _ => case.is_read = false,
     }
     Ok(())
+}
+
+/// Appends the octets that hexadecimal digits spell, and says whether they spell some.
+fn has_octets(digits: &[u8], out: &mut Vec<u8>) -> Result<bool, AllocError> {
+    match push_unhex(digits, out) {
+        Ok(()) => Ok(true),
+        Err(HexFault::NoMemory) => Err(AllocError),
+        Err(_) => Ok(false),
+    }
 }
 
 /// Takes the exit number of a case.

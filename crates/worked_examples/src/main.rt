@@ -13,6 +13,8 @@
 //! ( TEXT        a line of the input that ends in a carriage return and a line feed
 //! [ TEXT        the end of the input, without a line end
 //! > TEXT        a line of the output, among those that are compared
+//! { DIGITS      octets of the input, in hexadecimal digits
+//! } DIGITS      octets of the output, in hexadecimal digits
 //! ! TEXT        a line on standard error
 //! # TEXT        a remark; empty lines are skipped too
 //! ```

@@ -1,12 +1,18 @@
 -- The runs that are handed out, and where the hole among them is cut.
-use Rattle.std.proofs.Common.{◌≡◌, ◌+◌, ◌-◌, ◌++◌, length, take, drop, Some, ap, sym, ◌∙◌, arith}
+use Rattle.std.proofs.Common.{◌≡◌, ◌+◌, ◌-◌, ◌++◌, length, take, drop, Some, ap, sym, subst, ◌∙◌, arith}
 use Rattle.std.specs.List.{position_from}
 use Rattle.std.proofs.lemmas.List.{length-take, length-drop}
 use Rattle.nsap.proofs.ClnpBase.Found.{is_first}
-use Rattle.reassembly.specs.Runs.{is_across}
+use Rattle.reassembly.specs.Runs.{AreInOrder, is_across}
 use Rattle.reassembly.proofs.Groups.{cut_counted, cut_inside, cut_missing, parted}
 use Rattle.reassembly.proofs.runs.cut_hole.Goals as goal
 use Rattle.nsap.proofs.ClnpBase.Choices.{none_since}
+
+pub hole_across-requires : goal.hole_across-requires
+hole_across-requires c =
+    let size : c.args.start + c.args.count - c.args.start ≡ c.args.count = omega arith in
+    subst AreInOrder (sym (ap (λ n. take n (drop c.args.start c.deref.result.now)) size
+    ∙ ap (λ l. take c.args.count (drop c.args.start l)) c.deref.ensures.value)) c.requires.order
 
 pub returns-in_default-clause-items : goal.returns-in_default-clause-items
 returns-in_default-clause-items c =

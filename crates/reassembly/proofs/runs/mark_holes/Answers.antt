@@ -1,12 +1,16 @@
--- One run more is marked.
-use Rattle.std.proofs.Common.{◌<◌, length, arith}
-use Rattle.std.proofs.lemmas.List.Edits.{map_over_more}
-use Rattle.std.proofs.lemmas.List.{get_or_default}
-use Rattle.reassembly.specs.Runs.{marked}
+-- No run before or behind those between the places becomes a piece.
+use Rattle.std.proofs.Common.{◌++◌, ◌-◌, take, drop, ap, ◌∙◌}
+use Rattle.reassembly.proofs.Searching.{front_order, marked_between}
 use Rattle.reassembly.proofs.runs.mark_holes.Goals as goal
 
-pub loop-run-preserved : goal.loop-run-preserved
-loop-run-preserved c =
-    let within : c.loop-run.run-index < length c.args.runs.now = c.loop-run-test.true in
-    rw c.marked.ensures (map_over_more (marked c.args.from c.args.to c.args.by) c.args.runs.now c.loop-run.runs c.loop-run.run-index _ within c.loop-run.invariant
-    (get_or_default c.loop-run.runs c.loop-run.run-index _ _ (omega (arith, c.loop-run.auto.runs))))
+pub ended_by-first-requires : goal.ended_by-first-requires
+ended_by-first-requires c = front_order c.args.runs.now c.begun_before-last.result c.requires
+
+pub returns : goal.returns
+returns c =
+    let first = c.ended_by-first.result in
+    let last = c.begun_before-last.result in
+    let runs = c.args.runs.now in
+    ap (λ l. take first runs ++ (l ++ drop (last - first) (drop first runs))) c.mark_each.ensures
+    ∙ marked_between c.args.from c.args.to first last runs c.requires
+    c.begun_before-last.ensures.within c.ended_by-first.ensures.within c.ended_by-first.ensures.ended c.begun_before-last.ensures.others c.args.by

@@ -1,68 +1,72 @@
-use Rattle.std.proofs.Common.{◌≡◌, ◌≤◌, ◌⊎◌, true, false, inl, inr, length, sym, ap, ◌∙◌, subst, arith}
-use Rattle.std.proofs.lemmas.Bool.{leb-true}
+use Rattle.std.proofs.Common.{ℕ, ◌<◌, ◌≤◌, length, sym, ap, ◌∙◌, subst, arith}
+use Rattle.std.proofs.lemmas.Bool.{leb-true, leb-false}
+use Rattle.std.specs.Prelude.{insert, slice_set}
+use Rattle.esis_tables.specs.declared.table.Entry.{Entry}
 use Rattle.esis_tables.specs.Fact.{hearing}
-use Rattle.esis_tables.specs.Keeps.{Keeps, kept_after}
-use Rattle.esis_tables.specs.State.{TableState}
-use Rattle.esis_tables.proofs.Hearing.{answer_full, answer_again, answer_new, kept_full, kept_again, kept_new, length_kept, noted_kept, room_after, room_for_new}
+use Rattle.esis_tables.specs.Keeps.{Keeps}
+use Rattle.esis_tables.proofs.Hearing.{answer_full, answer_again, answer_new, kept_full, kept_again, kept_new, length_kept}
+use Rattle.esis_tables.proofs.Keeping.{known_at, new_at, over_kept, put_kept, rising_of}
 use Rattle.esis_tables.proofs.table.Table.hear.Goals as goal
-use Rattle.esis_tables.proofs.table.Table.hear.Goals.{else-full-via-then-full+else-not-known, else-full-via-else-full}
 
-pub note-requires : goal.note-requires
-note-requires c =
-    let which : (c.forget-known.result ≡ true) ⊎ (c.is_full-full.result ≡ false) =
-    elim c.else-full.branch [ else-full-via-then-full+else-not-known w ↦ inl w.if-not-known.false | else-full-via-else-full w ↦ inr w.if-full.false ] in
-    room_after c.args.self.now c.forget-known.new.self c.is_full-full.result c.forget-known.result c.is_full-full.ensures.full
-    c.is_full-full.ensures.within c.forget-known.ensures.room c.forget-known.ensures.same c.forget-known.ensures.limit which
-
-pub returns-then-not-known-clause-answered : goal.returns-then-not-known-clause-answered
-returns-then-not-known-clause-answered c table kept keeps =
-    let old = c.args.self.now in
+pub returns-then-is_full-clause-answered : goal.returns-then-is_full-clause-answered
+returns-then-is_full-clause-answered c table kept keeps =
+    let table' = c.next_number-number.new.self in
+    let keeps' = c.next_number-number.ensures.keeps kept keeps in
     let fact = hearing c.args.now table c.args.key c.args.place c.args.hold in
-    let full : old.limit ≤ length kept =
-    omega (arith, leb-true old.limit (length old.entries) (sym c.is_full-full.ensures.full ∙ c.if-full.true), length_kept old kept keeps) in
-    let same = c.forget-known.ensures.same c.if-not-known.true in
-    answer_full old.limit fact kept c.if-hold-eq0.false c.len-entries.result (sym (c.if-not-known.ensures.known kept keeps)) full
-    (c.len-entries.ensures ∙ ap (λ (t : TableState). length t.entries) same ∙ length_kept old kept keeps)
+    let none = new_at table' kept keeps' c.args.key c.in-Err.at (c.in-Err.ensures.absent (rising_of table' kept keeps')) in
+    let full : c.args.self.now.limit ≤ length kept =
+    omega (arith, leb-true table'.limit (length table'.entries) (sym c.if-is_full.ensures.full), c.next_number-number.ensures.limit, length_kept table' kept keeps') in
+    answer_full c.args.self.now.limit fact kept c.if-hold-eq0.false c.len-entries.result none full (c.len-entries.ensures ∙ length_kept table' kept keeps')
 
-pub returns-then-not-known-clause-keeps : goal.returns-then-not-known-clause-keeps
-returns-then-not-known-clause-keeps c table kept keeps =
-    let old = c.args.self.now in
+pub returns-then-is_full-clause-keeps : goal.returns-then-is_full-clause-keeps
+returns-then-is_full-clause-keeps c table kept keeps =
+    let table' = c.next_number-number.new.self in
+    let keeps' = c.next_number-number.ensures.keeps kept keeps in
     let fact = hearing c.args.now table c.args.key c.args.place c.args.hold in
-    let full : old.limit ≤ length kept =
-    omega (arith, leb-true old.limit (length old.entries) (sym c.is_full-full.ensures.full ∙ c.if-full.true), length_kept old kept keeps) in
-    let same = c.forget-known.ensures.same c.if-not-known.true in
-    subst (λ (t : TableState). Keeps t (kept_after old.limit fact kept)) (sym same)
-    (subst (Keeps old) (kept_full old.limit fact kept c.if-hold-eq0.false (sym (c.if-not-known.ensures.known kept keeps)) full) keeps)
+    let none = new_at table' kept keeps' c.args.key c.in-Err.at (c.in-Err.ensures.absent (rising_of table' kept keeps')) in
+    let full : c.args.self.now.limit ≤ length kept =
+    omega (arith, leb-true table'.limit (length table'.entries) (sym c.if-is_full.ensures.full), c.next_number-number.ensures.limit, length_kept table' kept keeps') in
+    subst (Keeps table') (kept_full c.args.self.now.limit fact kept c.if-hold-eq0.false none full) keeps'
 
-pub returns-then-known-clause-answered : goal.returns-then-known-clause-answered
-returns-then-known-clause-answered c table kept keeps =
-    answer_again c.args.self.now.limit (hearing c.args.now table c.args.key c.args.place c.args.hold) kept c.if-hold-eq0.false
-    (sym (c.if-known.ensures.known kept keeps))
-
-pub returns-then-known-clause-keeps : goal.returns-then-known-clause-keeps
-returns-then-known-clause-keeps c table kept keeps =
-    let old = c.args.self.now in
+pub returns-in-Ok-clause-answered : goal.returns-in-Ok-clause-answered
+returns-in-Ok-clause-answered c table kept keeps =
+    let table' = c.next_number-number.new.self in
+    let keeps' = c.next_number-number.ensures.keeps kept keeps in
     let fact = hearing c.args.now table c.args.key c.args.place c.args.hold in
-    subst (Keeps c.note.new.self) (kept_again old.limit fact kept c.if-hold-eq0.false (sym (c.if-known.ensures.known kept keeps)))
-    (noted_kept c.forget-known.new.self c.note.new.self kept fact c.end_of_hold.result (c.forget-known.ensures.keeps kept keeps)
-    c.note.ensures.fits c.end_of_hold.ensures c.note.ensures.entries)
+    let known = known_at table' kept keeps' c.args.key c.in-Ok.at c.in-Ok.ensures.found in
+    answer_again c.args.self.now.limit fact kept c.if-hold-eq0.false known
 
-pub returns-else-known-clause-answered : goal.returns-else-known-clause-answered
-returns-else-known-clause-answered c table kept keeps =
-    let old = c.args.self.now in
-    let which : (c.forget-known.result ≡ true) ⊎ (c.is_full-full.result ≡ false) =
-    elim c.else-full.branch [ else-full-via-then-full+else-not-known w ↦ inl w.if-not-known.false | else-full-via-else-full w ↦ inr w.if-full.false ] in
-    answer_new old.limit (hearing c.args.now table c.args.key c.args.place c.args.hold) kept c.if-hold-eq0.false
-    (sym (c.if-known.ensures.known kept keeps))
-    (room_for_new old kept c.is_full-full.result c.forget-known.result keeps c.is_full-full.ensures.full c.if-known.false which)
-
-pub returns-else-known-clause-keeps : goal.returns-else-known-clause-keeps
-returns-else-known-clause-keeps c table kept keeps =
-    let old = c.args.self.now in
+pub returns-in-Ok-clause-keeps : goal.returns-in-Ok-clause-keeps
+returns-in-Ok-clause-keeps c table kept keeps =
+    let table' = c.next_number-number.new.self in
+    let keeps' = c.next_number-number.ensures.keeps kept keeps in
     let fact = hearing c.args.now table c.args.key c.args.place c.args.hold in
-    let which : (c.forget-known.result ≡ true) ⊎ (c.is_full-full.result ≡ false) =
-    elim c.else-full.branch [ else-full-via-then-full+else-not-known w ↦ inl w.if-not-known.false | else-full-via-else-full w ↦ inr w.if-full.false ] in
-    subst (Keeps c.note.new.self) (kept_new old.limit fact kept c.if-hold-eq0.false (sym (c.if-known.ensures.known kept keeps))
-    (room_for_new old kept c.is_full-full.result c.forget-known.result keeps c.is_full-full.ensures.full c.if-known.false which))
-    (noted_kept c.forget-known.new.self c.note.new.self kept fact c.end_of_hold.result (c.forget-known.ensures.keeps kept keeps)
-    c.note.ensures.fits c.end_of_hold.ensures c.note.ensures.entries)
+    let known = known_at table' kept keeps' c.args.key c.in-Ok.at c.in-Ok.ensures.found in
+    let entry : ℕ → Entry = λ until. record { key = c.args.key; place = c.args.place; until = until; number = c.next_number-number.result } in
+    subst (Keeps c.write_over.new.self) (kept_again c.args.self.now.limit fact kept c.if-hold-eq0.false known)
+    (over_kept table' kept keeps' c.write_over.new.self fact c.next_number-number.result c.next_number-number.ensures.above c.in-Ok.at c.in-Ok.ensures.found
+    (c.write_over.ensures.entries ∙ ap (λ until. slice_set table'.entries c.in-Ok.at (entry until)) c.end_of_hold-until.ensures))
+
+pub returns-else-is_full-clause-answered : goal.returns-else-is_full-clause-answered
+returns-else-is_full-clause-answered c table kept keeps =
+    let table' = c.next_number-number.new.self in
+    let keeps' = c.next_number-number.ensures.keeps kept keeps in
+    let fact = hearing c.args.now table c.args.key c.args.place c.args.hold in
+    let none = new_at table' kept keeps' c.args.key c.in-Err.at (c.in-Err.ensures.absent (rising_of table' kept keeps')) in
+    let room : length kept < c.args.self.now.limit =
+    omega (arith, leb-false table'.limit (length table'.entries) (sym c.if-is_full.ensures.full), c.next_number-number.ensures.limit, length_kept table' kept keeps') in
+    answer_new c.args.self.now.limit fact kept c.if-hold-eq0.false none room
+
+pub returns-else-is_full-clause-keeps : goal.returns-else-is_full-clause-keeps
+returns-else-is_full-clause-keeps c table kept keeps =
+    let table' = c.next_number-number.new.self in
+    let keeps' = c.next_number-number.ensures.keeps kept keeps in
+    let fact = hearing c.args.now table c.args.key c.args.place c.args.hold in
+    let none = new_at table' kept keeps' c.args.key c.in-Err.at (c.in-Err.ensures.absent (rising_of table' kept keeps')) in
+    let room : length kept < c.args.self.now.limit =
+    omega (arith, leb-false table'.limit (length table'.entries) (sym c.if-is_full.ensures.full), c.next_number-number.ensures.limit, length_kept table' kept keeps') in
+    let entry : ℕ → Entry = λ until. record { key = c.args.key; place = c.args.place; until = until; number = c.next_number-number.result } in
+    let gap = c.in-Err.ensures.absent (rising_of table' kept keeps') in
+    subst (Keeps c.put_at.new.self) (kept_new c.args.self.now.limit fact kept c.if-hold-eq0.false none room)
+    (put_kept table' kept keeps' c.put_at.new.self fact c.next_number-number.result c.next_number-number.ensures.above c.in-Err.at gap
+    (c.put_at.ensures.entries ∙ ap (λ until. insert table'.entries c.in-Err.at (entry until)) c.end_of_hold-until.ensures))

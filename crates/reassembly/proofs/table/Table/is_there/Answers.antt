@@ -25,6 +25,17 @@ group-requires c =
       c.self.invariant.3.index_is.number,
     )
 
+pub has_gap-requires : goal.has_gap-requires
+has_gap-requires c =
+    let t = c.self.inside in
+    let there = slot_there c.args.segment.now.key 0 c.in-Some.place c.args.self.now.openings (c.requires.place ∙ c.in-Some.is) in
+    let slot_is : there.at ≡ c.in-Some.place = omega (arith, there.counted) in
+    let at : slice_get c.args.self.now.openings c.in-Some.place ≡ Some there.opening
+    = subst (λ (n : ℕ). slice_get c.args.self.now.openings n ≡ Some there.opening) slot_is there.stands_at in
+    let at_here = ap (λ (v : TableState). slice_get v.openings c.in-Some.place) c.self.view_is ∙ at in
+    let are = c.self.invariant.3.index_is.each c.in-Some.place there.opening c.group.result.now at_here c.group.ensures in
+    (0, data_len there.opening.shape, are.joined)
+
 pub returns-in-Some : goal.returns-in-Some
 returns-in-Some c =
     let t = c.self.inside in

@@ -40,6 +40,13 @@ fill-requires-clause-room c =
       c.self.invariant.3.room,
     )
 
+pub fill-requires-clause-order : goal.fill-requires-clause-order
+fill-requires-clause-order c runs told =
+    let t = c.self.inside in
+    let named = subst (λ (t : TableState). IsAt t c.place_for-place.result c.args.segment.key) (sym c.self.view_is) c.place_for-place.ensures.is_at in
+    let are = c.self.invariant.3.index_is.each c.place_for-place.result named.opening runs named.stands_at told in
+    (0, data_len named.opening.shape, are.joined)
+
 pub group-requires : goal.group-requires
 group-requires c =
     let t = c.self.inside in
@@ -59,6 +66,27 @@ group-requires c =
     let index : IsIndexOf (t.segments.items ++ c.args.segment ∷ []) t.openings.list c.fill.new.self.groups =
     subst (λ (l : List (List Run)). IsIndexOf (t.segments.items ++ c.args.segment ∷ []) t.openings.list l) (sym filled_is) kept in
     omega (arith, slice_get_within t.openings.list c.place_for-place.result named.opening named.stands_at, index.number)
+
+pub has_gap-requires : goal.has_gap-requires
+has_gap-requires c =
+    let t = c.self.inside in
+    let limits : t.limits ≡ c.args.self.now.limits = ap (λ (t : TableState). t.limits) (c.self.view_is ∙ c.place_for-place.ensures.opened.1) in
+    let segments : t.segments.items ≡ c.args.self.now.segments = ap (λ (t : TableState). t.segments) (c.self.view_is ∙ c.place_for-place.ensures.opened.1) in
+    let named = subst (λ (t : TableState). IsAt t c.place_for-place.result c.args.segment.key) (sym c.self.view_is) c.place_for-place.ensures.is_at in
+    let group = slice_get_some t.runs.groups c.place_for-place.result (omega (
+      arith,
+      slice_get_within t.openings.list c.place_for-place.result named.opening named.stands_at,
+      c.self.invariant.3.index_is.number,
+    )) in
+    let shaped = AllByRecursion-slice_get (λ (o : Opening). o.shape.head_len < o.shape.total) t.openings.list c.place_for-place.result named.opening named.stands_at c.self.invariant.0.shaped in
+    let number : c.len-index.result ≡ length t.segments.items = omega arith in
+    let kept = kept_index t.segments.items t.openings.list t.runs.groups c.args.segment c.place_for-place.result named.opening group.0 c.args.segment.offset c.end.result
+    c.self.invariant.3.index_is c.self.invariant.0.distinct named.stands_at group.1 named.key_is (omega (arith, shaped)) refl c.end.ensures.end in
+    let filled_is = c.fill.ensures.groups group.0 group.1 ∙ ap (λ n. slice_set t.runs.groups c.place_for-place.result (filled c.args.segment.offset c.end.result n group.0)) number in
+    let index : IsIndexOf (t.segments.items ++ c.args.segment ∷ []) t.openings.list c.fill.new.self.groups =
+    subst (λ (l : List (List Run)). IsIndexOf (t.segments.items ++ c.args.segment ∷ []) t.openings.list l) (sym filled_is) kept in
+    let are = index.each c.place_for-place.result named.opening c.group.result.now named.stands_at c.group.ensures in
+    (0, data_len named.opening.shape, are.joined)
 
 pub invariant_of-self : goal.invariant_of-self
 invariant_of-self c =

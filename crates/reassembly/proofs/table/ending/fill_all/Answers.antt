@@ -31,6 +31,16 @@ fill-requires-clause-slot c =
     let within_at = rw c.in-Some.is at within in
     omega (arith, within_at, c.loop-index.invariant.0.number)
 
+pub fill-requires-clause-order : goal.fill-requires-clause-order
+fill-requires-clause-order c runs told =
+    let openings = c.args.openings.now.list in
+    let segment = c.index-segments-index.result in
+    let there = slot_there segment.key 0 c.in-Some.place openings (sym c.place_of.ensures ∙ c.in-Some.is) in
+    let slot_is : there.at ≡ c.in-Some.place = omega (arith, there.counted) in
+    let at : slice_get openings c.in-Some.place ≡ Some there.opening = subst (λ (n : ℕ). slice_get openings n ≡ Some there.opening) slot_is there.stands_at in
+    let are = c.loop-index.invariant.0.each c.in-Some.place there.opening runs at told in
+    (0, data_len there.opening.shape, are.joined)
+
 pub fill-requires-clause-room : goal.fill-requires-clause-room
 fill-requires-clause-room c =
     let segments = c.args.segments.now in

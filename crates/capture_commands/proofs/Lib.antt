@@ -1,0 +1,4 @@
+pub use Rattle.command_base.proofs as CommandBase
+pub mod Outputs
+pub mod Totals
+pub mod Vectors

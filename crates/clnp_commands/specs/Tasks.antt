@@ -1,0 +1,72 @@
+-- What each command and its input call for.
+use Rattle.std.specs.Prelude.{◌≡◌, ℕ, ◌&&◌, nat_lt, Bool, true, false, List, [], length, Option, None, Some, Result, Ok, Err, IfOk, IsOk}
+use Rattle.std.specs.Io.KnownBytes.{Appends}
+use Rattle.clnp_machine.specs.ClnpBase.Streams.{AppendsFront}
+use Rattle.clnp_machine.specs.ClnpBase.Text.{lines_of}
+use Rattle.clnp_world.specs.Scenario.Scenario.{Plan}
+use Rattle.clnp_world.specs.Scenario.Grammar.{BadLine, plan_of}
+use Rattle.clnp_world.specs.ClnpNetwork.Run.{journal, stopped_at}
+use Rattle.capture_commands.specs.CommandBase.declared.status.Status.{Status}
+use Rattle.capture_commands.specs.CommandBase.declared.status.Status.TheVariants.{Done, TooLong, BadInput, WorldFull}
+use Rattle.capture_commands.specs.CommandBase.ByLine.{task_of}
+use Rattle.capture_commands.specs.CommandBase.ComesAs.{Task, most_input}
+use Rattle.capture_commands.specs.Show.{showing}
+use Rattle.capture_commands.specs.Check.{checking, first_checked}
+use Rattle.clnp_commands.specs.declared.command.Command.{Command}
+use Rattle.clnp_commands.specs.declared.command.Command.TheVariants.{Sim, Show, Check, Storm}
+use Rattle.clnp_commands.specs.Sim.{AppendsWholeMoves}
+use Rattle.clnp_commands.specs.Storm.{storm_line, storm_output, storm_stopped_at}
+use Rattle.clnp_commands.specs.Words.{reads}
+
+-- the status of a run that was stopped at a weight, or wasn't
+abbrev pub run_status : Option ℕ → Status
+run_status None = Done
+run_status (Some octets) = WorldFull octets
+
+abbrev pub scenario_status : Result Plan BadLine → Status
+scenario_status (Ok plan) = run_status (stopped_at plan)
+scenario_status (Err bad) = BadInput bad.line bad.code
+
+abbrev pub journal_of : Result Plan BadLine → List ℕ
+journal_of (Ok plan) = journal plan
+journal_of (Err bad) = []
+
+-- the output that a scenario text calls for: its journal, which ends where the network is full; nothing where it isn't one
+abbrev pub output_of : List ℕ → List ℕ
+output_of text = journal_of (plan_of text)
+
+-- `sim`: the journal of a scenario, of which whole moves are the parts
+abbrev pub sim_task : List ℕ → Task
+sim_task text = record {
+  calls = λ answered. scenario_status (plan_of text) ≡ answered;
+  whole = λ before after. Appends before after (output_of text);
+  front = λ before after. IsOk (plan_of text) × AppendsFront before after (output_of text);
+  parts = λ before after. IsOk (plan_of text) × IfOk (plan_of text) (λ plan. AppendsWholeMoves plan before after);
+}
+
+-- `storm`: the line of the run of the scenario of a seed, and nothing of one that was stopped; a line has no parts
+abbrev pub storm_task : (seed : ℕ) → Task
+storm_task seed = record {
+  calls = λ answered. run_status (storm_stopped_at seed) ≡ answered;
+  whole = λ before after. Appends before after (storm_output seed);
+  front = λ before after. (storm_stopped_at seed ≡ None) × AppendsFront before after (storm_line seed);
+  parts = λ before after. ⊥;
+}
+
+-- What a command and an input that isn't too long call for: the journal of a scenario; the lines that show the frames of a
+-- capture, up to its first bad line; the verdicts on vectors, up to the first bad line, and their counts; or the line of a
+-- storm.
+abbrev pub task : Command → List ℕ → Task
+task Sim text = sim_task text
+task Show text = task_of showing 1 (lines_of text)
+task Check text = task_of checking first_checked (lines_of text)
+task (Storm seed) text = storm_task seed
+
+-- the answer that an input calls for: too long where it is, else that of its task
+abbrev pub CalledWithin : (too_long : Bool) → Task → Status → Type 0
+CalledWithin true task status = status ≡ TooLong
+CalledWithin false task status = task.calls status
+
+-- the answer that a command and an input call for
+abbrev pub CalledBy : Command → List ℕ → Status → Type 0
+CalledBy command text status = CalledWithin (reads command && nat_lt most_input (length text)) (task command text) status

@@ -1,0 +1,3 @@
+pub use Rattle.clnp_base.proofs as ClnpBase
+pub mod Fronts
+pub mod ByLine

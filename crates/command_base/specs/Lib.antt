@@ -1,0 +1,5 @@
+pub use Rattle.clnp_base.specs as ClnpBase
+pub mod Exit
+pub mod Output
+pub mod ByLine
+pub mod ComesAs

@@ -1,0 +1,12 @@
+//! What the commands of the program share: how a call ends, output that waits in a block, and input that is gone over
+//! line by line.
+#![tactic(auto)]
+
+mod block;
+mod number;
+mod status;
+
+pub use block::{LineFault, LineStop, flush, flush_full, refuse, write_block, write_full_block};
+pub use clnp_base;
+pub use number::push_number;
+pub use status::Status;

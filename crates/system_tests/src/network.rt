@@ -1,0 +1,95 @@
+//! A network of a host and a router, and what they give out.
+ghost use Rattle.std.specs.Prelude.{false};
+ghost use Rattle.clnp_machine.specs.ClnpOptions.Grammar.{FitsKind};
+ghost use Rattle.clnp_machine.specs.ClnpOptions.Parameter.{parameters};
+
+use clnp_machine::clnp_base::lines;
+use clnp_machine::clnp_options::{OptionList, laws};
+use clnp_machine::clnp_plan::{Ask, Note, Output};
+use clnp_machine::nsap::{Address, Target};
+use scenario::{Scenario, read};
+use std::alloc::Global;
+use std::process::Abort;
+
+const TEXT: &[u8] = b"clnp-sim 1
+limits 4 2 6
+subnet lan 1500
+system a host hello=0
+system r router hello=0
+address a 47002702
+address r 470027ff
+port a 0 lan 01
+port r 0 lan 0a
+route r 47002701 0 02 47002701
+events
+end
+";
+
+/// A data unit of the octets 68 69, with the lifetime 10 and no checksum, from 47002701 to 47002702.
+pub const TO_THE_HOST: &[u8] =
+    b"\x81\x13\x01\x0a\x3c\x00\x15\x00\x00\x04\x47\x00\x27\x02\x04\x47\x00\x27\x01hi";
+
+/// The same from 47002702 to 47002701, with its checksum.
+pub const FROM_THE_HOST: &[u8] =
+    b"\x81\x13\x01\x0a\x3c\x00\x15\xce\x58\x04\x47\x00\x27\x01\x04\x47\x00\x27\x02hi";
+
+/// The same one hop later.
+pub const FROM_THE_ROUTER: &[u8] =
+    b"\x81\x13\x01\x09\x3c\x00\x15\xd3\x54\x04\x47\x00\x27\x01\x04\x47\x00\x27\x02hi";
+
+/// The scenario of the network.
+pub fn scenario_of(rt: &impl Abort, alloc: Global) -> Scenario {
+    let _lines = lines(TEXT);
+    read(alloc, TEXT).expect(rt, "a scenario")
+}
+
+/// The address 470027 and one octet more.
+pub fn address(rt: &impl Abort, last: u8) -> Address {
+    Address::from_bytes(&[0x47, 0, 0x27, last]).expect(rt, "an address")
+}
+
+/// How a unit of lifetime 10 is to be sent, whole and without options.
+pub fn asking(rt: &impl Abort) -> Ask
+    ensures { FitsKind false (parameters result.options) }
+{
+    laws::spelled_where_no_rule_is_broken();
+    let Ok(options) = OptionList::from_bytes(b"") else {
+        panic!(rt; "no options");
+    };
+    Ask {
+        life: 10,
+        report: true,
+        segment: false,
+        options,
+    }
+}
+
+/// Sees that a frame goes out: by port 0, of these octets.
+pub fn see_frame(rt: &impl Abort, output: Option<&Output>, to: Target, head: &[u8], body: &[u8]) {
+    let Some(Output::Transmit(sending)) = output else {
+        panic!(rt; "no frame");
+    };
+    assert!(rt; sending.port == 0);
+    assert!(rt; sending.to == to);
+    assert!(rt; sending.head.as_bytes() == head);
+    match &sending.body {
+        Some(view) => assert!(rt; view.bytes() == body),
+        None => assert!(rt; body.is_empty()),
+    }
+}
+
+/// Sees that a unit is noted as sent, with this number.
+pub fn see_sent(rt: &impl Abort, output: Option<&Output>, number: u64) {
+    let Some(Output::Note(Note::Sent { unit, .. })) = output else {
+        panic!(rt; "no unit");
+    };
+    assert!(rt; *unit == number);
+}
+
+/// Sees that a data unit of the octets 68 69 is handed up.
+pub fn see_got(rt: &impl Abort, output: Option<&Output>) {
+    let Some(Output::Note(Note::Got { octets, .. })) = output else {
+        panic!(rt; "nothing is handed up");
+    };
+    assert!(rt; octets.as_bytes() == b"hi");
+}

@@ -1,0 +1,79 @@
+use crate::network::{FROM_THE_HOST, FROM_THE_ROUTER, address, scenario_of, see_frame, see_sent};
+use clnp_machine::clnp_plan::{Limits, Output, Role, SystemConfig};
+use clnp_machine::clnp_views::Frame;
+use clnp_machine::nsap::{Snpa, Target};
+use clnp_systems::router::{Router, Way};
+use std::alloc::Global;
+use std::process::Abort;
+
+/// The host at the end of the router's route.
+fn end_of_the_route(rt: &impl Abort) -> Snpa {
+    Snpa::from_bytes(&[2]).expect(rt, "an address")
+}
+
+/// The router behind its first tick, in which it says nothing.
+fn router_of(rt: &impl Abort, alloc: Global, config: &SystemConfig, limits: &Limits) -> Router {
+    let Role::Router = config.role() else {
+        panic!(rt; "no router");
+    };
+    assert!(rt; limits.hold >= 1);
+    let mut out = Vec::new(alloc);
+    let mut router = Router::new(alloc, config, limits, 0, 0).expect(rt, "memory");
+    assert!(rt; router.tick(alloc, 1, &mut out).is_ok());
+    assert!(rt; out.is_empty());
+    router
+}
+
+/// A PDU for another system comes to it, from the subnetwork on which that system is.
+fn forward(rt: &impl Abort, alloc: Global, router: &mut Router, out: &mut Vec<Output>) {
+    let frame = Frame::copy(alloc, FROM_THE_HOST).expect(rt, "memory");
+    let from = Snpa::from_bytes(&[1]).expect(rt, "an address");
+    assert!(rt; router.frame(alloc, 0, from, false, &frame, out).is_ok());
+}
+
+/// It asks for an echo.
+fn echo(rt: &impl Abort, alloc: Global, router: &mut Router, out: &mut Vec<Output>) {
+    let asked = router.echo(alloc, address(rt, 0xff), address(rt, 1), b"hi", out);
+    assert!(rt; asked.ok() == Some(1));
+}
+
+/// It is congested, and starts anew.
+fn congest_and_restart(router: &mut Router) {
+    router.congest(true);
+    router.restart();
+}
+
+/// What it tells of itself.
+fn see_router(rt: &impl Abort, router: &Router) {
+    assert!(rt; router.held() == 0);
+    assert!(rt; router.config().name() == b"r".as_slice());
+    let way = Way {
+        port: 0,
+        snpa: end_of_the_route(rt),
+        title: Some(address(rt, 1)),
+    };
+    assert!(rt; router.next_hop(&address(rt, 1)) == Some(way));
+    assert!(rt; router.next_hop(&address(rt, 3)).is_none());
+}
+
+#[test]
+fn a_router_forwards(rt: HostRuntime) {
+    let alloc = rt.alloc();
+    let scenario = scenario_of(&rt, alloc);
+    let Some(config) = scenario.systems().get(1) else {
+        panic!(&rt; "no router");
+    };
+    let mut out = Vec::new(alloc);
+    let mut router = router_of(&rt, alloc, config, scenario.limits());
+    see_router(&rt, &router);
+    forward(&rt, alloc, &mut router, &mut out);
+    let to = Target::System(end_of_the_route(&rt));
+    see_frame(&rt, out.get(0), to, &FROM_THE_ROUTER[..19], b"hi");
+    // The way leads back to the subnetwork from which the PDU came, so its sender is told the better one.
+    assert!(&rt; out.len() == 3);
+    out.clear();
+    echo(&rt, alloc, &mut router, &mut out);
+    see_sent(&rt, out.get(0), 1);
+    congest_and_restart(&mut router);
+    see_router(&rt, &router);
+}
