@@ -6,7 +6,7 @@ use Rattle.command_base.specs.declared.block.LineFault.{LineFault}
 use Rattle.command_base.specs.declared.block.LineFault.TheVariants as fault
 use Rattle.command_base.specs.ByLine.{Good, PushOf}
 use Rattle.capture_commands.specs.declared.check.Tally.{Tally}
-use Rattle.capture_commands.specs.Check.{Checked, checking, counting}
+use Rattle.capture_commands.specs.Check.{checking, counting}
 
 -- the verdict on a vector, and its end, before what the later lines call for
 pub good_vector : (line : List ℕ) (number : ℕ) (tally : Tally) (octets expected : List ℕ) (verdict : Verdict) (text : List ℕ)

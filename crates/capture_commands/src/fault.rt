@@ -1,7 +1,8 @@
 //! The codes of lines at fault.
 ghost use Rattle.std.specs.Prelude.{◌≡◌};
-ghost use Rattle.capture_commands.specs.Faults.{fault_of};
+ghost use Rattle.capture_commands.specs.Faults.{fault_of, unpacked_fault};
 
+use capture_text::PackRefusal;
 use captures::LineRefusal;
 use command_base::LineFault;
 
@@ -11,6 +12,9 @@ const SYNTAX: u8 = 2;
 /// The code of a line whose frame has too many octets.
 const COUNT: u8 = 10;
 
+/// The code of a line that is that of a refused frame, or of one of neither protocol.
+const NOT_PACKABLE: u8 = 16;
+
 /// What is wrong with a line that was refused.
 pub(crate) fn fault_of(refusal: LineRefusal) -> LineFault
     ensures { result ≡ fault_of refusal }
@@ -19,5 +23,17 @@ pub(crate) fn fault_of(refusal: LineRefusal) -> LineFault
         LineRefusal::Syntax => LineFault::Bad { code: SYNTAX },
         LineRefusal::Count => LineFault::Bad { code: COUNT },
         LineRefusal::NoMemory => LineFault::NoMemory,
+    }
+}
+
+/// What is wrong with a line that isn't packed.
+pub(crate) fn unpacked_fault(refusal: PackRefusal) -> LineFault
+    ensures { result ≡ unpacked_fault refusal }
+{
+    match refusal {
+        PackRefusal::NotPackable => LineFault::Bad { code: NOT_PACKABLE },
+        PackRefusal::NotShown => LineFault::Bad { code: SYNTAX },
+        PackRefusal::Count => LineFault::Bad { code: COUNT },
+        PackRefusal::NoMemory => LineFault::NoMemory,
     }
 }
