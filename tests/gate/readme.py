@@ -9,7 +9,7 @@ import re
 import subprocess
 import sys
 
-ROOT = os.path.dirname(os.path.dirname(os.path.abspath(__file__)))
+ROOT = os.path.abspath(os.path.join(os.path.dirname(__file__), "..", ".."))
 DOCUMENTS = ["README.md", "docs/FIRST.md", "docs/TOUR.md", "docs/FORMATS.md"]
 
 

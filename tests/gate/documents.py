@@ -9,10 +9,10 @@
   quotes behind a document's name.
 - docs/ARCHITECTURE.md: its picture and its table of crates have each crate of crates.txt, and no other; in the picture each
   stands on those that it stands on there; the list of what must be believed
-  has each file that `tests/believed.py` finds, and no other.
+  has each file that `tests/gate/believed.py` finds, and no other.
 - docs/clnp.1: where mandoc is installed, its lint finds nothing.
 
-usage: tests/documents.py [FOLDER], the folder of a repository; without one it is that of this file.
+usage: tests/gate/documents.py [FOLDER], the folder of a repository; without one it is that of this file.
 """
 import glob
 import os
@@ -23,7 +23,7 @@ import sys
 
 import believed
 
-ROOT = os.path.abspath(sys.argv[1] if len(sys.argv) > 1 else os.path.join(os.path.dirname(__file__), ".."))
+ROOT = os.path.abspath(sys.argv[1] if len(sys.argv) > 1 else os.path.join(os.path.dirname(__file__), "..", ".."))
 DOCUMENTS = ["README.md", "docs/*.md", "docs/*.1", "tests/README.md", "edits/README.md"]
 SUFFIXES = (".md", ".txt", ".py", ".sh", ".rt", ".antt", ".rs", ".1", ".edit")
 FOLDERS = ("crates/", "docs/", "tests/", "edits/", "examples/", "bench/", "tools/", ".ci/", "./")

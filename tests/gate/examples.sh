@@ -2,7 +2,7 @@
 # Runs each example through the built program and compares what it writes with what stands beside it: the folders of
 # examples/ with a scenario.txt and its journal.txt, the capture, the storms, and the vectors, all of which pass.
 set -u
-cd "$(dirname "$0")/.." || exit 2
+cd "$(dirname "$0")/../.." || exit 2
 failed=0
 
 compare() {

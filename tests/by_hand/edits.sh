@@ -1,9 +1,9 @@
 #!/usr/bin/env bash
 # Tries every edit that must fail, of all crates or of those that are named: the few of a crate that the gate tries too, and
 # those of edits/, which it doesn't try for the time that they take. It works on a clone of what is committed.
-# usage: tests/edits.sh [CRATE..]
+# usage: tests/by_hand/edits.sh [CRATE..]
 set -u
-cd "$(dirname "$0")/.." || exit 2
+cd "$(dirname "$0")/../.." || exit 2
 room=$(mktemp -d) || exit 2
 trap 'rm -rf "$room"' EXIT
 git clone -q . "$room/clone" || exit 2

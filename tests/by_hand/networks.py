@@ -4,7 +4,7 @@
 Half of the texts are scenarios, the others have a few words or lines changed. In a third of them frames come from outside. For
 each one the program must write the models' journal, or refuse the models' line and code.
 
-usage: tests/networks.py [--program PATH | --try] [SEED [TEXTS]]
+usage: tests/by_hand/networks.py [--program PATH | --try] [SEED [TEXTS]]
 
 PATH is another program to run than the built one. With --try the program is compiled and run by `rt try`, which takes
 less than a minute and proves nothing.
@@ -18,11 +18,13 @@ import subprocess
 import sys
 import tempfile
 
+ROOT = os.path.abspath(os.path.join(os.path.dirname(__file__), "..", ".."))
+sys.path.append(os.path.join(ROOT, "tests", "models"))
+
 from frames import Outside
 from network_model import Network
 from scenario_model import CODE_NAMES, Text, read
 
-ROOT = os.path.dirname(os.path.dirname(os.path.abspath(__file__)))
 PROGRAM = os.path.join(ROOT, "crates", "clnp_tool", "out", "clnp_tool")
 
 

@@ -2,9 +2,9 @@
 """Which files hold what the contracts of the top calls say: the definitions that they use, those that these use, and so
 on, and the code that declares the types in them.
 
-usage: tests/believed.py [--definitions]
+usage: tests/gate/believed.py [--definitions]
 
-It writes the files, lowest crates first; with --definitions the names in each that are used. `tests/documents.py` compares
+It writes the files, lowest crates first; with --definitions the names in each that are used. `tests/gate/documents.py` compares
 the files with the list in docs/ARCHITECTURE.md.
 """
 import collections
@@ -12,7 +12,7 @@ import os
 import re
 import sys
 
-ROOT = os.path.dirname(os.path.dirname(os.path.abspath(__file__)))
+ROOT = os.path.abspath(os.path.join(os.path.dirname(__file__), "..", ".."))
 # the calls whose contracts are what is promised, and the file that each is in
 CALLS = [("clnp_program", "src/call.rt", "run"), ("clnp_commands", "src/top.rt", "clnp_main")]
 NAME = r"[A-Za-z_][A-Za-z0-9_]*"

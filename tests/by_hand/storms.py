@@ -1,7 +1,7 @@
 #!/usr/bin/env python3
 """Compares `clnp storm` with plain models: the scenario of a seed, and the counts of what comes of it.
 
-usage: tests/storms.py [--program PATH | --try] [--lines | --text] [FIRST [LAST]]
+usage: tests/by_hand/storms.py [--program PATH | --try] [--lines | --text] [FIRST [LAST]]
 
 For each seed the line must be the models', and with --sim the journal of the seed's text too. PATH is another program to run
 than the built one. With --try the program is compiled and run by `rt try`, which proves nothing. --lines writes the models'
@@ -13,10 +13,12 @@ import os
 import subprocess
 import sys
 
+ROOT = os.path.abspath(os.path.join(os.path.dirname(__file__), "..", ".."))
+sys.path.append(os.path.join(ROOT, "tests", "models"))
+
 from network_model import Network
 from scenario_model import read
 
-ROOT = os.path.dirname(os.path.dirname(os.path.abspath(__file__)))
 PROGRAM = os.path.join(ROOT, "crates", "clnp_tool", "out", "clnp_tool")
 
 HOSTS, SYSTEMS = ["a", "b", "c", "d"], ["a", "b", "r1", "r2", "c", "d"]

@@ -2,9 +2,9 @@
 # Feeds hostile octets to `clnp show`: every front of the worked frames below, every octet of six CLNP and six ES-IS
 # frames of them set to each value, and random octets up to 70,000. One line each must come out, and none be lost.
 # With rustc at hand the lines are compared with those of the plain Rust program of bench/.
-# usage: tests/hostile.sh
+# usage: tests/by_hand/hostile.sh
 set -eu
-root="$(cd "$(dirname "$0")/.." && pwd)"
+root="$(cd "$(dirname "$0")/../.." && pwd)"
 work="$(mktemp -d)"
 trap 'rm -rf "$work"' EXIT
 "$root/clnp" --version >/dev/null

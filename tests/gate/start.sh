@@ -1,0 +1,102 @@
+#!/usr/bin/env bash
+# Looks that ./clnp never runs a program of other sources than those that are there, and builds none where nothing changed.
+# It works on a small tree of its own, in which a stand-in for rt builds a program that tells the octets of its sources.
+set -u
+root="$(cd "$(dirname "$0")/../.." && pwd)" || exit 2
+work="$(mktemp -d)" || exit 2
+trap 'rm -rf "$work"' EXIT
+tree="$work/tree" code=crates/leaf/src
+mkdir -p "$work/bin" "$work/without" "$tree/$code" "$tree/crates/leaf/specs" "$tree/crates/leaf/proofs" "$tree/crates/clnp_tool/src"
+cp "$root/clnp" "$tree/clnp"
+printf 'leaf:\nclnp_tool: leaf\n' >"$tree/crates.txt"
+echo one >"$tree/$code/lib.rt"
+echo main >"$tree/crates/clnp_tool/src/main.rt"
+echo definition >"$tree/crates/leaf/specs/Lib.antt"
+echo proof >"$tree/crates/leaf/proofs/Lib.antt"
+
+cat >"$work/bin/rt" <<'RT'
+#!/usr/bin/env bash
+# `rt all check` and `rt run`, in crates/clnp_tool, and `rt version`.
+if [ "$1" = version ]; then
+    echo "a stand-in"
+    exit 0
+fi
+if [ "$1" = all ]; then
+    printf '== leaf\n== clnp_tool\n== summary\n'
+    exit 0
+fi
+echo built >>../../built
+mkdir -p out
+printf '#!/bin/sh\necho "%s"\n' "$(cat ../*/src/*.rt ../*/specs/*.antt | tr '\n' ' ')" >out/clnp_tool
+chmod +x out/clnp_tool
+if [ -f ../../meanwhile ]; then
+    mv ../../meanwhile ../leaf/src/lib.rt
+fi
+RT
+chmod +x "$work/bin/rt"
+export PATH="$work/bin:$PATH"
+failed=0
+
+# What the program that is run tells is what the sources say, and so many were built so far.
+want() {
+    local said wanted builds
+    said="$("${3:-$tree/clnp}" 2>"$work/errors")"
+    wanted="$(cat "$tree"/crates/*/src/*.rt "$tree"/crates/*/specs/*.antt | tr '\n' ' ')"
+    builds="$(wc -l <"$tree/built")"
+    if [ "$said" != "$wanted" ] || [ "$builds" -ne "$2" ]; then
+        echo "$1: said '$said', wanted '$wanted', built $builds times and not $2" >&2
+        cat "$work/errors" >&2
+        failed=1
+    fi
+}
+
+want "at first" 1
+want "nothing changed" 1
+echo two >"$tree/$code/lib.rt"
+want "a file of other octets" 2
+touch -d '2001-01-01' "$tree/$code/lib.rt"
+want "the same octets with another time" 2
+echo six >"$work/other" && touch -d '2001-01-01' "$work/other" && mv "$work/other" "$tree/$code/lib.rt"
+want "an old file in the place of another of the same length" 3
+echo new >"$tree/$code/new.rt"
+want "a file more" 4
+mkdir "$tree/$code/deep" && echo deep >"$tree/crates/leaf/specs/Deep.antt"
+want "a definition more" 5
+rm "$tree/$code/new.rt"
+want "a file fewer" 6
+echo other >"$tree/crates/leaf/specs/Deep.antt"
+want "another definition" 7
+echo other >"$tree/crates/leaf/proofs/Lib.antt"
+want "another proof" 7
+mkdir -p "$tree/crates/more/src" && echo more >"$tree/crates/more/src/lib.rt"
+want "a crate more" 8
+printf 'leaf:\nclnp_tool: leaf more\nmore:\n' >"$tree/crates.txt"
+want "another list of crates" 9
+printf '#!/bin/sh\necho strange\n' >"$tree/crates/clnp_tool/out/clnp_tool"
+want "another program in its place" 10
+rm "$tree/crates/clnp_tool/out/clnp_tool"
+want "no program" 11
+echo again >"$tree/$code/lib.rt" && echo later >"$tree/meanwhile"
+want "a source that changes while it is built" 13
+ln -s "$tree/clnp" "$work/bin/link" && ln -s link "$work/bin/clnp"
+want "a link to a link" 13 "$work/bin/clnp"
+cd "$work/bin" && want "a link in the path" 13 clnp
+cd "$tree" && want "by its name here" 13 ./clnp
+cd "$tree/$code" && want "from another folder" 13 ../../../clnp
+cp -a "$tree" "$work/copy" && tree="$work/copy"
+want "a copy" 13
+# A program whose sources changed isn't run either where it can't be built.
+rm "$work/bin/rt" && echo last >"$tree/$code/lib.rt"
+if command -v rt >/dev/null; then
+    PATH="$(printf '%s' "$PATH" | tr ':' '\n' | while read -r folder; do [ -x "$folder/rt" ] || printf '%s:' "$folder"; done)"
+fi
+said="$("$tree/clnp" 2>"$work/errors")"
+status=$?
+if [ "$status" -ne 70 ] || [ -n "$said" ] || ! grep -q "there is no command rt" "$work/errors"; then
+    echo "without the kit: said '$said', ended with $status" >&2
+    failed=1
+fi
+if [ "$failed" -eq 0 ]; then
+    echo "clnp: each of its starts ran the program of the sources that were there"
+fi
+exit "$failed"
