@@ -1,13 +1,13 @@
 -- Octets that follow others, and what is so of all records that are read.
-use Rattle.std.proofs.Common.{◌≡◌, ℕ, ◌≤◌, ◌⊎◌, inl, inr, List, [], ◌∷◌, ◌++◌, length, refl, sym, ap, ◌∙◌, subst, arith}
+use Rattle.std.proofs.Common.{◌≡◌, ℕ, inl, inr, List, [], ◌∷◌, ◌++◌, length, refl, sym, ap, ◌∙◌, subst, arith}
 use Rattle.std.proofs.lemmas.List.{append_assoc, append-nil}
 use Rattle.std.specs.List.{AllByRecursion}
 use Rattle.hex.specs.Hex.{IsBytes}
 use Rattle.nsap.proofs.ClnpBase.Lists.{AllByRecursion-append}
 use Rattle.pcap_frames.specs.declared.order.Order.{Order}
-use Rattle.pcap_frames.specs.File.{Begins, Captured, IsCaptured, Pcap, all_captured, captured_octets, header_octets}
+use Rattle.pcap_frames.specs.File.{Begins, Captured, IsCaptured, all_captured, captured_octets, header_octets}
 use Rattle.pcap_frames.specs.Reading.{Ending, Entire, CutOff, Faulty, IsReadAs}
-use Rattle.pcap_frames.proofs.AnyOctets.{Behind, any_read, behind, by_tail}
+use Rattle.pcap_frames.proofs.AnyOctets.{any_read, behind, by_tail}
 use Rattle.pcap_frames.proofs.FramesSeen.{bytes_behind, bytes_in_front, captured_bytes}
 use Rattle.pcap_frames.proofs.OneReading.{fault_stays, more_behind, whole_begins}
 
@@ -66,7 +66,7 @@ follows octets more records (Faulty fault) bytes h = (
   (
     Faulty fault,
     subst (λ (rs : List Captured). IsReadAs (octets ++ more) rs (Faulty fault)) (sym (append-nil records))
-    (fault_stays octets more records fault h),
+        (fault_stays octets more records fault h),
   ),
 )
 
