@@ -50,7 +50,7 @@ judged octets bytes whole = by_told (order_told octets) refl
 
 -- ---- records
 
-record Behind (order : Order) (octets : List ℕ) : Type 0 where
+pub record Behind (order : Order) (octets : List ℕ) : Type 0 where
   pub records : List Captured
   pub rest : List ℕ
   pub ending : Ending
@@ -121,7 +121,7 @@ none_behind : (order : Order) (octets : List ℕ) → length octets ≡ 0 → Be
 none_behind order octets none =
     record { records = []; rest = octets; ending = Entire; each = tt; spelled = refl; tail = nil_from_length octets none }
 
-behind : (fuel : ℕ) (order : Order) (octets : List ℕ) → length octets ≤ fuel → IsBytes octets → Behind order octets
+pub behind : (fuel : ℕ) (order : Order) (octets : List ℕ) → length octets ≤ fuel → IsBytes octets → Behind order octets
 behind zero order octets most bytes = none_behind order octets (omega arith)
 behind (suc fuel) order octets most bytes = elim (cases_lt 0 (length octets)) [
   | inr none ↦ none_behind order octets (omega arith)
@@ -142,10 +142,10 @@ behind (suc fuel) order octets most bytes = elim (cases_lt 0 (length octets)) [
 
 -- ---- all octets
 
-abbrev Read : List ℕ → Type 0
+abbrev pub Read : List ℕ → Type 0
 Read octets = (records : List Captured) × ((ending : Ending) × IsReadAs octets records ending)
 
-by_tail : (order : Order) (octets : List ℕ) (records : List Captured) (rest : List ℕ) (ending : Ending) → Begins order octets records rest → Tail order rest ending
+pub by_tail : (order : Order) (octets : List ℕ) (records : List Captured) (rest : List ℕ) (ending : Ending) → Begins order octets records rest → Tail order rest ending
     → IsReadAs octets records ending
 by_tail order octets records rest Entire b t =
     (order, begins_whole order octets records (subst (λ (xs : List ℕ). Begins order octets records xs) t b))

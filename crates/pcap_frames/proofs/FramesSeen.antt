@@ -47,16 +47,16 @@ frames_are_frames (c ∷ cs) are =
 
 -- ---- octets
 
-bytes_in_front : (xs ys : List ℕ) → IsBytes (xs ++ ys) → IsBytes xs
+pub bytes_in_front : (xs ys : List ℕ) → IsBytes (xs ++ ys) → IsBytes xs
 bytes_in_front xs ys bytes = λ i. elim (cases_lt i (length xs)) [
   | inl within ↦ let byte = bytes i in omega (arith, get_or_append_left xs ys 0 i within)
   | inr past ↦ omega (arith, get_or_past xs i 0 past)
 ]
 
-bytes_behind : (xs ys : List ℕ) → IsBytes (xs ++ ys) → IsBytes ys
+pub bytes_behind : (xs ys : List ℕ) → IsBytes (xs ++ ys) → IsBytes ys
 bytes_behind xs ys bytes = λ i. let byte = bytes (length xs + i) in omega (arith, get_or-append-add xs ys i 0)
 
-captured_bytes : (order : Order) (c : Captured) → IsBytes (captured_octets order c) → IsBytes c.octets
+pub captured_bytes : (order : Order) (c : Captured) → IsBytes (captured_octets order c) → IsBytes c.octets
 captured_bytes order c bytes =
     bytes_behind (number order 4 c.original) c.octets
     (bytes_behind (number order 4 (length c.octets)) _

@@ -1,6 +1,8 @@
+pub use Rattle.nsap.proofs as Nsap
 pub mod Answering
 pub mod AnyOctets
 pub mod Endings
+pub mod Following
 pub mod FrameFacts
 pub mod FramesSeen
 pub mod HeaderFacts

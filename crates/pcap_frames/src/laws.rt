@@ -2,7 +2,7 @@
 ghost use Rattle.std.specs.Prelude.{◌≡◌, ◌↔◌, ◌++◌, ℕ, List, map};
 ghost use Rattle.std.specs.List.{AllByRecursion};
 ghost use Rattle.hex.specs.Hex.{IsBytes};
-ghost use Rattle.pcap_frames.specs.File.{Captured, Pcap};
+ghost use Rattle.pcap_frames.specs.File.{Captured, IsCaptured, Pcap};
 ghost use Rattle.pcap_frames.specs.Frames.{IsOsiFrame, OsiFrame, frame_octets, seen_in};
 ghost use Rattle.pcap_frames.specs.Making.{Frame, HasBytes, IsFrame, frames_in, made_file, made_record};
 ghost use Rattle.pcap_frames.specs.Reading.{Ending, Entire, Faulty, IsReadAs, Reading, Stands, ending_of};
@@ -29,6 +29,21 @@ pub fn one_reading()
 pub fn a_fault_stays()
     ensures { (octets more : List ℕ) (records : List Captured) (fault : PcapFault)
         → IsReadAs octets records (Faulty fault) → IsReadAs (octets ++ more) records (Faulty fault) }
+{}
+
+/// Whatever follows octets, the records that they are read as stay the first.
+pub fn whatever_follows()
+    ensures { (octets more : List ℕ) (records : List Captured) (ending : Ending) → IsBytes (octets ++ more)
+        → IsReadAs octets records ending
+        → (later : List Captured) × ((other : Ending) × IsReadAs (octets ++ more) (records ++ later) other) }
+{}
+
+/// The numbers of each record that octets are read as fit their four octets, and its frame is of octets.
+pub fn what_is_read_fits()
+    ensures fits { (octets : List ℕ) (records : List Captured) (ending : Ending) → IsReadAs octets records ending
+        → AllByRecursion IsCaptured records }
+    ensures bytes { (octets : List ℕ) (records : List Captured) (ending : Ending) → IsBytes octets
+        → IsReadAs octets records ending → AllByRecursion (λ c. IsBytes c.octets) records }
 {}
 
 /// What begins as a file does has no fault.

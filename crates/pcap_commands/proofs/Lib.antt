@@ -1,0 +1,10 @@
+pub use Rattle.command_base.proofs as CommandBase
+pub use Rattle.captures.proofs as Captures
+pub use Rattle.pcap_frames.proofs as PcapFrames
+pub mod ToldLines
+pub mod Steps
+pub mod Answering
+pub mod FrameLines
+pub mod Makes
+pub mod PlainWords
+pub mod WrittenLines

@@ -1,0 +1,69 @@
+//! Destinations and sources of frames, as words.
+ghost use Rattle.std.specs.Prelude.{◌≡◌, ◌++◌, OnOk, length};
+ghost use Rattle.std.specs.Str.{bytes_eq};
+ghost use Rattle.captures.specs.Nsap.Text.{hex_text};
+ghost use Rattle.pcap_commands.specs.Stations.{destination_of, destination_word, station_of};
+
+use command_base::clnp_base::{NoMemory, push, push_hex};
+use pcap_frames::nsap::Snpa;
+
+/// The group of all end systems of an Ethernet (ISO 9542).
+const END_SYSTEMS: [u8; 6] = [0x09, 0x00, 0x2b, 0x00, 0x00, 0x04];
+
+/// The group of all intermediate systems of an Ethernet (ISO 9542).
+const INTERMEDIATE_SYSTEMS: [u8; 6] = [0x09, 0x00, 0x2b, 0x00, 0x00, 0x05];
+
+/// Appends the word of a destination: `es`, `is`, or its hexadecimal digits in lower case.
+pub fn push_destination(to: &Snpa, out: &mut Vec<u8>) -> Result<(), NoMemory>
+    ensures { OnOk result (out.new.items ≡ out.old.items ++ destination_word to.now) }
+{
+    if same(to.as_bytes(), &END_SYSTEMS) {
+        return push(b"es", out);
+    }
+    if same(to.as_bytes(), &INTERMEDIATE_SYSTEMS) {
+        return push(b"is", out);
+    }
+    push_hex(to.as_bytes(), out)
+}
+
+/// The destination that a word names: `es`, `is`, or an address of six octets.
+pub fn read_destination(word: &[u8]) -> Option<Snpa>
+    ensures { result ≡ destination_of word.now }
+{
+    if same(word, b"es") {
+        return Some(group(&END_SYSTEMS));
+    }
+    if same(word, b"is") {
+        return Some(group(&INTERMEDIATE_SYSTEMS));
+    }
+    read_station(word)
+}
+
+/// The address of six octets that a word spells: two hexadecimal digits an octet, in either case. Dots are skipped.
+pub fn read_station(word: &[u8]) -> Option<Snpa>
+    ensures { result ≡ station_of word.now }
+{
+    let station = Snpa::from_text(word).ok()?;
+    if station.as_bytes().len() == 6 {
+        Some(station)
+    } else {
+        None
+    }
+}
+
+/// The address of a group.
+fn group(octets: &[u8; 6]) -> Snpa
+    ensures { result ≡ octets.now }
+{
+    let Ok(station) = Snpa::from_bytes(octets) else {
+        unreachable!()
+    };
+    station
+}
+
+/// Whether two texts are the same.
+fn same(text: &[u8], other: &[u8]) -> bool
+    ensures { result ≡ bytes_eq text.now other.now }
+{
+    text == other
+}
