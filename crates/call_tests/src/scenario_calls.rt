@@ -148,6 +148,7 @@ const LIMITS: Limits = Limits {
     age: 4,
     hold: 2,
     reuse: 6,
+    skew: 0,
 };
 
 /// Sees the names and the MTUs of two subnetworks.

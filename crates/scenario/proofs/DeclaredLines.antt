@@ -67,17 +67,17 @@ module _ {X : Type 0} (state : (front behind : List X) → Declarations) (text_o
 
 -- ---- what each line gives
 
-pub limits_given : (limits : Limits) → AreLimits limits
+pub limits_given : (limits : Limits) → AreLimits limits → limits.skew ≡ 0
     → declaration_line nothing_declared (codes "limits" ∷ decimal limits.age ∷ decimal limits.hold ∷ decimal limits.reuse ∷ [])
     ≡ Ok (record { limits = Some limits; subnets = []; systems = [] })
 unfolding declaration_line limits_line
-limits_given limits are =
+limits_given limits are together =
     rw (
       number_is_read 1 4096 limits.age (omega arith) are.age,
       number_is_read 1 255 limits.hold (omega arith) are.hold,
       number_is_read 1 16384 limits.reuse (omega arith) are.reuse,
-      le-leb (limits.age + limits.hold) limits.reuse are.rests,
-    ) refl
+      le-leb (limits.age + limits.hold) limits.reuse (omega (arith, are.rests)),
+    ) (ap (λ (skew : ℕ). Ok (record nothing_declared { limits = Some (record limits { skew = skew }) })) (sym together))
 
 pub subnet_given : (d : Declarations) (name word : List ℕ) (mtu : ℕ) → is_name name ≡ true → is_digits word ≡ true → is_taken (subnet_names d) name ≡ false
     → number_within 512 65535 (decimal_of word) ≡ Some mtu → length d.subnets < 64

@@ -43,6 +43,7 @@ pub record IsDeclared (system : DeclaredSystem) : Type 0 where
 -- what the lines so far declare is within bounds, and no address belongs to two systems
 pub record AreFit (d : Declarations) : Type 0 where
   pub limits : AreLimits (limits_of d.limits)
+  pub together : (limits_of d.limits).skew ≡ 0
   pub subnets : AllByRecursion (λ (subnet : Subnetwork). IsWithin 512 65535 subnet.mtu) d.subnets
   pub named : AllByRecursion (λ (subnet : Subnetwork). is_name subnet.name ≡ true) d.subnets
   pub systems : AllByRecursion IsDeclared d.systems
@@ -70,7 +71,14 @@ limits_fit d words h =
     behind_wanted (not (is_some d.limits)) _ _ AreFit (λ _.
     behind_wanted (nat_le (age + hold) reuse) _ _ AreFit (λ rests.
     record {
-      limits = record { age = age_in; hold = hold_in; reuse = reuse_in; rests = leb-true (age + hold) reuse rests };
+      limits = record {
+        age = age_in;
+        hold = hold_in;
+        reuse = reuse_in;
+        skew = is_within 0 4096 0 (omega arith) (omega arith);
+        rests = omega (arith, leb-true (age + hold) reuse rests);
+      };
+      together = refl;
       subnets = h.subnets;
       named = h.named;
       systems = h.systems;
@@ -102,6 +110,7 @@ subnet_fit d words h =
     let subnet : Subnetwork = record { name = name; mtu = mtu } in
     record {
       limits = h.limits;
+      together = h.together;
       subnets = AllByRecursion-push (λ (subnet : Subnetwork). IsWithin 512 65535 subnet.mtu) d.subnets subnet h.subnets mtu_in;
       named = AllByRecursion-push (λ (subnet : Subnetwork). is_name subnet.name ≡ true) d.subnets subnet h.named is_named;
       systems = h.systems;
@@ -217,6 +226,7 @@ system_fit d words h =
     let system : DeclaredSystem = record { name = name; role = role; settings = settings_of settings; addresses = []; ports = []; routes = [] } in
     record {
       limits = h.limits;
+      together = h.together;
       subnets = h.subnets;
       named = h.named;
       systems = AllByRecursion-push IsDeclared d.systems system h.systems (record {
@@ -259,6 +269,7 @@ address_fit d words h =
     behind_wanted (takes_address (slice_get d.systems place)) _ _ AreFit (λ room.
     record {
       limits = h.limits;
+      together = h.together;
       subnets = h.subnets;
       named = h.named;
       systems = changed IsDeclared (with_address address) place d.systems h.systems (λ system is fits. record {
@@ -329,6 +340,7 @@ port_fit d words h =
     let there : subnet < length d.subnets = rw (length-map d.subnets (λ (subnet : Subnetwork). subnet.name)) at within in
     record {
       limits = h.limits;
+      together = h.together;
       subnets = h.subnets;
       named = h.named;
       systems = changed IsDeclared (with_port numbered) place d.systems h.systems (λ system is fits. record {
@@ -416,6 +428,7 @@ route_fit d words h =
     let route : Route = record { prefix = prefix; port = port; snpa = snpa; title = title } in
     record {
       limits = h.limits;
+      together = h.together;
       subnets = h.subnets;
       named = h.named;
       systems = changed IsDeclared (with_route route) place d.systems h.systems
@@ -461,8 +474,10 @@ nothing_fit =
         age = is_within 1 4096 256 (omega arith) (omega arith);
         hold = is_within 1 255 60 (omega arith) (omega arith);
         reuse = is_within 1 16384 320 (omega arith) (omega arith);
+        skew = is_within 0 4096 0 (omega arith) (omega arith);
         rests = omega arith;
       };
+      together = refl;
       subnets = tt;
       named = tt;
       systems = tt;

@@ -233,6 +233,7 @@ storm_fit seed fit =
     let good : AreGood 605 210540 (storm_events seed) = storm_good seed in
     record {
       limits = fit.limits;
+      together = fit.together;
       systems = fit.systems;
       subnet_names = fit.subnet_names;
       system_names = fit.system_names;

@@ -28,7 +28,7 @@ a_host name address snpa = record {
 
 two_hosts : Plan
 two_hosts = record {
-  limits = record { age = 256; hold = 60; reuse = 320 };
+  limits = record { age = 256; hold = 60; reuse = 320; skew = 0 };
   subnets = record { name = codes "lan"; mtu = 1500 } ∷ [];
   systems = a_host (codes "a") (0x47 ∷ 0 ∷ 0x27 ∷ 2 ∷ []) (1 ∷ []) ∷ a_host (codes "b") (0x47 ∷ 0 ∷ 0x27 ∷ 1 ∷ []) (2 ∷ []) ∷ [];
   events = Tick 1 ∷ [];

@@ -404,7 +404,7 @@ module _ (law : ReadsBack) (plan : Plan) (fit : IsFit plan) where
         decimal_is_word plan.limits.age,
         (decimal_is_word plan.limits.hold, (decimal_is_word plan.limits.reuse, tt)),
       )
-      (limits_given plan.limits are)
+      (limits_given plan.limits are fit.together)
 
   pub declarations_go : (rest : List ℕ) → GoesOn nothing_declared (declarations_text plan ++ rest) (declared_of plan) rest
   declarations_go rest =

@@ -69,11 +69,11 @@ limits_line d words = do
   reuse ← number_word 1 16384 w.2
   _ ← wanted (not (is_some d.limits)) bad.DupName
   _ ← wanted (nat_le (age + hold) reuse) bad.Limits
-  Ok (record d { limits = Some (record { age = age; hold = hold; reuse = reuse }) })
+  Ok (record d { limits = Some (record { age = age; hold = hold; reuse = reuse; skew = 0 }) })
 
 -- the limits that are declared, or else the usual ones
 abbrev pub limits_of : Option Limits → Limits
-limits_of None = record { age = 256; hold = 60; reuse = 320 }
+limits_of None = record { age = 256; hold = 60; reuse = 320; skew = 0 }
 limits_of (Some limits) = limits
 
 -- `NAME MTU`, behind `subnet`: an MTU that is decimal and out of its range has a code of its own

@@ -3,12 +3,11 @@ use Rattle.std.specs.Prelude.{ℕ, ◌+◌, Bool, false, if◌then◌else◌, Li
 use Rattle.std.specs.List.{list_all}
 use Rattle.std.specs.Str.{bytes_eq}
 use Rattle.clnp_plan.specs.ClnpBase.Text.{lines_of, words_of}
-use Rattle.clnp_plan.specs.Configuration.{SystemConfiguration}
 use Rattle.scenario.specs.Codes.{number_of}
 use Rattle.scenario.specs.Scenario.{Plan}
 use Rattle.scenario.specs.Words.{◌>>=◌, wanted, one_word, is_skipped}
-use Rattle.scenario.specs.Declarations.{Declarations, nothing_declared, subnet_names, system_names, declaration_line, limits_of, is_complete, configuration_of}
-use Rattle.scenario.specs.Events.{event_line, counted, are_few, nothing_counted}
+use Rattle.scenario.specs.Declarations.{Declarations, nothing_declared, declaration_line, limits_of, is_complete, configuration_of}
+use Rattle.scenario.specs.Events.{Scene, scene_of, event_line, counted, are_few, nothing_counted}
 use Rattle.scenario.specs.declared.counts.Counts.{Counts}
 use Rattle.scenario.specs.declared.event.Event.{Event}
 use Rattle.scenario.specs.declared.code.Code.{Code}
@@ -62,20 +61,20 @@ nothing_after n (line ∷ lines) =
     if is_skipped line then nothing_after (n + 1) lines else Err (record { line = n; code = number_of bad.Syntax })
 
 -- the event of a line, counted with those before it
-unfoldable pub counted_event : (subnets names : List (List ℕ)) → List SystemConfiguration → Counts → List (List ℕ) → Result Event Code
-counted_event subnets names systems counts words = do
-  event ← event_line subnets names systems words
+unfoldable pub counted_event : Scene → Counts → List (List ℕ) → Result Event Code
+counted_event scene counts words = do
+  event ← event_line scene words
   _ ← wanted (are_few (counted counts event)) bad.Count
   Ok event
 
 -- The event lines from number n on, and `end`, where the events before them were counted.
-unfoldable pub events_from : (subnets names : List (List ℕ)) → List SystemConfiguration → ℕ → Counts → List (List ℕ) → Result (List Event) BadLine
-events_from subnets names systems n counts [] = Err (record { line = n; code = number_of bad.Syntax })
-events_from subnets names systems n counts (line ∷ lines) =
-    if is_skipped line then events_from subnets names systems (n + 1) counts lines
+unfoldable pub events_from : Scene → ℕ → Counts → List (List ℕ) → Result (List Event) BadLine
+events_from scene n counts [] = Err (record { line = n; code = number_of bad.Syntax })
+events_from scene n counts (line ∷ lines) =
+    if is_skipped line then events_from scene (n + 1) counts lines
     else if is_line_of (codes "end") (words_of line) then (nothing_after (n + 1) lines >>= λ _. Ok [])
-    else (at_line n (counted_event subnets names systems counts (words_of line)) >>= λ event.
-    events_from subnets names systems (n + 1) (counted counts event) lines >>= λ others.
+    else (at_line n (counted_event scene counts (words_of line)) >>= λ event.
+    events_from scene (n + 1) (counted counts event) lines >>= λ others.
     Ok (event ∷ others))
 
 -- what the lines of a text say, or the first bad line
@@ -83,7 +82,7 @@ unfoldable pub plan_at : List (List ℕ) → Result Plan BadLine
 plan_at lines = do
   header ← header_from 1 lines
   declared ← declarations_from header.number nothing_declared header.lines
-  events ← events_from (subnet_names declared.value) (system_names declared.value) (map configuration_of declared.value.systems) declared.number nothing_counted declared.lines
+  events ← events_from (scene_of declared.value.subnets (map configuration_of declared.value.systems)) declared.number nothing_counted declared.lines
   Ok (record { limits = limits_of declared.value.limits; subnets = declared.value.subnets; systems = map configuration_of declared.value.systems; events = events })
 
 abbrev pub plan_of : List ℕ → Result Plan BadLine

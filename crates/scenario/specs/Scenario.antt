@@ -168,6 +168,8 @@ snpas_of subnet system = map (λ port. port.snpa) (filter (λ port. port.subnet 
 -- What each scenario is that the reader accepts.
 pub record IsFit (plan : Plan) : Type 0 where
   pub limits : AreLimits plan.limits
+  -- all clocks tick together
+  pub together : plan.limits.skew ≡ 0
   pub systems : AllByRecursion IsSystem plan.systems
   pub named_subnets : AllByRecursion (λ (subnet : Subnetwork). is_name subnet.name ≡ true) plan.subnets
   pub named_systems : AllByRecursion (λ (system : SystemConfiguration). is_name system.name ≡ true) plan.systems

@@ -184,6 +184,7 @@ impl Declared {
             age: age as u16,
             hold: hold as u8,
             reuse: reuse as u16,
+            skew: 0,
         })
     }
 
@@ -550,6 +551,7 @@ impl Declared {
                 age: 256,
                 hold: 60,
                 reuse: 320,
+                skew: 0,
             },
         }
     }

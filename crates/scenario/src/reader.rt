@@ -4,10 +4,9 @@ ghost use Rattle.std.specs.List.{list_all, AllByRecursion};
 ghost use Rattle.clnp_plan.specs.ClnpBase.Text.{lines_of, words_of};
 ghost use Rattle.clnp_plan.specs.Configuration.{IsSystem};
 ghost use Rattle.scenario.specs.Declarations.{declaration_line, is_complete, configuration_of};
-ghost use Rattle.scenario.specs.Events.{counted, are_few, nothing_counted};
+ghost use Rattle.scenario.specs.Events.{scene_of, counted, are_few, nothing_counted};
 ghost use Rattle.scenario.specs.Grammar.{at_line, header_from, declarations_from, nothing_after, counted_event, events_from, plan_of};
 ghost use Rattle.scenario.specs.Codes.{number_of};
-ghost use Rattle.scenario.specs.Scenario.{Subnetwork};
 ghost use Rattle.scenario.specs.Words.{wanted};
 ghost use Rattle.scenario.specs.declared.code.Code.TheVariants as bad;
 ghost use Rattle.scenario.specs.declared.fault.ScenarioRefusal.TheVariants.{BadLine};
@@ -151,7 +150,7 @@ fn counted_event(
     requires few { are_few counts ≡ true }
     requires subnets { length subnets.now ≤ 64 }
     requires systems { length systems.now ≤ 64 }
-    ensures event { let reading = at_line number (counted_event (map (λ (subnet : Subnetwork). subnet.name) subnets.now) (map (λ system. system.name) systems.now) systems.now counts (words_of line.now)) in
+    ensures event { let reading = at_line number (counted_event (scene_of subnets.now systems.now) counts (words_of line.now)) in
         MatchResult result (λ event. reading ≡ Ok event) (λ refusal. Refuses refusal reading) }
     ensures few { IfOk result (λ event. are_few (counted counts event) ≡ true) }
 {
@@ -177,7 +176,7 @@ fn events_of(
     requires few { number + length (lines_of text.now) < 2 ^ 32 }
     requires subnets { length subnets.now ≤ 64 }
     requires systems { length systems.now ≤ 64 }
-    ensures { let reading = events_from (map (λ (subnet : Subnetwork). subnet.name) subnets.now) (map (λ system. system.name) systems.now) systems.now number nothing_counted (lines_of text.now) in
+    ensures { let reading = events_from (scene_of subnets.now systems.now) number nothing_counted (lines_of text.now) in
         MatchResult result (λ events. reading ≡ Ok events.items) (λ refusal. Refuses refusal reading) }
 {
     let mut events = Vec::new(alloc);
