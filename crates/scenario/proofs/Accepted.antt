@@ -1,22 +1,25 @@
 -- A text that the grammar accepts is a scenario that is fit to be run.
-use Rattle.std.proofs.Common.{◌≡◌, ℕ, ◌+◌, ◌≤◌, ◌&&◌, true, nat_le, List, [], ◌∷◌, map, length, codes, Result, Ok, Err, IfOk, refl, sym, ◌∙◌, subst, arith}
+use Rattle.std.proofs.Common.{◌≡◌, ℕ, ◌+◌, ◌≤◌, ◌&&◌, true, nat_le, List, [], ◌∷◌, map, length, codes, Option, None, Some, Result, Ok, Err, IfOk, refl, sym, ◌∙◌, subst, arith}
 use Rattle.std.specs.List.{AllByRecursion, flat_map, sum}
+use Rattle.std.specs.Str.{bytes_eq}
 use Rattle.std.proofs.lemmas.Bool.{leb-true, and_parts}
 use Rattle.std.proofs.lemmas.List.{length-map}
 use Rattle.std.proofs.lemmas.List.Sums.{sum_by-cons}
 use Rattle.std.proofs.lemmas.Result.{IfOk-at_ok}
 use Rattle.clnp_plan.specs.ClnpBase.Text.{lines_of, words_of}
 use Rattle.clnp_plan.proofs.ClnpBase.Lists.{AllByRecursion-implies}
-use Rattle.clnp_plan.specs.Configuration.{SystemConfiguration, IsSystem}
+use Rattle.clnp_plan.specs.Configuration.{SystemConfiguration, IsSystem, IsWithin}
 use Rattle.clnp_plan.specs.declared.config.Limits.{Limits}
 use Rattle.scenario.specs.Scenario.{Plan, Subnetwork, IsFit, AsksFairly, AsksInForm, InjectsInForm, IsPlaced, IsFromHost, IsOfRouter, IsSaid, passed_by, ticks_of}
-use Rattle.scenario.specs.Words.{is_skipped}
+use Rattle.scenario.specs.Words.{found, is_skipped}
 use Rattle.scenario.specs.Declarations.{Declarations, DeclaredSystem, nothing_declared, limits_of, snpas_on, configuration_of}
 use Rattle.scenario.specs.Events.{Scene, scene_of, event_line, counted, are_few, nothing_counted}
-use Rattle.scenario.specs.Grammar.{is_line_of, header_from, declarations_from, nothing_after, counted_event, events_from, plan_at, plan_of}
+use Rattle.scenario.specs.Grammar.{ReadTo, is_line_of, version_of, header_from, declarations_from, nothing_after, counted_event, events_from, plan_at}
 use Rattle.scenario.specs.declared.counts.Counts.{Counts}
 use Rattle.scenario.specs.declared.event.Event.{Event}
-use Rattle.scenario.proofs.Behind.{behind_result, behind_wanted, behind_such, behind_line_such, either_way}
+use Rattle.clnp_plan.proofs.ClnpBase.Choices.{one_of}
+use Rattle.scenario.specs.declared.code.Code.TheVariants as bad
+use Rattle.scenario.proofs.Behind.{behind_result, behind_wanted, behind_such, behind_line_such, either_way, is_within}
 use Rattle.scenario.proofs.Apart.{addresses_of, distinct_of, configuration_addresses}
 use Rattle.scenario.proofs.Asks.{event_fair}
 use Rattle.scenario.proofs.Forms.{Laws, event_formed}
@@ -104,13 +107,30 @@ events_fit laws scene are n counts (line ∷ lines) h =
 none_counted : AreFew nothing_counted
 none_counted = record { events = omega arith; passed = omega arith; ticks = omega arith }
 
-plan_fit : Laws → (lines : List (List ℕ)) → IfOk (plan_at lines) IsFit
+-- a header says version 1 or 2
+
+version_within : (newest : ℕ) (line : List ℕ) → IfOk (found (version_of newest line) bad.Header) (IsWithin 1 2)
+version_within newest line =
+    let Within : Option ℕ → Type 0 = λ version. IfOk (found version bad.Header) (IsWithin 1 2) in
+    one_of Within (bytes_eq line (codes "clnp-sim 1")) (Some 1) _ (is_within 1 2 1 (omega arith) (omega arith))
+    (one_of Within (bytes_eq line (codes "clnp-sim 2") && nat_le 2 newest) (Some 2) None (is_within 1 2 2 (omega arith) (omega arith)) tt)
+
+abbrev SaysVersion : ReadTo ℕ → Type 0
+SaysVersion header = IsWithin 1 2 header.value
+
+header_within : (newest n : ℕ) (lines : List (List ℕ)) → IfOk (header_from newest n lines) SaysVersion
+header_within newest n [] = tt
+header_within newest n (line ∷ lines) =
+    either_way (is_skipped line) _ _ SaysVersion (header_within newest (n + 1) lines)
+    (behind_line_such n (found (version_of newest line) bad.Header) _ (IsWithin 1 2) SaysVersion (version_within newest line) (λ version within. within))
+
+plan_fit : Laws → (newest : ℕ) (lines : List (List ℕ)) → IfOk (plan_at newest lines) IsFit
 unfolding plan_at
-plan_fit laws lines =
-    behind_result (header_from 1 lines) _ IsFit (λ header _.
-    behind_such (declarations_from header.number nothing_declared header.lines) _ (λ declared. AreDeclared declared × ReadAddressed declared) IsFit
-    (both (declarations_from header.number nothing_declared header.lines) AreDeclared ReadAddressed
-    (declarations_fit header.number nothing_declared header.lines nothing_fit) (declared_addresses laws header.number header.lines)) (λ declared are_declared.
+plan_fit laws newest lines =
+    behind_such (header_from newest 1 lines) _ SaysVersion IsFit (header_within newest 1 lines) (λ header within.
+    behind_such (declarations_from header.number (nothing_declared header.value) header.lines) _ (λ declared. AreDeclared declared × ReadAddressed declared) IsFit
+    (both (declarations_from header.number (nothing_declared header.value) header.lines) AreDeclared ReadAddressed
+    (declarations_fit header.number (nothing_declared header.value) header.lines (nothing_fit header.value)) (declared_addresses laws header.value header.number header.lines)) (λ declared are_declared.
     let fits : AreDeclared declared = are_declared.0 in
     let systems : List SystemConfiguration = map configuration_of declared.value.systems in
     let scene : Scene = scene_of declared.value.subnets systems in
@@ -122,6 +142,7 @@ plan_fit laws lines =
     record {
       senders = AllByRecursion-implies (HasItsRole systems) (IsFromHost systems) (λ event role. role.0) events are.1;
       congested = AllByRecursion-implies (HasItsRole systems) (IsOfRouter systems) (λ event role. role.1) events are.1;
+      version = within;
       limits = fits.fit.limits;
       together = fits.fit.together;
       systems = configurations_fit declared fits;
@@ -148,24 +169,25 @@ plan_fit laws lines =
       places = subst (λ n. AllByRecursion (IsPlaced n) events) (length-map systems (λ (system : SystemConfiguration). system.name)) counted.placed;
     })))
 
-pub accepted : Laws → (text : List ℕ) (plan : Plan) → plan_of text ≡ Ok plan → IsFit plan
-accepted laws text plan e = IfOk-at_ok IsFit e (plan_fit laws (lines_of text))
+pub accepted : Laws → (newest : ℕ) (text : List ℕ) (plan : Plan) → plan_at newest (lines_of text) ≡ Ok plan → IsFit plan
+accepted laws newest text plan e = IfOk-at_ok IsFit e (plan_fit laws newest (lines_of text))
 
 -- the systems that were declared up to `events` are what each system is
-pub declared_systems : (n : ℕ) (lines : List (List ℕ)) (d : Declarations) (number : ℕ) (others : List (List ℕ))
-    → declarations_from n nothing_declared lines ≡ Ok (record { value = d; number = number; lines = others })
+pub declared_systems : (version n : ℕ) (lines : List (List ℕ)) (d : Declarations) (number : ℕ) (others : List (List ℕ))
+    → declarations_from n (nothing_declared version) lines ≡ Ok (record { value = d; number = number; lines = others })
     → AllByRecursion IsSystem (map configuration_of d.systems)
-declared_systems n lines d number others e =
-    configurations_fit (record { value = d; number = number; lines = others }) (IfOk-at_ok AreDeclared e (declarations_fit n nothing_declared lines nothing_fit))
+declared_systems version n lines d number others e =
+    configurations_fit (record { value = d; number = number; lines = others })
+    (IfOk-at_ok AreDeclared e (declarations_fit n (nothing_declared version) lines (nothing_fit version)))
 
 -- the parts that are read make the plan
-pub plan_is : (text : List ℕ) (n m : ℕ) (left rest : List (List ℕ)) (d : Declarations) (limits : Limits) (subnets : List Subnetwork) (systems : List SystemConfiguration) (events : List Event)
-    → header_from 1 (lines_of text) ≡ Ok (record { value = tt; number = n; lines = left })
-    → declarations_from n nothing_declared left ≡ Ok (record { value = d; number = m; lines = rest })
+pub plan_is : (newest : ℕ) (text : List ℕ) (version n m : ℕ) (left rest : List (List ℕ)) (d : Declarations) (limits : Limits) (subnets : List Subnetwork) (systems : List SystemConfiguration) (events : List Event)
+    → header_from newest 1 (lines_of text) ≡ Ok (record { value = version; number = n; lines = left })
+    → declarations_from n (nothing_declared version) left ≡ Ok (record { value = d; number = m; lines = rest })
     → limits ≡ limits_of d.limits → subnets ≡ d.subnets → systems ≡ map configuration_of d.systems
     → events_from (scene_of subnets systems) m nothing_counted rest ≡ Ok events
-    → plan_of text ≡ Ok (record { limits = limits; subnets = subnets; systems = systems; events = events })
+    → plan_at newest (lines_of text) ≡ Ok (record { version = version; limits = limits; subnets = subnets; systems = systems; events = events })
 unfolding plan_at
-plan_is text n m left rest d limits subnets systems events header declared limits_is subnets_is systems_is happens =
+plan_is newest text version n m left rest d limits subnets systems events header declared limits_is subnets_is systems_is happens =
     let named : events_from (scene_of d.subnets (map configuration_of d.systems)) m nothing_counted rest ≡ Ok events = rw (subnets_is, systems_is) at happens in
     rw (header, declared, named, limits_is, subnets_is, systems_is) refl

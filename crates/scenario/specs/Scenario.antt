@@ -31,6 +31,8 @@ pub record Subnetwork : Type 0 where
 
 -- systems and subnetworks are named by their places, from 0
 pub record Plan : Type 0 where
+  -- that of the texts that say it
+  pub version : ℕ
   pub limits : Limits
   pub subnets : List Subnetwork
   pub systems : List SystemConfiguration
@@ -167,6 +169,7 @@ snpas_of subnet system = map (λ port. port.snpa) (filter (λ port. port.subnet 
 
 -- What each scenario is that the reader accepts.
 pub record IsFit (plan : Plan) : Type 0 where
+  pub version : IsWithin 1 2 plan.version
   pub limits : AreLimits plan.limits
   -- all clocks tick together
   pub together : plan.limits.skew ≡ 0
