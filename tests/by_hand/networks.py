@@ -139,9 +139,10 @@ def random_scenario():
             snpas[name, subnet] = random.randbytes(random.choice([1, 6])).hex()
             transit = random.choice(["", "", " 1", " 2", f" {random.randint(1, 20)}", " 255"])
             attached.append(f"port {name} {at} {subnet} {snpas[name, subnet]}{transit}")
-    if random.random() < 0.5:
+    version = random.choice([1, 1, 2])
+    if version == 2 or random.random() < 0.5:
         age, hold = random.randint(1, 9), random.randint(1, 9)
-        attached.append(f"limits {age} {hold} {age + hold + random.randint(0, 3)}")
+        attached.append(f"limits {age} {hold} {age + hold + random.randint(0, 3)}{'' if version == 1 else ' 0'}")
     random.shuffle(attached)
     routers = [name for name, role in systems if role == "router"]
     for name in routers:
@@ -162,10 +163,11 @@ def random_scenario():
         if random.random() < 0.5 and events[-1].startswith(("send", "tick")):
             events.append(f"settle {random.choice([4, 30, 60])}")
     lines = []
-    for line in ["clnp-sim 1"] + declared + attached + ["events"] + events + ["end"]:
+    header = f"clnp-sim {version}"
+    for line in [header] + declared + attached + ["events"] + events + ["end"]:
         if random.random() < 0.1:
             lines.append(random.choice(["", "#", "# a comment"]))
-        lines.append(line if line == "clnp-sim 1" or random.random() < 0.9 else line.replace(" ", "  "))
+        lines.append(line if line == header or random.random() < 0.9 else line.replace(" ", "  "))
     return lines
 
 

@@ -118,9 +118,10 @@ class System:
 
 
 class Text:
-    """What the lines so far declare, and their events."""
+    """What the lines so far declare, in a text of a version, and their events."""
 
-    def __init__(self):
+    def __init__(self, version):
+        self.version = version
         self.subnets, self.systems, self.events, self.passed, self.ticks = [], [], [], 0, 0
         self.limits = None
 
@@ -139,10 +140,11 @@ class Text:
         kinds[keyword](words)
 
     def limit(self, words):
-        want(len(words) == 3, SYNTAX)
+        want(len(words) == (3 if self.version == 1 else 4), SYNTAX)
         age, hold, reuse = number(words[0], 1, 4096), number(words[1], 1, 255), number(words[2], 1, 16384)
+        skew = 0 if self.version == 1 else number(words[3], 0, 0)
         want(self.limits is None, DUP_NAME)
-        want(age + hold <= reuse, LIMITS)
+        want(age + hold + 2 * skew <= reuse, LIMITS)
         self.limits = (age, hold, reuse)
 
     def subnet(self, words):
@@ -206,6 +208,7 @@ class Text:
         router.routes[digits] = (port_number, snpa), title
 
     def start(self):
+        want(self.version == 1 or self.limits is not None, SYNTAX)
         want(all(system.is_complete() for system in self.systems), COUNT)
 
     def event(self, keyword, words):
@@ -296,13 +299,16 @@ def lines_of(text):
     return lines + [last] if last else lines
 
 
-def read(text):
-    """The text's declarations and events, or the first bad line with its code."""
+HEADERS = {b"clnp-sim 1": 1, b"clnp-sim 2": 2}
+
+
+def read(text, newest=2):
+    """The text's declarations and events, or the first bad line with its code. A version later than the newest has no header."""
     lines = lines_of(text)
     left = [(at + 1, line) for at, line in enumerate(lines) if line and not line.startswith(b"#")]
-    if not left or left[0][1] != b"clnp-sim 1":
+    if not left or HEADERS.get(left[0][1], newest + 1) > newest:
         return (left[0][0] if left else len(lines) + 1, HEADER)
-    read_text, started = Text(), False
+    read_text, started = Text(HEADERS[left[0][1]]), False
     for at, (number_of_line, line) in enumerate(left[1:], 1):
         words = [word for word in line.split(b" ") if word]
         try:

@@ -1,6 +1,8 @@
 use scenario::clnp_base::lines;
 use scenario::clnp_plan::{Limits, PortConfig, Role, SystemConfig};
-use scenario::{Event, Scenario, ScenarioRefusal, Subnet, from_seed, read, write};
+use scenario::{
+    Event, Scenario, ScenarioRefusal, Subnet, from_seed, migrate, read, read_version_1, write,
+};
 use std::alloc::Global;
 use std::process::Abort;
 
@@ -112,6 +114,21 @@ tick 1
 end
 ";
 
+/// What it becomes in version 2, in which it is written alike.
+const TWO_HOSTS_MIGRATED: &[u8] = b"clnp-sim 2
+limits 256 60 320 0
+subnet lan 1500
+system a host hello=0 suggest=0 rhold=120 slots=16 segments=1024 budget=262144 neighbours=64 routers=8 redirects=64 life=64 checksum=on
+system b host hello=0 suggest=0 rhold=120 slots=16 segments=1024 budget=262144 neighbours=64 routers=8 redirects=64 life=64 checksum=on
+address a 47002702
+port a 0 lan 01 1
+address b 47002701
+port b 0 lan 02 1
+events
+tick 1
+end
+";
+
 /// The answer to a text, which is short.
 fn answer(rt: &impl Abort, alloc: Global, text: &[u8]) -> Result<Scenario, ScenarioRefusal> {
     let _lines = lines(text);
@@ -138,16 +155,49 @@ fn writes_what_was_read(rt: HostRuntime) {
         (TEXT, TEXT_WRITTEN),
         (ROUTER, ROUTER_WRITTEN),
         (TWO_HOSTS, TWO_HOSTS_WRITTEN),
+        (TWO_HOSTS_MIGRATED, TWO_HOSTS_MIGRATED),
     ] {
         let found = written(&rt, rt.alloc(), text);
         assert!(rt; found.as_slice() == wanted);
     }
 }
 
+/// What migration makes of a text, which is short.
+fn migrated(rt: &impl Abort, alloc: Global, text: &[u8]) -> Result<Vec<u8>, ScenarioRefusal> {
+    let _lines = lines(text);
+    assert!(rt; text.len() <= 4_000_000);
+    migrate(alloc, text)
+}
+
+#[test]
+fn migrates_texts_of_version_1_alone(rt: HostRuntime) {
+    let found = migrated(&rt, rt.alloc(), TWO_HOSTS).expect(&rt, "a text of version 1");
+    assert!(rt; found.as_slice() == TWO_HOSTS_MIGRATED);
+    let refusal = ScenarioRefusal::BadLine { line: 1, code: 1 };
+    assert!(rt; migrated(&rt, rt.alloc(), TWO_HOSTS_MIGRATED).err() == Some(refusal));
+}
+
+/// The scenario of a text of version 1, which is short.
+fn first_version_of(rt: &impl Abort, alloc: Global, text: &[u8]) -> Scenario {
+    let _lines = lines(text);
+    assert!(rt; text.len() <= 4_000_000);
+    read_version_1(alloc, text).expect(rt, "a scenario of version 1")
+}
+
+#[test]
+fn tells_the_version(rt: HostRuntime) {
+    let scenario = first_version_of(&rt, rt.alloc(), TWO_HOSTS);
+    assert!(rt; scenario.version() == 1);
+    let scenario = scenario.migrate();
+    assert!(rt; scenario.version() == 2);
+    assert!(rt; scenario.limits().skew == 0);
+}
+
 const LIMITS: Limits = Limits {
     age: 4,
     hold: 2,
     reuse: 6,
+    skew: 0,
 };
 
 /// Sees the names and the MTUs of two subnetworks.

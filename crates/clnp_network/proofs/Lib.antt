@@ -1,3 +1,4 @@
 pub use Rattle.scenario.proofs as Scenario
 mod Worked
 pub mod Texts
+pub mod Alike

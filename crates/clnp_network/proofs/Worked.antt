@@ -115,7 +115,8 @@ of_b = 0x47 ∷ 0 ∷ 0x27 ∷ 1 ∷ []
 
 abbrev on_one_subnetwork : (router : Settings) → List Event → Plan
 on_one_subnetwork router events = record {
-  limits = record { age = 256; hold = 60; reuse = 320 };
+  version = 1;
+  limits = record { age = 256; hold = 60; reuse = 320; skew = 0 };
   subnets = record { name = codes "lan"; mtu = 1500 } ∷ [];
   systems =
       a_host (codes "a") of_a (on_lan (1 ∷ [])) defaults
@@ -149,7 +150,8 @@ to_both = to_host of_b 1 (2 ∷ []) ∷ to_host of_a 0 (1 ∷ []) ∷ []
 
 abbrev sent_across : (to : List ℕ) → Plan
 sent_across to = record {
-  limits = record { age = 256; hold = 60; reuse = 320 };
+  version = 1;
+  limits = record { age = 256; hold = 60; reuse = 320; skew = 0 };
   subnets = record { name = codes "one"; mtu = 1500 } ∷ record { name = codes "two"; mtu = 1500 } ∷ [];
   systems =
       a_host (codes "a") of_a (on_subnetwork 0 (1 ∷ [])) silent
@@ -173,7 +175,8 @@ journal-reported = refl
 
 abbrev from_outside : List ℕ → Plan
 from_outside octets = record {
-  limits = record { age = 256; hold = 60; reuse = 320 };
+  version = 1;
+  limits = record { age = 256; hold = 60; reuse = 320; skew = 0 };
   subnets = record { name = codes "lan"; mtu = 1500 } ∷ [];
   systems = a_host (codes "a") of_a (on_lan (1 ∷ [])) silent ∷ a_host (codes "b") of_b (on_lan (2 ∷ [])) silent ∷ [];
   events = Inject 0 (3 ∷ []) (System (2 ∷ [])) octets ∷ Settle 1 ∷ [];

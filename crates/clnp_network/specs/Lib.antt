@@ -2,3 +2,4 @@ pub use Rattle.scenario.specs as Scenario
 pub mod World
 pub mod Run
 pub mod Safe
+pub mod Migrated

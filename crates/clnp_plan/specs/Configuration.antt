@@ -1,5 +1,5 @@
 -- What a scenario says of one system, and how long things last in a network.
-use Rattle.std.specs.Prelude.{◌≡◌, ◌≢◌, ℕ, ◌+◌, ◌<◌, ◌≤◌, List, [], length, All, AllPairs}
+use Rattle.std.specs.Prelude.{◌≡◌, ◌≢◌, ℕ, ◌+◌, ◌*◌, ◌<◌, ◌≤◌, List, [], length, All, AllPairs}
 use Rattle.std.specs.List.{AllByRecursion}
 use Rattle.pdu_header.specs.Nsap.Address.{IsAddress}
 use Rattle.forwarding.specs.declared.route.Route.{Route}
@@ -88,4 +88,6 @@ pub record AreLimits (limits : Limits) : Type 0 where
   pub age : IsWithin 1 4096 limits.age
   pub hold : IsWithin 1 255 limits.hold
   pub reuse : IsWithin 1 16384 limits.reuse
-  pub rests : limits.age + limits.hold ≤ limits.reuse
+  -- how far apart the clocks of two systems may stand
+  pub skew : IsWithin 0 4096 limits.skew
+  pub rests : limits.age + limits.hold + 2 * limits.skew ≤ limits.reuse

@@ -24,8 +24,10 @@ pub struct Limits {
     pub age: u16,
     /// The longest time that a reassembly buffer is kept: 1 to 255.
     pub hold: u8,
-    /// How long a data unit identifier isn't used again: up to 16,384, and at least `age` and `hold` together.
+    /// How long a data unit identifier isn't used again: up to 16,384, and at least `age`, `hold` and twice `skew` together.
     pub reuse: u16,
+    /// How far apart the clocks of two systems may stand: 0 to 4,096. All clocks tick together where it is 0.
+    pub skew: u16,
 }
 
 /// A system's port: the subnetwork's place among the declarations, from 0, the system's address

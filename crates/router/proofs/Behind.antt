@@ -77,5 +77,5 @@ pub is_header : SystemConfiguration → (title : List ℕ) (congested : Bool) (o
 is_header configuration title congested old new len v spells count behind =
     let of_title : SystemConfiguration = record configuration { addresses = title ∷ [] } in
     let s : SystemState =
-    record (first_state 0 of_title (record { age = 0; hold = 0; reuse = 0 }) 0 0) { congested = congested } in
+    record (first_state 0 of_title (record { age = 0; hold = 0; reuse = 0; skew = 0 }) 0 0) { congested = congested } in
     (with_options (options_behind s v.options) v, behind s v refl refl spells, count)

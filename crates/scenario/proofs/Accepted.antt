@@ -1,22 +1,25 @@
 -- A text that the grammar accepts is a scenario that is fit to be run.
-use Rattle.std.proofs.Common.{◌≡◌, ℕ, ◌+◌, ◌≤◌, ◌&&◌, true, nat_le, List, [], ◌∷◌, map, length, codes, Result, Ok, Err, IfOk, refl, sym, ◌∙◌, subst, arith}
+use Rattle.std.proofs.Common.{◌≡◌, ℕ, ◌+◌, ◌≤◌, ◌&&◌, true, nat_le, List, [], ◌∷◌, map, length, codes, Option, None, Some, Result, Ok, Err, IfOk, refl, sym, ◌∙◌, subst, arith}
 use Rattle.std.specs.List.{AllByRecursion, flat_map, sum}
+use Rattle.std.specs.Str.{bytes_eq}
 use Rattle.std.proofs.lemmas.Bool.{leb-true, and_parts}
 use Rattle.std.proofs.lemmas.List.{length-map}
 use Rattle.std.proofs.lemmas.List.Sums.{sum_by-cons}
 use Rattle.std.proofs.lemmas.Result.{IfOk-at_ok}
 use Rattle.clnp_plan.specs.ClnpBase.Text.{lines_of, words_of}
 use Rattle.clnp_plan.proofs.ClnpBase.Lists.{AllByRecursion-implies}
-use Rattle.clnp_plan.specs.Configuration.{SystemConfiguration, IsSystem}
+use Rattle.clnp_plan.specs.Configuration.{SystemConfiguration, IsSystem, IsWithin}
 use Rattle.clnp_plan.specs.declared.config.Limits.{Limits}
 use Rattle.scenario.specs.Scenario.{Plan, Subnetwork, IsFit, AsksFairly, AsksInForm, InjectsInForm, IsPlaced, IsFromHost, IsOfRouter, IsSaid, passed_by, ticks_of}
-use Rattle.scenario.specs.Words.{is_skipped}
+use Rattle.scenario.specs.Words.{found, is_skipped}
 use Rattle.scenario.specs.Declarations.{Declarations, DeclaredSystem, nothing_declared, limits_of, snpas_on, configuration_of}
-use Rattle.scenario.specs.Events.{event_line, counted, are_few, nothing_counted}
-use Rattle.scenario.specs.Grammar.{is_line_of, header_from, declarations_from, nothing_after, counted_event, events_from, plan_at, plan_of}
+use Rattle.scenario.specs.Events.{Scene, scene_of, event_line, counted, are_few, nothing_counted}
+use Rattle.scenario.specs.Grammar.{ReadTo, is_line_of, version_of, header_from, declarations_from, nothing_after, counted_event, events_from, plan_at}
 use Rattle.scenario.specs.declared.counts.Counts.{Counts}
 use Rattle.scenario.specs.declared.event.Event.{Event}
-use Rattle.scenario.proofs.Behind.{behind_result, behind_wanted, behind_such, behind_line_such, either_way}
+use Rattle.clnp_plan.proofs.ClnpBase.Choices.{one_of}
+use Rattle.scenario.specs.declared.code.Code.TheVariants as bad
+use Rattle.scenario.proofs.Behind.{behind_result, behind_wanted, behind_such, behind_line_such, either_way, is_within}
 use Rattle.scenario.proofs.Apart.{addresses_of, distinct_of, configuration_addresses}
 use Rattle.scenario.proofs.Asks.{event_fair}
 use Rattle.scenario.proofs.Forms.{Laws, event_formed}
@@ -41,55 +44,55 @@ few counts h =
     record { events = leb-true counts.events 100000 p.0; passed = leb-true counts.passed 10000000 q.0; ticks = leb-true counts.ticks 1000000 q.1 }
 
 -- an event that is counted, behind others
-record IsCounted (subnets names : List (List ℕ)) (counts : Counts) (event : Event) : Type 0 where
+record IsCounted (scene : Scene) (counts : Counts) (event : Event) : Type 0 where
   pub few : are_few (counted counts event) ≡ true
   pub fair : AsksFairly event
   pub formed : AsksInForm event
-  pub placed : AreAmong names event
-  pub injected : InjectsInForm (length subnets) event
+  pub placed : AreAmong scene.names event
+  pub injected : InjectsInForm (length scene.subnets) event
   pub said : IsSaid event
 
 both : {A E : Type 0} (r : Result A E) (P Q : A → Type 0) → IfOk r P → IfOk r Q → IfOk r (λ x. P x × Q x)
 both (Ok x) P Q p q = (p, q)
 both (Err e) P Q p q = tt
 
-event_fit : Laws → (subnets names : List (List ℕ)) (systems : List SystemConfiguration) → AllByRecursion IsSystem systems → (counts : Counts) (line : List ℕ)
-    → IfOk (counted_event subnets names systems counts (words_of line)) (IsCounted subnets names counts)
+event_fit : Laws → (scene : Scene) → AllByRecursion IsSystem scene.systems → (counts : Counts) (line : List ℕ)
+    → IfOk (counted_event scene counts (words_of line)) (IsCounted scene counts)
 unfolding counted_event
-event_fit laws subnets names systems are counts line =
+event_fit laws scene are counts line =
     let words : List (List ℕ) = words_of line in
-    behind_such (event_line subnets names systems words) _ (λ event. IsSaid event × (AsksFairly event × (AsksInForm event × (AreAmong names event × InjectsInForm (length subnets) event)))) (IsCounted subnets names counts)
-    (both (event_line subnets names systems words) IsSaid (λ event. AsksFairly event × (AsksInForm event × (AreAmong names event × InjectsInForm (length subnets) event))) (event_said subnets names systems words are)
-    (both (event_line subnets names systems words) AsksFairly (λ event. AsksInForm event × (AreAmong names event × InjectsInForm (length subnets) event)) (event_fair laws.options subnets names systems words)
-    (both (event_line subnets names systems words) AsksInForm (λ event. AreAmong names event × InjectsInForm (length subnets) event) (event_formed laws subnets names systems words are)
-    (both (event_line subnets names systems words) (AreAmong names) (InjectsInForm (length subnets)) (event_placed subnets names systems words)
-    (event_injected laws subnets names systems words (words_stand line)))))) (λ event is.
-    behind_wanted (are_few (counted counts event)) _ _ (IsCounted subnets names counts)
+    behind_such (event_line scene words) _ (λ event. IsSaid event × (AsksFairly event × (AsksInForm event × (AreAmong scene.names event × InjectsInForm (length scene.subnets) event)))) (IsCounted scene counts)
+    (both (event_line scene words) IsSaid (λ event. AsksFairly event × (AsksInForm event × (AreAmong scene.names event × InjectsInForm (length scene.subnets) event))) (event_said scene words are)
+    (both (event_line scene words) AsksFairly (λ event. AsksInForm event × (AreAmong scene.names event × InjectsInForm (length scene.subnets) event)) (event_fair laws.options scene words)
+    (both (event_line scene words) AsksInForm (λ event. AreAmong scene.names event × InjectsInForm (length scene.subnets) event) (event_formed laws scene words are)
+    (both (event_line scene words) (AreAmong scene.names) (InjectsInForm (length scene.subnets)) (event_placed scene words)
+    (event_injected laws scene words (words_stand line)))))) (λ event is.
+    behind_wanted (are_few (counted counts event)) _ _ (IsCounted scene counts)
     (λ few. record { few = few; said = is.0; fair = is.1.0; formed = is.1.1.0; placed = is.1.1.1.0; injected = is.1.1.1.1 }))
 
 -- events behind those that were counted
-record AreCounted (subnets names : List (List ℕ)) (before : Counts) (events : List Event) : Type 0 where
+record AreCounted (scene : Scene) (before : Counts) (events : List Event) : Type 0 where
   pub many : before.events + length events ≤ 100000
   pub passed : before.passed + sum (map passed_by events) ≤ 10000000
   pub ticks : before.ticks + sum (map ticks_of events) ≤ 1000000
   pub fair : AllByRecursion AsksFairly events
   pub formed : AllByRecursion AsksInForm events
-  pub placed : AllByRecursion (AreAmong names) events
-  pub injected : AllByRecursion (InjectsInForm (length subnets)) events
+  pub placed : AllByRecursion (AreAmong scene.names) events
+  pub injected : AllByRecursion (InjectsInForm (length scene.subnets)) events
   pub said : AllByRecursion IsSaid events
 
-events_fit : Laws → (subnets names : List (List ℕ)) (systems : List SystemConfiguration) → AllByRecursion IsSystem systems → (n : ℕ) (counts : Counts) (lines : List (List ℕ))
-    → AreFew counts → IfOk (events_from subnets names systems n counts lines) (AreCounted subnets names counts)
+events_fit : Laws → (scene : Scene) → AllByRecursion IsSystem scene.systems → (n : ℕ) (counts : Counts) (lines : List (List ℕ))
+    → AreFew counts → IfOk (events_from scene n counts lines) (AreCounted scene counts)
 unfolding events_from
-events_fit laws subnets names systems are n counts [] h = tt
-events_fit laws subnets names systems are n counts (line ∷ lines) h =
-    either_way (is_skipped line) _ _ (AreCounted subnets names counts) (events_fit laws subnets names systems are (n + 1) counts lines h)
-    (either_way (is_line_of (codes "end") (words_of line)) _ _ (AreCounted subnets names counts)
-    (behind_result (nothing_after (n + 1) lines) _ (AreCounted subnets names counts) (λ _ _. record { many = omega (arith, h.events); passed = omega (arith, h.passed); ticks = omega (arith, h.ticks); fair = tt; formed = tt; placed = tt; injected = tt; said = tt }))
-    (behind_line_such n (counted_event subnets names systems counts (words_of line)) _ (IsCounted subnets names counts) (AreCounted subnets names counts)
-    (event_fit laws subnets names systems are counts line) (λ event first.
-    behind_such (events_from subnets names systems (n + 1) (counted counts event) lines) _ (AreCounted subnets names (counted counts event)) (AreCounted subnets names counts)
-    (events_fit laws subnets names systems are (n + 1) (counted counts event) lines (few (counted counts event) first.few)) (λ others rest.
+events_fit laws scene are n counts [] h = tt
+events_fit laws scene are n counts (line ∷ lines) h =
+    either_way (is_skipped line) _ _ (AreCounted scene counts) (events_fit laws scene are (n + 1) counts lines h)
+    (either_way (is_line_of (codes "end") (words_of line)) _ _ (AreCounted scene counts)
+    (behind_result (nothing_after (n + 1) lines) _ (AreCounted scene counts) (λ _ _. record { many = omega (arith, h.events); passed = omega (arith, h.passed); ticks = omega (arith, h.ticks); fair = tt; formed = tt; placed = tt; injected = tt; said = tt }))
+    (behind_line_such n (counted_event scene counts (words_of line)) _ (IsCounted scene counts) (AreCounted scene counts)
+    (event_fit laws scene are counts line) (λ event first.
+    behind_such (events_from scene (n + 1) (counted counts event) lines) _ (AreCounted scene (counted counts event)) (AreCounted scene counts)
+    (events_fit laws scene are (n + 1) (counted counts event) lines (few (counted counts event) first.few)) (λ others rest.
     record {
       many = omega (arith, rest.many);
       passed = rw (sum_by-cons (λ x. x) (passed_by event) (map passed_by others)) (omega (arith, rest.passed));
@@ -104,26 +107,44 @@ events_fit laws subnets names systems are n counts (line ∷ lines) h =
 none_counted : AreFew nothing_counted
 none_counted = record { events = omega arith; passed = omega arith; ticks = omega arith }
 
-plan_fit : Laws → (lines : List (List ℕ)) → IfOk (plan_at lines) IsFit
+-- a header says version 1 or 2
+
+version_within : (newest : ℕ) (line : List ℕ) → IfOk (found (version_of newest line) bad.Header) (IsWithin 1 2)
+version_within newest line =
+    let Within : Option ℕ → Type 0 = λ version. IfOk (found version bad.Header) (IsWithin 1 2) in
+    one_of Within (bytes_eq line (codes "clnp-sim 1")) (Some 1) _ (is_within 1 2 1 (omega arith) (omega arith))
+    (one_of Within (bytes_eq line (codes "clnp-sim 2") && nat_le 2 newest) (Some 2) None (is_within 1 2 2 (omega arith) (omega arith)) tt)
+
+abbrev SaysVersion : ReadTo ℕ → Type 0
+SaysVersion header = IsWithin 1 2 header.value
+
+header_within : (newest n : ℕ) (lines : List (List ℕ)) → IfOk (header_from newest n lines) SaysVersion
+header_within newest n [] = tt
+header_within newest n (line ∷ lines) =
+    either_way (is_skipped line) _ _ SaysVersion (header_within newest (n + 1) lines)
+    (behind_line_such n (found (version_of newest line) bad.Header) _ (IsWithin 1 2) SaysVersion (version_within newest line) (λ version within. within))
+
+plan_fit : Laws → (newest : ℕ) (lines : List (List ℕ)) → IfOk (plan_at newest lines) IsFit
 unfolding plan_at
-plan_fit laws lines =
-    behind_result (header_from 1 lines) _ IsFit (λ header _.
-    behind_such (declarations_from header.number nothing_declared header.lines) _ (λ declared. AreDeclared declared × ReadAddressed declared) IsFit
-    (both (declarations_from header.number nothing_declared header.lines) AreDeclared ReadAddressed
-    (declarations_fit header.number nothing_declared header.lines nothing_fit) (declared_addresses laws header.number header.lines)) (λ declared are_declared.
+plan_fit laws newest lines =
+    behind_such (header_from newest 1 lines) _ SaysVersion IsFit (header_within newest 1 lines) (λ header within.
+    behind_such (declarations_from header.number (nothing_declared header.value) header.lines) _ (λ declared. AreDeclared declared × ReadAddressed declared) IsFit
+    (both (declarations_from header.number (nothing_declared header.value) header.lines) AreDeclared ReadAddressed
+    (declarations_fit header.number (nothing_declared header.value) header.lines (nothing_fit header.value)) (declared_addresses laws header.value header.number header.lines)) (λ declared are_declared.
     let fits : AreDeclared declared = are_declared.0 in
     let systems : List SystemConfiguration = map configuration_of declared.value.systems in
-    let names : List (List ℕ) = map (λ (system : DeclaredSystem). system.name) declared.value.systems in
-    let subnets : List (List ℕ) = map (λ (subnet : Subnetwork). subnet.name) declared.value.subnets in
-    behind_such (events_from subnets names systems declared.number nothing_counted declared.lines) _ (λ events. AreCounted subnets names nothing_counted events × AllByRecursion (HasItsRole systems) events) IsFit
-    (both (events_from subnets names systems declared.number nothing_counted declared.lines) (AreCounted subnets names nothing_counted) (AllByRecursion (HasItsRole systems))
-    (events_fit laws subnets names systems (configurations_fit declared fits) declared.number nothing_counted declared.lines none_counted)
-    (events_in_roles subnets names systems declared.number nothing_counted declared.lines)) (λ events are.
-    let counted : AreCounted subnets names nothing_counted events = are.0 in
+    let scene : Scene = scene_of declared.value.subnets systems in
+    behind_such (events_from scene declared.number nothing_counted declared.lines) _ (λ events. AreCounted scene nothing_counted events × AllByRecursion (HasItsRole systems) events) IsFit
+    (both (events_from scene declared.number nothing_counted declared.lines) (AreCounted scene nothing_counted) (AllByRecursion (HasItsRole systems))
+    (events_fit laws scene (configurations_fit declared fits) declared.number nothing_counted declared.lines none_counted)
+    (events_in_roles scene declared.number nothing_counted declared.lines)) (λ events are.
+    let counted : AreCounted scene nothing_counted events = are.0 in
     record {
       senders = AllByRecursion-implies (HasItsRole systems) (IsFromHost systems) (λ event role. role.0) events are.1;
       congested = AllByRecursion-implies (HasItsRole systems) (IsOfRouter systems) (λ event role. role.1) events are.1;
+      version = within;
       limits = fits.fit.limits;
+      together = fits.fit.together;
       systems = configurations_fit declared fits;
       addresses = rw (configuration_addresses declared.value.systems) (distinct_of (addresses_of declared.value.systems) fits.fit.addresses);
       each_address = configured_addresses declared.value.systems are_declared.1;
@@ -139,35 +160,34 @@ plan_fit laws lines =
       formed = counted.formed;
       injected = subst (λ n. AllByRecursion (InjectsInForm n) events) (length-map declared.value.subnets (λ (subnet : Subnetwork). subnet.name)) counted.injected;
       subnet_names = distinct_of (map (λ (subnet : Subnetwork). subnet.name) declared.value.subnets) fits.fit.subnet_names;
-      system_names = rw (configuration_names declared.value.systems) (distinct_of names fits.fit.system_names);
+      system_names = rw (configuration_names declared.value.systems) (distinct_of (map (λ (system : DeclaredSystem). system.name) declared.value.systems) fits.fit.system_names);
       few_subnets = fits.fit.few_subnets;
       few_systems = rw (length-map declared.value.systems configuration_of) fits.fit.few_systems;
       mtus = fits.fit.subnets;
       snpas = λ q. rw (configuration_snpas q declared.value.systems) (distinct_of (flat_map (snpas_on q) declared.value.systems) (fits.fit.snpas q));
       ports = configurations_on declared.value.subnets declared.value.systems fits.fit.on;
-      places = subst (λ n. AllByRecursion (IsPlaced n) events)
-          (length-map declared.value.systems (λ (system : DeclaredSystem). system.name) ∙ sym (length-map declared.value.systems configuration_of)) counted.placed;
+      places = subst (λ n. AllByRecursion (IsPlaced n) events) (length-map systems (λ (system : SystemConfiguration). system.name)) counted.placed;
     })))
 
-pub accepted : Laws → (text : List ℕ) (plan : Plan) → plan_of text ≡ Ok plan → IsFit plan
-accepted laws text plan e = IfOk-at_ok IsFit e (plan_fit laws (lines_of text))
+pub accepted : Laws → (newest : ℕ) (text : List ℕ) (plan : Plan) → plan_at newest (lines_of text) ≡ Ok plan → IsFit plan
+accepted laws newest text plan e = IfOk-at_ok IsFit e (plan_fit laws newest (lines_of text))
 
 -- the systems that were declared up to `events` are what each system is
-pub declared_systems : (n : ℕ) (lines : List (List ℕ)) (d : Declarations) (number : ℕ) (others : List (List ℕ))
-    → declarations_from n nothing_declared lines ≡ Ok (record { value = d; number = number; lines = others })
+pub declared_systems : (version n : ℕ) (lines : List (List ℕ)) (d : Declarations) (number : ℕ) (others : List (List ℕ))
+    → declarations_from n (nothing_declared version) lines ≡ Ok (record { value = d; number = number; lines = others })
     → AllByRecursion IsSystem (map configuration_of d.systems)
-declared_systems n lines d number others e =
-    configurations_fit (record { value = d; number = number; lines = others }) (IfOk-at_ok AreDeclared e (declarations_fit n nothing_declared lines nothing_fit))
+declared_systems version n lines d number others e =
+    configurations_fit (record { value = d; number = number; lines = others })
+    (IfOk-at_ok AreDeclared e (declarations_fit n (nothing_declared version) lines (nothing_fit version)))
 
 -- the parts that are read make the plan
-pub plan_is : (text : List ℕ) (n m : ℕ) (left rest : List (List ℕ)) (d : Declarations) (limits : Limits) (subnets : List Subnetwork) (systems : List SystemConfiguration) (events : List Event)
-    → header_from 1 (lines_of text) ≡ Ok (record { value = tt; number = n; lines = left })
-    → declarations_from n nothing_declared left ≡ Ok (record { value = d; number = m; lines = rest })
+pub plan_is : (newest : ℕ) (text : List ℕ) (version n m : ℕ) (left rest : List (List ℕ)) (d : Declarations) (limits : Limits) (subnets : List Subnetwork) (systems : List SystemConfiguration) (events : List Event)
+    → header_from newest 1 (lines_of text) ≡ Ok (record { value = version; number = n; lines = left })
+    → declarations_from n (nothing_declared version) left ≡ Ok (record { value = d; number = m; lines = rest })
     → limits ≡ limits_of d.limits → subnets ≡ d.subnets → systems ≡ map configuration_of d.systems
-    → events_from (map (λ (subnet : Subnetwork). subnet.name) subnets) (map (λ (system : SystemConfiguration). system.name) systems) systems m nothing_counted rest ≡ Ok events
-    → plan_of text ≡ Ok (record { limits = limits; subnets = subnets; systems = systems; events = events })
+    → events_from (scene_of subnets systems) m nothing_counted rest ≡ Ok events
+    → plan_at newest (lines_of text) ≡ Ok (record { version = version; limits = limits; subnets = subnets; systems = systems; events = events })
 unfolding plan_at
-plan_is text n m left rest d limits subnets systems events header declared limits_is subnets_is systems_is happens =
-    let named : events_from (map (λ (subnet : Subnetwork). subnet.name) d.subnets) (map (λ (system : DeclaredSystem). system.name) d.systems) (map configuration_of d.systems) m nothing_counted rest ≡ Ok events
-    = rw (subnets_is, systems_is, configuration_names d.systems) at happens in
+plan_is newest text version n m left rest d limits subnets systems events header declared limits_is subnets_is systems_is happens =
+    let named : events_from (scene_of d.subnets (map configuration_of d.systems)) m nothing_counted rest ≡ Ok events = rw (subnets_is, systems_is) at happens in
     rw (header, declared, named, limits_is, subnets_is, systems_is) refl

@@ -1,6 +1,6 @@
 -- Each address that lines declare for a system is one: its own, those of its ports, and those of the next systems on its routes.
 -- So is each prefix of a route.
-use Rattle.std.proofs.Common.{ℕ, ◌+◌, ◌&&◌, not, nat_le, nat_lt, List, [], ◌∷◌, map, length, slice_get, codes, is_some, IfOk}
+use Rattle.std.proofs.Common.{ℕ, ◌+◌, ◌*◌, ◌&&◌, not, nat_le, nat_lt, List, [], ◌∷◌, map, length, slice_get, codes, is_some, IfOk}
 use Rattle.std.specs.List.{AllByRecursion, flat_map, list_all}
 use Rattle.std.specs.Str.{bytes_eq}
 use Rattle.std.proofs.lemmas.List.Elements.{All-from_recursion}
@@ -12,7 +12,7 @@ use Rattle.clnp_plan.specs.Forwarding.declared.route.Route.{Route}
 use Rattle.clnp_plan.specs.Configuration.{IsAddressed, IsAddressedRoute, SystemConfiguration}
 use Rattle.clnp_plan.specs.declared.config.PortConfig.{PortConfig}
 use Rattle.scenario.specs.Words.{wanted, name_word, declared_word, number_within, number_word, address_word, prefix_word, is_digits, is_taken, is_one_at_most, is_skipped, each_once, two_words, three_words, five_words, first_two, first_four}
-use Rattle.scenario.specs.Declarations.{Declarations, DeclaredSystem, NumberedPort, nothing_declared, subnet_names, system_names, with_address, with_port, count_below, is_among, has_port, snpas_on, mtu_at, takes_address, takes_port, limits_line, subnet_line, role_word, setting_words, key_of, settings_of, system_line, address_line, transit_word, port_line, router_word, port_word, has_route, takes_route, with_route, route_line, declaration_line, is_complete, configuration_of}
+use Rattle.scenario.specs.Declarations.{Declarations, DeclaredSystem, NumberedPort, nothing_declared, subnet_names, system_names, with_address, with_port, count_below, is_among, has_port, snpas_on, mtu_at, takes_address, takes_port, limits_words, limits_line, subnet_line, role_word, setting_words, key_of, settings_of, system_line, address_line, transit_word, port_line, router_word, port_word, has_route, takes_route, with_route, route_line, declaration_line, all_declared, configuration_of}
 use Rattle.scenario.specs.Grammar.{ReadTo, is_line_of, declarations_from}
 use Rattle.scenario.specs.declared.code.Code.TheVariants as bad
 use Rattle.scenario.proofs.Behind.{behind_result, behind_line, behind_found, behind_wanted, behind_such, behind_line_such, either_way}
@@ -40,12 +40,13 @@ AreAddressed d = AllByRecursion HasAddresses d.systems
 limits_keep : (d : Declarations) (words : List (List ℕ)) → AreAddressed d → IfOk (limits_line d words) AreAddressed
 unfolding limits_line
 limits_keep d words h =
-    behind_found (three_words words) _ _ AreAddressed (λ w _.
+    behind_found (limits_words d.version words) _ _ AreAddressed (λ w _.
     behind_result (number_word 1 4096 w.0) _ AreAddressed (λ age _.
     behind_result (number_word 1 255 w.1) _ AreAddressed (λ hold _.
     behind_result (number_word 1 16384 w.2) _ AreAddressed (λ reuse _.
+    behind_result (number_word 0 0 w.3) _ AreAddressed (λ skew _.
     behind_wanted (not (is_some d.limits)) _ _ AreAddressed (λ _.
-    behind_wanted (nat_le (age + hold) reuse) _ _ AreAddressed (λ _. h))))))
+    behind_wanted (nat_le (age + hold + 2 * skew) reuse) _ _ AreAddressed (λ _. h)))))))
 
 subnet_keeps : (d : Declarations) (words : List (List ℕ)) → AreAddressed d → IfOk (subnet_line d words) AreAddressed
 unfolding subnet_line
@@ -137,12 +138,12 @@ declarations_keep laws n d [] h = tt
 declarations_keep laws n d (line ∷ lines) h =
     either_way (is_skipped line) _ _ ReadAddressed (declarations_keep laws (n + 1) d lines h)
     (either_way (is_line_of (codes "events") (words_of line)) _ _ ReadAddressed
-    (behind_line n (wanted (list_all is_complete d.systems) bad.Count) _ ReadAddressed (λ _ e. h))
+    (behind_line n (all_declared d) _ ReadAddressed (λ _ _. h))
     (behind_line_such n (declaration_line d (words_of line)) _ AreAddressed ReadAddressed (line_keeps laws d (words_of line) h) (λ declared keeps.
     declarations_keep laws (n + 1) declared lines keeps)))
 
-pub declared_addresses : Laws → (n : ℕ) (lines : List (List ℕ)) → IfOk (declarations_from n nothing_declared lines) ReadAddressed
-declared_addresses laws n lines = declarations_keep laws n nothing_declared lines tt
+pub declared_addresses : Laws → (version n : ℕ) (lines : List (List ℕ)) → IfOk (declarations_from n (nothing_declared version) lines) ReadAddressed
+declared_addresses laws version n lines = declarations_keep laws n (nothing_declared version) lines tt
 
 -- so is each as it is configured
 system_addressed : (system : DeclaredSystem) → HasAddresses system → IsAddressed (configuration_of system)

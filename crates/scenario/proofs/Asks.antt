@@ -9,7 +9,7 @@ use Rattle.clnp_plan.specs.ClnpOptions.Rules.{Accepts, refusal}
 use Rattle.clnp_plan.specs.Configuration.{SystemConfiguration}
 use Rattle.scenario.specs.Scenario.{AsksFairly}
 use Rattle.scenario.specs.Words.{literal, has_prefix, declared_word, address_word, data_word, number_word, life_word, octets_behind, options_read, options_word, one_word, two_words, four_words, first_four, each_once}
-use Rattle.scenario.specs.Events.{wish_word, wish_words, wish_key, options_in, host_word, send_line, deliver_line, count_line, tick_line, restart_line, echo_line, router_word, on_word, congest_line, event_line}
+use Rattle.scenario.specs.Events.{wish_word, wish_words, wish_key, options_in, host_word, send_line, deliver_line, count_line, tick_line, restart_line, echo_line, router_word, on_word, congest_line, Scene, event_line}
 use Rattle.scenario.specs.declared.code.Code.TheVariants as bad
 use Rattle.scenario.specs.declared.event.Event.TheVariants.{Settle, Lose, Tick}
 use Rattle.scenario.specs.declared.wish.Wish.{Wish}
@@ -96,16 +96,16 @@ congest_fair names systems words =
     behind_result (router_word names systems w.0) _ AsksFairly (λ system _.
     behind_result (on_word w.1) _ AsksFairly (λ on _. tt)))
 
-pub event_fair : SpellsWhatItAccepts → (subnets names : List (List ℕ)) (systems : List SystemConfiguration) (words : List (List ℕ)) → IfOk (event_line subnets names systems words) AsksFairly
+pub event_fair : SpellsWhatItAccepts → (scene : Scene) (words : List (List ℕ)) → IfOk (event_line scene words) AsksFairly
 unfolding event_line
-event_fair law subnets names systems [] = tt
-event_fair law subnets names systems (keyword ∷ words) =
-    either_way (bytes_eq keyword (codes "send")) _ _ AsksFairly (send_fair law names systems words)
-    (either_way (bytes_eq keyword (codes "deliver")) _ _ AsksFairly (deliver_fair names words)
+event_fair law scene [] = tt
+event_fair law scene (keyword ∷ words) =
+    either_way (bytes_eq keyword (codes "send")) _ _ AsksFairly (send_fair law scene.names scene.systems words)
+    (either_way (bytes_eq keyword (codes "deliver")) _ _ AsksFairly (deliver_fair scene.names words)
     (either_way (bytes_eq keyword (codes "settle")) _ _ AsksFairly (behind_result (count_line words) (λ count. Ok (Settle count)) AsksFairly (λ count _. tt))
     (either_way (bytes_eq keyword (codes "lose")) _ _ AsksFairly (behind_result (count_line words) (λ count. Ok (Lose count)) AsksFairly (λ count _. tt))
     (either_way (bytes_eq keyword (codes "tick")) _ _ AsksFairly (behind_result (tick_line words) (λ count. Ok (Tick count)) AsksFairly (λ count _. tt))
-    (either_way (bytes_eq keyword (codes "restart")) _ _ AsksFairly (restart_fair names words)
-    (either_way (bytes_eq keyword (codes "echo")) _ _ AsksFairly (echo_fair names words)
-    (either_way (bytes_eq keyword (codes "congest")) _ _ AsksFairly (congest_fair names systems words)
-    (either_way (bytes_eq keyword (codes "inject")) _ _ AsksFairly (inject_such subnets words AsksFairly (λ subnet from to octets. tt)) tt))))))))
+    (either_way (bytes_eq keyword (codes "restart")) _ _ AsksFairly (restart_fair scene.names words)
+    (either_way (bytes_eq keyword (codes "echo")) _ _ AsksFairly (echo_fair scene.names words)
+    (either_way (bytes_eq keyword (codes "congest")) _ _ AsksFairly (congest_fair scene.names scene.systems words)
+    (either_way (bytes_eq keyword (codes "inject")) _ _ AsksFairly (inject_such scene.subnets words AsksFairly (λ subnet from to octets. tt)) tt))))))))

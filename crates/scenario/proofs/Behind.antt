@@ -1,8 +1,8 @@
 -- What holds of each value that a reading gives, step by step.
-use Rattle.std.proofs.Common.{◌≡◌, ℕ, ◌<◌, ◌&&◌, Bool, true, false, nat_le, List, [], ◌∷◌, length, Option, None, Some, Result, Ok, Err, IfOk, is_ok, if◌then◌else◌, refl, sym, ap, ◌≤◌}
+use Rattle.std.proofs.Common.{◌≡◌, ℕ, ◌<◌, ◌&&◌, Bool, true, false, nat_le, List, [], ◌∷◌, length, Option, None, Some, Result, Ok, Err, IfOk, if◌then◌else◌, refl, ◌≤◌}
 use Rattle.std.specs.List.{AllByRecursion, position}
 use Rattle.std.specs.Str.{bytes_eq}
-use Rattle.std.proofs.lemmas.Bool.{leb-true, and_parts, true≢false}
+use Rattle.std.proofs.lemmas.Bool.{leb-true, and_parts}
 use Rattle.std.proofs.lemmas.List.Quantifiers.{position-Some}
 use Rattle.clnp_plan.specs.ClnpBase.Text.{decimal_of}
 use Rattle.clnp_plan.specs.Configuration.{IsWithin}
@@ -78,9 +78,10 @@ pub behind_line_such : {A B : Type 0} (n : ℕ) (r : Result A Code) (f : A → R
 behind_line_such n (Ok x) f Q P q h = h x q
 behind_line_such n (Err e) f Q P q h = tt
 
-pub wanted_holds : (b : Bool) (code : Code) {x : Unit {0}} → wanted b code ≡ Ok x → b ≡ true
-wanted_holds true code e = refl
-wanted_holds false code e = absurd (true≢false (sym (ap is_ok e)))
+-- what is so where something holds that is wanted
+pub if_wanted : (b : Bool) (code : Code) (P : Type 0) → (b ≡ true → P) → IfOk (wanted b code) (λ _. P)
+if_wanted true code P h = h refl
+if_wanted false code P h = tt
 
 -- the place of a declared name is one of the list
 pub declared_is_within : (names : List (List ℕ)) (word : List ℕ) → IfOk (declared_word names word) (λ place. place < length names)

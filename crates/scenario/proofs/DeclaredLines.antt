@@ -1,16 +1,17 @@
 -- What each line of declarations gives, and many lines one after another.
-use Rattle.std.proofs.Common.{◌≡◌, ℕ, ◌+◌, ◌<◌, true, false, List, [], ◌∷◌, ◌++◌, length, slice_get, codes, Some, Ok, refl, sym, ap, ◌∙◌, subst, arith, append_assoc}
+use Rattle.std.proofs.Common.{◌≡◌, ℕ, zero, suc, ◌+◌, ◌*◌, ◌<◌, true, false, List, [], ◌∷◌, ◌++◌, length, slice_get, codes, Some, Ok, refl, sym, ap, ◌∙◌, subst, arith, append_assoc}
 use Rattle.std.specs.List.{AllByRecursion, flat_map}
 use Rattle.std.specs.Fmt.{decimal}
 use Rattle.clnp_plan.specs.ClnpBase.Text.{lines_of, words_of, decimal_of}
 use Rattle.clnp_plan.specs.Journal.{line_of}
+use Rattle.scenario.specs.Canonical.{skew_words}
 use Rattle.scenario.specs.Words.{is_name, declared_word, number_within, number_word, address_word, prefix_word, is_digits, is_taken, is_skipped}
-use Rattle.scenario.specs.Declarations.{Declarations, DeclaredSystem, nothing_declared, subnet_names, system_names, changed_at, with_address, with_port, with_route, is_among, takes_address, takes_port, takes_route, has_port, has_numbered, has_route, is_router_at, snpas_on, mtu_at, limits_line, subnet_line, role_word, setting_words, system_line, address_line, port_line, route_line, declaration_line}
+use Rattle.scenario.specs.Declarations.{Declarations, DeclaredSystem, nothing_declared, subnet_names, system_names, changed_at, with_address, with_port, with_route, is_among, takes_address, takes_port, takes_route, has_port, has_numbered, has_route, is_router_at, snpas_on, mtu_at, limits_words, limits_line, subnet_line, role_word, setting_words, system_line, address_line, port_line, route_line, declaration_line}
 use Rattle.scenario.specs.Grammar.{declarations_from}
 use Rattle.std.proofs.lemmas.Bool.{le-leb, lt-ltb}
 use Rattle.std.proofs.lemmas.List.{append-nil}
 use Rattle.clnp_plan.specs.Forwarding.declared.route.Route.{Route}
-use Rattle.clnp_plan.specs.Configuration.{AreLimits}
+use Rattle.clnp_plan.specs.Configuration.{AreLimits, IsWithin}
 use Rattle.clnp_plan.specs.declared.config.Limits.{Limits}
 use Rattle.clnp_plan.specs.declared.config.PortConfig.{PortConfig}
 use Rattle.clnp_plan.specs.declared.config.Role.{Role}
@@ -67,17 +68,36 @@ module _ {X : Type 0} (state : (front behind : List X) → Declarations) (text_o
 
 -- ---- what each line gives
 
-pub limits_given : (limits : Limits) → AreLimits limits
-    → declaration_line nothing_declared (codes "limits" ∷ decimal limits.age ∷ decimal limits.hold ∷ decimal limits.reuse ∷ [])
-    ≡ Ok (record { limits = Some limits; subnets = []; systems = [] })
+limits_read : (version : ℕ) (words : List (List ℕ)) (skew_word : List ℕ) (limits : Limits) → AreLimits limits
+    → limits_words version words ≡ Some (decimal limits.age, decimal limits.hold, decimal limits.reuse, skew_word) → number_word 0 0 skew_word ≡ Ok limits.skew
+    → declaration_line (nothing_declared version) (codes "limits" ∷ words) ≡ Ok (record (nothing_declared version) { limits = Some limits })
 unfolding declaration_line limits_line
-limits_given limits are =
+limits_read version words skew_word limits are cut skew =
     rw (
+      cut,
       number_is_read 1 4096 limits.age (omega arith) are.age,
       number_is_read 1 255 limits.hold (omega arith) are.hold,
       number_is_read 1 16384 limits.reuse (omega arith) are.reuse,
-      le-leb (limits.age + limits.hold) limits.reuse are.rests,
+      skew,
+      le-leb (limits.age + limits.hold + 2 * limits.skew) limits.reuse are.rests,
     ) refl
+
+-- the words of the limits in a text of a version
+abbrev pub limits_said : (version : ℕ) → Limits → List (List ℕ)
+limits_said version limits = decimal limits.age ∷ decimal limits.hold ∷ decimal limits.reuse ∷ skew_words version limits.skew
+
+no_skew_read : (skew : ℕ) → skew ≡ 0 → number_word 0 0 (codes "0") ≡ Ok skew
+no_skew_read skew none = rw none refl
+
+pub limits_given : (version : ℕ) (limits : Limits) → IsWithin 1 2 version → AreLimits limits → limits.skew ≡ 0
+    → declaration_line (nothing_declared version) (codes "limits" ∷ limits_said version limits) ≡ Ok (record (nothing_declared version) { limits = Some limits })
+limits_given zero limits within are together = absurd (omega (arith, within.least))
+limits_given (suc zero) limits within are together =
+    limits_read 1 (limits_said 1 limits) (codes "0") limits are refl (no_skew_read limits.skew together)
+limits_given (suc (suc zero)) limits within are together =
+    limits_read 2 (limits_said 2 limits) (decimal limits.skew) limits are refl
+    (number_is_read 0 0 limits.skew (omega arith) (record { least = omega arith; most = omega (arith, together) }))
+limits_given (suc (suc (suc version))) limits within are together = absurd (omega (arith, within.most))
 
 pub subnet_given : (d : Declarations) (name word : List ℕ) (mtu : ℕ) → is_name name ≡ true → is_digits word ≡ true → is_taken (subnet_names d) name ≡ false
     → number_within 512 65535 (decimal_of word) ≡ Some mtu → length d.subnets < 64

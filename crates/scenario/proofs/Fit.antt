@@ -1,5 +1,5 @@
 -- Each scenario that the grammar accepts is fit: what its lines declare stays fit, line by line.
-use Rattle.std.proofs.Common.{◌≡◌, ℕ, zero, suc, ◌+◌, ◌<◌, ◌≤◌, ◌==◌, ◌&&◌, ◌||◌, Bool, true, false, not, nat_le, nat_lt, List, [], ◌∷◌, ◌++◌, map, length, slice_get, codes, Option, Some, is_some, Ok, IfOk, refl, sym, subst, arith, length-append}
+use Rattle.std.proofs.Common.{◌≡◌, ℕ, zero, suc, ◌+◌, ◌*◌, ◌<◌, ◌≤◌, ◌==◌, ◌&&◌, ◌||◌, Bool, true, false, not, nat_le, nat_lt, List, [], ◌∷◌, ◌++◌, map, length, slice_get, codes, Option, Some, is_some, Ok, IfOk, refl, sym, subst, arith, length-append}
 use Rattle.std.specs.List.{AllByRecursion, flat_map, list_all, list_any}
 use Rattle.std.specs.Str.{bytes_eq}
 use Rattle.std.proofs.lemmas.Bool.{leb-true, ltb-true, eqb-true, and_parts, not-true, true≢false}
@@ -18,12 +18,12 @@ use Rattle.clnp_plan.specs.declared.config.Role.TheVariants.{Host, Router}
 use Rattle.clnp_plan.specs.declared.config.Settings.{Settings}
 use Rattle.scenario.specs.Scenario.{Subnetwork, AreOnDifferent, IsOn}
 use Rattle.scenario.specs.Words.{◌>>=◌, wanted, found, is_name, name_word, declared_word, number_within, number_word, number_behind, has_prefix, address_word, prefix_word, is_digits, is_taken, is_one_at_most, is_skipped, each_once, two_words, three_words, five_words, first_two, first_four}
-use Rattle.scenario.specs.Declarations.{Declarations, DeclaredSystem, NumberedPort, nothing_declared, subnet_names, system_names, changed_at, with_address, with_port, is_among, most_addresses, most_ports, takes_address, takes_port, count_below, has_port, snpas_on, mtu_at, limits_of, limits_line, subnet_line, checksum_word, room_word, setting_word, setting_words, key_of, with_setting, settings_of, role_word, system_line, address_line, transit_word, port_line, is_router, is_router_at, router_word, has_number, has_numbered, port_word, has_route, takes_route, with_route, route_line, declaration_line, is_complete, have_no_gap, configuration_of}
+use Rattle.scenario.specs.Declarations.{Declarations, DeclaredSystem, NumberedPort, nothing_declared, subnet_names, system_names, changed_at, with_address, with_port, is_among, most_addresses, most_ports, takes_address, takes_port, count_below, has_port, snpas_on, mtu_at, limits_of, limits_words, limits_line, subnet_line, checksum_word, room_word, setting_word, setting_words, key_of, with_setting, settings_of, role_word, system_line, address_line, transit_word, port_line, is_router, is_router_at, router_word, has_number, has_numbered, port_word, has_route, takes_route, with_route, route_line, declaration_line, is_complete, has_limits, all_declared, have_no_gap, configuration_of}
 use Rattle.scenario.specs.Grammar.{ReadTo, is_line_of, declarations_from}
 use Rattle.scenario.specs.declared.code.Code.TheVariants as bad
 use Rattle.scenario.specs.declared.setting.Setting.{Setting}
 use Rattle.scenario.specs.declared.setting.Setting.TheVariants.{Hello, Suggest, Checksum, Life, RedirectHold, Slots, Segments, Budget, Neighbours, Routers, Redirects}
-use Rattle.scenario.proofs.Behind.{behind_result, behind_line, behind_found, behind_wanted, behind_such, behind_line_such, wanted_holds, either_way, found_is_within, number_is_within, number_behind_is_within, declared_is_within, is_within}
+use Rattle.scenario.proofs.Behind.{behind_result, behind_found, behind_wanted, behind_such, behind_line_such, if_wanted, either_way, found_is_within, number_is_within, number_behind_is_within, declared_is_within, is_within}
 use Rattle.scenario.proofs.Apart.{addresses_of, AreApart, new_of, add_address, port_leaves, system_leaves, distinct_of, front_apart, back_apart}
 use Rattle.scenario.proofs.Kept.{map_leaves, all_leaves, length_leaves, empty_leaves, one_gets, one_more_name, AreOn, all_stay, mtu_is, subnets_of, on_one_more, configurations_different, port_gets, port_elsewhere, all_among}
 use Rattle.scenario.proofs.Numbers.{LeadOut, lead_on, lead_below}
@@ -43,6 +43,7 @@ pub record IsDeclared (system : DeclaredSystem) : Type 0 where
 -- what the lines so far declare is within bounds, and no address belongs to two systems
 pub record AreFit (d : Declarations) : Type 0 where
   pub limits : AreLimits (limits_of d.limits)
+  pub together : (limits_of d.limits).skew ≡ 0
   pub subnets : AllByRecursion (λ (subnet : Subnetwork). IsWithin 512 65535 subnet.mtu) d.subnets
   pub named : AllByRecursion (λ (subnet : Subnetwork). is_name subnet.name ≡ true) d.subnets
   pub systems : AllByRecursion IsDeclared d.systems
@@ -63,14 +64,22 @@ changed P change (suc place) (x ∷ xs) h keeps = (h.0, changed P change place x
 pub limits_fit : (d : Declarations) (words : List (List ℕ)) → AreFit d → IfOk (limits_line d words) AreFit
 unfolding limits_line
 limits_fit d words h =
-    behind_found (three_words words) _ _ AreFit (λ w _.
+    behind_found (limits_words d.version words) _ _ AreFit (λ w _.
     behind_such (number_word 1 4096 w.0) _ (IsWithin 1 4096) AreFit (number_is_within 1 4096 w.0) (λ age age_in.
     behind_such (number_word 1 255 w.1) _ (IsWithin 1 255) AreFit (number_is_within 1 255 w.1) (λ hold hold_in.
     behind_such (number_word 1 16384 w.2) _ (IsWithin 1 16384) AreFit (number_is_within 1 16384 w.2) (λ reuse reuse_in.
+    behind_such (number_word 0 0 w.3) _ (IsWithin 0 0) AreFit (number_is_within 0 0 w.3) (λ skew skew_in.
     behind_wanted (not (is_some d.limits)) _ _ AreFit (λ _.
-    behind_wanted (nat_le (age + hold) reuse) _ _ AreFit (λ rests.
+    behind_wanted (nat_le (age + hold + 2 * skew) reuse) _ _ AreFit (λ rests.
     record {
-      limits = record { age = age_in; hold = hold_in; reuse = reuse_in; rests = leb-true (age + hold) reuse rests };
+      limits = record {
+        age = age_in;
+        hold = hold_in;
+        reuse = reuse_in;
+        skew = is_within 0 4096 skew (omega arith) (omega (arith, skew_in.most));
+        rests = leb-true (age + hold + 2 * skew) reuse rests;
+      };
+      together = omega (arith, skew_in.most);
       subnets = h.subnets;
       named = h.named;
       systems = h.systems;
@@ -81,7 +90,7 @@ limits_fit d words h =
       few_systems = h.few_systems;
       snpas = h.snpas;
       on = h.on;
-    }))))))
+    })))))))
 
 -- a word that is read as a name is one
 abbrev IsNamed : List ℕ → Type 0
@@ -102,6 +111,7 @@ subnet_fit d words h =
     let subnet : Subnetwork = record { name = name; mtu = mtu } in
     record {
       limits = h.limits;
+      together = h.together;
       subnets = AllByRecursion-push (λ (subnet : Subnetwork). IsWithin 512 65535 subnet.mtu) d.subnets subnet h.subnets mtu_in;
       named = AllByRecursion-push (λ (subnet : Subnetwork). is_name subnet.name ≡ true) d.subnets subnet h.named is_named;
       systems = h.systems;
@@ -217,6 +227,7 @@ system_fit d words h =
     let system : DeclaredSystem = record { name = name; role = role; settings = settings_of settings; addresses = []; ports = []; routes = [] } in
     record {
       limits = h.limits;
+      together = h.together;
       subnets = h.subnets;
       named = h.named;
       systems = AllByRecursion-push IsDeclared d.systems system h.systems (record {
@@ -259,6 +270,7 @@ address_fit d words h =
     behind_wanted (takes_address (slice_get d.systems place)) _ _ AreFit (λ room.
     record {
       limits = h.limits;
+      together = h.together;
       subnets = h.subnets;
       named = h.named;
       systems = changed IsDeclared (with_address address) place d.systems h.systems (λ system is fits. record {
@@ -329,6 +341,7 @@ port_fit d words h =
     let there : subnet < length d.subnets = rw (length-map d.subnets (λ (subnet : Subnetwork). subnet.name)) at within in
     record {
       limits = h.limits;
+      together = h.together;
       subnets = h.subnets;
       named = h.named;
       systems = changed IsDeclared (with_port numbered) place d.systems h.systems (λ system is fits. record {
@@ -416,6 +429,7 @@ route_fit d words h =
     let route : Route = record { prefix = prefix; port = port; snpa = snpa; title = title } in
     record {
       limits = h.limits;
+      together = h.together;
       subnets = h.subnets;
       named = h.named;
       systems = changed IsDeclared (with_route route) place d.systems h.systems
@@ -440,6 +454,12 @@ line_fit d (keyword ∷ words) h =
     (either_way (bytes_eq keyword (codes "port")) _ _ AreFit (port_fit d words h)
     (either_way (bytes_eq keyword (codes "route")) _ _ AreFit (route_fit d words h) tt)))))
 
+all_complete : (d : Declarations) → IfOk (all_declared d) (λ _. list_all is_complete d.systems ≡ true)
+all_complete d =
+    let complete = list_all is_complete d.systems ≡ true in
+    behind_wanted (has_limits d) bad.Syntax (λ _. wanted (list_all is_complete d.systems) bad.Count) (λ _. complete) (λ _.
+    if_wanted (list_all is_complete d.systems) bad.Count complete (λ is. is))
+
 -- what is declared up to `events` is fit, and each system is complete
 pub record AreDeclared (r : ReadTo Declarations) : Type 0 where
   pub fit : AreFit r.value
@@ -450,19 +470,21 @@ declarations_fit n d [] h = tt
 declarations_fit n d (line ∷ lines) h =
     either_way (is_skipped line) _ _ AreDeclared (declarations_fit (n + 1) d lines h)
     (either_way (is_line_of (codes "events") (words_of line)) _ _ AreDeclared
-    (behind_line n (wanted (list_all is_complete d.systems) bad.Count) _ AreDeclared (λ _ e. record { fit = h; complete = wanted_holds (list_all is_complete d.systems) bad.Count e }))
+    (behind_line_such n (all_declared d) _ (λ _. list_all is_complete d.systems ≡ true) AreDeclared (all_complete d) (λ _ complete. record { fit = h; complete = complete }))
     (behind_line_such n (declaration_line d (words_of line)) _ AreFit AreDeclared (line_fit d (words_of line) h) (λ declared fits.
     declarations_fit (n + 1) declared lines fits)))
 
-pub nothing_fit : AreFit nothing_declared
-nothing_fit =
+pub nothing_fit : (version : ℕ) → AreFit (nothing_declared version)
+nothing_fit version =
     record {
       limits = record {
         age = is_within 1 4096 256 (omega arith) (omega arith);
         hold = is_within 1 255 60 (omega arith) (omega arith);
         reuse = is_within 1 16384 320 (omega arith) (omega arith);
+        skew = is_within 0 4096 0 (omega arith) (omega arith);
         rests = omega arith;
       };
+      together = refl;
       subnets = tt;
       named = tt;
       systems = tt;

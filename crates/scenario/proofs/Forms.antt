@@ -16,7 +16,7 @@ use Rattle.clnp_plan.specs.ClnpOptions.Rules.{Accepts, refusal}
 use Rattle.clnp_plan.specs.Configuration.{IsSystem, IsWithin, SystemConfiguration}
 use Rattle.scenario.specs.Scenario.{AsksInForm, octets_of}
 use Rattle.scenario.specs.Words.{literal, has_prefix, after_prefix, digits_read, pattern_word, two_fields, declared_word, address_read, address_word, data_word, number_word, life_word, octets_behind, options_read, options_word, one_word, two_words, four_words, first_four, each_once}
-use Rattle.scenario.specs.Events.{wish_word, wish_words, wish_key, life_in, own_life, options_in, host_word, send_line, deliver_line, count_line, tick_line, restart_line, echo_line, router_word, on_word, congest_line, event_line}
+use Rattle.scenario.specs.Events.{wish_word, wish_words, wish_key, life_in, own_life, options_in, host_word, send_line, deliver_line, count_line, tick_line, restart_line, echo_line, router_word, on_word, congest_line, Scene, event_line}
 use Rattle.scenario.specs.declared.code.Code.TheVariants as bad
 use Rattle.scenario.specs.declared.event.Body.{Body}
 use Rattle.scenario.specs.declared.event.Body.TheVariants.{Hex, Pattern}
@@ -176,17 +176,17 @@ congest_formed names systems words =
     behind_result (router_word names systems w.0) _ AsksInForm (λ system _.
     behind_result (on_word w.1) _ AsksInForm (λ on _. tt)))
 
-pub event_formed : Laws → (subnets names : List (List ℕ)) (systems : List SystemConfiguration) (words : List (List ℕ)) → AllByRecursion IsSystem systems
-    → IfOk (event_line subnets names systems words) AsksInForm
+pub event_formed : Laws → (scene : Scene) (words : List (List ℕ)) → AllByRecursion IsSystem scene.systems
+    → IfOk (event_line scene words) AsksInForm
 unfolding event_line
-event_formed laws subnets names systems [] are = tt
-event_formed laws subnets names systems (keyword ∷ words) are =
-    either_way (bytes_eq keyword (codes "send")) _ _ AsksInForm (send_formed laws names systems words are)
-    (either_way (bytes_eq keyword (codes "deliver")) _ _ AsksInForm (deliver_formed names words)
+event_formed laws scene [] are = tt
+event_formed laws scene (keyword ∷ words) are =
+    either_way (bytes_eq keyword (codes "send")) _ _ AsksInForm (send_formed laws scene.names scene.systems words are)
+    (either_way (bytes_eq keyword (codes "deliver")) _ _ AsksInForm (deliver_formed scene.names words)
     (either_way (bytes_eq keyword (codes "settle")) _ _ AsksInForm (behind_result (count_line words) (λ count. Ok (Settle count)) AsksInForm (λ count _. tt))
     (either_way (bytes_eq keyword (codes "lose")) _ _ AsksInForm (behind_result (count_line words) (λ count. Ok (Lose count)) AsksInForm (λ count _. tt))
     (either_way (bytes_eq keyword (codes "tick")) _ _ AsksInForm (behind_result (tick_line words) (λ count. Ok (Tick count)) AsksInForm (λ count _. tt))
-    (either_way (bytes_eq keyword (codes "restart")) _ _ AsksInForm (restart_formed names words)
-    (either_way (bytes_eq keyword (codes "echo")) _ _ AsksInForm (echo_formed laws names words)
-    (either_way (bytes_eq keyword (codes "congest")) _ _ AsksInForm (congest_formed names systems words)
-    (either_way (bytes_eq keyword (codes "inject")) _ _ AsksInForm (inject_such subnets words AsksInForm (λ subnet from to octets. tt)) tt))))))))
+    (either_way (bytes_eq keyword (codes "restart")) _ _ AsksInForm (restart_formed scene.names words)
+    (either_way (bytes_eq keyword (codes "echo")) _ _ AsksInForm (echo_formed laws scene.names words)
+    (either_way (bytes_eq keyword (codes "congest")) _ _ AsksInForm (congest_formed scene.names scene.systems words)
+    (either_way (bytes_eq keyword (codes "inject")) _ _ AsksInForm (inject_such scene.subnets words AsksInForm (λ subnet from to octets. tt)) tt))))))))

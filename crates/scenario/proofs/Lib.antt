@@ -27,4 +27,5 @@ pub mod Stages
 pub mod DeclaredLines
 pub mod WrittenDeclarations
 pub mod ReadBack
+pub mod Versions
 mod Worked

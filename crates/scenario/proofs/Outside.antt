@@ -11,7 +11,7 @@ use Rattle.clnp_plan.specs.ClnpBase.Text.{words_of, onto_first, ends_word}
 use Rattle.clnp_plan.specs.Configuration.{SystemConfiguration}
 use Rattle.scenario.specs.Scenario.{InjectsInForm, IsTarget}
 use Rattle.scenario.specs.Words.{declared_word, digits_read, address_word, data_word, number_word, one_word, two_words, four_words, first_four, each_once, frame_word, target_word}
-use Rattle.scenario.specs.Events.{wish_words, wish_key, host_word, router_word, on_word, send_line, deliver_line, count_line, tick_line, restart_line, echo_line, congest_line, inject_line, event_line}
+use Rattle.scenario.specs.Events.{wish_words, wish_key, host_word, router_word, on_word, send_line, deliver_line, count_line, tick_line, restart_line, echo_line, congest_line, inject_line, Scene, event_line}
 use Rattle.scenario.specs.declared.event.Event.TheVariants.{Settle, Lose, Tick}
 use Rattle.scenario.proofs.Behind.{behind_result, behind_found, behind_wanted, behind_such, either_way, declared_is_within}
 use Rattle.scenario.proofs.Forms.{Laws, address_formed}
@@ -131,18 +131,18 @@ congest_inside subnets names systems words =
     behind_result (router_word names systems w.0) _ Formed (λ system _.
     behind_result (on_word w.1) _ Formed (λ on _. tt)))
 
-pub event_injected : Laws → (subnets names : List (List ℕ)) (systems : List SystemConfiguration) (words : List (List ℕ)) → AllByRecursion Stands words
-    → IfOk (event_line subnets names systems words) (InjectsInForm (length subnets))
+pub event_injected : Laws → (scene : Scene) (words : List (List ℕ)) → AllByRecursion Stands words
+    → IfOk (event_line scene words) (InjectsInForm (length scene.subnets))
 unfolding event_line
-event_injected laws subnets names systems [] h = tt
-event_injected laws subnets names systems (keyword ∷ words) h =
-    let Formed = InjectsInForm (length subnets) in
-    either_way (bytes_eq keyword (codes "send")) _ _ Formed (send_inside subnets names systems words)
-    (either_way (bytes_eq keyword (codes "deliver")) _ _ Formed (deliver_inside subnets names words)
+event_injected laws scene [] h = tt
+event_injected laws scene (keyword ∷ words) h =
+    let Formed = InjectsInForm (length scene.subnets) in
+    either_way (bytes_eq keyword (codes "send")) _ _ Formed (send_inside scene.subnets scene.names scene.systems words)
+    (either_way (bytes_eq keyword (codes "deliver")) _ _ Formed (deliver_inside scene.subnets scene.names words)
     (either_way (bytes_eq keyword (codes "settle")) _ _ Formed (behind_result (count_line words) (λ count. Ok (Settle count)) Formed (λ count _. tt))
     (either_way (bytes_eq keyword (codes "lose")) _ _ Formed (behind_result (count_line words) (λ count. Ok (Lose count)) Formed (λ count _. tt))
     (either_way (bytes_eq keyword (codes "tick")) _ _ Formed (behind_result (tick_line words) (λ count. Ok (Tick count)) Formed (λ count _. tt))
-    (either_way (bytes_eq keyword (codes "restart")) _ _ Formed (restart_inside subnets names words)
-    (either_way (bytes_eq keyword (codes "echo")) _ _ Formed (echo_inside subnets names words)
-    (either_way (bytes_eq keyword (codes "congest")) _ _ Formed (congest_inside subnets names systems words)
-    (either_way (bytes_eq keyword (codes "inject")) _ _ Formed (inject_formed laws subnets words h.1) tt))))))))
+    (either_way (bytes_eq keyword (codes "restart")) _ _ Formed (restart_inside scene.subnets scene.names words)
+    (either_way (bytes_eq keyword (codes "echo")) _ _ Formed (echo_inside scene.subnets scene.names words)
+    (either_way (bytes_eq keyword (codes "congest")) _ _ Formed (congest_inside scene.subnets scene.names scene.systems words)
+    (either_way (bytes_eq keyword (codes "inject")) _ _ Formed (inject_formed laws scene.subnets words h.1) tt))))))))

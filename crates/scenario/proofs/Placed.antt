@@ -4,7 +4,7 @@ use Rattle.std.specs.Str.{bytes_eq}
 use Rattle.clnp_plan.specs.Configuration.{SystemConfiguration}
 use Rattle.scenario.specs.Scenario.{IsPlaced}
 use Rattle.scenario.specs.Words.{declared_word, address_word, data_word, number_word, one_word, two_words, four_words, first_four, each_once}
-use Rattle.scenario.specs.Events.{wish_words, wish_key, is_host_at, host_word, is_router_at, router_word, on_word, send_line, deliver_line, count_line, tick_line, restart_line, echo_line, congest_line, event_line}
+use Rattle.scenario.specs.Events.{wish_words, wish_key, is_host_at, host_word, is_router_at, router_word, on_word, send_line, deliver_line, count_line, tick_line, restart_line, echo_line, congest_line, Scene, event_line}
 use Rattle.scenario.specs.declared.code.Code.TheVariants as bad
 use Rattle.scenario.specs.declared.event.Event.{Event}
 use Rattle.scenario.specs.declared.event.Event.TheVariants.{Settle, Lose, Tick}
@@ -64,16 +64,16 @@ congest_placed names systems words =
     behind_such (router_word names systems w.0) _ (λ place. place < length names) (AreAmong names) (router_is_within names systems w.0) (λ system within.
     behind_result (on_word w.1) _ (AreAmong names) (λ on _. within)))
 
-pub event_placed : (subnets names : List (List ℕ)) (systems : List SystemConfiguration) (words : List (List ℕ)) → IfOk (event_line subnets names systems words) (AreAmong names)
+pub event_placed : (scene : Scene) (words : List (List ℕ)) → IfOk (event_line scene words) (AreAmong scene.names)
 unfolding event_line
-event_placed subnets names systems [] = tt
-event_placed subnets names systems (keyword ∷ words) =
-    either_way (bytes_eq keyword (codes "send")) _ _ (AreAmong names) (send_placed names systems words)
-    (either_way (bytes_eq keyword (codes "deliver")) _ _ (AreAmong names) (deliver_placed names words)
-    (either_way (bytes_eq keyword (codes "settle")) _ _ (AreAmong names) (behind_result (count_line words) (λ count. Ok (Settle count)) (AreAmong names) (λ count _. tt))
-    (either_way (bytes_eq keyword (codes "lose")) _ _ (AreAmong names) (behind_result (count_line words) (λ count. Ok (Lose count)) (AreAmong names) (λ count _. tt))
-    (either_way (bytes_eq keyword (codes "tick")) _ _ (AreAmong names) (behind_result (tick_line words) (λ count. Ok (Tick count)) (AreAmong names) (λ count _. tt))
-    (either_way (bytes_eq keyword (codes "restart")) _ _ (AreAmong names) (restart_placed names words)
-    (either_way (bytes_eq keyword (codes "echo")) _ _ (AreAmong names) (echo_placed names words)
-    (either_way (bytes_eq keyword (codes "congest")) _ _ (AreAmong names) (congest_placed names systems words)
-    (either_way (bytes_eq keyword (codes "inject")) _ _ (AreAmong names) (inject_such subnets words (AreAmong names) (λ subnet from to octets. tt)) tt))))))))
+event_placed scene [] = tt
+event_placed scene (keyword ∷ words) =
+    either_way (bytes_eq keyword (codes "send")) _ _ (AreAmong scene.names) (send_placed scene.names scene.systems words)
+    (either_way (bytes_eq keyword (codes "deliver")) _ _ (AreAmong scene.names) (deliver_placed scene.names words)
+    (either_way (bytes_eq keyword (codes "settle")) _ _ (AreAmong scene.names) (behind_result (count_line words) (λ count. Ok (Settle count)) (AreAmong scene.names) (λ count _. tt))
+    (either_way (bytes_eq keyword (codes "lose")) _ _ (AreAmong scene.names) (behind_result (count_line words) (λ count. Ok (Lose count)) (AreAmong scene.names) (λ count _. tt))
+    (either_way (bytes_eq keyword (codes "tick")) _ _ (AreAmong scene.names) (behind_result (tick_line words) (λ count. Ok (Tick count)) (AreAmong scene.names) (λ count _. tt))
+    (either_way (bytes_eq keyword (codes "restart")) _ _ (AreAmong scene.names) (restart_placed scene.names words)
+    (either_way (bytes_eq keyword (codes "echo")) _ _ (AreAmong scene.names) (echo_placed scene.names words)
+    (either_way (bytes_eq keyword (codes "congest")) _ _ (AreAmong scene.names) (congest_placed scene.names scene.systems words)
+    (either_way (bytes_eq keyword (codes "inject")) _ _ (AreAmong scene.names) (inject_such scene.subnets words (AreAmong scene.names) (λ subnet from to octets. tt)) tt))))))))

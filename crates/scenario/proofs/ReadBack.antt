@@ -1,12 +1,13 @@
 -- What is written of a scenario is read as that scenario.
-use Rattle.std.proofs.Common.{◌≡◌, ℕ, List, [], ◌∷◌, ◌++◌, length, codes, Ok, refl, sym, ap, ◌∙◌, append_assoc, arith}
+use Rattle.std.proofs.Common.{◌≡◌, ℕ, zero, suc, List, [], ◌∷◌, ◌++◌, length, codes, Ok, refl, sym, ap, ◌∙◌, append_assoc, arith}
+use Rattle.std.specs.Fmt.{digits}
 use Rattle.std.specs.List.{AllByRecursion, flat_map}
 use Rattle.std.proofs.lemmas.Result.{IfOk-at_ok}
 use Rattle.clnp_plan.specs.ClnpBase.Text.{lines_of}
-use Rattle.clnp_plan.specs.Configuration.{SystemConfiguration}
-use Rattle.scenario.specs.Canonical.{declarations_text, event_text, text_of}
+use Rattle.clnp_plan.specs.Configuration.{IsWithin, SystemConfiguration}
+use Rattle.scenario.specs.Canonical.{header_text, declarations_text, event_text, text_of}
 use Rattle.scenario.specs.Events.{nothing_counted}
-use Rattle.scenario.specs.Grammar.{header_from, plan_of}
+use Rattle.scenario.specs.Grammar.{newest_version, header_from, plan_of}
 use Rattle.scenario.specs.Scenario.{Plan, Subnetwork, IsFit, AsksInForm, InjectsInForm, IsPlaced, IsFromHost, IsOfRouter, IsSaid}
 use Rattle.scenario.specs.declared.event.Event.{Event}
 use Rattle.scenario.proofs.Accepted.{plan_is}
@@ -16,8 +17,13 @@ use Rattle.scenario.proofs.WrittenDeclarations.{declarations_read}
 use Rattle.scenario.proofs.WrittenEvents.{AreNamed, name_of_subnet, name_of_system, IsTold}
 use Rattle.scenario.proofs.WrittenText.{AreFewMore, events_read}
 
-header_read : (more : List ℕ) → header_from 1 (lines_of (codes "clnp-sim 1\n" ++ more)) ≡ Ok (record { value = tt; number = 2; lines = lines_of more })
-header_read more = refl
+header_read : (version : ℕ) (more : List ℕ) → IsWithin 1 2 version
+    → header_from newest_version 1 (lines_of (header_text version ++ more)) ≡ Ok (record { value = version; number = 2; lines = lines_of more })
+unfolding digits
+header_read zero more within = absurd (omega (arith, within.least))
+header_read (suc zero) more within = refl
+header_read (suc (suc zero)) more within = refl
+header_read (suc (suc (suc version))) more within = absurd (omega (arith, within.most))
 
 told : (subnets : List Subnetwork) (systems : List SystemConfiguration) (events : List Event)
     → AllByRecursion AsksInForm events → AllByRecursion (IsPlaced (length systems)) events
@@ -41,9 +47,9 @@ what_is_written law plan fit =
     let subnets : AreNamed name_of_subnet plan.subnets = record { distinct = fit.subnet_names; names = fit.named_subnets } in
     let systems : AreNamed name_of_system plan.systems = record { distinct = fit.system_names; names = fit.named_systems } in
     let few : AreFewMore nothing_counted plan.events = record { many = omega (arith, fit.few_events); passed = omega (arith, fit.passed); ticks = omega (arith, fit.ticks) } in
-    ap (λ (text : List ℕ). plan_of text) (regrouped (codes "clnp-sim 1\n") (declarations_text plan) (codes "events\n") lines (codes "end\n"))
-    ∙ plan_is (codes "clnp-sim 1\n" ++ behind) 2 declared.0 (lines_of behind) (lines_of rest) (declared_of plan) plan.limits plan.subnets plan.systems plan.events
-    (header_read behind) declared.1 refl refl (sym (configurations_again plan.systems))
+    ap (λ (text : List ℕ). plan_of text) (regrouped (header_text plan.version) (declarations_text plan) (codes "events\n") lines (codes "end\n"))
+    ∙ plan_is newest_version (header_text plan.version ++ behind) plan.version 2 declared.0 (lines_of behind) (lines_of rest) (declared_of plan) plan.limits plan.subnets plan.systems plan.events
+    (header_read plan.version behind fit.version) declared.1 refl refl (sym (configurations_again plan.systems))
     (events_read law plan.subnets plan.systems subnets systems declared.0 nothing_counted plan.events
     (told plan.subnets plan.systems plan.events fit.formed fit.places fit.senders fit.congested fit.injected fit.said) few)
 

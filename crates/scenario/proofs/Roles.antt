@@ -11,7 +11,7 @@ use Rattle.clnp_plan.specs.declared.config.Role.TheVariants.{Host, Router}
 use Rattle.scenario.specs.Scenario.{IsFromHost, IsOfRouter}
 use Rattle.scenario.specs.Words.{declared_word, address_word, data_word, number_word, one_word, two_words, four_words, first_four, each_once, is_skipped}
 use Rattle.scenario.specs.Declarations.{is_router}
-use Rattle.scenario.specs.Events.{wish_words, wish_key, is_host, is_host_at, host_word, is_router_at, router_word, on_word, send_line, deliver_line, count_line, tick_line, restart_line, echo_line, congest_line, event_line, counted, are_few}
+use Rattle.scenario.specs.Events.{wish_words, wish_key, is_host, is_host_at, host_word, is_router_at, router_word, on_word, send_line, deliver_line, count_line, tick_line, restart_line, echo_line, congest_line, Scene, event_line, counted, are_few}
 use Rattle.scenario.specs.Grammar.{is_line_of, nothing_after, counted_event, events_from}
 use Rattle.scenario.specs.declared.code.Code.TheVariants as bad
 use Rattle.scenario.specs.declared.counts.Counts.{Counts}
@@ -95,36 +95,36 @@ congest_in_role names systems words =
     behind_such (router_word names systems w.0) _ (IsRouterOf systems) (HasItsRole systems) (router_is_router names systems w.0) (λ system is.
     behind_result (on_word w.1) _ (HasItsRole systems) (λ on _. (tt, is))))
 
-event_in_role : (subnets names : List (List ℕ)) (systems : List SystemConfiguration) (words : List (List ℕ)) → IfOk (event_line subnets names systems words) (HasItsRole systems)
+event_in_role : (scene : Scene) (words : List (List ℕ)) → IfOk (event_line scene words) (HasItsRole scene.systems)
 unfolding event_line
-event_in_role subnets names systems [] = tt
-event_in_role subnets names systems (keyword ∷ words) =
-    either_way (bytes_eq keyword (codes "send")) _ _ (HasItsRole systems) (send_in_role names systems words)
-    (either_way (bytes_eq keyword (codes "deliver")) _ _ (HasItsRole systems) (deliver_in_role names systems words)
-    (either_way (bytes_eq keyword (codes "settle")) _ _ (HasItsRole systems) (behind_result (count_line words) (λ count. Ok (Settle count)) (HasItsRole systems) (λ count _. (tt, tt)))
-    (either_way (bytes_eq keyword (codes "lose")) _ _ (HasItsRole systems) (behind_result (count_line words) (λ count. Ok (Lose count)) (HasItsRole systems) (λ count _. (tt, tt)))
-    (either_way (bytes_eq keyword (codes "tick")) _ _ (HasItsRole systems) (behind_result (tick_line words) (λ count. Ok (Tick count)) (HasItsRole systems) (λ count _. (tt, tt)))
-    (either_way (bytes_eq keyword (codes "restart")) _ _ (HasItsRole systems) (restart_in_role names systems words)
-    (either_way (bytes_eq keyword (codes "echo")) _ _ (HasItsRole systems) (echo_in_role names systems words)
-    (either_way (bytes_eq keyword (codes "congest")) _ _ (HasItsRole systems) (congest_in_role names systems words)
-    (either_way (bytes_eq keyword (codes "inject")) _ _ (HasItsRole systems) (inject_such subnets words (HasItsRole systems) (λ subnet from to octets. (tt, tt))) tt))))))))
+event_in_role scene [] = tt
+event_in_role scene (keyword ∷ words) =
+    either_way (bytes_eq keyword (codes "send")) _ _ (HasItsRole scene.systems) (send_in_role scene.names scene.systems words)
+    (either_way (bytes_eq keyword (codes "deliver")) _ _ (HasItsRole scene.systems) (deliver_in_role scene.names scene.systems words)
+    (either_way (bytes_eq keyword (codes "settle")) _ _ (HasItsRole scene.systems) (behind_result (count_line words) (λ count. Ok (Settle count)) (HasItsRole scene.systems) (λ count _. (tt, tt)))
+    (either_way (bytes_eq keyword (codes "lose")) _ _ (HasItsRole scene.systems) (behind_result (count_line words) (λ count. Ok (Lose count)) (HasItsRole scene.systems) (λ count _. (tt, tt)))
+    (either_way (bytes_eq keyword (codes "tick")) _ _ (HasItsRole scene.systems) (behind_result (tick_line words) (λ count. Ok (Tick count)) (HasItsRole scene.systems) (λ count _. (tt, tt)))
+    (either_way (bytes_eq keyword (codes "restart")) _ _ (HasItsRole scene.systems) (restart_in_role scene.names scene.systems words)
+    (either_way (bytes_eq keyword (codes "echo")) _ _ (HasItsRole scene.systems) (echo_in_role scene.names scene.systems words)
+    (either_way (bytes_eq keyword (codes "congest")) _ _ (HasItsRole scene.systems) (congest_in_role scene.names scene.systems words)
+    (either_way (bytes_eq keyword (codes "inject")) _ _ (HasItsRole scene.systems) (inject_such scene.subnets words (HasItsRole scene.systems) (λ subnet from to octets. (tt, tt))) tt))))))))
 
-counted_in_role : (subnets names : List (List ℕ)) (systems : List SystemConfiguration) (counts : Counts) (words : List (List ℕ))
-    → IfOk (counted_event subnets names systems counts words) (HasItsRole systems)
+counted_in_role : (scene : Scene) (counts : Counts) (words : List (List ℕ))
+    → IfOk (counted_event scene counts words) (HasItsRole scene.systems)
 unfolding counted_event
-counted_in_role subnets names systems counts words =
-    behind_such (event_line subnets names systems words) _ (HasItsRole systems) (HasItsRole systems) (event_in_role subnets names systems words) (λ event is.
-    behind_wanted (are_few (counted counts event)) _ _ (HasItsRole systems) (λ _. is))
+counted_in_role scene counts words =
+    behind_such (event_line scene words) _ (HasItsRole scene.systems) (HasItsRole scene.systems) (event_in_role scene words) (λ event is.
+    behind_wanted (are_few (counted counts event)) _ _ (HasItsRole scene.systems) (λ _. is))
 
-pub events_in_roles : (subnets names : List (List ℕ)) (systems : List SystemConfiguration) (n : ℕ) (counts : Counts) (lines : List (List ℕ))
-    → IfOk (events_from subnets names systems n counts lines) (AllByRecursion (HasItsRole systems))
+pub events_in_roles : (scene : Scene) (n : ℕ) (counts : Counts) (lines : List (List ℕ))
+    → IfOk (events_from scene n counts lines) (AllByRecursion (HasItsRole scene.systems))
 unfolding events_from
-events_in_roles subnets names systems n counts [] = tt
-events_in_roles subnets names systems n counts (line ∷ lines) =
-    either_way (is_skipped line) _ _ (AllByRecursion (HasItsRole systems)) (events_in_roles subnets names systems (n + 1) counts lines)
-    (either_way (is_line_of (codes "end") (words_of line)) _ _ (AllByRecursion (HasItsRole systems))
-    (behind_result (nothing_after (n + 1) lines) _ (AllByRecursion (HasItsRole systems)) (λ _ _. tt))
-    (behind_line_such n (counted_event subnets names systems counts (words_of line)) _ (HasItsRole systems) (AllByRecursion (HasItsRole systems))
-    (counted_in_role subnets names systems counts (words_of line)) (λ event first.
-    behind_such (events_from subnets names systems (n + 1) (counted counts event) lines) _ (AllByRecursion (HasItsRole systems)) (AllByRecursion (HasItsRole systems))
-    (events_in_roles subnets names systems (n + 1) (counted counts event) lines) (λ others rest. (first, rest)))))
+events_in_roles scene n counts [] = tt
+events_in_roles scene n counts (line ∷ lines) =
+    either_way (is_skipped line) _ _ (AllByRecursion (HasItsRole scene.systems)) (events_in_roles scene (n + 1) counts lines)
+    (either_way (is_line_of (codes "end") (words_of line)) _ _ (AllByRecursion (HasItsRole scene.systems))
+    (behind_result (nothing_after (n + 1) lines) _ (AllByRecursion (HasItsRole scene.systems)) (λ _ _. tt))
+    (behind_line_such n (counted_event scene counts (words_of line)) _ (HasItsRole scene.systems) (AllByRecursion (HasItsRole scene.systems))
+    (counted_in_role scene counts (words_of line)) (λ event first.
+    behind_such (events_from scene (n + 1) (counted counts event) lines) _ (AllByRecursion (HasItsRole scene.systems)) (AllByRecursion (HasItsRole scene.systems))
+    (events_in_roles scene (n + 1) (counted counts event) lines) (λ others rest. (first, rest)))))

@@ -10,7 +10,7 @@ use Rattle.clnp_plan.specs.ClnpOptions.Rules.{refusal, form_refusal, list_refusa
 use Rattle.clnp_plan.specs.Configuration.{IsSystem, IsWithin, SystemConfiguration}
 use Rattle.scenario.specs.Scenario.{IsSaid, IsSaidBody, AreSaidOptions}
 use Rattle.scenario.specs.Words.{literal, has_prefix, after_prefix, pattern_word, two_fields, declared_word, address_word, data_word, number_word, life_word, octets_behind, options_read, options_word, one_word, two_words, four_words, first_four, each_once}
-use Rattle.scenario.specs.Events.{wish_word, wish_words, wish_key, life_in, own_life, options_in, host_word, send_line, deliver_line, count_line, tick_line, restart_line, echo_line, router_word, on_word, congest_line, event_line}
+use Rattle.scenario.specs.Events.{wish_word, wish_words, wish_key, life_in, own_life, options_in, host_word, send_line, deliver_line, count_line, tick_line, restart_line, echo_line, router_word, on_word, congest_line, Scene, event_line}
 use Rattle.scenario.specs.declared.code.Code.TheVariants as bad
 use Rattle.scenario.specs.declared.event.Body.TheVariants.{Hex}
 use Rattle.scenario.specs.declared.event.Event.TheVariants.{Settle, Lose, Tick}
@@ -144,17 +144,17 @@ tick_said : (words : List (List ℕ)) → IfOk (tick_line words) (IsWithin 1 655
 unfolding tick_line
 tick_said words = behind_found (one_word words) _ _ (IsWithin 1 65535) (λ word _. number_is_within 1 65535 word)
 
-pub event_said : (subnets names : List (List ℕ)) (systems : List SystemConfiguration) (words : List (List ℕ)) → AllByRecursion IsSystem systems
-    → IfOk (event_line subnets names systems words) IsSaid
+pub event_said : (scene : Scene) (words : List (List ℕ)) → AllByRecursion IsSystem scene.systems
+    → IfOk (event_line scene words) IsSaid
 unfolding event_line
-event_said subnets names systems [] are = tt
-event_said subnets names systems (keyword ∷ words) are =
-    either_way (bytes_eq keyword (codes "send")) _ _ IsSaid (send_said names systems words are)
-    (either_way (bytes_eq keyword (codes "deliver")) _ _ IsSaid (deliver_said names words)
+event_said scene [] are = tt
+event_said scene (keyword ∷ words) are =
+    either_way (bytes_eq keyword (codes "send")) _ _ IsSaid (send_said scene.names scene.systems words are)
+    (either_way (bytes_eq keyword (codes "deliver")) _ _ IsSaid (deliver_said scene.names words)
     (either_way (bytes_eq keyword (codes "settle")) _ _ IsSaid (behind_such (count_line words) (λ count. Ok (Settle count)) (IsWithin 1 100000) IsSaid (count_said words) (λ count within. within))
     (either_way (bytes_eq keyword (codes "lose")) _ _ IsSaid (behind_such (count_line words) (λ count. Ok (Lose count)) (IsWithin 1 100000) IsSaid (count_said words) (λ count within. within))
     (either_way (bytes_eq keyword (codes "tick")) _ _ IsSaid (behind_such (tick_line words) (λ count. Ok (Tick count)) (IsWithin 1 65535) IsSaid (tick_said words) (λ count within. within))
-    (either_way (bytes_eq keyword (codes "restart")) _ _ IsSaid (restart_said names words)
-    (either_way (bytes_eq keyword (codes "echo")) _ _ IsSaid (echo_said names words)
-    (either_way (bytes_eq keyword (codes "congest")) _ _ IsSaid (congest_said names systems words)
-    (either_way (bytes_eq keyword (codes "inject")) _ _ IsSaid (inject_such subnets words IsSaid (λ subnet from to octets. tt)) tt))))))))
+    (either_way (bytes_eq keyword (codes "restart")) _ _ IsSaid (restart_said scene.names words)
+    (either_way (bytes_eq keyword (codes "echo")) _ _ IsSaid (echo_said scene.names words)
+    (either_way (bytes_eq keyword (codes "congest")) _ _ IsSaid (congest_said scene.names scene.systems words)
+    (either_way (bytes_eq keyword (codes "inject")) _ _ IsSaid (inject_such scene.subnets words IsSaid (λ subnet from to octets. tt)) tt))))))))

@@ -232,7 +232,9 @@ pub storm_fit : (seed : ℕ) → IsFit (two_networks []) → IsFit (storm seed)
 storm_fit seed fit =
     let good : AreGood 605 210540 (storm_events seed) = storm_good seed in
     record {
+      version = fit.version;
       limits = fit.limits;
+      together = fit.together;
       systems = fit.systems;
       subnet_names = fit.subnet_names;
       system_names = fit.system_names;
@@ -265,7 +267,7 @@ storm_closed seed = AllByRecursion-implies IsGood InjectsNothing (λ event is. i
 
 -- the parts of two networks and the events of a storm
 pub parts_fit : (seed : ℕ) (networks : Plan) (events : List Event) → networks ≡ two_networks [] → events ≡ storm_events seed → IsFit networks
-    → IsFit (record { limits = networks.limits; subnets = networks.subnets; systems = networks.systems; events = events })
+    → IsFit (record { version = networks.version; limits = networks.limits; subnets = networks.subnets; systems = networks.systems; events = events })
 parts_fit seed networks events networks_are events_are fit =
     rw (networks_are, events_are) (storm_fit seed (subst IsFit networks_are fit))
 

@@ -41,7 +41,7 @@ bare system = record system { addresses = []; ports = []; routes = [] }
 
 -- what is declared behind the lines of the limits and the subnetworks, where the systems are as they are so far
 abbrev pub declared_with : Plan → List SystemConfiguration → Declarations
-declared_with plan systems = record { limits = Some plan.limits; subnets = plan.subnets; systems = map declared_system systems }
+declared_with plan systems = record { version = plan.version; limits = Some plan.limits; subnets = plan.subnets; systems = map declared_system systems }
 
 -- what is declared behind all lines
 abbrev pub declared_of : Plan → Declarations

@@ -7,6 +7,7 @@ use Rattle.std.proofs.lemmas.List.{append-nil, length-map, map-append}
 use Rattle.std.proofs.lemmas.List.Elements.{filter-append, recursion_from_All}
 use Rattle.std.proofs.lemmas.Option.{slice_get_within}
 use Rattle.clnp_plan.specs.ClnpBase.Text.{lines_of, decimal_of, is_digit}
+use Rattle.clnp_plan.proofs.ClnpBase.Choices.{one_of}
 use Rattle.clnp_plan.proofs.ClnpBase.Maps.{map-map}
 use Rattle.clnp_plan.specs.Nsap.Address.{IsAddress}
 use Rattle.clnp_plan.specs.Nsap.Prefix.{IsPrefix, prefix_text}
@@ -14,14 +15,14 @@ use Rattle.clnp_plan.specs.Nsap.Text.{hex_text}
 use Rattle.clnp_plan.specs.Forwarding.Distinct as prefixes
 use Rattle.clnp_plan.specs.Forwarding.declared.route.Route.{Route}
 use Rattle.clnp_plan.proofs.ClnpBase.SameOctets.{other-back}
-use Rattle.clnp_plan.specs.Configuration.{AreLimits, HasItsAddresses, HasItsPorts, HasItsRoutes, IsAddressed, IsAddressedRoute, IsPort, IsSystem, IsWithin, SystemConfiguration}
+use Rattle.clnp_plan.specs.Configuration.{HasItsAddresses, HasItsPorts, HasItsRoutes, IsAddressed, IsAddressedRoute, IsPort, IsSystem, IsWithin, SystemConfiguration}
 use Rattle.clnp_plan.specs.declared.config.PortConfig.{PortConfig}
 use Rattle.clnp_plan.specs.declared.config.Role.{Role}
 use Rattle.clnp_plan.specs.declared.config.Role.TheVariants.{Host, Router}
 use Rattle.scenario.specs.Scenario.{AreOnDifferent, IsFit, IsOn, Plan, Subnetwork, snpas_of}
-use Rattle.scenario.specs.Canonical.{address_text, belongings_text, declarations_text, limits_text, port_text, port_texts, role_text, route_text, setting_texts, subnet_name, subnet_text, system_text}
+use Rattle.scenario.specs.Canonical.{address_text, belongings_text, declarations_text, limits_text, port_text, port_texts, role_text, route_text, setting_texts, skew_words, subnet_name, subnet_text, system_text}
 use Rattle.scenario.specs.Words.{is_name, declared_word, number_within, is_digits}
-use Rattle.scenario.specs.Declarations.{Declarations, DeclaredSystem, NumberedPort, nothing_declared, system_names, changed_at, with_address, with_port, with_route, most_addresses, most_ports, snpas_on, mtu_at, role_word, is_router, is_complete}
+use Rattle.scenario.specs.Declarations.{Declarations, DeclaredSystem, NumberedPort, nothing_declared, system_names, changed_at, with_address, with_port, with_route, most_addresses, most_ports, snpas_on, mtu_at, role_word, is_router, is_complete, has_limits}
 use Rattle.scenario.specs.Grammar.{declarations_from}
 use Rattle.scenario.specs.declared.code.Code.{Code}
 use Rattle.scenario.proofs.DeclaredLines.{GoesOn, stays, goes_through, line_goes, lines_go, limits_given, subnet_given, system_given, address_given, port_given, route_given}
@@ -99,10 +100,13 @@ no_such_route (first ∷ front) behind route distinct = (
   no_such_route front behind route distinct.1,
 )
 
+skew_is_word : (version skew : ℕ) → AllByRecursion IsWord (skew_words version skew)
+skew_is_word version skew = one_of (AllByRecursion IsWord) (version == 1) [] (decimal skew ∷ []) tt (decimal_is_word skew, tt)
+
 -- the line `events`
-ends : (n : ℕ) (d : Declarations) (rest : List ℕ) → list_all is_complete d.systems ≡ true
+ends : (n : ℕ) (d : Declarations) (rest : List ℕ) → has_limits d ≡ true → list_all is_complete d.systems ≡ true
     → declarations_from n d (lines_of (codes "events\n" ++ rest)) ≡ Ok (record { value = d; number = n + 1; lines = lines_of rest })
-ends n d rest complete = rw complete refl
+ends n d rest said complete = rw (said, complete) refl
 
 -- ---- subnetworks
 
@@ -128,7 +132,7 @@ there_with (Some subnet) mtu h = (subnet, refl, let same : subnet.mtu ≡ mtu = 
 module _ (law : ReadsBack) (plan : Plan) (fit : IsFit plan) where
   -- what is declared behind the lines of some subnetworks
   abbrev with_subnets : List Subnetwork → Declarations
-  with_subnets subnets = record { limits = Some plan.limits; subnets = subnets; systems = [] }
+  with_subnets subnets = record { version = plan.version; limits = Some plan.limits; subnets = subnets; systems = [] }
 
   subnet_goes : (front behind : List Subnetwork) (subnet : Subnetwork) (rest : List ℕ) → plan.subnets ≡ front ++ subnet ∷ behind
       → GoesOn (with_subnets front) (subnet_text subnet ++ rest) (with_subnets (front ++ subnet ∷ [])) rest
@@ -396,27 +400,31 @@ module _ (law : ReadsBack) (plan : Plan) (fit : IsFit plan) where
       (append-nil plan.systems)
       (lines_go (λ front behind. declared_with plan (front ++ map bare behind)) (belongings_text plan.subnets) plan.systems system_has [] plan.systems rest refl)
 
-  limits_go : (rest : List ℕ) → GoesOn nothing_declared (limits_text plan.limits ++ rest) (with_subnets []) rest
+  -- what is declared where a text of the plan's version begins
+  abbrev nothing_yet : Declarations
+  nothing_yet = nothing_declared plan.version
+
+  limits_go : (rest : List ℕ) → GoesOn nothing_yet (limits_text plan.version plan.limits ++ rest) (with_subnets []) rest
   limits_go rest =
-      let are : AreLimits plan.limits = fit.limits in
-      line_goes nothing_declared (with_subnets []) (codes "limits") (decimal plan.limits.age) (decimal plan.limits.hold ∷ decimal plan.limits.reuse ∷ []) rest
+      line_goes nothing_yet (with_subnets []) (codes "limits") (decimal plan.limits.age)
+      (decimal plan.limits.hold ∷ decimal plan.limits.reuse ∷ skew_words plan.version plan.limits.skew) rest
       (spelled (codes "limits") refl) refl (
         decimal_is_word plan.limits.age,
-        (decimal_is_word plan.limits.hold, (decimal_is_word plan.limits.reuse, tt)),
+        (decimal_is_word plan.limits.hold, (decimal_is_word plan.limits.reuse, skew_is_word plan.version plan.limits.skew)),
       )
-      (limits_given plan.limits are)
+      (limits_given plan.version plan.limits fit.version fit.limits fit.together)
 
-  pub declarations_go : (rest : List ℕ) → GoesOn nothing_declared (declarations_text plan ++ rest) (declared_of plan) rest
+  pub declarations_go : (rest : List ℕ) → GoesOn nothing_yet (declarations_text plan ++ rest) (declared_of plan) rest
   declarations_go rest =
       let subnets : List ℕ = flat_map subnet_text plan.subnets in
       let systems : List ℕ = flat_map system_text plan.systems in
       let belongings : List ℕ = flat_map (belongings_text plan.subnets) plan.systems in
-      let parts : (((limits_text plan.limits ++ subnets) ++ systems) ++ belongings) ++ rest ≡ limits_text plan.limits ++ (subnets ++ (systems ++ (belongings ++ rest)))
-      = append_assoc ((limits_text plan.limits ++ subnets) ++ systems) belongings rest
-      ∙ append_assoc (limits_text plan.limits ++ subnets) systems (belongings ++ rest)
-      ∙ append_assoc (limits_text plan.limits) subnets (systems ++ (belongings ++ rest)) in
-      subst (λ text. GoesOn nothing_declared text (declared_of plan) rest) (sym parts)
-      (goes_through nothing_declared (with_subnets []) (declared_of plan) (limits_text plan.limits ++ (subnets ++ (systems ++ (belongings ++ rest)))) (subnets ++ (systems ++ (belongings ++ rest))) rest
+      let parts : (((limits_text plan.version plan.limits ++ subnets) ++ systems) ++ belongings) ++ rest ≡ limits_text plan.version plan.limits ++ (subnets ++ (systems ++ (belongings ++ rest)))
+      = append_assoc ((limits_text plan.version plan.limits ++ subnets) ++ systems) belongings rest
+      ∙ append_assoc (limits_text plan.version plan.limits ++ subnets) systems (belongings ++ rest)
+      ∙ append_assoc (limits_text plan.version plan.limits) subnets (systems ++ (belongings ++ rest)) in
+      subst (λ text. GoesOn nothing_yet text (declared_of plan) rest) (sym parts)
+      (goes_through nothing_yet (with_subnets []) (declared_of plan) (limits_text plan.version plan.limits ++ (subnets ++ (systems ++ (belongings ++ rest)))) (subnets ++ (systems ++ (belongings ++ rest))) rest
       (limits_go (subnets ++ (systems ++ (belongings ++ rest))))
       (goes_through (with_subnets []) (with_subnets plan.subnets) (declared_of plan) (subnets ++ (systems ++ (belongings ++ rest))) (systems ++ (belongings ++ rest)) rest
       (subnets_go (systems ++ (belongings ++ rest)))
@@ -437,8 +445,8 @@ module _ (law : ReadsBack) (plan : Plan) (fit : IsFit plan) where
 
   -- What is written of the declarations is read as what is declared, up to the line behind `events`.
   pub declarations_read : (n : ℕ) (rest : List ℕ)
-      → (m : ℕ) × (declarations_from n nothing_declared (lines_of (declarations_text plan ++ (codes "events\n" ++ rest)))
+      → (m : ℕ) × (declarations_from n (nothing_declared plan.version) (lines_of (declarations_text plan ++ (codes "events\n" ++ rest)))
       ≡ Ok (record { value = declared_of plan; number = m; lines = lines_of rest }))
   declarations_read n rest =
       let before = declarations_go (codes "events\n" ++ rest) n in
-      (before.0 + 1, before.1 ∙ ends before.0 (declared_of plan) rest (complete plan.systems fit.systems))
+      (before.0 + 1, before.1 ∙ ends before.0 (declared_of plan) rest refl (complete plan.systems fit.systems))

@@ -18,7 +18,7 @@ use Rattle.clnp_plan.specs.declared.config.Role.TheVariants.{Host, Router}
 use Rattle.scenario.specs.Canonical.{keyed, spelled_behind, body_text, subnet_name, system_name, word_if, options_words, ask_words, event_text}
 use Rattle.scenario.specs.Scenario.{Subnetwork, AsksInForm, InjectsInForm, IsPlaced, IsFromHost, IsOfRouter, IsSaid, IsSaidBody, IsSaidAsk, AreSaidOptions}
 use Rattle.scenario.specs.Words.{◌>>=◌, wanted, found, is_name, declared_word, number_word, address_word, after_prefix, is_colon, fields_at, two_fields, pattern_word, data_word, life_word, options_read, options_word, octets_behind, each_once, frame_word, target_word}
-use Rattle.scenario.specs.Events.{wish_word, wish_words, wish_key, own_life, ask_of, is_host_at, host_word, is_router_at, router_word, on_word, send_line, deliver_line, tick_line, restart_line, echo_line, congest_line, inject_line, count_line, event_line}
+use Rattle.scenario.specs.Events.{wish_word, wish_words, wish_key, own_life, ask_of, is_host_at, host_word, is_router_at, router_word, on_word, send_line, deliver_line, tick_line, restart_line, echo_line, congest_line, inject_line, count_line, scene_of, event_line}
 use Rattle.scenario.specs.declared.code.Code.{Code}
 use Rattle.scenario.specs.declared.code.Code.TheVariants as bad
 use Rattle.scenario.specs.declared.event.Body.{Body}
@@ -410,7 +410,7 @@ inject_of names name source target frame subnet from to octets is_subnet is_from
 -- the line of an event is read as the event
 pub event_read : ReadsBack → (subnets : List Subnetwork) (systems : List SystemConfiguration) → AreNamed name_of_subnet subnets → AreNamed name_of_system systems
     → (event : Event) → IsTold subnets systems event
-    → event_line (map name_of_subnet subnets) (map name_of_system systems) systems (keyword_of event ∷ others_of subnets systems event) ≡ Ok event
+    → event_line (scene_of subnets systems) (keyword_of event ∷ others_of subnets systems event) ≡ Ok event
 unfolding event_line
 event_read law subnets systems named_subnets named_systems (Send system from to body ask) told =
     send_of (map name_of_system systems) systems (system_name (slice_get systems system)) (hex_text from) (hex_text to) (body_text body) (ask_words ask)

@@ -6,7 +6,7 @@ use Rattle.std.proofs.lemmas.List.Sums.{sum_by-cons}
 use Rattle.clnp_plan.specs.ClnpBase.Text.{lines_of, words_of}
 use Rattle.clnp_plan.specs.Configuration.{SystemConfiguration}
 use Rattle.scenario.specs.Canonical.{event_text}
-use Rattle.scenario.specs.Events.{event_line, counted, are_few}
+use Rattle.scenario.specs.Events.{Scene, scene_of, event_line, counted, are_few}
 use Rattle.scenario.specs.Grammar.{at_line, is_line_of, counted_event, events_from}
 use Rattle.scenario.specs.Scenario.{Subnetwork, passed_by, ticks_of}
 use Rattle.scenario.specs.Words.{is_skipped}
@@ -39,30 +39,30 @@ few_with counts event events few =
       le-leb (counts.ticks + ticks_of event) 1000000 (omega (arith, more.ticks)),
     ) refl
 
-counted_of : (subnets names : List (List ℕ)) (systems : List SystemConfiguration) (counts : Counts) (words : List (List ℕ)) (event : Event)
-    → event_line subnets names systems words ≡ Ok event → are_few (counted counts event) ≡ true → counted_event subnets names systems counts words ≡ Ok event
+counted_of : (scene : Scene) (counts : Counts) (words : List (List ℕ)) (event : Event)
+    → event_line scene words ≡ Ok event → are_few (counted counts event) ≡ true → counted_event scene counts words ≡ Ok event
 unfolding counted_event
-counted_of subnets names systems counts words event is few =
-    step (event_line subnets names systems words) _ event (Ok event) is
+counted_of scene counts words event is few =
+    step (event_line scene words) _ event (Ok event) is
     (step_wanted (are_few (counted counts event)) bad.Count (λ _. Ok event) (Ok event) few refl)
 
 -- a line with an event, and the lines behind it
-events_with : (subnets names : List (List ℕ)) (systems : List SystemConfiguration) (n : ℕ) (counts : Counts) (line : List ℕ) (lines : List (List ℕ))
+events_with : (scene : Scene) (n : ℕ) (counts : Counts) (line : List ℕ) (lines : List (List ℕ))
     (event : Event) (others : List Event)
     → is_skipped line ≡ false → is_line_of (codes "end") (words_of line) ≡ false
-    → counted_event subnets names systems counts (words_of line) ≡ Ok event
-    → events_from subnets names systems (n + 1) (counted counts event) lines ≡ Ok others
-    → events_from subnets names systems n counts (line ∷ lines) ≡ Ok (event ∷ others)
+    → counted_event scene counts (words_of line) ≡ Ok event
+    → events_from scene (n + 1) (counted counts event) lines ≡ Ok others
+    → events_from scene n counts (line ∷ lines) ≡ Ok (event ∷ others)
 unfolding events_from
-events_with subnets names systems n counts line lines event others stands goes_on first rest =
+events_with scene n counts line lines event others stands goes_on first rest =
     rw (stands, goes_on)
-    (step (at_line n (counted_event subnets names systems counts (words_of line))) _ event (Ok (event ∷ others)) (ap (λ (r : Result Event Code). at_line n r) first)
-    (step (events_from subnets names systems (n + 1) (counted counts event) lines) _ others (Ok (event ∷ others)) rest refl))
+    (step (at_line n (counted_event scene counts (words_of line))) _ event (Ok (event ∷ others)) (ap (λ (r : Result Event Code). at_line n r) first)
+    (step (events_from scene (n + 1) (counted counts event) lines) _ others (Ok (event ∷ others)) rest refl))
 
-at_end : (subnets names : List (List ℕ)) (systems : List SystemConfiguration) (n : ℕ) (counts : Counts)
-    → events_from subnets names systems n counts (lines_of (codes "end\n")) ≡ Ok []
+at_end : (scene : Scene) (n : ℕ) (counts : Counts)
+    → events_from scene n counts (lines_of (codes "end\n")) ≡ Ok []
 unfolding events_from
-at_end subnets names systems n counts = refl
+at_end scene n counts = refl
 
 no_end : (subnets : List Subnetwork) (systems : List SystemConfiguration) (event : Event)
     → is_line_of (codes "end") (keyword_of event ∷ others_of subnets systems event) ≡ false
@@ -101,21 +101,21 @@ event_line_first subnets systems named_subnets named_systems event events more t
 
 pub events_read : ReadsBack → (subnets : List Subnetwork) (systems : List SystemConfiguration) → AreNamed name_of_subnet subnets → AreNamed name_of_system systems
     → (n : ℕ) (counts : Counts) (events : List Event) → AllByRecursion (IsTold subnets systems) events → AreFewMore counts events
-    → events_from (map name_of_subnet subnets) (map name_of_system systems) systems n counts (lines_of (flat_map (event_text subnets systems) events ++ codes "end\n")) ≡ Ok events
+    → events_from (scene_of subnets systems) n counts (lines_of (flat_map (event_text subnets systems) events ++ codes "end\n")) ≡ Ok events
 events_read law subnets systems named_subnets named_systems n counts [] told few =
-    at_end (map name_of_subnet subnets) (map name_of_system systems) systems n counts
+    at_end (scene_of subnets systems) n counts
 events_read law subnets systems named_subnets named_systems n counts (event ∷ events) told few =
-    let names : List (List ℕ) = map name_of_system systems in
+    let scene : Scene = scene_of subnets systems in
     let others : List (List ℕ) = others_of subnets systems event in
     let line : List ℕ = text_of_line (keyword_of event) others in
     let words : words_of line ≡ keyword_of event ∷ others =
     words_of-line (keyword_of event) others (keyword_is_word event) (others_are_words subnets systems named_subnets named_systems event told.0) in
-    ap (λ (lines : List (List ℕ)). events_from (map name_of_subnet subnets) names systems n counts lines)
+    ap (λ (lines : List (List ℕ)). events_from scene n counts lines)
     (event_line_first subnets systems named_subnets named_systems event events (codes "end\n") told.0)
-    ∙ events_with (map name_of_subnet subnets) names systems n counts line (lines_of (flat_map (event_text subnets systems) events ++ codes "end\n")) event events
+    ∙ events_with scene n counts line (lines_of (flat_map (event_text subnets systems) events ++ codes "end\n")) event events
     (line_not_skipped (keyword_of event) others (keyword_is_word event) (keyword_stands event))
     (ap (λ (found : List (List ℕ)). is_line_of (codes "end") found) words ∙ no_end subnets systems event)
-    (counted_of (map name_of_subnet subnets) names systems counts (words_of line) event
-    (ap (λ (found : List (List ℕ)). event_line (map name_of_subnet subnets) names systems found) words ∙ event_read law subnets systems named_subnets named_systems event told.0)
+    (counted_of scene counts (words_of line) event
+    (ap (λ (found : List (List ℕ)). event_line scene found) words ∙ event_read law subnets systems named_subnets named_systems event told.0)
     (few_with counts event events few))
     (events_read law subnets systems named_subnets named_systems (n + 1) (counted counts event) events told.1 (fewer counts event events few))

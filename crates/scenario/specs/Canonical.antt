@@ -1,5 +1,5 @@
 -- The text that a scenario is written as: each line with all its words, in one order.
-use Rattle.std.specs.Prelude.{ℕ, ◌+◌, not, Bool, true, false, List, [], ◌∷◌, ◌++◌, map, slice_get, codes, Option, None, Some}
+use Rattle.std.specs.Prelude.{ℕ, ◌+◌, ◌==◌, not, Bool, true, false, if◌then◌else◌, List, [], ◌∷◌, ◌++◌, map, slice_get, codes, Option, None, Some}
 use Rattle.std.specs.List.{flat_map}
 use Rattle.std.specs.Fmt.{decimal}
 use Rattle.clnp_plan.specs.Nsap.Prefix.{prefix_text}
@@ -51,8 +51,16 @@ system_name (Some system) = system.name
 
 -- ---- declarations
 
-abbrev pub limits_text : Limits → List ℕ
-limits_text limits = line_of (codes "limits") (decimal limits.age ∷ decimal limits.hold ∷ decimal limits.reuse ∷ [])
+abbrev pub header_text : (version : ℕ) → List ℕ
+header_text version = line_of (codes "clnp-sim") (decimal version ∷ [])
+
+-- in version 1 no word says how far apart clocks may stand
+abbrev pub skew_words : (version skew : ℕ) → List (List ℕ)
+skew_words version skew = if version == 1 then [] else decimal skew ∷ []
+
+abbrev pub limits_text : (version : ℕ) → Limits → List ℕ
+limits_text version limits =
+    line_of (codes "limits") (decimal limits.age ∷ decimal limits.hold ∷ decimal limits.reuse ∷ skew_words version limits.skew)
 
 abbrev pub subnet_text : Subnetwork → List ℕ
 subnet_text subnet = line_of (codes "subnet") (subnet.name ∷ decimal subnet.mtu ∷ [])
@@ -136,11 +144,11 @@ event_text subnets systems (Inject subnet from to octets) =
 
 abbrev pub declarations_text : Plan → List ℕ
 declarations_text plan =
-    limits_text plan.limits
+    limits_text plan.version plan.limits
     ++ flat_map subnet_text plan.subnets
     ++ flat_map system_text plan.systems
     ++ flat_map (belongings_text plan.subnets) plan.systems
 
 abbrev pub text_of : Plan → List ℕ
 text_of plan =
-    codes "clnp-sim 1\n" ++ declarations_text plan ++ codes "events\n" ++ flat_map (event_text plan.subnets plan.systems) plan.events ++ codes "end\n"
+    header_text plan.version ++ declarations_text plan ++ codes "events\n" ++ flat_map (event_text plan.subnets plan.systems) plan.events ++ codes "end\n"

@@ -1,5 +1,5 @@
 -- The declarations of a scenario text: limits, subnetworks, systems, their addresses, their ports and their routes.
-use Rattle.std.specs.Prelude.{ℕ, ◌+◌, ◌==◌, ◌&&◌, ◌||◌, not, nat_le, nat_lt, nat_eq, Bool, true, false, if◌then◌else◌, List, [], ◌∷◌, ◌++◌, map, filter, length, slice_get, zero, suc, codes, Option, None, Some, is_some, Result, Ok, Err}
+use Rattle.std.specs.Prelude.{ℕ, ◌+◌, ◌*◌, ◌==◌, ◌&&◌, ◌||◌, not, nat_le, nat_lt, nat_eq, Bool, true, false, if◌then◌else◌, List, [], ◌∷◌, ◌++◌, map, filter, length, slice_get, zero, suc, codes, Option, None, Some, is_some, option_map, Result, Ok, Err}
 use Rattle.std.specs.List.{list_any, list_all, flat_map, insert, count_by, range_with_len}
 use Rattle.std.specs.Str.{bytes_eq}
 use Rattle.std.specs.Cmp.Lexicographic.{pointwise}
@@ -13,7 +13,7 @@ use Rattle.clnp_plan.specs.declared.config.Role.TheVariants.{Host, Router}
 use Rattle.clnp_plan.specs.Forwarding.Distinct as prefixes
 use Rattle.clnp_plan.specs.Forwarding.declared.route.Route.{Route}
 use Rattle.scenario.specs.Scenario.{Subnetwork}
-use Rattle.scenario.specs.Words.{◌>>=◌, wanted, found, name_word, declared_word, number_within, number_word, number_behind, is_digits, address_word, prefix_word, life_word, has_prefix, two_words, three_words, five_words, first_two, first_four, is_one_at_most, is_taken, each_once}
+use Rattle.scenario.specs.Words.{◌>>=◌, wanted, found, name_word, declared_word, number_within, number_word, number_behind, is_digits, address_word, prefix_word, life_word, has_prefix, two_words, three_words, four_words, five_words, first_two, first_four, is_one_at_most, is_taken, each_once}
 use Rattle.scenario.specs.declared.code.Code.{Code}
 use Rattle.scenario.specs.declared.code.Code.TheVariants as bad
 use Rattle.scenario.specs.declared.setting.Setting.{Setting}
@@ -35,14 +35,15 @@ pub record DeclaredSystem : Type 0 where
   -- in the order of their lines
   pub routes : List Route
 
--- what the lines so far declare
+-- what the lines so far declare, in a text of a version
 pub record Declarations : Type 0 where
+  pub version : ℕ
   pub limits : Option Limits
   pub subnets : List Subnetwork
   pub systems : List DeclaredSystem
 
-abbrev pub nothing_declared : Declarations
-nothing_declared = record { limits = None; subnets = []; systems = [] }
+abbrev pub nothing_declared : (version : ℕ) → Declarations
+nothing_declared version = record { version = version; limits = None; subnets = []; systems = [] }
 
 abbrev pub subnet_names : Declarations → List (List ℕ)
 subnet_names d = map (λ subnet. subnet.name) d.subnets
@@ -60,20 +61,26 @@ changed_at change (suc place) (x ∷ xs) = x ∷ changed_at change place xs
 abbrev pub is_among : List ℕ → List (List ℕ) → Bool
 is_among address others = list_any (λ other. pointwise nat_eq other address) others
 
--- `L R Q`, behind `limits`: how long a copy may be given, a buffer is kept and an identifier rests
+-- `L R Q S`, behind `limits`; in version 1 `L R Q`, where S is 0
+abbrev pub limits_words : (version : ℕ) → List (List ℕ) → Option (List ℕ × List ℕ × List ℕ × List ℕ)
+limits_words version words =
+    if version == 1 then option_map (λ w. (w.0, w.1, w.2, codes "0")) (three_words words) else four_words words
+
+-- How long a copy may be given, a buffer is kept and an identifier rests, and how far apart clocks may stand: so far not at all.
 unfoldable pub limits_line : Declarations → List (List ℕ) → Result Declarations Code
 limits_line d words = do
-  w ← found (three_words words) bad.Syntax
+  w ← found (limits_words d.version words) bad.Syntax
   age ← number_word 1 4096 w.0
   hold ← number_word 1 255 w.1
   reuse ← number_word 1 16384 w.2
+  skew ← number_word 0 0 w.3
   _ ← wanted (not (is_some d.limits)) bad.DupName
-  _ ← wanted (nat_le (age + hold) reuse) bad.Limits
-  Ok (record d { limits = Some (record { age = age; hold = hold; reuse = reuse }) })
+  _ ← wanted (nat_le (age + hold + 2 * skew) reuse) bad.Limits
+  Ok (record d { limits = Some (record { age = age; hold = hold; reuse = reuse; skew = skew }) })
 
 -- the limits that are declared, or else the usual ones
 abbrev pub limits_of : Option Limits → Limits
-limits_of None = record { age = 256; hold = 60; reuse = 320 }
+limits_of None = record { age = 256; hold = 60; reuse = 320; skew = 0 }
 limits_of (Some limits) = limits
 
 -- `NAME MTU`, behind `subnet`: an MTU that is decimal and out of its range has a code of its own
@@ -340,6 +347,16 @@ have_no_gap ports = list_all (has_number ports) (range_with_len 0 (length ports)
 -- whether a system has all that it must: an address and a port at least, and its ports numbered from 0 without a gap
 abbrev pub is_complete : DeclaredSystem → Bool
 is_complete system = nat_le 1 (length system.addresses) && (nat_le 1 (length system.ports) && have_no_gap system.ports)
+
+-- whether the limits are there where they must be: version 1 has usual ones
+abbrev pub has_limits : Declarations → Bool
+has_limits d = is_some d.limits || (d.version == 1)
+
+-- at the line `events` all is there that must be: the limits, and what each system must have
+abbrev pub all_declared : Declarations → Result (Unit {0}) Code
+all_declared d = do
+  _ ← wanted (has_limits d) bad.Syntax
+  wanted (list_all is_complete d.systems) bad.Count
 
 -- a system as it is declared
 abbrev pub configuration_of : DeclaredSystem → SystemConfiguration

@@ -1,5 +1,5 @@
 -- The event lines of a scenario text.
-use Rattle.std.specs.Prelude.{ℕ, ◌+◌, ◌&&◌, not, nat_le, length, Bool, true, false, if◌then◌else◌, List, [], ◌∷◌, slice_get, codes, Option, None, Some, Result, Ok, Err}
+use Rattle.std.specs.Prelude.{ℕ, ◌+◌, ◌&&◌, not, nat_le, length, Bool, true, false, if◌then◌else◌, List, [], ◌∷◌, map, slice_get, codes, Option, None, Some, Result, Ok, Err}
 use Rattle.std.specs.List.{list_any}
 use Rattle.std.specs.Str.{bytes_eq}
 use Rattle.clnp_plan.specs.Configuration.{SystemConfiguration}
@@ -7,7 +7,7 @@ use Rattle.clnp_plan.specs.declared.ask.Ask.{Ask}
 use Rattle.clnp_plan.specs.declared.config.Role.{Role}
 use Rattle.clnp_plan.specs.declared.config.Role.TheVariants.{Host, Router}
 use Rattle.scenario.specs.Declarations.{is_router}
-use Rattle.scenario.specs.Scenario.{passed_by, ticks_of}
+use Rattle.scenario.specs.Scenario.{Subnetwork, passed_by, ticks_of}
 use Rattle.scenario.specs.Words.{◌>>=◌, wanted, found, literal, declared_word, number_word, address_word, data_word, life_word, options_word, target_word, frame_word, has_prefix, one_word, two_words, four_words, first_four, each_once}
 use Rattle.scenario.specs.declared.code.Code.{Code}
 use Rattle.scenario.specs.declared.code.Code.TheVariants as bad
@@ -16,6 +16,21 @@ use Rattle.scenario.specs.declared.event.Event.{Event}
 use Rattle.scenario.specs.declared.event.Event.TheVariants.{Send, Deliver, Settle, Lose, Tick, Restart, Echo, Congest, Inject}
 use Rattle.scenario.specs.declared.wish.Wish.{Wish}
 use Rattle.scenario.specs.declared.wish.Wish.TheVariants.{Lasting, NoReport, Whole, Options}
+
+-- What event lines are read over: the names of the subnetworks, and the systems with their names.
+pub record Scene : Type 0 where
+  pub subnets : List (List ℕ)
+  pub names : List (List ℕ)
+  pub systems : List SystemConfiguration
+
+-- as declarations leave it
+abbrev pub scene_of : List Subnetwork → List SystemConfiguration → Scene
+scene_of subnets systems =
+    record {
+      subnets = map (λ (subnet : Subnetwork). subnet.name) subnets;
+      names = map (λ (system : SystemConfiguration). system.name) systems;
+      systems = systems;
+    }
 
 -- a word behind the data of a `send`
 unfoldable pub wish_word : List ℕ → Result Wish Code
@@ -173,18 +188,19 @@ inject_line subnets words = do
 unfoldable pub count_line : List (List ℕ) → Result ℕ Code
 count_line words = found (one_word words) bad.Syntax >>= number_word 1 100000
 
-unfoldable pub event_line : (subnets names : List (List ℕ)) (systems : List SystemConfiguration) → List (List ℕ) → Result Event Code
-event_line subnets names systems [] = Err bad.Syntax
-event_line subnets names systems (keyword ∷ words) =
-    if bytes_eq keyword (codes "send") then send_line names systems words
-    else if bytes_eq keyword (codes "deliver") then deliver_line names words
+-- a line that says what happens
+unfoldable pub event_line : Scene → List (List ℕ) → Result Event Code
+event_line scene [] = Err bad.Syntax
+event_line scene (keyword ∷ words) =
+    if bytes_eq keyword (codes "send") then send_line scene.names scene.systems words
+    else if bytes_eq keyword (codes "deliver") then deliver_line scene.names words
     else if bytes_eq keyword (codes "settle") then (count_line words >>= λ count. Ok (Settle count))
     else if bytes_eq keyword (codes "lose") then (count_line words >>= λ count. Ok (Lose count))
     else if bytes_eq keyword (codes "tick") then (tick_line words >>= λ count. Ok (Tick count))
-    else if bytes_eq keyword (codes "restart") then restart_line names words
-    else if bytes_eq keyword (codes "echo") then echo_line names words
-    else if bytes_eq keyword (codes "congest") then congest_line names systems words
-    else if bytes_eq keyword (codes "inject") then inject_line subnets words
+    else if bytes_eq keyword (codes "restart") then restart_line scene.names words
+    else if bytes_eq keyword (codes "echo") then echo_line scene.names words
+    else if bytes_eq keyword (codes "congest") then congest_line scene.names scene.systems words
+    else if bytes_eq keyword (codes "inject") then inject_line scene.subnets words
     else Err bad.Syntax
 
 -- the counts with one more event

@@ -12,4 +12,5 @@ pub mod Events
 pub mod Words
 pub mod Seeds
 pub mod Canonical
+pub mod Migration
 pub mod Lines

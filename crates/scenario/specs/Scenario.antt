@@ -31,6 +31,8 @@ pub record Subnetwork : Type 0 where
 
 -- systems and subnetworks are named by their places, from 0
 pub record Plan : Type 0 where
+  -- that of the texts that say it
+  pub version : ℕ
   pub limits : Limits
   pub subnets : List Subnetwork
   pub systems : List SystemConfiguration
@@ -167,7 +169,10 @@ snpas_of subnet system = map (λ port. port.snpa) (filter (λ port. port.subnet 
 
 -- What each scenario is that the reader accepts.
 pub record IsFit (plan : Plan) : Type 0 where
+  pub version : IsWithin 1 2 plan.version
   pub limits : AreLimits plan.limits
+  -- all clocks tick together
+  pub together : plan.limits.skew ≡ 0
   pub systems : AllByRecursion IsSystem plan.systems
   pub named_subnets : AllByRecursion (λ (subnet : Subnetwork). is_name subnet.name ≡ true) plan.subnets
   pub named_systems : AllByRecursion (λ (system : SystemConfiguration). is_name system.name ≡ true) plan.systems

@@ -47,7 +47,8 @@ router name address ports route =
 -- Hosts a and b are on the first local network, hosts c and d on the second, and each router has a route to the other's.
 abbrev pub two_networks : List Event → Plan
 two_networks events = record {
-  limits = record { age = 40; hold = 20; reuse = 60 };
+  version = 1;
+  limits = record { age = 40; hold = 20; reuse = 60; skew = 0 };
   subnets = record { name = codes "lan1"; mtu = 1500 } ∷ record { name = codes "mid"; mtu = 512 } ∷ record { name = codes "lan2"; mtu = 1024 } ∷ [];
   systems =
       host (codes "a") (address_in 1 1) (on_first 1)

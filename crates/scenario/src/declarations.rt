@@ -1,10 +1,10 @@
 //! What the lines of a text declare.
-ghost use Rattle.std.specs.Prelude.{◌≡◌, ◌<◌, ◌≤◌, ◌==◌, ◌&&◌, ◌++◌, ◌∷◌, [], map, length, slice_get, nat_eq, Some, IfSome, IfOk, Ok, Err, MatchResult};
+ghost use Rattle.std.specs.Prelude.{◌≡◌, ◌<◌, ◌≤◌, ◌==◌, ◌&&◌, ◌++◌, ◌∷◌, [], map, length, slice_get, nat_eq, None, Some, IfSome, IfOk, Ok, Err, MatchOption, MatchResult};
 ghost use Rattle.std.specs.Cmp.Lexicographic.{pointwise};
 ghost use Rattle.std.specs.List.{position, list_any, list_all, flat_map};
 ghost use Rattle.std.specs.Str.{bytes_eq};
 ghost use Rattle.clnp_plan.specs.ClnpBase.Text.{words_of};
-ghost use Rattle.scenario.specs.Declarations.{nothing_declared, subnet_names, system_names, changed_at, is_among, has_port, snpas_on, takes_address, takes_port, mtu_at, with_address, with_port, is_router_at, router_word, has_numbered, port_word, has_route, takes_route, with_route, settings_of, limits_line, limits_of, subnet_line, system_line, address_line, transit_word, port_line, route_line, declaration_line, is_complete};
+ghost use Rattle.scenario.specs.Declarations.{nothing_declared, subnet_names, system_names, changed_at, is_among, has_port, snpas_on, takes_address, takes_port, mtu_at, with_address, with_port, is_router_at, router_word, has_numbered, port_word, has_route, takes_route, with_route, settings_of, limits_words, limits_line, limits_of, subnet_line, system_line, address_line, transit_word, port_line, route_line, declaration_line, has_limits, is_complete};
 ghost use Rattle.scenario.specs.Words.{is_taken, declared_word};
 ghost use Rattle.scenario.specs.Refusal.{Faults};
 
@@ -14,8 +14,9 @@ use crate::plan::Subnet;
 use crate::setting::{each_once, setting_words, settings_of};
 use crate::system::{PortAt, System, role_word};
 use crate::word::{
-    address_word, declared, first_four, first_two, five_words, is_digits, is_name, is_one_at_most,
-    mtu_word, name_word, number_word, prefix_word, same, snpa_word, three_words, two_words, wanted,
+    address_word, declared, first_four, first_two, five_words, four_words, is_digits, is_name,
+    is_one_at_most, mtu_word, name_word, number_word, prefix_word, same, snpa_word, three_words,
+    two_words, wanted,
 };
 use clnp_plan::clnp_base::next_word;
 use clnp_plan::forwarding::Route;
@@ -24,9 +25,10 @@ use clnp_plan::{Limits, PortConfig, Role, Settings};
 use std::alloc::Global;
 use std::marker::Model;
 
-/// The limits, the subnetworks and the systems that are declared so far.
+/// The limits, the subnetworks and the systems that are declared so far, in a text of a version.
 #[derive(Drop)]
 pub(crate) struct Declared {
+    version: u8,
     limits: Option<Limits>,
     subnets: Vec<Subnet>,
     systems: Vec<System>,
@@ -38,7 +40,7 @@ impl Model for Declared {
 
     ghost Value = { Declarations };
 
-    ghost view = { λ d. record { limits = d.limits; subnets = d.subnets.items; systems = d.systems.items } };
+    ghost view = { λ d. record { version = d.version; limits = d.limits; subnets = d.subnets.items; systems = d.systems.items } };
 
     ghost invariant = { λ d. (length d.subnets.items ≤ 64) × (length d.systems.items ≤ 64) };
 }
@@ -95,12 +97,26 @@ fn transit_word(line: &[u8]) -> Result<u8, Code>
     Ok(transit as u8)
 }
 
+/// The words of a line of limits. In version 1 none says how far apart clocks may stand, and they tick together.
+fn limits_words(version: u8, line: &[u8]) -> Option<(&[u8], &[u8], &[u8], &[u8])>
+    ensures { MatchOption result (limits_words version (words_of line.now) ≡ None)
+        (λ words. limits_words version (words_of line.now) ≡ Some (words.0.now, words.1.now, words.2.now, words.3.now)) }
+{
+    if version == 1 {
+        let (age, hold, reuse) = three_words(line)?;
+        let skew: &[u8] = b"0";
+        return Some((age, hold, reuse, skew));
+    }
+    four_words(line)
+}
+
 impl Declared {
     /// Nothing is declared.
-    pub(crate) fn new(alloc: Global) -> Declared
-        ensures { result ≡ nothing_declared }
+    pub(crate) fn new(alloc: Global, version: u8) -> Declared
+        ensures { result ≡ nothing_declared version }
     {
         Declared {
+            version,
             limits: None,
             subnets: Vec::new(alloc),
             systems: Vec::new(alloc),
@@ -165,29 +181,31 @@ impl Declared {
         declared(self.system_place(word))
     }
 
-    /// The limits that `L R Q` declares.
+    /// The limits that `L R Q S` declares, or `L R Q` in version 1.
     #[tactic(auto, unfolding(crate::specs::Declarations::limits_line))]
     fn limits_of(&self, line: &[u8]) -> Result<Limits, Code>
         ensures { MatchResult result
             (λ limits. limits_line self.now (words_of line.now) ≡ Ok (record self.now { limits = Some limits }))
             (λ code. limits_line self.now (words_of line.now) ≡ Err code) }
     {
-        let Some((age, hold, reuse)) = three_words(line) else {
+        let Some((age, hold, reuse, skew)) = limits_words(self.version, line) else {
             return Err(Code::Syntax);
         };
         let age = number_word(1, 4096, age)?;
         let hold = number_word(1, 255, hold)?;
         let reuse = number_word(1, 16_384, reuse)?;
+        let skew = number_word(0, 0, skew)?;
         wanted(self.limits.is_none(), Code::DupName)?;
-        wanted(age + hold <= reuse, Code::Limits)?;
+        wanted(age + hold + 2 * skew <= reuse, Code::Limits)?;
         Ok(Limits {
             age: age as u16,
             hold: hold as u8,
             reuse: reuse as u16,
+            skew: skew as u16,
         })
     }
 
-    /// `L R Q`, behind `limits`.
+    /// How long things last, behind `limits`.
     pub(crate) fn limits_line(&mut self, line: &[u8]) -> Result<(), LineFault>
         ensures { let reading = limits_line self.old (words_of line.now) in
             MatchResult result (λ _. reading ≡ Ok self.new) (λ fault. Faults fault reading) }
@@ -533,6 +551,13 @@ impl Declared {
         Err(LineFault::Broken(Code::Syntax))
     }
 
+    /// Whether the limits are there where they must be: in version 2.
+    pub(crate) fn has_limits(&self) -> bool
+        ensures { result ≡ has_limits self.now }
+    {
+        self.limits.is_some() || self.version == 1
+    }
+
     /// Whether each system has all that it must.
     pub(crate) fn is_complete(&self) -> bool
         ensures { result ≡ list_all is_complete self.now.systems }
@@ -550,6 +575,7 @@ impl Declared {
                 age: 256,
                 hold: 60,
                 reuse: 320,
+                skew: 0,
             },
         }
     }
@@ -561,6 +587,7 @@ impl Declared {
         ensures few { length self.systems ≤ 64 }
     {
         let Declared {
+            version: _,
             limits: _,
             subnets,
             systems,

@@ -3,7 +3,7 @@ ghost use Rattle.std.specs.Prelude.{◌≡◌, ◌<◌, ◌≤◌, map, length, 
 ghost use Rattle.std.specs.List.{position};
 ghost use Rattle.std.specs.Str.{bytes_eq};
 ghost use Rattle.clnp_plan.specs.ClnpBase.Text.{words_of};
-ghost use Rattle.scenario.specs.Events.{own_life, is_host, is_host_at, host_word, send_line, deliver_line, count_line, tick_line, restart_line, echo_line, is_router_at, router_word, on_word, congest_line, inject_line, event_line};
+ghost use Rattle.scenario.specs.Events.{own_life, is_host, is_host_at, host_word, send_line, deliver_line, count_line, tick_line, restart_line, echo_line, is_router_at, router_word, on_word, congest_line, inject_line, scene_of, event_line};
 ghost use Rattle.scenario.specs.Scenario.{Subnetwork};
 ghost use Rattle.scenario.specs.Words.{declared_word};
 ghost use Rattle.scenario.specs.Refusal.{Faults};
@@ -299,7 +299,7 @@ pub(crate) fn event_line(
 ) -> Result<Event, LineFault>
     requires subnets { length subnets.now ≤ 64 }
     requires systems { length systems.now ≤ 64 }
-    ensures { let reading = event_line (map (λ (subnet : Subnetwork). subnet.name) subnets.now) (map (λ system. system.name) systems.now) systems.now (words_of line.now) in
+    ensures { let reading = event_line (scene_of subnets.now systems.now) (words_of line.now) in
         MatchResult result (λ event. reading ≡ Ok event) (λ fault. Faults fault reading) }
 {
     let Some((keyword, line)) = next_word(line) else {

@@ -1,13 +1,15 @@
 //! Laws of the grammar. Each law is the clause of a function that does nothing.
 
-ghost use Rattle.std.specs.Prelude.{◌≡◌, ℕ, List, Ok};
+ghost use Rattle.std.specs.Prelude.{◌≡◌, ◌↔◌, ℕ, List, Ok};
+ghost use Rattle.clnp_plan.specs.ClnpBase.Text.{lines_of};
 ghost use Rattle.scenario.specs.Canonical.{text_of};
-ghost use Rattle.scenario.specs.Grammar.{plan_of};
+ghost use Rattle.scenario.specs.Grammar.{header_from, newest_version, plan_at, plan_of, plan_of_version_1};
+ghost use Rattle.scenario.specs.Migration.{IsReadAlike, migrated, migration_of};
 ghost use Rattle.scenario.specs.Scenario.{IsClosed, IsFit, Plan};
 ghost use Rattle.scenario.specs.Seeds.{storm};
 
-/// What the grammar accepts is fit to be run: its limits, settings and numbers are in their ranges,
-/// each name is a name of the grammar, each system has the addresses, ports and routes that its role calls for,
+/// What the grammar accepts is fit to be run: its version, limits, settings and numbers are in their ranges, its clocks
+/// tick together, each name is a name of the grammar, each system has the addresses, ports and routes that its role calls for,
 /// no name, address or SNPA on a subnetwork stands twice, and no prefix at a router, each port is on a declared
 /// subnetwork and has its MTU, no two ports of a system are on one subnetwork, each prefix has up to 40 digits,
 /// each route leads out of a port that is there, events name declared systems, hosts alone are asked to send data
@@ -17,6 +19,13 @@ ghost use Rattle.scenario.specs.Seeds.{storm};
 /// settled and lost, and few ticks pass.
 pub fn accepted_is_fit()
     ensures { (text : List ℕ) (plan : Plan) → plan_of text ≡ Ok plan → IsFit plan }
+{
+    each_version_is_fit();
+}
+
+/// So is what is accepted where a version is the newest that is read.
+pub(crate) fn each_version_is_fit()
+    ensures { (newest : ℕ) (text : List ℕ) (plan : Plan) → plan_at newest (lines_of text) ≡ Ok plan → IsFit plan }
 {
     clnp_plan::clnp_options::laws::spelled_where_no_rule_is_broken();
     clnp_plan::nsap::laws::read_is_address();
@@ -47,4 +56,30 @@ pub fn storms_are_scenarios()
 {
     accepted_is_fit();
     what_is_written_is_read();
+}
+
+/// The texts of version 1 are read alike, whether later versions are read too or not; where they aren't, the header of
+/// version 2 is the first bad line.
+pub fn version_1_is_read_alike()
+    ensures accepted { (text : List ℕ) (plan : Plan) → (plan_of_version_1 text ≡ Ok plan) ↔ ((plan_of text ≡ Ok plan) × (plan.version ≡ 1)) }
+    ensures alike { (text : List ℕ) → IsReadAlike text (header_from newest_version 1 (lines_of text)) }
+{}
+
+/// A scenario that is fit to be run is so in version 2, in which its clocks tick together, and what is written of it then
+/// is read as it.
+pub fn migrated_is_fit()
+    ensures fit { (plan : Plan) → IsFit plan → IsFit (migrated plan) }
+    ensures together { (plan : Plan) → IsFit plan → (migrated plan).limits.skew ≡ 0 }
+    ensures text { (plan : Plan) → IsFit plan → plan_of (text_of (migrated plan)) ≡ Ok (migrated plan) }
+{
+    what_is_written_is_read();
+}
+
+/// The text of each scenario of version 1, those of storms among them, becomes that of the scenario in version 2.
+pub fn version_1_texts_migrate()
+    ensures each { (plan : Plan) → IsFit plan → plan.version ≡ 1 → migration_of (text_of plan) ≡ Ok (text_of (migrated plan)) }
+    ensures storms { (seed : ℕ) → migration_of (text_of (storm seed)) ≡ Ok (text_of (migrated (storm seed))) }
+{
+    what_is_written_is_read();
+    storms_are_scenarios();
 }

@@ -9,6 +9,7 @@ mod event_line;
 mod fault;
 pub mod laws;
 mod line;
+mod migration;
 mod plan;
 mod reader;
 mod seed;
@@ -23,7 +24,8 @@ pub use clnp_plan::{clnp_base, clnp_views, esis_tables, forwarding, nsap, pdu_he
 pub use code::Code;
 pub use event::{Body, Event, Move};
 pub use fault::ScenarioRefusal;
+pub use migration::migrate;
 pub use plan::{Scenario, Subnet};
-pub use reader::read;
+pub use reader::{read, read_version_1};
 pub use seed::from_seed;
 pub use writer::write;

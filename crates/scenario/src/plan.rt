@@ -1,8 +1,10 @@
 //! What a scenario text says.
 ghost use Rattle.std.specs.Prelude.{◌≡◌};
+ghost use Rattle.scenario.specs.Migration.{migrated};
 ghost use Rattle.scenario.specs.Scenario.{IsFit};
 
 use crate::event::Event;
+use crate::laws;
 use clnp_plan::{Limits, SystemConfig};
 use std::marker::Model;
 
@@ -30,14 +32,15 @@ impl Subnet {
     }
 }
 
-/// What a text declares, and its events. A contract knows of each that it is fit to be run: its limits, settings
-/// and numbers are in their ranges, each name is a name of the grammar, each system has what its role calls for, no
+/// What a text declares, and its events. A contract knows of each that it is fit to be run: its version, limits,
+/// settings and numbers are in their ranges, its clocks tick together, each name is a name of the grammar, each system has what its role calls for, no
 /// name, address or SNPA on a subnetwork stands twice, and no prefix at a router, each port is on a declared subnetwork
 /// and has its MTU, no two ports of a system are on one subnetwork, each route leads out of a port that is there,
 /// events name declared systems, hosts alone are asked to send, routers alone are said to be congested, and events are
 /// few and say only what a line may say.
 #[derive(Drop)]
 pub struct Scenario {
+    pub(crate) version: u8,
     pub(crate) limits: Limits,
     pub(crate) subnets: Vec<Subnet>,
     pub(crate) systems: Vec<SystemConfig>,
@@ -49,9 +52,9 @@ impl Model for Scenario {
 
     ghost Value = { Plan };
 
-    ghost view = { λ s. record { limits = s.limits; subnets = s.subnets.items; systems = s.systems.items; events = s.events.items } };
+    ghost view = { λ s. record { version = s.version; limits = s.limits; subnets = s.subnets.items; systems = s.systems.items; events = s.events.items } };
 
-    ghost invariant = { λ s. IsFit (record { limits = s.limits; subnets = s.subnets.items; systems = s.systems.items; events = s.events.items }) };
+    ghost invariant = { λ s. IsFit (record { version = s.version; limits = s.limits; subnets = s.subnets.items; systems = s.systems.items; events = s.events.items }) };
 }
 
 impl Scenario {
@@ -60,6 +63,37 @@ impl Scenario {
         ensures { IsFit self.now }
     {
         let _limits = &self.limits;
+    }
+
+    /// The version of the texts that say it: 1, or 2.
+    pub fn version(&self) -> u8
+        ensures { result ≡ self.now.version }
+    {
+        self.version
+    }
+
+    /// The same scenario in version 2, in which all clocks tick together as they did.
+    pub fn migrate(self) -> Scenario
+        requires { self.version ≡ 1 }
+        ensures migrated { result ≡ migrated self }
+        ensures together { result.limits.skew ≡ 0 }
+    {
+        laws::migrated_is_fit();
+        self.is_fit();
+        let Scenario {
+            version: _,
+            limits,
+            subnets,
+            systems,
+            events,
+        } = self;
+        Scenario {
+            version: 2,
+            limits,
+            subnets,
+            systems,
+            events,
+        }
     }
 
     /// How long things last.

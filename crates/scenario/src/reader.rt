@@ -1,15 +1,12 @@
 //! The reader of scenario texts.
 ghost use Rattle.std.specs.Prelude.{◌≡◌, ◌+◌, ◌-◌, ◌^◌, ◌≤◌, ◌<◌, true, map, length, codes, IfOk, Ok, Err, MatchResult};
-ghost use Rattle.std.specs.List.{list_all, AllByRecursion};
+ghost use Rattle.std.specs.List.{AllByRecursion};
 ghost use Rattle.clnp_plan.specs.ClnpBase.Text.{lines_of, words_of};
 ghost use Rattle.clnp_plan.specs.Configuration.{IsSystem};
-ghost use Rattle.scenario.specs.Declarations.{declaration_line, is_complete, configuration_of};
-ghost use Rattle.scenario.specs.Events.{counted, are_few, nothing_counted};
-ghost use Rattle.scenario.specs.Grammar.{at_line, header_from, declarations_from, nothing_after, counted_event, events_from, plan_of};
+ghost use Rattle.scenario.specs.Declarations.{declaration_line, all_declared, configuration_of};
+ghost use Rattle.scenario.specs.Events.{scene_of, counted, are_few, nothing_counted};
+ghost use Rattle.scenario.specs.Grammar.{at_line, version_of, header_from, declarations_from, nothing_after, counted_event, events_from, plan_at, plan_of, plan_of_version_1};
 ghost use Rattle.scenario.specs.Codes.{number_of};
-ghost use Rattle.scenario.specs.Scenario.{Subnetwork};
-ghost use Rattle.scenario.specs.Words.{wanted};
-ghost use Rattle.scenario.specs.declared.code.Code.TheVariants as bad;
 ghost use Rattle.scenario.specs.declared.fault.ScenarioRefusal.TheVariants.{BadLine};
 ghost use Rattle.scenario.specs.Refusal.{Refuses, Faults};
 
@@ -37,19 +34,35 @@ fn bad_line(line: u32, code: Code) -> ScenarioRefusal
     }
 }
 
-/// The number of the line behind the header, and the text from there on.
-fn header(text: &[u8]) -> Result<(u32, &[u8]), ScenarioRefusal>
+/// The newest version of scenario texts.
+const NEWEST_VERSION: u8 = 2;
+
+/// The version that a header says, of those up to the newest.
+fn version_of(newest: u8, line: &[u8]) -> Option<u8>
+    ensures { result ≡ version_of newest line.now }
+{
+    if same(line, b"clnp-sim 1") {
+        return Some(1);
+    }
+    if same(line, b"clnp-sim 2") && 2 <= newest {
+        return Some(2);
+    }
+    None
+}
+
+/// The version that the header says, the number of the line behind it, and the text from there on.
+fn header(newest: u8, text: &[u8]) -> Result<(u8, u32, &[u8]), ScenarioRefusal>
     requires { 1 + length (lines_of text.now) < 2 ^ 32 }
-    ensures header { let reading = header_from 1 (lines_of text.now) in
-        MatchResult result (λ r. reading ≡ Ok (record { value = tt; number = r.0; lines = lines_of r.1.now })) (λ refusal. Refuses refusal reading) }
-    ensures few { IfOk result (λ r. r.0 + length (lines_of r.1.now) < 2 ^ 32) }
+    ensures header { let reading = header_from newest 1 (lines_of text.now) in
+        MatchResult result (λ r. reading ≡ Ok (record { value = r.0; number = r.1; lines = lines_of r.2.now })) (λ refusal. Refuses refusal reading) }
+    ensures few { IfOk result (λ r. r.1 + length (lines_of r.2.now) < 2 ^ 32) }
 {
     let mut number: u32 = 1;
     let mut left = text;
     while let Some((line, rest)) = next_line(left) {
         if !is_skipped(line) {
-            if same(line, b"clnp-sim 1") {
-                return Ok((number + 1, rest));
+            if let Some(version) = version_of(newest, line) {
+                return Ok((version, number + 1, rest));
             }
             return Err(bad_line(number, Code::Header));
         }
@@ -76,15 +89,18 @@ fn declare_at(
     }
 }
 
-/// Each system has all that it must, at the line `events` of this number.
+/// All is there that must be, at the line `events` of this number.
 fn complete_at(declared: &Declared, number: u32) -> Result<(), ScenarioRefusal>
-    ensures { let reading = at_line number (wanted (list_all is_complete declared.now.systems) bad.Count) in
+    ensures { let reading = at_line number (all_declared declared.now) in
         MatchResult result (λ _. reading ≡ Ok tt) (λ refusal. Refuses refusal reading) }
 {
-    if declared.is_complete() {
-        return Ok(());
+    if !declared.has_limits() {
+        return Err(bad_line(number, Code::Syntax));
     }
-    Err(bad_line(number, Code::Count))
+    if !declared.is_complete() {
+        return Err(bad_line(number, Code::Count));
+    }
+    Ok(())
 }
 
 /// What the lines from this number on declare, up to `events`: the number of the line behind it,
@@ -151,7 +167,7 @@ fn counted_event(
     requires few { are_few counts ≡ true }
     requires subnets { length subnets.now ≤ 64 }
     requires systems { length systems.now ≤ 64 }
-    ensures event { let reading = at_line number (counted_event (map (λ (subnet : Subnetwork). subnet.name) subnets.now) (map (λ system. system.name) systems.now) systems.now counts (words_of line.now)) in
+    ensures event { let reading = at_line number (counted_event (scene_of subnets.now systems.now) counts (words_of line.now)) in
         MatchResult result (λ event. reading ≡ Ok event) (λ refusal. Refuses refusal reading) }
     ensures few { IfOk result (λ event. are_few (counted counts event) ≡ true) }
 {
@@ -177,7 +193,7 @@ fn events_of(
     requires few { number + length (lines_of text.now) < 2 ^ 32 }
     requires subnets { length subnets.now ≤ 64 }
     requires systems { length systems.now ≤ 64 }
-    ensures { let reading = events_from (map (λ (subnet : Subnetwork). subnet.name) subnets.now) (map (λ system. system.name) systems.now) systems.now number nothing_counted (lines_of text.now) in
+    ensures { let reading = events_from (scene_of subnets.now systems.now) number nothing_counted (lines_of text.now) in
         MatchResult result (λ events. reading ≡ Ok events.items) (λ refusal. Refuses refusal reading) }
 {
     let mut events = Vec::new(alloc);
@@ -214,26 +230,50 @@ fn systems_of(alloc: Global, systems: Vec<System>) -> Result<Vec<SystemConfig>, 
     Ok(configs)
 }
 
-/// What a scenario text says: its subnetworks, its systems and its events.
+/// What a scenario text says: its version, its subnetworks, its systems and its events.
 ///
 /// # Errors
 ///
 /// `BadLine` with the first line that breaks the grammar, from 1, and the code of what it breaks;
 /// `NoMemory` where memory is refused.
-#[tactic(auto, using(crate::proofs::Lists::configuration_names), unfolding(crate::specs::Grammar::plan_at))]
 pub fn read(alloc: Global, text: &[u8]) -> Result<Scenario, ScenarioRefusal>
     requires { length (lines_of text.now) < 2 ^ 32 - 1 }
     ensures { MatchResult result (λ scenario. plan_of text.now ≡ Ok scenario) (λ refusal. Refuses refusal (plan_of text.now)) }
 {
-    laws::accepted_is_fit();
-    let (number, text) = header(text)?;
-    let mut declared = Declared::new(alloc);
+    read_up_to(alloc, NEWEST_VERSION, text)
+}
+
+/// What a scenario text of version 1 says. That of another version has a bad header.
+///
+/// # Errors
+///
+/// As `read`.
+pub fn read_version_1(alloc: Global, text: &[u8]) -> Result<Scenario, ScenarioRefusal>
+    requires { length (lines_of text.now) < 2 ^ 32 - 1 }
+    ensures says { MatchResult result (λ scenario. plan_of_version_1 text.now ≡ Ok scenario) (λ refusal. Refuses refusal (plan_of_version_1 text.now)) }
+    ensures version { IfOk result (λ scenario. scenario.version ≡ 1) }
+{
+    laws::version_1_is_read_alike();
+    read_up_to(alloc, 1, text)
+}
+
+/// What a scenario text of a version up to the newest says.
+#[tactic(auto, unfolding(crate::specs::Grammar::plan_at))]
+fn read_up_to(alloc: Global, newest: u8, text: &[u8]) -> Result<Scenario, ScenarioRefusal>
+    requires { length (lines_of text.now) < 2 ^ 32 - 1 }
+    ensures { let reading = plan_at newest (lines_of text.now) in
+        MatchResult result (λ scenario. reading ≡ Ok scenario) (λ refusal. Refuses refusal reading) }
+{
+    laws::each_version_is_fit();
+    let (version, number, text) = header(newest, text)?;
+    let mut declared = Declared::new(alloc, version);
     let (number, text) = declarations(alloc, &mut declared, number, text)?;
     let limits = declared.limits();
     let (subnets, systems) = declared.into_parts();
     let systems = systems_of(alloc, systems)?;
     let events = events_of(alloc, subnets.as_slice(), systems.as_slice(), number, text)?;
     Ok(Scenario {
+        version,
         limits,
         subnets,
         systems,

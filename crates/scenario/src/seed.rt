@@ -61,12 +61,14 @@ pub fn from_seed(alloc: Global, seed: u64) -> Result<Scenario, NoMemory>
     networks.is_fit();
     let events = events(alloc, seed)?;
     let Scenario {
+        version,
         limits,
         subnets,
         systems,
         events: _,
     } = networks;
     Ok(Scenario {
+        version,
         limits,
         subnets,
         systems,

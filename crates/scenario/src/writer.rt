@@ -42,7 +42,11 @@ pub fn write(alloc: Global, scenario: &Scenario, out: &mut Vec<u8>) -> Result<()
 fn push_scenario(scenario: &Scenario, out: &mut Vec<u8>) -> Result<(), NoMemory>
     ensures { OnOk result (out.new.items ≡ out.old.items ++ text_of scenario.now) }
 {
-    push(b"clnp-sim 1\n", out)?;
+    push_line(
+        b"clnp-sim",
+        &[number_word(u64::from(scenario.version()))],
+        out,
+    )?;
     push_declarations(scenario, out)?;
     push(b"events\n", out)?;
     push_events(
@@ -58,21 +62,35 @@ fn push_scenario(scenario: &Scenario, out: &mut Vec<u8>) -> Result<(), NoMemory>
 fn push_declarations(scenario: &Scenario, out: &mut Vec<u8>) -> Result<(), NoMemory>
     ensures { OnOk result (out.new.items ≡ out.old.items ++ canonical.declarations_text scenario.now) }
 {
-    push_limits(scenario.limits(), out)?;
+    push_limits(scenario.version(), scenario.limits(), out)?;
     push_subnets(scenario.subnets(), out)?;
     push_systems(scenario.systems(), out)?;
     push_all_belongings(scenario.subnets(), scenario.systems(), out)
 }
 
-fn push_limits(limits: &Limits, out: &mut Vec<u8>) -> Result<(), NoMemory>
-    ensures { OnOk result (out.new.items ≡ out.old.items ++ limits_text limits.now) }
+/// Appends the line of the limits.
+fn push_limits(version: u8, limits: &Limits, out: &mut Vec<u8>) -> Result<(), NoMemory>
+    ensures { OnOk result (out.new.items ≡ out.old.items ++ limits_text version limits.now) }
 {
     let words = [
         number_word(u64::from(limits.age)),
         number_word(u64::from(limits.hold)),
         number_word(u64::from(limits.reuse)),
     ];
-    push_line(b"limits", &words, out)
+    push(b"limits", out)?;
+    push_words(&words, out)?;
+    push_skew(version, limits.skew, out)?;
+    push(b"\n", out)
+}
+
+/// Appends how far apart clocks may stand, where the version says it.
+fn push_skew(version: u8, skew: u16, out: &mut Vec<u8>) -> Result<(), NoMemory>
+    ensures { OnOk result (out.new.items ≡ out.old.items ++ flat_map behind_space (canonical.skew_words version skew)) }
+{
+    if version == 1 {
+        return Ok(());
+    }
+    push_words(&[number_word(u64::from(skew))], out)
 }
 
 fn push_subnets(subnets: &[Subnet], out: &mut Vec<u8>) -> Result<(), NoMemory>

@@ -6,7 +6,7 @@ use Rattle.scenario.proofs.reader.header.Given as goal
 abbrev pub invariant-loop-line : goal.invariant-loop-line
 invariant-loop-line l = record {
   few : l.number + length (lines_of l.left) < 2 ^ 32;
-  same : header_from l.number (lines_of l.left) ≡ header_from 1 (lines_of l.text);
+  same : header_from l.newest l.number (lines_of l.left) ≡ header_from l.newest 1 (lines_of l.text);
 }
 
 abbrev pub decreases-loop-line : goal.decreases-loop-line
