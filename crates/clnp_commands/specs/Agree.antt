@@ -3,6 +3,8 @@ use Rattle.std.specs.Prelude.{◌≡◌, ℕ, ◌≤◌, List, length, map, IfOk
 use Rattle.hex.specs.Hex.{IsBytes}
 use Rattle.clnp_machine.specs.ClnpBase.Text.{lines_of}
 use Rattle.capture_commands.specs.CommandBase.declared.status.Status.TheVariants.{Done}
+use Rattle.clnp_world.specs.Scenario.Grammar.{plan_of_version_1}
+use Rattle.clnp_world.specs.ClnpNetwork.Migrated.{IsMigrated}
 use Rattle.capture_commands.specs.RoundTrip.{EndsPlainly, IsAcceptedCapture, PacksTo, ShowsAs, without_skipped}
 use Rattle.pcap_commands.specs.PcapFrames.File.{Captured}
 use Rattle.pcap_commands.specs.PcapFrames.Making.{frames_in, made_record}
@@ -31,5 +33,8 @@ pub record TextsAgree : Type 0 where
   -- Of the file that `pcap-make` makes of lines `pcap-lines` writes the lines of its frames, and nothing else.
   pub made_lines : (lines : List (List ℕ)) (output : List ℕ) → TellsRecords Remade 1 (map made_record (frames_of lines)) output
       → output ≡ lines_of_frames (frames_of lines)
+  -- `migrate` of each text of version 1 is the canonical text of its scenario in version 2, in which all clocks tick together; that
+  -- text is read as this scenario, and its run and its journal are the same.
+  pub migrated : (text : List ℕ) → IfOk (plan_of_version_1 text) (IsMigrated text)
   -- `reassemble`: a source with a share gets the lines that it would get alone, and no table holds more than its budget.
   pub fair : (text : List ℕ) → IfOk (capture_of text) IsFair

@@ -5,6 +5,7 @@ use Rattle.clnp_machine.specs.ClnpBase.Streams.{AppendsFront}
 use Rattle.clnp_machine.specs.ClnpBase.Text.{lines_of}
 use Rattle.clnp_world.specs.Scenario.Scenario.{Plan}
 use Rattle.clnp_world.specs.Scenario.Grammar.{BadLine, plan_of}
+use Rattle.clnp_world.specs.Scenario.Migration.{migration_of}
 use Rattle.clnp_world.specs.ClnpNetwork.Run.{journal, stopped_at}
 use Rattle.capture_commands.specs.CommandBase.declared.status.Status.{Status}
 use Rattle.capture_commands.specs.CommandBase.declared.status.Status.TheVariants.{Done, TooLong, BadInput, WorldFull}
@@ -16,7 +17,7 @@ use Rattle.capture_commands.specs.Pack.{packing}
 use Rattle.pcap_commands.specs.Make.{make_task}
 use Rattle.fair_commands.specs.Reassemble.{reassemble_task}
 use Rattle.clnp_commands.specs.declared.command.WholeCommand.{WholeCommand}
-use Rattle.clnp_commands.specs.declared.command.WholeCommand.TheVariants.{Sim, Show, Check, Pack, PcapMake, Reassemble, Storm}
+use Rattle.clnp_commands.specs.declared.command.WholeCommand.TheVariants.{Sim, Show, Check, Pack, PcapMake, Reassemble, Migrate, Storm}
 use Rattle.clnp_commands.specs.Sim.{AppendsWholeMoves}
 use Rattle.clnp_commands.specs.Storm.{storm_line, storm_output, storm_stopped_at}
 use Rattle.clnp_commands.specs.Words.{reads}
@@ -47,6 +48,23 @@ sim_task text = record {
   parts = λ before after. IsOk (plan_of text) × IfOk (plan_of text) (λ plan. AppendsWholeMoves plan before after);
 }
 
+abbrev pub migration_status : Result (List ℕ) BadLine → Status
+migration_status (Ok text) = Done
+migration_status (Err bad) = BadInput bad.line bad.code
+
+abbrev pub migrated_text : Result (List ℕ) BadLine → List ℕ
+migrated_text (Ok text) = text
+migrated_text (Err bad) = []
+
+-- `migrate`: the text of the scenario in version 2, and nothing where the text is none of version 1; it has no parts
+abbrev pub migrate_task : List ℕ → Task
+migrate_task text = record {
+  calls = λ answered. migration_status (migration_of text) ≡ answered;
+  whole = λ before after. Appends before after (migrated_text (migration_of text));
+  front = λ before after. IsOk (migration_of text) × AppendsFront before after (migrated_text (migration_of text));
+  parts = λ before after. ⊥;
+}
+
 -- `storm`: the line of the run of the scenario of a seed, and nothing of one that was stopped; a line has no parts
 abbrev pub storm_task : (seed : ℕ) → Task
 storm_task seed = record {
@@ -66,6 +84,7 @@ task Check text = task_of checking first_checked (lines_of text)
 task Pack text = task_of packing 1 (lines_of text)
 task PcapMake text = make_task (lines_of text)
 task Reassemble text = reassemble_task text
+task Migrate text = migrate_task text
 task (Storm seed) text = storm_task seed
 
 -- the answer that an input calls for: too long where it is, else that of its task

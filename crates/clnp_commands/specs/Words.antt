@@ -6,7 +6,7 @@ use Rattle.clnp_machine.specs.ClnpBase.Text.{decimal_of}
 use Rattle.clnp_commands.specs.declared.command.Command.{Command}
 use Rattle.clnp_commands.specs.declared.command.Command.TheVariants.{Whole, Streamed}
 use Rattle.clnp_commands.specs.declared.command.WholeCommand.{WholeCommand}
-use Rattle.clnp_commands.specs.declared.command.WholeCommand.TheVariants.{Sim, Show, Check, Pack, PcapMake, Reassemble, Storm}
+use Rattle.clnp_commands.specs.declared.command.WholeCommand.TheVariants.{Sim, Show, Check, Pack, PcapMake, Reassemble, Migrate, Storm}
 use Rattle.clnp_commands.specs.declared.command.StreamedCommand.{StreamedCommand}
 use Rattle.clnp_commands.specs.declared.command.StreamedCommand.TheVariants.{PcapShow, PcapLines}
 use Rattle.clnp_commands.specs.Sim.{ReadsWhole}
@@ -22,6 +22,7 @@ command_named word =
     else if bytes_eq word (codes "pcap-make") then Some (Whole PcapMake)
     else if bytes_eq word (codes "pcap-lines") then Some (Streamed PcapLines)
     else if bytes_eq word (codes "reassemble") then Some (Whole Reassemble)
+    else if bytes_eq word (codes "migrate") then Some (Whole Migrate)
     else None
 
 -- a command stands alone; other words give the first place, from 0, at which they are no command
@@ -55,6 +56,7 @@ reads Check = true
 reads Pack = true
 reads PcapMake = true
 reads Reassemble = true
+reads Migrate = true
 reads (Storm seed) = false
 
 -- What a command takes from the source: all that was left, or nothing.

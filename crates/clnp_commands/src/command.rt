@@ -28,6 +28,8 @@ pub enum WholeCommand {
     PcapMake,
     /// Joins the units of captured traffic, with a share for each source.
     Reassemble,
+    /// Writes what a scenario of version 1 is in version 2.
+    Migrate,
     /// Counts what a run of the scenario of a seed comes to.
     Storm { seed: u64 },
 }
@@ -89,6 +91,8 @@ impl Command {
             Some(Command::Streamed(StreamedCommand::PcapLines))
         } else if word == "reassemble" {
             Some(Command::Whole(WholeCommand::Reassemble))
+        } else if word == "migrate" {
+            Some(Command::Whole(WholeCommand::Migrate))
         } else {
             None
         }
@@ -106,7 +110,8 @@ impl WholeCommand {
             | WholeCommand::Check
             | WholeCommand::Pack
             | WholeCommand::PcapMake
-            | WholeCommand::Reassemble => true,
+            | WholeCommand::Reassemble
+            | WholeCommand::Migrate => true,
             WholeCommand::Storm { .. } => false,
         }
     }

@@ -5,6 +5,7 @@
 #![tactic(auto)]
 
 mod command;
+mod migrate;
 mod sim;
 mod storm;
 mod top;

@@ -39,7 +39,7 @@ pub fn sim<K: Sink>(alloc: Global, text: &[u8], sink: &mut K) -> Status
 }
 
 /// A text has no more lines than octets.
-fn few_lines()
+pub(crate) fn few_lines()
     ensures { (text : List ℕ) → length (lines_of text) ≤ length text }
 {}
 

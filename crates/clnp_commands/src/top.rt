@@ -14,6 +14,7 @@ ghost use Rattle.clnp_commands.specs.Agree.{TextsAgree};
 ghost use Rattle.capture_commands.specs.CommandBase.ComesAs.{ComesAs, most_input};
 
 use crate::command::{Command, StreamedCommand, WholeCommand};
+use crate::migrate::migrate;
 use crate::sim::sim;
 use crate::storm::storm;
 use capture_commands::check::check;
@@ -38,8 +39,9 @@ const MOST_INPUT: usize = 16_777_216;
 /// the end how many passed and how many failed. `pack` reads shown lines and writes the frame that
 /// each packs to, up to the first bad line. `pcap-show` and `pcap-lines` read an Ethernet capture and
 /// write a line for each of its records while they read; `pcap-make` makes one of such lines.
-/// `reassemble` reads captured frames and writes what comes of each. `storm` reads nothing: it runs the
-/// scenario that its seed makes, and writes one line of what the run's journal counts.
+/// `reassemble` reads captured frames and writes what comes of each. `migrate` reads a scenario text of
+/// version 1 and writes it in version 2. `storm` reads nothing: it runs the scenario that its seed makes,
+/// and writes one line of what the run's journal counts.
 pub fn clnp_main<S: Source, K: Sink>(
     alloc: Global,
     words: &[String],
@@ -130,6 +132,7 @@ fn texts_agree()
     pcap_commands::laws::lines_make_the_frames_again();
     pcap_commands::laws::a_made_file_gives_its_lines_again();
     fair_commands::fair_text::laws::shares_are_fair();
+    clnp_safety::clnp_network::laws::texts_of_version_1_migrate();
 }
 
 /// Reads the input of a command that reads one.
@@ -168,6 +171,7 @@ fn obey<K: Sink>(alloc: Global, command: WholeCommand, text: &[u8], sink: &mut K
         WholeCommand::Pack => pack(alloc, text, sink),
         WholeCommand::PcapMake => pcap_make(alloc, text, sink),
         WholeCommand::Reassemble => reassemble(alloc, text, sink),
+        WholeCommand::Migrate => migrate(alloc, text, sink),
         WholeCommand::Storm { seed } => storm(alloc, seed, sink),
     }
 }

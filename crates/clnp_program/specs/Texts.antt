@@ -76,6 +76,14 @@ reassemble_form = record {
   page = codes "Reads captured frames with the moment of each, and writes what comes of each of them:\nthe units that their segments make, and what is held, repeated or refused. Sources\nthat have a share have reassembly buffers of their own, so that nothing that comes\nfrom others takes them. Nothing is written before the whole text was accepted.\n\nExample:\n\n  $ clnp reassemble < traffic.txt\n  3 unit 47002702 47002701 dt 6869\n  end 1\n\nwhere traffic.txt is\n\n  clnp-reassemble 1\n  others 1 4 512 10\n  share 47002702 1 4 512\n  frames\n  3 8113010a3c0015ce58044700270104470027026869\n  end\n";
 }
 
+unfoldable pub migrate_form : Form
+migrate_form = record {
+  name = codes "migrate";
+  takes = codes " < SCENARIO";
+  does = codes "\n                         reads a scenario of version 1 and writes it in version 2";
+  page = codes "Reads a scenario text of version 1 and writes the same scenario in version 2, with\neach setting said. Its journal is the same. A bad line is told on standard error.\n\nExample:\n\n  $ clnp migrate < hi.txt | head -n 2\n  clnp-sim 2\n  limits 256 60 320 0\n\nwhere hi.txt is the scenario at the end of clnp --help.\n";
+}
+
 unfoldable pub storm_form : Form
 storm_form = record {
   name = codes "storm";
@@ -88,7 +96,7 @@ storm_form = record {
 abbrev pub commands : List Form
 commands =
     sim_form ∷ show_form ∷ check_form ∷ pack_form ∷ pcap_show_form
-    ∷ pcap_make_form ∷ pcap_lines_form ∷ reassemble_form ∷ storm_form ∷ []
+    ∷ pcap_make_form ∷ pcap_lines_form ∷ reassemble_form ∷ migrate_form ∷ storm_form ∷ []
 
 -- a command as its user writes it
 abbrev pub words_of : Form → List ℕ

@@ -15,7 +15,7 @@ use thiserror::Error;
 
 /// The end of the line of bad words, and which words are commands.
 const WANTED: &str = "
-clnp: wanted: sim, show, check, pack, pcap-show, pcap-make, pcap-lines, reassemble, or storm; clnp --help tells of each
+clnp: wanted: sim, show, check, pack, pcap-show, pcap-make, pcap-lines, reassemble, migrate, or storm; clnp --help tells of each
 ";
 
 /// Why a call of the program didn't do all that was asked.

@@ -18,6 +18,8 @@ makes captures of its frames.
   clnp pcap-make < LINES reads lines of frames and writes an Ethernet capture of them
   clnp pcap-lines < FILE reads an Ethernet capture and writes lines for clnp pcap-make
   clnp reassemble < TEXT reads captured frames and writes the units that they make
+  clnp migrate < SCENARIO
+                         reads a scenario of version 1 and writes it in version 2
   clnp storm SEED        runs the scenario that the seed makes and writes a line of what it counts
   clnp COMMAND --help    writes what a command reads and writes, with an example
   clnp --help            writes this text, as clnp -h and clnp help do

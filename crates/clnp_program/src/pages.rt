@@ -1,6 +1,6 @@
 //! What the program says of each command.
 ghost use Rattle.std.specs.Prelude.{◌≡◌, option_copied};
-ghost use Rattle.clnp_program.specs.Texts.{commands, page_among, page_text, check_form, pack_form, pcap_lines_form, pcap_make_form, pcap_show_form, reassemble_form, show_form, sim_form, storm_form};
+ghost use Rattle.clnp_program.specs.Texts.{commands, page_among, page_text, check_form, migrate_form, pack_form, pcap_lines_form, pcap_make_form, pcap_show_form, reassemble_form, show_form, sim_form, storm_form};
 
 const SIM: &str = "\
 clnp sim < SCENARIO
@@ -128,6 +128,21 @@ where traffic.txt is
   end
 ";
 
+const MIGRATE: &str = "\
+clnp migrate < SCENARIO
+
+Reads a scenario text of version 1 and writes the same scenario in version 2, with
+each setting said. Its journal is the same. A bad line is told on standard error.
+
+Example:
+
+  $ clnp migrate < hi.txt | head -n 2
+  clnp-sim 2
+  limits 256 60 320 0
+
+where hi.txt is the scenario at the end of clnp --help.
+";
+
 const STORM: &str = "\
 clnp storm SEED
 
@@ -164,6 +179,8 @@ pub(crate) fn page_of(name: &str) -> Option<&'static str>
         Some(pcap_lines())
     } else if name == "reassemble" {
         Some(reassemble())
+    } else if name == "migrate" {
+        Some(migrate())
     } else if name == "storm" {
         Some(storm())
     } else {
@@ -225,6 +242,13 @@ fn reassemble() -> &'static str
     ensures { result.now ≡ page_text reassemble_form }
 {
     REASSEMBLE
+}
+
+/// The answer to `migrate --help`.
+fn migrate() -> &'static str
+    ensures { result.now ≡ page_text migrate_form }
+{
+    MIGRATE
 }
 
 /// The answer to `storm --help`.

@@ -1,4 +1,0 @@
-pub mod Frames
-pub mod Expired
-pub mod Arriving
-pub mod Writing
