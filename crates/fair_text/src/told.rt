@@ -25,7 +25,9 @@ pub enum Told<'a> {
         held: u32,
     },
     /// The lifetime of its PDU is over.
-    Dead { from: &'a Address },
+    Dead {
+        from: &'a Address,
+    },
     /// A unit is whole, with these octets.
     Joined {
         from: &'a Address,
@@ -47,9 +49,15 @@ pub enum Told<'a> {
         offset: u16,
     },
     /// The buffer of its segment is that of a unit of another shape.
-    Interference { from: &'a Address, id: u16 },
+    Interference {
+        from: &'a Address,
+        id: u16,
+    },
     /// Every buffer is taken: so many are.
-    NoSlot { from: &'a Address, live: u16 },
+    NoSlot {
+        from: &'a Address,
+        live: u16,
+    },
     /// Too many octets would be held: so many are, and the frame has `size` octets.
     Crowded {
         from: &'a Address,
@@ -57,7 +65,10 @@ pub enum Told<'a> {
         size: u32,
     },
     /// As many segments are kept as may be.
-    Many { from: &'a Address, kept: u16 },
+    Many {
+        from: &'a Address,
+        kept: u16,
+    },
 }
 
 /// Appends the line that tells something at a moment, in ticks of 500 ms.

@@ -1,0 +1,4 @@
+pub mod Frames
+pub mod Expired
+pub mod Arriving
+pub mod Writing
