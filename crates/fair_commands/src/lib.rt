@@ -5,4 +5,5 @@ mod frame;
 mod joining;
 
 pub use command_base;
+pub use fair_text;
 pub use joining::reassemble;
