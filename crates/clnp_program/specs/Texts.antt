@@ -1,27 +1,56 @@
 -- What the program says of itself on standard output, and behind a fault on standard error. Lines end in 10.
-use Rattle.std.specs.Prelude.{ℕ, if◌then◌else◌, List, [], ◌∷◌, ◌++◌, codes, Option, None, Some}
+use Rattle.std.specs.Prelude.{ℕ, ◌||◌, Bool, if◌then◌else◌, List, [], ◌∷◌, ◌++◌, codes, Option, None, Some}
 use Rattle.std.specs.List.{flat_map}
 use Rattle.std.specs.Str.{bytes_eq}
 use Rattle.clnp_program.specs.declared.fault.Fault.{Fault}
 use Rattle.clnp_program.specs.declared.fault.Fault.TheVariants.{BadWords}
 
--- a command as its user writes it, and what it does
+-- a command: its name, what stands behind it on the command line, what it does in a line, and its page
 pub record Form : Type 0 where
-  pub words : List ℕ
+  pub name : List ℕ
+  pub takes : List ℕ
   pub does : List ℕ
+  pub page : List ℕ
+
+unfoldable pub sim_page : List ℕ
+sim_page = codes "Reads a scenario text and writes the journal of its run: a line for each thing\nthat happened, with its moment in ticks, the system's name and a note. Nothing is\nwritten before the whole text was accepted; a bad line is told on standard error.\n\nExample:\n\n  $ clnp sim < hi.txt\n  0 a sent dt 1 - 47002702 47002701 2\n  0 a tx 1 0 es 8113010a3c0015ce58044700270104470027026869\n  0 b got 47002702 47002701 6869\n  end 0 1\n\nwhere hi.txt is the scenario at the end of clnp --help.\n"
+
+abbrev pub sim_form : Form
+sim_form = record { name = codes "sim"; takes = codes " < SCENARIO"; does = codes "    reads a scenario and writes its journal"; page = sim_page }
+
+unfoldable pub show_page : List ℕ
+show_page = codes "Reads a capture and writes a line of text for each of its frames, up to the first\nbad line. A frame stands in a line of its own, in hexadecimal digits, two an octet,\nand nothing else; lines that are empty or begin with # are skipped.\n\nExample:\n\n  $ echo 8113010a3c0015ce58044700270104470027026869 | clnp show\n  clnp dt e life=10 sum=ce58 to=47002701 from=47002702 data=6869 rest=\n"
+
+abbrev pub show_form : Form
+show_form = record { name = codes "show"; takes = codes " < CAPTURE"; does = codes "    reads frames in hexadecimal digits and writes a line for each"; page = show_page }
+
+unfoldable pub check_page : List ℕ
+check_page = codes "Reads vectors and writes for each whether it passes, up to the first bad line, and\nat the end how many passed and failed. A vector is a frame in hexadecimal digits,\nthen \" => \", then the line that show must write for it; lines that are empty or\nbegin with # are skipped. Vectors that fail don't change the exit number.\n\nExample:\n\n  $ echo '83 => alien' | clnp check\n  1 pass\n  passed 1 failed 0\n"
+
+abbrev pub check_form : Form
+check_form = record { name = codes "check"; takes = codes " < VECTORS"; does = codes "   reads frames with the lines expected of show and writes which pass"; page = check_page }
+
+unfoldable pub storm_page : List ℕ
+storm_page = codes "Reads nothing. Runs the scenario that the seed makes, four hosts and two routers\nwith some 600 events, and writes one line of what its journal counts. A seed is a\ndecimal number below 2^64; the same seed always gives the same line.\n\nExample:\n\n  $ clnp storm 1\n  storm 1 events 577 copies 1315 got 88 reports 84 echoed 13 drops 116 expired 6 end 399\n\nthat is how many event lines and copies there were, how many lines of each kind the\njournal has, and the clock at its end, in ticks of half a second.\n"
+
+abbrev pub storm_form : Form
+storm_form = record { name = codes "storm"; takes = codes " SEED"; does = codes "        runs the scenario that the seed makes and writes a line of what it counts"; page = storm_page }
 
 -- The commands. Whatever tells of them tells of these.
 abbrev pub commands : List Form
-commands =
-    record { words = codes "sim < SCENARIO"; does = codes "    reads a scenario and writes its journal" } ∷
-    record { words = codes "show < CAPTURE"; does = codes "    reads frames in hexadecimal digits and writes a line for each" } ∷
-    record { words = codes "check < VECTORS"; does = codes "   reads frames with the lines expected of show and writes which pass" } ∷
-    record { words = codes "storm SEED"; does = codes "        runs the scenario that the seed makes and writes a line of what it counts" } ∷
-    []
+commands = sim_form ∷ show_form ∷ check_form ∷ storm_form ∷ []
+
+-- a command as its user writes it
+abbrev pub words_of : Form → List ℕ
+words_of form = codes "clnp " ++ (form.name ++ form.takes)
 
 -- a command's line in the text of help
 abbrev pub help_line : Form → List ℕ
-help_line form = codes "  clnp " ++ (form.words ++ (form.does ++ codes "\n"))
+help_line form = codes "  " ++ (words_of form ++ (form.does ++ codes "\n"))
+
+-- a command's page: how it is written, and what it reads and writes
+unfoldable pub page_text : Form → List ℕ
+page_text form = words_of form ++ (codes "\n\n" ++ form.page)
 
 unfoldable pub version_text : List ℕ
 version_text = codes "clnp 0.1.0\n"
@@ -29,30 +58,40 @@ version_text = codes "clnp 0.1.0\n"
 unfoldable pub help_text : List ℕ
 help_text =
     codes "clnp simulates a connectionless network (ISO/IEC 8473, RFC 994).\n\n" ++ (flat_map help_line commands ++
-    codes "  clnp --help            writes this text\n  clnp --version         writes the version\n\nExit numbers:\n  0  done\n  1  the words are no command\n  2  the input has more than 16,777,216 octets\n  3  the input isn't a scenario, or has a bad line\n  4  the frames of the simulated network weigh 268,435,456 octets or more\n  5  standard input failed\n  6  standard output failed\n  8  no memory\n\nA scenario, in which the host a sends two octets to the host b:\n\n  clnp-sim 1\n  subnet lan 1500\n  system a host hello=0\n  system b host hello=0\n  address a 47002702\n  address b 47002701\n  port a 0 lan 01\n  port b 0 lan 02\n  events\n  send a 47002702 47002701 hex:6869 life=10 whole\n  settle 1\n  end\n")
+    codes "  clnp COMMAND --help    writes what a command reads and writes, with an example\n  clnp --help            writes this text, as clnp -h and clnp help do\n  clnp --version         writes the version\n\nExit numbers:\n  0  done\n  1  the words are no command\n  2  the input has more than 16,777,216 octets\n  3  the input isn't what the command reads: a line of it is bad\n  4  the frames of the simulated network weigh 268,435,456 octets or more\n  5  standard input failed\n  6  standard output failed\n  8  no memory\n\nA scenario, in which the host a sends two octets to the host b:\n\n  clnp-sim 1\n  subnet lan 1500\n  system a host hello=0\n  system b host hello=0\n  address a 47002702\n  address b 47002701\n  port a 0 lan 01\n  port b 0 lan 02\n  events\n  send a 47002702 47002701 hex:6869 life=10 whole\n  settle 1\n  end\n")
+
+-- the words that ask for help, each alone
+abbrev pub asks_for_help : List ℕ → Bool
+asks_for_help word = bytes_eq word (codes "--help") || (bytes_eq word (codes "-h") || bytes_eq word (codes "help"))
 
 -- the text that a word asks for about the program itself
 abbrev pub information_on : List ℕ → Option (List ℕ)
 information_on word =
-    if bytes_eq word (codes "--help") then Some help_text
+    if asks_for_help word then Some help_text
     else if bytes_eq word (codes "--version") then Some version_text
     else None
 
--- the text that the words ask for about the program itself: one word that stands alone
+-- the page of the command of a name
+abbrev pub page_among : List Form → List ℕ → Option (List ℕ)
+page_among [] name = None
+page_among (form ∷ forms) name = if bytes_eq name form.name then Some (page_text form) else page_among forms name
+
+-- the text that the words ask for about the program itself: one word that stands alone, or a command and `--help`
 abbrev pub information : List (List ℕ) → Option (List ℕ)
 information [] = None
 information (word ∷ []) = information_on word
-information (word ∷ second ∷ others) = None
+information (word ∷ second ∷ []) = if bytes_eq second (codes "--help") then page_among commands word else None
+information (word ∷ second ∷ third ∷ others) = None
 
 -- the commands one after another, the last behind "or"
 abbrev pub one_of : List Form → List ℕ
 one_of [] = []
-one_of (form ∷ []) = codes "or clnp " ++ form.words
-one_of (form ∷ next ∷ others) = codes "clnp " ++ (form.words ++ (codes ", " ++ one_of (next ∷ others)))
+one_of (form ∷ []) = codes "or " ++ form.name
+one_of (form ∷ next ∷ others) = form.name ++ (codes ", " ++ one_of (next ∷ others))
 
--- the line that says which words are commands
+-- the line that says which words are commands, and where more is told of them
 unfoldable pub wanted : List ℕ
-wanted = codes "clnp: wanted: " ++ (one_of commands ++ codes "\n")
+wanted = codes "clnp: wanted: " ++ (one_of commands ++ codes "; clnp --help tells of each\n")
 
 -- what stands behind the text of a fault: the end of its line, and behind bad words which words are commands
 abbrev pub behind_fault : Fault → List ℕ

@@ -15,7 +15,7 @@ use thiserror::Error;
 
 /// The end of the line of bad words, and which words are commands.
 const WANTED: &str = "
-clnp: wanted: clnp sim < SCENARIO, clnp show < CAPTURE, clnp check < VECTORS, or clnp storm SEED
+clnp: wanted: sim, show, check, or storm; clnp --help tells of each
 ";
 
 /// Why a call of the program didn't do all that was asked.

@@ -1,6 +1,8 @@
 //! What the program says of itself.
 ghost use Rattle.std.specs.Prelude.{◌≡◌, map, string_bytes, option_copied};
-ghost use Rattle.clnp_program.specs.Texts.{help_text, information, information_on, version_text};
+ghost use Rattle.clnp_program.specs.Texts.{asks_for_help, help_text, information, information_on, version_text};
+
+use crate::pages::page_of;
 
 const VERSION: &str = "clnp 0.1.0\n";
 
@@ -11,14 +13,15 @@ clnp simulates a connectionless network (ISO/IEC 8473, RFC 994).
   clnp show < CAPTURE    reads frames in hexadecimal digits and writes a line for each
   clnp check < VECTORS   reads frames with the lines expected of show and writes which pass
   clnp storm SEED        runs the scenario that the seed makes and writes a line of what it counts
-  clnp --help            writes this text
+  clnp COMMAND --help    writes what a command reads and writes, with an example
+  clnp --help            writes this text, as clnp -h and clnp help do
   clnp --version         writes the version
 
 Exit numbers:
   0  done
   1  the words are no command
   2  the input has more than 16,777,216 octets
-  3  the input isn't a scenario, or has a bad line
+  3  the input isn't what the command reads: a line of it is bad
   4  the frames of the simulated network weigh 268,435,456 octets or more
   5  standard input failed
   6  standard output failed
@@ -40,12 +43,13 @@ A scenario, in which the host a sends two octets to the host b:
   end
 ";
 
-/// The text that the words ask for about the program itself, if they do: a word that stands alone.
+/// The text that the words ask for about the program itself, if they do: a word that stands alone, or a command and `--help`.
 pub(crate) fn information(words: &[String]) -> Option<&'static str>
     ensures { option_copied result ≡ information (map string_bytes words.now) }
 {
     match words {
         [word] => information_on(word.as_str()),
+        [word, second] if second.as_str() == "--help" => page_of(word.as_str()),
         _ => None,
     }
 }
@@ -54,13 +58,20 @@ pub(crate) fn information(words: &[String]) -> Option<&'static str>
 fn information_on(word: &str) -> Option<&'static str>
     ensures { option_copied result ≡ information_on word.now }
 {
-    if word == "--help" {
+    if asks_for_help(word) {
         Some(help())
     } else if word == "--version" {
         Some(version())
     } else {
         None
     }
+}
+
+/// Whether a word asks for help.
+fn asks_for_help(word: &str) -> bool
+    ensures { result ≡ asks_for_help word.now }
+{
+    word == "--help" || word == "-h" || word == "help"
 }
 
 /// The answer to `--help`.

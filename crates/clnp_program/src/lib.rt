@@ -5,6 +5,7 @@
 mod call;
 mod fault;
 mod help;
+mod pages;
 
 pub use call::{end, run};
 pub use clnp_commands;

@@ -6,7 +6,7 @@ use std::process::Abort;
 
 /// What standard error gets behind bad words.
 const BAD_WORDS: &str =
-    "clnp: bad words at 2\nclnp: wanted: clnp sim < SCENARIO, clnp show < CAPTURE, clnp check < VECTORS, or clnp storm SEED\n";
+    "clnp: bad words at 2\nclnp: wanted: sim, show, check, or storm; clnp --help tells of each\n";
 
 /// A sink that takes all, but fails at the call of this number, from 1.
 fn sink_of(rt: &impl Abort, alloc: Global, fails: u64) -> MemSink {
