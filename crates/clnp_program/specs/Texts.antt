@@ -12,85 +12,65 @@ pub record Form : Type 0 where
   pub does : List ℕ
   pub page : List ℕ
 
-unfoldable pub sim_form : Form
-sim_form = record {
-  name = codes "sim";
-  takes = codes " < SCENARIO";
-  does = codes "    reads a scenario and writes its journal";
-  page = codes "Reads a scenario text and writes the journal of its run: a line for each thing\nthat happened, with its moment in ticks, the system's name and a note. Nothing is\nwritten before the whole text was accepted; a bad line is told on standard error.\n\nExample:\n\n  $ clnp sim < hi.txt\n  0 a sent dt 1 - 47002702 47002701 2\n  0 a tx 1 0 es 8113010a3c0015ce58044700270104470027026869\n  0 b got 47002702 47002701 6869\n  end 0 1\n\nwhere hi.txt is the scenario at the end of clnp --help.\n";
-}
+unfoldable pub sim_page : List ℕ
+sim_page = codes "Reads a scenario text and writes the journal of its run: a line for each thing\nthat happened, with its moment in ticks, the system's name and a note. Nothing is\nwritten before the whole text was accepted; a bad line is told on standard error.\n\nExample:\n\n  $ clnp sim < hi.txt\n  0 a sent dt 1 - 47002702 47002701 2\n  0 a tx 1 0 es 8113010a3c0015ce58044700270104470027026869\n  0 b got 47002702 47002701 6869\n  end 0 1\n\nwhere hi.txt is the scenario at the end of clnp --help.\n"
 
-unfoldable pub show_form : Form
-show_form = record {
-  name = codes "show";
-  takes = codes " < CAPTURE";
-  does = codes "    reads frames in hexadecimal digits and writes a line for each";
-  page = codes "Reads a capture and writes a line of text for each of its frames, up to the first\nbad line. A frame stands in a line of its own, in hexadecimal digits, two an octet,\nand nothing else; lines that are empty or begin with # are skipped.\n\nExample:\n\n  $ echo 8113010a3c0015ce58044700270104470027026869 | clnp show\n  clnp dt e life=10 sum=ce58 to=47002701 from=47002702 data=6869 rest=\n";
-}
+abbrev pub sim_form : Form
+sim_form = record { name = codes "sim"; takes = codes " < SCENARIO"; does = codes "    reads a scenario and writes its journal"; page = sim_page }
 
-unfoldable pub check_form : Form
-check_form = record {
-  name = codes "check";
-  takes = codes " < VECTORS";
-  does = codes "   reads frames with the lines expected of show and writes which pass";
-  page = codes "Reads vectors and writes for each whether it passes, up to the first bad line, and\nat the end how many passed and failed. A vector is a frame in hexadecimal digits,\nthen \" => \", then the line that show must write for it; lines that are empty or\nbegin with # are skipped. Vectors that fail don't change the exit number.\n\nExample:\n\n  $ echo '83 => alien' | clnp check\n  1 pass\n  passed 1 failed 0\n";
-}
+unfoldable pub show_page : List ℕ
+show_page = codes "Reads a capture and writes a line of text for each of its frames, up to the first\nbad line. A frame stands in a line of its own, in hexadecimal digits, two an octet,\nand nothing else; lines that are empty or begin with # are skipped.\n\nExample:\n\n  $ echo 8113010a3c0015ce58044700270104470027026869 | clnp show\n  clnp dt e life=10 sum=ce58 to=47002701 from=47002702 data=6869 rest=\n"
 
-unfoldable pub pack_form : Form
-pack_form = record {
-  name = codes "pack";
-  takes = codes " < SHOWN";
-  does = codes "      reads lines that show frames and writes the frame of each";
-  page = codes "Reads lines of text as clnp show writes them and writes the frame that each of them\nshows, in hexadecimal digits, up to the first line that shows no accepted frame;\nlines that are empty or begin with # are skipped. Each checksum must be right: show\na frame, change a line, and the line is refused where it is no frame's any more.\n\nExample:\n\n  $ echo 'rd hold=120 sum=adc8 to=47002701 via=02 title= rest=' | clnp pack\n  82110100060078adc80447002701010200\n";
-}
+abbrev pub show_form : Form
+show_form = record { name = codes "show"; takes = codes " < CAPTURE"; does = codes "    reads frames in hexadecimal digits and writes a line for each"; page = show_page }
 
-unfoldable pub pcap_show_form : Form
-pcap_show_form = record {
-  name = codes "pcap-show";
-  takes = codes " < FILE";
-  does = codes "  reads an Ethernet capture and writes a line for each record";
-  page = codes "Reads an Ethernet capture in a pcap file, as tcpdump -w and tshark -F pcap write it,\nof up to 1,073,741,824 octets, and writes a line for each record while it reads: its\nnumber, from 1, then other, or cut, or the destination, the source and the line that\nshows the OSI PDU in it. It stops at the first fault of the file.\n\nExample:\n\n  $ clnp pcap-show < hello.pcap\n  1 is 0a0000000001 esh hold=120 sum=324b addr=47002702 rest=\n\nwhere hello.pcap is what the example of clnp pcap-make --help makes.\n";
-}
+unfoldable pub check_page : List ℕ
+check_page = codes "Reads vectors and writes for each whether it passes, up to the first bad line, and\nat the end how many passed and failed. A vector is a frame in hexadecimal digits,\nthen \" => \", then the line that show must write for it; lines that are empty or\nbegin with # are skipped. Vectors that fail don't change the exit number.\n\nExample:\n\n  $ echo '83 => alien' | clnp check\n  1 pass\n  passed 1 failed 0\n"
 
-unfoldable pub pcap_make_form : Form
-pcap_make_form = record {
-  name = codes "pcap-make";
-  takes = codes " < LINES";
-  does = codes " reads lines of frames and writes an Ethernet capture of them";
-  page = codes "Reads lines SECONDS DST SRC HEX and writes a pcap file with an Ethernet frame for each,\nup to the first bad line: the second at which it came, its destination (es, is, or six\noctets in hexadecimal digits), its source, and the OSI PDU in it, of up to 1,497\noctets. Lines that are empty or begin with # are skipped.\n\nExample:\n\n  $ echo '0 is 0a0000000001 820f0100020078324b010447002702' | clnp pcap-make > hello.pcap\n";
-}
+abbrev pub check_form : Form
+check_form = record { name = codes "check"; takes = codes " < VECTORS"; does = codes "   reads frames with the lines expected of show and writes which pass"; page = check_page }
 
-unfoldable pub pcap_lines_form : Form
-pcap_lines_form = record {
-  name = codes "pcap-lines";
-  takes = codes " < FILE";
-  does = codes " reads an Ethernet capture and writes lines for clnp pcap-make";
-  page = codes "Reads an Ethernet capture as clnp pcap-show does and writes for each record with an OSI\nPDU the line of which clnp pcap-make makes its frame, and for every other record a\nremark: # N other, # N cut, or # N empty where the PDU has no octets.\n\nExample:\n\n  $ clnp pcap-lines < hello.pcap\n  0 is 0a0000000001 820f0100020078324b010447002702\n";
-}
+unfoldable pub pack_page : List ℕ
+pack_page = codes "Reads lines of text as clnp show writes them and writes the frame that each of them\nshows, in hexadecimal digits, up to the first line that shows no accepted frame;\nlines that are empty or begin with # are skipped. Each checksum must be right: show\na frame, change a line, and the line is refused where it is no frame's any more.\n\nExample:\n\n  $ echo 'rd hold=120 sum=adc8 to=47002701 via=02 title= rest=' | clnp pack\n  82110100060078adc80447002701010200\n"
 
-unfoldable pub reassemble_form : Form
-reassemble_form = record {
-  name = codes "reassemble";
-  takes = codes " < TEXT";
-  does = codes " reads captured frames and writes the units that they make";
-  page = codes "Reads captured frames with the moment of each, and writes what comes of each of them:\nthe units that their segments make, and what is held, repeated or refused. Sources\nthat have a share have reassembly buffers of their own, so that nothing that comes\nfrom others takes them. Nothing is written before the whole text was accepted.\n\nExample:\n\n  $ clnp reassemble < traffic.txt\n  3 unit 47002702 47002701 dt 6869\n  end 1\n\nwhere traffic.txt is\n\n  clnp-reassemble 1\n  others 1 4 512 10\n  share 47002702 1 4 512\n  frames\n  3 8113010a3c0015ce58044700270104470027026869\n  end\n";
-}
+abbrev pub pack_form : Form
+pack_form = record { name = codes "pack"; takes = codes " < SHOWN"; does = codes "      reads lines that show frames and writes the frame of each"; page = pack_page }
 
-unfoldable pub migrate_form : Form
-migrate_form = record {
-  name = codes "migrate";
-  takes = codes " < SCENARIO";
-  does = codes "\n                         reads a scenario of version 1 and writes it in version 2";
-  page = codes "Reads a scenario text of version 1 and writes the same scenario in version 2, with\neach setting said. Its journal is the same. A bad line is told on standard error.\n\nExample:\n\n  $ clnp migrate < hi.txt | head -n 2\n  clnp-sim 2\n  limits 256 60 320 0\n\nwhere hi.txt is the scenario at the end of clnp --help.\n";
-}
+unfoldable pub pcap_show_page : List ℕ
+pcap_show_page = codes "Reads an Ethernet capture in a pcap file, as tcpdump -w and tshark -F pcap write it,\nof up to 1,073,741,824 octets, and writes a line for each record while it reads: its\nnumber, from 1, then other, or cut, or the destination, the source and the line that\nshows the OSI PDU in it. It stops at the first fault of the file.\n\nExample:\n\n  $ clnp pcap-show < hello.pcap\n  1 is 0a0000000001 esh hold=120 sum=324b addr=47002702 rest=\n\nwhere hello.pcap is what the example of clnp pcap-make --help makes.\n"
 
-unfoldable pub storm_form : Form
-storm_form = record {
-  name = codes "storm";
-  takes = codes " SEED";
-  does = codes "        runs the scenario that the seed makes and writes a line of what it counts";
-  page = codes "Reads nothing. Runs the scenario that the seed makes, four hosts and two routers\nwith some 600 events, and writes one line of what its journal counts. A seed is a\ndecimal number below 2^64; the same seed always gives the same line.\n\nExample:\n\n  $ clnp storm 1\n  storm 1 events 577 copies 1315 got 88 reports 84 echoed 13 drops 116 expired 6 end 399\n\nthat is how many event lines and copies there were, how many lines of each kind the\njournal has, and the clock at its end, in ticks of half a second.\n";
-}
+abbrev pub pcap_show_form : Form
+pcap_show_form = record { name = codes "pcap-show"; takes = codes " < FILE"; does = codes "  reads an Ethernet capture and writes a line for each record"; page = pcap_show_page }
+
+unfoldable pub pcap_make_page : List ℕ
+pcap_make_page = codes "Reads lines SECONDS DST SRC HEX and writes a pcap file with an Ethernet frame for each,\nup to the first bad line: the second at which it came, its destination (es, is, or six\noctets in hexadecimal digits), its source, and the OSI PDU in it, of up to 1,497\noctets. Lines that are empty or begin with # are skipped.\n\nExample:\n\n  $ echo '0 is 0a0000000001 820f0100020078324b010447002702' | clnp pcap-make > hello.pcap\n"
+
+abbrev pub pcap_make_form : Form
+pcap_make_form = record { name = codes "pcap-make"; takes = codes " < LINES"; does = codes " reads lines of frames and writes an Ethernet capture of them"; page = pcap_make_page }
+
+unfoldable pub pcap_lines_page : List ℕ
+pcap_lines_page = codes "Reads an Ethernet capture as clnp pcap-show does and writes for each record with an OSI\nPDU the line of which clnp pcap-make makes its frame, and for every other record a\nremark: # N other, # N cut, or # N empty where the PDU has no octets.\n\nExample:\n\n  $ clnp pcap-lines < hello.pcap\n  0 is 0a0000000001 820f0100020078324b010447002702\n"
+
+abbrev pub pcap_lines_form : Form
+pcap_lines_form = record { name = codes "pcap-lines"; takes = codes " < FILE"; does = codes " reads an Ethernet capture and writes lines for clnp pcap-make"; page = pcap_lines_page }
+
+unfoldable pub reassemble_page : List ℕ
+reassemble_page = codes "Reads captured frames with the moment of each, and writes what comes of each of them:\nthe units that their segments make, and what is held, repeated or refused. Sources\nthat have a share have reassembly buffers of their own, so that nothing that comes\nfrom others takes them. Nothing is written before the whole text was accepted.\n\nExample:\n\n  $ clnp reassemble < traffic.txt\n  3 unit 47002702 47002701 dt 6869\n  end 1\n\nwhere traffic.txt is\n\n  clnp-reassemble 1\n  others 1 4 512 10\n  share 47002702 1 4 512\n  frames\n  3 8113010a3c0015ce58044700270104470027026869\n  end\n"
+
+abbrev pub reassemble_form : Form
+reassemble_form = record { name = codes "reassemble"; takes = codes " < TEXT"; does = codes " reads captured frames and writes the units that they make"; page = reassemble_page }
+
+unfoldable pub migrate_page : List ℕ
+migrate_page = codes "Reads a scenario text of version 1 and writes the same scenario in version 2, with\neach setting said. Its journal is the same. A bad line is told on standard error.\n\nExample:\n\n  $ clnp migrate < hi.txt | head -n 2\n  clnp-sim 2\n  limits 256 60 320 0\n\nwhere hi.txt is the scenario at the end of clnp --help.\n"
+
+abbrev pub migrate_form : Form
+migrate_form = record { name = codes "migrate"; takes = codes " < SCENARIO"; does = codes "\n                         reads a scenario of version 1 and writes it in version 2"; page = migrate_page }
+
+unfoldable pub storm_page : List ℕ
+storm_page = codes "Reads nothing. Runs the scenario that the seed makes, four hosts and two routers\nwith some 600 events, and writes one line of what its journal counts. A seed is a\ndecimal number below 2^64; the same seed always gives the same line.\n\nExample:\n\n  $ clnp storm 1\n  storm 1 events 577 copies 1315 got 88 reports 84 echoed 13 drops 116 expired 6 end 399\n\nthat is how many event lines and copies there were, how many lines of each kind the\njournal has, and the clock at its end, in ticks of half a second.\n"
+
+abbrev pub storm_form : Form
+storm_form = record { name = codes "storm"; takes = codes " SEED"; does = codes "        runs the scenario that the seed makes and writes a line of what it counts"; page = storm_page }
 
 -- The commands. Whatever tells of them tells of these.
 abbrev pub commands : List Form
@@ -107,7 +87,7 @@ abbrev pub help_line : Form → List ℕ
 help_line form = codes "  " ++ (words_of form ++ (form.does ++ codes "\n"))
 
 -- a command's page: how it is written, and what it reads and writes
-abbrev pub page_text : Form → List ℕ
+unfoldable pub page_text : Form → List ℕ
 page_text form = words_of form ++ (codes "\n\n" ++ form.page)
 
 unfoldable pub version_text : List ℕ

@@ -1,6 +1,6 @@
 //! What the program says of each command.
 ghost use Rattle.std.specs.Prelude.{◌≡◌, option_copied};
-ghost use Rattle.clnp_program.specs.Texts.{commands, page_among, page_text, check_form, migrate_form, pack_form, pcap_lines_form, pcap_make_form, pcap_show_form, reassemble_form, show_form, sim_form, storm_form};
+ghost use Rattle.clnp_program.specs.Texts.{check_form, commands, migrate_form, pack_form, page_among, page_text, pcap_lines_form, pcap_make_form, pcap_show_form, reassemble_form, show_form, sim_form, storm_form};
 
 const SIM: &str = "\
 clnp sim < SCENARIO

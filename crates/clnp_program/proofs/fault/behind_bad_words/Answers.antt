@@ -1,7 +1,7 @@
 use Rattle.std.proofs.Common.{refl}
-use Rattle.clnp_program.specs.Texts.{wanted, sim_form, show_form, check_form, pack_form, pcap_show_form, pcap_make_form, pcap_lines_form, reassemble_form, migrate_form, storm_form}
+use Rattle.clnp_program.specs.Texts.{wanted}
 use Rattle.clnp_program.proofs.fault.behind_bad_words.Goals as goal
 
 pub returns : goal.returns
-unfolding wanted sim_form show_form check_form pack_form pcap_show_form pcap_make_form pcap_lines_form reassemble_form migrate_form storm_form
+unfolding wanted
 returns c = refl
