@@ -1,7 +1,8 @@
 #!/usr/bin/env bash
 # Measures `clnp pcap-show` beside a plain Rust program that does the same: pcap files of 200 MB, one of short frames and
 # one of frames of 1,400 octets, both with some frames that carry no OSI PDU. Each is the best of so many runs of both, in
-# turn. It needs rustc.
+# turn; the peak in the last line is that of the program alone, where measure.py's has Python's in it. It needs rustc and GNU
+# time.
 # usage: bench/pcap.sh [RUNS [PROGRAM]]
 set -eu
 root="$(cd "$(dirname "$0")/.." && pwd)"
@@ -51,4 +52,5 @@ PYTHON
 for frames in short long; do
     echo "pcap-show, $frames frames:"
     "$root/bench/measure.py" "${1:-5}" "$work/$frames" "$program" pcap-show "$work/plain"
+    command time -f "  peak of clnp %M KiB" "$program" pcap-show < "$work/$frames" > /dev/null
 done

@@ -14,6 +14,7 @@ import sys
 ROOT = os.path.dirname(os.path.dirname(os.path.abspath(__file__)))
 GROUPS = {"09002b000004": "es", "09002b000005": "is"}
 HELLO = bytes.fromhex("820f0100020078324b010447002702")
+NAMES = {2: "syntax", 3: "number", 4: "address", 10: "count", 11: "magic", 12: "version", 13: "link-type", 14: "record-length", 15: "cut-file"}
 TO, FROM = bytes.fromhex("09002b000005"), bytes.fromhex("0a0000000001")
 
 
@@ -192,8 +193,8 @@ def run(program, command, octets):
 
 def check(program, command, octets, wanted, fault):
     written, number, said = run(program, command, octets)
-    told = f"line {fault[0]} code {fault[1]}".encode() if fault else None
-    if written != wanted or number != (3 if fault else 0) or (told and told not in said):
+    told = f"clnp: bad input at line {fault[0]}: {NAMES[fault[1]]}\n".encode() if fault else b""
+    if written != wanted or number != (3 if fault else 0) or not said.startswith(told):
         sys.exit(f"{command} of {octets[:200].hex()}: {number}, {said!r}, {written[:400]!r}; wanted {fault}, {wanted[:400]!r}")
 
 

@@ -7,4 +7,5 @@ pub mod Answering
 pub mod FrameLines
 pub mod Makes
 pub mod PlainWords
+pub mod Worked
 pub mod WrittenLines
