@@ -3,7 +3,7 @@
 magic numbers in both orders of octets, each fault at each place of header and record, each cut, frames at each bound of
 their length, and lines of every code; and on random files, changed and cut.
 
-usage: tests/pcap.py [PROGRAM] [RANDOM]     PROGRAM is the built program, RANDOM how many random files
+usage: tests/gate/pcap.py [PROGRAM] [RANDOM]     PROGRAM is the built program, RANDOM how many random files
 """
 import os
 import random
@@ -11,7 +11,7 @@ import struct
 import subprocess
 import sys
 
-ROOT = os.path.dirname(os.path.dirname(os.path.abspath(__file__)))
+ROOT = os.path.abspath(os.path.join(os.path.dirname(__file__), "..", ".."))
 GROUPS = {"09002b000004": "es", "09002b000005": "is"}
 HELLO = bytes.fromhex("820f0100020078324b010447002702")
 NAMES = {2: "syntax", 3: "number", 4: "address", 10: "count", 11: "magic", 12: "version", 13: "link-type", 14: "record-length", 15: "cut-file"}

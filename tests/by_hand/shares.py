@@ -1,7 +1,7 @@
 #!/usr/bin/env python3
 """Compares `clnp reassemble` with a plain model of its grammar and of the tables of sources.
 
-usage: tests/shares.py [--program PATH | --try] [TEXTS [FIRST]]
+usage: tests/by_hand/shares.py [--program PATH | --try] [TEXTS [FIRST]]
 
 Random texts, a third of them with a line changed, must come to the model's output, or to its bad line and code; then one of
 100,000 frames; and last a flood: 99,000 segments from everywhere beside 1,000 frames of one source that has a share, whose lines
@@ -15,11 +15,13 @@ import re
 import subprocess
 import sys
 
+ROOT = os.path.abspath(os.path.join(os.path.dirname(__file__), "..", ".."))
+sys.path.append(os.path.join(ROOT, "tests", "models"))
+
 from frames import clnp
 from pdu_model import Broken, read_clnp
 from scenario_model import ADDRESS, COUNT, DUP_ADDRESS, HEADER, NUMBER, SYNTAX, Refused, address, lines_of, number, want
 
-ROOT = os.path.dirname(os.path.dirname(os.path.abspath(__file__)))
 PROGRAM = os.path.join(ROOT, "crates", "clnp_tool", "out", "clnp_tool")
 MOST_FRAMES, MOST_OCTETS = 100_000, 70_000
 
