@@ -71,7 +71,13 @@ fn a_host_sends_and_receives(rt: HostRuntime) {
     see_host(&rt, &host);
     assert!(&rt; out.len() == 5);
     see_sent(&rt, out.get(0), 1);
-    see_frame(&rt, out.get(1), Target::EndSystems, &FROM_THE_HOST[..19], b"hi");
+    see_frame(
+        &rt,
+        out.get(1),
+        Target::EndSystems,
+        &FROM_THE_HOST[..19],
+        b"hi",
+    );
     see_sent(&rt, out.get(2), 2);
     see_got(&rt, out.get(4));
 }

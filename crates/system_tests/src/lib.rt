@@ -8,5 +8,3 @@ mod host_calls;
 mod network;
 #[cfg(test)]
 mod router_calls;
-#[cfg(test)]
-mod system_calls;

@@ -91,5 +91,5 @@ pub fn see_got(rt: &impl Abort, output: Option<&Output>) {
     let Some(Output::Note(Note::Got { octets, .. })) = output else {
         panic!(rt; "nothing is handed up");
     };
-    assert!(rt; octets.as_bytes() == b"hi");
+    assert!(rt; octets.as_bytes() == b"hi".as_slice());
 }

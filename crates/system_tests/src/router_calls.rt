@@ -2,9 +2,10 @@ use crate::network::{FROM_THE_HOST, FROM_THE_ROUTER, address, scenario_of, see_f
 use clnp_machine::clnp_plan::{Limits, Output, Role, SystemConfig};
 use clnp_machine::clnp_views::Frame;
 use clnp_machine::nsap::{Snpa, Target};
-use clnp_systems::router::{Router, Way};
+use clnp_systems::router::Router;
 use std::alloc::Global;
 use std::process::Abort;
+use system_entity::Way;
 
 /// The host at the end of the router's route.
 fn end_of_the_route(rt: &impl Abort) -> Snpa {
@@ -69,8 +70,8 @@ fn a_router_forwards(rt: HostRuntime) {
     forward(&rt, alloc, &mut router, &mut out);
     let to = Target::System(end_of_the_route(&rt));
     see_frame(&rt, out.get(0), to, &FROM_THE_ROUTER[..19], b"hi");
-    // The way leads back to the subnetwork from which the PDU came, so its sender is told the better one.
-    assert!(&rt; out.len() == 3);
+    // The way leads back to where the PDU came from, but the router doesn't know that its source is there: no redirect follows.
+    assert!(&rt; out.len() == 1);
     out.clear();
     echo(&rt, alloc, &mut router, &mut out);
     see_sent(&rt, out.get(0), 1);
