@@ -1,9 +1,9 @@
 -- What the program says of itself on standard output, and behind a fault on standard error. Lines end in 10.
-use Rattle.std.specs.Prelude.{ℕ, ◌||◌, Bool, if◌then◌else◌, List, [], ◌∷◌, ◌++◌, codes, Option, None, Some}
+use Rattle.std.specs.Prelude.{ℕ, ◌==◌, ◌||◌, Bool, if◌then◌else◌, List, [], ◌∷◌, ◌++◌, codes, Option, None, Some}
 use Rattle.std.specs.List.{flat_map}
 use Rattle.std.specs.Str.{bytes_eq}
 use Rattle.clnp_program.specs.declared.fault.Fault.{Fault}
-use Rattle.clnp_program.specs.declared.fault.Fault.TheVariants.{BadWords}
+use Rattle.clnp_program.specs.declared.fault.Fault.TheVariants.{BadWords, BadInput}
 
 -- a command: its name, what stands behind it on the command line, what it does in a line, and its page
 pub record Form : Type 0 where
@@ -131,7 +131,15 @@ one_of (form ∷ next ∷ others) = form.name ++ (codes ", " ++ one_of (next ∷
 unfoldable pub wanted : List ℕ
 wanted = codes "clnp: wanted: " ++ (one_of commands ++ codes "; clnp --help tells of each\n")
 
--- what stands behind the text of a fault: the end of its line, and behind bad words which words are commands
+-- what stands behind the end of a line that tells of an input with this code: how a capture in another form is turned into one
+-- that is read, behind a magic number that is none
+abbrev pub behind_code : ℕ → List ℕ
+behind_code code =
+    if code == 11 then codes "clnp: a file in the pcapng form is turned into one by: tshark -r FILE -F pcap -w FILE.pcap\n" else []
+
+-- what stands behind the text of a fault: the end of its line, behind bad words which words are commands, and behind a magic
+-- number that is none how a capture in another form is turned into one that is read
 abbrev pub behind_fault : Fault → List ℕ
 behind_fault (BadWords at) = codes "\n" ++ wanted
+behind_fault (BadInput line code) = codes "\n" ++ behind_code code
 behind_fault _ = codes "\n"

@@ -4,7 +4,7 @@ ghost use Rattle.std.specs.Io.KnownBytes.{Appends};
 ghost use Rattle.clnp_commands.specs.ClnpBase.Streams.{Rose};
 ghost use Rattle.clnp_program.specs.Answers.{Tells, TellsFault};
 ghost use Rattle.clnp_program.specs.Faults.{fault_of};
-ghost use Rattle.clnp_program.specs.Texts.{behind_fault, wanted};
+ghost use Rattle.clnp_program.specs.Texts.{behind_code, behind_fault, wanted};
 
 use arrayvec::ArrayString;
 use clnp_commands::Status;
@@ -16,6 +16,14 @@ use thiserror::Error;
 /// The end of the line of bad words, and which words are commands.
 const WANTED: &str = "
 clnp: wanted: sim, show, check, pack, pcap-show, pcap-make, pcap-lines, reassemble, migrate, or storm; clnp --help tells of each
+";
+
+/// The code of a magic number that is none.
+const MAGIC: u8 = 11;
+
+/// The end of the line of a magic number that is none, and what may be done.
+const PCAPNG: &str = "
+clnp: a file in the pcapng form is turned into one by: tshark -r FILE -F pcap -w FILE.pcap
 ";
 
 /// Why a call of the program didn't do all that was asked.
@@ -113,14 +121,23 @@ fn text_of(fault: Fault) -> ArrayString<MOST_TEXT> {
     text
 }
 
-/// What stands behind the text of a fault: the end of its line, and behind bad words which words are commands.
+/// What stands behind the text of a fault: the end of its line, behind bad words which words are commands, and behind a magic
+/// number that is none how a capture in another form is turned into one that is read.
 fn behind(fault: Fault) -> &'static str
     ensures { result.now ≡ behind_fault fault }
 {
     match fault {
         Fault::BadWords { .. } => behind_bad_words(),
+        Fault::BadInput { code: MAGIC, .. } => behind_magic(),
         _ => "\n",
     }
+}
+
+/// The end of a line, and how a capture in another form is turned into one that is read.
+fn behind_magic() -> &'static str
+    ensures { result.now ≡ codes "\n" ++ behind_code 11 }
+{
+    PCAPNG
 }
 
 /// The end of a line, and which words are commands.
