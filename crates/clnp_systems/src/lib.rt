@@ -4,5 +4,6 @@
 mod system;
 
 pub use end_system;
+pub use end_system::Input;
 pub use router;
 pub use system::System;

@@ -1,22 +1,15 @@
 //! A system of a network.
-ghost use Rattle.std.specs.Prelude.{◌≡◌, ◌≤◌, ◌<◌, ◌+◌, ◌^◌, ℕ, Err, IfErr, IfNone, IfOk, IfSome, MatchResult, None, OnOk, OnErr, IsErr, true, length};
-ghost use Rattle.clnp_machine.specs.ClnpPlan.declared.ask.SendRefusal.TheVariants.{NoMemory as WantsMemory};
+ghost use Rattle.std.specs.Prelude.{◌≡◌, ◌≤◌, ◌<◌, ◌+◌, ◌^◌, ℕ, IfNone, IfOk, IfSome, OnOk, OnErr, IsErr, true};
 ghost use Rattle.clnp_machine.specs.ClnpPlan.declared.config.Role.TheVariants as role;
-ghost use Rattle.clnp_machine.specs.Content.{Content, IsCarried, frame_of};
-ghost use Rattle.clnp_machine.specs.Given.{Appends, AppendsFor};
-ghost use Rattle.clnp_machine.specs.Local.{refusal, request_unit};
-ghost use Rattle.clnp_machine.specs.Step.{step};
-ghost use Rattle.clnp_machine.specs.System.{SystemState, AsksForEcho, FrameComes, IsRestarted, IsCongested, MomentComes, first_state, next_number};
-ghost use Rattle.end_system.specs.LocalEntity.Local.{IsWhy};
-ghost use Rattle.end_system.specs.SystemEntity.Stands.{IsLeftBy};
+ghost use Rattle.clnp_machine.specs.Content.{Content};
+ghost use Rattle.clnp_machine.specs.System.{first_state};
+ghost use Rattle.end_system.specs.SystemEntity.Steps.{Carries, IsSpentIn, MayCome, TakesStep, input_with};
 ghost use Rattle.clnp_systems.specs.declared.system.System.TheVariants as variant;
-ghost use Rattle.clnp_systems.specs.Stands.{Stands, configuration_of, entity_of};
+ghost use Rattle.clnp_systems.specs.Stands.{Stands, configuration_of, entity_of, role_of};
 
 use clnp_machine::clnp_base::NoMemory;
-use clnp_machine::clnp_plan::{Limits, Output, Role, SendRefusal, SystemConfig};
-use clnp_machine::clnp_views::Frame;
-use clnp_machine::nsap::{Address, Snpa};
-use end_system::EndSystem;
+use clnp_machine::clnp_plan::{Limits, Output, Role, SystemConfig};
+use end_system::{EndSystem, Input};
 use router::Router;
 use std::alloc::Global;
 
@@ -55,117 +48,27 @@ impl System {
         }
     }
 
-    /// A moment has come: what was waiting for it happens, and what the system gives out is appended.
+    /// Something comes, whatever it is; what the system gives out is appended, and with it the note of a restart, of congestion, or
+    /// of a unit that isn't made. A host that is congested does nothing else than before.
     ///
     /// # Errors
     ///
-    /// `NoMemory`: `out` is then as it was, and the system is spent.
-    pub fn tick(&mut self, alloc: Global, now: u64, out: &mut Vec<Output>) -> Result<(), NoMemory>
-        requires later { (entity_of self.old).moment ≤ now }
-        requires moment { now < 2 ^ 62 }
-        ensures stands { OnOk result ((s : SystemState) → Stands self.old s → Stands self.new (step s (MomentComes now)).after) }
-        ensures outputs { OnOk result ((s : SystemState) → Stands self.old s
-            → Appends now out.old.items out.new.items (step s (MomentComes now)).outputs) }
-        ensures moment { OnOk result ((entity_of self.new).moment ≡ now) }
-        ensures none { OnErr result (out.new.items ≡ out.old.items) }
-        ensures spent { OnErr result ((entity_of self.new).spent ≡ true) }
-        ensures config { configuration_of self.new ≡ configuration_of self.old }
-    {
-        match self {
-            System::Host(host) => host.tick(alloc, now, out),
-            System::Router(router) => router.tick(alloc, now, out),
-        }
-    }
-
-    /// A frame comes at a port, from a system of this subnetwork, to this one alone or through a group; what it gives
-    /// out is appended.
-    ///
-    /// # Errors
-    ///
-    /// `NoMemory`: `out` is then as it was, and the system is spent.
-    pub fn frame(
+    /// `NoMemory`: `out` is then as it was, and the system is spent, at the moment at which it was.
+    pub fn step(
         &mut self,
         alloc: Global,
-        port: u8,
-        from: Snpa,
-        group: bool,
-        frame: &Frame,
+        input: &Input<'_>,
         out: &mut Vec<Output>,
     ) -> Result<(), NoMemory>
-        requires few { length frame.now ≤ 70000 }
-        ensures stands { OnOk result ((s : SystemState) (content : Content) → Stands self.old s → IsCarried content
-            → frame_of content ≡ frame.now → Stands self.new (step s (FrameComes port from group content)).after) }
-        ensures outputs { OnOk result ((s : SystemState) (content : Content) → Stands self.old s → IsCarried content
-            → frame_of content ≡ frame.now
-            → AppendsFor (entity_of self.old).moment content out.old.items out.new.items (step s (FrameComes port from group content)).outputs) }
-        ensures none { OnErr result (out.new.items ≡ out.old.items) }
-        ensures spent { OnErr result ((entity_of self.new).spent ≡ true) }
-        ensures moment { (entity_of self.new).moment ≡ (entity_of self.old).moment }
-        ensures config { configuration_of self.new ≡ configuration_of self.old }
+        requires { MayCome (entity_of self.old).moment input.now }
+        ensures step { OnOk result ((content : Content) → Carries input.now content
+            → TakesStep (role_of self.old) (input_with content input.now) (entity_of self.old) (entity_of self.new) out.old.items out.new.items) }
+        ensures spent { OnErr result (IsSpentIn (entity_of self.old) (entity_of self.new) out.old.items out.new.items) }
+        ensures refused { (entity_of self.old).spent ≡ true → IsErr result }
     {
         match self {
-            System::Host(host) => host.frame(alloc, port, from, group, frame, out),
-            System::Router(router) => router.frame(alloc, port, from, group, frame, out),
-        }
-    }
-
-    /// Makes an echo request of some octets and sends it, cut for the MTU where it may be (RFC 1575); what the system gives out is
-    /// appended. Gives the request's number.
-    ///
-    /// # Errors
-    ///
-    /// The first of these that holds: `NotMine` exactly where the source isn't one of the system's addresses; `TooLong`
-    /// exactly where the body has more than 64,512 octets, or else its header would have more than 254; `Quiet` or
-    /// `IdsBusy` exactly where it may be segmented and no identifier can be drawn for it. Nothing changes then. At
-    /// `NoMemory` `out` is as it was, and the system is spent.
-    pub fn echo(
-        &mut self,
-        alloc: Global,
-        from: Address,
-        to: Address,
-        body: &[u8],
-        out: &mut Vec<Output>,
-    ) -> Result<u64, SendRefusal>
-        ensures answer { (s : SystemState) → Stands self.old s → MatchResult result
-            (λ unit. (refusal s (request_unit s from to body.now) ≡ None) × (unit ≡ next_number s))
-            (λ e. IsWhy e (refusal s (request_unit s from to body.now))) }
-        ensures stands { OnOk result ((s : SystemState) → Stands self.old s → Stands self.new (step s (AsksForEcho from to body.now)).after) }
-        ensures outputs { OnOk result ((s : SystemState) → Stands self.old s
-            → Appends (entity_of self.old).moment out.old.items out.new.items (step s (AsksForEcho from to body.now)).outputs) }
-        ensures none { OnErr result (out.new.items ≡ out.old.items) }
-        ensures left { IfErr result (λ e. IsLeftBy e (entity_of self.old) (entity_of self.new)) }
-        ensures refused { (entity_of self.old).spent ≡ true → result ≡ Err WantsMemory }
-        ensures moment { (entity_of self.new).moment ≡ (entity_of self.old).moment }
-        ensures config { configuration_of self.new ≡ configuration_of self.old }
-    {
-        match self {
-            System::Host(host) => host.echo(alloc, from, to, body, out),
-            System::Router(router) => router.echo(alloc, from, to, body, out),
-        }
-    }
-
-    /// Forgets all that it keeps and heard, and is quiet as long as an identifier rests; the count of its units goes
-    /// on.
-    pub fn restart(&mut self)
-        ensures stands { (s : SystemState) → Stands self.old s → Stands self.new (step s IsRestarted).after }
-        ensures moment { (entity_of self.new).moment ≡ (entity_of self.old).moment }
-        ensures config { configuration_of self.new ≡ configuration_of self.old }
-    {
-        match self {
-            System::Host(host) => host.restart(),
-            System::Router(router) => router.restart(),
-        }
-    }
-
-    /// It is congested from now on, or no more; a restart ends it. A host that is congested does nothing else than before.
-    pub fn congest(&mut self, on: bool)
-        ensures stands { (s : SystemState) → Stands self.old s → Stands self.new (step s (IsCongested on)).after }
-        ensures moment { (entity_of self.new).moment ≡ (entity_of self.old).moment }
-        ensures config { configuration_of self.new ≡ configuration_of self.old }
-    {
-        match self {
-            System::Host(host) => host.congest(on),
-            System::Router(router) => router.congest(on),
+            System::Host(host) => host.step(alloc, input, out),
+            System::Router(router) => router.step(alloc, input, out),
         }
     }
 

@@ -1,37 +1,33 @@
--- What a network of the code stands for after one of its systems took a step.
-use Rattle.std.proofs.Common.{◌≡◌, ℕ, ◌<◌, ◌≤◌, List, [], ◌∷◌, length, Option, Some, refl, sym, ◌∙◌, subst, arith}
+-- What a network of the code stands for after something came to one of its systems.
+use Rattle.std.proofs.Common.{◌≡◌, ℕ, ◌<◌, ◌≤◌, List, [], length, Option, None, Some, refl, sym, ◌∙◌, subst, arith}
 use Rattle.std.specs.Prelude.{slice_get}
 use Rattle.std.specs.Vec.{with_item}
 use Rattle.std.proofs.lemmas.Option.{slice_get_past, slice_get_within as within_get}
-use Rattle.clnp_machine.specs.ClnpPlan.declared.ask.SendRefusal.{SendRefusal}
-use Rattle.clnp_machine.specs.ClnpPlan.declared.ask.SendRefusal.TheVariants as refusal
-use Rattle.clnp_machine.specs.ClnpPlan.declared.note.Note.{Note}
+use Rattle.clnp_machine.specs.ClnpPlan.declared.config.Role.{Role}
+use Rattle.clnp_machine.specs.ClnpPlan.declared.config.Role.TheVariants.{Host, Router}
 use Rattle.clnp_machine.specs.ClnpPlan.declared.output.Output as output
-use Rattle.clnp_machine.specs.ClnpPlan.declared.output.Output.TheVariants.{Note as Told}
-use Rattle.clnp_machine.specs.ClnpPlan.Journal.{Noted}
 use Rattle.clnp_machine.specs.System as machine
-use Rattle.clnp_machine.specs.System.{SystemState, Input, Notes, Effect}
+use Rattle.clnp_machine.specs.System.{SystemState, Effect}
 use Rattle.clnp_machine.specs.Step.{step}
+use Rattle.clnp_machine.specs.Steps.{moment_after}
 use Rattle.clnp_network.specs.World as network
 use Rattle.clnp_systems.specs.declared.system.System.{System}
 use Rattle.clnp_systems.specs.Stands as clnp_systems
-use Rattle.clnp_machine.specs.Content.{Content, Unlabelled}
-use Rattle.clnp_machine.specs.Given.{Appends, AppendsFor, GiveAllFor}
-use Rattle.clnp_machine.proofs.Given.{appends_for}
-use Rattle.clnp_systems.specs.SystemEntity.State.{SystemEntityState}
-use Rattle.clnp_systems.specs.SystemEntity.Stands.{IsLeftBy}
-use Rattle.clnp_systems.specs.LocalEntity.Local.{refusal_note}
 use Rattle.clnp_systems.specs.Stands.{entity_of}
-use Rattle.clnp_world.specs.Lines.{Gains}
+use Rattle.clnp_systems.specs.SystemEntity.Steps.{AppendsOf, TakesStep, input_with, moment_at}
+use Rattle.clnp_systems.specs.SystemEntity.declared.input.Input.{Input}
+use Rattle.clnp_systems.specs.SystemEntity.declared.input.Input.TheVariants as coming
+use Rattle.clnp_machine.specs.Content.{Content, Unlabelled}
+use Rattle.clnp_machine.specs.Given.{AppendsFor, GiveAllFor}
+use Rattle.clnp_machine.proofs.Given.{appends_for}
 use Rattle.clnp_world.specs.declared.lines.Lines.{Lines}
-use Rattle.clnp_world.specs.Parts.{Shows, Holds, Puts, Follows}
-use Rattle.clnp_world.specs.Stands.{IsBornWithUnit}
+use Rattle.clnp_world.specs.Parts.{Shows, Holds, IsTimely, Puts, Follows}
+use Rattle.clnp_world.specs.Stands.{IsBornWithUnit, IsCurrent}
 use Rattle.clnp_world.specs.declared.network.Network.{Network}
 use Rattle.clnp_machine.proofs.ClnpBase.Lists.{AllByRecursion-slice_get, slice_get-set, slice_get_some}
 use Rattle.clnp_world.proofs.EachSteps.{each_length, each_at, each_set}
-use Rattle.clnp_world.proofs.ModelSteps.{current-takes_effect}
-use Rattle.clnp_world.proofs.PutSteps.{PutsOut, puts_none, puts_more, puts_note, puts_nothing}
-pub use Rattle.clnp_systems.proofs.LocalEntity.Echoing.{says_why}
+use Rattle.clnp_world.proofs.ModelSteps.{current-takes_effect, step_moment}
+use Rattle.clnp_world.proofs.PutSteps.{PutsOut, puts_nothing}
 
 -- the network with a system in the place of another
 abbrev pub with_node : Network → ℕ → System → Network
@@ -64,8 +60,8 @@ is_there code model place node h here =
     let there = slice_get_some model.systems place (omega arith) in
     record { system = there.0; at = there.1; stands = each_at code.systems.items model.systems place node there.0 h.systems here there.1 }
 
--- no frame came, so none goes on
-abbrev no_frame : Content
+-- where no frame came, whatever it might carry
+abbrev pub no_frame : Content
 no_frame = Unlabelled []
 
 -- a system takes a step, and what it gives out is put out
@@ -81,96 +77,79 @@ takes old code before after place came content node outputs effect within stands
     (slice_get-set model.systems place effect.after (omega arith)) born
     (subst (λ (os : List output.Output). GiveAllFor old.clock content os effect.outputs) (sym gives.appended) gives.give_all)
 
--- the system at a place does something, whatever its moment
-pub does_put : (old code : Network) (before after : Lines) (place came : ℕ) (input : Input) (node new : System) (outputs : List output.Output)
-    → slice_get old.systems.items place ≡ Some node
-    → ((s : SystemState) → clnp_systems.Stands node s → clnp_systems.Stands new (step s input).after)
-    → ((s : SystemState) → clnp_systems.Stands node s → Appends old.clock [] outputs (step s input).outputs)
-    → PutsOut (with_node old place new) code before after place came outputs
-    → (model : network.World) → Shows old model → Puts code before after (network.comes model place input)
-does_put old code before after place came input node new outputs here stands gives puts model h =
-    let there = is_there old model place node h here in
-    subst (λ (s : Option SystemState). Puts code before after (network.comes_to model place input s)) (sym there.at)
-    (takes old code before after place came no_frame new outputs (step there.system input) (within_get old.systems.items place node here)
-    (stands there.system there.stands) tt
-    (appends_for old.clock no_frame [] outputs (step there.system input).outputs (gives there.system there.stands)) puts model h)
-
--- the same at the clock's moment
-pub takes_now : (old code : Network) (before after : Lines) (place came : ℕ) (content : Content) (node new : System) (outputs : List output.Output)
-    → (effect : Effect) (system : SystemState)
-    → slice_get old.systems.items place ≡ Some node → clnp_systems.Stands new effect.after → IsBornWithUnit came content
-    → AppendsFor (entity_of node).moment content [] outputs effect.outputs
-    → effect.after.moment ≡ system.moment
-    → PutsOut (with_node old place new) code before after place came outputs
-    → (model : network.World) → Holds old model → slice_get model.systems place ≡ Some system
-    → Follows code before after (network.takes_effect model place effect)
-takes_now old code before after place came content node new outputs effect system here stands born gives moment puts model h there =
-    let within = within_get old.systems.items place node here in
-    let was = each_at old.systems.items model.systems place node system h.shows.systems here there in
-    let now : system.moment ≡ model.clock = AllByRecursion-slice_get (λ (s : SystemState). s.moment ≡ model.clock) model.systems place system there h.current in
-    let clock : (entity_of node).moment ≡ old.clock = was.parts.moment ∙ now ∙ sym h.shows.clock in
-    let part = takes old code before after place came content new outputs effect within stands born
-    (subst (λ (t : ℕ). AppendsFor t content [] outputs effect.outputs) clock gives) puts model h.shows in
-    record {
-      holds = record { shows = part.shows; current = current-takes_effect model place effect h.current (moment ∙ now) };
-      lines = part.lines;
-    }
-
--- the system at a place does something
-pub does_follow : (old code : Network) (before after : Lines) (place came : ℕ) (input : Input) (node new : System) (outputs : List output.Output)
-    → slice_get old.systems.items place ≡ Some node
-    → ((s : SystemState) → clnp_systems.Stands node s → clnp_systems.Stands new (step s input).after)
-    → ((s : SystemState) → clnp_systems.Stands node s → Appends (entity_of node).moment [] outputs (step s input).outputs)
-    → ((s : SystemState) → (step s input).after.moment ≡ s.moment)
-    → PutsOut (with_node old place new) code before after place came outputs
-    → (model : network.World) → Holds old model → Follows code before after (network.comes model place input)
-does_follow old code before after place came input node new outputs here stands gives moment puts model h =
-    let there = is_there old model place node h.shows here in
-    subst (λ (s : Option SystemState). Follows code before after (network.comes_to model place input s)) (sym there.at)
-    (takes_now old code before after place came no_frame node new outputs (step there.system input) there.system here
-    (stands there.system there.stands) tt
-    (appends_for (entity_of node).moment no_frame [] outputs (step there.system input).outputs (gives there.system there.stands))
-    (moment there.system) puts model h there.at)
-
--- there is no system at the place
-pub does_nothing : (code : Network) (lines : Lines) (place : ℕ) (input : Input) → length code.systems.items ≤ place
-    → (model : network.World) → Holds code model → Follows code lines lines (network.comes model place input)
-does_nothing code lines place input past model h =
-    let same = each_length code.systems.items model.systems h.shows.systems in
-    let none = slice_get_past model.systems place (omega arith) in
-    let part = puts_nothing code model lines h.shows in
-    subst (λ (s : Option SystemState). Follows code lines lines (network.comes_to model place input s)) (sym none)
-    record { holds = h; lines = part.lines }
-
--- the line of a note of the system at a place is written
-abbrev pub WritesNote : Network → Lines → Lines → ℕ → Note → Type 0
-WritesNote code before after place note =
-    (model : network.World) (system : SystemState) → Shows code model → slice_get model.systems place ≡ Some system
-    → Gains before after (Noted model.clock system.configuration.name note ∷ [])
-
-pub note_alone : (code : Network) (before after : Lines) (place came : ℕ) (note : Note) → WritesNote code before after place note
-    → PutsOut code code before after place came (Told note ∷ [])
-note_alone code before after place came note writes =
-    puts_more code code code before before after place came [] (Told note) (puts_none code before place came) refl
-    (puts_note code before after place came note (Told note) refl writes)
-
--- a note that is given out
-pub gives_note : (moment : ℕ) (note : Note) → Appends moment [] (Told note ∷ []) (Notes note ∷ [])
-gives_note moment note = record { outputs = Told note ∷ []; appended = refl; give_all = (refl, tt) }
-
--- a refusal that is noted leaves the system as it was
-pub leaves_same : (e : SendRefusal) (note : Note) (before after : SystemEntityState) → refusal_note e ≡ Some note → IsLeftBy e before after → after ≡ before
-leaves_same refusal.NotMine note before after said left = left
-leaves_same (refusal.TooLong octets) note before after said left = left
-leaves_same (refusal.IdsBusy used) note before after said left = left
-leaves_same (refusal.Quiet until) note before after said left = left
-leaves_same refusal.NoMemory note before after said left = absurd (cc)
-
 -- outputs that are appended to none
-pub from_none : (moment : ℕ) (empty outputs : List output.Output) (others : List machine.Output) → empty ≡ [] → Appends moment empty outputs others
-    → Appends moment [] outputs others
-from_none moment empty outputs others e h = subst (λ (os : List output.Output). Appends moment os outputs others) e h
-
 pub from_none_for : (moment : ℕ) (came : Content) (empty outputs : List output.Output) (others : List machine.Output) → empty ≡ []
     → AppendsFor moment came empty outputs others → AppendsFor moment came [] outputs others
 from_none_for moment came empty outputs others e h = subst (λ (os : List output.Output). AppendsFor moment came os outputs others) e h
+
+-- Something comes to the system at a place.
+
+-- what is given out is what a system gives out where a frame came, whatever came
+gives_any : (input : Input) (role : Role) (content : Content) (moment : ℕ) (before after : List output.Output) (others : List machine.Output)
+    → AppendsOf (input_with content input) role moment before after others → AppendsFor moment content before after others
+gives_any (coming.Moment now) role content moment before after others h = appends_for moment content before after others h
+gives_any (coming.Frame port from group frame) Host content moment before after others h = appends_for moment content before after others h
+gives_any (coming.Frame port from group frame) Router content moment before after others h = h
+gives_any (coming.Send from to body ask) role content moment before after others h = appends_for moment content before after others h
+gives_any (coming.Echo from to body) role content moment before after others h = appends_for moment content before after others h
+gives_any coming.Restart role content moment before after others h = appends_for moment content before after others h
+gives_any (coming.Congest on) role content moment before after others h = appends_for moment content before after others h
+
+-- the system takes a step, and what it gives out is put out
+pub comes_in : (old code : Network) (before after : Lines) (place came : ℕ) (content : Content) (input : Input) (role : Role) (node new : System)
+    (empty outputs : List output.Output) → slice_get old.systems.items place ≡ Some node → empty ≡ []
+    → TakesStep role (input_with content input) (entity_of node) (entity_of new) empty outputs
+    → PutsOut (with_node old place new) code before after place came outputs
+    → (model : network.World) → Shows old model → IsBornWithUnit came content → IsTimely model place (input_with content input)
+    → Puts code before after (network.comes model place (input_with content input))
+comes_in old code before after place came content input role node new empty outputs here none took puts model h born timely =
+    let there = is_there old model place node h here in
+    let comes = input_with content input in
+    let effect = step there.system comes in
+    let now : moment_at comes there.system.moment ≡ old.clock = timely there.system there.at ∙ sym h.clock in
+    subst (λ (s : Option SystemState). Puts code before after (network.comes_to model place comes s)) (sym there.at)
+    (takes old code before after place came content new outputs effect (within_get old.systems.items place node here)
+    (took.stands there.system there.stands) born
+    (from_none_for old.clock content empty outputs effect.outputs none
+    (gives_any input role content old.clock empty outputs effect.outputs
+    (subst (λ (t : ℕ). AppendsOf comes role t empty outputs effect.outputs) now (took.outputs there.system there.stands))))
+    puts model h)
+
+-- there is no system at the place
+pub comes_nowhere : (code : Network) (lines : Lines) (place : ℕ) → length code.systems.items ≤ place
+    → (model : network.World) (input : machine.Input) → Shows code model → Puts code lines lines (network.comes model place input)
+comes_nowhere code lines place past model input h =
+    let same = each_length code.systems.items model.systems h.systems in
+    let none = slice_get_past model.systems place (omega arith) in
+    subst (λ (s : Option SystemState). Puts code lines lines (network.comes_to model place input s)) (sym none) (puts_nothing code model lines h)
+
+moments_agree : (s : SystemState) (input : machine.Input) → moment_after s input ≡ moment_at input s.moment
+moments_agree s (machine.AsksToSend from to octets ask) = refl
+moments_agree s (machine.AsksForEcho from to octets) = refl
+moments_agree s (machine.FrameComes port sender to_group content) = refl
+moments_agree s (machine.MomentComes now) = refl
+moments_agree s machine.IsRestarted = refl
+moments_agree s (machine.IsCongested on) = refl
+
+stays_current : (model : network.World) (place : ℕ) (input : machine.Input) (there : Option SystemState) → IsCurrent model
+    → ((s : SystemState) → there ≡ Some s → (step s input).after.moment ≡ model.clock) → IsCurrent (network.comes_to model place input there).world
+stays_current model place input None current now = current
+stays_current model place input (Some s) current now = current-takes_effect model place (step s input) current (now s refl)
+
+-- what comes at the clock's moment leaves each system at it
+pub comes_follows : (old code : Network) (before after : Lines) (place : ℕ) (input : machine.Input) (model : network.World) → Holds old model
+    → IsTimely model place input → Puts code before after (network.comes model place input) → Follows code before after (network.comes model place input)
+comes_follows old code before after place input model h timely puts = record {
+  holds = record {
+    shows = puts.shows;
+    current = stays_current model place input (slice_get model.systems place) h.current
+        (λ s at. step_moment s input ∙ moments_agree s input ∙ timely s at);
+  };
+  lines = puts.lines;
+}
+
+-- each system is at the clock's moment
+pub is_current : (code : Network) (place : ℕ) (model : network.World) → Holds code model → (system : SystemState) → slice_get model.systems place ≡ Some system
+    → system.moment ≡ model.clock
+is_current code place model h system at =
+    AllByRecursion-slice_get (λ (s : SystemState). s.moment ≡ model.clock) model.systems place system at h.current

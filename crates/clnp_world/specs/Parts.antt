@@ -1,7 +1,8 @@
 -- What the parts of a move do to the network of the code.
-use Rattle.std.specs.Prelude.{◌≡◌, ◌≤◌, ◌+◌, ℕ, List, ◌++◌}
+use Rattle.std.specs.Prelude.{◌≡◌, ◌≤◌, ◌+◌, ℕ, List, ◌++◌, slice_get, Some}
 use Rattle.std.specs.List.{AllByRecursion}
-use Rattle.clnp_machine.specs.System.{SystemState}
+use Rattle.clnp_machine.specs.System.{Input, SystemState}
+use Rattle.clnp_systems.specs.SystemEntity.Steps.{moment_at}
 use Rattle.clnp_network.specs.World as network
 use Rattle.clnp_network.specs.Run.{lines_text}
 use Rattle.clnp_world.specs.Lines.{Gains}
@@ -29,6 +30,11 @@ Shows code model = seen.Shows (state_of code) model
 -- no system's moment is ahead of the clock
 abbrev pub IsBehind : network.World → Type 0
 IsBehind model = AllByRecursion (λ (system : SystemState). system.moment ≤ model.clock) model.systems
+
+-- something comes to the system at a place at the clock's moment
+abbrev pub IsTimely : network.World → (place : ℕ) → Input → Type 0
+IsTimely model place input =
+    (system : SystemState) → slice_get model.systems place ≡ Some system → moment_at input system.moment ≡ model.clock
 
 -- between two moves it is one of the model, whose systems are at the clock's moment
 abbrev pub Holds : Network → network.World → Type 0

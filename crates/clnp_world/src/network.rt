@@ -10,6 +10,7 @@ use clnp_network::scenario::Scenario;
 use clnp_systems::System;
 use std::alloc::Global;
 
+mod coming;
 mod giving;
 mod injecting;
 mod moves;

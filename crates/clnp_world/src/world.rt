@@ -81,7 +81,7 @@ impl World {
     /// # Errors
     ///
     /// `WorldFull` exactly where the copies weigh 268,435,456 octets or more before the move: nothing changes then.
-    /// `NoMemory`: the journal is then as it was, and the network is spent.
+    /// `NoMemory`: the journal is then as it was, and the network is spent, at the moment at which it was.
     pub fn step(
         &mut self,
         alloc: Global,
@@ -98,9 +98,11 @@ impl World {
         ensures full { (model : network.World) → Stands self.old model → TellsFull model result }
         ensures same { OnErr result (journal.new.items ≡ journal.old.items) }
         ensures left { IfErr result (λ e. IsLeftBy e self.old self.new) }
+        ensures clock { OnErr result (self.new.network.clock ≡ self.old.network.clock) }
         ensures refused { self.old.spent ≡ true → result ≡ Err WantsMemory }
     {
         self.may_move()?;
+        let clock = self.network.clock;
         match self
             .network
             .write_move(alloc, scenario, mv, &mut self.room, journal)
@@ -108,6 +110,7 @@ impl World {
             Ok(()) => Ok(()),
             Err(NoMemory) => {
                 self.spent = true;
+                self.network.clock = clock;
                 Err(WorldRefusal::NoMemory)
             }
         }
@@ -134,13 +137,16 @@ impl World {
         ensures full { (model : network.World) → Stands self.old model → TellsFull model result }
         ensures same { OnErr result (counts.new ≡ counts.old) }
         ensures left { IfErr result (λ e. IsLeftBy e self.old self.new) }
+        ensures clock { OnErr result (self.new.network.clock ≡ self.old.network.clock) }
         ensures refused { self.old.spent ≡ true → result ≡ Err WantsMemory }
     {
         self.may_move()?;
+        let before = self.network.clock;
         match self.network.count_move(alloc, scenario, mv, counts) {
             Ok(()) => Ok(()),
             Err(NoMemory) => {
                 self.spent = true;
+                self.network.clock = before;
                 Err(WorldRefusal::NoMemory)
             }
         }

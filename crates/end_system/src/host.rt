@@ -12,6 +12,7 @@ ghost use Rattle.clnp_machine.specs.Local.{refusal, request_unit, unit_of};
 ghost use Rattle.clnp_machine.specs.Step.{Hop, next_hop, step};
 ghost use Rattle.clnp_machine.specs.System.{SystemState, AsksForEcho, AsksToSend, FrameComes, IsRestarted, IsCongested, MomentComes, first_state, next_number};
 ghost use Rattle.system_entity.specs.LocalEntity.Local.{IsWhy};
+ghost use Rattle.system_entity.specs.Steps.{Carries, IsSpentIn, MayCome, TakesStep, input_with};
 ghost use Rattle.end_system.specs.Stands.{IsLeftBy, Stands};
 
 use clnp_machine::clnp_base::NoMemory;
@@ -22,11 +23,11 @@ use clnp_machine::nsap::{Address, Snpa, Target};
 use clnp_machine::pdu_header::Kind;
 use std::alloc::Global;
 use std::marker::Model;
-use system_entity::{Arrival, SystemEntity};
+use system_entity::{Arrival, Input, SystemEntity};
 
 /// A host. Its moment is that of its last `tick`, or of its start.
 ///
-/// Once memory was refused in `tick`, `frame`, `send` or `echo` it is spent: from then on each of them answers `NoMemory`.
+/// Once memory was refused in `step`, `tick`, `frame`, `send` or `echo` it is spent: from then on each of them answers `NoMemory`.
 ///
 /// A contract says by `Stands` which states of a system it stands for.
 #[derive(Drop)]
@@ -70,22 +71,55 @@ impl EndSystem {
         Ok(EndSystem { entity })
     }
 
+    /// Something comes, whatever it is; what the host gives out is appended, and with it the note of a restart, of congestion, or of
+    /// a unit that isn't made.
+    ///
+    /// # Errors
+    ///
+    /// `NoMemory`: `out` is then as it was, and the host is spent, at the moment at which it was.
+    pub fn step(
+        &mut self,
+        alloc: Global,
+        input: &Input<'_>,
+        out: &mut Vec<Output>,
+    ) -> Result<(), NoMemory>
+        requires { MayCome self.old.entity.moment input.now }
+        ensures step { OnOk result ((content : Content) → Carries input.now content
+            → TakesStep Host (input_with content input.now) self.old.entity self.new.entity out.old.items out.new.items) }
+        ensures spent { OnErr result (IsSpentIn self.old.entity self.new.entity out.old.items out.new.items) }
+        ensures refused { self.old.entity.spent ≡ true → IsErr result }
+    {
+        match *input {
+            Input::Moment(now) => self.tick(alloc, now, out),
+            Input::Frame {
+                port,
+                from,
+                group,
+                frame,
+            } => self.frame(alloc, port, from, group, frame, out),
+            Input::Send {
+                from,
+                to,
+                body,
+                ask,
+            } => self.entity.send_or_note(alloc, from, to, body, ask, out),
+            Input::Echo { from, to, body } => self.entity.echo_or_note(alloc, from, to, body, out),
+            Input::Restart => self.entity.restart_and_note(out),
+            Input::Congest(on) => self.entity.congest_and_note(on, out),
+        }
+    }
+
     /// A moment has come: what was waiting for it happens, and what the host gives out is appended.
     ///
     /// # Errors
     ///
-    /// `NoMemory`: `out` is then as it was, and the host is spent.
+    /// `NoMemory`: `out` is then as it was, and the host is spent, at the moment at which it was.
     pub fn tick(&mut self, alloc: Global, now: u64, out: &mut Vec<Output>) -> Result<(), NoMemory>
         requires later { self.old.entity.moment ≤ now }
         requires moment { now < 2 ^ 62 }
-        ensures stands { OnOk result ((s : SystemState) → Stands self.old s → Stands self.new (step s (MomentComes now)).after) }
-        ensures outputs { OnOk result ((s : SystemState) → Stands self.old s
-            → Appends now out.old.items out.new.items (step s (MomentComes now)).outputs) }
-        ensures moment { OnOk result (self.new.entity.moment ≡ now) }
-        ensures none { OnErr result (out.new.items ≡ out.old.items) }
-        ensures spent { OnErr result (self.new.entity.spent ≡ true) }
+        ensures step { OnOk result (TakesStep Host (MomentComes now) self.old.entity self.new.entity out.old.items out.new.items) }
+        ensures spent { OnErr result (IsSpentIn self.old.entity self.new.entity out.old.items out.new.items) }
         ensures refused { self.old.entity.spent ≡ true → IsErr result }
-        ensures config { self.new.entity.local.configuration ≡ self.old.entity.local.configuration }
     {
         self.entity.tick(alloc, now, out)
     }
@@ -95,7 +129,7 @@ impl EndSystem {
     ///
     /// # Errors
     ///
-    /// `NoMemory`: `out` is then as it was, and the host is spent.
+    /// `NoMemory`: `out` is then as it was, and the host is spent, at the moment at which it was.
     pub fn frame(
         &mut self,
         alloc: Global,
@@ -106,16 +140,10 @@ impl EndSystem {
         out: &mut Vec<Output>,
     ) -> Result<(), NoMemory>
         requires few { length frame.now ≤ 70000 }
-        ensures stands { OnOk result ((s : SystemState) (content : Content) → Stands self.old s → IsCarried content
-            → frame_of content ≡ frame.now → Stands self.new (step s (FrameComes port from group content)).after) }
-        ensures outputs { OnOk result ((s : SystemState) (content : Content) → Stands self.old s → IsCarried content
-            → frame_of content ≡ frame.now
-            → Appends self.old.entity.moment out.old.items out.new.items (step s (FrameComes port from group content)).outputs) }
-        ensures none { OnErr result (out.new.items ≡ out.old.items) }
-        ensures spent { OnErr result (self.new.entity.spent ≡ true) }
+        ensures step { OnOk result ((content : Content) → IsCarried content → frame_of content ≡ frame.now
+            → TakesStep Host (FrameComes port from group content) self.old.entity self.new.entity out.old.items out.new.items) }
+        ensures spent { OnErr result (IsSpentIn self.old.entity self.new.entity out.old.items out.new.items) }
         ensures refused { self.old.entity.spent ≡ true → IsErr result }
-        ensures moment { self.new.entity.moment ≡ self.old.entity.moment }
-        ensures config { self.new.entity.local.configuration ≡ self.old.entity.local.configuration }
     {
         let place = Place { port, snpa: from };
         match self.entity.frame(alloc, place, group, frame, out)? {
@@ -204,6 +232,7 @@ impl EndSystem {
     /// It is congested from now on, or no more; a restart ends it.
     pub fn congest(&mut self, on: bool)
         ensures stands { (s : SystemState) → Stands self.old s → Stands self.new (step s (IsCongested on)).after }
+        ensures congested { self.new.entity ≡ record self.old.entity { congested = on } }
         ensures spent { self.new.entity.spent ≡ self.old.entity.spent }
         ensures moment { self.new.entity.moment ≡ self.old.entity.moment }
         ensures config { self.new.entity.local.configuration ≡ self.old.entity.local.configuration }

@@ -4,3 +4,4 @@
 mod host;
 
 pub use host::EndSystem;
+pub use system_entity::Input;

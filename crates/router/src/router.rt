@@ -20,6 +20,7 @@ ghost use Rattle.system_entity.specs.LocalEntity.Local.{IsWhy};
 ghost use Rattle.system_entity.specs.Comes.{HasValue, IsAtFront};
 ghost use Rattle.system_entity.specs.Ways.{machine_way, way_option};
 ghost use Rattle.router.specs.Onward.{ComesTo};
+ghost use Rattle.system_entity.specs.Steps.{Carries, IsSpentIn, MayCome, TakesStep, input_with};
 ghost use Rattle.router.specs.Stands.{IsLeftBy, Stands};
 
 use crate::onward::{Onward, by_port};
@@ -35,11 +36,11 @@ use clnp_machine::nsap::{Address, Snpa};
 use clnp_machine::pdu_header::Header;
 use std::alloc::Global;
 use std::marker::Model;
-use system_entity::{Arrival, Passing, SystemEntity, Way};
+use system_entity::{Arrival, Input, Passing, SystemEntity, Way};
 
 /// A router. Its moment is that of its last `tick`, or of its start.
 ///
-/// Once memory was refused in `tick`, `frame` or `echo` it is spent: from then on each of them answers `NoMemory`.
+/// Once memory was refused in `step`, `tick`, `frame` or `echo` it is spent: from then on each of them answers `NoMemory`.
 ///
 /// A contract says by `Stands` which states of a system it stands for.
 #[derive(Drop)]
@@ -83,22 +84,55 @@ impl Router {
         Ok(Router { entity })
     }
 
+    /// Something comes, whatever it is; what the router gives out is appended, and with it the note of a restart, of congestion, or of
+    /// a unit that isn't made.
+    ///
+    /// # Errors
+    ///
+    /// `NoMemory`: `out` is then as it was, and the router is spent, at the moment at which it was.
+    pub fn step(
+        &mut self,
+        alloc: Global,
+        input: &Input<'_>,
+        out: &mut Vec<Output>,
+    ) -> Result<(), NoMemory>
+        requires { MayCome self.old.entity.moment input.now }
+        ensures step { OnOk result ((content : Content) → Carries input.now content
+            → TakesStep IsRouter (input_with content input.now) self.old.entity self.new.entity out.old.items out.new.items) }
+        ensures spent { OnErr result (IsSpentIn self.old.entity self.new.entity out.old.items out.new.items) }
+        ensures refused { self.old.entity.spent ≡ true → IsErr result }
+    {
+        match *input {
+            Input::Moment(now) => self.tick(alloc, now, out),
+            Input::Frame {
+                port,
+                from,
+                group,
+                frame,
+            } => self.frame(alloc, port, from, group, frame, out),
+            Input::Send {
+                from,
+                to,
+                body,
+                ask,
+            } => self.entity.send_or_note(alloc, from, to, body, ask, out),
+            Input::Echo { from, to, body } => self.entity.echo_or_note(alloc, from, to, body, out),
+            Input::Restart => self.entity.restart_and_note(out),
+            Input::Congest(on) => self.entity.congest_and_note(on, out),
+        }
+    }
+
     /// A moment has come: what was waiting for it happens, and what the router gives out is appended.
     ///
     /// # Errors
     ///
-    /// `NoMemory`: `out` is then as it was, and the router is spent.
+    /// `NoMemory`: `out` is then as it was, and the router is spent, at the moment at which it was.
     pub fn tick(&mut self, alloc: Global, now: u64, out: &mut Vec<Output>) -> Result<(), NoMemory>
         requires later { self.old.entity.moment ≤ now }
         requires moment { now < 2 ^ 62 }
-        ensures stands { OnOk result ((s : SystemState) → Stands self.old s → Stands self.new (step s (MomentComes now)).after) }
-        ensures outputs { OnOk result ((s : SystemState) → Stands self.old s
-            → Appends now out.old.items out.new.items (step s (MomentComes now)).outputs) }
-        ensures moment { OnOk result (self.new.entity.moment ≡ now) }
-        ensures none { OnErr result (out.new.items ≡ out.old.items) }
-        ensures spent { OnErr result (self.new.entity.spent ≡ true) }
+        ensures step { OnOk result (TakesStep IsRouter (MomentComes now) self.old.entity self.new.entity out.old.items out.new.items) }
+        ensures spent { OnErr result (IsSpentIn self.old.entity self.new.entity out.old.items out.new.items) }
         ensures refused { self.old.entity.spent ≡ true → IsErr result }
-        ensures config { self.new.entity.local.configuration ≡ self.old.entity.local.configuration }
     {
         self.entity.tick(alloc, now, out)
     }
@@ -108,7 +142,7 @@ impl Router {
     ///
     /// # Errors
     ///
-    /// `NoMemory`: `out` is then as it was, and the router is spent.
+    /// `NoMemory`: `out` is then as it was, and the router is spent, at the moment at which it was.
     pub fn frame(
         &mut self,
         alloc: Global,
@@ -119,16 +153,10 @@ impl Router {
         out: &mut Vec<Output>,
     ) -> Result<(), NoMemory>
         requires few { length frame.now ≤ 70000 }
-        ensures stands { OnOk result ((s : SystemState) (content : Content) → Stands self.old s → IsCarried content
-            → frame_of content ≡ frame.now → Stands self.new (step s (FrameComes port from group content)).after) }
-        ensures outputs { OnOk result ((s : SystemState) (content : Content) → Stands self.old s → IsCarried content
-            → frame_of content ≡ frame.now
-            → AppendsFor self.old.entity.moment content out.old.items out.new.items (step s (FrameComes port from group content)).outputs) }
-        ensures none { OnErr result (out.new.items ≡ out.old.items) }
-        ensures spent { OnErr result (self.new.entity.spent ≡ true) }
+        ensures step { OnOk result ((content : Content) → IsCarried content → frame_of content ≡ frame.now
+            → TakesStep IsRouter (FrameComes port from group content) self.old.entity self.new.entity out.old.items out.new.items) }
+        ensures spent { OnErr result (IsSpentIn self.old.entity self.new.entity out.old.items out.new.items) }
         ensures refused { self.old.entity.spent ≡ true → IsErr result }
-        ensures moment { self.new.entity.moment ≡ self.old.entity.moment }
-        ensures config { self.new.entity.local.configuration ≡ self.old.entity.local.configuration }
     {
         laws::deeds_are_of_their_moment();
         let place = Place { port, snpa: from };
@@ -193,6 +221,7 @@ impl Router {
         ensures spent { OnErr result (self.new.entity.spent ≡ true) }
         ensures refused { self.old.entity.spent ≡ true → IsErr result }
         ensures moment { self.new.entity.moment ≡ self.old.entity.moment }
+        ensures congested { self.new.entity.congested ≡ self.old.entity.congested }
         ensures config { self.new.entity.local.configuration ≡ self.old.entity.local.configuration }
     {
         match self.onward(passing) {
@@ -292,6 +321,7 @@ impl Router {
         ensures none { OnErr result (out.new.items ≡ out.old.items) }
         ensures spent { OnErr result (self.new.entity.spent ≡ true) }
         ensures moment { self.new.entity.moment ≡ self.old.entity.moment }
+        ensures congested { self.new.entity.congested ≡ self.old.entity.congested }
         ensures config { self.new.entity.local.configuration ≡ self.old.entity.local.configuration }
     {
         if self.is_redirected(came, passing, towards_title, way) {
@@ -330,6 +360,7 @@ impl Router {
     /// It is congested from now on, or no more; a restart ends it.
     pub fn congest(&mut self, on: bool)
         ensures stands { (s : SystemState) → Stands self.old s → Stands self.new (step s (IsCongested on)).after }
+        ensures congested { self.new.entity ≡ record self.old.entity { congested = on } }
         ensures spent { self.new.entity.spent ≡ self.old.entity.spent }
         ensures moment { self.new.entity.moment ≡ self.old.entity.moment }
         ensures config { self.new.entity.local.configuration ≡ self.old.entity.local.configuration }

@@ -5,3 +5,6 @@ pub mod Arrivals
 pub mod Hops
 pub mod Receipt
 pub mod Packets
+pub mod Refused
+pub mod Both
+pub mod Kept

@@ -1,12 +1,15 @@
 -- What the steps of a system do, between its calls and what it gives out.
-use Rattle.std.specs.Prelude.{◌≡◌, ℕ, true}
+use Rattle.std.specs.Prelude.{◌≡◌, ℕ, true, List}
 use Rattle.clnp_machine.specs.Reassembly.State.{IsReady}
 use Rattle.clnp_machine.specs.ClnpPlan.declared.ask.SendRefusal.{SendRefusal}
 use Rattle.clnp_machine.specs.ClnpPlan.declared.ask.SendRefusal.TheVariants.{NoMemory}
-use Rattle.clnp_machine.specs.Local.{Action, Sends, Tells}
+use Rattle.clnp_machine.specs.ClnpPlan.declared.output.Output.{Output}
+use Rattle.clnp_machine.specs.Given.{Appends}
+use Rattle.clnp_machine.specs.Local.{Action, Deed, Sends, Tells}
+use Rattle.clnp_machine.specs.Step.{effect_of}
 use Rattle.clnp_machine.specs.System.{SystemState}
 use Rattle.system_entity.specs.State.{SystemEntityState}
-use Rattle.system_entity.specs.Stands.{PartsStand}
+use Rattle.system_entity.specs.Stands.{PartsStand, Stands}
 
 -- what is sent was made at this moment, with its first octet in the initial PDU's first place
 abbrev pub IsFresh : ℕ → Action → Type 0
@@ -24,3 +27,8 @@ pub record IsAtWork (entity : SystemEntityState) : Type 0 where
   pub state : SystemState
   pub parts : PartsStand entity state
   pub ready : IsReady entity.moment entity.local.table
+
+-- a deed was done at a moment: the entity stands for the state after it, and exactly its outputs were appended
+pub record DoesDeed (moment : ℕ) (deed : Deed) (new : SystemEntityState) (before after : List Output) : Type 0 where
+  pub stands : Stands new deed.after
+  pub outputs : Appends moment before after (effect_of deed).outputs

@@ -4,3 +4,4 @@ pub mod Stands
 pub mod Ways
 pub mod Comes
 pub mod Deeds
+pub mod Steps

@@ -12,9 +12,9 @@ ghost use Rattle.clnp_machine.specs.Content.{Content, IsCarried, frame_of};
 ghost use Rattle.clnp_machine.specs.Given.{Appends};
 ghost use Rattle.clnp_machine.specs.Local as machine;
 ghost use Rattle.clnp_machine.specs.Local.{has_address, restarted};
-ghost use Rattle.clnp_machine.specs.Step.{congest, effect_of, moment_comes, next_hop, way_of};
+ghost use Rattle.clnp_machine.specs.Step.{congest, effect_of, next_hop, way_of};
 ghost use Rattle.clnp_machine.specs.Esis.{redirect};
-ghost use Rattle.clnp_machine.specs.System.{SystemState, SendsEsis, first_state, next_number};
+ghost use Rattle.clnp_machine.specs.System.{SystemState, MomentComes, SendsEsis, first_state, next_number};
 ghost use Rattle.clnp_machine.specs.EsisTables.declared.fact.TableKind.TheVariants.{Es};
 ghost use Rattle.clnp_machine.specs.EsisTables.NextHop.{current_place};
 ghost use Rattle.clnp_machine.specs.Nsap.declared.target.Target.TheVariants.{System};
@@ -23,6 +23,7 @@ ghost use Rattle.local_entity.specs.Sending.{hop_option, transmission};
 ghost use Rattle.clnp_machine.specs.Segmenter.Left.{IsCutOf};
 ghost use Rattle.system_entity.specs.Comes.{ComesOf, LeavesAsItWas, TellsPdu};
 ghost use Rattle.system_entity.specs.Stands.{IsLeftBy, PartsStandSince, Stands};
+ghost use Rattle.system_entity.specs.Steps.{IsSpentIn, TakesStep};
 ghost use Rattle.system_entity.specs.Ways.{way_option};
 
 use crate::passing::Passing;
@@ -40,6 +41,7 @@ use local_entity::{Hop, Local};
 use std::alloc::Global;
 use std::marker::Model;
 
+mod noting;
 mod steps;
 
 use steps::{has_content, pass_pieces, routes_of, tell_way};
@@ -55,8 +57,7 @@ pub enum Arrival {
 
 /// What a system does whatever its role. Its moment is that of its last `tick`, or of its start.
 ///
-/// Once memory was refused in `tick`, `frame`, `pass_on`, `discard`, `note` or `make` it is spent: from then on each of them answers
-/// `NoMemory`.
+/// Once memory was refused in a call of it that has this answer it is spent: from then on each of them answers `NoMemory`.
 ///
 /// A contract says by `Stands` which states of a system it stands for.
 #[derive(Drop)]
@@ -116,24 +117,23 @@ impl SystemEntity {
     ///
     /// # Errors
     ///
-    /// `NoMemory`: `out` is then as it was, and the entity is spent.
+    /// `NoMemory`: `out` is then as it was, and the entity is spent, at the moment at which it was.
     pub fn tick(&mut self, alloc: Global, now: u64, out: &mut Vec<Output>) -> Result<(), NoMemory>
         requires later { self.old.moment ≤ now }
         requires moment { now < 2 ^ 62 }
-        ensures stands { OnOk result ((s : SystemState) → Stands self.old s → Stands self.new (moment_comes s now).after) }
-        ensures outputs { OnOk result ((s : SystemState) → Stands self.old s
-            → Appends now out.old.items out.new.items (moment_comes s now).outputs) }
-        ensures moment { OnOk result (self.new.moment ≡ now) }
-        ensures none { OnErr result (out.new.items ≡ out.old.items) }
-        ensures spent { OnErr result (self.new.spent ≡ true) }
+        ensures step { OnOk result ((role : Role) → TakesStep role (MomentComes now) self.old self.new out.old.items out.new.items) }
+        ensures spent { OnErr result (IsSpentIn self.old self.new out.old.items out.new.items) }
         ensures refused { self.old.spent ≡ true → IsErr result }
-        ensures config { self.new.local.configuration ≡ self.old.local.configuration }
     {
         if self.spent {
             return Err(NoMemory);
         }
+        let before = self.moment;
         self.spent = true;
-        self.come_to(alloc, now, out)?;
+        if let Err(refused) = self.come_to(alloc, now, out) {
+            self.moment = before;
+            return Err(refused);
+        }
         self.spent = false;
         Ok(())
     }
@@ -162,6 +162,7 @@ impl SystemEntity {
         ensures spent { OnErr result (self.new.spent ≡ true) }
         ensures refused { self.old.spent ≡ true → IsErr result }
         ensures moment { self.new.moment ≡ self.old.moment }
+        ensures congested { self.new.congested ≡ self.old.congested }
         ensures config { self.new.local.configuration ≡ self.old.local.configuration }
     {
         if self.spent {
@@ -198,6 +199,7 @@ impl SystemEntity {
         ensures spent { OnErr result (self.new.spent ≡ true) }
         ensures refused { self.old.spent ≡ true → IsErr result }
         ensures moment { self.new.moment ≡ self.old.moment }
+        ensures congested { self.new.congested ≡ self.old.congested }
         ensures config { self.new.local.configuration ≡ self.old.local.configuration }
     {
         if self.spent {
@@ -233,6 +235,7 @@ impl SystemEntity {
         ensures spent { OnErr result (self.new.spent ≡ true) }
         ensures refused { self.old.spent ≡ true → IsErr result }
         ensures moment { self.new.moment ≡ self.old.moment }
+        ensures congested { self.new.congested ≡ self.old.congested }
         ensures config { self.new.local.configuration ≡ self.old.local.configuration }
     {
         if self.spent {
@@ -268,6 +271,7 @@ impl SystemEntity {
         ensures spent { OnErr result (self.new.spent ≡ true) }
         ensures refused { self.old.spent ≡ true → IsErr result }
         ensures moment { self.new.moment ≡ self.old.moment }
+        ensures congested { self.new.congested ≡ self.old.congested }
         ensures config { self.new.local.configuration ≡ self.old.local.configuration }
     {
         if self.spent {
@@ -294,6 +298,7 @@ impl SystemEntity {
         ensures spent { OnErr result (self.new.spent ≡ true) }
         ensures refused { self.old.spent ≡ true → IsErr result }
         ensures moment { self.new.moment ≡ self.old.moment }
+        ensures congested { self.new.congested ≡ self.old.congested }
         ensures config { self.new.local.configuration ≡ self.old.local.configuration }
     {
         if self.spent {
@@ -339,6 +344,7 @@ impl SystemEntity {
         ensures left { IfErr result (λ e. IsLeftBy e self.old self.new) }
         ensures refused { self.old.spent ≡ true → result ≡ Err WantsMemory }
         ensures moment { self.new.moment ≡ self.old.moment }
+        ensures congested { self.new.congested ≡ self.old.congested }
         ensures config { self.new.local.configuration ≡ self.old.local.configuration }
     {
         if self.spent {
@@ -383,6 +389,7 @@ impl SystemEntity {
         ensures left { IfErr result (λ e. IsLeftBy e self.old self.new) }
         ensures refused { self.old.spent ≡ true → result ≡ Err WantsMemory }
         ensures moment { self.new.moment ≡ self.old.moment }
+        ensures congested { self.new.congested ≡ self.old.congested }
         ensures config { self.new.local.configuration ≡ self.old.local.configuration }
     {
         let ask = self.local.echo_ask(&from, &to, body.len(), true);
@@ -404,6 +411,7 @@ impl SystemEntity {
     /// It is congested from now on, or no more.
     pub fn congest(&mut self, on: bool)
         ensures stands { (s : SystemState) → Stands self.old s → Stands self.new (congest s on).after }
+        ensures congested { self.new ≡ record self.old { congested = on } }
         ensures spent { self.new.spent ≡ self.old.spent }
         ensures moment { self.new.moment ≡ self.old.moment }
         ensures config { self.new.local.configuration ≡ self.old.local.configuration }

@@ -3,9 +3,11 @@
 #![tactic(auto)]
 
 mod entity;
+mod input;
 mod passing;
 mod way;
 
 pub use entity::{Arrival, SystemEntity};
+pub use input::Input;
 pub use passing::Passing;
 pub use way::Way;

@@ -8,14 +8,13 @@ ghost use Rattle.clnp_world.specs.Lines.{Gains};
 ghost use Rattle.clnp_world.specs.Parts.{Follows, Holds, IsRunning, Shows};
 
 use super::Network;
+use super::coming::names_of_inputs;
 use crate::copy::{first_port, is_addressee, is_to_group};
 use crate::lines::Lines;
 use clnp_machine::clnp_base::NoMemory;
 use clnp_machine::clnp_plan::Limits;
+use clnp_systems::Input;
 use std::alloc::Global;
-
-/// Room for as many outputs is made before a frame comes to a system; most frames call for no more.
-const FEW_OUTPUTS: usize = 2;
 
 impl Network {
     /// Gives the copy with a number to the system at a place, where it is for it; else a line says that
@@ -162,13 +161,20 @@ impl Network {
         ensures systems { vec_len self.new.systems ≡ vec_len self.old.systems }
         ensures copies { vec_len self.old.copies ≤ vec_len self.new.copies }
     {
+        names_of_inputs(None, None);
         let port = self.port_for(at, place);
         let copy = &self.copies[at];
         let birth = copy.birth;
+        let from = copy.sender;
         let group = is_to_group(copy);
-        let mut outputs = Vec::with_capacity(alloc, FEW_OUTPUTS)?;
-        self.systems[place].frame(alloc, port, copy.sender, group, &copy.frame, &mut outputs)?;
-        self.put_all_out(alloc, place, birth, outputs, lines)
+        let frame = copy.frame.share()?;
+        let input = Input::Frame {
+            port,
+            from,
+            group,
+            frame: &frame,
+        };
+        self.comes(alloc, place, birth, &input, lines)
     }
 
     /// The line of a copy that isn't there for the system at a place.

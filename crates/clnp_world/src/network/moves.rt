@@ -1,19 +1,19 @@
 //! The moves, and what an event does.
 ghost use Rattle.std.specs.Prelude.{◌≡◌, ◌+◌, ◌<◌, ◌≤◌, ◌^◌, ℕ, List, ◌++◌, OnOk, OnErr, Some, length, slice_get, vec_len};
 ghost use Rattle.std.specs.List.{AllByRecursion, range_with_len};
-ghost use Rattle.clnp_machine.specs.System.{IsRestarted, IsCongested, MomentComes};
+ghost use Rattle.clnp_machine.specs.System.{IsRestarted, IsCongested};
 ghost use Rattle.clnp_network.specs.World as network;
 ghost use Rattle.clnp_world.specs.Lines.{both, tally};
-ghost use Rattle.clnp_world.specs.Parts.{Follows, FollowsIn, Holds, IsBehind, IsRunning, Puts, Shows};
-ghost use Rattle.clnp_systems.specs.Stands.{entity_of};
-ghost use Rattle.clnp_systems.specs.declared.system.System.{System};
+ghost use Rattle.clnp_world.specs.Parts.{Follows, FollowsIn, Holds, IsBehind, IsRunning, Shows};
 ghost use Rattle.clnp_network.specs.Scenario.Scenario.{AsksFairly, InjectsInForm};
 
 use super::Network;
+use super::coming::names_of_inputs;
 use crate::lines::{Counts, Lines};
 use clnp_machine::clnp_base::NoMemory;
-use clnp_machine::clnp_plan::{Limits, Note};
+use clnp_machine::clnp_plan::Limits;
 use clnp_network::scenario::{Event, Move, Scenario, Subnet};
+use clnp_systems::Input;
 use std::alloc::Global;
 use std::mem;
 
@@ -187,11 +187,8 @@ impl Network {
         ensures { OnOk result ((model : network.World) → Holds self.old model
             → Follows self.new lines.old lines.new (network.comes model place IsRestarted)) }
     {
-        if place >= self.systems.len() {
-            return Ok(());
-        }
-        self.systems[place].restart();
-        self.write_note(alloc, place, &Note::Restart, lines)
+        names_of_inputs(None, None);
+        self.comes(alloc, place, self.clock, &Input::Restart, lines)
     }
 
     /// The system at a place is congested from now on, or no more.
@@ -205,11 +202,8 @@ impl Network {
         ensures { OnOk result ((model : network.World) → Holds self.old model
             → Follows self.new lines.old lines.new (network.comes model place (IsCongested on))) }
     {
-        if place >= self.systems.len() {
-            return Ok(());
-        }
-        self.systems[place].congest(on);
-        self.write_note(alloc, place, &Note::Congest { on }, lines)
+        names_of_inputs(None, None);
+        self.comes(alloc, place, self.clock, &Input::Congest(on), lines)
     }
 
     /// One tick passes.
@@ -230,29 +224,10 @@ impl Network {
         ensures { OnOk result ((model : network.World) → Shows self.old model → IsBehind model
             → Follows self.new lines.old lines.new (network.tick_each model (range_with_len 0 (length model.systems)))) }
     {
+        names_of_inputs(None, None);
         for place in 0..self.systems.len() {
-            self.tick_system(alloc, place, lines)?;
+            self.comes(alloc, place, self.clock, &Input::Moment(self.clock), lines)?;
         }
         Ok(())
-    }
-
-    /// The clock's moment comes to the system at a place.
-    fn tick_system(
-        &mut self,
-        alloc: Global,
-        place: usize,
-        lines: &mut Lines,
-    ) -> Result<(), NoMemory>
-        requires clock { self.old.clock < 2 ^ 62 }
-        requires place_in { place < vec_len self.old.systems }
-        requires later { (system : System) → slice_get self.old.systems.items place ≡ Some system → (entity_of system).moment ≤ self.old.clock }
-        ensures puts { OnOk result ((model : network.World) → Shows self.old model
-            → Puts self.new lines.old lines.new (network.comes model place (MomentComes model.clock))) }
-        ensures systems { vec_len self.new.systems ≡ vec_len self.old.systems }
-        ensures clock { self.new.clock ≡ self.old.clock }
-    {
-        let mut outputs = Vec::new(alloc);
-        self.systems[place].tick(alloc, self.clock, &mut outputs)?;
-        self.put_all_out(alloc, place, self.clock, outputs, lines)
     }
 }

@@ -80,7 +80,7 @@ impl Network {
     }
 
     /// The line of a note of the system at a place.
-    pub(super) fn write_note(
+    fn write_note(
         &self,
         alloc: Global,
         place: usize,

@@ -1,21 +1,21 @@
 //! Data units that a host is asked to send.
-ghost use Rattle.std.specs.Prelude.{◌≡◌, ◌+◌, ◌/◌, ◌%◌, IfOk, OnOk, Some, false};
+ghost use Rattle.std.specs.Prelude.{◌≡◌, ◌+◌, ◌/◌, ◌%◌, IfOk, OnOk, false};
 ghost use Rattle.clnp_machine.specs.System.{AsksForEcho, AsksToSend};
 ghost use Rattle.clnp_network.specs.World as network;
 ghost use Rattle.clnp_machine.specs.ClnpOptions.Grammar.{FitsKind};
 ghost use Rattle.clnp_machine.specs.ClnpOptions.Parameter.{parameters};
 ghost use Rattle.clnp_world.specs.Parts.{Follows, Holds};
-ghost use Rattle.clnp_systems.specs.LocalEntity.Local as entity;
 ghost use Rattle.clnp_network.specs.Scenario.Scenario.{octets_of};
 ghost use Rattle.clnp_network.specs.Scenario.declared.event.Body.TheVariants.{Pattern};
 
 use super::Network;
+use super::coming::names_of_inputs;
 use crate::lines::Lines;
 use clnp_machine::clnp_base::NoMemory;
-use clnp_machine::clnp_plan::{Ask, Note, SendRefusal, Why};
+use clnp_machine::clnp_plan::{Ask, Role};
 use clnp_machine::nsap::Address;
 use clnp_network::scenario::Body;
-use clnp_systems::System;
+use clnp_systems::Input;
 use std::alloc::Global;
 
 impl Network {
@@ -65,21 +65,17 @@ impl Network {
         if place >= self.systems.len() {
             return Ok(());
         }
-        let mut outputs = Vec::new(alloc);
-        match &mut self.systems[place] {
-            System::Router(router) => {
-                router.config();
-                Ok(())
-            }
-            System::Host(host) => {
-                host.config();
-                match host.send(alloc, from, to, body, ask, &mut outputs) {
-                    Ok(_unit) => self.put_all_out(alloc, place, self.clock, outputs, lines),
-                    Err(refusal) => {
-                        let note = refusal_note(refusal)?;
-                        self.write_note(alloc, place, &note, lines)
-                    }
-                }
+        names_of_inputs(None, None);
+        match self.systems[place].config().role() {
+            Role::Router => Ok(()),
+            Role::Host => {
+                let input = Input::Send {
+                    from,
+                    to,
+                    body,
+                    ask,
+                };
+                self.comes(alloc, place, self.clock, &input, lines)
             }
         }
     }
@@ -121,32 +117,10 @@ impl Network {
             → Follows self.new lines.old lines.new
             (network.comes model place (AsksForEcho from to body.now))) }
     {
-        if place >= self.systems.len() {
-            return Ok(());
-        }
-        let mut outputs = Vec::new(alloc);
-        match self.systems[place].echo(alloc, from, to, body, &mut outputs) {
-            Ok(_unit) => self.put_all_out(alloc, place, self.clock, outputs, lines),
-            Err(refusal) => {
-                let note = refusal_note(refusal)?;
-                self.write_note(alloc, place, &note, lines)
-            }
-        }
+        names_of_inputs(None, None);
+        let input = Input::Echo { from, to, body };
+        self.comes(alloc, place, self.clock, &input, lines)
     }
-}
-
-/// What is noted where a unit isn't made.
-fn refusal_note(refusal: SendRefusal) -> Result<Note, NoMemory>
-    ensures { IfOk result (λ note. entity.refusal_note refusal ≡ Some note) }
-{
-    let (why, value) = match refusal {
-        SendRefusal::NotMine => (Why::NotMine, 0),
-        SendRefusal::TooLong { octets } => (Why::TooLong, octets as u64),
-        SendRefusal::IdsBusy { used } => (Why::IdsBusy, used),
-        SendRefusal::Quiet { until } => (Why::Quiet, until),
-        SendRefusal::NoMemory => return Err(NoMemory),
-    };
-    Ok(Note::Refused { why, value })
 }
 
 /// The octets of a pattern.

@@ -61,6 +61,7 @@ impl SystemEntity {
         ensures ready { OnOk result (IsReady now self.new.local.table) }
         ensures none { OnErr result (out.new.items ≡ out.old.items) }
         ensures spent { self.new.spent ≡ self.old.spent }
+        ensures congested { self.new.congested ≡ self.old.congested }
         ensures config { self.new.local.configuration ≡ self.old.local.configuration }
     {
         laws::deeds_are_of_their_moment();
@@ -94,6 +95,7 @@ impl SystemEntity {
         ensures none { OnErr result (out.new.items ≡ out.old.items) }
         ensures moment { self.new.moment ≡ self.old.moment }
         ensures spent { self.new.spent ≡ self.old.spent }
+        ensures congested { self.new.congested ≡ self.old.congested }
         ensures config { self.new.local.configuration ≡ self.old.local.configuration }
     {
         laws::a_frame_carries_one_packet();
@@ -134,6 +136,7 @@ impl SystemEntity {
         ensures none { OnErr result (out.new.items ≡ out.old.items) }
         ensures moment { self.new.moment ≡ self.old.moment }
         ensures spent { self.new.spent ≡ self.old.spent }
+        ensures congested { self.new.congested ≡ self.old.congested }
         ensures config { self.new.local.configuration ≡ self.old.local.configuration }
     {
         if pdu.life == 0 {
@@ -171,6 +174,7 @@ impl SystemEntity {
         ensures none { OnErr result (out.new.items ≡ out.old.items) }
         ensures moment { self.new.moment ≡ self.old.moment }
         ensures spent { self.new.spent ≡ self.old.spent }
+        ensures congested { self.new.congested ≡ self.old.congested }
         ensures config { self.new.local.configuration ≡ self.old.local.configuration }
     {
         laws::deeds_are_of_their_moment();
@@ -218,6 +222,7 @@ impl SystemEntity {
         ensures none { OnErr result (out.new.items ≡ out.old.items) }
         ensures moment { self.new.moment ≡ self.old.moment }
         ensures spent { self.new.spent ≡ self.old.spent }
+        ensures congested { self.new.congested ≡ self.old.congested }
         ensures config { self.new.local.configuration ≡ self.old.local.configuration }
     {
         laws::a_frame_carries_one_esis_value();
@@ -259,6 +264,7 @@ impl SystemEntity {
         ensures none { OnErr result (out.new.items ≡ out.old.items) }
         ensures moment { self.new.moment ≡ self.old.moment }
         ensures spent { self.new.spent ≡ self.old.spent }
+        ensures congested { self.new.congested ≡ self.old.congested }
         ensures config { self.new.local.configuration ≡ self.old.local.configuration }
     {
         laws::deeds_are_of_their_moment();
@@ -297,6 +303,7 @@ impl SystemEntity {
         ensures none { OnErr result (out.new.items ≡ out.old.items) }
         ensures moment { self.new.moment ≡ self.old.moment }
         ensures spent { self.new.spent ≡ self.old.spent }
+        ensures congested { self.new.congested ≡ self.old.congested }
         ensures config { self.new.local.configuration ≡ self.old.local.configuration }
     {
         let Ok(frame) = Frame::copy(alloc, body) else {

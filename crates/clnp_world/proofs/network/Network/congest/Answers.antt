@@ -1,25 +1,9 @@
--- The system is congested or no more, and its note is written.
-use Rattle.std.proofs.Common.{[], ◌∷◌, refl, arith}
+-- It is congested, or no more.
 use Rattle.std.proofs.lemmas.Result.{on_ok_weaker}
-use Rattle.clnp_machine.specs.ClnpPlan.declared.note.Note.TheVariants.{Congest}
-use Rattle.clnp_machine.specs.ClnpPlan.declared.output.Output.TheVariants.{Note as Told}
-use Rattle.clnp_machine.specs.System.{IsCongested}
-use Rattle.clnp_systems.specs.Stands.{entity_of}
-use Rattle.clnp_world.proofs.TakeSteps.{with_node, does_follow, does_nothing, note_alone, gives_note}
+use Rattle.clnp_world.proofs.TakeSteps.{is_current, no_frame}
 use Rattle.clnp_world.proofs.network.Network.congest.Goals as goal
-use Rattle.std.proofs.lemmas.Option.{slice_get_read}
-
-pub returns-then-place-len : goal.returns-then-place-len
-returns-then-place-len c = does_nothing c.args.self.now c.args.lines.now c.args.place (IsCongested c.args.on) (omega (arith, c.args.self.now.systems.ok.0))
 
 pub returns : goal.returns
 returns c =
-    let old = c.args.self.now in
-    let mid = with_node old c.args.place c.congest.new.self in
-    on_ok_weaker c.write_note.result (λ writes.
-    does_follow old mid c.args.lines.now c.write_note.new.lines c.args.place old.clock (IsCongested c.args.on) c.index_mut.result.now c.congest.new.self
-    (Told (Congest c.args.on) ∷ [])
-    (slice_get_read old.systems.items _ c.args.place c.index_mut.result.now refl (omega (arith, old.systems.ok.0)) c.index_mut.ensures.value)
-    c.congest.ensures.stands (λ s _. gives_note (entity_of c.index_mut.result.now).moment (Congest c.args.on)) (λ s. refl)
-    (note_alone mid c.args.lines.now c.write_note.new.lines c.args.place old.clock (Congest c.args.on) writes))
-    c.write_note.ensures
+    on_ok_weaker c.comes.result (λ follows model h. follows model no_frame h tt tt (is_current c.args.self.now c.args.place model h))
+    c.comes.ensures.follows

@@ -19,9 +19,9 @@ invariant_of-self-2 c =
         stands = record {
           not_spent = refl;
           parts = while_spent _ false _ (subst (λ (e : SystemEntityState). PartsStand e (moment_comes old.state c.args.now).after) (sym c.self-2.view_is)
-              (c.in_ok-come_to.ensures.stands old.state (while_spent _ _ old.state old.stands.parts)));
+              (c.in_default.ensures.stands old.state (while_spent _ _ old.state old.stands.parts)));
         };
         ready = subst (λ (e : SystemEntityState). IsReady e.moment e.local.table) (sym c.self-2.view_is)
-            (subst (λ (m : ℕ). IsReady m c.come_to.new.self.local.table) (sym c.in_ok-come_to.ensures.moment) c.in_ok-come_to.ensures.ready);
+            (subst (λ (m : ℕ). IsReady m c.come_to.new.self.local.table) (sym c.in_default.ensures.moment) c.in_default.ensures.ready);
       };
     }

@@ -1,0 +1,64 @@
+//! What comes to the systems.
+ghost use Rattle.std.specs.Prelude.{◌≡◌, ◌≤◌, [], IfOk, OnOk, Some, slice_get, vec_len};
+ghost use Rattle.clnp_machine.specs.Content.{Content};
+ghost use Rattle.clnp_network.specs.World as network;
+ghost use Rattle.clnp_systems.specs.Stands.{entity_of};
+ghost use Rattle.clnp_systems.specs.SystemEntity.Steps.{Carries, MayCome, input_with};
+ghost use Rattle.clnp_systems.specs.declared.system.System.{System};
+ghost use Rattle.clnp_world.specs.Parts.{Follows, Holds, IsTimely, Puts, Shows};
+ghost use Rattle.clnp_world.specs.Stands.{IsBornWithUnit};
+
+use super::Network;
+use crate::lines::Lines;
+use clnp_machine::clnp_base::NoMemory;
+use clnp_machine::clnp_plan::{Ask, Output};
+use clnp_machine::clnp_views::Frame;
+use clnp_systems::Input;
+use std::alloc::Global;
+
+/// Room for as many outputs is made before a frame comes to a system; most frames call for no more.
+const FEW_OUTPUTS: usize = 2;
+
+impl Network {
+    /// Something comes to the system at a place, where there is one, and what the system gives out goes out. A frame that comes was
+    /// born at `came`; where none does, any moment serves.
+    pub(super) fn comes(
+        &mut self,
+        alloc: Global,
+        place: usize,
+        came: u64,
+        input: &Input<'_>,
+        lines: &mut Lines,
+    ) -> Result<(), NoMemory>
+        requires { (system : System) → slice_get self.old.systems.items place ≡ Some system → MayCome (entity_of system).moment input.now }
+        ensures puts { OnOk result ((model : network.World) (content : Content) → Shows self.old model → Carries input.now content
+            → IsBornWithUnit came content → IsTimely model place (input_with content input.now)
+            → Puts self.new lines.old lines.new (network.comes model place (input_with content input.now))) }
+        ensures follows { OnOk result ((model : network.World) (content : Content) → Holds self.old model → Carries input.now content
+            → IsBornWithUnit came content → IsTimely model place (input_with content input.now)
+            → Follows self.new lines.old lines.new (network.comes model place (input_with content input.now))) }
+        ensures systems { vec_len self.new.systems ≡ vec_len self.old.systems }
+        ensures clock { self.new.clock ≡ self.old.clock }
+        ensures copies { vec_len self.old.copies ≤ vec_len self.new.copies }
+    {
+        if place >= self.systems.len() {
+            return Ok(());
+        }
+        let mut outputs = room_for(alloc, input)?;
+        self.systems[place].step(alloc, input, &mut outputs)?;
+        self.put_all_out(alloc, place, came, outputs, lines)
+    }
+}
+
+/// Room for what a system gives out of an input.
+fn room_for(alloc: Global, input: &Input<'_>) -> Result<Vec<Output>, NoMemory>
+    ensures { IfOk result (λ outputs. outputs.items ≡ []) }
+{
+    match input {
+        Input::Frame { .. } => Ok(Vec::with_capacity(alloc, FEW_OUTPUTS)?),
+        _ => Ok(Vec::new(alloc)),
+    }
+}
+
+/// Names the types that an input may hold: the prover has to be told of them where an input is made. The function does nothing.
+pub(super) fn names_of_inputs(_frame: Option<&Frame>, _ask: Option<&Ask>) {}
