@@ -8,3 +8,5 @@ mod host_calls;
 mod network;
 #[cfg(test)]
 mod router_calls;
+#[cfg(test)]
+mod system_calls;

@@ -1,0 +1,99 @@
+use crate::network::{TO_THE_HOST, address, asking, scenario_of, see_got, see_sent};
+use clnp_machine::clnp_plan::{Limits, Note, Output, SystemConfig};
+use clnp_machine::clnp_views::Frame;
+use clnp_machine::nsap::Snpa;
+use clnp_systems::System;
+use std::alloc::Global;
+use std::process::Abort;
+use system_entity::Input;
+
+/// The system behind its first moment, in which it says nothing.
+fn system_of(rt: &impl Abort, alloc: Global, config: &SystemConfig, limits: &Limits) -> System {
+    assert!(rt; limits.hold >= 1);
+    let mut out = Vec::new(alloc);
+    let mut system = System::new(alloc, config, limits, 0, 0).expect(rt, "memory");
+    assert!(rt; system.step(alloc, &Input::Moment(1), &mut out).is_ok());
+    assert!(rt; out.is_empty());
+    system
+}
+
+/// It is asked to send a data unit.
+fn send(rt: &impl Abort, alloc: Global, system: &mut System, out: &mut Vec<Output>) {
+    let ask = asking(rt);
+    let input = Input::Send {
+        from: address(rt, 2),
+        to: address(rt, 1),
+        body: b"hi",
+        ask: &ask,
+    };
+    assert!(rt; system.step(alloc, &input, out).is_ok());
+}
+
+/// It is asked for an echo, by an address that isn't its own.
+fn echo(rt: &impl Abort, alloc: Global, system: &mut System, out: &mut Vec<Output>) {
+    let input = Input::Echo {
+        from: address(rt, 3),
+        to: address(rt, 1),
+        body: b"hi",
+    };
+    assert!(rt; system.step(alloc, &input, out).is_ok());
+}
+
+/// A data unit comes to it.
+fn receive(rt: &impl Abort, alloc: Global, system: &mut System, out: &mut Vec<Output>) {
+    let frame = Frame::copy(alloc, TO_THE_HOST).expect(rt, "memory");
+    let input = Input::Frame {
+        port: 0,
+        from: Snpa::from_bytes(&[2]).expect(rt, "an address"),
+        group: false,
+        frame: &frame,
+    };
+    assert!(rt; system.step(alloc, &input, out).is_ok());
+}
+
+/// It is said to be congested.
+fn congest(rt: &impl Abort, alloc: Global, system: &mut System, out: &mut Vec<Output>) {
+    assert!(rt; system.step(alloc, &Input::Congest(true), out).is_ok());
+}
+
+/// It starts anew.
+fn restart(rt: &impl Abort, alloc: Global, system: &mut System, out: &mut Vec<Output>) {
+    assert!(rt; system.step(alloc, &Input::Restart, out).is_ok());
+}
+
+/// Sees that nothing was made, and that this is noted.
+fn see_refused(rt: &impl Abort, output: Option<&Output>) {
+    let Some(Output::Note(Note::Refused { .. })) = output else {
+        panic!(rt; "nothing is refused");
+    };
+}
+
+/// Sees that a restart is noted.
+fn see_restart(rt: &impl Abort, output: Option<&Output>) {
+    let Some(Output::Note(Note::Restart)) = output else {
+        panic!(rt; "no restart");
+    };
+}
+
+#[test]
+fn whatever_comes_is_a_step(rt: HostRuntime) {
+    let alloc = rt.alloc();
+    let scenario = scenario_of(&rt, alloc);
+    let Some(config) = scenario.systems().get(0) else {
+        panic!(&rt; "no host");
+    };
+    let mut out = Vec::new(alloc);
+    let mut system = system_of(&rt, alloc, config, scenario.limits());
+    assert!(&rt; system.config().name() == b"a".as_slice());
+    assert!(&rt; system.as_host().is_some());
+    assert!(&rt; system.as_router().is_none());
+    send(&rt, alloc, &mut system, &mut out);
+    echo(&rt, alloc, &mut system, &mut out);
+    receive(&rt, alloc, &mut system, &mut out);
+    restart(&rt, alloc, &mut system, &mut out);
+    see_sent(&rt, out.get(0), 1);
+    see_refused(&rt, out.get(2));
+    see_got(&rt, out.get(3));
+    see_restart(&rt, out.get(4));
+    congest(&rt, alloc, &mut system, &mut out);
+}
