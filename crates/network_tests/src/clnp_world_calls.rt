@@ -64,6 +64,7 @@ fn see_network(rt: &impl Abort, world: &World) {
     assert!(rt; world.clock() == 1);
     assert!(rt; world.weight() == 85);
     assert!(rt; world.host(2).is_none());
+    assert!(rt; world.router(0).is_none());
     let Some(host) = world.host(0) else {
         panic!(rt; "no host");
     };
