@@ -29,3 +29,5 @@ pub mod WrittenDeclarations
 pub mod ReadBack
 pub mod Versions
 mod Worked
+pub mod Pieces
+pub mod Alone

@@ -5,7 +5,7 @@ ghost use Rattle.std.specs.Fmt.{decimal};
 ghost use Rattle.clnp_plan.specs.Nsap.Text.{hex_text};
 ghost use Rattle.clnp_plan.specs.Journal.{behind_space, line_of, on_word, target_word};
 ghost use Rattle.scenario.specs.Canonical as canonical;
-ghost use Rattle.scenario.specs.Canonical.{address_text, ask_words, belongings_text, event_text, limits_text, port_text, port_texts, route_text, subnet_text, system_text, text_of};
+ghost use Rattle.scenario.specs.Canonical.{address_text, ask_words, belongings_text, event_text, header_text, limits_text, port_text, port_texts, route_text, subnet_text, system_text, text_of};
 ghost use Rattle.scenario.specs.Grammar.{plan_of};
 ghost use Rattle.scenario.specs.Lines.{word_text};
 
@@ -42,11 +42,7 @@ pub fn write(alloc: Global, scenario: &Scenario, out: &mut Vec<u8>) -> Result<()
 fn push_scenario(scenario: &Scenario, out: &mut Vec<u8>) -> Result<(), NoMemory>
     ensures { OnOk result (out.new.items ≡ out.old.items ++ text_of scenario.now) }
 {
-    push_line(
-        b"clnp-sim",
-        &[number_word(u64::from(scenario.version()))],
-        out,
-    )?;
+    push_header(scenario.version(), out)?;
     push_declarations(scenario, out)?;
     push(b"events\n", out)?;
     push_events(
@@ -56,6 +52,13 @@ fn push_scenario(scenario: &Scenario, out: &mut Vec<u8>) -> Result<(), NoMemory>
         out,
     )?;
     push(b"end\n", out)
+}
+
+/// Appends the line of the header.
+fn push_header(version: u8, out: &mut Vec<u8>) -> Result<(), NoMemory>
+    ensures { OnOk result (out.new.items ≡ out.old.items ++ header_text version) }
+{
+    push_line(b"clnp-sim", &[number_word(u64::from(version))], out)
 }
 
 /// Appends what is declared.
