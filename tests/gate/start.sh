@@ -85,6 +85,11 @@ cd "$tree" && want "by its name here" 13 ./clnp
 cd "$tree/$code" && want "from another folder" 13 ../../../clnp
 cp -a "$tree" "$work/copy" && tree="$work/copy"
 want "a copy" 13
+sleep 0.1
+touch "$tree/crates/clnp_tool/out/clnp_tool" && rm "$tree/crates/clnp_tool/out/"clnp_stamp.*
+want "no stamp, and no source changed since" 13
+rm "$tree/crates/clnp_tool/out/"clnp_stamp.* && echo another >"$tree/$code/lib.rt"
+want "no stamp, and a source that changed" 14
 # A program whose sources changed isn't run either where it can't be built.
 rm "$work/bin/rt" && echo last >"$tree/$code/lib.rt"
 if command -v rt >/dev/null; then
