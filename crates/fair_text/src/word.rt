@@ -9,7 +9,7 @@ ghost use Rattle.fair_text.specs.Refusal.{Faults};
 
 use crate::fault::LineFault;
 use scenario::Code;
-use scenario::clnp_base::{decimal, next_word};
+use scenario::clnp_base::{HexFault, decimal, next_word, push_unhex};
 use scenario::nsap::Address;
 use std::alloc::Global;
 
@@ -166,9 +166,11 @@ pub(crate) fn frame_word(alloc: Global, word: &[u8]) -> Result<Vec<u8>, LineFaul
     ensures { let reading = frame_word word.now in
         MatchResult result (λ octets. reading ≡ Ok octets.items) (λ fault. Faults fault reading) }
 {
-    match hex::decode(alloc, word) {
-        Ok(octets) => Ok(octets),
-        Err(hex::FromHexError::OutOfMemory) => Err(LineFault::NoMemory),
-        Err(_) => Err(LineFault::Broken(Code::Address)),
+    let mut octets = Vec::new(alloc);
+    match push_unhex(word, &mut octets) {
+        Ok(()) => Ok(octets),
+        Err(HexFault::OddLength) => Err(LineFault::Broken(Code::Address)),
+        Err(HexFault::BadDigit) => Err(LineFault::Broken(Code::Address)),
+        Err(HexFault::NoMemory) => Err(LineFault::NoMemory),
     }
 }
