@@ -40,6 +40,20 @@ impl Frame {
         }
     }
 
+    /// The frame of octets that are handed over, and so not copied.
+    ///
+    /// # Errors
+    ///
+    /// `NoMemory`.
+    pub fn from_vec(octets: Vec<u8>) -> Result<Frame, NoMemory>
+        ensures { IfOk result (λ frame. frame ≡ octets.items) }
+    {
+        match RcSlice::from_vec(octets) {
+            Ok(octets) => Ok(Frame { octets }),
+            Err(_) => Err(NoMemory),
+        }
+    }
+
     /// The number of octets.
     pub fn len(&self) -> usize
         ensures { result ≡ length self.now }

@@ -1,12 +1,13 @@
 -- Lines that come one behind the other.
-use Rattle.std.proofs.Common.{◌≡◌, ℕ, ◌+◌, List, [], ◌++◌, codes, refl, sym, ap, ◌∙◌, append-nil, append_assoc, arith}
+use Rattle.std.proofs.Common.{◌≡◌, ℕ, ◌+◌, List, [], ◌++◌, codes, refl, sym, ap, subst, ◌∙◌, append-nil, append_assoc, arith}
 use Rattle.std.specs.Str.{bytes_eq}
 use Rattle.clnp_machine.specs.ClnpPlan.Journal.{Line}
 use Rattle.clnp_network.specs.Run.{lines_text}
-use Rattle.clnp_world.specs.Lines.{Gains, both, how_many, kind_of, no_lines, tally}
+use Rattle.clnp_world.specs.Lines.{Gains, GainsIn, both, how_many, kind_of, no_lines, tally}
 use Rattle.clnp_world.specs.declared.lines.Counts.{Counts}
+use Rattle.clnp_world.specs.declared.lines.Form.{Form}
+use Rattle.clnp_world.specs.declared.lines.Form.TheVariants.{Written, Counted}
 use Rattle.clnp_world.specs.declared.lines.Lines.{Lines}
-use Rattle.clnp_world.specs.declared.lines.Lines.TheVariants.{Written, Counted}
 use Rattle.clnp_world.proofs.ModelSteps.{lines_text-append}
 use Rattle.clnp_machine.proofs.ClnpBase.Sums.{length_filter-append}
 
@@ -45,23 +46,28 @@ tally-append lines more =
       how_many-append (codes "expired") lines more,
     ) refl
 
+gains_nothing_in : (form : Form) (lines : Lines) → GainsIn form lines lines []
+gains_nothing_in Written lines = sym (append-nil lines.text.items)
+gains_nothing_in Counted lines = sym (both-none lines.counts)
+
 -- no lines came
 pub gains_nothing : (lines : Lines) → Gains lines lines []
-gains_nothing (Written text) = sym (append-nil text.items)
-gains_nothing (Counted counts) = sym (both-none counts)
+gains_nothing lines = record { form = refl; gained = gains_nothing_in lines.form lines }
+
+gains_more_in : (form : Form) (before between after : Lines) (lines more : List Line) → GainsIn form before between lines
+    → GainsIn form between after more → GainsIn form before after (lines ++ more)
+gains_more_in Written before between after lines more g h =
+    h ∙ ap (λ (t : List ℕ). t ++ lines_text more) g ∙ append_assoc before.text.items (lines_text lines) (lines_text more)
+    ∙ ap (λ (t : List ℕ). before.text.items ++ t) (sym (lines_text-append lines more))
+gains_more_in Counted before between after lines more g h =
+    h ∙ ap (λ (c : Counts). both c (tally more)) g ∙ both-assoc before.counts (tally lines) (tally more)
+    ∙ ap (λ (c : Counts). both before.counts c) (sym (tally-append lines more))
 
 -- some lines came, and then others
 pub gains_more : (before between after : Lines) (lines more : List Line) → Gains before between lines → Gains between after more
     → Gains before after (lines ++ more)
-gains_more (Written before) (Written between) (Written after) lines more g h =
-    h ∙ ap (λ (t : List ℕ). t ++ lines_text more) g ∙ append_assoc before.items (lines_text lines) (lines_text more)
-    ∙ ap (λ (t : List ℕ). before.items ++ t) (sym (lines_text-append lines more))
-gains_more (Counted before) (Counted between) (Counted after) lines more g h =
-    h ∙ ap (λ (c : Counts). both c (tally more)) g ∙ both-assoc before (tally lines) (tally more)
-    ∙ ap (λ (c : Counts). both before c) (sym (tally-append lines more))
-gains_more (Written before) (Written between) (Counted after) lines more g h = absurd h
-gains_more (Written before) (Counted between) (Written after) lines more g h = absurd g
-gains_more (Written before) (Counted between) (Counted after) lines more g h = absurd g
-gains_more (Counted before) (Written between) (Written after) lines more g h = absurd g
-gains_more (Counted before) (Written between) (Counted after) lines more g h = absurd g
-gains_more (Counted before) (Counted between) (Written after) lines more g h = absurd h
+gains_more before between after lines more g h = record {
+  form = h.form ∙ g.form;
+  gained = gains_more_in before.form before between after lines more g.gained
+      (subst (λ (f : Form). GainsIn f between after more) g.form h.gained);
+}

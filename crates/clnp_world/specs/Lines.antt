@@ -5,8 +5,9 @@ use Rattle.std.specs.Str.{bytes_eq}
 use Rattle.clnp_machine.specs.ClnpPlan.Journal.{Line, Noted, Transmitted, Void, Late, Injected, note_words}
 use Rattle.clnp_network.specs.Run.{lines_text}
 use Rattle.clnp_world.specs.declared.lines.Counts.{Counts}
+use Rattle.clnp_world.specs.declared.lines.Form.{Form}
+use Rattle.clnp_world.specs.declared.lines.Form.TheVariants.{Written, Counted}
 use Rattle.clnp_world.specs.declared.lines.Lines.{Lines}
-use Rattle.clnp_world.specs.declared.lines.Lines.TheVariants.{Written, Counted}
 
 -- the first of some words; no octets where there is none
 abbrev pub first_of : List (List ℕ) → List ℕ
@@ -49,8 +50,11 @@ both a b = record {
 }
 
 -- some lines came to what there was: their text stands behind it, or they were counted
-abbrev pub Gains : (before after : Lines) → List Line → Type 0
-Gains (Written before) (Written after) lines = after.items ≡ before.items ++ lines_text lines
-Gains (Counted before) (Counted after) lines = after ≡ both before (tally lines)
-Gains (Written before) (Counted after) lines = ⊥
-Gains (Counted before) (Written after) lines = ⊥
+abbrev pub GainsIn : Form → (before after : Lines) → List Line → Type 0
+GainsIn Written before after lines = after.text.items ≡ before.text.items ++ lines_text lines
+GainsIn Counted before after lines = after.counts ≡ both before.counts (tally lines)
+
+-- and so it stays with all that come
+pub record Gains (before after : Lines) (lines : List Line) : Type 0 where
+  pub form : after.form ≡ before.form
+  pub gained : GainsIn before.form before after lines

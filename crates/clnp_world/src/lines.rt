@@ -69,13 +69,23 @@ impl Counts {
     }
 }
 
-/// Where the lines of a move go.
+/// What becomes of the lines of a move.
+#[derive(Clone, Copy)]
+pub(crate) enum Form {
+    /// Their text is written, behind that of others.
+    Written,
+    /// They are counted by their kinds, and there is no text.
+    Counted,
+}
+
+/// The lines of a move, and of the moves before it.
 #[derive(Drop)]
-pub(crate) enum Lines {
-    /// Their text, behind that of others.
-    Written(Vec<u8>),
-    /// How many they are of some kinds, and no text.
-    Counted(Counts),
+pub(crate) struct Lines {
+    pub(crate) form: Form,
+    /// Their text, where it is written.
+    pub(crate) text: Vec<u8>,
+    /// How many they are of some kinds, where they are counted.
+    pub(crate) counts: Counts,
 }
 
 impl Lines {
@@ -89,15 +99,9 @@ impl Lines {
     ) -> Result<(), NoMemory>
         ensures { OnOk result (Gains self.old self.new (Noted now name.now note.now ∷ [])) }
     {
-        match self {
-            Lines::Written(text) => journal_text(alloc, now, name, note, text),
-            Lines::Counted(counts) => match counts.with_note(note) {
-                Some(counted) => {
-                    *counts = counted;
-                    Ok(())
-                }
-                None => Err(NoMemory),
-            },
+        match self.form {
+            Form::Written => journal_text(alloc, now, name, note, &mut self.text),
+            Form::Counted => self.count(note),
         }
     }
 
@@ -114,11 +118,18 @@ impl Lines {
     ) -> Result<(), NoMemory>
         ensures { OnOk result (Gains self.old self.new (Transmitted now name.now copy port target frame.now ∷ [])) }
     {
-        match self {
-            Lines::Written(text) => {
-                transmission_text(alloc, now, name, copy, port, target, frame, text)
-            }
-            Lines::Counted(_) => Ok(()),
+        match self.form {
+            Form::Written => transmission_text(
+                alloc,
+                now,
+                name,
+                copy,
+                port,
+                target,
+                frame,
+                &mut self.text,
+            ),
+            Form::Counted => Ok(()),
         }
     }
 
@@ -132,9 +143,9 @@ impl Lines {
     ) -> Result<(), NoMemory>
         ensures { OnOk result (Gains self.old self.new (Void now name.now copy ∷ [])) }
     {
-        match self {
-            Lines::Written(text) => void_text(alloc, now, name, copy, text),
-            Lines::Counted(_) => Ok(()),
+        match self.form {
+            Form::Written => void_text(alloc, now, name, copy, &mut self.text),
+            Form::Counted => Ok(()),
         }
     }
 
@@ -148,9 +159,9 @@ impl Lines {
     ) -> Result<(), NoMemory>
         ensures { OnOk result (Gains self.old self.new (Late now name.now copy ∷ [])) }
     {
-        match self {
-            Lines::Written(text) => late_text(alloc, now, name, copy, text),
-            Lines::Counted(_) => Ok(()),
+        match self.form {
+            Form::Written => late_text(alloc, now, name, copy, &mut self.text),
+            Form::Counted => Ok(()),
         }
     }
 
@@ -166,9 +177,23 @@ impl Lines {
     ) -> Result<(), NoMemory>
         ensures { OnOk result (Gains self.old self.new (Injected now copy subnet.now sender.now target.now ∷ [])) }
     {
-        match self {
-            Lines::Written(text) => injection_text(alloc, now, copy, subnet, sender, target, text),
-            Lines::Counted(_) => Ok(()),
+        match self.form {
+            Form::Written => {
+                injection_text(alloc, now, copy, subnet, sender, target, &mut self.text)
+            }
+            Form::Counted => Ok(()),
         }
+    }
+
+    /// Counts a system's note.
+    fn count(&mut self, note: &Note) -> Result<(), NoMemory>
+        ensures { OnOk result ((now : ℕ) (name : List ℕ)
+            → self.new ≡ record self.old { counts = both self.old.counts (tally (Noted now name note.now ∷ [])) }) }
+    {
+        let Some(counts) = self.counts.with_note(note) else {
+            return Err(NoMemory);
+        };
+        self.counts = counts;
+        Ok(())
     }
 }

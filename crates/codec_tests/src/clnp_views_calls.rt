@@ -26,3 +26,11 @@ fn shows_a_frame_and_its_parts(rt: HostRuntime) {
     let shared = frame.share().expect(&rt, "memory");
     assert!(rt; is_seen(shared.into_view().narrow(0, 6), b"header"));
 }
+
+#[test]
+fn takes_octets_over(rt: HostRuntime) {
+    let mut octets = Vec::new(rt.alloc());
+    octets.extend_from_slice(b"header, data").expect(&rt, "memory");
+    let frame = Frame::from_vec(octets).expect(&rt, "memory");
+    assert!(rt; is_seen(frame.into_view(), b"header, data"));
+}

@@ -9,7 +9,7 @@ ghost use Rattle.clnp_network.specs.Scenario.Scenario.{AsksFairly, InjectsInForm
 
 use super::Network;
 use super::coming::names_of_inputs;
-use crate::lines::{Counts, Lines};
+use crate::lines::{Counts, Form, Lines};
 use clnp_machine::clnp_base::NoMemory;
 use clnp_machine::clnp_plan::Limits;
 use clnp_network::scenario::{Event, Move, Scenario, Subnet};
@@ -36,14 +36,14 @@ impl Network {
     {
         let mut text = mem::replace(room, Vec::new(alloc));
         text.clear();
-        let mut lines = Lines::Written(text);
-        self.make_move(alloc, scenario, mv, &mut lines)?;
-        // Lines that are written stay so.
-        let Lines::Written(text) = lines else {
-            return Err(NoMemory);
+        let mut lines = Lines {
+            form: Form::Written,
+            text,
+            counts: Counts::none(),
         };
-        journal.extend_from_slice(text.as_slice())?;
-        *room = text;
+        self.make_move(alloc, scenario, mv, &mut lines)?;
+        journal.extend_from_slice(lines.text.as_slice())?;
+        *room = lines.text;
         Ok(())
     }
 
@@ -63,13 +63,13 @@ impl Network {
             → counts.new ≡ both counts.old (tally (network.after scenario.now model mv.now).lines)) }
         ensures same { OnErr result (counts.new ≡ counts.old) }
     {
-        let mut lines = Lines::Counted(*counts);
-        self.make_move(alloc, scenario, mv, &mut lines)?;
-        // Lines that are counted stay so.
-        let Lines::Counted(counted) = lines else {
-            return Err(NoMemory);
+        let mut lines = Lines {
+            form: Form::Counted,
+            text: Vec::new(alloc),
+            counts: *counts,
         };
-        *counts = counted;
+        self.make_move(alloc, scenario, mv, &mut lines)?;
+        *counts = lines.counts;
         Ok(())
     }
 

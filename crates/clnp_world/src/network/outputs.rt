@@ -199,7 +199,7 @@ fn frame_of(alloc: Global, sending: &Sending) -> Result<Frame, NoMemory>
     let mut octets = Vec::with_capacity(alloc, head.len().saturating_add(body.len()))?;
     octets.extend_from_slice(head)?;
     octets.extend_from_slice(body)?;
-    Frame::copy(alloc, &octets)
+    Frame::from_vec(octets)
 }
 
 /// The data that follow the header.
