@@ -35,8 +35,8 @@ use Rattle.clnp_safety.proofs.Lines.{LineIs, lines_are, lines_say_no_restart, qu
 use Rattle.clnp_safety.proofs.Outputs.{takes_effect_notes, takes_effect_stands}
 use Rattle.clnp_safety.proofs.Told.{outputs_note}
 use Rattle.clnp_safety.proofs.Units.{units_with}
-use Rattle.clnp_safety.proofs.Effects.{fresh_is_sound, notes_are_steady, others_stand, ports_after, step_gives_soundly}
-use Rattle.clnp_safety.proofs.Moves.{MoveIsSound, nothing_is_sound, stands_soundly, stay_pending}
+use Rattle.clnp_safety.proofs.Effects.{IsCurrent, StandsWith, fresh_is_sound, notes_are_steady, others_stand, ports_after, step_gives_soundly}
+use Rattle.clnp_safety.proofs.Moves.{MoveIsSound, nothing_is_sound, sound_since_itself, stands_soundly, stay_pending}
 use Rattle.clnp_safety.proofs.Honest.{ComesSoundly, NoteIsSound, NoteIsSteady}
 
 -- the step by which a unit is sent
@@ -89,17 +89,14 @@ module _ (laws : StepLaws) (plan : Plan) (fit : IsFit plan) (past : List Entry) 
     abbrev later : List unit.Unit
     later = w.units ++ effect.units
 
-    it : SystemStands plan past w.units w.units w.clock place s
+    it : SystemStands plan past w.units w.units place s
     it = h.systems.each place s there
 
-    now : moment_after s input ≡ w.clock
-    now = at ∙ it.sound.moment
-
-    done : EffectIsSound plan past w s.configuration.name w.units w.clock place effect
+    done : EffectIsSound plan past w s.configuration.name w.units place effect
     done =
-        subst (EffectIsSound plan past w s.configuration.name w.units w.clock place) is
-        (deed_is_sound plan past w s.configuration.name w.units w.clock place laws (make s kind from to octets ask)
-        (make_soundly plan past w s.configuration.name w.units w.clock place laws s kind from to octets ask (record { sound = it.sound; rest = h.made.rest })
+        subst (EffectIsSound plan past w s.configuration.name w.units place) is
+        (deed_is_sound plan past w s.configuration.name w.units place laws (make s kind from to octets ask)
+        (make_soundly plan past w s.configuration.name w.units place laws s kind from to octets ask (record { sound = it.sound; rest = h.made.rest })
         (λ erp. absurd (no_reply erp))))
 
     asked : AllByRecursion (IsAskedIn w.clock s.configuration.name taken.lines) effect.units
@@ -112,22 +109,24 @@ module _ (laws : StepLaws) (plan : Plan) (fit : IsFit plan) (past : List Entry) 
     quiet name = lines_say_no_restart name taken.lines (takes_effect_notes IsNoRestart w place effect (laws.steps.no_restart s input steady))
 
     module _ (founded : (u : unit.Unit) → IsMadeFor input u → NoRefusal taken.lines → IsMadeOn plan then w.units u.kind u) where
-      new_units : AllByRecursion (UnitIsSound plan then w.units w.clock) effect.units
+      new_units : AllByRecursion (UnitIsSound plan then w.units) effect.units
       new_units =
-          AllByRecursion-both (IsFresh s (moment_after s input)) (λ u. IsMadeOn plan then w.units u.kind u) (UnitIsSound plan then w.units w.clock)
-          (fresh_is_sound plan then w.units w.clock place s it.sound (moment_after s input) w.clock now) effect.units (laws.steps.fresh s input)
+          AllByRecursion-both (IsFresh s (moment_after s input)) (λ u. IsMadeOn plan then w.units u.kind u) (UnitIsSound plan then w.units)
+          (fresh_is_sound plan then w.units place s it.sound (moment_after s input)) effect.units (laws.steps.fresh s input)
           (AllByRecursion-both (IsMadeFor input) (IsAskedIn w.clock s.configuration.name taken.lines) (λ u. IsMadeOn plan then w.units u.kind u)
           (λ u for was. founded u for was.unrefused) effect.units (laws.steps.made_for s input) asked)
 
-      units_are_sound : UnitsAreSound plan then w.clock later
-      units_are_sound =
-          units_with plan then w.units effect.units w.clock (units_later plan past (entry ∷ []) w.clock w.clock w.units (omega arith) h.made) done.rest new_units
+      units_are_sound : UnitsAreSound plan then later
+      units_are_sound = units_with plan then w.units effect.units (units_later plan past (entry ∷ []) w.units h.made) done.rest new_units
 
-      others : (other : ℕ) (t : SystemState) → other ≢ place → SystemStands plan past w.units w.units w.clock other t
-          → SystemStands plan then later later w.clock other t
-      others other t apart stood = record {
-        sound = (others_stand laws plan fit past w.units w.clock place s it.sound input comes w.units w.clock other t apart stood).sound;
-        pending = stay_pending past entry w.units effect.units other t.configuration.name t.pending (quiet t.configuration.name) stood.pending;
+      others : (other : ℕ) (t : SystemState) → other ≢ place → StandsWith plan past w.units IsCurrent w.units w.clock other t
+          → StandsWith plan then later IsCurrent later w.clock other t
+      others other t apart was = record {
+        stands = record {
+          sound = (others_stand laws plan fit past w.units place s it.sound input comes w.units other t apart was.stands).sound;
+          pending = stay_pending past entry w.units effect.units other t.configuration.name t.pending (quiet t.configuration.name) was.stands.pending;
+        };
+        also = was.also;
       }
 
       -- a request that is made now
@@ -161,14 +160,14 @@ module _ (laws : StepLaws) (plan : Plan) (fit : IsFit plan) (past : List Entry) 
           let notes = subst (λ (c : SystemConfiguration). AllByRecursion (NotesOnly (NoteIsSteady plan past w c.name)) effect.outputs)
           (sym (laws.steps.itself s input).configuration)
           (notes_are_steady laws plan fit past w s.configuration.name s input w.units comes done.notes steady) in
-          let kept = takes_effect_stands w.clock (length plan.systems) (NoteIsSteady plan past w) w.units
-          (λ other. SystemStands plan past w.units w.units w.clock other) (λ other. SystemStands plan then later later w.clock other) w place effect others
-          (record { sound = done.after; pending = pending })
-          (ports_after laws plan fit past w.units w.clock place s it.sound input comes)
-          (step_gives_soundly laws plan fit past w.units w.clock place s it.sound input comes (NoteIsSteady plan past w effect.after.configuration.name) fair notes)
-          (record { made = refl; clock = refl; copies = h.copies; number = h.systems.number; each = h.systems.each }) in
+          let kept = takes_effect_stands (length plan.systems) (NoteIsSteady plan past w) w.units (StandsWith plan past w.units IsCurrent w.units)
+          (StandsWith plan then later IsCurrent later) w place effect others
+          (record { stands = record { sound = done.after; pending = pending }; also = laws.steps.moment s input ∙ at ∙ h.current place s there })
+          (ports_after laws plan fit past w.units place s it.sound input comes)
+          (step_gives_soundly laws plan fit past w.units place s it.sound input comes (NoteIsSteady plan past w effect.after.configuration.name) fair notes)
+          (sound_since_itself plan past w h).stands in
           record {
-            world = stands_soundly plan then later w.clock taken.world units_are_sound kept.world;
+            world = stands_soundly plan then later taken.world units_are_sound kept.world;
             lines = lines_are (NoteIsSteady plan past w) (NoteIsSound plan past w) (λ name note is. is.sound) taken.lines kept.lines;
           }
 

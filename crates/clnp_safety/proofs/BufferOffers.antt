@@ -21,10 +21,10 @@ use Rattle.clnp_safety.specs.StepLaws.{StepLaws}
 use Rattle.clnp_safety.proofs.Units.{different_makers, same_unit}
 use Rattle.clnp_safety.proofs.Kept.{KeptIn, find_passes, same_key-true}
 
-pub unit_sound : (plan : Plan) (past : List Entry) (now : ℕ) (units : List unit.Unit) (u : unit.Unit) → UnitsAreSound plan past now units
-    → Contains units u → UnitIsSound plan past units now u
-unit_sound plan past now units u sound within =
-    All-contains (UnitIsSound plan past units now) units u (All-from_recursion (UnitIsSound plan past units now) units sound.each) within
+pub unit_sound : (plan : Plan) (past : List Entry) (units : List unit.Unit) (u : unit.Unit) → UnitsAreSound plan past units → Contains units u
+    → UnitIsSound plan past units u
+unit_sound plan past units u sound within =
+    All-contains (UnitIsSound plan past units) units u (All-from_recursion (UnitIsSound plan past units) units sound.each) within
 
 same_shape-like : (a b : Shape) → a ≡ b → same_shape a b ≡ true
 same_shape-like a b e =
@@ -39,45 +39,47 @@ unit_shape u = record { total = u.total; head_len = header_size u; kind = type_c
 shape_offered : StepLaws → (units : List unit.Unit) (p : Packet) → IsRangeOf units p → (offered p []).shape ≡ unit_shape p.unit
 shape_offered laws units p range = ap (λ n. record { total = p.unit.total; head_len = n; kind = type_code p.unit.kind }) (laws.headers.header p range.options)
 
--- a buffer that is sound, and isn't due
-pub record IsLive (plan : Plan) (units : List unit.Unit) (now : ℕ) (buffer : Buffer Packet) : Type 0 where
+-- a buffer that is sound, and isn't due at a moment
+pub record IsLive (plan : Plan) (units : List unit.Unit) (here : ℕ) (buffer : Buffer Packet) : Type 0 where
   pub sound : BufferIsSound plan units buffer
-  pub lasts : now < buffer.deadline
+  pub lasts : here < buffer.deadline
 
-module _ (laws : StepLaws) (plan : Plan) (fit : IsFit plan) (past : List Entry) (now : ℕ) (units : List unit.Unit) (made : UnitsAreSound plan past now units)
-    (p : Packet) (packet : IsRangeOf units p) (carriable : IsCarriable p) (young : now ≤ p.unit.made + plan.limits.age) (identifier : ℕ)
-    (identified : p.unit.identifier ≡ Some identifier) where
-  -- a unit that was made so long before or after it isn't that of a buffer that lasts
-  not_another : (buffer : Buffer Packet) (v : unit.Unit) → Contains units v → now < buffer.deadline
+-- A packet comes to a system at its moment, here, which is that of its maker, there: all units of that maker were made until then.
+module _ (laws : StepLaws) (plan : Plan) (fit : IsFit plan) (past : List Entry) (units : List unit.Unit) (made : UnitsAreSound plan past units)
+    (p : Packet) (packet : IsRangeOf units p) (carriable : IsCarriable p) (here there : ℕ) (together : here ≡ there)
+    (until : (v : unit.Unit) → Contains units v → v.maker ≡ p.unit.maker → v.made ≤ there) (young : there ≤ p.unit.made + plan.limits.age)
+    (identifier : ℕ) (identified : p.unit.identifier ≡ Some identifier) where
+  -- a unit of that maker that was made so long before or after it isn't that of a buffer that lasts
+  not_another : (buffer : Buffer Packet) (v : unit.Unit) → Contains units v → v.maker ≡ p.unit.maker → here < buffer.deadline
       → buffer.opened ≤ v.made + plan.limits.age → buffer.deadline ≤ buffer.opened + plan.limits.hold
       → (p.unit.made + plan.limits.reuse ≤ v.made → ⊥) × (v.made + plan.limits.reuse ≤ p.unit.made → ⊥)
-  not_another buffer v within lasts opened deadline =
+  not_another buffer v within maker lasts opened deadline =
       let rests = fit.limits.rests in
       let hold = fit.limits.hold.least in
-      let before = (unit_sound plan past now units p.unit made packet.unit).made in
-      let other = (unit_sound plan past now units v made within).made in
+      let before = until p.unit packet.unit refl in
+      let other = until v within maker in
       ((λ e. omega arith), (λ e. omega arith))
 
-  pub unit_in : (buffer : Buffer Packet) (live : IsLive plan units now buffer) → same_key buffer.key (offered p []).key ≡ true
+  pub unit_in : (buffer : Buffer Packet) (live : IsLive plan units here buffer) → same_key buffer.key (offered p []).key ≡ true
       → live.sound.unit ≡ p.unit
   unit_in buffer live same =
       let v = live.sound.unit in
       let keys : record { from = v.source; to = v.destination; id = live.sound.identifier } ≡ (offered p []).key
       = sym live.sound.key ∙ same_key-true buffer.key (offered p []).key same in
       let number : live.sound.identifier ≡ identifier = ap (λ key. key.id) keys ∙ ap identifier_in identified in
-      let apart = not_another buffer v live.sound.made live.lasts live.sound.opened live.sound.deadline in
-      let first = unit_sound plan past now units v made live.sound.made in
-      let second = unit_sound plan past now units p.unit made packet.unit in
+      let first = unit_sound plan past units v made live.sound.made in
+      let second = unit_sound plan past units p.unit made packet.unit in
       let owner : Owns plan second.place v.source = subst (Owns plan second.place) (sym (ap (λ key. key.from) keys)) second.owner in
       let one_place : first.place ≡ second.place = different_makers plan first.place second.place v.source fit first.owner owner in
       let maker : v.maker ≡ p.unit.maker = first.maker ∙ ap unit.DeclaredAt one_place ∙ sym second.maker in
+      let apart = not_another buffer v live.sound.made maker live.lasts live.sound.opened live.sound.deadline in
       elim (same_unit plan.limits.reuse units v p.unit identifier made.rest live.sound.made packet.unit maker (live.sound.identified ∙ ap Some number) identified) [
         | inl one ↦ one
         | inr (inl before) ↦ absurd (apart.1 before)
         | inr (inr behind) ↦ absurd (apart.0 behind)
       ]
 
-  shape_in_buffer : (buffer : Buffer Packet) → IsLive plan units now buffer → same_key buffer.key (offered p []).key ≡ true
+  shape_in_buffer : (buffer : Buffer Packet) → IsLive plan units here buffer → same_key buffer.key (offered p []).key ≡ true
       → buffer.shape ≡ (offered p []).shape
   shape_in_buffer buffer live same =
       live.sound.shape ∙ ap unit_shape (unit_in buffer live same) ∙ sym (shape_offered laws units p packet)
@@ -89,18 +91,18 @@ module _ (laws : StepLaws) (plan : Plan) (fit : IsFit plan) (past : List Entry) 
       ap not (same_shape-like buffer.shape (offered p []).shape (shapes buffer refl))
 
   -- the buffer of its key is one of its shape
-  pub clashes_with_none : (buffers : List (Buffer Packet)) → AllByRecursion (IsLive plan units now) buffers
+  pub clashes_with_none : (buffers : List (Buffer Packet)) → AllByRecursion (IsLive plan units here) buffers
       → clashes (buffer_of (offered p []).key buffers) (offered p []).shape ≡ false
   clashes_with_none buffers live =
       let has_key : Buffer Packet → Bool = λ buffer. same_key buffer.key (offered p []).key in
       clashes_not (buffer_of (offered p []).key buffers)
-      (λ buffer found. shape_in_buffer buffer (AllByRecursion-find (IsLive plan units now) has_key buffers buffer found live) (find_passes has_key buffers buffer found))
+      (λ buffer found. shape_in_buffer buffer (AllByRecursion-find (IsLive plan units here) has_key buffers buffer found live) (find_passes has_key buffers buffer found))
 
   of_unit : (v : unit.Unit) → v ≡ p.unit → IsOfUnit units v (offered p [])
   of_unit v same = record { packet = packet; carriable = carriable; unit = sym same; offered = refl }
 
-  module _ (table : TableLimits) (hold : table.hold ≡ plan.limits.hold) (moment : ℕ) (at : moment ≡ now) (alive : 1 ≤ p.lifetime) where
-    opened_is_live : IsLive plan units now (opened_by table moment (offered p []))
+  module _ (table : TableLimits) (hold : table.hold ≡ plan.limits.hold) (alive : 1 ≤ p.lifetime) where
+    opened_is_live : IsLive plan units here (opened_by table here (offered p []))
     opened_is_live = record {
       sound = record {
         unit = p.unit;
@@ -116,8 +118,8 @@ module _ (laws : StepLaws) (plan : Plan) (fit : IsFit plan) (past : List Entry) 
       lasts = let least = fit.limits.hold.least in omega arith;
     }
 
-    more_is_live : (buffer : Buffer Packet) → IsLive plan units now buffer → same_key buffer.key (offered p []).key ≡ true
-        → IsLive plan units now (record buffer { kept = buffer.kept ++ offered p [] ∷ [] })
+    more_is_live : (buffer : Buffer Packet) → IsLive plan units here buffer → same_key buffer.key (offered p []).key ≡ true
+        → IsLive plan units here (record buffer { kept = buffer.kept ++ offered p [] ∷ [] })
     more_is_live buffer live same = record {
       sound = record {
         unit = live.sound.unit;
@@ -134,5 +136,5 @@ module _ (laws : StepLaws) (plan : Plan) (fit : IsFit plan) (past : List Entry) 
       lasts = live.lasts;
     }
 
-    pub stay_live : KeptIn table moment (offered p []) (IsLive plan units now)
+    pub stay_live : KeptIn table here (offered p []) (IsLive plan units here)
     stay_live = record { new = opened_is_live; more = more_is_live }

@@ -1,11 +1,10 @@
 -- What deeds of a system leave, the units counted in that are made in them: reports, which have no identifier, and what is asked for.
 use Rattle.clnp_machine.proofs.ClnpBase.Lists.{AllByRecursion-contains, AllByRecursion-implies}
-use Rattle.std.proofs.Common.{◌≡◌, ◌∙◌, ◌<◌, ◌≤◌, refl, sym, ap, subst, ℕ, inl, inr, false, List, [], ◌∷◌, ◌++◌, slice_get, Option, None, Some, append_assoc}
+use Rattle.std.proofs.Common.{◌≡◌, ◌∙◌, ◌<◌, ◌≤◌, refl, sym, ap, subst, ℕ, inl, inr, false, List, ◌++◌, slice_get, Option, None, Some, arith}
 use Rattle.std.specs.List.{AllByRecursion}
 use Rattle.std.proofs.lemmas.Bool.{cases_Bool}
 use Rattle.std.proofs.lemmas.List.{append-nil}
 use Rattle.std.proofs.lemmas.List.Elements.{Contains-append_cases}
-use Rattle.std.proofs.lemmas.List.Quantifiers.{all_pairs_push}
 use Rattle.std.proofs.lemmas.Option.{none-some}
 use Rattle.hex.specs.Hex.{IsBytes}
 use Rattle.clnp_machine.specs.PduHeader.declared.kind.Kind.{Kind}
@@ -19,17 +18,17 @@ use Rattle.clnp_machine.specs.Reassembly.Buffer.{Buffer, held, is_whole}
 use Rattle.clnp_network.specs.Scenario.Scenario.{Plan}
 use Rattle.clnp_machine.specs.Identifiers.{Identifiers}
 use Rattle.clnp_machine.specs.Unit as unit
-use Rattle.clnp_machine.specs.Unit.{DeclaredAt, Packet}
+use Rattle.clnp_machine.specs.Unit.{Packet}
 use Rattle.clnp_machine.specs.Content.{Content, frame_of}
 use Rattle.clnp_machine.specs.System.{SystemState}
 use Rattle.clnp_machine.specs.Local.{Action, Sends, Tells, Deed, and_then, discard, made_in, make, makes, refusal, reports_from, tells, unit_of, unless_refused}
-use Rattle.clnp_machine.specs.Steps.{IsAtMostReportOf, KnowsAddresses, LeavesTheRest}
+use Rattle.clnp_machine.specs.Steps.{KnowsAddresses, LeavesTheRest}
 use Rattle.clnp_machine.specs.Told.{IsRefusal, NoteIsQuiet, TellsOnly}
 use Rattle.clnp_network.specs.World.{World}
 use Rattle.clnp_network.specs.Run.{Entry}
-use Rattle.clnp_network.specs.Safe.{Rests}
-use Rattle.clnp_safety.specs.Invariant.{AreUsesUntil, BufferIsSound, EachRests, IsInUses, SystemIsSound}
+use Rattle.clnp_safety.specs.Invariant.{AreUsesUntil, BufferIsSound, EachRests, IsAccounted, SystemIsSound}
 use Rattle.clnp_safety.specs.StepLaws.{StepLaws}
+use Rattle.clnp_safety.proofs.Draws.{IsWhole, whole_rest}
 use Rattle.clnp_safety.proofs.Lines.{quiet_is_honest}
 use Rattle.clnp_safety.proofs.SendAsked.{asked_is_new}
 use Rattle.clnp_safety.proofs.SendUnits.{IsNew, maker_after, new_rests}
@@ -57,52 +56,77 @@ like_rest s t rest known = record {
   known = known;
 }
 
-pub like_is_sound : (plan : Plan) (units : List unit.Unit) (now place : ℕ) (s t : SystemState) → IsLike s t → SystemIsSound plan units now place s
-    → SystemIsSound plan units now place t
-like_is_sound plan units now place s t like sound = record {
+pub like_is_sound : (plan : Plan) (units : List unit.Unit) (place : ℕ) (s t : SystemState) → IsLike s t → SystemIsSound plan units place s
+    → SystemIsSound plan units place t
+like_is_sound plan units place s t like sound = record {
   stands_at = like.place ∙ sound.stands_at;
   declared = sound.declared ∙ ap Some (sym like.configuration);
   hold = like.hold ∙ sound.hold;
-  moment = like.moment ∙ sound.moment;
   reuse = ap (λ (ids : Identifiers). ids.reuse) like.identifiers ∙ sound.reuse;
-  uses = subst (λ (ids : Identifiers). AreUsesUntil now ids.uses) (sym like.identifiers) sound.uses;
-  used = λ u there maker. subst (λ ids. IsInUses ids u) (sym like.identifiers) (sound.used u there maker);
+  uses = subst (λ (n : ℕ). AreUsesUntil n t.identifiers.uses) (sym like.moment)
+      (subst (λ (ids : Identifiers). AreUsesUntil s.moment ids.uses) (sym like.identifiers) sound.uses);
+  accounted = λ u there maker.
+      subst (λ (n : ℕ). IsAccounted n t.identifiers u) (sym like.moment)
+      (subst (λ (ids : Identifiers). IsAccounted s.moment ids u) (sym like.identifiers) (sound.accounted u there maker));
   buffers = subst (AllByRecursion (BufferIsSound plan units)) (sym like.buffers) sound.buffers;
-  not_due = subst (AllByRecursion (λ (b : Buffer Packet). now < b.deadline)) (sym like.buffers) sound.not_due;
+  not_due = subst (λ (n : ℕ). AllByRecursion (λ (b : Buffer Packet). n < b.deadline) t.buffers) (sym like.moment)
+      (subst (AllByRecursion (λ (b : Buffer Packet). s.moment < b.deadline)) (sym like.buffers) sound.not_due);
   not_whole = subst (AllByRecursion (λ (b : Buffer Packet). is_whole b ≡ false)) (sym like.buffers) sound.not_whole;
   budget = subst (λ (buffers : List (Buffer Packet)). held buffers ≤ t.configuration.settings.budget) (sym like.buffers)
       (subst (λ (c : SystemConfiguration). held s.buffers ≤ c.settings.budget) (sym like.configuration) sound.budget);
   known = like.known sound.known;
 }
 
--- Reports are whole units, and no replies.
+-- with other buffers that are as they should be a system is as sound, however many units it counts
+pub with_buffers : (plan : Plan) (units : List unit.Unit) (place : ℕ) (s : SystemState) (buffers : List (Buffer Packet)) (count : ℕ)
+    → SystemIsSound plan units place s → AllByRecursion (BufferIsSound plan units) buffers
+    → AllByRecursion (λ (b : Buffer Packet). s.moment < b.deadline) buffers → AllByRecursion (λ (b : Buffer Packet). is_whole b ≡ false) buffers
+    → held buffers ≤ s.configuration.settings.budget → SystemIsSound plan units place (record s { buffers = buffers; count = count })
+with_buffers plan units place s buffers count sound each not_due not_whole within = record {
+  stands_at = sound.stands_at;
+  declared = sound.declared;
+  hold = sound.hold;
+  reuse = sound.reuse;
+  uses = sound.uses;
+  accounted = sound.accounted;
+  buffers = each;
+  not_due = not_due;
+  not_whole = not_whole;
+  budget = within;
+  known = sound.known;
+}
 
-pub record IsReport (u : unit.Unit) : Type 0 where
+-- Reports are whole units that are made at a moment, and no replies.
+
+pub record IsReport (now : ℕ) (u : unit.Unit) : Type 0 where
   pub kind : u.kind ≡ Er
   pub whole : u.identifier ≡ None
+  pub made : u.made ≡ now
 
 -- the data of an echo reply are octets
 abbrev pub RepliesInOctets : unit.Unit → Type 0
 RepliesInOctets u = u.kind ≡ Erp → IsBytes u.octets
 
-no_reply : (u : unit.Unit) → IsReport u → RepliesInOctets u
-no_reply u is erp = let same : Er ≡ Erp = sym is.kind ∙ erp in absurd (cc)
+no_reply : (now : ℕ) (u : unit.Unit) → IsReport now u → RepliesInOctets u
+no_reply now u is erp = let same : Er ≡ Erp = sym is.kind ∙ erp in absurd (cc)
 
-pub reports_reply_nothing : (made : List unit.Unit) → AllByRecursion IsReport made → AllByRecursion RepliesInOctets made
-reports_reply_nothing made are = AllByRecursion-implies IsReport RepliesInOctets no_reply made are
+pub reports_reply_nothing : (now : ℕ) (made : List unit.Unit) → AllByRecursion (IsReport now) made → AllByRecursion RepliesInOctets made
+reports_reply_nothing now made are = AllByRecursion-implies (IsReport now) RepliesInOctets (no_reply now) made are
 
-pub reports_are_sound : (plan : Plan) (units made : List unit.Unit) (now place : ℕ) (s : SystemState) → AllByRecursion IsReport made
-    → SystemIsSound plan units now place s → SystemIsSound plan (units ++ made) now place s
-reports_are_sound plan units made now place s are h = record {
+pub reports_are_sound : (plan : Plan) (units made : List unit.Unit) (now place : ℕ) (s : SystemState) → s.moment ≡ now → AllByRecursion (IsReport now) made
+    → SystemIsSound plan units place s → SystemIsSound plan (units ++ made) place s
+reports_are_sound plan units made now place s at are h = record {
   stands_at = h.stands_at;
   declared = h.declared;
   hold = h.hold;
-  moment = h.moment;
   reuse = h.reuse;
   uses = h.uses;
-  used = λ u has maker. elim (Contains-append_cases units made u has) [
-    | inl before ↦ h.used u before maker
-    | inr new ↦ (λ identifier identified. absurd (none-some identifier (sym (AllByRecursion-contains IsReport made u new are).whole ∙ identified)))
+  accounted = λ u has maker. elim (Contains-append_cases units made u has) [
+    | inl before ↦ h.accounted u before maker
+    | inr new ↦ (
+        let is = AllByRecursion-contains (IsReport now) made u new are in
+        let made_now : u.made ≡ now = is.made in
+        record { made = omega arith; used = λ identifier identified. absurd (none-some identifier (sym is.whole ∙ identified)) })
   ];
   buffers = AllByRecursion-implies (BufferIsSound plan units) (BufferIsSound plan (units ++ made)) (buffer_later units made plan) s.buffers h.buffers;
   not_due = h.not_due;
@@ -111,51 +135,34 @@ reports_are_sound plan units made now place s are h = record {
   known = h.known;
 }
 
--- a unit that can't be segmented has no identifier
-abbrev pub IsWhole : unit.Unit → Type 0
-IsWhole u = u.identifier ≡ None
+pub all_whole : (now : ℕ) (made : List unit.Unit) → AllByRecursion (IsReport now) made → AllByRecursion IsWhole made
+all_whole now made are = AllByRecursion-implies (IsReport now) IsWhole (λ u is. is.whole) made are
 
-pub all_whole : (made : List unit.Unit) → AllByRecursion IsReport made → AllByRecursion IsWhole made
-all_whole made are = AllByRecursion-implies IsReport IsWhole (λ u is. is.whole) made are
+pub reports_rest : (reuse now : ℕ) (units made : List unit.Unit) → AllByRecursion (IsReport now) made → EachRests reuse units → EachRests reuse (units ++ made)
+reports_rest reuse now units made are rest = whole_rest reuse units made (all_whole now made are) rest
 
-pub whole_rest : (reuse : ℕ) (units made : List unit.Unit) → AllByRecursion IsWhole made → EachRests reuse units → EachRests reuse (units ++ made)
-whole_rest reuse units [] are rest = subst (EachRests reuse) (sym (append-nil units)) rest
-whole_rest reuse units (u ∷ made) are rest =
-    subst (EachRests reuse) (append_assoc units (u ∷ []) made)
-    (whole_rest reuse (units ++ u ∷ []) made are.1
-    (all_pairs_push (Rests reuse) units u rest
-    (λ k d within maker identifier first second. absurd (none-some identifier (sym are.0 ∙ second)))))
-
-pub reports_rest : (reuse : ℕ) (units made : List unit.Unit) → AllByRecursion IsReport made → EachRests reuse units → EachRests reuse (units ++ made)
-reports_rest reuse units made are rest = whole_rest reuse units made (all_whole made are) rest
-
-pub at_most_report : (frame : List ℕ) (made : List unit.Unit) → IsAtMostReportOf frame made → AllByRecursion IsReport made
-at_most_report frame made most =
-    elim most [
-      | inl none ↦ subst (AllByRecursion IsReport) (sym none) tt
-      | inr one ↦ subst (AllByRecursion IsReport) (sym one.1) (record { kind = one.2.kind; whole = one.2.whole }, tt)
-    ]
-
--- Reports.
-
--- what the report of a discard leaves
+-- what the report of a discard leaves, and makes
 record Reports (s : SystemState) (deed : Deed) : Type 0 where
   like : IsLike s deed.after
+  made : AllByRecursion (IsReport s.moment) (made_in deed.actions)
   tells : AllByRecursion (TellsOnly NoteIsQuiet) deed.actions
 
 reports_quietly : (s : SystemState) (frame : List ℕ) (reason place : ℕ) (own : Option (List ℕ)) → Reports s (reports_from own s frame reason place)
 reports_quietly s frame reason place None = record {
   like = record { place = refl; configuration = refl; hold = refl; moment = refl; identifiers = refl; buffers = refl; known = λ known. known };
+  made = tt;
   tells = tt;
 }
 reports_quietly s frame reason place (Some own) =
     elim (cases_Bool (is_reportable frame)) [
       | inl wanted ↦ rw wanted (record {
         like = record { place = refl; configuration = refl; hold = refl; moment = refl; identifiers = refl; buffers = refl; known = λ known. known };
+        made = (record { kind = refl; whole = refl; made = refl }, tt);
         tells = (tt, (tt, tt));
       })
       | inr unwanted ↦ rw unwanted (record {
         like = record { place = refl; configuration = refl; hold = refl; moment = refl; identifiers = refl; buffers = refl; known = λ known. known };
+        made = tt;
         tells = tt;
       })
     ]
@@ -164,13 +171,12 @@ reports_quietly s frame reason place (Some own) =
 pub discard_is_like : (s : SystemState) (frame : Content) (reason place : ℕ) → IsLike s (discard s frame reason place).after
 discard_is_like s frame reason place = (reports_quietly s (frame_of frame) reason place (slice_get s.configuration.addresses 0)).like
 
-pub discard_reports : StepLaws → (s : SystemState) (frame : Content) (reason place : ℕ) → AllByRecursion IsReport (made_in (discard s frame reason place).actions)
-discard_reports laws s frame reason place =
-    at_most_report (frame_of frame) (made_in (discard s frame reason place).actions) (laws.deeds.reported s frame reason place)
+pub discard_reports : (s : SystemState) (frame : Content) (reason place : ℕ) → AllByRecursion (IsReport s.moment) (made_in (discard s frame reason place).actions)
+discard_reports s frame reason place = (reports_quietly s (frame_of frame) reason place (slice_get s.configuration.addresses 0)).made
 
 -- a system before a deed, and the units
-pub record MayDo (plan : Plan) (units : List unit.Unit) (now place : ℕ) (s : SystemState) : Type 0 where
-  pub sound : SystemIsSound plan units now place s
+pub record MayDo (plan : Plan) (units : List unit.Unit) (place : ℕ) (s : SystemState) : Type 0 where
+  pub sound : SystemIsSound plan units place s
   pub rest : EachRests plan.limits.reuse units
 
 module _ (plan : Plan) (past : List Entry) (w : World) (name : List ℕ) where
@@ -186,17 +192,17 @@ module _ (plan : Plan) (past : List Entry) (w : World) (name : List ℕ) where
   refusal_is_honest (Refused why value) h = tt
   refusal_is_honest _ h = absurd h
 
-  module _ (units : List unit.Unit) (now place : ℕ) where
+  module _ (units : List unit.Unit) (place : ℕ) where
     -- what a deed leaves is sound beside the units that are made in it, and what it tells is honest
     pub record DeedIsSound (deed : Deed) : Type 0 where
-      pub after : SystemIsSound plan (units ++ made_in deed.actions) now place deed.after
+      pub after : SystemIsSound plan (units ++ made_in deed.actions) place deed.after
       pub rest : EachRests plan.limits.reuse (units ++ made_in deed.actions)
       pub replies : AllByRecursion RepliesInOctets (made_in deed.actions)
       pub tells : AllByRecursion (TellsOnly IsHonest) deed.actions
 
-    pub tells_soundly : (s : SystemState) (note : Note) → MayDo plan units now place s → IsHonest note → DeedIsSound (tells s note)
+    pub tells_soundly : (s : SystemState) (note : Note) → MayDo plan units place s → IsHonest note → DeedIsSound (tells s note)
     tells_soundly s note may honest = record {
-      after = subst (λ us. SystemIsSound plan us now place s) (sym (append-nil units)) may.sound;
+      after = subst (λ us. SystemIsSound plan us place s) (sym (append-nil units)) may.sound;
       rest = subst (EachRests plan.limits.reuse) (sym (append-nil units)) may.rest;
       replies = tt;
       tells = (honest, tt);
@@ -206,15 +212,16 @@ module _ (plan : Plan) (past : List Entry) (w : World) (name : List ℕ) where
         → DeedIsSound (and_then (tells s note) next)
     told_and_done s note next honest h = record { after = h.after; rest = h.rest; replies = h.replies; tells = (honest, h.tells) }
 
-    pub discards_soundly : StepLaws → (s : SystemState) (frame : Content) (reason at : ℕ) → MayDo plan units now place s → DeedIsSound (discard s frame reason at)
-    discards_soundly laws s frame reason at may =
+    pub discards_soundly : (s : SystemState) (frame : Content) (reason at : ℕ) → MayDo plan units place s → DeedIsSound (discard s frame reason at)
+    discards_soundly s frame reason at may =
         let deed = discard s frame reason at in
-        let are = discard_reports laws s frame reason at in
+        let like = discard_is_like s frame reason at in
+        let are = discard_reports s frame reason at in
         record {
-          after = reports_are_sound plan units (made_in deed.actions) now place deed.after are
-              (like_is_sound plan units now place s deed.after (discard_is_like s frame reason at) may.sound);
-          rest = reports_rest plan.limits.reuse units (made_in deed.actions) are may.rest;
-          replies = reports_reply_nothing (made_in deed.actions) are;
+          after = reports_are_sound plan units (made_in deed.actions) s.moment place deed.after like.moment are
+              (like_is_sound plan units place s deed.after like may.sound);
+          rest = reports_rest plan.limits.reuse s.moment units (made_in deed.actions) are may.rest;
+          replies = reports_reply_nothing s.moment (made_in deed.actions) are;
           tells = (
             tt,
             AllByRecursion-implies (TellsOnly NoteIsQuiet) (TellsOnly IsHonest) quiet_action
@@ -223,21 +230,20 @@ module _ (plan : Plan) (past : List Entry) (w : World) (name : List ℕ) where
           );
         }
 
-    pub makes_soundly : (s : SystemState) (u : unit.Unit) → MayDo plan units now place s → IsNew plan now place s u → RepliesInOctets u
-        → DeedIsSound (makes s u)
+    pub makes_soundly : (s : SystemState) (u : unit.Unit) → MayDo plan units place s → IsNew place s u → RepliesInOctets u → DeedIsSound (makes s u)
     makes_soundly s u may new in_octets = record {
-      after = maker_after plan units now place s u new may.sound;
-      rest = new_rests plan units now place s u new may.rest may.sound;
+      after = maker_after plan units place s u new may.sound;
+      rest = new_rests plan units place s u new may.sound may.rest;
       replies = (in_octets, tt);
       tells = (tt, (tt, tt));
     }
 
-    module _ (laws : StepLaws) (s : SystemState) (kind : Kind) (from to octets : List ℕ) (ask : Ask) (may : MayDo plan units now place s)
+    module _ (laws : StepLaws) (s : SystemState) (kind : Kind) (from to octets : List ℕ) (ask : Ask) (may : MayDo plan units place s)
         (in_octets : kind ≡ Erp → IsBytes octets) where
       unless_refused_soundly : (refused : Option Note) → IsRefusal refused → refusal s (unit_of s kind from to octets ask) ≡ refused
           → DeedIsSound (unless_refused refused s (unit_of s kind from to octets ask))
       unless_refused_soundly None refuses none =
-          makes_soundly s (unit_of s kind from to octets ask) may (asked_is_new laws plan units now place s kind from to octets ask none may.sound)
+          makes_soundly s (unit_of s kind from to octets ask) may (asked_is_new laws plan units place s kind from to octets ask none may.sound)
           in_octets
       unless_refused_soundly (Some note) refuses some = tells_soundly s note may (refusal_is_honest note refuses)
 

@@ -1,5 +1,5 @@
 -- At most one identifier is drawn in a step of a system, whatever comes to it: where one may be, for the one unit that is made.
-use Rattle.std.proofs.Common.{◌≡◌, ◌∙◌, ◌⊎◌, refl, sym, ap, subst, ℕ, zero, suc, inl, inr, Bool, true, false, List, [], ◌∷◌, ◌++◌, length, Option, None, Some}
+use Rattle.std.proofs.Common.{◌≡◌, ◌∙◌, refl, sym, ap, subst, ℕ, zero, suc, inl, Bool, true, false, List, [], ◌++◌, length, Option, None, Some}
 use Rattle.std.specs.Prelude.{◌==◌, if◌then◌else◌}
 use Rattle.std.specs.List.{AllByRecursion, find}
 use Rattle.std.proofs.lemmas.List.{append-nil}
@@ -17,37 +17,23 @@ use Rattle.clnp_machine.specs.Reassembly.Buffer as buffer
 use Rattle.clnp_machine.specs.Reassembly.Buffer.{Answer, Buffer}
 use Rattle.clnp_machine.specs.ClnpPlan.declared.ask.Ask.{Ask}
 use Rattle.clnp_machine.specs.ClnpPlan.declared.note.Note.{Note}
-use Rattle.clnp_machine.specs.Identifiers.{Identifiers, after_use, next, not_drawn}
+use Rattle.clnp_machine.specs.Identifiers.{Identifiers}
 use Rattle.clnp_machine.specs.Unit as unit
 use Rattle.clnp_machine.specs.Unit.{Packet, value_of}
 use Rattle.clnp_machine.specs.Content.{Content, Labelled, Esis, Unlabelled}
 use Rattle.clnp_machine.specs.System.{SystemState, Input, AsksToSend, AsksForEcho, FrameComes, MomentComes, IsRestarted, IsCongested, Effect, table_limits, then_does}
-use Rattle.clnp_machine.specs.Local.{Deed, at_moment, discard, echo_ask, expire, give_up_due, gives_up, hand_up, identifier_for, identifier_refusal, is_all, is_answer, made_in, make, offer, offered, receive, refusal, takes_in, takes_reply, tells, tick, unit_of, unless_refused, with_use, not_drawn_note}
+use Rattle.clnp_machine.specs.Local.{Deed, at_moment, discard, echo_ask, expire, give_up_due, gives_up, hand_up, is_all, is_answer, made_in, make, offer, offered, receive, refusal, takes_in, takes_reply, tells, tick, unit_of, unless_refused}
 use Rattle.clnp_machine.specs.Esis.{esis_comes, forgets, says_hello}
 use Rattle.clnp_machine.specs.Step.{content_comes, discard_refused, moment_comes, octets_come, packet_comes, responds, step, unheard_note}
 use Rattle.clnp_machine.specs.Steps.{OnlyHellos, RestartsNothing, moment_after}
 use Rattle.clnp_machine.proofs.Passing.{packet_does}
 use Rattle.clnp_safety.specs.StepLaws.{StepLaws}
-use Rattle.clnp_safety.proofs.Deeds.{IsWhole, all_whole, discard_is_like, discard_reports}
+use Rattle.clnp_safety.proofs.Deeds.{all_whole, discard_is_like, discard_reports}
+use Rattle.clnp_safety.proofs.Draws.{Draws, DrawsNone, IsWhole}
 use Rattle.clnp_safety.proofs.Hellos.{only_then}
+use Rattle.clnp_safety.proofs.SendAsked.{made_draws}
 use Rattle.clnp_safety.proofs.Ticking.{tick_reports}
-use Rattle.clnp_machine.proofs.ClnpBase.Choices.{one_of, none_mapped}
-
--- no identifier is drawn, and none of the units has one
-pub record DrawsNone (before after : Identifiers) (units : List unit.Unit) : Type 0 where
-  pub identifiers : after ≡ before
-  pub whole : AllByRecursion IsWhole units
-
--- the next identifier is drawn at a moment, as it may be, for the one unit
-pub record DrawsOne (now : ℕ) (before after : Identifiers) (units : List unit.Unit) : Type 0 where
-  pub made : unit.Unit
-  pub only : units ≡ made ∷ []
-  pub identified : made.identifier ≡ Some (next before)
-  pub idle : not_drawn now before ≡ None
-  pub identifiers : after ≡ after_use now before
-
-abbrev pub Draws : (now : ℕ) (before after : Identifiers) (units : List unit.Unit) → Type 0
-Draws now before after units = DrawsNone before after units ⊎ DrawsOne now before after units
+use Rattle.clnp_machine.proofs.ClnpBase.Choices.{one_of}
 
 draws_nothing : (now : ℕ) (ids : Identifiers) → Draws now ids ids []
 draws_nothing now ids = inl (record { identifiers = refl; whole = tt })
@@ -73,18 +59,6 @@ module _ (laws : StepLaws) where
 
   -- Units that are asked for.
 
-  made_draws : (s : SystemState) (u : unit.Unit) (segment : Bool) → u.identifier ≡ identifier_for s segment → identifier_refusal s (identifier_for s segment) ≡ None
-      → Draws s.moment s.identifiers (with_use s u.identifier) (u ∷ [])
-  made_draws s u false is none = inl (record { identifiers = ap (with_use s) is; whole = (is, tt) })
-  made_draws s u true is none =
-      inr (record {
-        made = u;
-        only = refl;
-        identified = is;
-        idle = none_mapped not_drawn_note (not_drawn s.moment s.identifiers) none;
-        identifiers = ap (with_use s) is;
-      })
-
   module _ (s : SystemState) (kind : Kind) (from to octets : List ℕ) (ask : Ask) where
     -- the unit that is asked for
     abbrev asked : unit.Unit
@@ -102,7 +76,7 @@ module _ (laws : StepLaws) where
   discard_draws : (s : SystemState) (frame : Content) (reason place : ℕ) → DeedDraws s (discard s frame reason place)
   discard_draws s frame reason place =
       let made = made_in (discard s frame reason place).actions in
-      inl (record { identifiers = (discard_is_like s frame reason place).identifiers; whole = all_whole made (discard_reports laws s frame reason place) })
+      inl (record { identifiers = (discard_is_like s frame reason place).identifiers; whole = all_whole s.moment made (discard_reports s frame reason place) })
 
   -- Packets for the system's own addresses.
 
@@ -186,7 +160,7 @@ module _ (laws : StepLaws) where
       let only = only_then ticked.after forgotten says_hello (laws.hellos.forgotten ticked.after s.moment) (laws.hellos.said forgotten.after) in
       let later : Effect = then_does forgotten says_hello in
       draws_no_more now s.identifiers ticked.after.identifiers later.after.identifiers (made_in ticked.actions) later.units only.rest.identifiers only.units
-      (inl (record { identifiers = expire_keeps (length s.buffers) (at_moment now s); whole = all_whole (made_in ticked.actions) (tick_reports laws s now) }))
+      (inl (record { identifiers = expire_keeps (length s.buffers) (at_moment now s); whole = all_whole now (made_in ticked.actions) (tick_reports laws s now) }))
 
   -- whatever comes, but a restart
   pub step_draws : (s : SystemState) (input : Input) → RestartsNothing input

@@ -1,7 +1,7 @@
 -- A step of a system that is asked nothing keeps a world sound: what it makes is founded on what came, and what it sends and notes
 -- is as it should be.
 use Rattle.clnp_machine.proofs.ClnpBase.Lists.{AllByRecursion-append, AllByRecursion-both, AllByRecursion-contains, AllByRecursion-implies, AllByRecursion-mapped, AllByRecursion-slice_get}
-use Rattle.std.proofs.Common.{◌≡◌, ◌≢◌, ◌⊎◌, ◌∙◌, sym, ap, subst, ℕ, inl, inr, List, [], ◌∷◌, ◌++◌, length, map, slice_get, Some, arith}
+use Rattle.std.proofs.Common.{◌≡◌, ◌≢◌, ◌⊎◌, ◌∙◌, sym, ap, subst, ℕ, inl, inr, List, [], ◌∷◌, ◌++◌, length, map, slice_get, Some}
 use Rattle.std.specs.List.{AllByRecursion}
 use Rattle.std.proofs.lemmas.List.Elements.{Contains-append_cases}
 use Rattle.clnp_machine.specs.Nsap.Address.{IsAddress}
@@ -14,7 +14,7 @@ use Rattle.clnp_machine.specs.ClnpPlan.declared.note.Note.{Note}
 use Rattle.clnp_machine.specs.Reassembly.Arrival.{Arrival}
 use Rattle.clnp_machine.specs.Reassembly.Buffer.{Buffer}
 use Rattle.clnp_machine.specs.Unit as unit
-use Rattle.clnp_machine.specs.Unit.{DeclaredAt, Packet, wire}
+use Rattle.clnp_machine.specs.Unit.{DeclaredAt, Packet}
 use Rattle.clnp_machine.specs.Content.{Labelled, Esis, Unlabelled}
 use Rattle.clnp_machine.specs.System.{SystemState, Input, AsksToSend, AsksForEcho, FrameComes, Output, Transmits, SendsEsis, Notes, Effect}
 use Rattle.clnp_machine.specs.Local.{IsAsOffered}
@@ -28,6 +28,7 @@ use Rattle.clnp_safety.specs.Invariant.{BufferIsSound, EachRests, IsMadeOn, IsOf
 use Rattle.clnp_safety.specs.StepLaws.{StepLaws}
 use Rattle.clnp_safety.proofs.Deeds.{RepliesInOctets}
 use Rattle.clnp_safety.proofs.Grows.{front-more}
+use Rattle.clnp_safety.proofs.Hellos.{EffectIsSound}
 use Rattle.clnp_safety.proofs.Lines.{LineIs}
 use Rattle.clnp_safety.proofs.Outputs.{PortsAreAddressed, Stands, takes_effect_stands}
 use Rattle.clnp_safety.proofs.SendAsked.{own_address}
@@ -119,32 +120,41 @@ no_request : (kind : Kind) → (kind ≡ Er) ⊎ (kind ≡ Erp) → kind ≡ Erq
 no_request kind made e = elim made [ inl er ↦ absurd (let same : Er ≡ Erq = sym er ∙ e in cc) | inr erp ↦ absurd (let same : Erp ≡ Erq = sym erp ∙ e in cc) ]
 
 -- a unit that is made now is sound, where it is founded
-pub fresh_is_sound : (plan : Plan) (past : List Entry) (units : List unit.Unit) (before place : ℕ) (s : SystemState) → SystemIsSound plan units before place s
-    → (moment now : ℕ) → moment ≡ now → (u : unit.Unit) → IsFresh s moment u → IsMadeOn plan past units u.kind u → UnitIsSound plan past units now u
-fresh_is_sound plan past units before place s sound moment now at u fresh founded = record {
+pub fresh_is_sound : (plan : Plan) (past : List Entry) (units : List unit.Unit) (place : ℕ) (s : SystemState) → SystemIsSound plan units place s
+    → (moment : ℕ) (u : unit.Unit) → IsFresh s moment u → IsMadeOn plan past units u.kind u → UnitIsSound plan past units u
+fresh_is_sound plan past units place s sound moment u fresh founded = record {
   founded = founded;
   place = place;
   maker = fresh.maker ∙ ap DeclaredAt sound.stands_at;
   owner = record { system = s.configuration; there = sound.declared; own = own_address s u.source fresh.source };
   first_position = fresh.first_position;
   total = fresh.total;
-  made = let made = fresh.made in omega arith;
 }
 
-module _ (plan : Plan) (past : List Entry) (base : World) (now : ℕ) where
-  -- the units of a world are sound, and more than those of the world before the move; P holds of the system at each place, at this
-  -- clock, and the copies are sound
-  pub record IsSoundWith (P : List unit.Unit → ℕ → SystemState → Type 0) (w : World) : Type 0 where
-    pub made : UnitsAreSound plan past now w.units
-    pub front : IsFront base.units w.units
-    pub stands : Stands w.units now (length plan.systems) (P w.units) w
+-- the system at a place stands, and X holds of the clock and it
+pub record StandsWith (plan : Plan) (past : List Entry) (before : List unit.Unit) (X : (clock place : ℕ) → SystemState → Type 0) (units : List unit.Unit)
+    (clock place : ℕ) (s : SystemState) : Type 0 where
+  pub stands : SystemStands plan past before units place s
+  pub also : X clock place s
 
-  sound_with : (P : List unit.Unit → ℕ → SystemState → Type 0) (units : List unit.Unit) (w : World) → UnitsAreSound plan past now units
-      → IsFront base.units units → Stands units now (length plan.systems) (P units) w → IsSoundWith P w
-  sound_with P units w made front h = record {
-    made = subst (λ us. UnitsAreSound plan past now us) (sym h.made) made;
+-- a system is at the moment of the clock
+abbrev pub IsCurrent : (clock place : ℕ) → SystemState → Type 0
+IsCurrent clock place s = s.moment ≡ clock
+
+module _ (plan : Plan) (past : List Entry) (base : World) where
+  -- the units of a world are sound, and more than those of the world before the move; the system at each place stands, X holds of
+  -- the clock and it, and the copies are sound
+  pub record IsSoundWith (X : (clock place : ℕ) → SystemState → Type 0) (w : World) : Type 0 where
+    pub made : UnitsAreSound plan past w.units
+    pub front : IsFront base.units w.units
+    pub stands : Stands w.units (length plan.systems) (StandsWith plan past base.units X w.units) w
+
+  sound_with : (X : (clock place : ℕ) → SystemState → Type 0) (units : List unit.Unit) (w : World) → UnitsAreSound plan past units
+      → IsFront base.units units → Stands units (length plan.systems) (StandsWith plan past base.units X units) w → IsSoundWith X w
+  sound_with X units w made front h = record {
+    made = subst (λ us. UnitsAreSound plan past us) (sym h.made) made;
     front = subst (IsFront base.units) (sym h.made) front;
-    stands = subst (λ us. Stands us now (length plan.systems) (P us) w) (sym h.made) h;
+    stands = subst (λ us. Stands us (length plan.systems) (StandsWith plan past base.units X us) w) (sym h.made) h;
   }
 
 module _ (laws : StepLaws) (plan : Plan) (fit : IsFit plan) (past : List Entry) where
@@ -156,7 +166,7 @@ module _ (laws : StepLaws) (plan : Plan) (fit : IsFit plan) (past : List Entry) 
     AllByRecursion-slice_get IsAddressed plan.systems place configuration declared fit.each_address,
   )
 
-  module _ (units : List unit.Unit) (before place : ℕ) (s : SystemState) (sound : SystemIsSound plan units before place s) (input : Input)
+  module _ (units : List unit.Unit) (place : ℕ) (s : SystemState) (sound : SystemIsSound plan units place s) (input : Input)
       (comes : ComesSoundly units input) where
     pub step_gives_soundly : (Q : Note → Type 0) → IsFair input → AllByRecursion (NotesOnly Q) (step s input).outputs
         → AllByRecursion (OutputIsSound Q (units ++ (step s input).units)) (step s input).outputs
@@ -173,20 +183,19 @@ module _ (laws : StepLaws) (plan : Plan) (fit : IsFit plan) (past : List Entry) 
         (configured place s.configuration sound.declared).1.ports
 
     -- other systems stay as they are where the system makes units
-    pub others_stand : (before_move : List unit.Unit) (now other : ℕ) (t : SystemState) → other ≢ place
-        → SystemStands plan past before_move units now other t → SystemStands plan past before_move (units ++ (step s input).units) now other t
-    others_stand before_move now other t apart h =
+    pub others_stand : (before_move : List unit.Unit) (other : ℕ) (t : SystemState) → other ≢ place
+        → SystemStands plan past before_move units other t → SystemStands plan past before_move (units ++ (step s input).units) other t
+    others_stand before_move other t apart h =
         let made = (step s input).units in
         record {
           sound = record {
             stands_at = h.sound.stands_at;
             declared = h.sound.declared;
             hold = h.sound.hold;
-            moment = h.sound.moment;
             reuse = h.sound.reuse;
             uses = h.sound.uses;
-            used = λ u has maker. elim (Contains-append_cases units made u has) [
-              | inl there ↦ h.sound.used u there maker
+            accounted = λ u has maker. elim (Contains-append_cases units made u has) [
+              | inl there ↦ h.sound.accounted u there maker
               | inr new ↦ (
                   let fresh = AllByRecursion-contains (IsFresh s (moment_after s input)) made u new (laws.steps.fresh s input) in
                   let here : DeclaredAt place ≡ DeclaredAt other = ap DeclaredAt (sym sound.stands_at) ∙ sym fresh.maker ∙ maker in
@@ -202,7 +211,7 @@ module _ (laws : StepLaws) (plan : Plan) (fit : IsFit plan) (past : List Entry) 
           pending = h.pending;
         }
 
-    module _ (nothing : AsksNothing input) (now : ℕ) (at : moment_after s input ≡ now) where
+    module _ (nothing : AsksNothing input) where
       report_is_founded : (u : unit.Unit) → u.kind ≡ Er → ReportsOn s input u → IsMadeOn plan past units u.kind u
       report_is_founded u er reports =
           let on = reports er in
@@ -215,17 +224,17 @@ module _ (laws : StepLaws) (plan : Plan) (fit : IsFit plan) (past : List Entry) 
             data_are = on.2.data_are;
           })
 
-      new_unit_is_sound : (u : unit.Unit) → IsFresh s (moment_after s input) u → IsMadeFor input u × ReportsOn s input u × RepliesInOctets u → UnitIsSound plan past units now u
+      new_unit_is_sound : (u : unit.Unit) → IsFresh s (moment_after s input) u → IsMadeFor input u × ReportsOn s input u × RepliesInOctets u → UnitIsSound plan past units u
       new_unit_is_sound u fresh for =
-          fresh_is_sound plan past units before place s sound (moment_after s input) now at u fresh
+          fresh_is_sound plan past units place s sound (moment_after s input) u fresh
           (elim (made_unasked input u nothing for.0) [
             | inl er ↦ report_is_founded u er for.1
             | inr erp ↦ subst (λ kind. IsMadeOn plan past units kind u) (sym erp) (for.2 erp)
           ])
 
-      new_units_are_sound : AllByRecursion RepliesInOctets (step s input).units → AllByRecursion (UnitIsSound plan past units now) (step s input).units
+      new_units_are_sound : AllByRecursion RepliesInOctets (step s input).units → AllByRecursion (UnitIsSound plan past units) (step s input).units
       new_units_are_sound replies =
-          AllByRecursion-both (IsFresh s (moment_after s input)) (λ u. IsMadeFor input u × ReportsOn s input u × RepliesInOctets u) (UnitIsSound plan past units now)
+          AllByRecursion-both (IsFresh s (moment_after s input)) (λ u. IsMadeFor input u × ReportsOn s input u × RepliesInOctets u) (UnitIsSound plan past units)
           new_unit_is_sound (step s input).units (laws.steps.fresh s input)
           (AllByRecursion-both (IsMadeFor input) (λ u. ReportsOn s input u × RepliesInOctets u) (λ u. IsMadeFor input u × ReportsOn s input u × RepliesInOctets u)
           (λ u for rest. (for, rest.0, rest.1)) (step s input).units (laws.steps.made_for s input)
@@ -233,9 +242,9 @@ module _ (laws : StepLaws) (plan : Plan) (fit : IsFit plan) (past : List Entry) 
           (laws.steps.reports s input (comes_fairly units input nothing comes) (spells_pdus units input comes) (kept_as_offered plan units s sound.buffers))
           replies))
 
-      pub units_after : UnitsAreSound plan past now units → EachRests plan.limits.reuse (units ++ (step s input).units)
-          → AllByRecursion RepliesInOctets (step s input).units → UnitsAreSound plan past now (units ++ (step s input).units)
-      units_after made rest replies = units_with plan past units (step s input).units now made rest (new_units_are_sound replies)
+      pub units_after : UnitsAreSound plan past units → EachRests plan.limits.reuse (units ++ (step s input).units)
+          → AllByRecursion RepliesInOctets (step s input).units → UnitsAreSound plan past (units ++ (step s input).units)
+      units_after made rest replies = units_with plan past units (step s input).units made rest (new_units_are_sound replies)
 
     -- what is pending after a step was pending before it
     pub pending_after : AsksNothing input → (before_move : List unit.Unit) → AllByRecursion (IsPending past before_move place s.configuration.name) s.pending
@@ -274,24 +283,30 @@ module _ (laws : StepLaws) (plan : Plan) (fit : IsFit plan) (past : List Entry) 
         (output_notes_both (NoteIsSound plan past w name) IsNoRestart (NoteIsSteady plan past w name) (λ note h k. record { sound = h; no_restart = k }))
         (step s input).outputs notes_are_sound (laws.steps.no_restart s input steady)
 
-  module _ (base : World) (now : ℕ) (N : List ℕ → Note → Type 0) (P Q : List unit.Unit → ℕ → SystemState → Type 0) where
-    -- a system takes a step that is asked nothing
-    pub step_keeps : (w : World) (place : ℕ) (s : SystemState) (input : Input) (before : ℕ) → SystemIsSound plan w.units before place s
-        → AsksNothing input → moment_after s input ≡ now → ComesSoundly w.units input
-        → ((other : ℕ) (t : SystemState) → other ≢ place → P w.units other t → Q (w.units ++ (step s input).units) other t)
-        → Q (w.units ++ (step s input).units) place (step s input).after → EachRests plan.limits.reuse (w.units ++ (step s input).units)
-        → AllByRecursion RepliesInOctets (step s input).units → AllByRecursion (NotesOnly (N s.configuration.name)) (step s input).outputs → IsSoundWith plan past base now P w
-        → Keeps (IsSoundWith plan past base now Q) (LineIs N) (takes_effect w place (step s input))
-    step_keeps w place s input before sound nothing at comes others here rest replies notes k =
+  module _ (base : World) (N : List ℕ → Note → Type 0) (X Y : (clock place : ℕ) → SystemState → Type 0) where
+    -- a system that stands takes a step that is asked nothing, and leaves what is sound
+    pub step_keeps : (w : World) (place : ℕ) (s : SystemState) (input : Input) → SystemStands plan past base.units w.units place s → AsksNothing input
+        → ComesSoundly w.units input → EffectIsSound plan past base s.configuration.name w.units place (step s input)
+        → ((other : ℕ) (t : SystemState) → other ≢ place → X w.clock other t → Y w.clock other t) → Y w.clock place (step s input).after
+        → AllByRecursion (NotesOnly (N s.configuration.name)) (step s input).outputs
+        → IsSoundWith plan past base X w → Keeps (IsSoundWith plan past base Y) (LineIs N) (takes_effect w place (step s input))
+    step_keeps w place s input it nothing comes done others here notes k =
         let effect : Effect = step s input in
         let later : List unit.Unit = w.units ++ effect.units in
         let outputs = subst (λ (c : SystemConfiguration). AllByRecursion (OutputIsSound (N c.name) later) effect.outputs)
         (sym (laws.steps.itself s input).configuration)
-        (step_gives_soundly w.units before place s sound input comes (N s.configuration.name) (comes_fairly w.units input nothing comes) notes) in
-        let kept = takes_effect_stands now (length plan.systems) N w.units (P w.units) (Q later) w place effect others here
-        (ports_after w.units before place s sound input comes) outputs k.stands in
+        (step_gives_soundly w.units place s it.sound input comes (N s.configuration.name) (comes_fairly w.units input nothing comes) notes) in
+        let kept = takes_effect_stands (length plan.systems) N w.units (StandsWith plan past base.units X w.units) (StandsWith plan past base.units Y later)
+        w place effect
+        (λ other t apart h. record { stands = others_stand w.units place s it.sound input comes base.units other t apart h.stands; also = others other t apart h.also })
+        (record {
+          stands = record { sound = done.after; pending = pending_after w.units place s it.sound input comes nothing base.units it.pending };
+          also = here;
+        })
+        (ports_after w.units place s it.sound input comes) outputs k.stands in
         record {
-          world = sound_with plan past base now Q later (takes_effect w place effect).world (units_after w.units before place s sound input comes nothing now at k.made rest replies)
+          world = sound_with plan past base Y later (takes_effect w place effect).world
+              (units_after w.units place s it.sound input comes nothing k.made done.rest done.replies)
               (front-more base.units w.units effect.units k.front) kept.world;
           lines = kept.lines;
         }

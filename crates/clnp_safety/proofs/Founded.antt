@@ -11,7 +11,7 @@ use Rattle.clnp_machine.specs.Echo.Match.{echoes}
 use Rattle.clnp_network.specs.Scenario.Scenario.{IsFit, Plan}
 use Rattle.clnp_machine.specs.ClnpPlan.Configuration.{SystemConfiguration}
 use Rattle.clnp_machine.specs.Unit as unit
-use Rattle.clnp_machine.specs.Unit.{DeclaredAt, Packet}
+use Rattle.clnp_machine.specs.Unit.{DeclaredAt}
 use Rattle.clnp_machine.specs.System.{SystemState}
 use Rattle.clnp_machine.specs.Local.{is_answer, is_own}
 use Rattle.clnp_network.specs.World.{World}
@@ -50,8 +50,8 @@ module _ (laws : StepLaws) (plan : Plan) (fit : IsFit plan) (past : List Entry) 
       }
 
   module _ (u : unit.Unit) (made : Contains w.units u) where
-    it : UnitIsSound plan past w.units w.clock u
-    it = unit_sound plan past w.clock w.units u h.made made
+    it : UnitIsSound plan past w.units u
+    it = unit_sound plan past w.units u h.made made
 
     module _ (place : ℕ) (s : SystemState) (declared : slice_get plan.systems place ≡ Some s.configuration) where
       pub report_is_founded : u.kind ≡ Er → is_own s u.destination ≡ true → IsHeaderOfOwn w s.configuration.name u.octets
@@ -60,7 +60,7 @@ module _ (laws : StepLaws) (plan : Plan) (fit : IsFit plan) (past : List Entry) 
           AllByRecursion-contains (λ (v : unit.Unit). v.kind ≡ Er → ReportsOnCopy w.copies v) w.units u made stood er in
           let carrier = AllByRecursion-contains (CopyIsSound w.units) w.copies report.stands.copy report.stands.there h.copies in
           let carried : IsRangeOf w.units report.packet × (report.following ≡ []) = subst (Carries (IsRangeOf w.units)) report.stands.carries carrier.carries in
-          let of = unit_sound plan past w.clock w.units report.packet.unit h.made carried.0.unit in
+          let of = unit_sound plan past w.units report.packet.unit h.made carried.0.unit in
           let owns : Owns plan place u.destination = record { system = s.configuration; there = declared; own = own_address s u.destination own } in
           let one : of.place ≡ place
           = different_makers plan of.place place u.destination fit (subst (Owns plan of.place) report.source of.owner) owns in

@@ -18,10 +18,10 @@ use Rattle.clnp_safety.proofs.Lines.{quiet_is_honest}
 use Rattle.clnp_safety.proofs.Told.{hellos_note, outputs_note}
 pub use Rattle.clnp_machine.proofs.Hellos.{only_then}
 
-module _ (plan : Plan) (past : List Entry) (w : World) (name : List ℕ) (units : List unit.Unit) (now place : ℕ) where
+module _ (plan : Plan) (past : List Entry) (w : World) (name : List ℕ) (units : List unit.Unit) (place : ℕ) where
   -- what it leaves is sound beside the units that are made in it, and what it notes is honest
   pub record EffectIsSound (effect : Effect) : Type 0 where
-    pub after : SystemIsSound plan (units ++ effect.units) now place effect.after
+    pub after : SystemIsSound plan (units ++ effect.units) place effect.after
     pub rest : EachRests plan.limits.reuse (units ++ effect.units)
     pub replies : AllByRecursion RepliesInOctets effect.units
     pub notes : AllByRecursion (NotesOnly (IsHonest plan past w name)) effect.outputs
@@ -30,12 +30,12 @@ module _ (plan : Plan) (past : List Entry) (w : World) (name : List ℕ) (units 
   hellos_are_honest s effect only = hellos_note (IsHonest plan past w name) (quiet_is_honest plan past w name) effect.outputs only.outputs
 
   pub hellos_are_sound : (s : SystemState) (effect : Effect) → OnlyHellos s effect → (KnowsAddresses s → KnowsAddresses effect.after)
-      → MayDo plan units now place s → EffectIsSound effect
+      → MayDo plan units place s → EffectIsSound effect
   hellos_are_sound s effect only known may =
       let same : (units ++ effect.units) ≡ units = ap (λ us. units ++ us) only.units ∙ append-nil units in
       record {
-        after = subst (λ us. SystemIsSound plan us now place effect.after) (sym same)
-            (like_is_sound plan units now place s effect.after (like_rest s effect.after only.rest known) may.sound);
+        after = subst (λ us. SystemIsSound plan us place effect.after) (sym same)
+            (like_is_sound plan units place s effect.after (like_rest s effect.after only.rest known) may.sound);
         rest = subst (EachRests plan.limits.reuse) (sym same) may.rest;
         replies = subst (AllByRecursion RepliesInOctets) (sym only.units) tt;
         notes = hellos_are_honest s effect only;
@@ -49,15 +49,15 @@ module _ (plan : Plan) (past : List Entry) (w : World) (name : List ℕ) (units 
       let same : (units ++ effect.units) ≡ units ++ (effect.units ++ later.units)
       = ap (λ us. units ++ us) (sym (append-nil effect.units) ∙ ap (λ us. effect.units ++ us) (sym only.units)) in
       record {
-        after = subst (λ us. SystemIsSound plan us now place later.after) same
-            (like_is_sound plan (units ++ effect.units) now place effect.after later.after (like_rest effect.after later.after only.rest known) first.after);
+        after = subst (λ us. SystemIsSound plan us place later.after) same
+            (like_is_sound plan (units ++ effect.units) place effect.after later.after (like_rest effect.after later.after only.rest known) first.after);
         rest = subst (EachRests plan.limits.reuse) same first.rest;
         replies = AllByRecursion-append RepliesInOctets effect.units later.units first.replies (subst (AllByRecursion RepliesInOctets) (sym only.units) tt);
         notes = AllByRecursion-append (NotesOnly (IsHonest plan past w name)) effect.outputs later.outputs first.notes
             (hellos_are_honest effect.after later only);
       }
 
-  pub deed_is_sound : StepLaws → (deed : Deed) → DeedIsSound plan past w name units now place deed → EffectIsSound (effect_of deed)
+  pub deed_is_sound : StepLaws → (deed : Deed) → DeedIsSound plan past w name units place deed → EffectIsSound (effect_of deed)
   deed_is_sound laws deed h = record {
     after = h.after;
     rest = h.rest;

@@ -1,9 +1,11 @@
 -- What holds of each buffer once a segment was offered, by the machine's laws.
+use Rattle.clnp_machine.proofs.ClnpBase.Filters.{AllByRecursion-filter}
 use Rattle.clnp_machine.proofs.ClnpBase.Lists.{AllByRecursion-contains, AllByRecursion-implies}
-use Rattle.std.proofs.Common.{◌≡◌, sym, subst, ℕ, inl, inr, Bool, true, List, [], ◌∷◌, ◌++◌, Some, Contains}
+use Rattle.std.proofs.Common.{◌≡◌, sym, subst, ℕ, inl, inr, Bool, true, not, List, [], ◌∷◌, ◌++◌, Some, Contains}
 use Rattle.std.specs.List.{AllByRecursion, find}
 use Rattle.std.proofs.lemmas.Bool.{cases_Bool}
 use Rattle.std.proofs.lemmas.Option.{none-some, same_Some}
+use Rattle.clnp_machine.specs.Reassembly.declared.segment.Key.{Key}
 use Rattle.clnp_machine.specs.Reassembly.declared.table.TableLimits.{TableLimits}
 use Rattle.clnp_machine.specs.Reassembly.Arrival.{Arrival, same_key}
 use Rattle.clnp_machine.specs.Reassembly.Buffer.{Buffer, after, opened_by, with_kept, without}
@@ -19,6 +21,10 @@ find_passes p (y ∷ ys) x e =
       | inl t ↦ subst (λ z. p z ≡ true) (same_Some y x (rw t at e)) t
       | inr f ↦ find_passes p ys x (rw f at e)
     ]
+
+-- what holds of all buffers holds of those that are left where one is taken out
+pub all_without : (P : Buffer Packet → Type 0) (key : Key) (buffers : List (Buffer Packet)) → AllByRecursion P buffers → AllByRecursion P (without key buffers)
+all_without P key buffers h = AllByRecursion-filter (λ (b : Buffer Packet). not (same_key b.key key)) P P (λ b t k. k) buffers h
 
 -- P holds of the buffer that is opened for a segment, and of that in which it is kept
 pub record KeptIn (limits : TableLimits) (moment : ℕ) (arrival : Arrival Packet) (P : Buffer Packet → Type 0) : Type 0 where

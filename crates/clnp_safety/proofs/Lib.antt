@@ -1,5 +1,6 @@
 pub mod Units
 pub mod Uses
+pub mod Draws
 pub mod Kept
 pub mod Told
 pub mod SendUnits

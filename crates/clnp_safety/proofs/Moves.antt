@@ -1,6 +1,6 @@
 -- What each move keeps.
 use Rattle.clnp_machine.proofs.ClnpBase.Lists.{AllByRecursion-implies}
-use Rattle.std.proofs.Common.{◌≡◌, ◌⊎◌, ℕ, inl, inr, List, [], ◌∷◌, ◌++◌, length, refl, sym, subst, arith}
+use Rattle.std.proofs.Common.{◌≡◌, ◌⊎◌, ℕ, inl, inr, List, [], ◌∷◌, ◌++◌, length, refl, sym, subst}
 use Rattle.std.specs.Prelude.{slice_get, Some}
 use Rattle.std.specs.List.{AllByRecursion}
 use Rattle.std.proofs.lemmas.List.{append-nil}
@@ -17,18 +17,23 @@ use Rattle.clnp_safety.proofs.Past.{pending_later, units_later}
 use Rattle.clnp_safety.proofs.Lines.{LineIs, lines_are, lines_say_no_restart}
 use Rattle.clnp_safety.proofs.Steps.{Keeps}
 use Rattle.clnp_safety.proofs.Outputs.{Stands}
-use Rattle.clnp_safety.proofs.Effects.{IsSoundWith}
+use Rattle.clnp_safety.proofs.Effects.{IsCurrent, IsSoundWith, StandsWith}
 use Rattle.clnp_safety.proofs.Honest.{NoteIsSound, NoteIsSteady}
 
--- each system is sound at this clock, and so are units and copies, since a world
-abbrev pub IsSoundAt : Plan → List Entry → World → ℕ → World → Type 0
-IsSoundAt plan past base now = IsSoundWith plan past base now (λ units. SystemStands plan past base.units units now)
+-- each system is sound, at the moment of the clock, and so are units and copies, since a world
+abbrev pub IsSoundSince : Plan → List Entry → World → World → Type 0
+IsSoundSince plan past base = IsSoundWith plan past base IsCurrent
 
-pub sound_at_clock : (plan : Plan) (past : List Entry) (w : World) → WorldIsSound plan past w → IsSoundAt plan past w w.clock w
-sound_at_clock plan past w h = record {
+pub sound_since_itself : (plan : Plan) (past : List Entry) (w : World) → WorldIsSound plan past w → IsSoundSince plan past w w
+sound_since_itself plan past w h = record {
   made = h.made;
   front = ([], sym (append-nil w.units));
-  stands = record { made = refl; clock = refl; copies = h.copies; number = h.systems.number; each = h.systems.each };
+  stands = record {
+    made = refl;
+    copies = h.copies;
+    number = h.systems.number;
+    each = λ place s there. record { stands = h.systems.each place s there; also = h.current place s there };
+  };
 }
 
 -- the world after the move is sound beside the past with the move's entry, and its lines say only what is so
@@ -37,16 +42,16 @@ pub record MoveIsSound (plan : Plan) (past : List Entry) (move : Move) (w : Worl
   pub lines : AllByRecursion (LineIs (NoteIsSound plan past w)) taken.lines
 
 -- what stands beside sound units is a sound world
-pub stands_soundly : (plan : Plan) (past : List Entry) (units : List unit.Unit) (now : ℕ) (w : World) → UnitsAreSound plan past now units
-    → Stands units now (length plan.systems) (SystemStands plan past units units now) w → WorldIsSound plan past w
-stands_soundly plan past units now w made h =
+pub stands_soundly : (plan : Plan) (past : List Entry) (units : List unit.Unit) (w : World) → UnitsAreSound plan past units
+    → Stands units (length plan.systems) (StandsWith plan past units IsCurrent units) w → WorldIsSound plan past w
+stands_soundly plan past units w made h =
     let same = sym h.made in
-    let clock = sym h.clock in
     record {
-      made = subst (λ n. UnitsAreSound plan past n w.units) clock (subst (λ us. UnitsAreSound plan past now us) same made);
+      made = subst (λ us. UnitsAreSound plan past us) same made;
       copies = subst (λ us. AllByRecursion (CopyIsSound us) w.copies) same h.copies;
-      systems = subst (λ n. SystemsAreSound plan past w.units n w.systems) clock
-          (subst (λ us. SystemsAreSound plan past us now w.systems) same (record { number = h.number; each = h.each }));
+      systems = subst (λ us. SystemsAreSound plan past us w.systems) same
+          (record { number = h.number; each = λ place s there. (h.each place s there).stands });
+      current = λ place s there. (h.each place s there).also;
     }
 
 -- requests stay pending with an entry that says nothing of a restart
@@ -57,7 +62,7 @@ stay_pending past entry units more place name requests none h =
     AllByRecursion-implies (IsPending past units place name) (IsPending (past ++ entry ∷ []) (units ++ more) place name)
     (pending_later past entry units more place name none) requests h
 
-module _ (plan : Plan) (past : List Entry) (move : Move) (base : World) (now : ℕ) (taken : Step) where
+module _ (plan : Plan) (past : List Entry) (move : Move) (base : World) (taken : Step) where
   abbrev entry : Entry
   entry = record { move = move; lines = taken.lines }
 
@@ -66,7 +71,7 @@ module _ (plan : Plan) (past : List Entry) (move : Move) (base : World) (now : �
   IsPendingStill s = (s.pending ≡ []) ⊎ AllByRecursion (SaysNoRestart s.configuration.name) taken.lines
 
   system_after : (units : List unit.Unit) (more : List unit.Unit) → units ≡ base.units ++ more → (place : ℕ) (s : SystemState)
-      → SystemStands plan past base.units units now place s → IsPendingStill s → SystemStands plan (past ++ entry ∷ []) units units now place s
+      → SystemStands plan past base.units units place s → IsPendingStill s → SystemStands plan (past ++ entry ∷ []) units units place s
   system_after units more grown place s h still = record {
     sound = h.sound;
     pending = elim still [
@@ -78,28 +83,25 @@ module _ (plan : Plan) (past : List Entry) (move : Move) (base : World) (now : �
   }
 
   -- a move that keeps a world sound beside the past, and of whose requests none is given up
-  pub moved_is_sound : Keeps (IsSoundAt plan past base now) (LineIs (NoteIsSound plan past base)) taken
+  pub moved_is_sound : Keeps (IsSoundSince plan past base) (LineIs (NoteIsSound plan past base)) taken
       → ((place : ℕ) (s : SystemState) → slice_get taken.world.systems place ≡ Some s → IsPendingStill s) → MoveIsSound plan past move base taken
   moved_is_sound kept still =
       let k = kept.world in
-      let later = past ++ entry ∷ [] in
-      let clock = sym k.stands.clock in
       record {
         world = record {
-          made = subst (λ n. UnitsAreSound plan later n taken.world.units) clock
-              (units_later plan past (entry ∷ []) now now taken.world.units (omega arith) k.made);
+          made = units_later plan past (entry ∷ []) taken.world.units k.made;
           copies = k.stands.copies;
-          systems = subst (λ n. SystemsAreSound plan later taken.world.units n taken.world.systems) clock
-              (record {
-                number = k.stands.number;
-                each = λ place s there. system_after taken.world.units k.front.0 k.front.1 place s (k.stands.each place s there) (still place s there);
-              });
+          systems = record {
+            number = k.stands.number;
+            each = λ place s there. system_after taken.world.units k.front.0 k.front.1 place s (k.stands.each place s there).stands (still place s there);
+          };
+          current = λ place s there. (k.stands.each place s there).also;
         };
         lines = kept.lines;
       }
 
   -- the same where no restart is noted
-  pub kept_is_sound : Keeps (IsSoundAt plan past base now) (LineIs (NoteIsSteady plan past base)) taken → MoveIsSound plan past move base taken
+  pub kept_is_sound : Keeps (IsSoundSince plan past base) (LineIs (NoteIsSteady plan past base)) taken → MoveIsSound plan past move base taken
   kept_is_sound kept =
       moved_is_sound
       (record {
@@ -112,4 +114,4 @@ module _ (plan : Plan) (past : List Entry) (move : Move) (base : World) (now : �
 
 pub nothing_is_sound : (plan : Plan) (past : List Entry) (move : Move) (w : World) → WorldIsSound plan past w → MoveIsSound plan past move w (nothing w)
 nothing_is_sound plan past move w h =
-    kept_is_sound plan past move w w.clock (nothing w) (record { world = sound_at_clock plan past w h; lines = tt })
+    kept_is_sound plan past move w (nothing w) (record { world = sound_since_itself plan past w h; lines = tt })

@@ -1,5 +1,5 @@
 -- The world of a scenario's declarations is sound: nothing is sent yet, and nothing is on its way.
-use Rattle.std.proofs.Common.{◌≡◌, ℕ, zero, suc, ◌+◌, List, [], ◌∷◌, length, refl, ap, subst, arith}
+use Rattle.std.proofs.Common.{◌≡◌, ℕ, zero, suc, ◌+◌, List, [], ◌∷◌, length, refl, sym, ap, subst, arith}
 use Rattle.std.specs.Prelude.{slice_get, Some}
 use Rattle.clnp_machine.specs.ClnpPlan.Configuration.{SystemConfiguration}
 use Rattle.clnp_machine.specs.ClnpPlan.declared.config.Limits.{Limits}
@@ -30,16 +30,15 @@ opened limits from (system ∷ systems) (suc place) at s e there =
     record { configuration = rest.configuration; declared = rest.declared; state = rest.state }
 
 first_is_sound : (plan : Plan) (place : ℕ) (configuration : SystemConfiguration) → slice_get plan.systems place ≡ Some configuration
-    → SystemStands plan [] [] [] 0 place (first_state place configuration plan.limits 0 0)
+    → SystemStands plan [] [] [] place (first_state place configuration plan.limits 0 0)
 first_is_sound plan place configuration declared = record {
   sound = record {
     stands_at = refl;
     declared = declared;
     hold = refl;
-    moment = refl;
     reuse = refl;
     uses = record { until_now = tt; in_order = λ i j d below within. absurd (omega arith) };
-    used = λ u there. let none = there.1 in absurd (omega arith);
+    accounted = λ u there. let none = there.1 in absurd (omega arith);
     buffers = tt;
     not_due = tt;
     not_whole = tt;
@@ -57,6 +56,7 @@ first_world_is_sound plan = record {
     number = length-states_from plan.limits 0 plan.systems;
     each = λ place s there.
         let here = opened plan.limits 0 plan.systems place place s (omega arith) there in
-        subst (SystemStands plan [] [] [] 0 place) here.state (first_is_sound plan place here.configuration here.declared);
+        subst (SystemStands plan [] [] [] place) here.state (first_is_sound plan place here.configuration here.declared);
   };
+  current = λ place s there. ap (λ (t : SystemState). t.moment) (sym (opened plan.limits 0 plan.systems place place s (omega arith) there).state);
 }

@@ -14,18 +14,18 @@ use Rattle.clnp_machine.specs.Steps.{IsRangeOf, NotesOnly}
 use Rattle.clnp_network.specs.World.{World, copy_from, sends_frame, put_out, with_effect, takes_effect}
 use Rattle.std.specs.List.{AllByRecursion}
 use Rattle.clnp_safety.specs.Invariant.{Carries, CopyIsSound, IsBornWithUnit}
+use Rattle.clnp_safety.specs.Outside.{IsMadeBy}
 use Rattle.clnp_safety.proofs.Units.{copies_later}
 use Rattle.clnp_safety.proofs.Lines.{LineIs}
 use Rattle.clnp_safety.proofs.Steps.{Keeps, keeps-put_all_out}
 use Rattle.clnp_safety.proofs.Honest.{OutputIsSound}
 
--- these units were made, P holds of the system at each place, at this clock, and the copies are sound
-pub record Stands (units : List unit.Unit) (now count : ℕ) (P : ℕ → SystemState → Type 0) (w : World) : Type 0 where
+-- these units were made, P holds of the clock and the system at each place, and the copies are sound
+pub record Stands (units : List unit.Unit) (count : ℕ) (P : (clock place : ℕ) → SystemState → Type 0) (w : World) : Type 0 where
   pub made : w.units ≡ units
-  pub clock : w.clock ≡ now
   pub copies : AllByRecursion (CopyIsSound units) w.copies
   pub number : length w.systems ≡ count
-  pub each : (place : ℕ) (s : SystemState) → slice_get w.systems place ≡ Some s → P place s
+  pub each : (place : ℕ) (s : SystemState) → slice_get w.systems place ≡ Some s → P w.clock place s
 
 -- each port of a system is at an address
 abbrev pub PortsAreAddressed : SystemState → Type 0
@@ -33,55 +33,54 @@ PortsAreAddressed system = AllByRecursion (λ (port : PortConfig). IsAddress por
 
 copy_from_is_sound : (units : List unit.Unit) (found : Option PortConfig) (target : Target) (maker : Maker) (birth : ℕ) (content : Content)
     → ((port : PortConfig) → found ≡ Some port → IsAddress port.snpa) → Carries (IsRangeOf units) content → IsCarried content → IsBornWithUnit birth content
-    → AllByRecursion (CopyIsSound units) (copy_from found target maker birth content)
-copy_from_is_sound units None target maker birth content addressed carries carried born = tt
-copy_from_is_sound units (Some port) target maker birth content addressed carries carried born =
-    (record { sender = addressed port refl; carries = carries; carried = carried; birth = born }, tt)
+    → IsMadeBy maker content → AllByRecursion (CopyIsSound units) (copy_from found target maker birth content)
+copy_from_is_sound units None target maker birth content addressed carries carried born by = tt
+copy_from_is_sound units (Some port) target maker birth content addressed carries carried born by =
+    (record { sender = addressed port refl; carries = carries; carried = carried; birth = born; maker = by }, tt)
 
-module _ (now count : ℕ) (N : List ℕ → Note → Type 0) where
-  frame_stands : (units : List unit.Unit) (P : ℕ → SystemState → Type 0) (system : SystemState) (v : World) (port : ℕ) (target : Target) (maker : Maker)
-      (birth : ℕ) (content : Content) → PortsAreAddressed system → Carries (IsRangeOf units) content → IsCarried content → IsBornWithUnit birth content
-      → Stands units now count P v → Keeps (Stands units now count P) (LineIs N) (sends_frame system v port target maker birth content)
-  frame_stands units P system v port target maker birth content addressed carries carried born k = record {
+module _ (count : ℕ) (N : List ℕ → Note → Type 0) where
+  frame_stands : (units : List unit.Unit) (P : (clock place : ℕ) → SystemState → Type 0) (system : SystemState) (v : World) (port : ℕ) (target : Target)
+      (maker : Maker) (birth : ℕ) (content : Content) → PortsAreAddressed system → Carries (IsRangeOf units) content → IsCarried content
+      → IsBornWithUnit birth content → IsMadeBy maker content
+      → Stands units count P v → Keeps (Stands units count P) (LineIs N) (sends_frame system v port target maker birth content)
+  frame_stands units P system v port target maker birth content addressed carries carried born by k = record {
     world = record {
       made = k.made;
-      clock = k.clock;
       copies = AllByRecursion-append (CopyIsSound units) v.copies (copy_from (slice_get system.configuration.ports port) target maker birth content) k.copies
           (copy_from_is_sound units (slice_get system.configuration.ports port) target maker birth content
           (λ config there. AllByRecursion-slice_get (λ (port : PortConfig). IsAddress port.snpa) system.configuration.ports port config there addressed)
-          carries carried born);
+          carries carried born by);
       number = k.number;
       each = k.each;
     };
     lines = (tt, tt);
   }
 
-  put_out_stands : (units : List unit.Unit) (P : ℕ → SystemState → Type 0) (system : SystemState) → PortsAreAddressed system → (output : Output)
-      → OutputIsSound (N system.configuration.name) units output → (v : World) → Stands units now count P v
-      → Keeps (Stands units now count P) (LineIs N) (put_out system v output)
+  put_out_stands : (units : List unit.Unit) (P : (clock place : ℕ) → SystemState → Type 0) (system : SystemState) → PortsAreAddressed system
+      → (output : Output) → OutputIsSound (N system.configuration.name) units output → (v : World) → Stands units count P v
+      → Keeps (Stands units count P) (LineIs N) (put_out system v output)
   put_out_stands units P system addressed (Notes note) h v k = record { world = k; lines = (h, tt) }
   put_out_stands units P system addressed (Transmits port target packet) h v k =
-      frame_stands units P system v port target packet.unit.maker packet.unit.made (Labelled packet []) addressed (h.0, refl) h.1 refl k
+      frame_stands units P system v port target packet.unit.maker packet.unit.made (Labelled packet []) addressed (h.0, refl) h.1 refl refl k
   put_out_stands units P system addressed (SendsEsis port target value) h v k =
-      frame_stands units P system v port target (DeclaredAt system.place) v.clock (Esis value []) addressed refl h tt k
+      frame_stands units P system v port target (DeclaredAt system.place) v.clock (Esis value []) addressed refl h tt tt k
 
   -- a system that gives out only what is sound leaves a sound world
-  pub takes_effect_stands : (units : List unit.Unit) (P Q : ℕ → SystemState → Type 0) (w : World) (place : ℕ) (effect : Effect)
-      → ((other : ℕ) (s : SystemState) → other ≢ place → P other s → Q other s) → Q place effect.after
+  pub takes_effect_stands : (units : List unit.Unit) (P Q : (clock place : ℕ) → SystemState → Type 0) (w : World) (place : ℕ) (effect : Effect)
+      → ((other : ℕ) (s : SystemState) → other ≢ place → P w.clock other s → Q w.clock other s) → Q w.clock place effect.after
       → PortsAreAddressed effect.after → AllByRecursion (OutputIsSound (N effect.after.configuration.name) (units ++ effect.units)) effect.outputs
-      → Stands units now count P w → Keeps (Stands (units ++ effect.units) now count Q) (LineIs N) (takes_effect w place effect)
+      → Stands units count P w → Keeps (Stands (units ++ effect.units) count Q) (LineIs N) (takes_effect w place effect)
   takes_effect_stands units P Q w place effect others here addressed outputs k =
       let later : List unit.Unit = units ++ effect.units in
-      keeps-put_all_out (Stands later now count Q) (LineIs N) effect.after effect.outputs
-      (AllByRecursion-implies (OutputIsSound (N effect.after.configuration.name) later) (λ output. (v : World) → Stands later now count Q v → Keeps (Stands later now count Q) (LineIs N) (put_out effect.after v output))
+      keeps-put_all_out (Stands later count Q) (LineIs N) effect.after effect.outputs
+      (AllByRecursion-implies (OutputIsSound (N effect.after.configuration.name) later) (λ output. (v : World) → Stands later count Q v → Keeps (Stands later count Q) (LineIs N) (put_out effect.after v output))
       (put_out_stands later Q effect.after addressed) effect.outputs outputs)
       (with_effect w place effect)
       (record {
         made = ap (λ us. us ++ effect.units) k.made;
-        clock = k.clock;
         copies = copies_later units effect.units w.copies k.copies;
         number = length-set w.systems place effect.after ∙ k.number;
-        each = set_each P Q w.systems place effect.after k.each others here;
+        each = set_each (P w.clock) (Q w.clock) w.systems place effect.after k.each others here;
       })
 
 -- any world will do

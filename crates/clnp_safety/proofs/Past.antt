@@ -1,9 +1,8 @@
--- What was sent stays sent, a last entry that sends counts, units stay sound as time goes on, and requests stay pending where
+-- What was sent stays sent, a last entry that sends counts, units stay sound as the past grows, and requests stay pending where
 -- nothing was restarted.
 use Rattle.clnp_machine.proofs.ClnpBase.Lists.{AllByRecursion-implies, AllByRecursion-push}
-use Rattle.std.proofs.Common.{◌≤◌, ℕ, List, [], ◌∷◌, ◌++◌, inl, inr, subst, arith, Contains}
+use Rattle.std.proofs.Common.{ℕ, List, [], ◌∷◌, ◌++◌, inl, inr, Contains}
 use Rattle.std.specs.List.{AllByRecursion}
-use Rattle.std.proofs.lemmas.List.{append-nil}
 use Rattle.std.proofs.lemmas.List.Elements.{Contains-append_left}
 use Rattle.clnp_machine.specs.PduHeader.declared.kind.Kind.{Kind}
 use Rattle.clnp_machine.specs.PduHeader.declared.kind.Kind.TheVariants.{Dt, Er, Erq, Erp}
@@ -31,32 +30,23 @@ founded_before plan past more units Er u h = h
 founded_before plan past more units Erq u h = h
 founded_before plan past more units Erp u h = h
 
-unit_later : (plan : Plan) (past more : List Entry) (units : List unit.Unit) (before now : ℕ) → before ≤ now → (u : unit.Unit)
-    → UnitIsSound plan past units before u → UnitIsSound plan (past ++ more) units now u
-unit_later plan past more units before now later u h = record {
+unit_later : (plan : Plan) (past more : List Entry) (units : List unit.Unit) (u : unit.Unit) → UnitIsSound plan past units u
+    → UnitIsSound plan (past ++ more) units u
+unit_later plan past more units u h = record {
   founded = founded_before plan past more units u.kind u h.founded;
   place = h.place;
   maker = h.maker;
   owner = h.owner;
   first_position = h.first_position;
   total = h.total;
-  made = let made = h.made in omega arith;
 }
 
--- units stay sound as the past grows and the clock goes on
-pub units_later : (plan : Plan) (past more : List Entry) (before now : ℕ) (units : List unit.Unit) → before ≤ now
-    → UnitsAreSound plan past before units → UnitsAreSound plan (past ++ more) now units
-units_later plan past more before now units later h = record {
-  each = AllByRecursion-implies (UnitIsSound plan past units before) (UnitIsSound plan (past ++ more) units now)
-      (unit_later plan past more units before now later) units h.each;
+-- units stay sound as the past grows
+pub units_later : (plan : Plan) (past more : List Entry) (units : List unit.Unit) → UnitsAreSound plan past units → UnitsAreSound plan (past ++ more) units
+units_later plan past more units h = record {
+  each = AllByRecursion-implies (UnitIsSound plan past units) (UnitIsSound plan (past ++ more) units) (unit_later plan past more units) units h.each;
   rest = h.rest;
 }
-
--- the same where the clock alone goes on
-pub units_stay : (plan : Plan) (past : List Entry) (before now : ℕ) (units : List unit.Unit) → before ≤ now → UnitsAreSound plan past before units
-    → UnitsAreSound plan past now units
-units_stay plan past before now units later h =
-    subst (λ entries. UnitsAreSound plan entries now units) (append-nil past) (units_later plan past [] before now units later h)
 
 -- Requests.
 

@@ -2,7 +2,6 @@
 use Rattle.clnp_machine.proofs.ClnpBase.Lists.{AllByRecursion-implies, pair_at}
 use Rattle.std.proofs.Common.{◌≡◌, ◌≢◌, ◌⊎◌, ◌∙◌, ◌<◌, refl, sym, ap, subst, ℕ, inl, inr, List, [], ◌++◌, length, map, get_or, Option, None, Some, option_map, arith}
 use Rattle.std.specs.Prelude.{slice_get}
-use Rattle.std.specs.List.{Contains}
 use Rattle.std.proofs.lemmas.Bool.{cases_eq, cases_order}
 use Rattle.std.proofs.lemmas.List.{append-nil}
 use Rattle.std.proofs.lemmas.Option.{get_or_from_slice_get, slice_get-map, slice_get_within}
@@ -12,20 +11,17 @@ use Rattle.clnp_machine.specs.ClnpPlan.declared.note.Note.{Note}
 use Rattle.clnp_machine.specs.ClnpPlan.declared.note.Note.TheVariants as note
 use Rattle.clnp_network.specs.Scenario.Scenario.{IsFit, Plan}
 use Rattle.clnp_network.specs.Scenario.declared.event.Move.{Move}
-use Rattle.clnp_machine.specs.Identifiers as ids
-use Rattle.clnp_machine.specs.Identifiers.{Use}
 use Rattle.clnp_machine.specs.Unit as unit
 use Rattle.clnp_machine.specs.System.{SystemState, IsRestarted}
 use Rattle.clnp_machine.specs.Step.{restart, step}
 use Rattle.clnp_network.specs.World.{World, comes_to, takes_effect}
 use Rattle.clnp_network.specs.Run.{Entry}
 use Rattle.clnp_network.specs.Safe.{SaysNoRestart}
-use Rattle.clnp_safety.specs.Invariant.{AreUsesUntil, IsInUses, SystemIsSound, SystemStands, UnitsAreSound, WorldIsSound}
+use Rattle.clnp_safety.specs.Invariant.{AreUsesUntil, EachRests, SystemIsSound, WorldIsSound}
 use Rattle.clnp_safety.specs.StepLaws.{StepLaws}
-use Rattle.clnp_safety.proofs.BufferOffers.{unit_sound}
-use Rattle.clnp_safety.proofs.Effects.{IsSoundWith, others_stand, pending_after, step_keeps}
+use Rattle.clnp_safety.proofs.Effects.{IsCurrent, IsSoundWith, StandsWith, step_keeps}
 use Rattle.clnp_safety.proofs.Lines.{LineIs, lines_are}
-use Rattle.clnp_safety.proofs.Moves.{IsPendingStill, MoveIsSound, moved_is_sound, nothing_is_sound, sound_at_clock}
+use Rattle.clnp_safety.proofs.Moves.{IsPendingStill, MoveIsSound, moved_is_sound, nothing_is_sound, sound_since_itself}
 use Rattle.clnp_safety.proofs.Steps.{Keeps}
 use Rattle.clnp_safety.proofs.Honest.{NoteIsSound}
 
@@ -33,31 +29,23 @@ use Rattle.clnp_safety.proofs.Honest.{NoteIsSound}
 pub no_uses : (now : ℕ) → AreUsesUntil now []
 no_uses now = record { until_now = tt; in_order = λ i j d below within. absurd (omega arith) }
 
-rests_in_quiet : (plan : Plan) (past : List Entry) (units : List unit.Unit) (now place : ℕ) (s : SystemState) → UnitsAreSound plan past now units
-    → SystemIsSound plan units now place s → (u : unit.Unit) → Contains units u → IsInUses (ids.restarted s.moment s.identifiers) u
-rests_in_quiet plan past units now place s made sound u within identifier is =
-    let before = (unit_sound plan past now units u made within).made in
-    let at = sound.moment in
-    inr (omega arith)
-
-restart_is_sound : (plan : Plan) (past : List Entry) (units : List unit.Unit) (now place : ℕ) (s : SystemState)
-    → UnitsAreSound plan past now units → SystemIsSound plan units now place s
-    → SystemIsSound plan units now place (restart s).after
-restart_is_sound plan past units now place s made sound =
-    record {
-      stands_at = sound.stands_at;
-      declared = sound.declared;
-      hold = sound.hold;
-      moment = sound.moment;
-      reuse = sound.reuse;
-      uses = no_uses now;
-      used = λ u within maker. rests_in_quiet plan past units now place s made sound u within;
-      buffers = tt;
-      not_due = tt;
-      not_whole = tt;
-      budget = omega arith;
-      known = tt;
-    }
+restart_is_sound : (plan : Plan) (units : List unit.Unit) (place : ℕ) (s : SystemState) → SystemIsSound plan units place s
+    → SystemIsSound plan units place (restart s).after
+restart_is_sound plan units place s sound = record {
+  stands_at = sound.stands_at;
+  declared = sound.declared;
+  hold = sound.hold;
+  reuse = sound.reuse;
+  uses = no_uses s.moment;
+  accounted = λ u within maker.
+      let made = (sound.accounted u within maker).made in
+      record { made = made; used = λ identifier is. inr (omega arith) };
+  buffers = tt;
+  not_due = tt;
+  not_whole = tt;
+  budget = omega arith;
+  known = tt;
+}
 
 -- A name belongs to one system.
 
@@ -88,9 +76,9 @@ names_differ systems place other first second distinct at there apart same =
     ]
 
 module _ (laws : StepLaws) (plan : Plan) (fit : IsFit plan) (past : List Entry) (move : Move) (w : World) (h : WorldIsSound plan past w) (place : ℕ) where
-  -- the system at the place waits for no answer
-  record IsQuietThere (units : List unit.Unit) (other : ℕ) (t : SystemState) : Type 0 where
-    stands : SystemStands plan past w.units units w.clock other t
+  -- a system is at the moment of the clock, and that at the place waits for no answer
+  record IsQuietThere (clock other : ℕ) (t : SystemState) : Type 0 where
+    current : t.moment ≡ clock
     none : other ≡ place → t.pending ≡ []
 
   module _ (s : SystemState) (there : slice_get w.systems place ≡ Some s) where
@@ -99,26 +87,20 @@ module _ (laws : StepLaws) (plan : Plan) (fit : IsFit plan) (past : List Entry) 
       sound : NoteIsSound plan past w name note
       named : name ≡ s.configuration.name
 
-    kept : Keeps (IsSoundWith plan past w w.clock IsQuietThere) (LineIs IsNoteOf) (takes_effect w place (step s IsRestarted))
+    kept : Keeps (IsSoundWith plan past w IsQuietThere) (LineIs IsNoteOf) (takes_effect w place (step s IsRestarted))
     kept =
-        let k = sound_at_clock plan past w h in
-        let it = k.stands.each place s there in
+        let it = h.systems.each place s there in
         let same : (w.units ++ []) ≡ w.units = append-nil w.units in
-        step_keeps laws plan fit past w w.clock IsNoteOf (λ units. SystemStands plan past w.units units w.clock) IsQuietThere w place s IsRestarted w.clock it.sound tt
-        it.sound.moment tt
-        (λ other t apart stood. record {
-          stands = others_stand laws plan fit past w.units w.clock place s it.sound IsRestarted tt w.units w.clock other t apart stood;
-          none = λ here. absurd (apart here);
-        })
+        step_keeps laws plan fit past w IsNoteOf IsCurrent IsQuietThere w place s IsRestarted it tt tt
         (record {
-          stands = record {
-            sound = subst (λ us. SystemIsSound plan us w.clock place (step s IsRestarted).after) (sym same) (restart_is_sound plan past w.units w.clock place s h.made it.sound);
-            pending = pending_after laws plan fit past w.units w.clock place s it.sound IsRestarted tt tt w.units it.pending;
-          };
-          none = λ here. laws.steps.forgotten s;
+          after = subst (λ us. SystemIsSound plan us place (step s IsRestarted).after) (sym same) (restart_is_sound plan w.units place s it.sound);
+          rest = subst (EachRests plan.limits.reuse) (sym same) h.made.rest;
+          replies = tt;
+          notes = (tt, tt);
         })
-        (subst (λ us. UnitsAreSound plan past w.clock us) (sym same) h.made).rest tt
-        (record { sound = record { honest = tt; no_rule = tt }; named = refl }, tt) k
+        (λ other t apart current. record { current = current; none = λ here. absurd (apart here) })
+        (record { current = laws.steps.moment s IsRestarted ∙ h.current place s there; none = λ here. laws.steps.forgotten s })
+        (record { sound = record { honest = tt; no_rule = tt }; named = refl }, tt) (sound_since_itself plan past w h)
 
     -- no line says that another system was restarted
     says_of_no_other : (name : List ℕ) → s.configuration.name ≢ name → (line : Line) → LineIs IsNoteOf line → SaysNoRestart name line
@@ -129,26 +111,26 @@ module _ (laws : StepLaws) (plan : Plan) (fit : IsFit plan) (past : List Entry) 
     soundly_after =
         let taken = takes_effect w place (step s IsRestarted) in
         let k = kept.world in
-        moved_is_sound plan past move w w.clock taken
+        moved_is_sound plan past move w taken
         (record {
           world = record {
             made = k.made;
             front = k.front;
             stands = record {
               made = k.stands.made;
-              clock = k.stands.clock;
               copies = k.stands.copies;
               number = k.stands.number;
-              each = λ other t at. (k.stands.each other t at).stands;
+              each = λ other t at. let is = k.stands.each other t at in record { stands = is.stands; also = is.also.current };
             };
           };
           lines = lines_are IsNoteOf (NoteIsSound plan past w) (λ name note is. is.sound) taken.lines kept.lines;
         })
         (λ other t at. still other t (k.stands.each other t at) (cases_eq other place))
       where
-        still : (other : ℕ) (t : SystemState) → IsQuietThere (takes_effect w place (step s IsRestarted)).world.units other t → (other ≡ place) ⊎ (other ≢ place)
-            → IsPendingStill plan past move w w.clock (takes_effect w place (step s IsRestarted)) t
-        still other t is (inl here) = inl (is.none here)
+        still : (other : ℕ) (t : SystemState)
+            → StandsWith plan past w.units IsQuietThere (takes_effect w place (step s IsRestarted)).world.units (takes_effect w place (step s IsRestarted)).world.clock other t
+            → (other ≡ place) ⊎ (other ≢ place) → IsPendingStill plan past move w (takes_effect w place (step s IsRestarted)) t
+        still other t is (inl here) = inl (is.also.none here)
         still other t is (inr apart) =
             inr (AllByRecursion-implies (LineIs IsNoteOf) (SaysNoRestart t.configuration.name)
             (says_of_no_other t.configuration.name

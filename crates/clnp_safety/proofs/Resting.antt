@@ -1,15 +1,13 @@
 -- Identifiers rest, whatever the moves of whatever plan: one that is drawn for a unit was not used for long.
 use Rattle.clnp_machine.proofs.ClnpBase.Lists.{AllByRecursion-any, AllByRecursion-contains, AllByRecursion-implies, set_each}
-use Rattle.std.proofs.Common.{◌≡◌, ◌≢◌, ◌∙◌, ◌≤◌, ◌+◌, ◌⊎◌, refl, sym, ap, subst, ℕ, inl, inr, List, [], ◌∷◌, ◌++◌, get_or, None, Some, Contains, arith}
+use Rattle.std.proofs.Common.{◌≡◌, ◌≢◌, ◌∙◌, ◌≤◌, ◌+◌, ◌⊎◌, refl, sym, ap, subst, ℕ, inl, inr, List, [], ◌++◌, Some, arith}
 use Rattle.std.specs.Prelude.{slice_get}
 use Rattle.std.specs.List.{AllByRecursion}
 use Rattle.std.proofs.lemmas.List.{append-nil}
-use Rattle.std.proofs.lemmas.List.Elements.{Contains-append_cases, Contains-get_or, Contains-push_cases}
-use Rattle.std.proofs.lemmas.List.Quantifiers.{all_pairs_push}
-use Rattle.std.proofs.lemmas.Option.{none-some}
+use Rattle.std.proofs.lemmas.List.Elements.{Contains-append_cases}
 use Rattle.clnp_network.specs.Scenario.Scenario.{Plan}
 use Rattle.clnp_network.specs.Scenario.declared.event.Move.{Move}
-use Rattle.clnp_machine.specs.Identifiers.{Identifiers, after_use, next, not_drawn, restarted}
+use Rattle.clnp_machine.specs.Identifiers.{Identifiers, restarted}
 use Rattle.clnp_machine.specs.Unit as unit
 use Rattle.clnp_machine.specs.Unit.{DeclaredAt}
 use Rattle.clnp_machine.specs.System.{SystemState, Input, MomentComes, IsRestarted, Output, Transmits, SendsEsis, Notes, Effect}
@@ -17,34 +15,16 @@ use Rattle.clnp_machine.specs.Step.{step}
 use Rattle.clnp_machine.specs.Steps.{IsFresh, RestartsNothing, moment_after}
 use Rattle.clnp_network.specs.World.{World, put_out, takes_effect, with_effect, first_world}
 use Rattle.clnp_network.specs.Run.{world_after}
-use Rattle.clnp_network.specs.Safe.{IdentifiersRest, Rests}
-use Rattle.clnp_safety.specs.Invariant.{AreUsesUntil, EachRests, IsInUses}
+use Rattle.clnp_network.specs.Safe.{IdentifiersRest}
+use Rattle.clnp_safety.specs.Invariant.{EachRests}
 use Rattle.clnp_safety.specs.StepLaws.{StepLaws}
-use Rattle.clnp_safety.proofs.Deeds.{IsWhole, whole_rest}
-use Rattle.clnp_safety.proofs.Drawing.{Draws, DrawsNone, step_draws}
+use Rattle.clnp_safety.proofs.Drawing.{step_draws}
+use Rattle.clnp_safety.proofs.Draws.{AreSound, IsMadeNow, rest_after, sound_after}
 use Rattle.clnp_safety.proofs.EveryMove.{AnyFrame, AnyInput, IsOfClock, any_events, keeps-moves}
 use Rattle.clnp_safety.proofs.Lines.{AnyLine, any_line_is_fine}
 use Rattle.clnp_safety.proofs.Opens.{opened}
 use Rattle.clnp_safety.proofs.Restarting.{no_uses}
 use Rattle.clnp_safety.proofs.Steps.{Keeps, keeps-put_all_out}
-use Rattle.clnp_safety.proofs.Ticking.{uses_later}
-use Rattle.clnp_safety.proofs.Uses.{made_long_ago, used_before, used_now, uses_after}
-
--- the system at a place made the unit at a moment
-record IsMadeNow (now place : ℕ) (u : unit.Unit) : Type 0 where
-  maker : u.maker ≡ DeclaredAt place
-  made : u.made ≡ now
-
--- a unit was made until a moment, and its identifier is among the uses, or rests in the quiet time
-record IsAccounted (now : ℕ) (ids : Identifiers) (u : unit.Unit) : Type 0 where
-  made : u.made ≤ now
-  used : IsInUses ids u
-
--- What holds until a moment of the identifiers of the system at a place, beside the units that were made.
-record AreSound (reuse now place : ℕ) (units : List unit.Unit) (ids : Identifiers) : Type 0 where
-  reuse_is : ids.reuse ≡ reuse
-  uses : AreUsesUntil now ids.uses
-  accounted : (u : unit.Unit) → Contains units u → u.maker ≡ DeclaredAt place → IsAccounted now ids u
 
 -- the system stands at a place, its moment has come, and its identifiers are sound
 record HasSound (reuse now place : ℕ) (units : List unit.Unit) (s : SystemState) : Type 0 where
@@ -56,69 +36,6 @@ record HasSound (reuse now place : ℕ) (units : List unit.Unit) (s : SystemStat
 record UnitsRest (reuse : ℕ) (w : World) : Type 0 where
   rest : EachRests reuse w.units
   each : (place : ℕ) (s : SystemState) → slice_get w.systems place ≡ Some s → HasSound reuse w.clock place w.units s
-
--- At a later moment the system makes units.
-module _ (reuse before now place : ℕ) (units : List unit.Unit) (ids : Identifiers) (later : before ≤ now) (sound : AreSound reuse before place units ids) where
-  uses_now : AreUsesUntil now ids.uses
-  uses_now = uses_later before now ids.uses later sound.uses
-
-  accounted_now : (u : unit.Unit) → Contains units u → u.maker ≡ DeclaredAt place → IsAccounted now ids u
-  accounted_now u has maker =
-      let was = sound.accounted u has maker in
-      let made = was.made in
-      record { made = omega arith; used = was.used }
-
-  none_drawn : (after : Identifiers) (made : List unit.Unit) → AllByRecursion (IsMadeNow now place) made → DrawsNone ids after made
-      → AreSound reuse now place (units ++ made) after
-  none_drawn after made new none = record {
-    reuse_is = ap (λ (i : Identifiers). i.reuse) none.identifiers ∙ sound.reuse_is;
-    uses = subst (λ (i : Identifiers). AreUsesUntil now i.uses) (sym none.identifiers) uses_now;
-    accounted = λ u has maker. elim (Contains-append_cases units made u has) [
-      | inl there ↦ subst (λ i. IsAccounted now i u) (sym none.identifiers) (accounted_now u there maker)
-      | inr here ↦ record {
-        made = let at = (AllByRecursion-contains (IsMadeNow now place) made u here new).made in omega arith;
-        used = λ identifier identified. absurd (none-some identifier (sym (AllByRecursion-contains IsWhole made u here none.whole) ∙ identified));
-      }
-    ];
-  }
-
-  module _ (u : unit.Unit) (new : IsMadeNow now place u) (identified : u.identifier ≡ Some (next ids)) (idle : not_drawn now ids ≡ None) where
-    one_drawn : AreSound reuse now place (units ++ u ∷ []) (after_use now ids)
-    one_drawn = record {
-      reuse_is = sound.reuse_is;
-      uses = uses_after now ids uses_now;
-      accounted = λ v has maker. elim (Contains-push_cases units u v has) [
-        | inl there ↦ (let was = accounted_now v there maker in record { made = was.made; used = used_before now ids v was.used })
-        | inr same ↦
-            subst (IsAccounted now (after_use now ids)) same
-            (record { made = let at = new.made in omega arith; used = used_now now ids u identified new.made })
-      ];
-    }
-
-    -- a unit of its maker with its identifier was made long before
-    rests_before : (v : unit.Unit) → Contains units v → Rests reuse v u
-    rests_before v has maker identifier id_v id_u =
-        let was = accounted_now v has (maker ∙ new.maker) in
-        let long_ago = made_long_ago now ids v uses_now was.used (id_v ∙ sym id_u ∙ identified) idle in
-        let reuse_is = sound.reuse_is in
-        let at = new.made in
-        omega arith
-
-  module _ (after : Identifiers) (made : List unit.Unit) (new : AllByRecursion (IsMadeNow now place) made) where
-    sound_after : Draws now ids after made → AreSound reuse now place (units ++ made) after
-    sound_after (inl none) = none_drawn after made new none
-    sound_after (inr one) =
-        let is = (subst (AllByRecursion (IsMadeNow now place)) one.only new).0 in
-        subst (AreSound reuse now place (units ++ made)) (sym one.identifiers)
-        (subst (λ us. AreSound reuse now place (units ++ us) (after_use now ids)) (sym one.only) (one_drawn one.made is one.identified one.idle))
-
-    rest_after : EachRests reuse units → Draws now ids after made → EachRests reuse (units ++ made)
-    rest_after rest (inl none) = whole_rest reuse units made none.whole rest
-    rest_after rest (inr one) =
-        let is = (subst (AllByRecursion (IsMadeNow now place)) one.only new).0 in
-        subst (λ us. EachRests reuse (units ++ us)) (sym one.only)
-        (all_pairs_push (Rests reuse) units one.made rest
-        (λ k d within. rests_before one.made is one.identified one.idle (get_or units k d) (Contains-get_or units k d within)))
 
 -- after a restart all units rest in the quiet time
 restarted_sound : (reuse now place : ℕ) (units : List unit.Unit) (ids : Identifiers) → AreSound reuse now place units ids

@@ -48,7 +48,7 @@ module _ (laws : StepLaws) (plan : Plan) (fit : IsFit plan) (closed : IsClosed p
     event_is_sound move (Some (Lose count)) fair asks = nothing_is_sound plan past move w h
     event_is_sound move (Some (Tick count)) fair asks = nothing_is_sound plan past move w h
     event_is_sound move (Some (Deliver copy system)) fair asks =
-        kept_is_sound plan past move w w.clock (deliver plan.limits w copy system) (deliver_is_sound laws plan fit past w h stood copy system)
+        kept_is_sound plan past move w (deliver plan.limits w copy system) (deliver_is_sound laws plan fit past w h stood copy system)
     event_is_sound move (Some (Restart system)) fair asks = restarted_is_sound laws plan fit past move w h system
     event_is_sound move (Some (Congest system on)) fair asks = congested_is_sound laws plan fit past move w h system on
     event_is_sound move (Some (Send system from to body ask)) fair asks =
@@ -68,9 +68,9 @@ module _ (laws : StepLaws) (plan : Plan) (fit : IsFit plan) (closed : IsClosed p
 
     pub move_is_sound : (move : Move) → MoveIsSound plan past move w (after plan w move)
     move_is_sound (One place) = event_is_sound (One place) (slice_get plan.events place) (event_is_fair place) (λ from to octets asked. asked)
-    move_is_sound SettleOne = kept_is_sound plan past SettleOne w w.clock (settle_one plan.limits w) (settle_one_is_sound laws plan fit past w h stood)
-    move_is_sound LoseOne = kept_is_sound plan past LoseOne w w.clock (lose_one w) (lose_one_is_sound laws plan fit past w h stood)
-    move_is_sound TickOne = kept_is_sound plan past TickOne w (w.clock + 1) (tick_one w) (tick_one_is_sound laws plan fit past w h)
+    move_is_sound SettleOne = kept_is_sound plan past SettleOne w (settle_one plan.limits w) (settle_one_is_sound laws plan fit past w h stood)
+    move_is_sound LoseOne = kept_is_sound plan past LoseOne w (lose_one w) (lose_one_is_sound laws plan fit past w h stood)
+    move_is_sound TickOne = kept_is_sound plan past TickOne w (tick_one w) (tick_one_is_sound laws plan fit past w h)
 
     -- the entry of a move, with those before it
     abbrev pub with_entry : Move → List Entry

@@ -1,17 +1,18 @@
 -- The unit that is asked for, where it isn't refused.
-use Rattle.std.proofs.Common.{◌≡◌, ℕ, Bool, true, false, List, None, Some, Contains, ap, subst, ◌∙◌, sym, bytes_eq}
+use Rattle.std.proofs.Common.{◌≡◌, ℕ, Bool, true, false, inl, inr, List, [], ◌∷◌, None, Contains, refl, ap, subst, bytes_eq}
 use Rattle.std.proofs.lemmas.List.Folds.{Any-from_list_any}
 use Rattle.clnp_machine.proofs.ClnpBase.SameOctets.{same_from}
 use Rattle.clnp_machine.specs.PduHeader.declared.kind.Kind.{Kind}
 use Rattle.clnp_machine.specs.ClnpPlan.declared.ask.Ask.{Ask}
-use Rattle.clnp_machine.specs.Identifiers.{next, not_drawn}
+use Rattle.clnp_machine.specs.Identifiers.{not_drawn}
 use Rattle.clnp_machine.specs.Unit as unit
 use Rattle.clnp_machine.specs.System.{SystemState}
-use Rattle.clnp_machine.specs.Local.{is_own, identifier_for, unit_of, not_drawn_note, identifier_refusal, refusal}
+use Rattle.clnp_machine.specs.Local.{is_own, identifier_for, unit_of, not_drawn_note, identifier_refusal, refusal, with_use}
 use Rattle.clnp_network.specs.Scenario.Scenario.{Plan}
 use Rattle.clnp_safety.specs.Invariant.{SystemIsSound}
 use Rattle.clnp_safety.specs.StepLaws.{StepLaws}
-use Rattle.clnp_safety.proofs.SendUnits.{IsDrawn, IsNew}
+use Rattle.clnp_safety.proofs.Draws.{Draws}
+use Rattle.clnp_safety.proofs.SendUnits.{IsNew}
 use Rattle.clnp_machine.proofs.ClnpBase.Choices.{none_mapped}
 
 -- an address of a system is among those of its declaration
@@ -21,25 +22,26 @@ own_address s address own =
     let same : found.1 ≡ address = same_from found.1 address found.4 in
     subst (Contains s.configuration.addresses) same (found.0, found.2, found.3)
 
-next_of : (s : SystemState) (segment : Bool) (identifier : ℕ) → identifier_for s segment ≡ Some identifier → identifier ≡ next s.identifiers
-next_of s true identifier has = cc
-next_of s false identifier has = absurd (cc)
+-- a unit that is made where it isn't refused draws the next identifier, as it may be, or none
+pub made_draws : (s : SystemState) (u : unit.Unit) (segment : Bool) → u.identifier ≡ identifier_for s segment → identifier_refusal s (identifier_for s segment) ≡ None
+    → Draws s.moment s.identifiers (with_use s u.identifier) (u ∷ [])
+made_draws s u false is none = inl (record { identifiers = ap (with_use s) is; whole = (is, tt) })
+made_draws s u true is none =
+    inr (record {
+      made = u;
+      only = refl;
+      identified = is;
+      idle = none_mapped not_drawn_note (not_drawn s.moment s.identifiers) none;
+      identifiers = ap (with_use s) is;
+    })
 
-drawn_of : (now : ℕ) (s : SystemState) (segment : Bool) (identifier : ℕ) → s.moment ≡ now → identifier_refusal s (identifier_for s segment) ≡ None
-    → identifier_for s segment ≡ Some identifier → IsDrawn now s identifier
-drawn_of now s segment identifier moment none has =
-    let idle = none_mapped not_drawn_note (not_drawn s.moment s.identifiers) (ap (identifier_refusal s) (sym has) ∙ none) in
-    record { is_next = next_of s segment identifier has; idle = subst (λ n. not_drawn n s.identifiers ≡ None) moment idle }
-
-module _ (laws : StepLaws) (plan : Plan) (units : List unit.Unit) (now place : ℕ) (s : SystemState) (kind : Kind) (from to octets : List ℕ) (ask : Ask) where
+module _ (laws : StepLaws) (plan : Plan) (units : List unit.Unit) (place : ℕ) (s : SystemState) (kind : Kind) (from to octets : List ℕ) (ask : Ask) where
   -- it is the system's next one
-  pub asked_is_new : refusal s (unit_of s kind from to octets ask) ≡ None → SystemIsSound plan units now place s
-      → IsNew plan now place s (unit_of s kind from to octets ask)
+  pub asked_is_new : refusal s (unit_of s kind from to octets ask) ≡ None → SystemIsSound plan units place s
+      → IsNew place s (unit_of s kind from to octets ask)
   asked_is_new none h =
-      let able = (laws.deeds.allowed s (unit_of s kind from to octets ask)).0 none in
+      let u : unit.Unit = unit_of s kind from to octets ask in
       record {
-        maker = ap unit.DeclaredAt h.stands_at;
-        owner = record { system = s.configuration; there = h.declared; own = own_address s from able.own };
-        made = h.moment;
-        drawn = λ identifier has. drawn_of now s ask.segment identifier h.moment able.identifier has;
+        made = record { maker = ap unit.DeclaredAt h.stands_at; made = refl };
+        draws = made_draws s u ask.segment refl ((laws.deeds.allowed s u).0 none).identifier;
       }

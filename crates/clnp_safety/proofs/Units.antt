@@ -118,7 +118,13 @@ module _ (units more : List unit.Unit) where
   content_later (Unlabelled octets) h = absurd h
 
   pub copy_later : (copy : Copy) → CopyIsSound units copy → CopyIsSound (units ++ more) copy
-  copy_later copy h = record { sender = h.sender; carries = content_later copy.content h.carries; carried = h.carried; birth = h.birth }
+  copy_later copy h = record {
+    sender = h.sender;
+    carries = content_later copy.content h.carries;
+    carried = h.carried;
+    birth = h.birth;
+    maker = h.maker;
+  }
 
   segment_later : (u : unit.Unit) (arrival : Arrival Packet) → IsOfUnit units u arrival → IsOfUnit (units ++ more) u arrival
   segment_later u arrival h = record { packet = range_sooner units more arrival.carried h.packet; carriable = h.carriable; unit = h.unit; offered = h.offered }
@@ -150,24 +156,23 @@ module _ (plan : Plan) (past : List Entry) (units more : List unit.Unit) where
   founded_later Erq u h = h
   founded_later Erp u h = h
 
-  unit_more : (now : ℕ) (u : unit.Unit) → UnitIsSound plan past units now u → UnitIsSound plan past (units ++ more) now u
-  unit_more now u h = record {
+  unit_more : (u : unit.Unit) → UnitIsSound plan past units u → UnitIsSound plan past (units ++ more) u
+  unit_more u h = record {
     founded = founded_later u.kind u h.founded;
     place = h.place;
     maker = h.maker;
     owner = h.owner;
     first_position = h.first_position;
     total = h.total;
-    made = h.made;
   }
 
   -- the units that were there, and those that are made
-  pub units_with : (now : ℕ) → UnitsAreSound plan past now units → EachRests plan.limits.reuse (units ++ more)
-      → AllByRecursion (UnitIsSound plan past units now) more → UnitsAreSound plan past now (units ++ more)
-  units_with now made rest new = record {
-    each = AllByRecursion-append (UnitIsSound plan past (units ++ more) now) units more
-        (AllByRecursion-implies (UnitIsSound plan past units now) (UnitIsSound plan past (units ++ more) now) (unit_more now) units made.each)
-        (AllByRecursion-implies (UnitIsSound plan past units now) (UnitIsSound plan past (units ++ more) now) (unit_more now) more new);
+  pub units_with : UnitsAreSound plan past units → EachRests plan.limits.reuse (units ++ more)
+      → AllByRecursion (UnitIsSound plan past units) more → UnitsAreSound plan past (units ++ more)
+  units_with made rest new = record {
+    each = AllByRecursion-append (UnitIsSound plan past (units ++ more)) units more
+        (AllByRecursion-implies (UnitIsSound plan past units) (UnitIsSound plan past (units ++ more)) unit_more units made.each)
+        (AllByRecursion-implies (UnitIsSound plan past units) (UnitIsSound plan past (units ++ more)) unit_more more new);
     rest = rest;
   }
 

@@ -1,5 +1,5 @@
 -- Uses of identifiers: where one may be drawn, each earlier use of it is long ago.
-use Rattle.clnp_machine.proofs.ClnpBase.Lists.{pairs_behind}
+use Rattle.clnp_machine.proofs.ClnpBase.Lists.{AllByRecursion-implies, pairs_behind}
 use Rattle.std.proofs.Common.{◌≡◌, ℕ, zero, suc, ◌+◌, ◌<◌, ◌≤◌, inl, inr, List, [], ◌∷◌, ◌++◌, length, get_or, Option, None, Some, AllPairs, Contains, refl, sym, ap, subst, ◌∙◌, arith}
 use Rattle.std.specs.List.{AllByRecursion}
 use Rattle.std.specs.Option.{option_or}
@@ -8,7 +8,7 @@ use Rattle.std.proofs.lemmas.List.Elements.{All-from_recursion, recursion_from_A
 use Rattle.std.proofs.lemmas.List.Quantifiers.{all_pairs_push}
 use Rattle.clnp_machine.specs.Identifiers.{Use, Identifiers, last_use, next, busy, not_drawn, after_use}
 use Rattle.clnp_machine.specs.Unit as unit
-use Rattle.clnp_safety.specs.Invariant.{AreUsesUntil, IsInUses}
+use Rattle.clnp_safety.specs.Invariant.{AreUsesUntil, IsAccounted, IsInUses}
 use Rattle.clnp_machine.proofs.Resting.{busy_rested, moment_for, moment_there, past_quiet}
 
 abbrev InOrder : Use → Use → Type 0
@@ -68,6 +68,17 @@ made_long_ago now ids u uses used identified idle =
       | inl has ↦ rests_at now ids.reuse (next ids) ids.uses has.0 given uses.in_order has.1 has.2 refl free.1
       | inr before ↦ (let quiet : ids.quiet ≤ now = free.0 in omega arith)
     ]
+
+-- uses until a moment are uses until a later one
+pub uses_later : (before now : ℕ) (uses : List Use) → before ≤ now → AreUsesUntil before uses → AreUsesUntil now uses
+uses_later before now uses later are = record {
+  until_now = AllByRecursion-implies (λ (given : Use). given.moment ≤ before) (λ (given : Use). given.moment ≤ now) (λ given h. omega arith) uses are.until_now;
+  in_order = are.in_order;
+}
+
+-- and so it is of units
+pub accounted_later : (before now : ℕ) (ids : Identifiers) (u : unit.Unit) → before ≤ now → IsAccounted before ids u → IsAccounted now ids u
+accounted_later before now ids u later was = record { made = let made = was.made in omega arith; used = was.used }
 
 -- one more use, at this moment
 pub uses_after : (now : ℕ) (ids : Identifiers) → AreUsesUntil now ids.uses → AreUsesUntil now (after_use now ids).uses

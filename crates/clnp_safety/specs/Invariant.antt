@@ -21,6 +21,7 @@ use Rattle.clnp_machine.specs.Local.{header_size, offered}
 use Rattle.clnp_network.specs.World.{World, Copy}
 use Rattle.clnp_network.specs.Run.{Entry}
 use Rattle.clnp_network.specs.Safe.{KeepsWhatCame, ReportsStand, RequestedSinceRestart, Rests, WasSent}
+use Rattle.clnp_safety.specs.Outside.{IsMadeBy}
 
 -- the system declared at a place has an address
 pub record Owns (plan : Plan) (place : ℕ) (address : List ℕ) : Type 0 where
@@ -47,14 +48,13 @@ IsMadeOn plan past units Erp u = IsBytes u.octets
 
 -- What holds of a unit that was made: it is founded as its kind asks for, its maker has its source among its addresses, and its
 -- data are all that its initial PDU carries.
-pub record UnitIsSound (plan : Plan) (past : List Entry) (units : List unit.Unit) (now : ℕ) (u : unit.Unit) : Type 0 where
+pub record UnitIsSound (plan : Plan) (past : List Entry) (units : List unit.Unit) (u : unit.Unit) : Type 0 where
   pub founded : IsMadeOn plan past units u.kind u
   pub place : ℕ
   pub maker : u.maker ≡ DeclaredAt place
   pub owner : Owns plan place u.source
   pub first_position : u.first_position ≡ 0
   pub total : u.total ≡ header_size u + length u.octets
-  pub made : u.made ≤ now
 
 -- each unit rests behind those before it
 abbrev pub EachRests : ℕ → List unit.Unit → Type 0
@@ -77,6 +77,7 @@ pub record CopyIsSound (units : List unit.Unit) (copy : Copy) : Type 0 where
   pub carries : Carries (IsRangeOf units) copy.content
   pub carried : IsCarried copy.content
   pub birth : IsBornWithUnit copy.birth copy.content
+  pub maker : IsMadeBy copy.maker copy.content
 
 -- a kept segment is a packet of the unit, as it was offered, and a PDU can carry it
 pub record IsOfUnit (units : List unit.Unit) (u : unit.Unit) (arrival : Arrival Packet) : Type 0 where
@@ -109,17 +110,21 @@ IsInUses ids u =
     (identifier : ℕ) → u.identifier ≡ Some identifier
     → Contains ids.uses (record { identifier = identifier; moment = u.made }) ⊎ (u.made + ids.reuse ≤ ids.quiet)
 
--- What holds of the system at a place, at a moment.
-pub record SystemIsSound (plan : Plan) (units : List unit.Unit) (now place : ℕ) (s : SystemState) : Type 0 where
+-- a unit was made no later than at a moment, and its identifier is among the uses, or rests in the quiet time
+pub record IsAccounted (now : ℕ) (ids : Identifiers) (u : unit.Unit) : Type 0 where
+  pub made : u.made ≤ now
+  pub used : IsInUses ids u
+
+-- What holds of the system at a place: it goes by its own moment alone.
+pub record SystemIsSound (plan : Plan) (units : List unit.Unit) (place : ℕ) (s : SystemState) : Type 0 where
   pub stands_at : s.place ≡ place
   pub declared : slice_get plan.systems place ≡ Some s.configuration
   pub hold : s.hold ≡ plan.limits.hold
-  pub moment : s.moment ≡ now
   pub reuse : s.identifiers.reuse ≡ plan.limits.reuse
-  pub uses : AreUsesUntil now s.identifiers.uses
-  pub used : (u : unit.Unit) → Contains units u → u.maker ≡ DeclaredAt place → IsInUses s.identifiers u
+  pub uses : AreUsesUntil s.moment s.identifiers.uses
+  pub accounted : (u : unit.Unit) → Contains units u → u.maker ≡ DeclaredAt place → IsAccounted s.moment s.identifiers u
   pub buffers : AllByRecursion (BufferIsSound plan units) s.buffers
-  pub not_due : AllByRecursion (λ (buffer : Buffer Packet). now < buffer.deadline) s.buffers
+  pub not_due : AllByRecursion (λ (buffer : Buffer Packet). s.moment < buffer.deadline) s.buffers
   pub not_whole : AllByRecursion (λ (buffer : Buffer Packet). is_whole buffer ≡ false) s.buffers
   pub budget : held s.buffers ≤ s.configuration.settings.budget
   pub known : KnowsAddresses s
@@ -131,26 +136,28 @@ pub record IsPending (past : List Entry) (units : List unit.Unit) (place : ℕ) 
   pub kind : request.kind ≡ Erq
   pub since : RequestedSinceRestart past name request.number request.source request.destination
 
--- A system is sound at a moment, and its requests are pending since entries, among the units that were made in these.
-pub record SystemStands (plan : Plan) (past : List Entry) (before units : List unit.Unit) (now place : ℕ) (s : SystemState) : Type 0 where
-  pub sound : SystemIsSound plan units now place s
+-- A system is sound, and its requests are pending since entries, among the units that were made in these.
+pub record SystemStands (plan : Plan) (past : List Entry) (before units : List unit.Unit) (place : ℕ) (s : SystemState) : Type 0 where
+  pub sound : SystemIsSound plan units place s
   pub pending : AllByRecursion (IsPending past before place s.configuration.name) s.pending
 
 -- What holds of the units together.
-pub record UnitsAreSound (plan : Plan) (past : List Entry) (now : ℕ) (units : List unit.Unit) : Type 0 where
-  pub each : AllByRecursion (UnitIsSound plan past units now) units
+pub record UnitsAreSound (plan : Plan) (past : List Entry) (units : List unit.Unit) : Type 0 where
+  pub each : AllByRecursion (UnitIsSound plan past units) units
   pub rest : EachRests plan.limits.reuse units
 
 -- the systems are those of the plan, and each is sound
-pub record SystemsAreSound (plan : Plan) (past : List Entry) (units : List unit.Unit) (now : ℕ) (systems : List SystemState) : Type 0 where
+pub record SystemsAreSound (plan : Plan) (past : List Entry) (units : List unit.Unit) (systems : List SystemState) : Type 0 where
   pub number : length systems ≡ length plan.systems
-  pub each : (place : ℕ) (s : SystemState) → slice_get systems place ≡ Some s → SystemStands plan past units units now place s
+  pub each : (place : ℕ) (s : SystemState) → slice_get systems place ≡ Some s → SystemStands plan past units units place s
 
--- What holds of a network beside the entries that led to it.
+-- What holds of a network beside the entries that led to it. That each system is at the moment of the clock is the one part that
+-- compares a clock with another.
 pub record WorldIsSound (plan : Plan) (past : List Entry) (w : World) : Type 0 where
-  pub made : UnitsAreSound plan past w.clock w.units
+  pub made : UnitsAreSound plan past w.units
   pub copies : AllByRecursion (CopyIsSound w.units) w.copies
-  pub systems : SystemsAreSound plan past w.units w.clock w.systems
+  pub systems : SystemsAreSound plan past w.units w.systems
+  pub current : (place : ℕ) (s : SystemState) → slice_get w.systems place ≡ Some s → s.moment ≡ w.clock
 
 -- So it is, each segment that a system keeps stands in a copy, and each error report is of a packet that does.
 pub record NetworkIsSound (plan : Plan) (past : List Entry) (w : World) : Type 0 where

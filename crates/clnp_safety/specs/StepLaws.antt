@@ -18,12 +18,12 @@ use Rattle.clnp_machine.specs.Reassembly.Buffer.{Buffer, buffer_of, clashes, hel
 use Rattle.clnp_machine.specs.ClnpPlan.Configuration.{IsAddressed, IsSystem}
 use Rattle.clnp_machine.specs.Unit as unit
 use Rattle.clnp_machine.specs.Unit.{IsCarriable, Packet, value_of, wire}
-use Rattle.clnp_machine.specs.Content.{Content, IsCarried, content_of, frame_of}
+use Rattle.clnp_machine.specs.Content.{IsCarried, content_of}
 use Rattle.clnp_machine.specs.System.{SystemState, Input, IsRestarted}
-use Rattle.clnp_machine.specs.Local.{Action, discard, gives_up, header_size, made_in, refusal, tick}
+use Rattle.clnp_machine.specs.Local.{Action, gives_up, header_size, refusal, tick}
 use Rattle.clnp_machine.specs.Esis.{esis_comes, forgets, says_hello}
 use Rattle.clnp_machine.specs.Step.{outputs_of, responds, step}
-use Rattle.clnp_machine.specs.Steps.{BreaksNoEsisRule, BreaksNoRule, IsAtMostReportOf, IsFair, IsForOwn, IsFresh, IsMadeFor, IsNoRestart, IsWithinBudget, KeepsAsOffered, KnowsAddresses, NotesOnly, OnlyHellos, ReportsOn, RestartsNothing, SendsCarriable, SendsEsisPdus, SendsRangesOrGoesOn, StaysItself, WasKeptOrComes, WasPendingOrMade, moment_after, segments_in}
+use Rattle.clnp_machine.specs.Steps.{BreaksNoEsisRule, BreaksNoRule, IsFair, IsForOwn, IsFresh, IsMadeFor, IsNoRestart, IsWithinBudget, KeepsAsOffered, KnowsAddresses, NotesOnly, OnlyHellos, ReportsOn, RestartsNothing, SendsCarriable, SendsEsisPdus, SendsRangesOrGoesOn, StaysItself, WasKeptOrComes, WasPendingOrMade, moment_after, segments_in}
 use Rattle.clnp_machine.specs.Ways.{IsFirstOrGoesOn}
 use Rattle.clnp_machine.specs.Told.{IsAllowed, IsRefusal, IsToldBy, NoteIsQuiet, NotesNoRule, SpellsPdus, TellsNoInterference, TellsOnly, WasThereOrTakes}
 
@@ -59,7 +59,6 @@ pub record OfDeeds : Type 0 where
   pub tick : (s : SystemState) (now : ℕ) → AllByRecursion (TellsOnly NoteIsQuiet) (tick s now).actions
   pub ended : (s : SystemState) (ended : Buffer Packet)
       → (gives_up s ended).after ≡ record s { buffers = without ended.key s.buffers; count = (gives_up s ended).after.count }
-  pub reported : (s : SystemState) (frame : Content) (reason place : ℕ) → IsAtMostReportOf (frame_of frame) (made_in (discard s frame reason place).actions)
 
 -- of what a system says and hears of others
 pub record OfHellos : Type 0 where

@@ -279,7 +279,6 @@ fn laws_of_steps()
     machine::units_are_made_where_allowed();
     machine::what_is_noted_was_told();
     machine::ended_buffers_are_taken_out();
-    machine::reports_make_no_storm();
     machine::reports_are_of_packets();
     machine::requests_are_kept();
     machine::only_restarts_are_noted_as_such();

@@ -47,7 +47,6 @@ returns c =
         told = c.what_is_noted_was_told.ensures.told;
         tick = c.what_is_noted_was_told.ensures.tick;
         ended = c.ended_buffers_are_taken_out.ensures;
-        reported = c.reports_make_no_storm.ensures.one;
       };
       hellos = record {
         comes = c.hellos_leave_the_rest.ensures.comes;
