@@ -1,0 +1,8 @@
+pub mod Parts
+pub mod Longer
+pub mod Calls
+pub mod Reached
+pub mod Stepping
+pub mod Courses
+pub mod Events
+mod Worked
