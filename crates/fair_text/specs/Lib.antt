@@ -9,3 +9,4 @@ pub mod Grammar
 pub mod Output
 pub mod Refusal
 pub mod Telling
+pub mod Worths

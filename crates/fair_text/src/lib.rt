@@ -3,6 +3,7 @@
 
 mod capture;
 mod declaration;
+mod digits;
 mod fault;
 mod frame_line;
 pub mod laws;

@@ -9,6 +9,7 @@ ghost use Rattle.fair_text.specs.Refusal.{Refuses};
 
 use crate::capture::Capture;
 use crate::declaration::{declare_share, others_line};
+use crate::digits::DigitValues;
 use crate::fault::{CaptureRefusal, LineFault};
 use crate::frame_line::next_frame;
 use crate::word::{is_line_of, is_skipped, same};
@@ -142,6 +143,7 @@ fn nothing_after(number: u32, text: &[u8]) -> Result<(), CaptureRefusal>
 /// The frame of the line of this number, behind `count` frames, at a moment that isn't before `last`.
 fn frame_at(
     alloc: Global,
+    values: &DigitValues,
     number: u32,
     last: u64,
     count: usize,
@@ -150,7 +152,7 @@ fn frame_at(
     ensures { let reading = at_line number (next_frame last count (words_of line.now)) in
         MatchResult result (λ came. reading ≡ Ok came) (λ refusal. Refuses refusal reading) }
 {
-    match next_frame(alloc, last, count, line) {
+    match next_frame(alloc, values, last, count, line) {
         Ok(came) => Ok(came),
         Err(LineFault::NoMemory) => Err(CaptureRefusal::NoMemory),
         Err(LineFault::Broken(code)) => Err(bad_line(number, code)),
@@ -168,6 +170,7 @@ fn frames_of(
     ensures { let reading = frames_from number 0 frames.old.items (lines_of text.now) in
         MatchResult result (λ _. reading ≡ Ok frames.new.items) (λ refusal. Refuses refusal reading) }
 {
+    let values = DigitValues::new();
     let mut number = number;
     let mut last = 0;
     let mut left = text;
@@ -181,7 +184,7 @@ fn frames_of(
         if is_line_of(b"end", line) {
             return nothing_after(number, rest);
         }
-        let came = frame_at(alloc, at, last, frames.len(), line)?;
+        let came = frame_at(alloc, &values, at, last, frames.len(), line)?;
         last = came.moment;
         frames.push(came)?;
     }

@@ -1,17 +1,14 @@
 //! The words of a line: each gives its value, or the code of what is wrong with it.
-ghost use Rattle.std.specs.Prelude.{◌≡◌, ◌≤◌, IfOk, IfSome, None, Some, Ok, Err, MatchOption, MatchResult};
+ghost use Rattle.std.specs.Prelude.{◌≡◌, ◌≤◌, IfOk, IfSome, None, Some, MatchOption};
 ghost use Rattle.std.specs.Str.{bytes_eq};
 ghost use Rattle.scenario.specs.ClnpBase.Text.{words_of};
 ghost use Rattle.scenario.specs.Grammar.{is_line_of};
-ghost use Rattle.scenario.specs.Words.{address_word, five_words, four_words, frame_word, is_skipped, literal, number_within, number_word, one_word, three_words, two_words, wanted};
+ghost use Rattle.scenario.specs.Words.{address_word, five_words, four_words, is_skipped, literal, number_within, number_word, one_word, three_words, two_words, wanted};
 ghost use Rattle.fair_text.specs.Grammar.{budget_word, segments_word, slots_word};
-ghost use Rattle.fair_text.specs.Refusal.{Faults};
 
-use crate::fault::LineFault;
 use scenario::Code;
-use scenario::clnp_base::{HexFault, decimal, next_word, push_unhex};
+use scenario::clnp_base::{decimal, next_word};
 use scenario::nsap::Address;
-use std::alloc::Global;
 
 /// The word of a line that has one word.
 pub(crate) fn one_word(line: &[u8]) -> Option<&[u8]>
@@ -68,8 +65,8 @@ pub(crate) fn five_words(line: &[u8]) -> Option<(&[u8], &[u8], &[u8], &[u8], &[u
 pub(crate) fn is_line_of(text: &[u8], line: &[u8]) -> bool
     ensures { result ≡ is_line_of text.now (words_of line.now) }
 {
-    match one_word(line) {
-        Some(word) => same(word, text),
+    match next_word(line) {
+        Some((word, rest)) => same(word, text) && next_word(rest).is_none(),
         None => false,
     }
 }
@@ -158,19 +155,5 @@ pub(crate) fn address_word(word: &[u8]) -> Result<Address, Code>
     match Address::from_text(word) {
         Ok(address) => Ok(address),
         Err(_) => Err(Code::Address),
-    }
-}
-
-/// The octets that an even number of hexadecimal digits spells.
-pub(crate) fn frame_word(alloc: Global, word: &[u8]) -> Result<Vec<u8>, LineFault>
-    ensures { let reading = frame_word word.now in
-        MatchResult result (λ octets. reading ≡ Ok octets.items) (λ fault. Faults fault reading) }
-{
-    let mut octets = Vec::new(alloc);
-    match push_unhex(word, &mut octets) {
-        Ok(()) => Ok(octets),
-        Err(HexFault::OddLength) => Err(LineFault::Broken(Code::Address)),
-        Err(HexFault::BadDigit) => Err(LineFault::Broken(Code::Address)),
-        Err(HexFault::NoMemory) => Err(LineFault::NoMemory),
     }
 }
