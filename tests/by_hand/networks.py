@@ -378,6 +378,16 @@ def try_all(texts):
     return [(int(status), output, said) for output, (said, status) in zip(outputs, ends)]
 
 
+def without_advice(status, output, said):
+    """What the program said, without the second line of a text that is refused; that has to be there, and to be plain."""
+    lines = said.splitlines(keepends=True)
+    if status != 3:
+        return status, output, said
+    if len(lines) != 2 or not re.fullmatch(r"clnp: [ -~]{1,250}\n", lines[1]):
+        return status, output, said + "(no line of advice)"
+    return status, output, lines[0]
+
+
 def wanted_of(text, kinds):
     """What the models say of a text, and whether it is a scenario."""
     found = read(text)
@@ -411,7 +421,7 @@ def main():
     for text, came in zip(texts, try_all(texts) if asked.tries else run_each(asked.program or PROGRAM, texts)):
         wanted, is_scenario = wanted_of(text, kinds)
         accepted += is_scenario
-        if came != wanted:
+        if without_advice(*came) != wanted:
             sys.stdout.buffer.write(text)
             ends = f"{came[0]} {came[2]!r}, not {wanted[0]} {wanted[2]!r}"
             sys.exit(f"the program and the models differ on this text; the program: {ends}")

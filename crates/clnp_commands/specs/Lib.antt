@@ -8,4 +8,5 @@ pub mod Counting
 pub mod Words
 pub mod Tasks
 pub mod Serves
+pub mod Advised
 pub mod Agree

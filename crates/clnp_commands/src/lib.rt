@@ -4,6 +4,7 @@
 //! shows its frames as text, judges vectors of frames, and counts what a storm of events comes to.
 #![tactic(auto)]
 
+mod advise;
 mod command;
 mod migrate;
 mod sim;
@@ -16,4 +17,5 @@ pub use clnp_world;
 pub use clnp_world::scenario;
 pub use command::{Command, StreamedCommand, WholeCommand};
 pub use command_base::Status;
+pub use scenario_advice::Advice;
 pub use top::clnp_main;

@@ -6,13 +6,16 @@ ghost use Rattle.clnp_world.specs.Scenario.Canonical.{text_of};
 ghost use Rattle.clnp_world.specs.Scenario.Scenario.{IsClosed};
 ghost use Rattle.clnp_world.specs.Scenario.Seeds as seeds;
 ghost use Rattle.clnp_safety.specs.Runs.{RunsAreSafe};
-ghost use Rattle.clnp_commands.specs.Words.{reads, Reads};
+ghost use Rattle.clnp_commands.specs.Words.{command_of, reads, Reads};
+ghost use Rattle.clnp_commands.specs.Advised.{Advised};
+ghost use Rattle.clnp_commands.specs.declared.command.Command.TheVariants.{Whole};
 ghost use Rattle.pcap_commands.specs.Serves.{ServesFile};
 ghost use Rattle.clnp_commands.specs.Serves.{Serves, ServesCommand, TakesTooMany, TakesWithin, form_of};
 ghost use Rattle.clnp_commands.specs.Tasks.{task};
 ghost use Rattle.clnp_commands.specs.Agree.{TextsAgree};
 ghost use Rattle.capture_commands.specs.CommandBase.ComesAs.{ComesAs, most_input};
 
+use crate::advise::advice_on;
 use crate::command::{Command, StreamedCommand, WholeCommand};
 use crate::migrate::migrate;
 use crate::sim::sim;
@@ -26,6 +29,7 @@ use clnp_safety::laws::runs_are_safe;
 use clnp_world::scenario::laws;
 use fair_commands::reassemble;
 use pcap_commands::{pcap_lines, pcap_make, pcap_show};
+use scenario_advice::Advice;
 use std::alloc::Global;
 
 /// The most octets of an input.
@@ -42,11 +46,15 @@ const MOST_INPUT: usize = 16_777_216;
 /// `reassemble` reads captured frames and writes what comes of each. `migrate` reads a scenario text of
 /// version 1 and writes it in version 2. `storm` reads nothing: it runs the scenario that its seed makes,
 /// and writes one line of what the run's journal counts.
+///
+/// `advice` gets what the author of a refused scenario text, capture or text of vectors is told beside its first bad line; it is
+/// emptied where there is nothing to tell.
 pub fn clnp_main<S: Source, K: Sink>(
     alloc: Global,
     words: &[String],
     source: &mut S,
     sink: &mut K,
+    advice: &mut Advice,
 ) -> Status
     // The counts of faults never fall.
     ensures later { (S.faults source.old ≤ S.faults source.new) × (K.faults sink.old ≤ K.faults sink.new) }
@@ -55,6 +63,9 @@ pub fn clnp_main<S: Source, K: Sink>(
     ensures serves { Serves (map string_bytes words.now) (S.left source.old) (S.left source.new) (K.written sink.old) (K.written sink.new)
         (source.new ≡ source.old) (sink.new ≡ sink.old)
         (Rose (S.faults source.old) (S.faults source.new)) (Rose (K.faults sink.old) (K.faults sink.new)) result }
+
+    // What the author of the input is told beside the status, and when nothing is.
+    ensures advised { Advised (command_of (map string_bytes words.now)) result advice.new }
 
     // What is said below of scenario texts is so of storms too: the scenario of each seed is that of a
     // text, and no frame comes from outside in it.
@@ -68,8 +79,9 @@ pub fn clnp_main<S: Source, K: Sink>(
 {
     every_run_is_safe();
     texts_agree();
+    *advice = Advice::new();
     match Command::of(words) {
-        Ok(Command::Whole(command)) => serve(alloc, command, source, sink),
+        Ok(Command::Whole(command)) => serve(alloc, command, source, sink, advice),
         Ok(Command::Streamed(command)) => serve_streamed(alloc, command, source, sink),
         Err(at) => Status::BadWords { at },
     }
@@ -81,15 +93,18 @@ fn serve<S: Source, K: Sink>(
     command: WholeCommand,
     source: &mut S,
     sink: &mut K,
+    advice: &mut Advice,
 ) -> Status
+    requires { advice.old ≡ [] }
     ensures later { (S.faults source.old ≤ S.faults source.new) × (K.faults sink.old ≤ K.faults sink.new) }
     ensures serves { ServesCommand command (S.left source.old) (S.left source.new) (K.written sink.old) (K.written sink.new)
         (source.new ≡ source.old) (sink.new ≡ sink.old)
         (Rose (S.faults source.old) (S.faults source.new)) (Rose (K.faults sink.old) (K.faults sink.new)) result }
+    ensures advised { Advised (Ok (Whole command)) result advice.new }
 {
     let mut text = Vec::new(alloc);
     match read_input(alloc, command, source, &mut text) {
-        Ok(()) => obey(alloc, command, text.as_slice(), sink),
+        Ok(()) => obey_and_advise(alloc, command, text.as_slice(), sink, advice),
         Err(ReadStop::Failed) => Status::ReadFault,
         Err(ReadStop::TooLong) => Status::TooLong,
         Err(ReadStop::NoMemory) => Status::NoMemory,
@@ -155,6 +170,25 @@ fn read_input<S: Source>(
         return Ok(());
     }
     read_all(alloc, source, MOST_INPUT, text)
+}
+
+/// Runs a command on the text of its input, and tells its author more of one that is refused.
+fn obey_and_advise<K: Sink>(
+    alloc: Global,
+    command: WholeCommand,
+    text: &[u8],
+    sink: &mut K,
+    advice: &mut Advice,
+) -> Status
+    requires { length text.now ≤ most_input }
+    ensures later { K.faults sink.old ≤ K.faults sink.new }
+    ensures comes_to { ComesAs (task command text.now) (K.written sink.old) (K.written sink.new) result }
+    ensures failed { result ≡ Status.WriteFault → Rose (K.faults sink.old) (K.faults sink.new) }
+    ensures advised { Advised (Ok (Whole command)) result advice.new }
+{
+    let status = obey(alloc, command, text, sink);
+    *advice = advice_on(command, text, status);
+    status
 }
 
 /// Runs a command on the text of its input.

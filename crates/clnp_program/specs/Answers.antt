@@ -1,5 +1,5 @@
 -- What a call of the program comes to.
-use Rattle.std.specs.Prelude.{◌≡◌, ℕ, ◌⊎◌, List, ◌++◌, codes, Option, None, Some}
+use Rattle.std.specs.Prelude.{◌≡◌, ℕ, ◌⊎◌, List, [], ◌∷◌, ◌++◌, codes, Option, None, Some}
 use Rattle.std.specs.Io.KnownBytes.{Appends, Keeps}
 use Rattle.clnp_commands.specs.ClnpBase.Streams.{AppendsFront}
 use Rattle.clnp_commands.specs.CommandBase.declared.status.Status.{Status}
@@ -26,17 +26,32 @@ abbrev pub Answers : (words : List (List ℕ)) → (left_before left_after befor
 Answers words left_before left_after before after same_source same_sink read_rose write_rose status =
     AnswersOn (information words) words left_before left_after before after same_source same_sink read_rose write_rose status
 
--- The line of a fault, with a text of its own, and behind that of bad words which words are commands.
-pub record TellsFault (fault : Fault) (before after : Option (List ℕ)) : Type 0 where
+-- the line of a fault, with a text of its own, and behind that of bad words which words are commands
+abbrev pub line_of_fault : Fault → (text : List ℕ) → List ℕ
+line_of_fault fault text = codes "clnp: " ++ (text ++ behind_fault fault)
+
+-- the line of advice, if there is any
+abbrev pub line_of_advice : (advice : List ℕ) → List ℕ
+line_of_advice [] = []
+line_of_advice (first ∷ rest) = codes "clnp: " ++ ((first ∷ rest) ++ codes "\n")
+
+-- The line of a fault was written, with a text of its own.
+pub record WritesLine (fault : Fault) (before after : Option (List ℕ)) : Type 0 where
   pub text : List ℕ
-  pub appends : Appends before after (codes "clnp: " ++ (text ++ behind_fault fault))
+  pub appends : Appends before after (line_of_fault fault text)
+
+-- What is said of a fault: its line, with a text of its own, and behind it the line of advice, if there is any.
+pub record TellsFault (fault : Fault) (advice : List ℕ) (before after : Option (List ℕ)) : Type 0 where
+  pub text : List ℕ
+  pub appends : Appends before after (line_of_fault fault text ++ line_of_advice advice)
 
 -- What is said on standard error: nothing where there is no fault.
-abbrev pub Tells : Option Fault → (before after : Option (List ℕ)) → Type 0
-Tells None before after = Keeps before after
-Tells (Some fault) before after = TellsFault fault before after
+abbrev pub Tells : Option Fault → (advice : List ℕ) → (before after : Option (List ℕ)) → Type 0
+Tells None advice before after = Keeps before after
+Tells (Some fault) advice before after = TellsFault fault advice before after
 
--- How a call with this status ends: its exit number, and what is said on standard error, unless that failed in this call.
-pub record Ends (status : Status) (number : ℕ) (before after : Option (List ℕ)) (rose : Type 0) : Type 0 where
+-- How a call with this status and this advice ends: its exit number, and what is said on standard error, unless that failed in
+-- this call.
+pub record Ends (status : Status) (advice : List ℕ) (number : ℕ) (before after : Option (List ℕ)) (rose : Type 0) : Type 0 where
   pub exits : number ≡ exit_number status
-  pub told : Tells (fault_of status) before after ⊎ rose
+  pub told : Tells (fault_of status) advice before after ⊎ rose

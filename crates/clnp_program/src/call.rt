@@ -1,12 +1,14 @@
 //! A call of the program over its words, its input, its output and standard error.
-ghost use Rattle.std.specs.Prelude.{◌≡◌, ◌≤◌, map, string_bytes};
+ghost use Rattle.std.specs.Prelude.{◌≡◌, ◌≤◌, ℕ, false, List, [], map, string_bytes};
+ghost use Rattle.clnp_commands.specs.Advised.{Advised, is_bad_input};
 ghost use Rattle.clnp_commands.specs.ClnpBase.Streams.{Rose};
+ghost use Rattle.clnp_commands.specs.Words.{command_of};
 ghost use Rattle.clnp_program.specs.Answers.{Answers, Ends, Informs};
 
 use crate::fault::report;
 use crate::help::information;
 use clnp_commands::clnp_base::{Sink, Source, write_all};
-use clnp_commands::{Status, clnp_main};
+use clnp_commands::{Advice, Status, clnp_main};
 use std::alloc::Global;
 
 /// Answers the words on the source and the sink, says on `errors` what went wrong, and gives the
@@ -22,14 +24,17 @@ pub fn run<S: Source, K: Sink, E: Sink>(
     ensures later { (S.faults source.old ≤ S.faults source.new)
         × ((K.faults sink.old ≤ K.faults sink.new) × (E.faults errors.old ≤ E.faults errors.new)) }
 
-    // There is a status that the words, the source and the sink come to, and the exit number and what is said are its.
-    ensures answers { (status : Status) × Ends status result (E.written errors.old) (E.written errors.new) (Rose (E.faults errors.old) (E.faults errors.new))
+    // There is a status that the words, the source and the sink come to, and there is what is told beside it, and the exit
+    // number and what is said are theirs.
+    ensures answers { (status : Status) × (advice : List ℕ) × Advised (command_of (map string_bytes words.now)) status advice
+        × Ends status advice result (E.written errors.old) (E.written errors.new) (Rose (E.faults errors.old) (E.faults errors.new))
         × Answers (map string_bytes words.now) (S.left source.old) (S.left source.new) (K.written sink.old) (K.written sink.new)
         (source.new ≡ source.old) (sink.new ≡ sink.old)
         (Rose (S.faults source.old) (S.faults source.new)) (Rose (K.faults sink.old) (K.faults sink.new)) status }
 {
-    let status = answer(alloc, words, source, sink);
-    end(status, errors)
+    let mut advice = Advice::new();
+    let status = answer(alloc, words, source, sink, &mut advice);
+    end_advised(status, &advice, errors)
 }
 
 /// Says what went wrong, if anything did, and gives the exit number.
@@ -37,9 +42,17 @@ pub fn run<S: Source, K: Sink, E: Sink>(
 /// Where standard error fails too, the exit number alone tells.
 pub fn end<E: Sink>(status: Status, errors: &mut E) -> u8
     ensures later { E.faults errors.old ≤ E.faults errors.new }
-    ensures ends { Ends status result (E.written errors.old) (E.written errors.new) (Rose (E.faults errors.old) (E.faults errors.new)) }
+    ensures ends { Ends status [] result (E.written errors.old) (E.written errors.new) (Rose (E.faults errors.old) (E.faults errors.new)) }
 {
-    let _ = report(status, errors);
+    end_advised(status, &Advice::new(), errors)
+}
+
+/// Says what went wrong, if anything did, and what is told beside it, and gives the exit number.
+fn end_advised<E: Sink>(status: Status, advice: &Advice, errors: &mut E) -> u8
+    ensures later { E.faults errors.old ≤ E.faults errors.new }
+    ensures ends { Ends status advice.now result (E.written errors.old) (E.written errors.new) (Rose (E.faults errors.old) (E.faults errors.new)) }
+{
+    let _ = report(status, advice, errors);
     status.exit_number()
 }
 
@@ -49,15 +62,18 @@ fn answer<S: Source, K: Sink>(
     words: &[String],
     source: &mut S,
     sink: &mut K,
+    advice: &mut Advice,
 ) -> Status
+    requires { advice.old ≡ [] }
     ensures later { (S.faults source.old ≤ S.faults source.new) × (K.faults sink.old ≤ K.faults sink.new) }
     ensures answers { Answers (map string_bytes words.now) (S.left source.old) (S.left source.new) (K.written sink.old) (K.written sink.new)
         (source.new ≡ source.old) (sink.new ≡ sink.old)
         (Rose (S.faults source.old) (S.faults source.new)) (Rose (K.faults sink.old) (K.faults sink.new)) result }
+    ensures advised { Advised (command_of (map string_bytes words.now)) result advice.new }
 {
     match information(words) {
         Some(text) => inform(text, sink),
-        None => clnp_main(alloc, words, source, sink),
+        None => clnp_main(alloc, words, source, sink, advice),
     }
 }
 
@@ -65,6 +81,7 @@ fn answer<S: Source, K: Sink>(
 fn inform<K: Sink>(text: &str, sink: &mut K) -> Status
     ensures later { K.faults sink.old ≤ K.faults sink.new }
     ensures informs { Informs text.now (K.written sink.old) (K.written sink.new) (Rose (K.faults sink.old) (K.faults sink.new)) result }
+    ensures no_input { is_bad_input result ≡ false }
 {
     match write_all(sink, text.as_bytes()) {
         Ok(()) => Status::Done,

@@ -2,14 +2,14 @@
 ghost use Rattle.std.specs.Prelude.{◌≡◌, ◌≤◌, ◌++◌, codes, OnOk, OnErr};
 ghost use Rattle.std.specs.Io.KnownBytes.{Appends};
 ghost use Rattle.clnp_commands.specs.ClnpBase.Streams.{Rose};
-ghost use Rattle.clnp_program.specs.Answers.{Tells, TellsFault};
+ghost use Rattle.clnp_program.specs.Answers.{Tells, TellsFault, WritesLine, line_of_advice};
 ghost use Rattle.clnp_program.specs.Faults.{fault_of};
 ghost use Rattle.clnp_program.specs.Texts.{behind_code, behind_fault, wanted};
 
 use arrayvec::ArrayString;
-use clnp_commands::Status;
 use clnp_commands::clnp_base::{Failed, Sink, write_all};
 use clnp_commands::scenario::Code;
+use clnp_commands::{Advice, Status};
 use std::fmt::Write;
 use thiserror::Error;
 
@@ -74,26 +74,49 @@ impl Fault {
 const MOST_TEXT: usize = 120;
 
 /// Says what went wrong, if anything did: the line of the fault, and behind that of bad words which words are
-/// commands. It takes no memory.
+/// commands; then the line of advice, if there is one. It takes no memory.
 ///
 /// # Errors
 ///
 /// `Failed` where the sink failed.
-pub(crate) fn report<K: Sink>(status: Status, errors: &mut K) -> Result<(), Failed>
+pub(crate) fn report<K: Sink>(status: Status, advice: &Advice, errors: &mut K) -> Result<(), Failed>
     ensures later { K.faults errors.old ≤ K.faults errors.new }
-    ensures said { OnOk result (Tells (fault_of status) (K.written errors.old) (K.written errors.new)) }
+    ensures said { OnOk result (Tells (fault_of status) advice.now (K.written errors.old) (K.written errors.new)) }
     ensures failed { OnErr result (Rose (K.faults errors.old) (K.faults errors.new)) }
 {
     match Fault::of(status) {
         None => Ok(()),
-        Some(fault) => write_fault(fault, errors),
+        Some(fault) => write_advised(fault, advice, errors),
     }
+}
+
+/// Writes the line of a fault, and behind it the line of advice, if there is one.
+fn write_advised<K: Sink>(fault: Fault, advice: &Advice, errors: &mut K) -> Result<(), Failed>
+    ensures later { K.faults errors.old ≤ K.faults errors.new }
+    ensures written { OnOk result (TellsFault fault advice.now (K.written errors.old) (K.written errors.new)) }
+    ensures failed { OnErr result (Rose (K.faults errors.old) (K.faults errors.new)) }
+{
+    write_fault(fault, errors)?;
+    write_advice(advice.as_bytes(), errors)
+}
+
+/// Writes the line of advice, if there is one.
+fn write_advice<K: Sink>(advice: &[u8], errors: &mut K) -> Result<(), Failed>
+    ensures later { K.faults errors.old ≤ K.faults errors.new }
+    ensures written { OnOk result (Appends (K.written errors.old) (K.written errors.new) (line_of_advice advice.now)) }
+    ensures failed { OnErr result (Rose (K.faults errors.old) (K.faults errors.new)) }
+{
+    if advice.is_empty() {
+        return Ok(());
+    }
+    write_all(errors, b"clnp: ")?;
+    write_pair(advice, b"\n", errors)
 }
 
 /// Writes the line of a fault, and behind that of bad words which words are commands.
 fn write_fault<K: Sink>(fault: Fault, errors: &mut K) -> Result<(), Failed>
     ensures later { K.faults errors.old ≤ K.faults errors.new }
-    ensures written { OnOk result (TellsFault fault (K.written errors.old) (K.written errors.new)) }
+    ensures written { OnOk result (WritesLine fault (K.written errors.old) (K.written errors.new)) }
     ensures failed { OnErr result (Rose (K.faults errors.old) (K.faults errors.new)) }
 {
     let text = text_of(fault);

@@ -1,5 +1,5 @@
 use clnp_machine::clnp_base::{Failed, MemSink, MemSource, Sink};
-use clnp_program::clnp_commands::{Status, clnp_main};
+use clnp_program::clnp_commands::{Advice, Status, clnp_main};
 use std::alloc::Global;
 use std::process::Abort;
 
@@ -82,7 +82,13 @@ fn call(
     let words = words_of(rt, alloc, word);
     let mut source = source_of(rt, alloc, text, streams);
     let mut sink = sink_of(rt, alloc, streams);
-    let status = clnp_main(alloc, words.as_slice(), &mut source, &mut sink);
+    let status = clnp_main(
+        alloc,
+        words.as_slice(),
+        &mut source,
+        &mut sink,
+        &mut Advice::new(),
+    );
     out.extend_from_slice(sink.as_bytes()).expect(rt, "memory");
     status
 }
@@ -277,7 +283,13 @@ fn count_until_full(rt: &impl Abort, alloc: Global, text: &[u8], full: u64) -> u
         },
     );
     let mut sink = Counter { octets: 0 };
-    let status = clnp_main(alloc, words.as_slice(), &mut source, &mut sink);
+    let status = clnp_main(
+        alloc,
+        words.as_slice(),
+        &mut source,
+        &mut sink,
+        &mut Advice::new(),
+    );
     assert!(rt; status == Status::WorldFull { octets: full });
     sink.octets
 }

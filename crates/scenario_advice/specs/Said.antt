@@ -10,3 +10,8 @@ is_plain character = nat_le 32 character && nat_le character 126
 pub record IsSaid (said : List ℕ) : Type 0 where
   pub plain : list_all is_plain said ≡ true
   pub few : length said ≤ 250
+
+-- a line of advice: some plain characters, and no more than 250
+pub record IsTold (told : List ℕ) : Type 0 where
+  pub said : IsSaid told
+  pub some : 1 ≤ length told

@@ -1,6 +1,6 @@
 //! A line of advice, as it is put together.
-ghost use Rattle.std.specs.Prelude.{◌≡◌, true};
-ghost use Rattle.scenario_advice.specs.Said.{IsSaid, is_plain};
+ghost use Rattle.std.specs.Prelude.{◌≡◌, ◌≤◌, true, [], length};
+ghost use Rattle.scenario_advice.specs.Said.{IsSaid, IsTold, is_plain};
 
 use itoa::Buffer;
 use scenario::clnp_base::InlineOctets;
@@ -12,7 +12,8 @@ const MOST: usize = 250;
 /// The most characters of a word that is told.
 const MOST_OF_A_WORD: usize = 40;
 
-/// What is said to the author of a text, without the end of its line: at most 250 characters, each from a space to `~`.
+/// What is said to the author of a text, without the end of its line: at most 250 characters, each from a space to `~`;
+/// none where nothing is said.
 #[derive(Drop)]
 pub struct Advice {
     said: InlineOctets<MOST>,
@@ -31,14 +32,18 @@ impl Model for Advice {
 
 impl Advice {
     /// Nothing is said yet.
-    pub(crate) fn new() -> Advice {
+    pub fn new() -> Advice
+        ensures { result ≡ [] }
+    {
         Advice {
             said: InlineOctets::new(),
         }
     }
 
     /// A text alone.
-    pub(crate) fn of(text: &str) -> Advice {
+    pub(crate) fn of(text: &str) -> Advice
+        ensures some { 1 ≤ length text.now → 1 ≤ length result }
+    {
         Advice::new().text(text)
     }
 
@@ -50,24 +55,35 @@ impl Advice {
         self.said.as_bytes()
     }
 
+    /// What is said, or else the line as it stands, if the text has it.
+    pub(crate) fn or_line(self, line: Option<&[u8]>) -> Advice
+        ensures told { IsTold result }
+    {
+        let advice = if self.as_bytes().is_empty() {
+            as_it_stands(line)
+        } else {
+            self
+        };
+        // For its clause: what is said is plain.
+        let _ = advice.as_bytes();
+        advice
+    }
+
     /// Puts a text behind what is said.
-    pub(crate) fn text(self, text: &str) -> Advice {
+    pub(crate) fn text(self, text: &str) -> Advice
+        ensures longer { length self ≤ length result }
+        ensures some { 1 ≤ length text.now → 1 ≤ length result }
+    {
         self.octets(text.as_bytes())
     }
 
     /// Puts octets behind what is said, those that are no plain characters by their digits.
-    pub(crate) fn octets(self, octets: &[u8]) -> Advice {
+    pub(crate) fn octets(self, octets: &[u8]) -> Advice
+        ensures longer { length self ≤ length result }
+        ensures some { 1 ≤ length octets.now → 1 ≤ length result }
+    {
         let mut advice = self;
         for octet in octets {
-            advice.put(*octet);
-        }
-        advice
-    }
-
-    /// Puts the first octets behind what is said, so many at most.
-    fn first(self, octets: &[u8], most: usize) -> Advice {
-        let mut advice = self;
-        for octet in octets.iter().take(most) {
             advice.put(*octet);
         }
         advice
@@ -80,15 +96,21 @@ impl Advice {
     }
 
     /// Puts a word behind what is said, in quotes; a long one is cut.
-    pub(crate) fn word(self, word: &[u8]) -> Advice {
+    pub(crate) fn word(self, word: &[u8]) -> Advice
+        ensures longer { length self ≤ length result }
+    {
         if word.len() <= MOST_OF_A_WORD {
             return self.text("\"").octets(word).text("\"");
         }
-        self.text("\"").first(word, MOST_OF_A_WORD).text("..\"")
+        let (front, _) = word.split_at(MOST_OF_A_WORD);
+        self.text("\"").octets(front).text("..\"")
     }
 
     /// Puts an octet behind what is said: a plain character, or `\x` and two hexadecimal digits.
-    fn put(&mut self, octet: u8) {
+    fn put(&mut self, octet: u8)
+        ensures longer { length self.old ≤ length self.new }
+        ensures some { 1 ≤ length self.new }
+    {
         if is_plain(octet) {
             self.put_plain(octet);
             return;
@@ -102,10 +124,22 @@ impl Advice {
     /// Puts a plain character behind what is said, if it has room.
     fn put_plain(&mut self, octet: u8)
         requires { is_plain octet ≡ true }
+        ensures longer { length self.old ≤ length self.new }
+        ensures some { 1 ≤ length self.new }
     {
         if self.said.len() < MOST {
             self.said.push(&[octet]);
         }
+    }
+}
+
+/// A line as it stands, or that the text has none.
+fn as_it_stands(line: Option<&[u8]>) -> Advice
+    ensures some { 1 ≤ length result }
+{
+    match line {
+        Some(line) => Advice::of("the line is ").word(line),
+        None => Advice::of("the text ends here"),
     }
 }
 

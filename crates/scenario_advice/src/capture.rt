@@ -1,4 +1,6 @@
 //! What is said of a line of a capture, or of a file of vectors.
+ghost use Rattle.scenario_advice.specs.Said.{IsTold};
+
 use crate::advice::Advice;
 use crate::file::of_file;
 use crate::form::first_other;
@@ -10,20 +12,41 @@ use scenario::Code;
 const MOST_FRAME: usize = 70_000;
 
 /// What is said to the author of a capture that is refused at a line, from 1, with the number of a code.
-pub fn of_capture(text: &[u8], line: u32, code: u8) -> Option<Advice> {
-    if let Some(advice) = of_file(text) {
-        return Some(advice);
+pub fn of_capture(text: &[u8], line: u32, code: u8) -> Advice
+    ensures told { IsTold result }
+{
+    let line = Place { text, number: line }.line();
+    match of_capture_line(text, line, code) {
+        Some(advice) => advice.or_line(line),
+        None => Advice::new().or_line(line),
     }
-    let line = Place { text, number: line }.line()?;
-    of_frame(line, Code::of_number(code)?)
 }
 
 /// What is said to the author of a file of vectors that is refused at a line, from 1, with the number of a code.
-pub fn of_vectors(text: &[u8], line: u32, code: u8) -> Option<Advice> {
+pub fn of_vectors(text: &[u8], line: u32, code: u8) -> Advice
+    ensures told { IsTold result }
+{
+    let line = Place { text, number: line }.line();
+    match of_vector(text, line, code) {
+        Some(advice) => advice.or_line(line),
+        None => Advice::new().or_line(line),
+    }
+}
+
+/// What is found to say of a line of a capture.
+fn of_capture_line(text: &[u8], line: Option<&[u8]>, code: u8) -> Option<Advice> {
     if let Some(advice) = of_file(text) {
         return Some(advice);
     }
-    let line = Place { text, number: line }.line()?;
+    of_frame(line?, Code::of_number(code)?)
+}
+
+/// What is found to say of a line of a file of vectors.
+fn of_vector(text: &[u8], line: Option<&[u8]>, code: u8) -> Option<Advice> {
+    if let Some(advice) = of_file(text) {
+        return Some(advice);
+    }
+    let line = line?;
     let code = Code::of_number(code)?;
     let at = line.iter().position(|c| *c == b' ').unwrap_or(line.len());
     let (digits, rest) = line.split_at(at);

@@ -1,6 +1,6 @@
 //! The lines of a scenario text: the forms of their words.
 use crate::form::{Form, are_octets, is_number, unless};
-use crate::place::same;
+use crate::place::{Place, same};
 use scenario::Code;
 use scenario::clnp_plan::clnp_options::OptionList;
 
@@ -84,6 +84,22 @@ pub(crate) const DECLARATIONS: &[LineForm] = &[
     },
 ];
 
+/// Those that have another form in version 2.
+const DECLARATIONS_OF_VERSION_2: &[LineForm] = &[LineForm {
+    keyword: b"limits",
+    shape: "limits L R Q S",
+    words: &[
+        Form::Number { low: 1, high: 4096 },
+        Form::Number { low: 1, high: 255 },
+        Form::Number {
+            low: 1,
+            high: 16_384,
+        },
+        Form::Number { low: 0, high: 0 },
+    ],
+    more: More::Nothing,
+}];
+
 pub(crate) const EVENTS: &[LineForm] = &[
     LineForm {
         keyword: b"send",
@@ -164,6 +180,16 @@ pub(crate) fn form_of(forms: &'static [LineForm], keyword: &[u8]) -> Option<Line
         }
     }
     None
+}
+
+/// The declaration of a keyword in the version of a text, if it is one.
+pub(crate) fn declaration_of(at: Place<'_>, keyword: &[u8]) -> Option<LineForm> {
+    if at.is_of_version_2() {
+        if let Some(form) = form_of(DECLARATIONS_OF_VERSION_2, keyword) {
+            return Some(form);
+        }
+    }
+    form_of(DECLARATIONS, keyword)
 }
 
 /// A key and the range of its number.

@@ -2,7 +2,7 @@
 //! or which names a line as a whole is about.
 //!
 //! It is found by reading the text again, up to the line: of the lines before it, which were accepted, by what they declare;
-//! of the line itself, by the forms of its words. Where that doesn't come to the code that was told, nothing is said.
+//! of the line itself, by the forms of its words. Where that doesn't come to the code that was told, the line itself is said.
 #![tactic(auto)]
 
 mod advice;
@@ -20,4 +20,4 @@ mod word;
 pub use advice::Advice;
 pub use capture::{of_capture, of_vectors};
 pub use scenario;
-pub use scenario_text::of_scenario;
+pub use scenario_text::{of_scenario, of_scenario_of_version_1};

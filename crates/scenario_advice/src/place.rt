@@ -2,6 +2,9 @@
 use scenario::clnp_base::{decimal, lines, next_word, words};
 use scenario::nsap::{Address, Prefix, Snpa};
 
+/// The header of a text of version 2.
+pub(crate) const VERSION_2: &[u8] = b"clnp-sim 2";
+
 /// Whether two words are the same.
 pub(crate) fn same(word: &[u8], other: &[u8]) -> bool {
     word == other
@@ -142,6 +145,16 @@ pub(crate) struct Place<'a> {
 }
 
 impl<'a> Place<'a> {
+    /// Whether the text is one of version 2.
+    pub(crate) fn is_of_version_2(self) -> bool {
+        for line in lines(self.text) {
+            if !is_skipped(line) {
+                return same(line, VERSION_2);
+            }
+        }
+        false
+    }
+
     /// The line, where the text has it.
     pub(crate) fn line(self) -> Option<&'a [u8]> {
         let mut number: u32 = 1;

@@ -1,7 +1,9 @@
 //! What is said of a line of a scenario text.
+ghost use Rattle.scenario_advice.specs.Said.{IsTold};
+
 use crate::advice::Advice;
-use crate::grammar::{DECLARATIONS, EVENTS, LineForm, More, form_of};
-use crate::header::of_header;
+use crate::grammar::{DECLARATIONS, EVENTS, LineForm, More, declaration_of, form_of};
+use crate::header::{Versions, of_header};
 use crate::place::{Place, count_words, same, word_at};
 use crate::systems::of_systems;
 use crate::whole::of_whole;
@@ -9,13 +11,33 @@ use crate::word::{of_further_word, of_keyword, of_word, of_word_too_many, of_wor
 use scenario::Code;
 use scenario::clnp_base::{next_word, words};
 
-/// What is said to the author of a scenario text that is refused at a line, from 1, with the number of a code: which word is
-/// at fault and what is wanted there, or which names the line is about. Nothing where that can't be told.
-pub fn of_scenario(text: &[u8], line: u32, code: u8) -> Option<Advice> {
-    let at = Place { text, number: line };
-    match Code::of_number(code)? {
-        Code::Header => of_header(at),
-        code => of_line(at, code),
+/// What is said to the author of a scenario text, of either version, that is refused at a line, from 1, with the number of a
+/// code: which word is at fault and what is wanted there, or which names the line is about. Where that can't be told, the line.
+pub fn of_scenario(text: &[u8], line: u32, code: u8) -> Advice
+    ensures told { IsTold result }
+{
+    of_text(Place { text, number: line }, code, Versions::All)
+}
+
+/// The same where texts of version 1 alone are read.
+pub fn of_scenario_of_version_1(text: &[u8], line: u32, code: u8) -> Advice
+    ensures told { IsTold result }
+{
+    of_text(Place { text, number: line }, code, Versions::FirstAlone)
+}
+
+/// What is said of a line that is refused with the number of a code.
+fn of_text(at: Place<'_>, code: u8, versions: Versions) -> Advice
+    ensures told { IsTold result }
+{
+    let found = match Code::of_number(code) {
+        Some(Code::Header) => of_header(at, versions),
+        Some(code) => of_line(at, code),
+        None => None,
+    };
+    match found {
+        Some(advice) => advice.or_line(at.line()),
+        None => Advice::new().or_line(at.line()),
     }
 }
 
@@ -81,14 +103,14 @@ fn of_declaration(
     rest: &[u8],
     code: Code,
 ) -> Option<Advice> {
-    if let Some(form) = form_of(DECLARATIONS, keyword) {
+    if let Some(form) = declaration_of(at, keyword) {
         return of_words(at, line, rest, form, code);
     }
     if same(keyword, b"events") {
         return match next_word(rest) {
             Some((word, _)) => only_for_syntax(code, of_word_too_many(2, word, "events")),
             None if code == Code::Count => of_systems(at),
-            None => None,
+            None => of_missing_limits(at, code),
         };
     }
     let wanted = if same(keyword, b"end") {
@@ -99,6 +121,17 @@ fn of_declaration(
         "limits, subnet, system, address, port, route or events"
     };
     only_for_syntax(code, of_keyword(keyword, wanted))
+}
+
+/// What is said at the line `events` of a text that has to say its limits.
+fn of_missing_limits(at: Place<'_>, code: Code) -> Option<Advice> {
+    if !at.is_of_version_2() {
+        return None;
+    }
+    only_syntax(
+        code,
+        "no line before this one says limits L R Q S, which a text of version 2 has once",
+    )
 }
 
 /// What is said of a line behind `events` whose first word is no event.

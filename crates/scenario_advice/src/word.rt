@@ -26,6 +26,7 @@ pub(crate) fn of_word(
     match code {
         Code::UnknownName => of_name(advice, at, line, form, word),
         Code::Number => of_number(advice, form, word),
+        Code::Address if is_system(at, word) => of_name_for_digits(advice, form),
         Code::Address => of_digits(advice, form, word)
             .text("; wanted: ")
             .text(form.wanted()),
@@ -96,6 +97,12 @@ fn of_number(advice: Advice, form: Form, word: &[u8]) -> Advice {
 }
 
 fn of_range(advice: Advice, low: u64, high: u64) -> Advice {
+    if low == high {
+        return advice
+            .text("; wanted: ")
+            .number(low)
+            .text(", and no other number");
+    }
     advice
         .text("; wanted: a decimal number from ")
         .number(low)
@@ -155,6 +162,13 @@ fn of_digits(advice: Advice, form: Form, word: &[u8]) -> Advice {
         count = count.saturating_add(1);
     }
     of_count(advice.text(", with "), count)
+}
+
+/// What is said of the name of a system where digits are wanted.
+fn of_name_for_digits(advice: Advice, form: Form) -> Advice {
+    advice
+        .text("; a system has this name, but names stand for no digits; wanted: ")
+        .text(form.wanted())
 }
 
 /// How many digits there are.

@@ -1,0 +1,9 @@
+-- What is said grows by each octet.
+use Rattle.std.proofs.Common.{◌≤◌, length}
+use Rattle.scenario_advice.proofs.advice.Advice.octets.Given as goal
+
+abbrev pub invariant-loop-octet : goal.invariant-loop-octet
+invariant-loop-octet l = record {
+  longer : length l.initial.advice ≤ length l.advice;
+  some : 1 ≤ l.octet-index → 1 ≤ length l.advice;
+}
