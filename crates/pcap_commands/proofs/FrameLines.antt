@@ -14,8 +14,9 @@ use Rattle.captures.specs.Nsap.declared.fault.NsapFault.{NsapFault}
 use Rattle.captures.specs.Captures.{is_skipped}
 use Rattle.pcap_frames.proofs.Nsap.HexTextFacts.{IsAddress-octets_of}
 use Rattle.command_base.specs.ClnpBase.Text.{decimal_of, ends_word, onto_first, words_of}
+use Rattle.pcap_frames.specs.Groups.{end_systems, intermediate_systems}
 use Rattle.pcap_frames.specs.Making.{Frame, HasBytes, IsFrame}
-use Rattle.pcap_commands.specs.Stations.{destination_of, end_systems, intermediate_systems, six_octets, station_of}
+use Rattle.pcap_commands.specs.Stations.{destination_of, six_octets, station_of}
 use Rattle.pcap_commands.specs.Make.{FourWords, FrameLine, Skipped, Malformed, Makes, and_frames, four_of, frame_of_words, frame_read, frames_of, line_of, pdu_of, seconds_in}
 
 -- ---- words

@@ -18,12 +18,13 @@ use Rattle.command_base.proofs.ClnpBase.Reading.{IsWithinLine, lines_of-line}
 use Rattle.command_base.proofs.ClnpBase.SameOctets.{other_from, same_from}
 use Rattle.pcap_frames.specs.File.{Captured, IsCaptured}
 use Rattle.pcap_frames.specs.Frames.{SeenFrame, OtherFrame, CutFrame, OsiFrame, seen_in}
+use Rattle.pcap_frames.specs.Groups.{end_systems, intermediate_systems}
 use Rattle.pcap_frames.specs.Making.{Frame, HasBytes, IsFrame, frame_seen, frames_in, made_record}
 use Rattle.pcap_frames.proofs.FrameFacts.{seen_are_bytes, seen_is_osi}
 use Rattle.pcap_frames.proofs.MadeFiles.{made_is_seen}
 use Rattle.pcap_frames.proofs.Nsap.HexTextFacts.{octets_of-hex_text}
 use Rattle.pcap_commands.specs.declared.form.Form.TheVariants.{Remade}
-use Rattle.pcap_commands.specs.Stations.{destination_of, destination_word, end_systems, frame_line, intermediate_systems, six_octets, station_of}
+use Rattle.pcap_commands.specs.Stations.{destination_of, destination_word, frame_line, six_octets, station_of}
 use Rattle.pcap_commands.specs.Lines.{TellsRecords, line_seen}
 use Rattle.pcap_commands.specs.Make.{Skipped, Makes, and_frames, four_of, frame_of_words, frames_of, line_of, make_status, pdu_of, seconds_in, status_at}
 use Rattle.pcap_commands.specs.Laws.{lines_of_frames}

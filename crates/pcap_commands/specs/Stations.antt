@@ -1,17 +1,11 @@
 -- The words of destinations and sources of Ethernet frames, and the line of a frame.
-use Rattle.std.specs.Prelude.{ℕ, ◌==◌, if◌then◌else◌, List, [], ◌∷◌, ◌++◌, codes, length, Option, Some, None, Result, Ok, Err}
+use Rattle.std.specs.Prelude.{ℕ, ◌==◌, if◌then◌else◌, List, ◌++◌, codes, length, Option, Some, None, Result, Ok, Err}
 use Rattle.std.specs.Fmt.{decimal}
 use Rattle.std.specs.Str.{bytes_eq}
 use Rattle.captures.specs.Nsap.Text.{hex_text, octets_of}
 use Rattle.captures.specs.Nsap.declared.fault.NsapFault.{NsapFault}
+use Rattle.pcap_frames.specs.Groups.{end_systems, intermediate_systems}
 use Rattle.pcap_frames.specs.Making.{Frame}
-
--- 09002b000004, the group of all end systems of an Ethernet, and 09002b000005, that of all intermediate systems
-abbrev pub end_systems : List ℕ
-end_systems = 9 ∷ 0 ∷ 43 ∷ 0 ∷ 0 ∷ 4 ∷ []
-
-abbrev pub intermediate_systems : List ℕ
-intermediate_systems = 9 ∷ 0 ∷ 43 ∷ 0 ∷ 0 ∷ 5 ∷ []
 
 -- the word of a destination
 abbrev pub destination_word : List ℕ → List ℕ

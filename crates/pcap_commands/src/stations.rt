@@ -6,12 +6,7 @@ ghost use Rattle.pcap_commands.specs.Stations.{destination_of, destination_word,
 
 use command_base::clnp_base::{NoMemory, push, push_hex};
 use pcap_frames::nsap::Snpa;
-
-/// The group of all end systems of an Ethernet (ISO 9542).
-const END_SYSTEMS: [u8; 6] = [0x09, 0x00, 0x2b, 0x00, 0x00, 0x04];
-
-/// The group of all intermediate systems of an Ethernet (ISO 9542).
-const INTERMEDIATE_SYSTEMS: [u8; 6] = [0x09, 0x00, 0x2b, 0x00, 0x00, 0x05];
+use pcap_frames::{END_SYSTEMS, INTERMEDIATE_SYSTEMS};
 
 /// Appends the word of a destination: `es`, `is`, or its hexadecimal digits in lower case.
 pub fn push_destination(to: &Snpa, out: &mut Vec<u8>) -> Result<(), NoMemory>

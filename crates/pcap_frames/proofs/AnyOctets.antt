@@ -70,7 +70,7 @@ cut_behind order octets some partial =
     }
 
 -- the captured length is in the first twelve octets
-told_in_front : (order : Order) (octets : List ℕ) (n : ℕ) → 12 ≤ n → n ≤ length octets → captured_length order octets ≡ captured_length order (take n octets)
+pub told_in_front : (order : Order) (octets : List ℕ) (n : ℕ) → 12 ≤ n → n ≤ length octets → captured_length order octets ≡ captured_length order (take n octets)
 told_in_front order octets n least most =
     ap (captured_length order) (sym (take-append-drop n octets))
     ∙ length_stays order (take n octets) (drop n octets) (omega (arith, length-take-le n octets most))

@@ -2,6 +2,7 @@ pub use Rattle.nsap.proofs as Nsap
 pub mod Answering
 pub mod AnyOctets
 pub mod Endings
+pub mod FirstRecord
 pub mod Following
 pub mod FrameFacts
 pub mod FramesSeen

@@ -1,6 +1,8 @@
 pub mod Faults
 pub mod File
 pub mod Frames
+pub mod Groups
+pub mod InPlace
 pub mod Magic
 pub mod Making
 pub mod Numbers

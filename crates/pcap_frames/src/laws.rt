@@ -1,9 +1,10 @@
 //! Laws of the definitions that the contracts cite. The functions do nothing.
-ghost use Rattle.std.specs.Prelude.{◌≡◌, ◌↔◌, ◌++◌, ℕ, List, map};
+ghost use Rattle.std.specs.Prelude.{◌≡◌, ◌↔◌, ◌++◌, ℕ, List, Some, map};
 ghost use Rattle.std.specs.List.{AllByRecursion};
 ghost use Rattle.hex.specs.Hex.{IsBytes};
-ghost use Rattle.pcap_frames.specs.File.{Captured, IsCaptured, Pcap};
+ghost use Rattle.pcap_frames.specs.File.{Captured, IsCaptured, Pcap, captured_octets};
 ghost use Rattle.pcap_frames.specs.Frames.{IsOsiFrame, OsiFrame, frame_octets, seen_in};
+ghost use Rattle.pcap_frames.specs.InPlace.{first_in};
 ghost use Rattle.pcap_frames.specs.Making.{Frame, HasBytes, IsFrame, frames_in, made_file, made_record};
 ghost use Rattle.pcap_frames.specs.Reading.{Ending, Entire, Faulty, IsReadAs, Reading, Stands, ending_of};
 
@@ -57,6 +58,13 @@ pub fn the_front_of_a_file_has_no_fault()
 pub fn what_was_taken_is_read()
     ensures { (reading : Reading) (taken : List ℕ) (records : List Captured)
         → Stands reading taken records → IsReadAs taken records (ending_of reading) }
+{}
+
+/// A record stands in front of octets exactly where they begin as one is laid out.
+pub fn a_whole_record_is_as_laid_out()
+    ensures { (order : Order) (octets : List ℕ) (captured : Captured) → IsBytes octets
+        → (first_in order octets ≡ Some captured)
+        ↔ (IsCaptured captured × ((rest : List ℕ) × (octets ≡ captured_octets order captured ++ rest))) }
 {}
 
 /// An OSI PDU is seen in a frame exactly where the frame begins as one is laid out that carries it.

@@ -1,4 +1,4 @@
-//! Ethernet captures in the classic pcap form: files read piece by piece, frames looked into, files made.
+//! Ethernet captures in the classic pcap form: files read piece by piece or in place, frames looked into, files made.
 //!
 //! A file is a header of 24 octets and records. The header's magic number tells in which order the octets of each
 //! number of the file stand, and whether fractions of seconds are micro- or nanoseconds. A record is a time, a length,
@@ -8,7 +8,9 @@
 
 mod captured;
 mod fault;
+mod group;
 mod header;
+mod in_place;
 pub mod laws;
 mod making;
 mod order;
@@ -19,9 +21,13 @@ mod taking;
 
 pub use captured::Record;
 pub use fault::{CutFile, PcapFault};
+pub use group::{END_SYSTEMS, INTERMEDIATE_SYSTEMS};
+pub use header::judge_header;
+pub use in_place::first_record;
 pub use making::{put_frame, put_header};
 pub use nsap;
 pub use nsap::clnp_base;
+pub use order::Order;
 pub use reader::PcapReader;
 pub use seeing::{Seen, see};
-pub use taking::Took;
+pub use taking::{HEADER, RECORD_HEADER, Took};

@@ -1,7 +1,7 @@
 //! Files read piece by piece.
 use crate::captured::Record;
 use crate::fault::{CutFile, PcapFault};
-use crate::order::four_at;
+use crate::in_place::read_record;
 use crate::stage::Stage;
 use crate::taking::{MOST_HELD, Took, take_next};
 use nsap::clnp_base::NoMemory;
@@ -89,12 +89,7 @@ impl PcapReader {
         let Stage::Whole(order) = self.stage else {
             unreachable!()
         };
-        Record {
-            seconds: four_at(order, &self.part, 0),
-            fraction: four_at(order, &self.part, 4),
-            original: four_at(order, &self.part, 12),
-            octets: &self.part[16..],
-        }
+        read_record(order, &self.part)
     }
 
     /// Says where the octets end that the reader took.

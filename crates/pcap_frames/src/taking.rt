@@ -10,16 +10,16 @@ use crate::order::{Order, four_at};
 use crate::stage::Stage;
 
 /// The octets of a file's header.
-const HEADER: usize = 24;
+pub const HEADER: usize = 24;
 
 /// The octets of a record up to the end of its captured length.
 const UP_TO_LENGTH: usize = 12;
 
 /// The octets of a record before its frame.
-const RECORD_HEADER: usize = 16;
+pub const RECORD_HEADER: usize = 16;
 
 /// The most octets of a frame that a record has.
-const MOST_CAPTURED: u32 = 262_144;
+pub const MOST_CAPTURED: u32 = 262_144;
 
 /// The most octets that are held: the longest record.
 pub const MOST_HELD: usize = 262_160;

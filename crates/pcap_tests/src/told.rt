@@ -35,7 +35,7 @@ fn tell_number(word: &[u8], number: u64, out: &mut Vec<u8>) -> Result<(), NoMemo
 }
 
 /// Appends a record's seconds, fraction, original length and captured length, and what is seen in its frame.
-fn tell_record(record: &Record<'_>, out: &mut Vec<u8>) -> Result<(), NoMemory> {
+pub fn tell_record(record: &Record<'_>, out: &mut Vec<u8>) -> Result<(), NoMemory> {
     tell_number(b"", u64::from(record.seconds), out)?;
     tell_number(b" ", u64::from(record.fraction), out)?;
     tell_number(b" ", u64::from(record.original), out)?;

@@ -1,0 +1,4 @@
+pub mod Looks
+pub mod MadeFrames
+pub mod Starting
+pub mod Walking

@@ -1,0 +1,9 @@
+//! A link that plays an Ethernet capture: the OSI PDUs in the frames of a file come through it, one a look.
+#![tactic(auto)]
+
+pub mod laws;
+mod link;
+mod walk;
+
+pub use link::PcapLink;
+pub use link_board;

@@ -1,0 +1,32 @@
+//! Records read where they stand.
+use crate::told::tell_record;
+use pcap_frames::clnp_base::{push, push_unhex};
+use pcap_frames::{HEADER, first_record, judge_header};
+use std::alloc::Global;
+
+/// Whether what a file's header and the record behind it tell is this; it is given in hexadecimal digits.
+fn is_first(alloc: Global, digits: &[u8], want: &[u8]) -> bool {
+    let (mut file, mut out) = (Vec::new(alloc), Vec::new(alloc));
+    if push_unhex(digits, &mut file).is_err() || file.len() < HEADER {
+        return false;
+    }
+    let Ok(order) = judge_header(&file[..HEADER]) else {
+        return false;
+    };
+    let told = match first_record(order, &file[HEADER..]) {
+        Some(record) => tell_record(&record, &mut out),
+        None => push(b"none", &mut out),
+    };
+    told.is_ok() && out.as_slice() == want
+}
+
+#[test]
+fn reads_a_record_where_it_stands(rt: HostRuntime) {
+    let whole = b"4d3cb2a102000400070000000900000003000000010000f0\
+        98badcfeffc99a3b140000003c00000009002b0000050a00000000010004fefe0382000001";
+    let want = b"4275878552 999999999 60 20 09002b000005-0a0000000001-82; ".as_slice();
+    assert!(rt; is_first(rt.alloc(), whole, want));
+    let cut = b"4d3cb2a102000400070000000900000003000000010000f0\
+        98badcfeffc99a3b140000003c00000009002b0000050a00000000010004fefe038200";
+    assert!(rt; is_first(rt.alloc(), cut, b"none"));
+}
