@@ -1,0 +1,38 @@
+//! A text of lines, some of them capture lines.
+ghost use Rattle.std.specs.Prelude.{◌≤◌, length};
+
+use crate::RecordedLink;
+use link_board::Link;
+use link_board::nsap::Target;
+use std::process::Abort;
+
+/// Lines of which the second and the last are capture lines.
+const TEXT: &[u8] = b"# a comment\n8113\r\n\n811\n81 13\nzz\nAbCd01";
+
+/// Whether a look sees a frame of these octets, from the SNPA 00 and through no group.
+fn sees(link: &mut RecordedLink, buf: &mut [u8], octets: &[u8]) -> bool
+    requires { 70000 ≤ length buf.old }
+{
+    match link.poll(buf) {
+        Ok(Some(got)) => {
+            !got.group
+                && got.from.as_bytes() == [0].as_slice()
+                && buf.get(..got.len) == Some(octets)
+        }
+        _ => false,
+    }
+}
+
+#[test]
+fn gives_the_frames_of_capture_lines(rt: HostRuntime) {
+    let mut room = vec![in rt.alloc(); 0u8; 70_000].expect(&rt, "memory");
+    let buf = room.as_mut_slice();
+    assert!(rt; buf.len() >= 70_000);
+    let text = Vec::from_slice(rt.alloc(), TEXT).expect(&rt, "memory");
+    let mut link = RecordedLink::new(text);
+    assert!(rt; sees(&mut link, buf, &[0x81, 0x13]));
+    assert!(rt; link.send(Target::Routers, b"any", b"thing") == Ok(()));
+    assert!(rt; sees(&mut link, buf, &[0xab, 0xcd, 0x01]));
+    assert!(rt; matches!(link.poll(buf), Ok(None)));
+    assert!(rt; matches!(link.poll(buf), Ok(None)));
+}
