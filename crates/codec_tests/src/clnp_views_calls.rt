@@ -30,7 +30,9 @@ fn shows_a_frame_and_its_parts(rt: HostRuntime) {
 #[test]
 fn takes_octets_over(rt: HostRuntime) {
     let mut octets = Vec::new(rt.alloc());
-    octets.extend_from_slice(b"header, data").expect(&rt, "memory");
+    octets
+        .extend_from_slice(b"header, data")
+        .expect(&rt, "memory");
     let frame = Frame::from_vec(octets).expect(&rt, "memory");
     assert!(rt; is_seen(frame.into_view(), b"header, data"));
 }

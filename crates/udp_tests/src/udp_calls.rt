@@ -19,6 +19,11 @@ const UNIT: [u8; 21] = [
     0x00, 0x27, 0x02, 0x68, 0x69,
 ];
 
+/// The system at a port of 127.0.0.1.
+fn system_at(port: u16) -> Target {
+    Target::System(end_at(port).snpa())
+}
+
 #[test]
 fn a_frame_goes_from_end_to_end(rt: HostRuntime) {
     let mut room = vec![in rt.alloc(); 0u8; 70_000].expect(&rt, "memory");
@@ -28,8 +33,7 @@ fn a_frame_goes_from_end_to_end(rt: HostRuntime) {
     let (mut sender, from) = lone_link(machine).expect(&rt, "a free port");
     let machine = rt.clone().expect(&rt, "memory");
     let (mut receiver, to) = lone_link(machine).expect(&rt, "a free port");
-    let to = Target::System(end_at(to).snpa());
-    assert!(rt; sender.send(to, &HEAD, b"hi") == Ok(()));
+    assert!(rt; sender.send(system_at(to), &HEAD, b"hi") == Ok(()));
     assert!(rt; brings(&mut receiver, buf, end_at(from), &UNIT));
 }
 
@@ -57,13 +61,12 @@ fn the_longest_datagram_comes_whole(rt: HostRuntime) {
     let (mut sender, from) = lone_link(machine).expect(&rt, "a free port");
     let machine = rt.clone().expect(&rt, "memory");
     let (mut receiver, to) = lone_link(machine).expect(&rt, "a free port");
-    let to = Target::System(end_at(to).snpa());
     let (head, body) = long.split_at(254);
-    assert!(rt; sender.send(to, head, body) == Ok(()));
+    assert!(rt; sender.send(system_at(to), head, body) == Ok(()));
     assert!(rt; brings(&mut receiver, buf, end_at(from), long.as_slice()));
-    assert!(rt; sender.send(to, long.as_slice(), b"7") == Err(Failed));
-    assert!(rt; sender.send(to, buf, b"7") == Err(Failed));
-    assert!(rt; sender.send(to, b"", b"") == Ok(()));
+    assert!(rt; sender.send(system_at(to), long.as_slice(), b"7") == Err(Failed));
+    assert!(rt; sender.send(system_at(to), buf, b"7") == Err(Failed));
+    assert!(rt; sender.send(system_at(to), b"", b"") == Ok(()));
     assert!(rt; brings(&mut receiver, buf, end_at(from), b""));
 }
 
