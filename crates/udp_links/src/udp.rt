@@ -26,7 +26,7 @@ pub enum LinkFault {
 ///
 /// A frame for one system goes to the end that has its SNPA, a peer or not; there is nobody at an SNPA that is that of no
 /// end. A frame for a group goes to each peer of that role. Whatever comes is from its sender alone, and never through a
-/// group. A look waits at most 10 ms.
+/// group. A look that sees nothing takes seven sleeps of a millisecond.
 #[derive(Drop)]
 pub struct UdpLink<R: Clock + Drop> {
     clock: R,
@@ -50,7 +50,7 @@ impl<R: Net + AllocGlobal + Clock + Drop> UdpLink<R> {
     ///
     /// # Errors
     ///
-    /// `Refused` only where the local end couldn't be bound; else `NoMemory`.
+    /// `Refused` only where the local end couldn't be bound, or waits where it mustn't; else `NoMemory`.
     pub fn open(machine: R, word: &[u8]) -> Result<UdpLink<R>, LinkFault>
         requires { is_link_word word.now ≡ true }
         ensures { IfOk result (λ link. ⟦<UdpLink<R> as Link>⟧.seen link ≡ record { looks = None; sent = None; faults = 0; empties = 0 }) }
