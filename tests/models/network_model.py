@@ -1,4 +1,4 @@
-"""A plain model of the network: what hosts and routers do in a scenario, and the journal of it."""
+"""A plain model of the network: what hosts and routers do in a scenario, and the journal and the trace of it."""
 import collections
 
 from pdu_model import REASON, TYPES, Broken, options_from, read_clnp, read_esis, report_to, sealed
@@ -132,12 +132,19 @@ class Network:
     """The network of a text: it plays the text's events."""
 
     def __init__(self, text):
-        self.text, self.clock, self.copies, self.cursor, self.lines, self.weight = text, 0, [], 0, [], 0
+        self.text, self.clock, self.copies, self.cursor, self.weight = text, 0, [], 0, 0
+        # the lines of the trace, and the places of those that the journal hasn't
+        self.lines, self.only_traced = [], set()
         self.met = collections.Counter()
         self.age, self.hold, self.reuse = text.limits or (256, 60, 320)
 
     def note(self, system, words):
         self.lines.append(f"{self.clock} {system.name.decode()} {words}")
+
+    def traces(self, name, words):
+        """Tells of a copy what the trace alone tells: that it came to a system, or to none."""
+        self.only_traced.add(len(self.lines))
+        self.lines.append(f"{self.clock} {name} {words}")
 
     def puts(self, system, hop, frame, birth, **carried):
         """A frame goes out on a port, to an address there or to a group."""
@@ -166,7 +173,13 @@ class Network:
         port = self.entries(copy, system)[0]
         if self.clock > copy["birth"] + self.age:
             self.note(system, f"late {number_of_copy}")
-        elif "alien" in copy:
+        else:
+            self.traces(system.name.decode(), f"rx {number_of_copy} {port}")
+            self.handles(system, copy, port)
+
+    def handles(self, system, copy, port):
+        """A system does with a copy what its octets ask for."""
+        if "alien" in copy:
             self.note(system, "alien")
         elif "refused" in copy:
             self.note(system, copy["refused"])
@@ -476,11 +489,17 @@ class Network:
             self.note(system, f"void {number_of_copy}")
 
     def pass_on(self, settles):
-        if self.cursor < len(self.copies):
-            self.cursor += 1
-            for system in self.text.systems if settles else []:
-                if self.entries(self.copies[self.cursor - 1], system):
-                    self.give(self.cursor, system)
+        if self.cursor == len(self.copies):
+            return
+        self.cursor += 1
+        copy = self.copies[self.cursor - 1]
+        addressees = [system for system in self.text.systems if self.entries(copy, system)]
+        if not settles:
+            self.traces("-", f"lost {self.cursor}")
+        elif not addressees:
+            self.traces("-", f"nobody {self.cursor}")
+        for system in addressees if settles else []:
+            self.give(self.cursor, system)
 
     def restart(self, system):
         system.starts(self.clock, self.clock + self.reuse)
@@ -514,12 +533,22 @@ class Network:
         asked = self.send if event[0] == "send" else self.echo
         return [lambda: asked(self.text.systems[event[1]], *event[2:])]
 
-    def journal(self):
-        """The journal, and the weight at which the run stops, where it does."""
+    def runs(self):
+        """Plays the events, and tells the weight at which the run stops, where it does."""
         for event in self.text.events:
             for move in self.moves(event):
                 if self.weight >= MOST_WEIGHT:
-                    return "".join(line + "\n" for line in self.lines), self.weight
+                    return self.weight
                 move()
         self.lines.append(f"end {self.clock} {len(self.copies)}")
-        return "".join(line + "\n" for line in self.lines), None
+        return None
+
+    def journal(self):
+        """The journal, and the weight at which the run stops, where it does. A network runs once: for this or for its trace."""
+        full = self.runs()
+        return "".join(line + "\n" for at, line in enumerate(self.lines) if at not in self.only_traced), full
+
+    def trace(self):
+        """The same with the trace, which has all lines of the journal and its own between them."""
+        full = self.runs()
+        return "".join(line + "\n" for line in self.lines), full
