@@ -1,10 +1,10 @@
 #!/usr/bin/env python3
-"""Compares `clnp sim` with plain models of the scenario grammar and of the network, on random texts.
+"""Compares `clnp sim`, or `clnp trace`, with plain models of the scenario grammar and of the network, on random texts.
 
 Half of the texts are scenarios, the others have a few words or lines changed. In a third of them frames come from outside. For
-each one the program must write the models' journal, or refuse the models' line and code.
+each one the program must write the models' journal, or with --trace their trace, or refuse the models' line and code.
 
-usage: tests/by_hand/networks.py [--program PATH | --try] [SEED [TEXTS]]
+usage: tests/by_hand/networks.py [--program PATH | --try] [--trace] [SEED [TEXTS]]
 
 PATH is another program to run than the built one. With --try the program is compiled and run by `rt try`, which takes
 less than a minute and proves nothing.
@@ -355,21 +355,21 @@ def kinds_of(journal):
     return collections.Counter("-".join([line[0]] + [line[at] for at in told.get(line[0], [])]) for line in words)
 
 
-def run_each(program, texts):
+def run_each(program, command, texts):
     """What the program says of each text: its status, its output, and what it writes to standard error."""
     for text in texts:
-        ran = subprocess.run([program, "sim"], input=text, capture_output=True)
+        ran = subprocess.run([program, command], input=text, capture_output=True)
         yield ran.returncode, ran.stdout.decode(), ran.stderr.decode()
 
 
-def try_all(texts):
+def try_all(command, texts):
     """The same, of the program that `rt try` compiles once and runs on each text."""
     with tempfile.TemporaryDirectory() as folder:
         for at, text in enumerate(texts):
             with open(os.path.join(folder, f"{at:06}"), "wb") as case:
                 case.write(text)
         ran = subprocess.run(
-            ["rt", "try", "--seconds", "500", "--cases", folder, "--", "sim"],
+            ["rt", "try", "--seconds", "500", "--cases", folder, "--", command],
             cwd=os.path.join(ROOT, "crates", "clnp_tool"), capture_output=True)
     outputs = re.split(r"^== [0-9]+\n", ran.stdout.decode(), flags=re.MULTILINE)[1:]
     ends = re.findall(r"((?:^clnp: .*\n)*)^case=[0-9]+ run=ended status=([0-9]+)", ran.stderr.decode(), re.MULTILINE)
@@ -388,13 +388,13 @@ def without_advice(status, output, said):
     return status, output, lines[0]
 
 
-def wanted_of(text, kinds):
-    """What the models say of a text, and whether it is a scenario."""
+def wanted_of(text, command, kinds):
+    """What the models say of a text that a command reads, and whether it is a scenario."""
     found = read(text)
     if not isinstance(found, Text):
         return (3, "", f"clnp: bad input at line {found[0]}: {CODE_NAMES[found[1]]}\n"), False
     network = Network(found)
-    journal, full = network.journal()
+    journal, full = network.trace() if command == "trace" else network.journal()
     kinds.update(kinds_of(journal))
     kinds.update(f"({kind})" for kind in network.met.elements())
     return (0, journal, "") if full is None else (4, journal, f"clnp: world full at {full} octets\n"), True
@@ -407,19 +407,20 @@ def random_text():
 
 
 def main():
-    words = argparse.ArgumentParser(description="Compares `clnp sim` with plain models, on random texts.")
+    words = argparse.ArgumentParser(description="Compares `clnp sim` or `clnp trace` with plain models, on random texts.")
     words.add_argument("seed", nargs="?", type=int, default=1)
     words.add_argument("texts", nargs="?", type=int, default=2000)
     words.add_argument("--program", help="another program to run than the built one")
     words.add_argument("--try", dest="tries", action="store_true", help="run what `rt try` compiles")
+    words.add_argument("--trace", dest="command", action="store_const", const="trace", default="sim", help="compare traces")
     asked = words.parse_args()
     random.seed(asked.seed)
     texts = [random_text() for _ in range(asked.texts)]
     if asked.program is None and not asked.tries:
         subprocess.run([os.path.join(ROOT, "clnp"), "--version"], check=True, stdout=subprocess.DEVNULL)
     accepted, kinds = 0, collections.Counter()
-    for text, came in zip(texts, try_all(texts) if asked.tries else run_each(asked.program or PROGRAM, texts)):
-        wanted, is_scenario = wanted_of(text, kinds)
+    for text, came in zip(texts, try_all(asked.command, texts) if asked.tries else run_each(asked.program or PROGRAM, asked.command, texts)):
+        wanted, is_scenario = wanted_of(text, asked.command, kinds)
         accepted += is_scenario
         if without_advice(*came) != wanted:
             sys.stdout.buffer.write(text)

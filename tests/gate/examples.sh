@@ -1,6 +1,7 @@
 #!/usr/bin/env bash
 # Runs each example through the built program and compares what it writes with what stands beside it: the folders of
-# examples/ with a scenario.txt and its journal.txt, the capture, the storms, and the vectors, all of which pass.
+# examples/ with a scenario.txt and its journal.txt, and the trace where there is one, the capture, the storms, and the vectors,
+# all of which pass. Without its own lines a trace is the journal.
 set -u
 cd "$(dirname "$0")/../.." || exit 2
 failed=0
@@ -14,7 +15,15 @@ compare() {
 }
 
 for scenario in examples/*/scenario.txt; do
-    compare "$(dirname "$scenario")/journal.txt" sim "$scenario"
+    folder="$(dirname "$scenario")"
+    compare "$folder/journal.txt" sim "$scenario"
+    if [ -e "$folder/trace.txt" ]; then
+        compare "$folder/trace.txt" trace "$scenario"
+    fi
+    if ! ./clnp trace <"$scenario" | grep -v -E '^[0-9]+ ([a-z0-9]+ rx|- lost|- nobody) ' | cmp - "$folder/journal.txt"; then
+        echo "the trace of $scenario has another journal in it" >&2
+        failed=1
+    fi
 done
 compare examples/captures-shown.txt show examples/captures.txt
 if ! seq 1 20 | xargs -n 1 ./clnp storm | cmp - examples/storms.txt; then

@@ -170,15 +170,15 @@ class Network:
 
     def give(self, number_of_copy, system):
         copy = self.copies[number_of_copy - 1]
-        port = self.entries(copy, system)[0]
         if self.clock > copy["birth"] + self.age:
             self.note(system, f"late {number_of_copy}")
         else:
+            port = self.entries(copy, system)[0]
             self.traces(system.name.decode(), f"rx {number_of_copy} {port}")
-            self.handles(system, copy, port)
+            self.comes(system, port, copy)
 
-    def handles(self, system, copy, port):
-        """A system does with a copy what its octets ask for."""
+    def comes(self, system, port, copy):
+        """A frame comes to a system by a port."""
         if "alien" in copy:
             self.note(system, "alien")
         elif "refused" in copy:
@@ -470,9 +470,12 @@ class Network:
     def tick(self):
         self.clock += 1
         for system in self.text.systems:
-            self.expire(system)
-            self.forgets(system)
-            self.says_hello(system)
+            self.does_what_is_due(system)
+
+    def does_what_is_due(self, system):
+        self.expire(system)
+        self.forgets(system)
+        self.says_hello(system)
 
     def expire(self, system):
         while due := [buffer for buffer in system.buffers if buffer["deadline"] <= self.clock]:
@@ -530,8 +533,12 @@ class Network:
             return [lambda: self.inject(*event[1:])]
         if event[0] == "restart":
             return [lambda: self.restart(self.text.systems[event[1]])]
+        return [lambda: self.asks(event)]
+
+    def asks(self, event):
+        """A system is asked to send data or an echo request."""
         asked = self.send if event[0] == "send" else self.echo
-        return [lambda: asked(self.text.systems[event[1]], *event[2:])]
+        asked(self.text.systems[event[1]], *event[2:])
 
     def runs(self):
         """Plays the events, and tells the weight at which the run stops, where it does."""

@@ -302,13 +302,14 @@ def lines_of(text):
 HEADERS = {b"clnp-sim 1": 1, b"clnp-sim 2": 2}
 
 
-def read(text, newest=2):
-    """The text's declarations and events, or the first bad line with its code. A version later than the newest has no header."""
+def read(text, newest=2, kind=Text):
+    """The text's declarations and events, or the first bad line with its code. A version later than the newest has no header.
+    Texts of another kind have a grammar of their own."""
     lines = lines_of(text)
     left = [(at + 1, line) for at, line in enumerate(lines) if line and not line.startswith(b"#")]
     if not left or HEADERS.get(left[0][1], newest + 1) > newest:
         return (left[0][0] if left else len(lines) + 1, HEADER)
-    read_text, started = Text(HEADERS[left[0][1]]), False
+    read_text, started = kind(HEADERS[left[0][1]]), False
     for at, (number_of_line, line) in enumerate(left[1:], 1):
         words = [word for word in line.split(b" ") if word]
         try:

@@ -1,7 +1,8 @@
 use scenario::clnp_base::lines;
 use scenario::clnp_plan::{Limits, PortConfig, Role, SystemConfig};
 use scenario::{
-    Event, Scenario, ScenarioRefusal, Subnet, from_seed, migrate, read, read_version_1, write,
+    Body, Event, Scenario, ScenarioRefusal, Subnet, from_seed, migrate, read, read_for_run,
+    read_version_1, write,
 };
 use std::alloc::Global;
 use std::process::Abort;
@@ -191,6 +192,144 @@ fn tells_the_version(rt: HostRuntime) {
     let scenario = scenario.migrate();
     assert!(rt; scenario.version() == 2);
     assert!(rt; scenario.limits().skew == 0);
+}
+
+/// What a host on a board of one link declares, up to `events`.
+const HOST_DECLARED: &[u8] = b"clnp-sim 1
+subnet lan 1500
+system a host hello=0
+address a 47002702
+port a 0 lan 01
+events
+";
+
+/// The same with what it is asked.
+const HOST: &[u8] = b"clnp-sim 1
+subnet lan 1500
+system a host hello=0
+address a 47002702
+port a 0 lan 01
+events
+send a 47002702 47002701 hex:6869
+tick 320
+echo a 47002702 47002701 hex:
+end
+";
+
+/// What `write` makes of it.
+const HOST_WRITTEN: &[u8] = b"clnp-sim 1
+limits 256 60 320
+subnet lan 1500
+system a host hello=0 suggest=0 rhold=120 slots=16 segments=1024 budget=262144 neighbours=64 routers=8 redirects=64 life=64 checksum=on
+address a 47002702
+port a 0 lan 01 1
+events
+send a 47002702 47002701 hex:6869 life=64
+tick 320
+echo a 47002702 47002701 hex:
+end
+";
+
+const NO_SYSTEM: &[u8] = b"clnp-sim 1
+subnet lan 1500
+events
+end
+";
+
+/// Neither limits, which version 2 wants, nor a system.
+const NO_LIMITS: &[u8] = b"clnp-sim 2
+events
+end
+";
+
+/// The answer to a text for a live node on a board of so many links. The text is short.
+fn answer_for_run(
+    rt: &impl Abort,
+    alloc: Global,
+    text: &[u8],
+    links: usize,
+) -> Result<Scenario, ScenarioRefusal> {
+    let _lines = lines(text);
+    assert!(rt; text.len() <= 4_000_000);
+    read_for_run(alloc, text, links)
+}
+
+/// What is written of what is read of it.
+fn written_for_run(rt: &impl Abort, alloc: Global, text: &[u8], links: usize) -> Vec<u8> {
+    let scenario = answer_for_run(rt, alloc, text, links).expect(rt, "a scenario for a live node");
+    let mut out = Vec::new(alloc);
+    write(alloc, &scenario, &mut out).expect(rt, "memory");
+    out
+}
+
+#[test]
+fn reads_for_a_live_node(rt: HostRuntime) {
+    for (text, links, wanted) in [(HOST, 1, HOST_WRITTEN), (ROUTER, 2, ROUTER_WRITTEN)] {
+        let found = written_for_run(&rt, rt.alloc(), text, links);
+        assert!(rt; found.as_slice() == wanted);
+    }
+}
+
+/// Texts that don't fit a board of so many links, each with the line at which it is refused, and the code.
+#[test]
+fn refuses_what_fits_no_board(rt: HostRuntime) {
+    for (text, links, line, code) in [
+        (HOST, 0, 6, 10),
+        (HOST, 2, 6, 10),
+        (ROUTER, 1, 8, 10),
+        (ROUTER, 3, 8, 10),
+        (TWO_HOSTS, 1, 10, 10),
+        (TWO_HOSTS, 2, 10, 10),
+        (NO_SYSTEM, 0, 3, 10),
+        (NO_LIMITS, 0, 2, 2),
+    ] {
+        let answer = answer_for_run(&rt, rt.alloc(), text, links);
+        assert!(rt; answer.err() == Some(ScenarioRefusal::BadLine { line, code }));
+    }
+}
+
+/// A text of a host in which a tick passes, and this happens then.
+fn host_with(rt: &impl Abort, alloc: Global, event: &str) -> Vec<u8> {
+    let mut text = Vec::from_slice(alloc, HOST_DECLARED).expect(rt, "memory");
+    text.extend_from_slice(b"tick 1\n").expect(rt, "memory");
+    text.extend_from_slice(event.as_bytes())
+        .expect(rt, "memory");
+    text.extend_from_slice(b"\nend\n").expect(rt, "memory");
+    text
+}
+
+#[test]
+fn refuses_events_of_networks(rt: HostRuntime) {
+    for event in [
+        "deliver 1 a",
+        "settle 1",
+        "lose 1",
+        "restart a",
+        "congest a on",
+        "inject lan 05 is 81",
+    ] {
+        let text = host_with(&rt, rt.alloc(), event);
+        let answer = answer_for_run(&rt, rt.alloc(), &text, 1);
+        let refusal = ScenarioRefusal::BadLine { line: 8, code: 2 };
+        assert!(rt; answer.err() == Some(refusal));
+    }
+}
+
+/// Sees the octets of what is sent.
+fn see_octets(rt: &impl Abort, alloc: Global, body: &Body, octets: &[u8]) {
+    let found = body.octets(alloc).expect(rt, "memory");
+    assert!(rt; found.as_slice() == octets);
+}
+
+#[test]
+fn gives_the_octets_of_bodies(rt: HostRuntime) {
+    let scenario = answer_for_run(&rt, rt.alloc(), HOST, 1).expect(&rt, "a scenario");
+    let [Event::Send { body, .. }, ..] = scenario.events() else {
+        panic!(rt; "no send first");
+    };
+    see_octets(&rt, rt.alloc(), body, b"hi");
+    let pattern = Body::Pattern { len: 3, start: 254 };
+    see_octets(&rt, rt.alloc(), &pattern, &[254, 255, 0]);
 }
 
 const LIMITS: Limits = Limits {

@@ -17,7 +17,7 @@ use Rattle.clnp_machine.specs.System.{SystemState, Input, AsksForEcho, AsksToSen
 use Rattle.clnp_machine.specs.Unit.{DeclaredAt}
 use Rattle.clnp_machine.specs.Content.{Labelled, Esis}
 use Rattle.clnp_machine.specs.Step.{step}
-use Rattle.clnp_world.specs.ClnpNetwork.World.{World, Step, Copy, Numbered, after, first_world, sends_frame, put_all_out, with_effect, takes_effect, comes_to, comes, asks_role, asks_system, frame_to, writes, is_late, give_to, give, give_each, addressees_from, settle_copy, lose_copy, deliver_to, deliver_at, is_addressee, is_void, tick_each, event_happens, injects_on}
+use Rattle.clnp_world.specs.ClnpNetwork.World.{World, Step, Copy, Numbered, after, first_world, sends_frame, put_all_out, with_effect, takes_effect, comes_to, comes, asks_role, asks_system, frame_to, hand_to, writes, is_late, give_to, give, give_each, addressees_from, settle_copy, lose_copy, deliver_to, deliver_at, is_addressee, is_void, tick_each, event_happens, injects_on}
 use Rattle.clnp_world.specs.ClnpNetwork.Run.{moves_of_plan, world_after}
 use Rattle.clnp_world.specs.State.{WorldState}
 use Rattle.clnp_world.specs.Stands.{Stands}
@@ -53,8 +53,8 @@ either first one other now p q = one_of (λ (step : Step). step.world.clock ≡ 
 of_giving : (limits : Limits) (given : Numbered) (w : World) (place : ℕ) (found : Option SystemState) → (give_to limits given w place found).world.clock ≡ w.clock
 of_giving limits given w place None = refl
 of_giving limits given w place (Some system) =
-    either (is_late limits w given.copy) (writes w (Late w.clock system.configuration.name given.number))
-    (takes_effect w place (step system (frame_to system given.copy))) w.clock refl (of_effect w place (step system (frame_to system given.copy)))
+    either (is_late limits w given.copy) (writes w (Late w.clock system.configuration.name given.number)) (hand_to given w place system)
+    w.clock refl (of_effect w place (step system (frame_to system given.copy)))
 
 of_giving_each : (limits : Limits) (given : Numbered) (w : World) (places : List ℕ) → (give_each limits given w places).world.clock ≡ w.clock
 of_giving_each limits given w [] = refl

@@ -17,7 +17,7 @@ use Rattle.clnp_machine.specs.EsisTables.declared.fact.Heard.TheVariants as hear
 use Rattle.clnp_machine.specs.EsisTables.declared.fact.TableKind.{TableKind}
 use Rattle.clnp_machine.specs.EsisTables.declared.fact.TableKind.TheVariants as table
 use Rattle.clnp_machine.specs.ClnpBase.Text.{lines_of, words_of}
-use Rattle.clnp_machine.specs.ClnpPlan.Journal.{Line, Noted, Transmitted, Void, Late, Injected, behind_space, heard_words, identifier_word, ignored_word, kind_word, line_of, line_text, note_words, octet_word, octets_word, on_word, rule_word, table_word, target_word, why_word}
+use Rattle.clnp_machine.specs.ClnpPlan.Journal.{Line, Noted, Transmitted, Void, Late, Injected, Received, Lost, ForNobody, behind_space, heard_words, identifier_word, ignored_word, kind_word, line_of, line_text, note_words, octet_word, octets_word, on_word, rule_word, table_word, target_word, why_word}
 use Rattle.clnp_machine.specs.ClnpPlan.declared.note.Note.{Note}
 use Rattle.clnp_machine.specs.ClnpPlan.declared.note.Note.TheVariants.{Sent, Refused, Got, Report, Echoed, Stray, Discard, Held, Repeat, Crowded, Many, NoSlot, Interference, Expired, NotMine, Alien, BadEsis, Hear, Gone, Ignored, Restart, Congest}
 use Rattle.clnp_machine.specs.ClnpPlan.declared.note.Why.{Why}
@@ -248,6 +248,9 @@ IsNamed (Transmitted now name copy port target frame) = IsWord name
 IsNamed (Void now name copy) = IsWord name
 IsNamed (Late now name copy) = IsWord name
 IsNamed (Injected now copy subnet sender target) = IsInLine subnet
+IsNamed (Received now name copy port) = IsWord name
+IsNamed (Lost now copy) = Unit {0}
+IsNamed (ForNobody now copy) = Unit {0}
 
 -- the line as it is read
 record IsLine (line : Line) : Type 0 where
@@ -264,26 +267,6 @@ is_line line first second kind others text kind_is is_first is_second is_kind in
   third = third_word first second kind others is_first is_second is_kind ∙ sym kind_is;
 }
 
-each_line : (line : Line) → IsNamed line → IsLine line
-each_line (Noted now name note) named =
-    let words = note_is note in
-    is_line (Noted now name note) (decimal now) name (first_of (note_words note)) words.others
-    (ap (λ (ws : List (List ℕ)). line_of (decimal now) (name ∷ ws)) words.split) refl (decimal_is_word now) named words.is_word words.in_line
-each_line (Transmitted now name copy port target frame) named =
-    is_line (Transmitted now name copy port target frame) (decimal now) name (codes "tx")
-    (decimal copy ∷ decimal port ∷ target_word target ∷ octets_word frame ∷ []) refl refl (decimal_is_word now) named (spelled (codes "tx") refl)
-    (decimal_in_line copy, (decimal_in_line port, (target_in_line target, (octets_in_line frame, tt))))
-each_line (Void now name copy) named =
-    is_line (Void now name copy) (decimal now) name (codes "void") (decimal copy ∷ []) refl refl (decimal_is_word now) named (spelled (codes "void") refl)
-    (decimal_in_line copy, tt)
-each_line (Late now name copy) named =
-    is_line (Late now name copy) (decimal now) name (codes "late") (decimal copy ∷ []) refl refl (decimal_is_word now) named (spelled (codes "late") refl)
-    (decimal_in_line copy, tt)
-each_line (Injected now copy subnet sender target) named =
-    is_line (Injected now copy subnet sender target) (decimal now) (codes "-") (codes "inject")
-    (decimal copy ∷ subnet ∷ hex_text sender ∷ target_word target ∷ []) refl refl (decimal_is_word now) (spelled (codes "-") refl) (spelled (codes "inject") refl)
-    (decimal_in_line copy, (named, (hex_in_line sender, (target_in_line target, tt))))
-
 -- two tests that answer the same pass as many
 one_counted : {A B : Type 0} (p : A → Bool) (q : B → Bool) (x : A) (y : B) → p x ≡ q y → length (filter p (x ∷ [])) ≡ length (filter q (y ∷ []))
 one_counted p q x y e = rw e (elim (q y) as (λ b. length (cond b (x ∷ []) []) ≡ length (cond b (y ∷ []) [])) [ true ↦ refl | false ↦ refl ])
@@ -294,9 +277,8 @@ counted_as kind line is =
     ∙ one_counted (is_of_kind kind) (λ (l : Line). bytes_eq (kind_of l) kind) is.front line (ap (λ (word : List ℕ). bytes_eq word kind) is.third)
 
 -- what is counted of a line's text is what is counted of the line
-pub line_counts : (line : Line) → IsNamed line → counts_of (line_text line) ≡ tally (line ∷ [])
-line_counts line named =
-    let is = each_line line named in
+counts_of_line : (line : Line) → IsLine line → counts_of (line_text line) ≡ tally (line ∷ [])
+counts_of_line line is =
     rw (
       counted_as (codes "got") line is,
       counted_as (codes "report") line is,
@@ -304,6 +286,35 @@ line_counts line named =
       counted_as (codes "drop") line is,
       counted_as (codes "expired") line is,
     ) refl
+
+-- so it is of each line; what a journal doesn't tell isn't counted
+pub line_counts : (line : Line) → IsNamed line → counts_of (line_text line) ≡ tally (line ∷ [])
+line_counts (Noted now name note) named =
+    let words = note_is note in
+    counts_of_line (Noted now name note)
+    (is_line (Noted now name note) (decimal now) name (first_of (note_words note)) words.others
+    (ap (λ (ws : List (List ℕ)). line_of (decimal now) (name ∷ ws)) words.split) refl (decimal_is_word now) named words.is_word words.in_line)
+line_counts (Transmitted now name copy port target frame) named =
+    counts_of_line (Transmitted now name copy port target frame)
+    (is_line (Transmitted now name copy port target frame) (decimal now) name (codes "tx")
+    (decimal copy ∷ decimal port ∷ target_word target ∷ octets_word frame ∷ []) refl refl (decimal_is_word now) named (spelled (codes "tx") refl)
+    (decimal_in_line copy, (decimal_in_line port, (target_in_line target, (octets_in_line frame, tt)))))
+line_counts (Void now name copy) named =
+    counts_of_line (Void now name copy)
+    (is_line (Void now name copy) (decimal now) name (codes "void") (decimal copy ∷ []) refl refl (decimal_is_word now) named (spelled (codes "void") refl)
+    (decimal_in_line copy, tt))
+line_counts (Late now name copy) named =
+    counts_of_line (Late now name copy)
+    (is_line (Late now name copy) (decimal now) name (codes "late") (decimal copy ∷ []) refl refl (decimal_is_word now) named (spelled (codes "late") refl)
+    (decimal_in_line copy, tt))
+line_counts (Injected now copy subnet sender target) named =
+    counts_of_line (Injected now copy subnet sender target)
+    (is_line (Injected now copy subnet sender target) (decimal now) (codes "-") (codes "inject")
+    (decimal copy ∷ subnet ∷ hex_text sender ∷ target_word target ∷ []) refl refl (decimal_is_word now) (spelled (codes "-") refl) (spelled (codes "inject") refl)
+    (decimal_in_line copy, (named, (hex_in_line sender, (target_in_line target, tt)))))
+line_counts (Received now name copy port) named = refl
+line_counts (Lost now copy) named = refl
+line_counts (ForNobody now copy) named = refl
 
 -- the last line of a journal is of none of the kinds, since its third word is a number
 

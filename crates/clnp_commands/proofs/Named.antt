@@ -81,9 +81,11 @@ names_comes w place input h = names_comes_to w place input (slice_get w.systems 
 -- ---- a copy is given
 
 names_given : (limits : Limits) (given : network.Numbered) (w : World) (place : ℕ) (s : SystemState) (late : Bool) → IsNamedSystem s → AreNamed w
-    → Names (cond late (network.writes w (Late w.clock s.configuration.name given.number)) (network.takes_effect w place (step s (network.frame_to s given.copy))))
+    → Names (cond late (network.writes w (Late w.clock s.configuration.name given.number)) (network.hand_to given w place s))
 names_given limits given w place s true is h = record { world = h; lines = (is, tt) }
-names_given limits given w place s false is h = names_step w place s (network.frame_to s given.copy) is h
+names_given limits given w place s false is h =
+    let taken = names_step w place s (network.frame_to s given.copy) is h in
+    record { world = taken.world; lines = (is, taken.lines) }
 
 names_give_to : (limits : Limits) (given : network.Numbered) (w : World) (place : ℕ) (s : Option SystemState) → slice_get w.systems place ≡ s → AreNamed w
     → Names (network.give_to limits given w place s)
@@ -101,14 +103,23 @@ names_give_each limits given w (place ∷ places) h =
     names_then (network.give limits given w place) (λ v. network.give_each limits given v places) first
     (names_give_each limits given (network.give limits given w place).world places first.world)
 
+names_for_nobody : (now number : ℕ) (places : List ℕ) → AllByRecursion IsNamed (network.for_nobody now number places)
+names_for_nobody now number [] = (tt, tt)
+names_for_nobody now number (place ∷ places) = tt
+
 names_settle : (limits : Limits) (w : World) (copy : Option network.Copy) → AreNamed w → Names (network.settle_copy limits w copy)
 names_settle limits w None h = names_nothing w h
 names_settle limits w (Some copy) h =
-    names_give_each limits (record { number = w.cursor + 1; copy = copy }) (record w { cursor = w.cursor + 1 }) (network.addressees_from 0 copy w.systems) h
+    let given : network.Numbered = record { number = w.cursor + 1; copy = copy } in
+    let next : World = record w { cursor = w.cursor + 1 } in
+    let places = network.addressees_from 0 copy w.systems in
+    let first : Step = record { world = next; lines = network.for_nobody w.clock given.number places } in
+    names_then first (λ v. network.give_each limits given v places) (record { world = h; lines = names_for_nobody w.clock given.number places })
+    (names_give_each limits given next places h)
 
 names_lose : (w : World) (copy : Option network.Copy) → AreNamed w → Names (network.lose_copy w copy)
 names_lose w None h = names_nothing w h
-names_lose w (Some copy) h = record { world = h; lines = tt }
+names_lose w (Some copy) h = record { world = h; lines = (tt, tt) }
 
 names_addressed : (limits : Limits) (w : World) (number place : ℕ) (copy : network.Copy) (s : SystemState) (is_for : Bool) → IsNamedSystem s → AreNamed w
     → Names (cond is_for (network.give limits (record { number = number; copy = copy }) w place) (network.is_void w s number))

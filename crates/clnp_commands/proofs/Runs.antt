@@ -8,7 +8,7 @@ use Rattle.clnp_world.specs.Scenario.declared.event.Event.{Event}
 use Rattle.clnp_world.specs.Scenario.declared.event.Move.{Move}
 use Rattle.clnp_world.specs.ClnpNetwork.World.{World, after, is_full, weight}
 use Rattle.clnp_world.specs.ClnpNetwork.Run.{full_weight, until_full, world_after}
-pub use Rattle.clnp_safety.proofs.Stops.{all_are_made, text_of_more}
+pub use Rattle.clnp_safety.proofs.Stops.{all_are_made, told_of_more}
 use Rattle.clnp_machine.proofs.ClnpBase.Choices.{if_none}
 
 pub world_after-append : (plan : Plan) (w : World) (made more : List Move) → world_after plan w (made ++ more) ≡ world_after plan (world_after plan w made) more

@@ -3,18 +3,19 @@ use Rattle.std.proofs.Common.{◌≡◌, ℕ, zero, suc, ◌+◌, ◌-◌, ◌<�
 use Rattle.std.specs.Prelude.{replicate}
 use Rattle.std.proofs.lemmas.Bool.{leb-true}
 use Rattle.std.proofs.lemmas.Option.{slice_get_past}
+use Rattle.clnp_machine.specs.ClnpPlan.declared.journal.Telling.{Telling}
 use Rattle.clnp_world.specs.Scenario.Scenario.{Plan}
 use Rattle.clnp_world.specs.Scenario.declared.event.Move.{Move}
 use Rattle.clnp_world.specs.Scenario.declared.event.Move.TheVariants.{SettleOne}
 use Rattle.clnp_world.specs.ClnpNetwork.World.{Copy, Step, World, after, is_full, nothing, settle_copy, weight}
-use Rattle.clnp_world.specs.ClnpNetwork.Run.{full_weight, lines_text, text_of, world_after}
+use Rattle.clnp_world.specs.ClnpNetwork.Run.{full_weight, told_lines, told_of, world_after}
 use Rattle.clnp_world.specs.Lines.{both, no_lines, tally}
 use Rattle.clnp_world.specs.State.{WorldState}
 use Rattle.clnp_world.specs.Stands.{Stands}
 use Rattle.clnp_world.specs.declared.lines.Counts.{Counts}
 use Rattle.clnp_commands.specs.Counting.{tally_of}
 use Rattle.clnp_commands.specs.Play.{UnderWay}
-use Rattle.clnp_commands.proofs.Runs.{full_weight-behind, replicate_next, text_of_more, world_after-append}
+use Rattle.clnp_commands.proofs.Runs.{full_weight-behind, replicate_next, told_of_more, world_after-append}
 use Rattle.clnp_commands.proofs.Counting.{none-both}
 use Rattle.clnp_machine.proofs.ClnpBase.Choices.{if_none}
 
@@ -25,19 +26,19 @@ settled_after plan w past = ap (λ (copy : Option Copy). settle_copy plan.limits
 -- however often
 pub record IsStill (plan : Plan) (w : World) (moves : List Move) : Type 0 where
   pub world : world_after plan w moves ≡ w
-  pub text : text_of plan w moves ≡ []
+  pub text : (form : Telling) → told_of form plan w moves ≡ []
   pub counted : tally_of plan w moves ≡ no_lines
   -- nor does the network get full
   pub room : is_full w ≡ false → full_weight plan w moves ≡ None
 
 still_settled : (plan : Plan) (w : World) (times : ℕ) → length w.copies ≤ w.cursor → IsStill plan w (replicate times SettleOne)
-still_settled plan w zero past = record { world = refl; text = refl; counted = refl; room = λ _. refl }
+still_settled plan w zero past = record { world = refl; text = λ form. refl; counted = refl; room = λ _. refl }
 still_settled plan w (suc times) past =
     let h = still_settled plan w times past in
     let same = settled_after plan w past in
     record {
       world = ap (λ (s : Step). world_after plan s.world (replicate times SettleOne)) same ∙ h.world;
-      text = ap (λ (s : Step). lines_text s.lines ++ text_of plan s.world (replicate times SettleOne)) same ∙ h.text;
+      text = λ form. ap (λ (s : Step). told_lines form s.lines ++ told_of form plan s.world (replicate times SettleOne)) same ∙ h.text form;
       counted = ap (λ (s : Step). both (tally s.lines) (tally_of plan s.world (replicate times SettleOne))) same
           ∙ (ap (λ (c : Counts). both no_lines c) h.counted ∙ none-both no_lines);
       room = λ not_full.
@@ -90,13 +91,13 @@ stands_rest plan model move made times code within is settled stands =
     ∙ (r.still.world ∙ world_after-append plan model front (move ∷ [])))))
     stands
 
-pub plays_rest : (plan : Plan) (model : World) (past : List Move) (move : Move) (made times : ℕ) (between code : WorldState) (a b c : Option (List ℕ)) (block new : List ℕ)
+pub plays_rest : (form : Telling) (plan : Plan) (model : World) (past : List Move) (move : Move) (made times : ℕ) (between code : WorldState) (a b c : Option (List ℕ)) (block new : List ℕ)
     → made < times → move ≡ SettleOne
     → nat_le (length (world_after plan model (past ++ replicate made move)).copies) (world_after plan model (past ++ replicate made move)).cursor ≡ true
-    → UnderWay plan model (past ++ replicate made move) between a b block
-    → UnderWay plan model ((past ++ replicate made move) ++ move ∷ []) code a c new
-    → UnderWay plan model (past ++ replicate times move) code a c new
-plays_rest plan model past move made times between code a b c block new within is settled before u =
+    → UnderWay form plan model (past ++ replicate made move) between a b block
+    → UnderWay form plan model ((past ++ replicate made move) ++ move ∷ []) code a c new
+    → UnderWay form plan model (past ++ replicate times move) code a c new
+plays_rest form plan model past move made times between code a b c block new within is settled before u =
     let front : List Move = past ++ replicate made move in
     let so_far : List Move = front ++ move ∷ [] in
     let rest : List Move = replicate (times - (made + 1)) move in
@@ -107,9 +108,9 @@ plays_rest plan model past move made times between code a b c block new within i
     ∙ ap (λ (t : List Move). past ++ t) (sym (replicate_next made times move within))) in
     let here : world_after plan (world_after plan model u.made) u.waiting ≡ world_after plan model so_far
     = sym (ap (world_after plan model) u.split ∙ world_after-append plan model u.made u.waiting) in
-    let none : text_of plan (world_after plan (world_after plan model u.made) u.waiting) rest ≡ []
-    = ap (λ (w : World). text_of plan w rest) here ∙ r.still.text in
-    subst (λ (moves : List Move). UnderWay plan model moves code a c new) all
+    let none : told_of form plan (world_after plan (world_after plan model u.made) u.waiting) rest ≡ []
+    = ap (λ (w : World). told_of form plan w rest) here ∙ r.still.text form in
+    subst (λ (moves : List Move). UnderWay form plan model moves code a c new) all
     record {
       made = u.made;
       waiting = u.waiting ++ rest;
@@ -118,7 +119,7 @@ plays_rest plan model past move made times between code a b c block new within i
       stands = subst (λ (w : World). Stands code w) (sym (world_after-append plan model so_far rest ∙ r.still.world)) u.stands;
       appended = u.appended;
       waits = u.waits
-          ∙ sym (text_of_more plan (world_after plan model u.made) u.waiting rest
-          ∙ (ap (λ (t : List ℕ). text_of plan (world_after plan model u.made) u.waiting ++ t) none
-          ∙ append-nil (text_of plan (world_after plan model u.made) u.waiting)));
+          ∙ sym (told_of_more form plan (world_after plan model u.made) u.waiting rest
+          ∙ (ap (λ (t : List ℕ). told_of form plan (world_after plan model u.made) u.waiting ++ t) none
+          ∙ append-nil (told_of form plan (world_after plan model u.made) u.waiting)));
     }

@@ -4,6 +4,7 @@ use Rattle.std.specs.Prelude.{length, replicate}
 use Rattle.std.specs.Io.KnownBytes.{Appends, Keeps}
 use Rattle.std.proofs.KnownBytes.{Appends-nil}
 use Rattle.clnp_machine.specs.ClnpBase.Streams.{AppendsFront}
+use Rattle.clnp_machine.specs.ClnpPlan.declared.journal.Telling.TheVariants as telling
 use Rattle.clnp_world.specs.Scenario.Scenario.{IsFit, Plan}
 use Rattle.clnp_world.specs.Scenario.Seeds.{storm}
 use Rattle.clnp_world.specs.Scenario.declared.event.Move.{Move}
@@ -28,7 +29,7 @@ use Rattle.clnp_commands.specs.Counting.{Counted, StopsAt, SumOf, tally_of}
 use Rattle.clnp_commands.proofs.Counting.{counts_of-append, moves_counts, tally_of-append, text_of-ends, both-assoc, both-none, none-both}
 use Rattle.clnp_commands.proofs.KindWords.{end_counts}
 use Rattle.clnp_commands.proofs.Named.{names_first, names_subnets}
-use Rattle.clnp_commands.proofs.Playing.{journal_whole}
+use Rattle.clnp_commands.proofs.Playing.{told_whole}
 use Rattle.clnp_commands.proofs.Still.{rests, rests_room}
 use Rattle.clnp_commands.proofs.Runs.{world_after-append, full_weight-behind, full_stays, replicate_next, all_are_made}
 
@@ -102,7 +103,7 @@ summary_is seed events copies clock plan code counts fit c events_are copies_are
     let of_moves : counts ≡ counts_of (text_of plan first moves) =
     c.counted ∙ (none-both (tally_of plan first moves) ∙ sym (moves_counts plan first moves (names_subnets plan fit) (names_first plan fit))) in
     let of_all : counts_of (journal plan) ≡ counts_of (text_of plan first moves) =
-    ap counts_of (journal_whole plan c.room)
+    ap counts_of (told_whole telling.Journal plan c.room)
     ∙ (counts_of-append (text_of plan first moves) (world_end last) (text_of-ends plan first moves)
     ∙ (ap (λ (t : Counts). both (counts_of (text_of plan first moves)) t) (end_counts last.clock (length last.copies))
     ∙ both-none (counts_of (text_of plan first moves)))) in (
@@ -141,6 +142,7 @@ storm_ended seed plan summary a b status.TooLong is sum p = absurd p
 storm_ended seed plan summary a b (status.BadInput line code) is sum p = absurd p
 storm_ended seed plan summary a b (status.WorldFull octets) is sum p = absurd p
 storm_ended seed plan summary a b status.ReadFault is sum p = absurd p
+storm_ended seed plan summary a b (status.LinksGone links) is sum p = absurd p
 
 -- the run of a storm was stopped
 pub storm_full : (seed : ℕ) (plan : Plan) (octets : ℕ) (a : Option (List ℕ)) → plan ≡ storm seed → stopped_at plan ≡ Some octets

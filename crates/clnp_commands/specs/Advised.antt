@@ -4,9 +4,9 @@ use Rattle.scenario_advice.specs.Said.{IsTold}
 use Rattle.capture_commands.specs.CommandBase.declared.status.Status.{Status}
 use Rattle.capture_commands.specs.CommandBase.declared.status.Status.TheVariants.{BadInput}
 use Rattle.clnp_commands.specs.declared.command.Command.{Command}
-use Rattle.clnp_commands.specs.declared.command.Command.TheVariants.{Whole, Streamed}
+use Rattle.clnp_commands.specs.declared.command.Command.TheVariants.{Whole, Streamed, Run}
 use Rattle.clnp_commands.specs.declared.command.WholeCommand.{WholeCommand}
-use Rattle.clnp_commands.specs.declared.command.WholeCommand.TheVariants.{Sim, Show, Check, Migrate}
+use Rattle.clnp_commands.specs.declared.command.WholeCommand.TheVariants.{Sim, Trace, Show, Check, Migrate}
 
 -- whether an answer is that the input is bad
 abbrev pub is_bad_input : Status → Bool
@@ -17,6 +17,7 @@ is_bad_input _ = false
 -- and vectors
 abbrev pub advises : WholeCommand → Bool
 advises Sim = true
+advises Trace = true
 advises Migrate = true
 advises Show = true
 advises Check = true
@@ -25,6 +26,7 @@ advises _ = false
 abbrev pub is_of_advising : Result Command ℕ → Bool
 is_of_advising (Ok (Whole command)) = advises command
 is_of_advising (Ok (Streamed command)) = false
+is_of_advising (Ok (Run turns)) = false
 is_of_advising (Err at) = false
 
 -- whether more is told beside the answer to words

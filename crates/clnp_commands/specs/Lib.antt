@@ -1,5 +1,6 @@
 pub use Rattle.clnp_machine.specs.ClnpBase
 pub use Rattle.capture_commands.specs.CommandBase
+pub use Rattle.live_commands.specs.LinkBoard
 pub mod Sim
 pub mod Time
 pub mod Play
@@ -8,5 +9,6 @@ pub mod Counting
 pub mod Words
 pub mod Tasks
 pub mod Serves
+pub mod Live
 pub mod Advised
 pub mod Agree

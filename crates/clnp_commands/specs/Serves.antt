@@ -1,28 +1,21 @@
 -- What a call makes of its words, a source and a sink.
 use Rattle.std.specs.Prelude.{◌≡◌, ◌≢◌, ℕ, ◌+◌, ◌≤◌, ◌⊎◌, List, [], length, Option, Result, Ok, Err, IfSome}
-use Rattle.std.specs.Io.KnownBytes.{Consumes, Keeps}
+use Rattle.std.specs.Io.KnownBytes.{Keeps}
 use Rattle.capture_commands.specs.CommandBase.declared.status.Status.{Status}
-use Rattle.capture_commands.specs.CommandBase.declared.status.Status.TheVariants.{Done, BadWords, TooLong, BadInput, WorldFull, ReadFault, WriteFault, NoMemory}
-use Rattle.capture_commands.specs.CommandBase.ComesAs.{Task, most_input}
+use Rattle.capture_commands.specs.CommandBase.declared.status.Status.TheVariants.{Done, BadWords, TooLong, BadInput, WorldFull, ReadFault, WriteFault, LinksGone, NoMemory}
+use Rattle.capture_commands.specs.CommandBase.ComesAs.{Task}
+use Rattle.capture_commands.specs.CommandBase.Reading.{Excuses, TakesTooMany, TakesWithin}
 use Rattle.pcap_commands.specs.declared.form.Form.{Form}
 use Rattle.pcap_commands.specs.declared.form.Form.TheVariants.{Shown, Remade}
 use Rattle.pcap_commands.specs.Serves.{ServesFile}
 use Rattle.clnp_commands.specs.declared.command.Command.{Command}
-use Rattle.clnp_commands.specs.declared.command.Command.TheVariants.{Whole, Streamed}
+use Rattle.clnp_commands.specs.declared.command.Command.TheVariants.{Whole, Streamed, Run}
 use Rattle.clnp_commands.specs.declared.command.WholeCommand.{WholeCommand}
 use Rattle.clnp_commands.specs.declared.command.WholeCommand.TheVariants.{Storm}
 use Rattle.clnp_commands.specs.declared.command.StreamedCommand.{StreamedCommand}
 use Rattle.clnp_commands.specs.declared.command.StreamedCommand.TheVariants.{PcapShow, PcapLines}
 use Rattle.clnp_commands.specs.Tasks.{CalledBy, task}
 use Rattle.clnp_commands.specs.Words.{command_of, Reads}
-
--- The excuses for an answer that the words and the input don't call for: want of memory, which is
--- free, and a fault of the source or of the sink, which must have come in this call.
-abbrev pub Excuses : Type 0 → Type 0 → Status → Type 0
-Excuses read_rose write_rose NoMemory = Unit {0}
-Excuses read_rose write_rose ReadFault = read_rose
-Excuses read_rose write_rose WriteFault = write_rose
-Excuses read_rose write_rose _ = ⊥
 
 -- All of a command's input was read: this is the status that both call for, and the output that they call for was written.
 pub record Outputs (command : WholeCommand) (left_before left_after before after : Option (List ℕ)) (status : Status) : Type 0 where
@@ -43,18 +36,6 @@ pub record OutputsParts (command : WholeCommand) (left_before left_after before 
   pub reads : Reads command left_before left_after text
   pub appends : (task command text).parts before after
 
--- One octet more was taken from the source than an input may have.
-pub record TakesTooMany (left_before left_after : Option (List ℕ)) : Type 0 where
-  pub came : List ℕ
-  pub consumed : Consumes left_before left_after came
-  pub beyond : length came ≡ most_input + 1
-
--- At most as many octets were taken from the source as an input may have.
-pub record TakesWithin (left_before left_after : Option (List ℕ)) : Type 0 where
-  pub came : List ℕ
-  pub consumed : Consumes left_before left_after came
-  pub within : length came ≤ most_input
-
 -- What a call comes to whose words are this command, which reads its whole input first, and that answers this status: `left` is what the source has left,
 -- `before` and `after` what stands in the sink, where they tell it; `same_source` and `same_sink` say that they are as they
 -- were, `read_rose` and `write_rose` that they failed in this call.
@@ -68,6 +49,8 @@ pub record ServesCommand (command : WholeCommand) (left_before left_after before
   -- calls for, but for want of memory and for faults of the sink that came in this call.
   pub storm : (seed : ℕ) → command ≡ Storm seed
       → same_source × (CalledBy (Storm seed) [] status ⊎ Excuses ⊥ write_rose status)
+  -- No node is run.
+  pub no_links : (links : ℕ) → status ≢ LinksGone links
   -- Done: all was read, but by a storm nothing, and the output that the command and the text call for was written.
   pub done : status ≡ Done → Outputs command left_before left_after before after Done
   -- Too long: more octets came than an input may have, no further one was taken, and the sink is as it was.
@@ -76,7 +59,7 @@ pub record ServesCommand (command : WholeCommand) (left_before left_after before
   -- text that is no scenario.
   pub bad_input : (line code : ℕ) → status ≡ BadInput line code
       → Outputs command left_before left_after before after (BadInput line code)
-  -- World full: all was read, and the journal of the scenario that the text is was written, up to the move before which the
+  -- World full: all was read, and the journal or the trace of the scenario that the text is was written, up to the move before which the
   -- copies weighed so much; but by a storm nothing was read or written.
   pub world_full : (octets : ℕ) → status ≡ WorldFull octets
       → Outputs command left_before left_after before after (WorldFull octets)
@@ -84,7 +67,7 @@ pub record ServesCommand (command : WholeCommand) (left_before left_after before
   pub read_fault : status ≡ ReadFault → read_rose × (TakesWithin left_before left_after × same_sink)
   -- Write fault: the sink failed in this call, and has a front of what would have been written.
   pub write_fault : status ≡ WriteFault → write_rose × OutputsFront command left_before left_after before after
-  -- No memory: no more was taken than an input may have, and nothing was written, or whole parts of the output: the journal of
+  -- No memory: no more was taken than an input may have, and nothing was written, or whole parts of the output: the journal or the trace of
   -- some of the moves, or what some of the lines of an input call for.
   pub no_memory : status ≡ NoMemory → TakesWithin left_before left_after
       × (Keeps before after ⊎ OutputsParts command left_before left_after before after)
@@ -99,7 +82,7 @@ abbrev pub form_of : StreamedCommand → Form
 form_of PcapShow = Shown
 form_of PcapLines = Remade
 
--- what a call comes to whose words are a command, or are none
+-- What a call comes to whose words are a command, or are none; what one comes to that runs a node is said by itself.
 abbrev pub ServesAs : Result Command ℕ → (left_before left_after before after : Option (List ℕ)) → (same_source same_sink read_rose write_rose : Type 0) → Status → Type 0
 ServesAs (Err at) left_before left_after before after same_source same_sink read_rose write_rose status =
     Refuses at same_source same_sink status
@@ -107,6 +90,7 @@ ServesAs (Ok (Whole command)) left_before left_after before after same_source sa
     ServesCommand command left_before left_after before after same_source same_sink read_rose write_rose status
 ServesAs (Ok (Streamed command)) left_before left_after before after same_source same_sink read_rose write_rose status =
     ServesFile (form_of command) left_before left_after before after read_rose write_rose status
+ServesAs (Ok (Run turns)) left_before left_after before after same_source same_sink read_rose write_rose status = Unit {0}
 
 -- what a call comes to that answers the words with this status
 abbrev pub Serves : (words : List (List ℕ)) → (left_before left_after before after : Option (List ℕ)) → (same_source same_sink read_rose write_rose : Type 0) → Status → Type 0

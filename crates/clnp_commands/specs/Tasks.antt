@@ -3,10 +3,12 @@ use Rattle.std.specs.Prelude.{◌≡◌, ℕ, ◌&&◌, nat_lt, Bool, true, fals
 use Rattle.std.specs.Io.KnownBytes.{Appends}
 use Rattle.clnp_machine.specs.ClnpBase.Streams.{AppendsFront}
 use Rattle.clnp_machine.specs.ClnpBase.Text.{lines_of}
+use Rattle.clnp_machine.specs.ClnpPlan.declared.journal.Telling.{Telling}
+use Rattle.clnp_machine.specs.ClnpPlan.declared.journal.Telling.TheVariants as telling
 use Rattle.clnp_world.specs.Scenario.Scenario.{Plan}
 use Rattle.clnp_world.specs.Scenario.Grammar.{BadLine, plan_of}
 use Rattle.clnp_world.specs.Scenario.Migration.{migration_of}
-use Rattle.clnp_world.specs.ClnpNetwork.Run.{journal, stopped_at}
+use Rattle.clnp_world.specs.ClnpNetwork.Run.{told, stopped_at}
 use Rattle.capture_commands.specs.CommandBase.declared.status.Status.{Status}
 use Rattle.capture_commands.specs.CommandBase.declared.status.Status.TheVariants.{Done, TooLong, BadInput, WorldFull}
 use Rattle.capture_commands.specs.CommandBase.ByLine.{task_of}
@@ -17,7 +19,7 @@ use Rattle.capture_commands.specs.Pack.{packing}
 use Rattle.pcap_commands.specs.Make.{make_task}
 use Rattle.fair_commands.specs.Reassemble.{reassemble_task}
 use Rattle.clnp_commands.specs.declared.command.WholeCommand.{WholeCommand}
-use Rattle.clnp_commands.specs.declared.command.WholeCommand.TheVariants.{Sim, Show, Check, Pack, PcapMake, Reassemble, Migrate, Storm}
+use Rattle.clnp_commands.specs.declared.command.WholeCommand.TheVariants.{Sim, Trace, Show, Check, Pack, PcapMake, Reassemble, Migrate, Storm}
 use Rattle.clnp_commands.specs.Sim.{AppendsWholeMoves}
 use Rattle.clnp_commands.specs.Storm.{storm_line, storm_output, storm_stopped_at}
 use Rattle.clnp_commands.specs.Words.{reads}
@@ -31,21 +33,22 @@ abbrev pub scenario_status : Result Plan BadLine → Status
 scenario_status (Ok plan) = run_status (stopped_at plan)
 scenario_status (Err bad) = BadInput bad.line bad.code
 
-abbrev pub journal_of : Result Plan BadLine → List ℕ
-journal_of (Ok plan) = journal plan
-journal_of (Err bad) = []
+abbrev pub told_by : Telling → Result Plan BadLine → List ℕ
+told_by form (Ok plan) = told form plan
+told_by form (Err bad) = []
 
--- the output that a scenario text calls for: its journal, which ends where the network is full; nothing where it isn't one
-abbrev pub output_of : List ℕ → List ℕ
-output_of text = journal_of (plan_of text)
+-- the output that a scenario text calls for: its journal or its trace, which ends where the network is full; nothing where it
+-- isn't one
+abbrev pub output_of : Telling → List ℕ → List ℕ
+output_of form text = told_by form (plan_of text)
 
--- `sim`: the journal of a scenario, of which whole moves are the parts
-abbrev pub sim_task : List ℕ → Task
-sim_task text = record {
+-- `sim` and `trace`: the journal of a scenario, or its trace, of which whole moves are the parts
+abbrev pub run_task : Telling → List ℕ → Task
+run_task form text = record {
   calls = λ answered. scenario_status (plan_of text) ≡ answered;
-  whole = λ before after. Appends before after (output_of text);
-  front = λ before after. IsOk (plan_of text) × AppendsFront before after (output_of text);
-  parts = λ before after. IsOk (plan_of text) × IfOk (plan_of text) (λ plan. AppendsWholeMoves plan before after);
+  whole = λ before after. Appends before after (output_of form text);
+  front = λ before after. IsOk (plan_of text) × AppendsFront before after (output_of form text);
+  parts = λ before after. IsOk (plan_of text) × IfOk (plan_of text) (λ plan. AppendsWholeMoves form plan before after);
 }
 
 abbrev pub migration_status : Result (List ℕ) BadLine → Status
@@ -74,11 +77,12 @@ storm_task seed = record {
   parts = λ before after. ⊥;
 }
 
--- What a command and an input that isn't too long call for: the journal of a scenario; the lines that show the frames of a
+-- What a command and an input that isn't too long call for: the journal of a scenario, or its trace; the lines that show the frames of a
 -- capture, the verdicts on vectors and their counts, the frames that shown lines pack to, or the Ethernet capture that is made
 -- of the lines of frames, each up to the first bad line; what comes of captured frames; or the line of a storm.
 abbrev pub task : WholeCommand → List ℕ → Task
-task Sim text = sim_task text
+task Sim text = run_task telling.Journal text
+task Trace text = run_task telling.Trace text
 task Show text = task_of showing 1 (lines_of text)
 task Check text = task_of checking first_checked (lines_of text)
 task Pack text = task_of packing 1 (lines_of text)

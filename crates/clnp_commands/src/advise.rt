@@ -16,7 +16,7 @@ pub fn advice_on(command: WholeCommand, text: &[u8], status: Status) -> Advice
         return Advice::new();
     };
     match command {
-        WholeCommand::Sim => of_scenario(text, line, code),
+        WholeCommand::Sim | WholeCommand::Trace => of_scenario(text, line, code),
         WholeCommand::Migrate => of_scenario_of_version_1(text, line, code),
         WholeCommand::Show => of_capture(text, line, code),
         WholeCommand::Check => of_vectors(text, line, code),

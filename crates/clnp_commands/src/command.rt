@@ -1,8 +1,16 @@
 //! The commands of the program.
-ghost use Rattle.std.specs.Prelude.{◌≡◌, map, string_bytes};
-ghost use Rattle.clnp_commands.specs.Words.{command_named, command_of, reads, storm_of};
+ghost use Rattle.std.specs.Prelude.{◌≡◌, ◌≤◌, IfSome, length, map, string_bytes};
+ghost use Rattle.clnp_commands.specs.Words.{ArePlaces, alone, command_named, command_of, no_link_from, reads, run_of, run_over, storm_of, turns_of};
 
 use clnp_machine::clnp_base::decimal;
+use link_words::is_link_word;
+use std::ops::Range;
+
+/// The most turns of a run.
+const MOST_TURNS: u64 = 1_000_000_000;
+
+/// The most links of a run.
+const MOST_LINKS: usize = 8;
 
 /// A command of the program. The name of one that reads an input stands alone on the command line.
 #[derive(Clone, Copy, PartialEq, Eq)]
@@ -11,6 +19,8 @@ pub enum Command {
     Whole(WholeCommand),
     /// One that works while it reads.
     Streamed(StreamedCommand),
+    /// Runs the system of a scenario over links, for so many turns.
+    Run { turns: u32 },
 }
 
 /// A command that writes nothing before it has read its whole input, if it reads one.
@@ -18,6 +28,8 @@ pub enum Command {
 pub enum WholeCommand {
     /// Writes the journal of a scenario.
     Sim,
+    /// Writes the trace of a scenario: its journal, and what becomes of each copy.
+    Trace,
     /// Shows the frames of a capture.
     Show,
     /// Judges vectors.
@@ -51,9 +63,19 @@ impl Command {
         match words {
             [] => Err(0),
             [word, others @ ..] if word.as_str() == "storm" => Command::storm(others),
-            [word] => Command::named(word.as_str()).ok_or(0),
-            [word, ..] if Command::named(word.as_str()).is_some() => Err(1),
-            _ => Err(0),
+            [word, others @ ..] if word.as_str() == "run" => Command::run(others),
+            [word, others @ ..] => Command::alone(word.as_str(), others),
+        }
+    }
+
+    /// The command of this name, behind which no word stands, or the first place at which the words are none.
+    fn alone(name: &str, others: &[String]) -> Result<Command, usize>
+        ensures { result ≡ alone (command_named name.now) (map string_bytes others.now) }
+    {
+        match Command::named(name) {
+            None => Err(0),
+            Some(command) if others.is_empty() => Ok(command),
+            Some(_) => Err(1),
         }
     }
 
@@ -71,12 +93,51 @@ impl Command {
         }
     }
 
+    /// The run that the words behind its name are, or the first place at which they are none.
+    fn run(others: &[String]) -> Result<Command, usize>
+        ensures { result ≡ run_of (map string_bytes others.now) }
+    {
+        match others {
+            [word, behind @ ..] if word.as_str() == "--turns" => Command::run_for(behind),
+            _ => Err(1),
+        }
+    }
+
+    /// The run that the words behind `--turns` are, or the first place of all at which they are none.
+    fn run_for(behind: &[String]) -> Result<Command, usize>
+        ensures { result ≡ turns_of (map string_bytes behind.now) }
+    {
+        let [word, links @ ..] = behind else {
+            return Err(2);
+        };
+        match decimal(word.as_bytes()) {
+            Some(turns) if (1..=MOST_TURNS).contains(&turns) => Command::run_over(
+                turns as u32,
+                links,
+            ),
+            _ => Err(2),
+        }
+    }
+
+    /// The run over links for so many turns, or the first place of all words at which these are none.
+    fn run_over(turns: u32, links: &[String]) -> Result<Command, usize>
+        requires { turns ≤ 1000000000 }
+        ensures { result ≡ run_over turns (no_link_from 0 (map string_bytes links.now)) }
+    {
+        match no_link_from(0, links) {
+            None => Ok(Command::Run { turns }),
+            Some(place) => Err(place + 3),
+        }
+    }
+
     /// The command of this name that reads an input.
     fn named(word: &str) -> Option<Command>
         ensures { result ≡ command_named word.now }
     {
         if word == "sim" {
             Some(Command::Whole(WholeCommand::Sim))
+        } else if word == "trace" {
+            Some(Command::Whole(WholeCommand::Trace))
         } else if word == "show" {
             Some(Command::Whole(WholeCommand::Show))
         } else if word == "check" {
@@ -106,6 +167,7 @@ impl WholeCommand {
     {
         match self {
             WholeCommand::Sim
+            | WholeCommand::Trace
             | WholeCommand::Show
             | WholeCommand::Check
             | WholeCommand::Pack
@@ -114,5 +176,30 @@ impl WholeCommand {
             | WholeCommand::Migrate => true,
             WholeCommand::Storm { .. } => false,
         }
+    }
+}
+
+/// The first place, from a place on, at which words are no link words, or are too many.
+fn no_link_from(place: usize, words: &[String]) -> Option<usize>
+    requires { place ≤ 8 }
+    ensures found { result ≡ no_link_from place (map string_bytes words.now) }
+    ensures early { IfSome result (λ at. at ≤ 8) }
+{
+    match words {
+        [] => None,
+        [word, others @ ..] if place < MOST_LINKS && is_link_word(word.as_bytes()) => {
+            no_link_from(place + 1, others)
+        }
+        _ => Some(place),
+    }
+}
+
+/// The places of the link words among words that run a node, in order; none of other words.
+pub fn link_places(words: &[String]) -> Range<usize>
+    ensures places { ArePlaces (command_of (map string_bytes words.now)) (length words.now) result.start result.end }
+{
+    match Command::of(words) {
+        Ok(Command::Run { .. }) => 3..words.len(),
+        _ => 0..0,
     }
 }

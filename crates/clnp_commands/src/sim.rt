@@ -1,4 +1,4 @@
-//! The command `sim`: the journal of a scenario, written in blocks of whole moves.
+//! The commands `sim` and `trace`: the journal of a scenario, or its trace, written in blocks of whole moves.
 ghost use Rattle.std.specs.Prelude.{◌≡◌, ◌≤◌, ◌++◌, List, Option, [], ◌∷◌, ℕ, length, replicate, Err, OnOk};
 ghost use Rattle.clnp_machine.specs.ClnpBase.Streams.{Rose};
 ghost use Rattle.clnp_machine.specs.ClnpBase.Text.{lines_of};
@@ -7,27 +7,28 @@ ghost use Rattle.clnp_world.specs.ClnpNetwork.World as network;
 ghost use Rattle.clnp_world.specs.ClnpNetwork.Run.{moves_of_plan, world_after, world_end};
 ghost use Rattle.clnp_world.specs.Stands.{Stands};
 ghost use Rattle.capture_commands.specs.CommandBase.ComesAs.{ComesAs, most_input};
-ghost use Rattle.clnp_commands.specs.Tasks.{sim_task};
-ghost use Rattle.clnp_commands.specs.Play.{FullOf, JournalOf, PieceOf, PlayOf, UnderWay};
+ghost use Rattle.clnp_commands.specs.Tasks.{run_task};
+ghost use Rattle.clnp_commands.specs.Play.{FullOf, RunOf, PieceOf, PlayOf, UnderWay};
 ghost use Rattle.clnp_commands.specs.Time.{HasTime};
 
 use capture_commands::command_base::{Status, flush, flush_full};
 use clnp_machine::clnp_base::{Failed, Sink};
+use clnp_machine::clnp_plan::Telling;
 use clnp_world::scenario::{Event, Move, Scenario, ScenarioRefusal};
 use clnp_world::{World, WorldRefusal};
 use std::alloc::Global;
 
-/// Writes the journal of the scenario that a text is.
-pub fn sim<K: Sink>(alloc: Global, text: &[u8], sink: &mut K) -> Status
+/// Writes the journal, or the trace, of the scenario that a text is.
+pub fn sim<K: Sink>(alloc: Global, telling: Telling, text: &[u8], sink: &mut K) -> Status
     requires { length text.now ≤ most_input }
     ensures later { K.faults sink.old ≤ K.faults sink.new }
-    ensures comes_to { ComesAs (sim_task text.now) (K.written sink.old) (K.written sink.new) result }
+    ensures comes_to { ComesAs (run_task telling text.now) (K.written sink.old) (K.written sink.new) result }
     ensures failed { result ≡ Status.WriteFault → Rose (K.faults sink.old) (K.faults sink.new) }
 {
     few_lines();
     clnp_world::scenario::laws::accepted_is_fit();
     match clnp_world::scenario::read(alloc, text) {
-        Ok(scenario) => match play(alloc, &scenario, sink) {
+        Ok(scenario) => match play(alloc, &scenario, telling, sink) {
             Ok(()) => Status::Done,
             Err(Stop::WorldFull { octets }) => Status::WorldFull { octets },
             Err(Stop::WriteFault) => Status::WriteFault,
@@ -43,7 +44,7 @@ pub(crate) fn few_lines()
     ensures { (text : List ℕ) → length (lines_of text) ≤ length text }
 {}
 
-/// Why the writing of a journal stopped.
+/// Why the writing of a journal or a trace stopped.
 #[derive(Clone, Copy, PartialEq, Eq)]
 enum Stop {
     /// The copies weigh too much: so many octets.
@@ -52,17 +53,22 @@ enum Stop {
     NoMemory,
 }
 
-/// Plays a scenario: makes its moves and writes their lines, and then the journal's last line.
-fn play<K: Sink>(alloc: Global, scenario: &Scenario, sink: &mut K) -> Result<(), Stop>
+/// Plays a scenario: makes its moves and writes their lines, and then the last line.
+fn play<K: Sink>(
+    alloc: Global,
+    scenario: &Scenario,
+    telling: Telling,
+    sink: &mut K,
+) -> Result<(), Stop>
     requires { IsFit scenario.now }
     ensures later { K.faults sink.old ≤ K.faults sink.new }
-    ensures comes_to { JournalOf scenario.now (K.written sink.old) (K.written sink.new) result }
+    ensures comes_to { RunOf telling scenario.now (K.written sink.old) (K.written sink.new) result }
     ensures failed { result ≡ Err Stop.WriteFault → Rose (K.faults sink.old) (K.faults sink.new) }
 {
     match World::new(alloc, scenario) {
         Ok(mut world) => {
             let mut block = Vec::new(alloc);
-            play_events(alloc, scenario, &mut world, &mut block, sink)?;
+            play_events(alloc, scenario, telling, &mut world, &mut block, sink)?;
             write_end(alloc, &world, &mut block, sink)
         }
         Err(_) => Err(Stop::NoMemory),
@@ -73,6 +79,7 @@ fn play<K: Sink>(alloc: Global, scenario: &Scenario, sink: &mut K) -> Result<(),
 fn play_events<K: Sink>(
     alloc: Global,
     scenario: &Scenario,
+    telling: Telling,
     world: &mut World,
     block: &mut Vec<u8>,
     sink: &mut K,
@@ -80,12 +87,12 @@ fn play_events<K: Sink>(
     requires { HasTime world.old (moves_of_plan scenario.now) }
     ensures later { K.faults sink.old ≤ K.faults sink.new }
     ensures comes_to { (model : network.World) (past : List Move) (before : Option (List ℕ))
-        → UnderWay scenario.now model past world.old before (K.written sink.old) block.old.items
-        → PlayOf scenario.now model (past ++ moves_of_plan scenario.now) world.new before (K.written sink.new) block.new.items result }
+        → UnderWay telling scenario.now model past world.old before (K.written sink.old) block.old.items
+        → PlayOf telling scenario.now model (past ++ moves_of_plan scenario.now) world.new before (K.written sink.new) block.new.items result }
     ensures failed { result ≡ Err Stop.WriteFault → Rose (K.faults sink.old) (K.faults sink.new) }
 {
     for (place, event) in scenario.events().iter().enumerate() {
-        play_event(alloc, scenario, place, event, world, block, sink)?;
+        play_event(alloc, scenario, telling, place, event, world, block, sink)?;
     }
     Ok(())
 }
@@ -95,6 +102,7 @@ fn play_events<K: Sink>(
 fn play_event<K: Sink>(
     alloc: Global,
     scenario: &Scenario,
+    telling: Telling,
     place: usize,
     event: &Event,
     world: &mut World,
@@ -106,18 +114,19 @@ fn play_event<K: Sink>(
     ensures stands { OnOk result ((model : network.World) → Stands world.old model
         → Stands world.new (world_after scenario.now model (moves_of place event.now))) }
     ensures comes_to { (model : network.World) (past : List Move) (before : Option (List ℕ))
-        → UnderWay scenario.now model past world.old before (K.written sink.old) block.old.items
-        → PlayOf scenario.now model (past ++ moves_of place event.now) world.new before (K.written sink.new) block.new.items result }
+        → UnderWay telling scenario.now model past world.old before (K.written sink.old) block.old.items
+        → PlayOf telling scenario.now model (past ++ moves_of place event.now) world.new before (K.written sink.new) block.new.items result }
     ensures failed { result ≡ Err Stop.WriteFault → Rose (K.faults sink.old) (K.faults sink.new) }
 {
     let (mv, times) = event.moves(place);
-    play_times(alloc, scenario, &mv, times, world, block, sink)
+    play_times(alloc, scenario, telling, &mv, times, world, block, sink)
 }
 
 /// Makes one move so many times, puts the lines into the block, and writes it where it is full.
 fn play_times<K: Sink>(
     alloc: Global,
     scenario: &Scenario,
+    telling: Telling,
     mv: &Move,
     count: u32,
     world: &mut World,
@@ -129,13 +138,13 @@ fn play_times<K: Sink>(
     ensures stands { OnOk result ((model : network.World) → Stands world.old model
         → Stands world.new (world_after scenario.now model (replicate count mv.now))) }
     ensures comes_to { (model : network.World) (past : List Move) (before : Option (List ℕ))
-        → UnderWay scenario.now model past world.old before (K.written sink.old) block.old.items
-        → PlayOf scenario.now model (past ++ replicate count mv.now) world.new before (K.written sink.new) block.new.items result }
+        → UnderWay telling scenario.now model past world.old before (K.written sink.old) block.old.items
+        → PlayOf telling scenario.now model (past ++ replicate count mv.now) world.new before (K.written sink.new) block.new.items result }
     ensures failed { result ≡ Err Stop.WriteFault → Rose (K.faults sink.old) (K.faults sink.new) }
 {
     for _made in 0..count {
         let settled = world.is_settled();
-        play_move(alloc, scenario, mv, world, block, sink)?;
+        play_move(alloc, scenario, telling, mv, world, block, sink)?;
         // To settle a copy where none is left changes nothing, however often.
         if settled && matches!(mv, Move::SettleOne) {
             return Ok(());
@@ -148,6 +157,7 @@ fn play_times<K: Sink>(
 fn play_move<K: Sink>(
     alloc: Global,
     scenario: &Scenario,
+    telling: Telling,
     mv: &Move,
     world: &mut World,
     block: &mut Vec<u8>,
@@ -158,11 +168,11 @@ fn play_move<K: Sink>(
     ensures stands { OnOk result ((model : network.World) → Stands world.old model
         → Stands world.new (world_after scenario.now model (mv.now ∷ []))) }
     ensures comes_to { (model : network.World) (past : List Move) (before : Option (List ℕ))
-        → UnderWay scenario.now model past world.old before (K.written sink.old) block.old.items
-        → PlayOf scenario.now model (past ++ (mv.now ∷ [])) world.new before (K.written sink.new) block.new.items result }
+        → UnderWay telling scenario.now model past world.old before (K.written sink.old) block.old.items
+        → PlayOf telling scenario.now model (past ++ (mv.now ∷ [])) world.new before (K.written sink.new) block.new.items result }
     ensures failed { result ≡ Err Stop.WriteFault → Rose (K.faults sink.old) (K.faults sink.new) }
 {
-    match world.step(alloc, scenario, mv, block) {
+    match world.step(alloc, scenario, mv, telling, block) {
         Ok(()) => match flush_full(block, sink) {
             Ok(()) => Ok(()),
             Err(Failed) => Err(Stop::WriteFault),
@@ -184,7 +194,7 @@ fn stop_full<K: Sink>(octets: u64, block: &mut Vec<u8>, sink: &mut K) -> Stop
     }
 }
 
-/// Writes the block and the journal's last line.
+/// Writes the block and the last line.
 fn write_end<K: Sink>(
     alloc: Global,
     world: &World,

@@ -10,7 +10,9 @@ ghost use Rattle.clnp_commands.specs.Words.{command_of, reads, Reads};
 ghost use Rattle.clnp_commands.specs.Advised.{Advised};
 ghost use Rattle.clnp_commands.specs.declared.command.Command.TheVariants.{Whole};
 ghost use Rattle.pcap_commands.specs.Serves.{ServesFile};
-ghost use Rattle.clnp_commands.specs.Serves.{Serves, ServesCommand, TakesTooMany, TakesWithin, form_of};
+ghost use Rattle.capture_commands.specs.CommandBase.Reading.{TakesTooMany, TakesWithin};
+ghost use Rattle.clnp_commands.specs.Live.{RunsAs};
+ghost use Rattle.clnp_commands.specs.Serves.{Serves, ServesCommand, form_of};
 ghost use Rattle.clnp_commands.specs.Tasks.{task};
 ghost use Rattle.clnp_commands.specs.Agree.{TextsAgree};
 ghost use Rattle.capture_commands.specs.CommandBase.ComesAs.{ComesAs, most_input};
@@ -24,10 +26,13 @@ use capture_commands::check::check;
 use capture_commands::command_base::Status;
 use capture_commands::pack::pack;
 use capture_commands::show::show;
-use clnp_machine::clnp_base::{ReadStop, Sink, Source, read_all};
+use clnp_machine::clnp_base::{Clock, ReadStop, Sink, Source, read_all};
+use clnp_machine::clnp_plan::Telling;
 use clnp_safety::laws::runs_are_safe;
 use clnp_world::scenario::laws;
 use fair_commands::reassemble;
+use live_commands::link_board::Ports;
+use live_commands::run_system;
 use pcap_commands::{pcap_lines, pcap_make, pcap_show};
 use scenario_advice::Advice;
 use std::alloc::Global;
@@ -37,31 +42,40 @@ const MOST_INPUT: usize = 16_777_216;
 
 /// Runs the command that the words name, on what the source gives, and writes to the sink.
 ///
-/// `sim` reads a scenario text and writes its journal. Nothing is written before the whole text
-/// was accepted. `show` reads a capture and writes a line for each of its frames, up to the first
+/// `sim` reads a scenario text and writes its journal, `trace` its journal with what becomes of each
+/// copy. Nothing is written before the whole text was accepted. `show` reads a capture and writes a line for each of its frames, up to the first
 /// bad line. `check` reads vectors and writes the verdict on each, up to the first bad line, and at
 /// the end how many passed and how many failed. `pack` reads shown lines and writes the frame that
 /// each packs to, up to the first bad line. `pcap-show` and `pcap-lines` read an Ethernet capture and
 /// write a line for each of its records while they read; `pcap-make` makes one of such lines.
 /// `reassemble` reads captured frames and writes what comes of each. `migrate` reads a scenario text of
 /// version 1 and writes it in version 2. `storm` reads nothing: it runs the scenario that its seed makes,
-/// and writes one line of what the run's journal counts.
+/// and writes one line of what the run's journal counts. `run` reads a scenario of one system and runs that over the ports of the
+/// board, turn by turn, each at the moment that the clock gives; what it writes is the system's journal.
 ///
 /// `advice` gets what the author of a refused scenario text, capture or text of vectors is told beside its first bad line; it is
 /// emptied where there is nothing to tell.
-pub fn clnp_main<S: Source, K: Sink>(
+pub fn clnp_main<S: Source, K: Sink, B: Ports, C: Clock>(
     alloc: Global,
     words: &[String],
     source: &mut S,
     sink: &mut K,
+    board: &mut B,
+    clock: &mut C,
     advice: &mut Advice,
 ) -> Status
-    // The counts of faults never fall.
-    ensures later { (S.faults source.old ≤ S.faults source.new) × (K.faults sink.old ≤ K.faults sink.new) }
+    // The counts of faults never fall, nor does the clock go back.
+    ensures later { (S.faults source.old ≤ S.faults source.new) × (K.faults sink.old ≤ K.faults sink.new) × (C.last clock.old ≤ C.last clock.new) }
 
     // What was taken from the source, what was written to the sink, and which status is answered.
     ensures serves { Serves (map string_bytes words.now) (S.left source.old) (S.left source.new) (K.written sink.old) (K.written sink.new)
         (source.new ≡ source.old) (sink.new ≡ sink.old)
+        (Rose (S.faults source.old) (S.faults source.new)) (Rose (K.faults sink.old) (K.faults sink.new)) result }
+
+    // What became of the board and the clock; and what the call comes to that runs a node.
+    ensures runs { RunsAs (command_of (map string_bytes words.now)) (S.left source.old) (S.left source.new) (K.written sink.old) (K.written sink.new)
+        (B.ports board.old) (B.ports board.new) (C.moments clock.old) (C.moments clock.new)
+        (sink.new ≡ sink.old) (board.new ≡ board.old) (clock.new ≡ clock.old)
         (Rose (S.faults source.old) (S.faults source.new)) (Rose (K.faults sink.old) (K.faults sink.new)) result }
 
     // What the author of the input is told beside the status, and when nothing is.
@@ -83,6 +97,7 @@ pub fn clnp_main<S: Source, K: Sink>(
     match Command::of(words) {
         Ok(Command::Whole(command)) => serve(alloc, command, source, sink, advice),
         Ok(Command::Streamed(command)) => serve_streamed(alloc, command, source, sink),
+        Ok(Command::Run { turns }) => run_system(alloc, turns, source, board, clock, sink),
         Err(at) => Status::BadWords { at },
     }
 }
@@ -199,7 +214,8 @@ fn obey<K: Sink>(alloc: Global, command: WholeCommand, text: &[u8], sink: &mut K
     ensures failed { result ≡ Status.WriteFault → Rose (K.faults sink.old) (K.faults sink.new) }
 {
     match command {
-        WholeCommand::Sim => sim(alloc, text, sink),
+        WholeCommand::Sim => sim(alloc, Telling::Journal, text, sink),
+        WholeCommand::Trace => sim(alloc, Telling::Trace, text, sink),
         WholeCommand::Show => show(alloc, text, sink),
         WholeCommand::Check => check(alloc, text, sink),
         WholeCommand::Pack => pack(alloc, text, sink),

@@ -25,7 +25,7 @@ use Rattle.clnp_machine.specs.Nsap.declared.target.Target.TheVariants.{System}
 use Rattle.clnp_machine.specs.Nsap.Prefix.{digits_of}
 use Rattle.clnp_machine.specs.Nsap.Text.{octets_of}
 use Rattle.std.specs.Fmt.{digits}
-use Rattle.clnp_network.specs.Run.{journal}
+use Rattle.clnp_network.specs.Run.{journal, trace}
 
 abbrev two_hosts : List ℕ
 two_hosts = codes "clnp-sim 1\nsubnet lan 1500\nsystem a host hello=0\nsystem b host hello=0\naddress a 47002702\naddress b 47002701\nport a 0 lan 01\nport b 0 lan 02\nevents\nsend a 47002702 47002701 hex:6869 life=10 whole\nsettle 1\nend\n"
@@ -45,9 +45,17 @@ echo = codes "clnp-sim 1\nsubnet lan 1500\nsystem a host hello=0\nsystem b host 
 abbrev alien : List ℕ
 alien = codes "clnp-sim 1\nsubnet lan 1500\nsystem a host hello=0\nsystem b host hello=0\naddress a 47002702\naddress b 47002701\nport a 0 lan 01\nport b 0 lan 02\nevents\ninject lan 03 02 00\nsettle 1\nend\n"
 
+-- copies that come to hosts, that is for nobody, that is lost, and that is late
+abbrev becoming : List ℕ
+becoming = codes "clnp-sim 1\nlimits 4 2 6\nsubnet lan 1500\nsystem a host hello=0\nsystem b host hello=0\nsystem c host hello=0\naddress a 47002702\naddress b 47002701\naddress c 47002703\nport a 0 lan 01\nport b 0 lan 02\nport c 0 lan 03\nevents\nsend a 47002702 47002701 hex:6869 life=10 whole\nsettle 1\ninject lan 09 44 00\nsettle 1\ninject lan 09 02 00\nlose 1\ntick 5\ndeliver 1 b\nend\n"
+
 abbrev written : Result Plan BadLine → List ℕ
 written (Ok plan) = journal plan
 written (Err bad) = codes "bad"
+
+abbrev traced : Result Plan BadLine → List ℕ
+traced (Ok plan) = trace plan
+traced (Err bad) = codes "bad"
 
 journal-two_hosts : written (plan_of two_hosts) ≡ codes "0 a sent dt 1 - 47002702 47002701 2\n0 a tx 1 0 es 8113010a3c0015ce58044700270104470027026869\n0 b got 47002702 47002701 6869\nend 0 1\n"
 unfolding parameters_after encode_with decode_pairs sealed checksum_x checksum_y spelled octets_of digits plan_at events_from counted_event limits_line subnet_line room_word setting_word system_line address_line port_line declaration_line wish_word send_line deliver_line tick_line restart_line count_line event_line
@@ -74,6 +82,11 @@ journal-echo = refl
 journal-alien : written (plan_of alien) ≡ codes "0 - inject 1 lan 03 02\n0 b alien\nend 0 1\n"
 unfolding parameters_after encode_with decode_pairs octets_of digits plan_at events_from counted_event limits_line subnet_line room_word setting_word system_line address_line port_line declaration_line wish_word send_line deliver_line tick_line restart_line count_line inject_line event_line
 journal-alien = refl
+
+-- what becomes of each copy is told where it happens
+trace-becoming : traced (plan_of becoming) ≡ codes "0 a sent dt 1 - 47002702 47002701 2\n0 a tx 1 0 es 8113010a3c0015ce58044700270104470027026869\n0 b rx 1 0\n0 b got 47002702 47002701 6869\n0 c rx 1 0\n0 c notmine 47002701\n0 - inject 2 lan 09 44\n0 - nobody 2\n0 - inject 3 lan 09 02\n0 - lost 3\n5 b late 1\nend 5 3\n"
+unfolding parameters_after encode_with decode_pairs sealed checksum_x checksum_y spelled octets_of digits plan_at events_from counted_event limits_line subnet_line room_word setting_word system_line address_line port_line declaration_line wish_word send_line deliver_line tick_line restart_line count_line inject_line event_line
+trace-becoming = refl
 
 -- Two hosts and a router that say hello.
 

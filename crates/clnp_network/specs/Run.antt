@@ -1,7 +1,9 @@
--- A run: the moves of a scenario, one after another, and its journal.
+-- A run: the moves of a scenario, one after another, its journal and its trace.
 use Rattle.std.specs.Prelude.{ℕ, if◌then◌else◌, List, [], ◌∷◌, ◌++◌, length, Option, None, Some}
-use Rattle.std.specs.List.{flat_map}
-use Rattle.clnp_machine.specs.ClnpPlan.Journal.{Line, line_text, end_text}
+use Rattle.std.specs.List.{filter, flat_map}
+use Rattle.clnp_machine.specs.ClnpPlan.Journal.{Line, is_in_journal, told_text, end_text}
+use Rattle.clnp_machine.specs.ClnpPlan.declared.journal.Telling.{Telling}
+use Rattle.clnp_machine.specs.ClnpPlan.declared.journal.Telling.TheVariants as telling
 use Rattle.scenario.specs.Scenario.{Plan, moves_from}
 use Rattle.scenario.specs.declared.event.Move.{Move}
 use Rattle.clnp_network.specs.World.{World, after, first_world, is_full, weight}
@@ -20,16 +22,34 @@ entries_of plan w [] = []
 entries_of plan w (move ∷ moves) =
     record { move = move; lines = (after plan w move).lines } ∷ entries_of plan (after plan w move).world moves
 
+-- the text of some lines, in a journal or in a trace
+abbrev pub told_lines : Telling → List Line → List ℕ
+told_lines form lines = flat_map (told_text form) lines
+
 abbrev pub lines_text : List Line → List ℕ
-lines_text lines = flat_map line_text lines
+lines_text lines = told_lines telling.Journal lines
+
+-- those of some lines that a journal has
+abbrev pub journal_lines : List Line → List Line
+journal_lines lines = filter is_in_journal lines
 
 abbrev pub entry_text : Entry → List ℕ
 entry_text entry = lines_text entry.lines
 
--- the text that moves write
+-- the lines of an entry in a trace, and those of them that a journal has
+abbrev pub entry_trace : Entry → List ℕ
+entry_trace entry = told_lines telling.Trace entry.lines
+
+abbrev pub entry_without : Entry → List ℕ
+entry_without entry = told_lines telling.Trace (journal_lines entry.lines)
+
+-- the text that moves write, in a journal or in a trace
+abbrev pub told_of : Telling → Plan → World → List Move → List ℕ
+told_of form plan w [] = []
+told_of form plan w (move ∷ moves) = told_lines form (after plan w move).lines ++ told_of form plan (after plan w move).world moves
+
 abbrev pub text_of : Plan → World → List Move → List ℕ
-text_of plan w [] = []
-text_of plan w (move ∷ moves) = lines_text (after plan w move).lines ++ text_of plan (after plan w move).world moves
+text_of plan w moves = told_of telling.Journal plan w moves
 
 abbrev pub moves_of_plan : Plan → List Move
 moves_of_plan plan = moves_from 0 plan.events
@@ -67,6 +87,14 @@ abbrev pub ending : Option ℕ → World → List ℕ
 ending None w = world_end w
 ending (Some weight) w = []
 
+-- the journal of a scenario, or its trace: the text of its moves, and the last line
+abbrev pub told : Telling → Plan → List ℕ
+told form plan = told_of form plan (first_world plan) (moves_made plan) ++ ending (stopped_at plan) (last_world plan)
+
 -- the journal of a scenario
 abbrev pub journal : Plan → List ℕ
-journal plan = text_of plan (first_world plan) (moves_made plan) ++ ending (stopped_at plan) (last_world plan)
+journal plan = told telling.Journal plan
+
+-- the trace of a scenario: the lines of its journal, and between them what becomes of each copy
+abbrev pub trace : Plan → List ℕ
+trace plan = told telling.Trace plan

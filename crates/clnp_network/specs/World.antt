@@ -5,7 +5,7 @@ use Rattle.std.specs.Str.{bytes_eq}
 use Rattle.clnp_machine.specs.Nsap.declared.target.Target.{Target}
 use Rattle.clnp_machine.specs.Nsap.declared.target.Target.TheVariants.{System, EndSystems, Routers}
 use Rattle.clnp_machine.specs.ClnpPlan.Configuration.{SystemConfiguration}
-use Rattle.clnp_machine.specs.ClnpPlan.Journal.{Line, Noted, Transmitted, Void, Late, Injected}
+use Rattle.clnp_machine.specs.ClnpPlan.Journal.{Line, Noted, Transmitted, Void, Late, Injected, Received, Lost, ForNobody}
 use Rattle.clnp_machine.specs.ClnpPlan.declared.config.Limits.{Limits}
 use Rattle.clnp_machine.specs.ClnpPlan.declared.config.Role.{Role}
 use Rattle.clnp_machine.specs.ClnpPlan.declared.config.Role.TheVariants.{Host, Router}
@@ -154,12 +154,19 @@ pub record Numbered : Type 0 where
 abbrev pub is_late : Limits → World → Copy → Bool
 is_late limits w copy = nat_lt (copy.birth + limits.age) w.clock
 
+-- the copy comes to a system at its place: a line tells by which port, and what comes of it follows
+abbrev pub hand_to : Numbered → World → ℕ → SystemState → Step
+hand_to given w place system =
+    followed_by
+    (writes w (Received w.clock system.configuration.name given.number (first_port given.copy system.configuration.role system.configuration.ports)))
+    (λ v. takes_effect v place (step system (frame_to system given.copy)))
+
 -- the copy is given to a system at its place, unless it is late
 abbrev pub give_to : Limits → Numbered → World → ℕ → Option SystemState → Step
 give_to limits given w place None = nothing w
 give_to limits given w place (Some system) =
     if is_late limits w given.copy then writes w (Late w.clock system.configuration.name given.number)
-    else takes_effect w place (step system (frame_to system given.copy))
+    else hand_to given w place system
 
 abbrev pub give : Limits → Numbered → World → ℕ → Step
 give limits given w place = give_to limits given w place (slice_get w.systems place)
@@ -168,19 +175,29 @@ abbrev pub give_each : Limits → Numbered → World → List ℕ → Step
 give_each limits given w [] = nothing w
 give_each limits given w (place ∷ places) = followed_by (give limits given w place) (λ v. give_each limits given v places)
 
+-- the line of a copy that is settled, where it has no addressees
+abbrev pub for_nobody : (now number : ℕ) → (addressees : List ℕ) → List Line
+for_nobody now number [] = ForNobody now number ∷ []
+for_nobody now number (place ∷ places) = []
+
+-- the copy is given to each of its addressees; a line tells where it has none
+abbrev pub settle_for : Limits → Numbered → World → (addressees : List ℕ) → Step
+settle_for limits given w places =
+    followed_by (record { world = w; lines = for_nobody w.clock given.number places }) (λ v. give_each limits given v places)
+
 -- the copy at the cursor is given to each of its addressees in the order of the declarations
 abbrev pub settle_copy : Limits → World → Option Copy → Step
 settle_copy limits w None = nothing w
 settle_copy limits w (Some copy) =
-    give_each limits (record { number = w.cursor + 1; copy = copy }) (record w { cursor = w.cursor + 1 }) (addressees_from 0 copy w.systems)
+    settle_for limits (record { number = w.cursor + 1; copy = copy }) (record w { cursor = w.cursor + 1 }) (addressees_from 0 copy w.systems)
 
 abbrev pub settle_one : Limits → World → Step
 settle_one limits w = settle_copy limits w (slice_get w.copies w.cursor)
 
--- the copy at the cursor is given to nobody
+-- the copy at the cursor is given to nobody, and a line tells that it is lost
 abbrev pub lose_copy : World → Option Copy → Step
 lose_copy w None = nothing w
-lose_copy w (Some copy) = nothing (record w { cursor = w.cursor + 1 })
+lose_copy w (Some copy) = writes (record w { cursor = w.cursor + 1 }) (Lost w.clock (w.cursor + 1))
 
 abbrev pub lose_one : World → Step
 lose_one w = lose_copy w (slice_get w.copies w.cursor)

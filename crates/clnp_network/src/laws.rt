@@ -7,13 +7,20 @@ ghost use Rattle.scenario.specs.Scenario.{Plan};
 ghost use Rattle.scenario.specs.declared.event.Move.{Move};
 ghost use Rattle.clnp_network.specs.Migrated.{IsMigrated};
 ghost use Rattle.clnp_network.specs.World.{World};
-ghost use Rattle.clnp_network.specs.Run.{ending, entries_of, entry_text, journal, last_world, moves_made, moves_of_plan, run, stopped_at, text_of};
+ghost use Rattle.clnp_network.specs.Run.{ending, entries_of, entry_text, entry_trace, entry_without, journal, last_world, moves_made, moves_of_plan, run, stopped_at, text_of, trace};
 
 /// The journal of a scenario is the text of its run, each line of each entry in order, and then the last line, where the run
 /// wasn't stopped. So is the text of whatever moves that of their entries.
 pub fn the_journal_is_the_text_of_the_run()
     ensures journal { (plan : Plan) → journal plan ≡ flat_map entry_text (run plan) ++ ending (stopped_at plan) (last_world plan) }
     ensures moves { (plan : Plan) (w : World) (moves : List Move) → text_of plan w moves ≡ flat_map entry_text (entries_of plan w moves) }
+{}
+
+/// The trace of a scenario is the text of its run, each line of each entry in order, and then the last line, where the run
+/// wasn't stopped. Without the lines that tell what becomes of copies it is the journal.
+pub fn the_trace_without_its_own_lines_is_the_journal()
+    ensures trace { (plan : Plan) → trace plan ≡ flat_map entry_trace (run plan) ++ ending (stopped_at plan) (last_world plan) }
+    ensures journal { (plan : Plan) → flat_map entry_without (run plan) ++ ending (stopped_at plan) (last_world plan) ≡ journal plan }
 {}
 
 /// A scenario of version 1 runs in version 2 as it did: the same moves are called for and made, each writes the same lines, the

@@ -1,4 +1,4 @@
--- The lines of a journal, and their text.
+-- The lines of a journal and of a trace, and their text.
 use Rattle.std.specs.Prelude.{ℕ, Bool, true, false, List, [], ◌∷◌, ◌++◌, codes, Option, None, Some}
 use Rattle.std.specs.List.{flat_map}
 use Rattle.std.specs.Fmt.{decimal}
@@ -12,6 +12,8 @@ use Rattle.esis_tables.specs.declared.fact.Heard.{Heard}
 use Rattle.esis_tables.specs.declared.fact.Heard.TheVariants as heard
 use Rattle.esis_tables.specs.declared.fact.TableKind.{TableKind}
 use Rattle.esis_tables.specs.declared.fact.TableKind.TheVariants as table
+use Rattle.clnp_plan.specs.declared.journal.Telling.{Telling}
+use Rattle.clnp_plan.specs.declared.journal.Telling.TheVariants as telling
 use Rattle.clnp_plan.specs.declared.note.Note.{Note}
 use Rattle.clnp_plan.specs.declared.note.Note.TheVariants.{Sent, Refused, Got, Report, Echoed, Stray, Discard, Held, Repeat, Crowded, Many, NoSlot, Interference, Expired, NotMine, Alien, BadEsis, Hear, Gone, Ignored, Restart, Congest}
 use Rattle.clnp_plan.specs.declared.note.Why.{Why}
@@ -112,23 +114,53 @@ note_words Restart = codes "restart" ∷ []
 note_words (Congest on) = codes "congest" ∷ on_word on ∷ []
 
 -- A line: what a system notes, a frame that it transmits as a copy with a number on a port, a copy that isn't there
--- for it to be given, or one that is too old to be given; or a frame from outside that became a copy on a subnetwork.
+-- for it to be given, or one that is too old to be given; or a frame from outside that became a copy on a subnetwork. And
+-- what becomes of copies, which a trace tells and a journal doesn't: one comes to a system on a port, one is lost, or one is
+-- settled that is for nobody.
 pub data Line : Type 0 where
   Noted : (now : ℕ) (name : List ℕ) (note : Note) → Line
   Transmitted : (now : ℕ) (name : List ℕ) (copy : ℕ) (port : ℕ) (target : Target) (frame : List ℕ) → Line
   Void : (now : ℕ) (name : List ℕ) (copy : ℕ) → Line
   Late : (now : ℕ) (name : List ℕ) (copy : ℕ) → Line
   Injected : (now : ℕ) (copy : ℕ) (subnet sender : List ℕ) (target : Target) → Line
+  Received : (now : ℕ) (name : List ℕ) (copy : ℕ) (port : ℕ) → Line
+  Lost : (now : ℕ) (copy : ℕ) → Line
+  ForNobody : (now : ℕ) (copy : ℕ) → Line
 
--- each begins with the moment and the system's name, or `-` where no system did it
-abbrev pub line_text : Line → List ℕ
-line_text (Noted now name note) = line_of (decimal now) (name ∷ note_words note)
-line_text (Transmitted now name copy port target frame) =
+-- whether a journal has such a line
+abbrev pub is_in_journal : Line → Bool
+is_in_journal (Received now name copy port) = false
+is_in_journal (Lost now copy) = false
+is_in_journal (ForNobody now copy) = false
+is_in_journal _ = true
+
+-- the text of a line that a trace has and a journal hasn't
+abbrev pub traced : Telling → List ℕ → List ℕ
+traced telling.Journal text = []
+traced telling.Trace text = text
+
+-- The text of a line in a journal, or in a trace. Each begins with the moment and the system's name, or `-` where no system
+-- did it.
+abbrev pub told_text : Telling → Line → List ℕ
+told_text form (Noted now name note) = line_of (decimal now) (name ∷ note_words note)
+told_text form (Transmitted now name copy port target frame) =
     line_of (decimal now) (name ∷ codes "tx" ∷ decimal copy ∷ decimal port ∷ target_word target ∷ octets_word frame ∷ [])
-line_text (Void now name copy) = line_of (decimal now) (name ∷ codes "void" ∷ decimal copy ∷ [])
-line_text (Late now name copy) = line_of (decimal now) (name ∷ codes "late" ∷ decimal copy ∷ [])
-line_text (Injected now copy subnet sender target) =
+told_text form (Void now name copy) = line_of (decimal now) (name ∷ codes "void" ∷ decimal copy ∷ [])
+told_text form (Late now name copy) = line_of (decimal now) (name ∷ codes "late" ∷ decimal copy ∷ [])
+told_text form (Injected now copy subnet sender target) =
     line_of (decimal now) (codes "-" ∷ codes "inject" ∷ decimal copy ∷ subnet ∷ hex_text sender ∷ target_word target ∷ [])
+told_text form (Received now name copy port) =
+    traced form (line_of (decimal now) (name ∷ codes "rx" ∷ decimal copy ∷ decimal port ∷ []))
+told_text form (Lost now copy) = traced form (line_of (decimal now) (codes "-" ∷ codes "lost" ∷ decimal copy ∷ []))
+told_text form (ForNobody now copy) = traced form (line_of (decimal now) (codes "-" ∷ codes "nobody" ∷ decimal copy ∷ []))
+
+-- the text of a line in a journal
+abbrev pub line_text : Line → List ℕ
+line_text line = told_text telling.Journal line
+
+-- the text of a line in a trace
+abbrev pub trace_text : Line → List ℕ
+trace_text line = told_text telling.Trace line
 
 -- the last line of a journal: the clock and the number of copies
 abbrev pub end_text : ℕ → ℕ → List ℕ

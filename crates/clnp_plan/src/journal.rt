@@ -1,9 +1,9 @@
-//! The text of journal lines: words separated by one space, each line ended by `\n`.
+//! The text of the lines of journals and traces: words separated by one space, each line ended by `\n`.
 ghost use Rattle.std.specs.Prelude.{◌≡◌, [], ◌∷◌, ◌++◌, codes, map, take, length, OnOk, OnErr};
 ghost use Rattle.std.specs.Fmt.{decimal};
 ghost use Rattle.pdu_header.specs.Nsap.Text.{hex_text};
 ghost use Rattle.pdu_header.specs.Spelling.{pair_of};
-ghost use Rattle.clnp_plan.specs.Journal.{Injected, Late, Noted, Transmitted, Void, line_of, line_text, end_text, heard_words, ignored_word, kind_word, on_word, table_word, why_word, octet_word, octets_word, identifier_word, rule_word, target_word};
+ghost use Rattle.clnp_plan.specs.Journal.{ForNobody, Injected, Late, Lost, Noted, Received, Transmitted, Void, line_of, line_text, trace_text, end_text, heard_words, ignored_word, kind_word, on_word, table_word, why_word, octet_word, octets_word, identifier_word, rule_word, target_word};
 ghost use Rattle.clnp_plan.specs.Words.{line_from, word_text};
 
 use crate::note::{Note, Why};
@@ -12,6 +12,15 @@ use pdu_header::Kind;
 use pdu_header::clnp_base::{NoMemory, Octets, push, push_decimal, push_hex};
 use pdu_header::nsap::{Address, Snpa, Target};
 use std::alloc::Global;
+
+/// Which lines of moves are written.
+#[derive(Clone, Copy)]
+pub enum Telling {
+    /// Those of a journal: what systems note and transmit, and the copies that aren't given.
+    Journal,
+    /// Those of a trace: beside these what becomes of each copy.
+    Trace,
+}
 
 /// A word of a line.
 #[derive(Clone, Copy)]
@@ -467,6 +476,57 @@ pub fn injection_text<'a>(
         Word::Octets(sender.as_bytes()),
         target_word(target),
     ];
+    push_line(Word::Number(now), &words, out)
+}
+
+/// Appends the line of a trace that tells of a copy that is given to a system on a port.
+///
+/// # Errors
+///
+/// `NoMemory`; `out` is then as it was.
+pub fn receipt_text(
+    _alloc: Global,
+    now: u64,
+    name: &[u8],
+    copy: u64,
+    port: u8,
+    out: &mut Vec<u8>,
+) -> Result<(), NoMemory>
+    ensures written { OnOk result (out.new.items ≡ out.old.items ++ trace_text (Received now name.now copy port)) }
+    ensures same { OnErr result (out.new.items ≡ out.old.items) }
+{
+    let words = [
+        Word::Text(name),
+        Word::Text(b"rx"),
+        Word::Number(copy),
+        Word::Number(u64::from(port)),
+    ];
+    push_line(Word::Number(now), &words, out)
+}
+
+/// Appends the line of a trace that tells of a copy that is lost.
+///
+/// # Errors
+///
+/// `NoMemory`; `out` is then as it was.
+pub fn loss_text(_alloc: Global, now: u64, copy: u64, out: &mut Vec<u8>) -> Result<(), NoMemory>
+    ensures written { OnOk result (out.new.items ≡ out.old.items ++ trace_text (Lost now copy)) }
+    ensures same { OnErr result (out.new.items ≡ out.old.items) }
+{
+    let words = [Word::Text(b"-"), Word::Text(b"lost"), Word::Number(copy)];
+    push_line(Word::Number(now), &words, out)
+}
+
+/// Appends the line of a trace that tells of a copy that is settled and is for nobody.
+///
+/// # Errors
+///
+/// `NoMemory`; `out` is then as it was.
+pub fn nobody_text(_alloc: Global, now: u64, copy: u64, out: &mut Vec<u8>) -> Result<(), NoMemory>
+    ensures written { OnOk result (out.new.items ≡ out.old.items ++ trace_text (ForNobody now copy)) }
+    ensures same { OnErr result (out.new.items ≡ out.old.items) }
+{
+    let words = [Word::Text(b"-"), Word::Text(b"nobody"), Word::Number(copy)];
     push_line(Word::Number(now), &words, out)
 }
 

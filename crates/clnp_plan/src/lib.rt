@@ -12,7 +12,8 @@ pub use config::{Limits, PortConfig, Role, Settings, SystemConfig};
 pub use esis_tables;
 pub use forwarding;
 pub use journal::{
-    injection_text, journal_text, late_text, push_end, transmission_text, void_text,
+    Telling, injection_text, journal_text, late_text, loss_text, nobody_text, push_end,
+    receipt_text, transmission_text, void_text,
 };
 pub use note::{Note, Why};
 pub use output::{Output, Sending};

@@ -5,7 +5,10 @@ use Rattle.clnp_commands.specs.ClnpBase.Streams.{AppendsFront}
 use Rattle.clnp_commands.specs.CommandBase.declared.status.Status.{Status}
 use Rattle.clnp_commands.specs.CommandBase.declared.status.Status.TheVariants.{Done, WriteFault}
 use Rattle.clnp_commands.specs.CommandBase.Exit.{exit_number}
+use Rattle.clnp_commands.specs.Live.{RunsAs}
+use Rattle.clnp_commands.specs.LinkBoard.Ports.{PortState}
 use Rattle.clnp_commands.specs.Serves.{Serves}
+use Rattle.clnp_commands.specs.Words.{command_of}
 use Rattle.clnp_program.specs.Texts.{behind_fault, information}
 use Rattle.clnp_program.specs.declared.fault.Fault.{Fault}
 use Rattle.clnp_program.specs.Faults.{fault_of}
@@ -25,6 +28,19 @@ AnswersOn None words left_before left_after before after same_source same_sink r
 abbrev pub Answers : (words : List (List ℕ)) → (left_before left_after before after : Option (List ℕ)) → (same_source same_sink read_rose write_rose : Type 0) → Status → Type 0
 Answers words left_before left_after before after same_source same_sink read_rose write_rose status =
     AnswersOn (information words) words left_before left_after before after same_source same_sink read_rose write_rose status
+
+-- what becomes of the board and the clock: a text about the program leaves them as they are
+abbrev pub RunsOn : Option (List ℕ) → (words : List (List ℕ)) → (left_before left_after before after : Option (List ℕ)) → (ports_before ports_after : List PortState) → (moments_before moments_after : Option (List ℕ)) → (same_sink same_board same_clock read_rose write_rose : Type 0) → Status → Type 0
+RunsOn (Some text) words left_before left_after before after ports_before ports_after moments_before moments_after same_sink same_board same_clock read_rose write_rose status =
+    same_board × same_clock
+RunsOn None words left_before left_after before after ports_before ports_after moments_before moments_after same_sink same_board same_clock read_rose write_rose status =
+    RunsAs (command_of words) left_before left_after before after ports_before ports_after moments_before moments_after
+    same_sink same_board same_clock read_rose write_rose status
+
+abbrev pub Runs : (words : List (List ℕ)) → (left_before left_after before after : Option (List ℕ)) → (ports_before ports_after : List PortState) → (moments_before moments_after : Option (List ℕ)) → (same_sink same_board same_clock read_rose write_rose : Type 0) → Status → Type 0
+Runs words left_before left_after before after ports_before ports_after moments_before moments_after same_sink same_board same_clock read_rose write_rose status =
+    RunsOn (information words) words left_before left_after before after ports_before ports_after moments_before moments_after
+    same_sink same_board same_clock read_rose write_rose status
 
 -- the line of a fault, with a text of its own, and behind that of bad words which words are commands
 abbrev pub line_of_fault : Fault → (text : List ℕ) → List ℕ

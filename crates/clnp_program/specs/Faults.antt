@@ -3,7 +3,7 @@ use Rattle.std.specs.Prelude.{Option, None, Some}
 use Rattle.clnp_commands.specs.CommandBase.declared.status.Status.{Status}
 use Rattle.clnp_commands.specs.CommandBase.declared.status.Status.TheVariants as status
 use Rattle.clnp_program.specs.declared.fault.Fault.{Fault}
-use Rattle.clnp_program.specs.declared.fault.Fault.TheVariants.{BadWords, TooLong, BadInput, WorldFull, ReadFault, WriteFault, NoMemory}
+use Rattle.clnp_program.specs.declared.fault.Fault.TheVariants.{BadWords, TooLong, BadInput, WorldFull, ReadFault, WriteFault, LinksGone, NoMemory}
 
 -- the fault of a status, if it is one
 abbrev pub fault_of : Status → Option Fault
@@ -14,4 +14,5 @@ fault_of (status.BadInput line code) = Some (BadInput line code)
 fault_of (status.WorldFull octets) = Some (WorldFull octets)
 fault_of status.ReadFault = Some ReadFault
 fault_of status.WriteFault = Some WriteFault
+fault_of (status.LinksGone links) = Some (LinksGone links)
 fault_of status.NoMemory = Some NoMemory

@@ -18,6 +18,12 @@ sim_page = codes "Reads a scenario text and writes the journal of its run: a lin
 abbrev pub sim_form : Form
 sim_form = record { name = codes "sim"; takes = codes " < SCENARIO"; does = codes "    reads a scenario and writes its journal"; page = sim_page }
 
+unfoldable pub trace_page : List ℕ
+trace_page = codes "Reads a scenario text and writes the trace of its run: its journal, as clnp sim\nwrites it, and between its lines what becomes of each copy of a frame: rx where one\ncomes to a system, before what comes of it; lost; or nobody where it is for no system.\n\nExample:\n\n  $ clnp trace < hi.txt\n  0 a sent dt 1 - 47002702 47002701 2\n  0 a tx 1 0 es 8113010a3c0015ce58044700270104470027026869\n  0 b rx 1 0\n  0 b got 47002702 47002701 6869\n  end 0 1\n\nwhere hi.txt is the scenario at the end of clnp --help.\n"
+
+abbrev pub trace_form : Form
+trace_form = record { name = codes "trace"; takes = codes " < SCENARIO"; does = codes "  reads a scenario and writes its journal with what becomes of each copy"; page = trace_page }
+
 unfoldable pub show_page : List ℕ
 show_page = codes "Reads a capture and writes a line of text for each of its frames, up to the first\nbad line. A frame stands in a line of its own, in hexadecimal digits, two an octet,\nand nothing else; lines that are empty or begin with # are skipped.\n\nExample:\n\n  $ echo 8113010a3c0015ce58044700270104470027026869 | clnp show\n  clnp dt e life=10 sum=ce58 to=47002701 from=47002702 data=6869 rest=\n"
 
@@ -72,11 +78,18 @@ storm_page = codes "Reads nothing. Runs the scenario that the seed makes, four h
 abbrev pub storm_form : Form
 storm_form = record { name = codes "storm"; takes = codes " SEED"; does = codes "        runs the scenario that the seed makes and writes a line of what it counts"; page = storm_page }
 
+unfoldable pub run_page : List ℕ
+run_page = codes "Reads a scenario of one system and runs that system over links, one for each of its\nports in their order, for N turns, 1 to 1,000,000,000; it writes the system's journal\nwhile it runs. In a turn it reads the clock, which ticks twice a second from 0 on, does\nthe events that are due, which are send, echo and tick alone, and looks once at each\nlink. There are up to 8 links: udp:A.B.C.D:P is one that receives at this address and\nport, and behind it stand up to 16 peers, as ,hA.B.C.D:P for a host and ,rA.B.C.D:P for\na router, who get the frames for all of them. A frame is a datagram, and a system's\nsubnetwork address is the six octets of its address and port. Where a link fails the\nnode goes on with the others.\n\nExample:\n\n  $ clnp run --turns 1 udp:127.0.0.1:7001,h127.0.0.1:7002 < one.txt\n  0 a sent dt 1 - 47002702 47002701 2\n  0 a tx 1 0 es 8113010a3c0015ce58044700270104470027026869\n  end 0 1\n\nwhere one.txt is\n\n  clnp-sim 1\n  subnet lan 1500\n  system a host hello=0\n  address a 47002702\n  port a 0 lan 7f0000011b59\n  events\n  send a 47002702 47002701 hex:6869 life=10 whole\n  end\n"
+
+abbrev pub run_form : Form
+run_form = record { name = codes "run"; takes = codes " --turns N LINK.. < SCENARIO"; does = codes "\n                         runs one system over links and writes its journal"; page = run_page }
+
 -- The commands. Whatever tells of them tells of these.
 abbrev pub commands : List Form
 commands =
-    sim_form ∷ show_form ∷ check_form ∷ pack_form ∷ pcap_show_form
-    ∷ pcap_make_form ∷ pcap_lines_form ∷ reassemble_form ∷ migrate_form ∷ storm_form ∷ []
+    sim_form ∷ trace_form ∷ show_form ∷ check_form ∷ pack_form ∷ pcap_show_form
+    ∷ pcap_make_form ∷ pcap_lines_form ∷ reassemble_form ∷ migrate_form ∷ storm_form
+    ∷ run_form ∷ []
 
 -- a command as its user writes it
 abbrev pub words_of : Form → List ℕ
@@ -96,7 +109,7 @@ version_text = codes "clnp 0.1.0\n"
 unfoldable pub help_text : List ℕ
 help_text =
     codes "clnp simulates a connectionless network (ISO/IEC 8473, RFC 994), and reads and\nmakes captures of its frames.\n\n" ++ (flat_map help_line commands ++
-    codes "  clnp COMMAND --help    writes what a command reads and writes, with an example\n  clnp --help            writes this text, as clnp -h and clnp help do\n  clnp --version         writes the version\n\nExit numbers:\n  0  done\n  1  the words are no command\n  2  the input has more than 16,777,216 octets, or an Ethernet capture more\n     than 1,073,741,824\n  3  the input isn't what the command reads: a line of it is bad\n  4  the frames of the simulated network weigh 268,435,456 octets or more\n  5  standard input failed\n  6  standard output failed\n  8  no memory\n\nA scenario, in which the host a sends two octets to the host b:\n\n  clnp-sim 1\n  subnet lan 1500\n  system a host hello=0\n  system b host hello=0\n  address a 47002702\n  address b 47002701\n  port a 0 lan 01\n  port b 0 lan 02\n  events\n  send a 47002702 47002701 hex:6869 life=10 whole\n  settle 1\n  end\n")
+    codes "  clnp COMMAND --help    writes what a command reads and writes, with an example\n  clnp --help            writes this text, as clnp -h and clnp help do\n  clnp --version         writes the version\n\nExit numbers:\n  0  done\n  1  the words are no command\n  2  the input has more than 16,777,216 octets, or an Ethernet capture more\n     than 1,073,741,824\n  3  the input isn't what the command reads: a line of it is bad\n  4  the frames of the simulated network weigh 268,435,456 octets or more\n  5  standard input failed\n  6  standard output failed\n  7  all links of a run failed\n  8  no memory\n  9  a link of a run can't be opened\n\nA scenario, in which the host a sends two octets to the host b:\n\n  clnp-sim 1\n  subnet lan 1500\n  system a host hello=0\n  system b host hello=0\n  address a 47002702\n  address b 47002701\n  port a 0 lan 01\n  port b 0 lan 02\n  events\n  send a 47002702 47002701 hex:6869 life=10 whole\n  settle 1\n  end\n")
 
 -- the words that ask for help, each alone
 abbrev pub asks_for_help : List ℕ → Bool

@@ -1,28 +1,35 @@
 //! A call of the program over its words, its input, its output and standard error.
-ghost use Rattle.std.specs.Prelude.{◌≡◌, ◌≤◌, ℕ, false, List, [], map, string_bytes};
+ghost use Rattle.std.specs.Prelude.{◌≡◌, ◌≤◌, ◌⊎◌, ℕ, false, List, [], map, string_bytes};
 ghost use Rattle.clnp_commands.specs.Advised.{Advised, is_bad_input};
 ghost use Rattle.clnp_commands.specs.ClnpBase.Streams.{Rose};
 ghost use Rattle.clnp_commands.specs.Words.{command_of};
-ghost use Rattle.clnp_program.specs.Answers.{Answers, Ends, Informs};
+ghost use Rattle.clnp_program.specs.declared.fault.Fault.{Fault};
+ghost use Rattle.clnp_program.specs.Answers.{Answers, Ends, Informs, Runs, WritesLine};
 
-use crate::fault::report;
+use crate::fault::{Fault, report, write_fault};
 use crate::help::information;
-use clnp_commands::clnp_base::{Sink, Source, write_all};
+use clnp_commands::clnp_base::{Clock, Sink, Source, write_all};
+use clnp_commands::link_board::Ports;
 use clnp_commands::{Advice, Status, clnp_main};
 use std::alloc::Global;
 
-/// Answers the words on the source and the sink, says on `errors` what went wrong, and gives the
+/// The exit number where the local end of a link word can't be bound.
+const NO_LINK: u8 = 9;
+
+/// Answers the words on the source, the sink, the board of links and the clock, says on `errors` what went wrong, and gives the
 /// exit number.
-pub fn run<S: Source, K: Sink, E: Sink>(
+pub fn run<S: Source, K: Sink, B: Ports, C: Clock, E: Sink>(
     alloc: Global,
     words: &[String],
     source: &mut S,
     sink: &mut K,
+    board: &mut B,
+    clock: &mut C,
     errors: &mut E,
 ) -> u8
-    // The counts of faults never fall.
+    // The counts of faults never fall, nor does the clock go back.
     ensures later { (S.faults source.old ≤ S.faults source.new)
-        × ((K.faults sink.old ≤ K.faults sink.new) × (E.faults errors.old ≤ E.faults errors.new)) }
+        × ((K.faults sink.old ≤ K.faults sink.new) × ((E.faults errors.old ≤ E.faults errors.new) × (C.last clock.old ≤ C.last clock.new))) }
 
     // There is a status that the words, the source and the sink come to, and there is what is told beside it, and the exit
     // number and what is said are theirs.
@@ -30,10 +37,14 @@ pub fn run<S: Source, K: Sink, E: Sink>(
         × Ends status advice result (E.written errors.old) (E.written errors.new) (Rose (E.faults errors.old) (E.faults errors.new))
         × Answers (map string_bytes words.now) (S.left source.old) (S.left source.new) (K.written sink.old) (K.written sink.new)
         (source.new ≡ source.old) (sink.new ≡ sink.old)
+        (Rose (S.faults source.old) (S.faults source.new)) (Rose (K.faults sink.old) (K.faults sink.new)) status
+        × Runs (map string_bytes words.now) (S.left source.old) (S.left source.new) (K.written sink.old) (K.written sink.new)
+        (B.ports board.old) (B.ports board.new) (C.moments clock.old) (C.moments clock.new)
+        (sink.new ≡ sink.old) (board.new ≡ board.old) (clock.new ≡ clock.old)
         (Rose (S.faults source.old) (S.faults source.new)) (Rose (K.faults sink.old) (K.faults sink.new)) status }
 {
     let mut advice = Advice::new();
-    let status = answer(alloc, words, source, sink, &mut advice);
+    let status = answer(alloc, words, source, sink, board, clock, &mut advice);
     end_advised(status, &advice, errors)
 }
 
@@ -56,16 +67,34 @@ fn end_advised<E: Sink>(status: Status, advice: &Advice, errors: &mut E) -> u8
     status.exit_number()
 }
 
+/// Says that the local end of the link word at a place can't be bound, and gives the exit number.
+///
+/// Where standard error fails too, the exit number alone tells.
+pub fn end_without_link<E: Sink>(at: usize, errors: &mut E) -> u8
+    ensures later { E.faults errors.old ≤ E.faults errors.new }
+    ensures exits { result ≡ 9 }
+    ensures told { WritesLine (Fault.NoLink at) (E.written errors.old) (E.written errors.new) ⊎ Rose (E.faults errors.old) (E.faults errors.new) }
+{
+    let _ = write_fault(Fault::NoLink { at }, errors);
+    NO_LINK
+}
+
 /// Answers the words: writes a text about the program, or does what the command says.
-fn answer<S: Source, K: Sink>(
+fn answer<S: Source, K: Sink, B: Ports, C: Clock>(
     alloc: Global,
     words: &[String],
     source: &mut S,
     sink: &mut K,
+    board: &mut B,
+    clock: &mut C,
     advice: &mut Advice,
 ) -> Status
     requires { advice.old ≡ [] }
-    ensures later { (S.faults source.old ≤ S.faults source.new) × (K.faults sink.old ≤ K.faults sink.new) }
+    ensures later { (S.faults source.old ≤ S.faults source.new) × (K.faults sink.old ≤ K.faults sink.new) × (C.last clock.old ≤ C.last clock.new) }
+    ensures runs { Runs (map string_bytes words.now) (S.left source.old) (S.left source.new) (K.written sink.old) (K.written sink.new)
+        (B.ports board.old) (B.ports board.new) (C.moments clock.old) (C.moments clock.new)
+        (sink.new ≡ sink.old) (board.new ≡ board.old) (clock.new ≡ clock.old)
+        (Rose (S.faults source.old) (S.faults source.new)) (Rose (K.faults sink.old) (K.faults sink.new)) result }
     ensures answers { Answers (map string_bytes words.now) (S.left source.old) (S.left source.new) (K.written sink.old) (K.written sink.new)
         (source.new ≡ source.old) (sink.new ≡ sink.old)
         (Rose (S.faults source.old) (S.faults source.new)) (Rose (K.faults sink.old) (K.faults sink.new)) result }
@@ -73,7 +102,7 @@ fn answer<S: Source, K: Sink>(
 {
     match information(words) {
         Some(text) => inform(text, sink),
-        None => clnp_main(alloc, words, source, sink, advice),
+        None => clnp_main(alloc, words, source, sink, board, clock, advice),
     }
 }
 

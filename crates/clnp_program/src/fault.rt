@@ -15,7 +15,7 @@ use thiserror::Error;
 
 /// The end of the line of bad words, and which words are commands.
 const WANTED: &str = "
-clnp: wanted: sim, show, check, pack, pcap-show, pcap-make, pcap-lines, reassemble, migrate, or storm; clnp --help tells of each
+clnp: wanted: sim, trace, show, check, pack, pcap-show, pcap-make, pcap-lines, reassemble, migrate, storm, or run; clnp --help tells of each
 ";
 
 /// The code of a magic number that is none.
@@ -47,9 +47,15 @@ pub enum Fault {
     /// The sink failed.
     #[error("write fault")]
     WriteFault,
+    /// At the end of a turn of a live node no port had its link any more, of so many.
+    #[error("all {links} links gone")]
+    LinksGone { links: u8 },
     /// Memory was refused.
     #[error("no memory")]
     NoMemory,
+    /// The local end of the link word at this place, from 0, couldn't be bound.
+    #[error("no link at {at}")]
+    NoLink { at: usize },
 }
 
 impl Fault {
@@ -65,6 +71,7 @@ impl Fault {
             Status::WorldFull { octets } => Some(Fault::WorldFull { octets }),
             Status::ReadFault => Some(Fault::ReadFault),
             Status::WriteFault => Some(Fault::WriteFault),
+            Status::LinksGone { links } => Some(Fault::LinksGone { links }),
             Status::NoMemory => Some(Fault::NoMemory),
         }
     }
@@ -114,7 +121,7 @@ fn write_advice<K: Sink>(advice: &[u8], errors: &mut K) -> Result<(), Failed>
 }
 
 /// Writes the line of a fault, and behind that of bad words which words are commands.
-fn write_fault<K: Sink>(fault: Fault, errors: &mut K) -> Result<(), Failed>
+pub(crate) fn write_fault<K: Sink>(fault: Fault, errors: &mut K) -> Result<(), Failed>
     ensures later { K.faults errors.old ≤ K.faults errors.new }
     ensures written { OnOk result (WritesLine fault (K.written errors.old) (K.written errors.new)) }
     ensures failed { OnErr result (Rose (K.faults errors.old) (K.faults errors.new)) }

@@ -11,6 +11,7 @@ clnp simulates a connectionless network (ISO/IEC 8473, RFC 994), and reads and
 makes captures of its frames.
 
   clnp sim < SCENARIO    reads a scenario and writes its journal
+  clnp trace < SCENARIO  reads a scenario and writes its journal with what becomes of each copy
   clnp show < CAPTURE    reads frames in hexadecimal digits and writes a line for each
   clnp check < VECTORS   reads frames with the lines expected of show and writes which pass
   clnp pack < SHOWN      reads lines that show frames and writes the frame of each
@@ -21,6 +22,8 @@ makes captures of its frames.
   clnp migrate < SCENARIO
                          reads a scenario of version 1 and writes it in version 2
   clnp storm SEED        runs the scenario that the seed makes and writes a line of what it counts
+  clnp run --turns N LINK.. < SCENARIO
+                         runs one system over links and writes its journal
   clnp COMMAND --help    writes what a command reads and writes, with an example
   clnp --help            writes this text, as clnp -h and clnp help do
   clnp --version         writes the version
@@ -34,7 +37,9 @@ Exit numbers:
   4  the frames of the simulated network weigh 268,435,456 octets or more
   5  standard input failed
   6  standard output failed
+  7  all links of a run failed
   8  no memory
+  9  a link of a run can't be opened
 
 A scenario, in which the host a sends two octets to the host b:
 

@@ -7,7 +7,7 @@ mod fault;
 mod help;
 mod pages;
 
-pub use call::{end, run};
+pub use call::{end, end_without_link, run};
 pub use clnp_commands;
 pub use clnp_commands::{clnp_base, clnp_world, scenario};
 pub use fault::Fault;

@@ -1,6 +1,6 @@
 //! What the program says of each command.
 ghost use Rattle.std.specs.Prelude.{◌≡◌, option_copied};
-ghost use Rattle.clnp_program.specs.Texts.{check_form, commands, migrate_form, pack_form, page_among, page_text, pcap_lines_form, pcap_make_form, pcap_show_form, reassemble_form, show_form, sim_form, storm_form};
+ghost use Rattle.clnp_program.specs.Texts.{check_form, commands, migrate_form, pack_form, page_among, page_text, pcap_lines_form, pcap_make_form, pcap_show_form, reassemble_form, run_form, show_form, sim_form, storm_form, trace_form};
 
 const SIM: &str = "\
 clnp sim < SCENARIO
@@ -14,6 +14,25 @@ Example:
   $ clnp sim < hi.txt
   0 a sent dt 1 - 47002702 47002701 2
   0 a tx 1 0 es 8113010a3c0015ce58044700270104470027026869
+  0 b got 47002702 47002701 6869
+  end 0 1
+
+where hi.txt is the scenario at the end of clnp --help.
+";
+
+const TRACE: &str = "\
+clnp trace < SCENARIO
+
+Reads a scenario text and writes the trace of its run: its journal, as clnp sim
+writes it, and between its lines what becomes of each copy of a frame: rx where one
+comes to a system, before what comes of it; lost; or nobody where it is for no system.
+
+Example:
+
+  $ clnp trace < hi.txt
+  0 a sent dt 1 - 47002702 47002701 2
+  0 a tx 1 0 es 8113010a3c0015ce58044700270104470027026869
+  0 b rx 1 0
   0 b got 47002702 47002701 6869
   end 0 1
 
@@ -159,12 +178,46 @@ that is how many event lines and copies there were, how many lines of each kind 
 journal has, and the clock at its end, in ticks of half a second.
 ";
 
+const RUN: &str = "\
+clnp run --turns N LINK.. < SCENARIO
+
+Reads a scenario of one system and runs that system over links, one for each of its
+ports in their order, for N turns, 1 to 1,000,000,000; it writes the system's journal
+while it runs. In a turn it reads the clock, which ticks twice a second from 0 on, does
+the events that are due, which are send, echo and tick alone, and looks once at each
+link. There are up to 8 links: udp:A.B.C.D:P is one that receives at this address and
+port, and behind it stand up to 16 peers, as ,hA.B.C.D:P for a host and ,rA.B.C.D:P for
+a router, who get the frames for all of them. A frame is a datagram, and a system's
+subnetwork address is the six octets of its address and port. Where a link fails the
+node goes on with the others.
+
+Example:
+
+  $ clnp run --turns 1 udp:127.0.0.1:7001,h127.0.0.1:7002 < one.txt
+  0 a sent dt 1 - 47002702 47002701 2
+  0 a tx 1 0 es 8113010a3c0015ce58044700270104470027026869
+  end 0 1
+
+where one.txt is
+
+  clnp-sim 1
+  subnet lan 1500
+  system a host hello=0
+  address a 47002702
+  port a 0 lan 7f0000011b59
+  events
+  send a 47002702 47002701 hex:6869 life=10 whole
+  end
+";
+
 /// The page of the command of a name.
 pub(crate) fn page_of(name: &str) -> Option<&'static str>
     ensures { option_copied result ≡ page_among commands name.now }
 {
     if name == "sim" {
         Some(sim())
+    } else if name == "trace" {
+        Some(trace())
     } else if name == "show" {
         Some(show())
     } else if name == "check" {
@@ -183,6 +236,8 @@ pub(crate) fn page_of(name: &str) -> Option<&'static str>
         Some(migrate())
     } else if name == "storm" {
         Some(storm())
+    } else if name == "run" {
+        Some(run())
     } else {
         None
     }
@@ -193,6 +248,13 @@ fn sim() -> &'static str
     ensures { result.now ≡ page_text sim_form }
 {
     SIM
+}
+
+/// The answer to `trace --help`.
+fn trace() -> &'static str
+    ensures { result.now ≡ page_text trace_form }
+{
+    TRACE
 }
 
 /// The answer to `show --help`.
@@ -256,4 +318,11 @@ fn storm() -> &'static str
     ensures { result.now ≡ page_text storm_form }
 {
     STORM
+}
+
+/// The answer to `run --help`.
+fn run() -> &'static str
+    ensures { result.now ≡ page_text run_form }
+{
+    RUN
 }

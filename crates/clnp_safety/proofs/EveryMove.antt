@@ -21,7 +21,7 @@ use Rattle.std.proofs.lemmas.List.{append-nil}
 use Rattle.clnp_safety.specs.Growth.{IsFront}
 use Rattle.clnp_safety.proofs.Grows.{effect_copies, front-more}
 use Rattle.clnp_safety.proofs.Lines.{AnyLine}
-use Rattle.clnp_safety.proofs.Steps.{keeps-map, keeps-put_all_out, InjectedIsFine, Keeps, NotGivenIsFine, keeps-nothing, keeps-followed_by, keeps-comes_to, keeps-asks, keeps-give_each, keeps-deliver, keeps-injects, with_outside}
+use Rattle.clnp_safety.proofs.Steps.{keeps-map, keeps-put_all_out, InjectedIsFine, Keeps, GivingIsFine, keeps-nothing, keeps-followed_by, keeps-comes_to, keeps-asks, keeps-give_each, keeps-settle_for, keeps-deliver, keeps-injects, with_outside}
 
 -- what an event asks of a system is such as Comes says, and a frame from outside such as Brings says of its sender and octets
 abbrev pub GivesOnly : (Comes : Input → Type 0) (Brings : List ℕ → List ℕ → Type 0) → Event → Type 0
@@ -82,7 +82,7 @@ pub record EachStepKeeps (Comes : World → Input → Type 0) (Brings : List ℕ
   pub outside : (w : World) (subnet : ℕ) (sender : List ℕ) (target : Target) (octets : List ℕ) → Brings sender octets → K w
       → K (with_outside w subnet sender target octets)
   pub injected : InjectedIsFine Q
-  pub fine : NotGivenIsFine Q
+  pub fine : GivingIsFine Q
 
 -- a system that takes a step adds the units that it makes
 put_out_makes : (units : List unit.Unit) (system : SystemState) (output : Output) (v : World) → v.units ≡ units
@@ -146,17 +146,18 @@ module _ (Comes : World → Input → Type 0) (Brings : List ℕ → List ℕ �
       let given : Numbered = record { number = w.cursor + 1; copy = copy } in
       let places = addressees_from 0 copy w.systems in
       let first : World = record w { cursor = w.cursor + 1 } in
-      keeps-map (GrowsFrom w K) K Q (give_each limits given first places) (λ v h. h.0)
+      keeps-settle_for K Q each.fine limits given first places
+      (keeps-map (GrowsFrom w K) K Q (give_each limits given first places) (λ v h. h.0)
       (keeps-give_each (GrowsFrom w K) Q each.fine limits given places
       (λ v place h s there soon.
       let input = frame_to s copy in
       let taken = each.steps v place s input there (each.frames w w.cursor copy e k v h.1 s) tt h.0 in
       record { world = (taken.world, follows_effect w v place (step s input) h.1); lines = taken.lines })
-      first (each.cursor w (w.cursor + 1) k, record { units = ([], sym (append-nil w.units)); copies = ([], sym (append-nil w.copies)) }))
+      first (each.cursor w (w.cursor + 1) k, record { units = ([], sym (append-nil w.units)); copies = ([], sym (append-nil w.copies)) })))
 
   keeps-lose : (w : World) (found : Option Copy) → K w → Keeps K Q (lose_copy w found)
   keeps-lose w None k = keeps-nothing K Q w k
-  keeps-lose w (Some copy) k = keeps-nothing K Q (record w { cursor = w.cursor + 1 }) (each.cursor w (w.cursor + 1) k)
+  keeps-lose w (Some copy) k = record { world = each.cursor w (w.cursor + 1) k; lines = (each.fine.lost w.clock (w.cursor + 1), tt) }
 
   module _ (plan : Plan) (may : (w : World) → AllByRecursion (GivesOnly (Comes w) Brings) plan.events) where
     pub keeps-move : (w : World) (move : Move) → K w → Keeps K Q (after plan w move)

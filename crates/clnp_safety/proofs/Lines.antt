@@ -11,7 +11,7 @@ use Rattle.clnp_network.specs.Safe.{HandsUp, IsFounded, NoRefusal, NoInterferenc
 use Rattle.std.specs.List.{AllByRecursion}
 use Rattle.clnp_machine.specs.Steps.{IsNoRestart}
 use Rattle.clnp_machine.specs.Told.{NoteIsQuiet}
-use Rattle.clnp_safety.proofs.Steps.{NotGivenIsFine}
+use Rattle.clnp_safety.proofs.Steps.{GivingIsFine}
 use Rattle.clnp_safety.proofs.Honest.{NoteIsHonest, NoteIsSound}
 
 -- a line notes only what Q holds of, beside the name of the system that notes it
@@ -23,8 +23,14 @@ LineIs Q _ = Unit {0}
 abbrev pub AnyLine : Line → Type 0
 AnyLine line = Unit {0}
 
-pub any_line_is_fine : NotGivenIsFine AnyLine
-any_line_is_fine = record { void = λ now name copy. tt; late = λ now name copy. tt }
+pub any_line_is_fine : GivingIsFine AnyLine
+any_line_is_fine = record {
+  void = λ now name copy. tt;
+  late = λ now name copy. tt;
+  received = λ now name copy port. tt;
+  lost = λ now copy. tt;
+  nobody = λ now copy. tt;
+}
 
 line_is : (P Q : List ℕ → Note → Type 0) → ((name : List ℕ) (note : Note) → P name note → Q name note) → (line : Line) → LineIs P line → LineIs Q line
 line_is P Q f (Noted now name note) h = f name note h

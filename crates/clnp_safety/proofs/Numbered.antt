@@ -22,7 +22,7 @@ use Rattle.clnp_machine.specs.Content.{Content, Labelled, Esis, frame_of}
 use Rattle.clnp_machine.specs.System.{SystemState, Input, AsksToSend, AsksForEcho, MomentComes, IsRestarted, IsCongested, Output, Transmits, SendsEsis, Notes, Effect}
 use Rattle.clnp_machine.specs.Ports.{ComesByPort, GoesByPort}
 use Rattle.clnp_machine.specs.Step.{step}
-use Rattle.clnp_network.specs.World.{World, Copy, Numbered, Step, addressees_from, after, asks_role, asks_system, comes, comes_to, copy_from, deliver_at, deliver_to, enters, event_happens, first_port, followed_by, frame_to, give, give_each, give_to, injects_on, is_addressee, is_late, lose_copy, nothing, put_all_out, put_out, sends_frame, settle_copy, takes_effect, tick_each, with_effect, writes}
+use Rattle.clnp_network.specs.World.{World, Copy, Numbered, Step, addressees_from, after, asks_role, asks_system, comes, comes_to, copy_from, deliver_at, deliver_to, enters, event_happens, first_port, followed_by, for_nobody, frame_to, give, give_each, give_to, injects_on, is_addressee, is_late, lose_copy, nothing, put_all_out, put_out, sends_frame, settle_copy, takes_effect, tick_each, with_effect, writes}
 use Rattle.clnp_safety.specs.Growth.{IsCopyAt, IsFront, TellsItsCopy}
 use Rattle.clnp_safety.specs.StepLaws.{StepLaws}
 use Rattle.clnp_safety.proofs.Grows.{front-more}
@@ -138,6 +138,10 @@ each_is_for base copy from (system ∷ systems) same =
       | inr isnt ↦ rw isnt rest
     ]
 
+nobody_tells : (copies : List Copy) (now number : ℕ) (places : List ℕ) → AllByRecursion (TellsItsCopy copies) (for_nobody now number places)
+nobody_tells copies now number [] = (tt, tt)
+nobody_tells copies now number (place ∷ places) = tt
+
 module _ (laws : StepLaws) (ports : GoByPorts) where
   effect_tells : (w : World) (place : ℕ) (s : SystemState) (input : Input) → ComesByPort s input → Tells w (takes_effect w place (step s input))
   effect_tells w place s input comes =
@@ -179,8 +183,9 @@ module _ (laws : StepLaws) (ports : GoByPorts) where
           | inl late ↦ rw late (tells_line w (Late w.clock s.configuration.name given.number) tt)
           | inr soon ↦
               rw soon
-              (effect_tells w place s (frame_to s given.copy)
-              (first_is_there given.copy s.configuration.role s.configuration.ports (for s refl)))
+              (let told = effect_tells w place s (frame_to s given.copy)
+              (first_is_there given.copy s.configuration.role s.configuration.ports (for s refl)) in
+              record { front = told.front; lines = (tt, told.lines) })
         ]
 
     module _ (base : List SystemState) where
@@ -218,11 +223,19 @@ module _ (laws : StepLaws) (ports : GoByPorts) where
       let told = give_each_tells limits given w.systems (addressees_from 0 copy w.systems)
       (each_is_for w.systems copy 0 w.systems (λ k. ap (slice_get w.systems) (let same : k ≡ 0 + k = omega arith in same)))
       (record w { cursor = w.cursor + 1 }) (λ place s e. (s, e, refl)) in
-      record { front = told.front; lines = told.lines }
+      let next : World = record w { cursor = w.cursor + 1 } in
+      record {
+        front = told.front;
+        lines = AllByRecursion-append (TellsItsCopy (give_each limits given next (addressees_from 0 copy w.systems)).world.copies)
+            (for_nobody w.clock (w.cursor + 1) (addressees_from 0 copy w.systems))
+            (give_each limits given next (addressees_from 0 copy w.systems)).lines
+            (nobody_tells (give_each limits given next (addressees_from 0 copy w.systems)).world.copies w.clock (w.cursor + 1) (addressees_from 0 copy w.systems))
+            told.lines;
+      }
 
   lose_tells : (w : World) (found : Option Copy) → Tells w (lose_copy w found)
   lose_tells w None = tells_nothing w
-  lose_tells w (Some copy) = record { front = ([], sym (append-nil w.copies)); lines = tt }
+  lose_tells w (Some copy) = record { front = ([], sym (append-nil w.copies)); lines = (tt, tt) }
 
   deliver_to_tells : (limits : Limits) (w : World) (number place : ℕ) (found : Option Copy) (system : SystemState) → slice_get w.systems place ≡ Some system
       → Tells w (deliver_to limits w number place found system)

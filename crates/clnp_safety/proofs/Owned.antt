@@ -17,7 +17,7 @@ use Rattle.clnp_network.specs.World.{World, put_out, with_effect, takes_effect, 
 use Rattle.clnp_safety.specs.Owners.{IsByOwner}
 use Rattle.clnp_safety.specs.StepLaws.{StepLaws}
 use Rattle.clnp_safety.proofs.EveryMove.{AnyFrame, AnyInput, EachStepKeeps, IsOfClock, any_events, keeps-move}
-use Rattle.clnp_safety.proofs.Steps.{Keeps, NotGivenIsFine, keeps-put_all_out}
+use Rattle.clnp_safety.proofs.Steps.{Keeps, GivingIsFine, keeps-put_all_out}
 
 module _ (laws : StepLaws) (systems : List SystemState) where
   -- the system was configured so at a place before
@@ -33,8 +33,14 @@ module _ (laws : StepLaws) (systems : List SystemState) where
   abbrev ByOwner : Line → Type 0
   ByOwner = IsByOwner systems
 
-  fine : NotGivenIsFine ByOwner
-  fine = record { void = λ now name copy. tt; late = λ now name copy. tt }
+  fine : GivingIsFine ByOwner
+  fine = record {
+    void = λ now name copy. tt;
+    late = λ now name copy. tt;
+    received = λ now name copy port. tt;
+    lost = λ now copy. tt;
+    nobody = λ now copy. tt;
+  }
 
   -- a note of a system with this configuration
   noted_by_owner : (place now : ℕ) (s : SystemState) (configuration : SystemConfiguration) (note : Note) → WasConfigured place s

@@ -15,7 +15,7 @@ use Rattle.clnp_network.specs.Safe.{ReportsStand}
 use Rattle.clnp_safety.specs.Invariant.{CopyIsSound, WorldIsSound}
 use Rattle.clnp_safety.specs.StepLaws.{StepLaws}
 use Rattle.clnp_safety.proofs.Lines.{LineIs}
-use Rattle.clnp_safety.proofs.Steps.{Keeps, NotGivenIsFine, keeps-nothing, keeps-give_each, keeps-deliver}
+use Rattle.clnp_safety.proofs.Steps.{Keeps, GivingIsFine, keeps-nothing, keeps-give_each, keeps-settle_for, keeps-deliver}
 use Rattle.clnp_safety.proofs.BufferOffers.{unit_sound}
 use Rattle.clnp_safety.proofs.Effects.{IsCurrent, notes_are_steady, step_keeps}
 use Rattle.clnp_safety.proofs.Arriving.{comes_young, arrival_is_sound}
@@ -45,8 +45,14 @@ module _ (laws : StepLaws) (plan : Plan) (fit : IsFit plan) (past : List Entry) 
   abbrev Told : Line → Type 0
   Told = LineIs (NoteIsSteady plan past w)
 
-  fine : NotGivenIsFine Told
-  fine = record { void = λ moment name copy. tt; late = λ moment name copy. tt }
+  fine : GivingIsFine Told
+  fine = record {
+    void = λ moment name copy. tt;
+    late = λ moment name copy. tt;
+    received = λ moment name copy port. tt;
+    lost = λ moment copy. tt;
+    nobody = λ moment copy. tt;
+  }
 
   is_soon : (copy : Copy) (v : World) → is_late plan.limits v copy ≡ false → v.clock ≤ copy.birth + plan.limits.age
   is_soon copy v soon = grind arith
@@ -82,8 +88,10 @@ module _ (laws : StepLaws) (plan : Plan) (fit : IsFit plan) (past : List Entry) 
   settle_copy_is_sound None carries = keeps-nothing Sound Told w (sound_since_itself plan past w h)
   settle_copy_is_sound (Some copy) carries =
       let given : Numbered = record { number = w.cursor + 1; copy = copy } in
-      keeps-give_each Sound Told fine plan.limits given (addressees_from 0 copy w.systems) (taken_is_sound copy (carries copy refl))
-      (record w { cursor = w.cursor + 1 }) (at_cursor (w.cursor + 1))
+      let places = addressees_from 0 copy w.systems in
+      keeps-settle_for Sound Told fine plan.limits given (record w { cursor = w.cursor + 1 }) places
+      (keeps-give_each Sound Told fine plan.limits given places (taken_is_sound copy (carries copy refl))
+      (record w { cursor = w.cursor + 1 }) (at_cursor (w.cursor + 1)))
 
   copy_is_sound : (at : ℕ) (copy : Copy) → slice_get w.copies at ≡ Some copy → CopyIsSound w.units copy
   copy_is_sound at copy e = AllByRecursion-slice_get (CopyIsSound w.units) w.copies at copy e h.copies
@@ -100,7 +108,7 @@ module _ (laws : StepLaws) (plan : Plan) (fit : IsFit plan) (past : List Entry) 
 
   lose_copy_is_sound : (found : Option Copy) → Keeps Sound Told (lose_copy w found)
   lose_copy_is_sound None = keeps-nothing Sound Told w (sound_since_itself plan past w h)
-  lose_copy_is_sound (Some copy) = keeps-nothing Sound Told (record w { cursor = w.cursor + 1 }) (at_cursor (w.cursor + 1))
+  lose_copy_is_sound (Some copy) = record { world = at_cursor (w.cursor + 1); lines = (tt, tt) }
 
   -- a copy is passed over
   pub lose_one_is_sound : Keeps Sound Told (lose_one w)

@@ -3,14 +3,14 @@ use Rattle.clnp_machine.proofs.ClnpBase.Lists.{AllByRecursion-append}
 use Rattle.std.proofs.Common.{◌≡◌, ℕ, ◌+◌, ◌-◌, List, [], ◌∷◌, ◌++◌, length, refl, Bool, true, false}
 use Rattle.std.specs.Prelude.{if◌then◌else◌, Option, None, Some, slice_get}
 use Rattle.clnp_machine.specs.Nsap.declared.target.Target.{Target}
-use Rattle.clnp_machine.specs.ClnpPlan.Journal.{Line, Void, Late, Injected}
+use Rattle.clnp_machine.specs.ClnpPlan.Journal.{Line, Void, Late, Injected, Received, Lost, ForNobody}
 use Rattle.clnp_machine.specs.ClnpPlan.declared.config.Limits.{Limits}
 use Rattle.clnp_machine.specs.ClnpPlan.declared.config.Role.{Role}
 use Rattle.clnp_machine.specs.ClnpPlan.declared.config.Role.TheVariants.{Host, Router}
 use Rattle.clnp_network.specs.Scenario.Scenario.{Subnetwork}
 use Rattle.clnp_machine.specs.System.{SystemState, Input, Output}
 use Rattle.clnp_machine.specs.Step.{step}
-use Rattle.clnp_network.specs.World.{World, Copy, Numbered, Step, nothing, writes, followed_by, put_out, put_all_out, takes_effect, comes, comes_to, asks_role, asks_system, asks, frame_to, is_late, give_to, give, give_each, is_void, is_addressee, deliver_to, deliver_at, deliver, copy_from_outside, injects_on, injects}
+use Rattle.clnp_network.specs.World.{World, Copy, Numbered, Step, nothing, writes, followed_by, put_out, put_all_out, takes_effect, comes, comes_to, asks_role, asks_system, asks, first_port, frame_to, hand_to, is_late, give_to, give, give_each, for_nobody, settle_for, is_void, is_addressee, deliver_to, deliver_at, deliver, copy_from_outside, injects_on, injects}
 use Rattle.std.specs.List.{AllByRecursion}
 use Rattle.clnp_machine.proofs.ClnpBase.Choices.{one_of}
 
@@ -22,10 +22,13 @@ pub record Keeps (K : World → Type 0) (Q : Line → Type 0) (taken : Step) : T
 pub keeps-map : (K J : World → Type 0) (Q : Line → Type 0) (taken : Step) → ((w : World) → K w → J w) → Keeps K Q taken → Keeps J Q taken
 keeps-map K J Q taken f h = record { world = f taken.world h.world; lines = h.lines }
 
--- the lines of copies that aren't given are fine
-pub record NotGivenIsFine (Q : Line → Type 0) : Type 0 where
+-- the lines of copies that are given, and of those that aren't, are fine
+pub record GivingIsFine (Q : Line → Type 0) : Type 0 where
   pub void : (now : ℕ) (name : List ℕ) (copy : ℕ) → Q (Void now name copy)
   pub late : (now : ℕ) (name : List ℕ) (copy : ℕ) → Q (Late now name copy)
+  pub received : (now : ℕ) (name : List ℕ) (copy port : ℕ) → Q (Received now name copy port)
+  pub lost : (now copy : ℕ) → Q (Lost now copy)
+  pub nobody : (now copy : ℕ) → Q (ForNobody now copy)
 
 -- a world with one more copy, of octets from outside
 abbrev pub with_outside : World → (subnet : ℕ) (sender : List ℕ) → Target → (octets : List ℕ) → World
@@ -82,7 +85,7 @@ module _ (K : World → Type 0) (Q : Line → Type 0) where
     pub keeps-injects : (subnets : List Subnetwork) → Keeps K Q (injects subnets w subnet sender target octets)
     keeps-injects subnets = keeps-injects_on (slice_get subnets subnet)
 
-  module _ (fine : NotGivenIsFine Q) (limits : Limits) (given : Numbered) where
+  module _ (fine : GivingIsFine Q) (limits : Limits) (given : Numbered) where
     -- the system takes in the copy that is given to it
     abbrev Takes : World → ℕ → Type 0
     Takes w place =
@@ -90,9 +93,11 @@ module _ (K : World → Type 0) (Q : Line → Type 0) where
         → Keeps K Q (takes_effect w place (step s (frame_to s given.copy)))
 
     keeps-late : (w : World) (place : ℕ) (s : SystemState) (late : Bool) → K w → (late ≡ false → Keeps K Q (takes_effect w place (step s (frame_to s given.copy))))
-        → Keeps K Q (if late then writes w (Late w.clock s.configuration.name given.number) else takes_effect w place (step s (frame_to s given.copy)))
+        → Keeps K Q (if late then writes w (Late w.clock s.configuration.name given.number) else hand_to given w place s)
     keeps-late w place s true h k = record { world = h; lines = (fine.late w.clock s.configuration.name given.number, tt) }
-    keeps-late w place s false h k = k refl
+    keeps-late w place s false h k =
+        let port = first_port given.copy s.configuration.role s.configuration.ports in
+        record { world = (k refl).world; lines = (fine.received w.clock s.configuration.name given.number port, (k refl).lines) }
 
     keeps-give_to : (w : World) (place : ℕ) (found : Option SystemState) → slice_get w.systems place ≡ found → K w → Takes w place
         → Keeps K Q (give_to limits given w place found)
@@ -107,7 +112,18 @@ module _ (K : World → Type 0) (Q : Line → Type 0) where
     keeps-give_each (place ∷ places) h w k =
         keeps-followed_by K (give limits given w place) (λ v. give_each limits given v places) (keeps-give w place k (h w place k)) (keeps-give_each places h)
 
-  module _ (fine : NotGivenIsFine Q) (limits : Limits) where
+    keeps-nobody : (now number : ℕ) (places : List ℕ) → AllByRecursion Q (for_nobody now number places)
+    keeps-nobody now number [] = (fine.nobody now number, tt)
+    keeps-nobody now number (place ∷ places) = tt
+
+    pub keeps-settle_for : (w : World) (places : List ℕ) → Keeps K Q (give_each limits given w places) → Keeps K Q (settle_for limits given w places)
+    keeps-settle_for w places h = record {
+      world = h.world;
+      lines = AllByRecursion-append Q (for_nobody w.clock given.number places) (give_each limits given w places).lines
+          (keeps-nobody w.clock given.number places) h.lines;
+    }
+
+  module _ (fine : GivingIsFine Q) (limits : Limits) where
     -- the system takes in the copy with a number, if there is one
     abbrev TakesNumbered : World → ℕ → ℕ → Type 0
     TakesNumbered w number place =

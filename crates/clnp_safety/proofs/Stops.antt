@@ -1,10 +1,12 @@
 -- Which moves of a list are made, and what some of them write.
 use Rattle.std.proofs.Common.{◌≡◌, ℕ, List, [], ◌∷◌, ◌++◌, Bool, true, false, refl, sym, ap, ◌∙◌, append_assoc}
 use Rattle.std.specs.Prelude.{if◌then◌else◌, Option, None, Some}
+use Rattle.clnp_machine.specs.ClnpPlan.declared.journal.Telling.{Telling}
+use Rattle.clnp_machine.specs.ClnpPlan.declared.journal.Telling.TheVariants as telling
 use Rattle.clnp_network.specs.Scenario.Scenario.{Plan}
 use Rattle.clnp_network.specs.Scenario.declared.event.Move.{Move}
 use Rattle.clnp_network.specs.World.{World, after, is_full, weight}
-use Rattle.clnp_network.specs.Run.{world_after, lines_text, text_of, until_full, full_weight}
+use Rattle.clnp_network.specs.Run.{world_after, told_lines, told_of, text_of, until_full, full_weight}
 use Rattle.clnp_safety.specs.Growth.{IsFront, IsFullAt}
 
 front_one_more : (move : Move) (made moves : List Move) (full : Bool) → IsFront made moves → IsFront (if full then [] else move ∷ made) (move ∷ moves)
@@ -41,12 +43,14 @@ stops_where_full plan w (move ∷ moves) weighs e =
     full_one_more plan w move (until_full plan (after plan w move).world moves) (full_weight plan (after plan w move).world moves) weighs (is_full w) refl
     (stops_where_full plan (after plan w move).world moves weighs) e
 
-pub text_of_more : (plan : Plan) (w : World) (moves more : List Move)
-    → text_of plan w (moves ++ more) ≡ text_of plan w moves ++ text_of plan (world_after plan w moves) more
-text_of_more plan w [] more = refl
-text_of_more plan w (move ∷ moves) more =
-    ap (λ text. lines_text (after plan w move).lines ++ text) (text_of_more plan (after plan w move).world moves more)
-    ∙ sym (append_assoc (lines_text (after plan w move).lines) (text_of plan (after plan w move).world moves) (text_of plan (world_after plan (after plan w move).world moves) more))
+pub told_of_more : (form : Telling) (plan : Plan) (w : World) (moves more : List Move)
+    → told_of form plan w (moves ++ more) ≡ told_of form plan w moves ++ told_of form plan (world_after plan w moves) more
+told_of_more form plan w [] more = refl
+told_of_more form plan w (move ∷ moves) more =
+    ap (λ text. told_lines form (after plan w move).lines ++ text) (told_of_more form plan (after plan w move).world moves more)
+    ∙ sym (append_assoc (told_lines form (after plan w move).lines) (told_of form plan (after plan w move).world moves)
+    (told_of form plan (world_after plan (after plan w move).world moves) more))
 
 pub text_grows : (plan : Plan) (w : World) (moves later : List Move) → IsFront moves later → IsFront (text_of plan w moves) (text_of plan w later)
-text_grows plan w moves later h = (text_of plan (world_after plan w moves) h.0, ap (text_of plan w) h.1 ∙ text_of_more plan w moves h.0)
+text_grows plan w moves later h =
+    (text_of plan (world_after plan w moves) h.0, ap (text_of plan w) h.1 ∙ told_of_more telling.Journal plan w moves h.0)

@@ -2,9 +2,10 @@
 use Rattle.std.proofs.Common.{◌≡◌, ℕ, zero, suc, ◌+◌, ◌-◌, ◌<◌, ◌≤◌, List, [], ◌∷◌, ◌++◌, length, take, get_or, map, cond, Bool, true, false, Option, Some, None, refl, sym, ap, ◌∙◌, subst, append-nil, arith}
 use Rattle.std.specs.Prelude.{slice_get}
 use Rattle.std.specs.List.{AllByRecursion}
+use Rattle.std.proofs.lemmas.Bool.{true≢false}
 use Rattle.std.proofs.lemmas.List.{take_all}
 use Rattle.std.proofs.lemmas.Option.{slice_get_past, slice_get_read}
-use Rattle.clnp_machine.specs.ClnpPlan.Journal.{Void, Late}
+use Rattle.clnp_machine.specs.ClnpPlan.Journal.{Void, Late, Received, Lost, ForNobody}
 use Rattle.clnp_machine.specs.ClnpPlan.declared.config.Limits.{Limits}
 use Rattle.clnp_machine.specs.Content.{IsCarried}
 use Rattle.clnp_machine.specs.System.{FrameComes, SystemState}
@@ -21,6 +22,7 @@ use Rattle.clnp_machine.proofs.ClnpBase.Lists.{AllByRecursion-slice_get, slice_g
 use Rattle.clnp_machine.proofs.ClnpBase.ListSteps.{slice_get_map}
 use Rattle.clnp_world.proofs.EachSteps.{each_length}
 use Rattle.clnp_world.proofs.ModelSteps.{configuration_of, configurations-give_each, copy-give_each, give_each-push, addressees_from-take}
+use Rattle.clnp_world.proofs.LineSteps.{gains_more}
 use Rattle.clnp_world.proofs.PutSteps.{Born, puts_nothing, puts_line, puts_then, counted}
 
 -- a copy of the model, at its place
@@ -78,6 +80,17 @@ follows_then code before between after part next e h =
 abbrev pub numbered : ℕ → network.Copy → network.Numbered
 numbered number copy = record { number = number; copy = copy }
 
+-- a line tells by which port the copy comes to the system, and then it takes the copy in
+pub hands_over : (code : Network) (before between after : Lines) (number place : ℕ) (model : network.World) (copy : network.Copy) (system : SystemState)
+    → Gains before between
+    (Received model.clock system.configuration.name number (network.first_port copy system.configuration.role system.configuration.ports) ∷ [])
+    → Follows code between after (network.takes_effect model place (step system (network.frame_to system copy)))
+    → Follows code before after (network.hand_to (numbered number copy) model place system)
+hands_over code before between after number place model copy system line taken =
+    let port = network.first_port copy system.configuration.role system.configuration.ports in
+    follows_then code before between after (network.writes model (Received model.clock system.configuration.name number port))
+    (λ v. network.takes_effect v place (step system (network.frame_to system copy))) line taken
+
 -- whether the copy is late
 abbrev pub TellsLate : Network → Limits → ℕ → Bool → Type 0
 TellsLate code limits at answer =
@@ -95,21 +108,21 @@ gives_late code before after limits number at place within tells writes model co
     let part = puts_line code before after model (Late model.clock (system.0).configuration.name number) h.shows (writes model system.0 h.shows system.1) in
     subst (λ (s : Option SystemState). Follows code before after (network.give_to limits (numbered number copy) model place s)) (sym system.1)
     (subst (λ (b : Bool). Follows code before after (cond b (network.writes model (Late model.clock (system.0).configuration.name number))
-    (network.takes_effect model place (step system.0 (network.frame_to system.0 copy))))) (tells model copy h.shows there)
+    (network.hand_to (numbered number copy) model place system.0))) (tells model copy h.shows there)
     record { holds = h; lines = part.lines })
 
 pub gives_now : (old code : Network) (before after : Lines) (limits : Limits) (number at place : ℕ) → place < length old.systems.items
     → TellsLate old limits at false
     → ((model : network.World) (copy : network.Copy) (system : SystemState) → Holds old model → slice_get model.copies at ≡ Some copy
     → slice_get model.systems place ≡ Some system
-    → Follows code before after (network.takes_effect model place (step system (network.frame_to system copy))))
+    → Follows code before after (network.hand_to (numbered number copy) model place system))
     → (model : network.World) (copy : network.Copy) → Holds old model → slice_get model.copies at ≡ Some copy
     → Follows code before after (network.give limits (numbered number copy) model place)
 gives_now old code before after limits number at place within tells hands model copy h there =
     let system = system_there old model place h.shows within in
     subst (λ (s : Option SystemState). Follows code before after (network.give_to limits (numbered number copy) model place s)) (sym system.1)
     (subst (λ (b : Bool). Follows code before after (cond b (network.writes model (Late model.clock (system.0).configuration.name number))
-    (network.takes_effect model place (step system.0 (network.frame_to system.0 copy))))) (tells model copy h.shows there)
+    (network.hand_to (numbered number copy) model place system.0))) (tells model copy h.shows there)
     (hands model copy system.0 h there system.1))
 
 -- One copy for each of its addressees.
@@ -139,7 +152,7 @@ still_running start code before after limits at place running within so_far =
     ((network.give_each limits (numbered (at + 1) copy.0) model (network.addressees_from 0 copy.0 (take place model.systems))).world, part.holds)
 
 -- what the scenario says of the system at a place, where it says the same of all
-same_configuration : (xs ys : List SystemState) (i : ℕ) (y : SystemState) → map configuration_of xs ≡ map configuration_of ys → slice_get ys i ≡ Some y
+pub same_configuration : (xs ys : List SystemState) (i : ℕ) (y : SystemState) → map configuration_of xs ≡ map configuration_of ys → slice_get ys i ≡ Some y
     → (x : SystemState) × (slice_get xs i ≡ Some x) × (x.configuration ≡ y.configuration)
 same_configuration xs [] i y e at = absurd (cc)
 same_configuration [] (z ∷ ys) i y e at = absurd (cc)
@@ -165,20 +178,29 @@ tells_then start mid before between limits at place answer model copy system so_
     tells w.world copy now.0 part.holds.shows (copy-give_each limits given model ps at copy there) now.1
     ∙ ap (λ c. network.is_addressee copy c) now.2
 
+-- one more system is looked at, whether the copy is for it
+addressees_next : (start mid : Network) (before between : Lines) (limits : Limits) (at place : ℕ) (answer : Bool)
+    → Gives start mid before between limits at place → place < length start.systems.items → TellsAddressee mid at place answer
+    → (model : network.World) (copy : network.Copy) → Holds start model → slice_get model.copies at ≡ Some copy
+    → network.addressees_from 0 copy (take (place + 1) model.systems)
+    ≡ network.addressees_from 0 copy (take place model.systems) ++ cond answer (place ∷ []) []
+addressees_next start mid before between limits at place answer so_far within tells model copy h there =
+    let system = system_there start model place h.shows within in
+    let ps = network.addressees_from 0 copy (take place model.systems) in
+    let is = tells_then start mid before between limits at place answer model copy system.0 so_far tells h there system.1 in
+    addressees_from-take copy model.systems place system.0 system.1 ∙ ap (λ (b : Bool). ps ++ cond b (place ∷ []) []) (sym is)
+
 pub gives_more : (start mid code : Network) (before between after : Lines) (limits : Limits) (at place : ℕ)
     → Gives start mid before between limits at place → place < length start.systems.items → TellsAddressee mid at place true
     → ((model : network.World) (copy : network.Copy) → Holds mid model → slice_get model.copies at ≡ Some copy
     → Follows code between after (network.give limits (numbered (at + 1) copy) model place))
     → Gives start code before after limits at (place + 1)
 gives_more start mid code before between after limits at place so_far within tells next model copy h there =
-    let system = system_there start model place h.shows within in
     let given = numbered (at + 1) copy in
     let ps = network.addressees_from 0 copy (take place model.systems) in
     let w = network.give_each limits given model ps in
     let front = so_far model copy h there in
-    let yes = tells_then start mid before between limits at place true model copy system.0 so_far tells h there system.1 in
-    let same : network.addressees_from 0 copy (take (place + 1) model.systems) ≡ ps ++ place ∷ []
-    = addressees_from-take copy model.systems place system.0 system.1 ∙ ap (λ (b : Bool). ps ++ cond b (place ∷ []) []) (sym yes) in
+    let same = addressees_next start mid before between limits at place true so_far within tells model copy h there in
     subst (λ (s : network.Step). Follows code before after s)
     (sym (give_each-push limits given model ps place) ∙ ap (λ (qs : List ℕ). network.give_each limits given model qs) (sym same))
     (follows_then code before between after w (λ v. network.give limits given v place) front.lines
@@ -188,12 +210,9 @@ pub gives_skip : (start code : Network) (before after : Lines) (limits : Limits)
     → Gives start code before after limits at place → place < length start.systems.items → TellsAddressee code at place false
     → Gives start code before after limits at (place + 1)
 gives_skip start code before after limits at place so_far within tells model copy h there =
-    let system = system_there start model place h.shows within in
     let ps = network.addressees_from 0 copy (take place model.systems) in
     let front = so_far model copy h there in
-    let no = tells_then start code before after limits at place false model copy system.0 so_far tells h there system.1 in
-    let same : network.addressees_from 0 copy (take (place + 1) model.systems) ≡ ps
-    = addressees_from-take copy model.systems place system.0 system.1 ∙ ap (λ (b : Bool). ps ++ cond b (place ∷ []) []) (sym no) ∙ append-nil ps in
+    let same = addressees_next start code before after limits at place false so_far within tells model copy h there ∙ append-nil ps in
     subst (λ (qs : List ℕ). Follows code before after (network.give_each limits (numbered (at + 1) copy) model qs)) (sym same) front
 
 -- the same where the code's names differ, as after an `if`
@@ -226,6 +245,86 @@ gives_all start code before after limits at place so_far all model copy h there 
     subst (λ (ss : List SystemState). Follows code before after (network.give_each limits (numbered (at + 1) copy) model (network.addressees_from 0 copy ss)))
     (take_all place model.systems (omega arith)) (so_far model copy h there)
 
+-- Whether a copy was given to some system.
+
+abbrev pub is_any : List ℕ → Bool
+is_any [] = false
+is_any (place ∷ places) = true
+
+any_last : (places : List ℕ) (place : ℕ) → is_any (places ++ place ∷ []) ≡ true
+any_last [] place = refl
+any_last (first ∷ places) place = refl
+
+-- whether the copy is for some of the systems below a place
+abbrev pub TellsGiven : Network → ℕ → ℕ → Bool → Type 0
+TellsGiven start at place answer =
+    (model : network.World) (copy : network.Copy) → Holds start model → slice_get model.copies at ≡ Some copy
+    → answer ≡ is_any (network.addressees_from 0 copy (take place model.systems))
+
+pub given_none : (start : Network) (at : ℕ) → TellsGiven start at 0 false
+given_none start at model copy h there = refl
+
+pub given_more : (start mid : Network) (before between : Lines) (limits : Limits) (at place : ℕ) (answer : Bool)
+    → Gives start mid before between limits at place → place < length start.systems.items → TellsAddressee mid at place true
+    → answer ≡ true → TellsGiven start at (place + 1) answer
+given_more start mid before between limits at place answer so_far within tells is model copy h there =
+    let same = addressees_next start mid before between limits at place true so_far within tells model copy h there in
+    is ∙ sym (ap is_any same ∙ any_last (network.addressees_from 0 copy (take place model.systems)) place)
+
+pub given_skip : (start mid : Network) (before between : Lines) (limits : Limits) (at place : ℕ) (was answer : Bool)
+    → Gives start mid before between limits at place → place < length start.systems.items → TellsAddressee mid at place false
+    → TellsGiven start at place was → answer ≡ was → TellsGiven start at (place + 1) answer
+given_skip start mid before between limits at place was answer so_far within tells given is model copy h there =
+    let same = addressees_next start mid before between limits at place false so_far within tells model copy h there in
+    is ∙ (given model copy h there ∙ sym (ap is_any (same ∙ append-nil (network.addressees_from 0 copy (take place model.systems)))))
+
+given_all : (start : Network) (at place : ℕ) (answer : Bool) → TellsGiven start at place answer → length start.systems.items ≤ place
+    → (model : network.World) (copy : network.Copy) → Holds start model → slice_get model.copies at ≡ Some copy
+    → answer ≡ is_any (network.addressees_from 0 copy model.systems)
+given_all start at place answer given all model copy h there =
+    let same = each_length start.systems.items model.systems h.shows.systems in
+    given model copy h there
+    ∙ ap (λ (ss : List SystemState). is_any (network.addressees_from 0 copy ss)) (take_all place model.systems (omega arith))
+
+settled_some : (limits : Limits) (given : network.Numbered) (model : network.World) (places : List ℕ) → true ≡ is_any places
+    → network.settle_for limits given model places ≡ network.give_each limits given model places
+settled_some limits given model [] is = absurd (true≢false is)
+settled_some limits given model (place ∷ places) is = refl
+
+none_there : (places : List ℕ) → false ≡ is_any places → places ≡ []
+none_there [] is = refl
+none_there (place ∷ places) is = absurd (true≢false (sym is))
+
+-- what a settling comes to
+abbrev pub Settles : Network → Network → Lines → Lines → Limits → ℕ → Type 0
+Settles start code before after limits at =
+    (model : network.World) (copy : network.Copy) → Holds start model → slice_get model.copies at ≡ Some copy
+    → Follows code before after (network.settle_for limits (numbered (at + 1) copy) model (network.addressees_from 0 copy model.systems))
+
+-- the copy was given to some system
+pub settles_some : (start code : Network) (before after : Lines) (limits : Limits) (at place : ℕ) → Gives start code before after limits at place
+    → TellsGiven start at place true → length start.systems.items ≤ place → Settles start code before after limits at
+settles_some start code before after limits at place so_far given all model copy h there =
+    let places = network.addressees_from 0 copy model.systems in
+    subst (λ (s : network.Step). Follows code before after s)
+    (sym (settled_some limits (numbered (at + 1) copy) model places (given_all start at place true given all model copy h there)))
+    (gives_all start code before after limits at place so_far all model copy h there)
+
+-- the copy was given to none, and a line is written that says so
+pub settles_none : (start code : Network) (before between after : Lines) (limits : Limits) (at place : ℕ)
+    → Gives start code before between limits at place → TellsGiven start at place false → length start.systems.items ≤ place
+    → Gains between after (ForNobody code.clock (at + 1) ∷ []) → Settles start code before after limits at
+settles_none start code before between after limits at place so_far given all line model copy h there =
+    let number = at + 1 in
+    let places = network.addressees_from 0 copy model.systems in
+    let none = none_there places (given_all start at place false given all model copy h there) in
+    let front : Follows code before between (network.nothing model)
+    = subst (λ (ps : List ℕ). Follows code before between (network.give_each limits (numbered number copy) model ps)) none
+    (gives_all start code before between limits at place so_far all model copy h there) in
+    let told = subst (λ (now : ℕ). Gains between after (ForNobody now number ∷ [])) front.holds.shows.clock line in
+    subst (λ (ps : List ℕ). Follows code before after (network.settle_for limits (numbered number copy) model ps)) (sym none)
+    record { holds = front.holds; lines = gains_more before between after [] (ForNobody model.clock number ∷ []) front.lines told }
+
 -- The copy at the cursor.
 
 pub moves_on : (code : Network) (model : network.World) → Holds code model
@@ -247,15 +346,37 @@ moves_on code model h = record {
 -- the copy at the cursor is given
 pub settles : (old code : Network) (before after : Lines) (limits : Limits) → old.cursor < length old.copies.items
     → ((model : network.World) (copy : network.Copy) → Holds (record old { cursor = old.cursor + 1 }) model → slice_get model.copies old.cursor ≡ Some copy
-    → Follows code before after (network.give_each limits (numbered (old.cursor + 1) copy) model (network.addressees_from 0 copy model.systems)))
+    → Follows code before after (network.settle_for limits (numbered (old.cursor + 1) copy) model (network.addressees_from 0 copy model.systems)))
     → (model : network.World) → Holds old model → Follows code before after (network.settle_one limits model)
 settles old code before after limits within next model h =
     let copy = copy_there old model old.cursor h.shows within in
     let at : slice_get model.copies model.cursor ≡ Some copy.0 = subst (λ (n : ℕ). slice_get model.copies n ≡ Some copy.0) h.shows.cursor copy.1 in
     let w : network.World = record model { cursor = model.cursor + 1 } in
     subst (λ (c : Option network.Copy). Follows code before after (network.settle_copy limits model c)) (sym at)
-    (subst (λ (n : ℕ). Follows code before after (network.give_each limits (numbered (n + 1) copy.0) w (network.addressees_from 0 copy.0 model.systems)))
+    (subst (λ (n : ℕ). Follows code before after (network.settle_for limits (numbered (n + 1) copy.0) w (network.addressees_from 0 copy.0 model.systems)))
     h.shows.cursor (next w copy.0 (moves_on old model h) copy.1))
+
+-- no copy is left to lose
+pub loses_none : (code : Network) (lines : Lines) → length code.copies.items ≤ code.cursor
+    → (model : network.World) → Holds code model → Follows code lines lines (network.lose_one model)
+loses_none code lines past model h =
+    let same = counted code model h.shows in
+    let none : slice_get model.copies model.cursor ≡ None = slice_get_past model.copies model.cursor (omega (arith, h.shows.cursor)) in
+    subst (λ (c : Option network.Copy). Follows code lines lines (network.lose_copy model c)) (sym none) (follows_nothing code lines model h)
+
+-- the copy at the cursor is lost
+pub loses : (old : Network) (before after : Lines) → old.cursor < length old.copies.items
+    → Gains before after (Lost old.clock (old.cursor + 1) ∷ [])
+    → (model : network.World) → Holds old model → Follows (record old { cursor = old.cursor + 1 }) before after (network.lose_one model)
+loses old before after within line model h =
+    let code : Network = record old { cursor = old.cursor + 1 } in
+    let copy = copy_there old model old.cursor h.shows within in
+    let at : slice_get model.copies model.cursor ≡ Some copy.0 = subst (λ (n : ℕ). slice_get model.copies n ≡ Some copy.0) h.shows.cursor copy.1 in
+    let told : Gains before after (Lost model.clock (model.cursor + 1) ∷ [])
+    = subst (λ (now : ℕ). Gains before after (Lost now (model.cursor + 1) ∷ [])) h.shows.clock
+    (subst (λ (n : ℕ). Gains before after (Lost old.clock (n + 1) ∷ [])) h.shows.cursor line) in
+    subst (λ (c : Option network.Copy). Follows code before after (network.lose_copy model c)) (sym at)
+    record { holds = moves_on old model h; lines = told }
 
 -- A copy that is named by its number.
 

@@ -5,6 +5,7 @@ pub mod EachSteps
 pub mod PutSteps
 pub mod TakeSteps
 pub mod GiveSteps
+pub mod TellSteps
 pub mod SendSteps
 pub mod InjectSteps
 pub mod TickSteps

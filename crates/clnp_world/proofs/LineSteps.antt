@@ -2,13 +2,13 @@
 use Rattle.std.proofs.Common.{◌≡◌, ℕ, ◌+◌, List, [], ◌++◌, codes, refl, sym, ap, subst, ◌∙◌, append-nil, append_assoc, arith}
 use Rattle.std.specs.Str.{bytes_eq}
 use Rattle.clnp_machine.specs.ClnpPlan.Journal.{Line}
-use Rattle.clnp_network.specs.Run.{lines_text}
+use Rattle.clnp_network.specs.Run.{told_lines}
 use Rattle.clnp_world.specs.Lines.{Gains, GainsIn, both, how_many, kind_of, no_lines, tally}
 use Rattle.clnp_world.specs.declared.lines.Counts.{Counts}
 use Rattle.clnp_world.specs.declared.lines.Form.{Form}
 use Rattle.clnp_world.specs.declared.lines.Form.TheVariants.{Written, Counted}
 use Rattle.clnp_world.specs.declared.lines.Lines.{Lines}
-use Rattle.clnp_world.proofs.ModelSteps.{lines_text-append}
+use Rattle.clnp_world.proofs.ModelSteps.{told_lines-append}
 use Rattle.clnp_machine.proofs.ClnpBase.Sums.{length_filter-append}
 
 -- the same counts
@@ -47,7 +47,7 @@ tally-append lines more =
     ) refl
 
 gains_nothing_in : (form : Form) (lines : Lines) → GainsIn form lines lines []
-gains_nothing_in Written lines = sym (append-nil lines.text.items)
+gains_nothing_in (Written telling) lines = sym (append-nil lines.text.items)
 gains_nothing_in Counted lines = sym (both-none lines.counts)
 
 -- no lines came
@@ -56,9 +56,9 @@ gains_nothing lines = record { form = refl; gained = gains_nothing_in lines.form
 
 gains_more_in : (form : Form) (before between after : Lines) (lines more : List Line) → GainsIn form before between lines
     → GainsIn form between after more → GainsIn form before after (lines ++ more)
-gains_more_in Written before between after lines more g h =
-    h ∙ ap (λ (t : List ℕ). t ++ lines_text more) g ∙ append_assoc before.text.items (lines_text lines) (lines_text more)
-    ∙ ap (λ (t : List ℕ). before.text.items ++ t) (sym (lines_text-append lines more))
+gains_more_in (Written telling) before between after lines more g h =
+    h ∙ ap (λ (t : List ℕ). t ++ told_lines telling more) g ∙ append_assoc before.text.items (told_lines telling lines) (told_lines telling more)
+    ∙ ap (λ (t : List ℕ). before.text.items ++ t) (sym (told_lines-append telling lines more))
 gains_more_in Counted before between after lines more g h =
     h ∙ ap (λ (c : Counts). both c (tally more)) g ∙ both-assoc before.counts (tally lines) (tally more)
     ∙ ap (λ (c : Counts). both before.counts c) (sym (tally-append lines more))

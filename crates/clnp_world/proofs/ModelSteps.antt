@@ -5,7 +5,8 @@ use Rattle.std.specs.List.{AllByRecursion, position_or_len, range_with_len}
 use Rattle.std.proofs.lemmas.List.Recursion.{is_position_or_len}
 use Rattle.std.proofs.lemmas.List.Concat.{flat_map-append}
 use Rattle.clnp_machine.specs.ClnpPlan.Configuration.{SystemConfiguration}
-use Rattle.clnp_machine.specs.ClnpPlan.Journal.{Line, Late, line_text}
+use Rattle.clnp_machine.specs.ClnpPlan.Journal.{Line, Late, told_text}
+use Rattle.clnp_machine.specs.ClnpPlan.declared.journal.Telling.{Telling}
 use Rattle.clnp_machine.specs.ClnpPlan.declared.config.Limits.{Limits}
 use Rattle.clnp_machine.specs.ClnpPlan.declared.config.PortConfig.{PortConfig}
 use Rattle.clnp_machine.specs.ClnpPlan.declared.config.Role.{Role}
@@ -15,13 +16,13 @@ use Rattle.clnp_machine.specs.Unit.{DeclaredAt, Maker}
 use Rattle.clnp_machine.specs.System.{SystemState, MomentComes, Output, Transmits, SendsEsis, Notes, Effect, first_state}
 use Rattle.clnp_machine.specs.Step.{step}
 use Rattle.clnp_network.specs.World as network
-use Rattle.clnp_network.specs.Run.{lines_text}
+use Rattle.clnp_network.specs.Run.{told_lines}
 use Rattle.clnp_world.specs.Stands.{IsCurrent}
 use Rattle.clnp_machine.proofs.ClnpBase.ListSteps.{slice_get_front, take_push, map_set, all_set, range_push}
 pub use Rattle.clnp_machine.proofs.Deeds.{step_itself, step_moment}
 
-pub lines_text-append : (xs ys : List Line) → lines_text (xs ++ ys) ≡ lines_text xs ++ lines_text ys
-lines_text-append xs ys = flat_map-append line_text xs ys
+pub told_lines-append : (telling : Telling) (xs ys : List Line) → told_lines telling (xs ++ ys) ≡ told_lines telling xs ++ told_lines telling ys
+told_lines-append telling xs ys = flat_map-append (told_text telling) xs ys
 
 pub step_same : (w : network.World) (xs ys : List Line) → xs ≡ ys
     → (let s : network.Step = record { world = w; lines = xs } in s) ≡ (let s : network.Step = record { world = w; lines = ys } in s)
@@ -117,8 +118,7 @@ configurations-takes_effect w place system effect e same =
 
 abbrev given_to : Limits → network.Numbered → network.World → ℕ → SystemState → Bool → network.Step
 given_to limits given w place system late =
-    cond late (network.writes w (Late w.clock system.configuration.name given.number))
-    (network.takes_effect w place (step system (network.frame_to system given.copy)))
+    cond late (network.writes w (Late w.clock system.configuration.name given.number)) (network.hand_to given w place system)
 
 configurations-given : (limits : Limits) (given : network.Numbered) (w : network.World) (place : ℕ) (system : SystemState) (late : Bool)
     → slice_get w.systems place ≡ Some system
@@ -133,9 +133,52 @@ configurations-give_to limits given w place None e = refl
 configurations-give_to limits given w place (Some system) e =
     configurations-given limits given w place system (network.is_late limits w given.copy) e
 
-configurations-give : (limits : Limits) (given : network.Numbered) (w : network.World) (place : ℕ)
+pub configurations-give : (limits : Limits) (given : network.Numbered) (w : network.World) (place : ℕ)
     → map configuration_of (network.give limits given w place).world.systems ≡ map configuration_of w.systems
 configurations-give limits given w place = configurations-give_to limits given w place (slice_get w.systems place) refl
+
+-- nor is the clock, nor how many copies were passed.
+
+clock-given : (limits : Limits) (given : network.Numbered) (w : network.World) (place : ℕ) (system : SystemState) (late : Bool)
+    → (given_to limits given w place system late).world.clock ≡ w.clock
+clock-given limits given w place system true = refl
+clock-given limits given w place system false =
+    let effect = step system (network.frame_to system given.copy) in
+    clock-put_all_out effect.after (network.with_effect w place effect) effect.outputs
+
+clock-give_to : (limits : Limits) (given : network.Numbered) (w : network.World) (place : ℕ) (s : Option SystemState)
+    → (network.give_to limits given w place s).world.clock ≡ w.clock
+clock-give_to limits given w place None = refl
+clock-give_to limits given w place (Some system) = clock-given limits given w place system (network.is_late limits w given.copy)
+
+pub clock-give : (limits : Limits) (given : network.Numbered) (w : network.World) (place : ℕ) → (network.give limits given w place).world.clock ≡ w.clock
+clock-give limits given w place = clock-give_to limits given w place (slice_get w.systems place)
+
+cursor-put_all_out : (system : SystemState) (w : network.World) (outs : List Output) → (network.put_all_out system w outs).world.cursor ≡ w.cursor
+cursor-put_all_out system w [] = refl
+cursor-put_all_out system w (Notes note ∷ outs) = cursor-put_all_out system (network.put_out system w (Notes note)).world outs
+cursor-put_all_out system w (Transmits port target packet ∷ outs) =
+    cursor-put_all_out system (network.put_out system w (Transmits port target packet)).world outs
+cursor-put_all_out system w (SendsEsis port target value ∷ outs) =
+    cursor-put_all_out system (network.put_out system w (SendsEsis port target value)).world outs
+
+cursor-given : (limits : Limits) (given : network.Numbered) (w : network.World) (place : ℕ) (system : SystemState) (late : Bool)
+    → (given_to limits given w place system late).world.cursor ≡ w.cursor
+cursor-given limits given w place system true = refl
+cursor-given limits given w place system false =
+    let effect = step system (network.frame_to system given.copy) in
+    cursor-put_all_out effect.after (network.with_effect w place effect) effect.outputs
+
+cursor-give_to : (limits : Limits) (given : network.Numbered) (w : network.World) (place : ℕ) (s : Option SystemState)
+    → (network.give_to limits given w place s).world.cursor ≡ w.cursor
+cursor-give_to limits given w place None = refl
+cursor-give_to limits given w place (Some system) = cursor-given limits given w place system (network.is_late limits w given.copy)
+
+pub cursor-give_each : (limits : Limits) (given : network.Numbered) (w : network.World) (places : List ℕ)
+    → (network.give_each limits given w places).world.cursor ≡ w.cursor
+cursor-give_each limits given w [] = refl
+cursor-give_each limits given w (place ∷ places) =
+    cursor-give_each limits given (network.give limits given w place).world places ∙ cursor-give_to limits given w place (slice_get w.systems place)
 
 pub configurations-give_each : (limits : Limits) (given : network.Numbered) (w : network.World) (places : List ℕ)
     → map configuration_of (network.give_each limits given w places).world.systems ≡ map configuration_of w.systems

@@ -5,3 +5,4 @@ pub mod Seen
 pub mod State
 pub mod Stands
 pub mod Parts
+pub mod Becoming

@@ -2,8 +2,8 @@
 use Rattle.std.specs.Prelude.{◌≡◌, ℕ, ◌+◌, List, [], ◌∷◌, ◌++◌, codes, length}
 use Rattle.std.specs.List.{filter}
 use Rattle.std.specs.Str.{bytes_eq}
-use Rattle.clnp_machine.specs.ClnpPlan.Journal.{Line, Noted, Transmitted, Void, Late, Injected, note_words}
-use Rattle.clnp_network.specs.Run.{lines_text}
+use Rattle.clnp_machine.specs.ClnpPlan.Journal.{Line, Noted, Transmitted, Void, Late, Injected, Received, Lost, ForNobody, note_words}
+use Rattle.clnp_network.specs.Run.{told_lines}
 use Rattle.clnp_world.specs.declared.lines.Counts.{Counts}
 use Rattle.clnp_world.specs.declared.lines.Form.{Form}
 use Rattle.clnp_world.specs.declared.lines.Form.TheVariants.{Written, Counted}
@@ -21,6 +21,9 @@ kind_of (Transmitted now name copy port target frame) = codes "tx"
 kind_of (Void now name copy) = codes "void"
 kind_of (Late now name copy) = codes "late"
 kind_of (Injected now copy subnet sender target) = codes "inject"
+kind_of (Received now name copy port) = codes "rx"
+kind_of (Lost now copy) = codes "lost"
+kind_of (ForNobody now copy) = codes "nobody"
 
 -- how many of some lines are of a kind
 abbrev pub how_many : (kind : List ℕ) → List Line → ℕ
@@ -49,9 +52,9 @@ both a b = record {
   expired = a.expired + b.expired;
 }
 
--- some lines came to what there was: their text stands behind it, or they were counted
+-- some lines came to what there was: their text in a journal or in a trace stands behind it, or they were counted
 abbrev pub GainsIn : Form → (before after : Lines) → List Line → Type 0
-GainsIn Written before after lines = after.text.items ≡ before.text.items ++ lines_text lines
+GainsIn (Written telling) before after lines = after.text.items ≡ before.text.items ++ told_lines telling lines
 GainsIn Counted before after lines = after.counts ≡ both before.counts (tally lines)
 
 -- and so it stays with all that come

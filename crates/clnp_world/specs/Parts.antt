@@ -4,7 +4,8 @@ use Rattle.std.specs.List.{AllByRecursion}
 use Rattle.clnp_machine.specs.System.{Input, SystemState}
 use Rattle.clnp_systems.specs.SystemEntity.Steps.{moment_at}
 use Rattle.clnp_network.specs.World as network
-use Rattle.clnp_network.specs.Run.{lines_text}
+use Rattle.clnp_machine.specs.ClnpPlan.declared.journal.Telling.{Telling}
+use Rattle.clnp_network.specs.Run.{told_lines}
 use Rattle.clnp_world.specs.Lines.{Gains}
 use Rattle.clnp_world.specs.Seen.{frames_weight}
 use Rattle.clnp_world.specs.State.{NetworkState}
@@ -53,10 +54,10 @@ pub record Follows (code : Network) (before after : Lines) (part : network.Step)
   pub holds : Holds code part.world
   pub lines : Gains before after part.lines
 
--- the network and a journal's text are those after a part of a move
-pub record FollowsIn (code : Network) (before after : List ℕ) (part : network.Step) : Type 0 where
+-- the network and the text of a journal or of a trace are those after a part of a move
+pub record FollowsIn (telling : Telling) (code : Network) (before after : List ℕ) (part : network.Step) : Type 0 where
   pub holds : Holds code part.world
-  pub text : after ≡ before ++ lines_text part.lines
+  pub text : after ≡ before ++ told_lines telling part.lines
 
 -- some copies were put behind the others, and weighed
 pub record PutsCopies (before after : Network) (made : List FrameCopy) : Type 0 where

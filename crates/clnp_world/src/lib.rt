@@ -2,6 +2,7 @@
 #![tactic(auto)]
 
 mod copy;
+pub mod laws;
 mod lines;
 mod network;
 mod world;

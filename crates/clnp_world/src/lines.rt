@@ -1,11 +1,12 @@
 //! Where the lines of a move go.
 ghost use Rattle.std.specs.Prelude.{◌≡◌, ◌+◌, ◌∷◌, ℕ, List, [], IfSome, OnOk};
-ghost use Rattle.clnp_machine.specs.ClnpPlan.Journal.{Injected, Late, Noted, Transmitted, Void};
+ghost use Rattle.clnp_machine.specs.ClnpPlan.Journal.{ForNobody, Injected, Late, Lost, Noted, Received, Transmitted, Void};
 ghost use Rattle.clnp_world.specs.Lines.{Gains, both, no_lines, tally};
 
 use clnp_machine::clnp_base::NoMemory;
 use clnp_machine::clnp_plan::{
-    Note, injection_text, journal_text, late_text, transmission_text, void_text,
+    Note, Telling, injection_text, journal_text, late_text, loss_text, nobody_text, receipt_text,
+    transmission_text, void_text,
 };
 use clnp_machine::nsap::{Snpa, Target};
 use std::alloc::Global;
@@ -72,8 +73,8 @@ impl Counts {
 /// What becomes of the lines of a move.
 #[derive(Clone, Copy)]
 pub(crate) enum Form {
-    /// Their text is written, behind that of others.
-    Written,
+    /// Their text in a journal or in a trace is written, behind that of others.
+    Written(Telling),
     /// They are counted by their kinds, and there is no text.
     Counted,
 }
@@ -100,7 +101,7 @@ impl Lines {
         ensures { OnOk result (Gains self.old self.new (Noted now name.now note.now ∷ [])) }
     {
         match self.form {
-            Form::Written => journal_text(alloc, now, name, note, &mut self.text),
+            Form::Written(_) => journal_text(alloc, now, name, note, &mut self.text),
             Form::Counted => self.count(note),
         }
     }
@@ -119,7 +120,7 @@ impl Lines {
         ensures { OnOk result (Gains self.old self.new (Transmitted now name.now copy port target frame.now ∷ [])) }
     {
         match self.form {
-            Form::Written => transmission_text(
+            Form::Written(_) => transmission_text(
                 alloc,
                 now,
                 name,
@@ -144,7 +145,7 @@ impl Lines {
         ensures { OnOk result (Gains self.old self.new (Void now name.now copy ∷ [])) }
     {
         match self.form {
-            Form::Written => void_text(alloc, now, name, copy, &mut self.text),
+            Form::Written(_) => void_text(alloc, now, name, copy, &mut self.text),
             Form::Counted => Ok(()),
         }
     }
@@ -160,7 +161,7 @@ impl Lines {
         ensures { OnOk result (Gains self.old self.new (Late now name.now copy ∷ [])) }
     {
         match self.form {
-            Form::Written => late_text(alloc, now, name, copy, &mut self.text),
+            Form::Written(_) => late_text(alloc, now, name, copy, &mut self.text),
             Form::Counted => Ok(()),
         }
     }
@@ -178,10 +179,49 @@ impl Lines {
         ensures { OnOk result (Gains self.old self.new (Injected now copy subnet.now sender.now target.now ∷ [])) }
     {
         match self.form {
-            Form::Written => {
+            Form::Written(_) => {
                 injection_text(alloc, now, copy, subnet, sender, target, &mut self.text)
             }
             Form::Counted => Ok(()),
+        }
+    }
+
+    /// A copy that comes to a system on a port.
+    pub(crate) fn receipt(
+        &mut self,
+        alloc: Global,
+        now: u64,
+        name: &[u8],
+        copy: u64,
+        port: u8,
+    ) -> Result<(), NoMemory>
+        ensures { OnOk result (Gains self.old self.new (Received now name.now copy port ∷ [])) }
+    {
+        match self.form {
+            Form::Written(Telling::Trace) => {
+                receipt_text(alloc, now, name, copy, port, &mut self.text)
+            }
+            Form::Written(Telling::Journal) | Form::Counted => Ok(()),
+        }
+    }
+
+    /// A copy that is lost.
+    pub(crate) fn loss(&mut self, alloc: Global, now: u64, copy: u64) -> Result<(), NoMemory>
+        ensures { OnOk result (Gains self.old self.new (Lost now copy ∷ [])) }
+    {
+        match self.form {
+            Form::Written(Telling::Trace) => loss_text(alloc, now, copy, &mut self.text),
+            Form::Written(Telling::Journal) | Form::Counted => Ok(()),
+        }
+    }
+
+    /// A copy that is settled and is for nobody.
+    pub(crate) fn nobody(&mut self, alloc: Global, now: u64, copy: u64) -> Result<(), NoMemory>
+        ensures { OnOk result (Gains self.old self.new (ForNobody now copy ∷ [])) }
+    {
+        match self.form {
+            Form::Written(Telling::Trace) => nobody_text(alloc, now, copy, &mut self.text),
+            Form::Written(Telling::Journal) | Form::Counted => Ok(()),
         }
     }
 

@@ -1,7 +1,7 @@
 //! The network that a caller moves: each move whole or not at all.
 ghost use Rattle.std.specs.Prelude.{◌≡◌, ◌+◌, ◌<◌, ◌≤◌, ◌^◌, ℕ, ◌++◌, IfErr, IfNone, IfOk, IfSome, Err, MatchOption, OnOk, OnErr, Some, false, length, nat_le, slice_get, true};
 ghost use Rattle.clnp_machine.specs.System.{SystemState};
-ghost use Rattle.clnp_network.specs.Run.{lines_text, world_end};
+ghost use Rattle.clnp_network.specs.Run.{told_lines, world_end};
 ghost use Rattle.clnp_network.specs.World as network;
 ghost use Rattle.clnp_machine.specs.ClnpPlan.declared.config.Role.TheVariants as role;
 ghost use Rattle.clnp_systems.specs.Stands.{configuration_of};
@@ -16,7 +16,7 @@ ghost use Rattle.clnp_systems.specs.Router.Stands as router_stands;
 use crate::lines::Counts;
 use crate::network::Network;
 use clnp_machine::clnp_base::NoMemory;
-use clnp_machine::clnp_plan::push_end;
+use clnp_machine::clnp_plan::{Telling, push_end};
 use clnp_network::scenario::{Move, Scenario};
 use clnp_systems::end_system::EndSystem;
 use clnp_systems::router::Router;
@@ -76,27 +76,28 @@ impl World {
         })
     }
 
-    /// Makes one move, and appends its lines to the journal.
+    /// Makes one move, and appends its lines to a journal or a trace.
     ///
     /// # Errors
     ///
     /// `WorldFull` exactly where the copies weigh 268,435,456 octets or more before the move: nothing changes then.
-    /// `NoMemory`: the journal is then as it was, and the network is spent, at the moment at which it was.
+    /// `NoMemory`: the text is then as it was, and the network is spent, at the moment at which it was.
     pub fn step(
         &mut self,
         alloc: Global,
         scenario: &Scenario,
         mv: &Move,
-        journal: &mut Vec<u8>,
+        telling: Telling,
+        out: &mut Vec<u8>,
     ) -> Result<(), WorldRefusal>
         requires { self.old.network.clock + 1 < 2 ^ 62 }
         // Whatever network of the model this one stands for, it stands for the one after the move.
         ensures stands { OnOk result ((model : network.World) → Stands self.old model
             → Stands self.new (network.after scenario.now model mv.now).world) }
         ensures lines { OnOk result ((model : network.World) → Stands self.old model
-            → journal.new.items ≡ journal.old.items ++ lines_text (network.after scenario.now model mv.now).lines) }
+            → out.new.items ≡ out.old.items ++ told_lines telling (network.after scenario.now model mv.now).lines) }
         ensures full { (model : network.World) → Stands self.old model → TellsFull model result }
-        ensures same { OnErr result (journal.new.items ≡ journal.old.items) }
+        ensures same { OnErr result (out.new.items ≡ out.old.items) }
         ensures left { IfErr result (λ e. IsLeftBy e self.old self.new) }
         ensures clock { OnErr result (self.new.network.clock ≡ self.old.network.clock) }
         ensures refused { self.old.spent ≡ true → result ≡ Err WantsMemory }
@@ -105,7 +106,7 @@ impl World {
         let clock = self.network.clock;
         match self
             .network
-            .write_move(alloc, scenario, mv, &mut self.room, journal)
+            .write_move(alloc, scenario, mv, telling, &mut self.room, out)
         {
             Ok(()) => Ok(()),
             Err(NoMemory) => {
@@ -231,7 +232,7 @@ impl World {
         }
     }
 
-    /// Appends the journal's last line.
+    /// Appends the last line of a journal or a trace.
     ///
     /// # Errors
     ///

@@ -250,3 +250,4 @@ all_ended w first now all left a b c block rest status.TooLong total breaks none
 all_ended w first now all left a b c block rest (status.BadInput line code) total breaks none calls is m p = absurd p
 all_ended w first now all left a b c block rest (status.WorldFull octets) total breaks none calls is m p = absurd p
 all_ended w first now all left a b c block rest status.ReadFault total breaks none calls is m p = absurd p
+all_ended w first now all left a b c block rest (status.LinksGone links) total breaks none calls is m p = absurd p

@@ -131,3 +131,4 @@ EndOf piece before after status.TooLong = ⊥
 EndOf piece before after (status.BadInput line code) = ⊥
 EndOf piece before after (status.WorldFull octets) = ⊥
 EndOf piece before after status.ReadFault = ⊥
+EndOf piece before after (status.LinksGone links) = ⊥

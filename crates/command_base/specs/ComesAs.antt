@@ -27,3 +27,4 @@ ComesAs task before after status.NoMemory = Keeps before after ⊎ task.parts be
 ComesAs task before after (status.BadWords at) = ⊥
 ComesAs task before after status.TooLong = ⊥
 ComesAs task before after status.ReadFault = ⊥
+ComesAs task before after (status.LinksGone links) = ⊥

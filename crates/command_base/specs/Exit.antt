@@ -1,9 +1,8 @@
 -- The exit numbers of the program.
 use Rattle.std.specs.Prelude.{ℕ}
 use Rattle.command_base.specs.declared.status.Status.{Status}
-use Rattle.command_base.specs.declared.status.Status.TheVariants.{Done, BadWords, TooLong, BadInput, WorldFull, ReadFault, WriteFault, NoMemory}
+use Rattle.command_base.specs.declared.status.Status.TheVariants.{Done, BadWords, TooLong, BadInput, WorldFull, ReadFault, WriteFault, LinksGone, NoMemory}
 
--- 7 is left for an answer that isn't built yet
 abbrev pub exit_number : Status → ℕ
 exit_number Done = 0
 exit_number (BadWords at) = 1
@@ -12,4 +11,5 @@ exit_number (BadInput line code) = 3
 exit_number (WorldFull octets) = 4
 exit_number ReadFault = 5
 exit_number WriteFault = 6
+exit_number (LinksGone links) = 7
 exit_number NoMemory = 8

@@ -3,3 +3,4 @@ pub mod Exit
 pub mod Output
 pub mod ByLine
 pub mod ComesAs
+pub mod Reading

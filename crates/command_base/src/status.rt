@@ -19,6 +19,8 @@ pub enum Status {
     ReadFault,
     /// The sink failed.
     WriteFault,
+    /// At the end of a turn of a live node no port had its link any more, of so many.
+    LinksGone { links: u8 },
     /// Memory was refused.
     NoMemory,
 }
@@ -36,6 +38,7 @@ impl Status {
             Status::WorldFull { .. } => 4,
             Status::ReadFault => 5,
             Status::WriteFault => 6,
+            Status::LinksGone { .. } => 7,
             Status::NoMemory => 8,
         }
     }

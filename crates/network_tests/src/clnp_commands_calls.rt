@@ -1,4 +1,5 @@
-use clnp_machine::clnp_base::{Failed, MemSink, MemSource, Sink};
+use clnp_machine::clnp_base::{Failed, MemClock, MemSink, MemSource, Sink};
+use clnp_program::clnp_commands::link_board::Board;
 use clnp_program::clnp_commands::{Advice, Status, clnp_main};
 use std::alloc::Global;
 use std::process::Abort;
@@ -82,11 +83,15 @@ fn call(
     let words = words_of(rt, alloc, word);
     let mut source = source_of(rt, alloc, text, streams);
     let mut sink = sink_of(rt, alloc, streams);
+    let mut board = Board::new(alloc, Vec::new(alloc)).expect(rt, "memory");
+    let mut clock = MemClock::new(Vec::from_slice(alloc, &[0]).expect(rt, "memory"));
     let status = clnp_main(
         alloc,
         words.as_slice(),
         &mut source,
         &mut sink,
+        &mut board,
+        &mut clock,
         &mut Advice::new(),
     );
     out.extend_from_slice(sink.as_bytes()).expect(rt, "memory");
@@ -283,11 +288,15 @@ fn count_until_full(rt: &impl Abort, alloc: Global, text: &[u8], full: u64) -> u
         },
     );
     let mut sink = Counter { octets: 0 };
+    let mut board = Board::new(alloc, Vec::new(alloc)).expect(rt, "memory");
+    let mut clock = MemClock::new(Vec::from_slice(alloc, &[0]).expect(rt, "memory"));
     let status = clnp_main(
         alloc,
         words.as_slice(),
         &mut source,
         &mut sink,
+        &mut board,
+        &mut clock,
         &mut Advice::new(),
     );
     assert!(rt; status == Status::WorldFull { octets: full });

@@ -1,12 +1,13 @@
-use clnp_machine::clnp_base::{MemSink, MemSource};
+use clnp_machine::clnp_base::{MemClock, MemSink, MemSource};
 use clnp_program::clnp_commands::Status;
+use clnp_program::clnp_commands::link_board::Board;
 use clnp_program::{end, run};
 use std::alloc::Global;
 use std::process::Abort;
 
 /// What standard error gets behind bad words.
 const BAD_WORDS: &str =
-    "clnp: bad words at 2\nclnp: wanted: sim, show, check, pack, pcap-show, pcap-make, pcap-lines, reassemble, migrate, or storm; clnp --help tells of each\n";
+    "clnp: bad words at 2\nclnp: wanted: sim, trace, show, check, pack, pcap-show, pcap-make, pcap-lines, reassemble, migrate, storm, or run; clnp --help tells of each\n";
 
 /// A sink that takes all, but fails at the call of this number, from 1.
 fn sink_of(rt: &impl Abort, alloc: Global, fails: u64) -> MemSink {
@@ -41,6 +42,11 @@ fn says_each_fault(rt: HostRuntime) {
         ),
         (Status::ReadFault, 5, "clnp: read fault\n"),
         (Status::WriteFault, 6, "clnp: write fault\n"),
+        (
+            Status::LinksGone { links: 2 },
+            7,
+            "clnp: all 2 links gone\n",
+        ),
         (Status::NoMemory, 8, "clnp: no memory\n"),
     ];
     for (status, number, said) in table {
@@ -58,7 +64,17 @@ fn see_show(rt: &impl Abort, alloc: Global, fails: (u64, u64), number: u8, said:
     let mut source = MemSource::new(octets, 4096, read_fails);
     let mut sink = sink_of(rt, alloc, fails.1);
     let mut errors = sink_of(rt, alloc, 0);
-    let ended = run(alloc, words.as_slice(), &mut source, &mut sink, &mut errors);
+    let mut board = Board::new(alloc, Vec::new(alloc)).expect(rt, "memory");
+    let mut clock = MemClock::new(Vec::from_slice(alloc, &[0]).expect(rt, "memory"));
+    let ended = run(
+        alloc,
+        words.as_slice(),
+        &mut source,
+        &mut sink,
+        &mut board,
+        &mut clock,
+        &mut errors,
+    );
     assert!(rt; ended == number);
     assert!(rt; errors.as_bytes() == said.as_bytes());
 }

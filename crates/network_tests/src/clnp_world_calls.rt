@@ -1,4 +1,5 @@
 use clnp_machine::clnp_base::lines;
+use clnp_machine::clnp_plan::Telling;
 use clnp_program::clnp_world::{Counts, Move, World};
 use clnp_program::scenario::{Scenario, read};
 use std::alloc::Global;
@@ -54,7 +55,11 @@ fn make_all(
 ) {
     for mv in MOVES {
         assert!(rt; world.clock() < 1_000_000);
-        assert!(rt; world.step(alloc, scenario, mv, journal).is_ok());
+        assert!(rt;
+            world
+                .step(alloc, scenario, mv, Telling::Journal, journal)
+                .is_ok()
+        );
     }
     assert!(rt; world.finish(alloc, journal).is_ok());
 }

@@ -9,7 +9,7 @@ use Rattle.std.specs.Io.KnownBytes.{Appends, Consumes, IsAtEnd}
 use Rattle.hex.specs.Hex.{IsBytes}
 use Rattle.command_base.specs.ClnpBase.Streams.{AppendsFront, Rose}
 use Rattle.command_base.specs.declared.status.Status.{Status}
-use Rattle.command_base.specs.declared.status.Status.TheVariants.{Done, BadWords, TooLong, BadInput, WorldFull, ReadFault, WriteFault, NoMemory}
+use Rattle.command_base.specs.declared.status.Status.TheVariants.{Done, BadWords, TooLong, BadInput, WorldFull, LinksGone, ReadFault, WriteFault, NoMemory}
 use Rattle.command_base.proofs.Fronts.{front-longer}
 use Rattle.pcap_frames.specs.declared.fault.PcapFault.{PcapFault}
 use Rattle.pcap_frames.specs.File.{Captured}
@@ -131,6 +131,7 @@ stopped law form a b c d octets within Done consumed limited s = absurd s
 stopped law form a b c d octets within (BadWords at) consumed limited s = absurd s
 stopped law form a b c d octets within TooLong consumed limited s = absurd s
 stopped law form a b c d octets within (WorldFull weight) consumed limited s = absurd s
+stopped law form a b c d octets within (LinksGone links) consumed limited s = absurd s
 stopped law form a b c d octets within ReadFault consumed limited s = absurd s
 
 -- writing the block at the end failed
@@ -364,6 +365,7 @@ called_or_excused form a b c d R W WriteFault h r w = excused (λ octets. Calls 
 called_or_excused form a b c d R W NoMemory h r w = excused (λ octets. Calls octets NoMemory) (Unit {0}) a tt
 called_or_excused form a b c d R W (BadWords at) h r w = absurd h
 called_or_excused form a b c d R W (WorldFull weight) h r w = absurd h
+called_or_excused form a b c d R W (LinksGone links) h r w = absurd h
 
 pub serves : (form : Form) (a b c d : Option (List ℕ)) (R W : Type 0) (status : Status) → ComesTo form a b c d status
     → (status ≡ ReadFault → R) → (status ≡ WriteFault → W) → ServesFile form a b c d R W status

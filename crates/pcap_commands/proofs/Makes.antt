@@ -99,6 +99,7 @@ comes_behind lines a b c status.NoMemory head (inr h) =
 comes_behind lines a b c (status.BadWords at) head h = absurd h
 comes_behind lines a b c status.TooLong head h = absurd h
 comes_behind lines a b c status.ReadFault head h = absurd h
+comes_behind lines a b c (status.LinksGone links) head h = absurd h
 
 -- writing the header failed
 pub header_cut : (lines : List (List ℕ)) (a b : Option (List ℕ)) → AppendsFront a b (header_octets HighFirst made_header)

@@ -12,7 +12,7 @@ use Rattle.hex.specs.Hex.{IsBytes}
 use Rattle.command_base.specs.ClnpBase.Streams.{AppendsFront}
 use Rattle.command_base.specs.declared.block.LineStop.{LineStop}
 use Rattle.command_base.specs.declared.status.Status.{Status}
-use Rattle.command_base.specs.declared.status.Status.TheVariants.{Done, BadWords, TooLong, BadInput, WorldFull, ReadFault, WriteFault, NoMemory}
+use Rattle.command_base.specs.declared.status.Status.TheVariants.{Done, BadWords, TooLong, BadInput, WorldFull, LinksGone, ReadFault, WriteFault, NoMemory}
 use Rattle.command_base.specs.declared.block.LineStop.TheVariants as line_stop
 use Rattle.command_base.specs.ByLine.{BlockOf}
 use Rattle.command_base.proofs.Fronts.{front-behind}
@@ -325,6 +325,7 @@ stop_longer form octets more a b Done s bytes = absurd s
 stop_longer form octets more a b (BadWords at) s bytes = absurd s
 stop_longer form octets more a b TooLong s bytes = absurd s
 stop_longer form octets more a b (WorldFull weight) s bytes = absurd s
+stop_longer form octets more a b (LinksGone links) s bytes = absurd s
 stop_longer form octets more a b ReadFault s bytes = absurd s
 
 -- the answer to a fault is that of bad input

@@ -3,7 +3,7 @@ use Rattle.std.specs.Prelude.{◌≡◌, ℕ, ◌+◌, ◌<◌, ◌≤◌, ◌�
 use Rattle.std.specs.Io.KnownBytes.{Appends, Consumes, IsAtEnd}
 use Rattle.command_base.specs.ClnpBase.Streams.{AppendsFront}
 use Rattle.command_base.specs.declared.status.Status.{Status}
-use Rattle.command_base.specs.declared.status.Status.TheVariants.{Done, BadWords, TooLong, BadInput, WorldFull, ReadFault, WriteFault, NoMemory}
+use Rattle.command_base.specs.declared.status.Status.TheVariants.{Done, BadWords, TooLong, BadInput, WorldFull, LinksGone, ReadFault, WriteFault, NoMemory}
 use Rattle.pcap_frames.specs.File.{Captured}
 use Rattle.pcap_frames.specs.Reading.{Ending, IsReadAs}
 use Rattle.pcap_commands.specs.declared.form.Form.{Form}
@@ -79,6 +79,7 @@ ComesTo form left_before left_after before after WriteFault = WritesFront form l
 ComesTo form left_before left_after before after NoMemory = WritesSome form left_before left_after before after
 ComesTo form left_before left_after before after (BadWords at) = ⊥
 ComesTo form left_before left_after before after (WorldFull octets) = ⊥
+ComesTo form left_before left_after before after (LinksGone links) = ⊥
 
 -- The excuses for an answer that the octets don't call for: want of memory, which is free, and a fault of the source or
 -- of the sink, which must have come in this call.

@@ -4,7 +4,7 @@ use Rattle.std.specs.Io.KnownBytes.{Appends, Consumes}
 use Rattle.hex.specs.Hex.{IsBytes}
 use Rattle.command_base.specs.ClnpBase.Streams.{AppendsFront}
 use Rattle.command_base.specs.declared.status.Status.{Status}
-use Rattle.command_base.specs.declared.status.Status.TheVariants.{Done, BadWords, TooLong, BadInput, WorldFull, ReadFault, WriteFault, NoMemory}
+use Rattle.command_base.specs.declared.status.Status.TheVariants.{Done, BadWords, TooLong, BadInput, WorldFull, LinksGone, ReadFault, WriteFault, NoMemory}
 use Rattle.pcap_frames.specs.declared.fault.PcapFault.{PcapFault}
 use Rattle.pcap_frames.specs.File.{Captured}
 use Rattle.pcap_frames.specs.Reading.{Ending, Faulty, IsReadAs, Stands, ending_of}
@@ -59,6 +59,7 @@ StopOf form octets before after Done = ⊥
 StopOf form octets before after (BadWords at) = ⊥
 StopOf form octets before after TooLong = ⊥
 StopOf form octets before after (WorldFull weight) = ⊥
+StopOf form octets before after (LinksGone links) = ⊥
 StopOf form octets before after ReadFault = ⊥
 
 -- What taking octets comes to, where these were taken in all.

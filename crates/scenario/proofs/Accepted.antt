@@ -1,5 +1,5 @@
 -- A text that the grammar accepts is a scenario that is fit to be run.
-use Rattle.std.proofs.Common.{◌≡◌, ℕ, ◌+◌, ◌≤◌, ◌&&◌, true, nat_le, List, [], ◌∷◌, map, length, codes, Option, None, Some, Result, Ok, Err, IfOk, refl, sym, ◌∙◌, subst, arith}
+use Rattle.std.proofs.Common.{◌≡◌, ℕ, ◌+◌, ◌-◌, ◌≤◌, ◌&&◌, true, nat_le, List, [], ◌∷◌, map, length, codes, Option, None, Some, Result, Ok, Err, IfOk, refl, subst, arith}
 use Rattle.std.specs.List.{AllByRecursion, flat_map, sum}
 use Rattle.std.specs.Str.{bytes_eq}
 use Rattle.std.proofs.lemmas.Bool.{leb-true, and_parts}
@@ -14,7 +14,7 @@ use Rattle.scenario.specs.Scenario.{Plan, Subnetwork, IsFit, AsksFairly, AsksInF
 use Rattle.scenario.specs.Words.{found, is_skipped}
 use Rattle.scenario.specs.Declarations.{Declarations, DeclaredSystem, nothing_declared, limits_of, snpas_on, configuration_of}
 use Rattle.scenario.specs.Events.{Scene, scene_of, event_line, counted, are_few, nothing_counted}
-use Rattle.scenario.specs.Grammar.{ReadTo, is_line_of, version_of, header_from, declarations_from, nothing_after, counted_event, events_from, plan_at}
+use Rattle.scenario.specs.Grammar.{ReadTo, is_line_of, version_of, header_from, declarations_from, nothing_after, counted_event, event_for, events_from, fit_for, plan_at}
 use Rattle.scenario.specs.declared.counts.Counts.{Counts}
 use Rattle.scenario.specs.declared.event.Event.{Event}
 use Rattle.clnp_plan.proofs.ClnpBase.Choices.{one_of}
@@ -82,7 +82,7 @@ record AreCounted (scene : Scene) (before : Counts) (events : List Event) : Type
   pub said : AllByRecursion IsSaid events
 
 events_fit : Laws → (scene : Scene) → AllByRecursion IsSystem scene.systems → (n : ℕ) (counts : Counts) (lines : List (List ℕ))
-    → AreFew counts → IfOk (events_from scene n counts lines) (AreCounted scene counts)
+    → AreFew counts → IfOk (events_from counted_event scene n counts lines) (AreCounted scene counts)
 unfolding events_from
 events_fit laws scene are n counts [] h = tt
 events_fit laws scene are n counts (line ∷ lines) h =
@@ -91,7 +91,7 @@ events_fit laws scene are n counts (line ∷ lines) h =
     (behind_result (nothing_after (n + 1) lines) _ (AreCounted scene counts) (λ _ _. record { many = omega (arith, h.events); passed = omega (arith, h.passed); ticks = omega (arith, h.ticks); fair = tt; formed = tt; placed = tt; injected = tt; said = tt }))
     (behind_line_such n (counted_event scene counts (words_of line)) _ (IsCounted scene counts) (AreCounted scene counts)
     (event_fit laws scene are counts line) (λ event first.
-    behind_such (events_from scene (n + 1) (counted counts event) lines) _ (AreCounted scene (counted counts event)) (AreCounted scene counts)
+    behind_such (events_from counted_event scene (n + 1) (counted counts event) lines) _ (AreCounted scene (counted counts event)) (AreCounted scene counts)
     (events_fit laws scene are (n + 1) (counted counts event) lines (few (counted counts event) first.few)) (λ others rest.
     record {
       many = omega (arith, rest.many);
@@ -124,7 +124,7 @@ header_within newest n (line ∷ lines) =
     either_way (is_skipped line) _ _ SaysVersion (header_within newest (n + 1) lines)
     (behind_line_such n (found (version_of newest line) bad.Header) _ (IsWithin 1 2) SaysVersion (version_within newest line) (λ version within. within))
 
-plan_fit : Laws → (newest : ℕ) (lines : List (List ℕ)) → IfOk (plan_at newest lines) IsFit
+plan_fit : Laws → (newest : ℕ) (lines : List (List ℕ)) → IfOk (plan_at None newest lines) IsFit
 unfolding plan_at
 plan_fit laws newest lines =
     behind_such (header_from newest 1 lines) _ SaysVersion IsFit (header_within newest 1 lines) (λ header within.
@@ -134,8 +134,8 @@ plan_fit laws newest lines =
     let fits : AreDeclared declared = are_declared.0 in
     let systems : List SystemConfiguration = map configuration_of declared.value.systems in
     let scene : Scene = scene_of declared.value.subnets systems in
-    behind_such (events_from scene declared.number nothing_counted declared.lines) _ (λ events. AreCounted scene nothing_counted events × AllByRecursion (HasItsRole systems) events) IsFit
-    (both (events_from scene declared.number nothing_counted declared.lines) (AreCounted scene nothing_counted) (AllByRecursion (HasItsRole systems))
+    behind_such (events_from counted_event scene declared.number nothing_counted declared.lines) _ (λ events. AreCounted scene nothing_counted events × AllByRecursion (HasItsRole systems) events) IsFit
+    (both (events_from counted_event scene declared.number nothing_counted declared.lines) (AreCounted scene nothing_counted) (AllByRecursion (HasItsRole systems))
     (events_fit laws scene (configurations_fit declared fits) declared.number nothing_counted declared.lines none_counted)
     (events_in_roles scene declared.number nothing_counted declared.lines)) (λ events are.
     let counted : AreCounted scene nothing_counted events = are.0 in
@@ -169,7 +169,7 @@ plan_fit laws newest lines =
       places = subst (λ n. AllByRecursion (IsPlaced n) events) (length-map systems (λ (system : SystemConfiguration). system.name)) counted.placed;
     })))
 
-pub accepted : Laws → (newest : ℕ) (text : List ℕ) (plan : Plan) → plan_at newest (lines_of text) ≡ Ok plan → IsFit plan
+pub accepted : Laws → (newest : ℕ) (text : List ℕ) (plan : Plan) → plan_at None newest (lines_of text) ≡ Ok plan → IsFit plan
 accepted laws newest text plan e = IfOk-at_ok IsFit e (plan_fit laws newest (lines_of text))
 
 -- the systems that were declared up to `events` are what each system is
@@ -181,13 +181,14 @@ declared_systems version n lines d number others e =
     (IfOk-at_ok AreDeclared e (declarations_fit n (nothing_declared version) lines (nothing_fit version)))
 
 -- the parts that are read make the plan
-pub plan_is : (newest : ℕ) (text : List ℕ) (version n m : ℕ) (left rest : List (List ℕ)) (d : Declarations) (limits : Limits) (subnets : List Subnetwork) (systems : List SystemConfiguration) (events : List Event)
+pub plan_is : (links : Option ℕ) (newest : ℕ) (text : List ℕ) (version n m : ℕ) (left rest : List (List ℕ)) (d : Declarations) (limits : Limits) (subnets : List Subnetwork) (systems : List SystemConfiguration) (events : List Event)
     → header_from newest 1 (lines_of text) ≡ Ok (record { value = version; number = n; lines = left })
     → declarations_from n (nothing_declared version) left ≡ Ok (record { value = d; number = m; lines = rest })
+    → fit_for links (m - 1) d ≡ Ok tt
     → limits ≡ limits_of d.limits → subnets ≡ d.subnets → systems ≡ map configuration_of d.systems
-    → events_from (scene_of subnets systems) m nothing_counted rest ≡ Ok events
-    → plan_at newest (lines_of text) ≡ Ok (record { version = version; limits = limits; subnets = subnets; systems = systems; events = events })
+    → events_from (event_for links) (scene_of subnets systems) m nothing_counted rest ≡ Ok events
+    → plan_at links newest (lines_of text) ≡ Ok (record { version = version; limits = limits; subnets = subnets; systems = systems; events = events })
 unfolding plan_at
-plan_is newest text version n m left rest d limits subnets systems events header declared limits_is subnets_is systems_is happens =
-    let named : events_from (scene_of d.subnets (map configuration_of d.systems)) m nothing_counted rest ≡ Ok events = rw (subnets_is, systems_is) at happens in
-    rw (header, declared, named, limits_is, subnets_is, systems_is) refl
+plan_is links newest text version n m left rest d limits subnets systems events header declared fits limits_is subnets_is systems_is happens =
+    let named : events_from (event_for links) (scene_of d.subnets (map configuration_of d.systems)) m nothing_counted rest ≡ Ok events = rw (subnets_is, systems_is) at happens in
+    rw (header, declared, fits, named, limits_is, subnets_is, systems_is) refl

@@ -31,3 +31,5 @@ pub mod Versions
 mod Worked
 pub mod Pieces
 pub mod Alone
+pub mod LiveLines
+pub mod ForRun

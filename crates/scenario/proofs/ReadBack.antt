@@ -1,5 +1,5 @@
 -- What is written of a scenario is read as that scenario.
-use Rattle.std.proofs.Common.{◌≡◌, ℕ, zero, suc, List, [], ◌∷◌, ◌++◌, length, codes, Ok, refl, sym, ap, ◌∙◌, append_assoc, arith}
+use Rattle.std.proofs.Common.{◌≡◌, ℕ, zero, suc, List, [], ◌∷◌, ◌++◌, length, codes, None, Ok, refl, sym, ap, ◌∙◌, append_assoc, arith}
 use Rattle.std.specs.Fmt.{digits}
 use Rattle.std.specs.List.{AllByRecursion, flat_map}
 use Rattle.std.proofs.lemmas.Result.{IfOk-at_ok}
@@ -48,8 +48,8 @@ what_is_written law plan fit =
     let systems : AreNamed name_of_system plan.systems = record { distinct = fit.system_names; names = fit.named_systems } in
     let few : AreFewMore nothing_counted plan.events = record { many = omega (arith, fit.few_events); passed = omega (arith, fit.passed); ticks = omega (arith, fit.ticks) } in
     ap (λ (text : List ℕ). plan_of text) (regrouped (header_text plan.version) (declarations_text plan) (codes "events\n") lines (codes "end\n"))
-    ∙ plan_is newest_version (header_text plan.version ++ behind) plan.version 2 declared.0 (lines_of behind) (lines_of rest) (declared_of plan) plan.limits plan.subnets plan.systems plan.events
-    (header_read plan.version behind fit.version) declared.1 refl refl (sym (configurations_again plan.systems))
+    ∙ plan_is None newest_version (header_text plan.version ++ behind) plan.version 2 declared.0 (lines_of behind) (lines_of rest) (declared_of plan) plan.limits plan.subnets plan.systems plan.events
+    (header_read plan.version behind fit.version) declared.1 refl refl refl (sym (configurations_again plan.systems))
     (events_read law plan.subnets plan.systems subnets systems declared.0 nothing_counted plan.events
     (told plan.subnets plan.systems plan.events fit.formed fit.places fit.senders fit.congested fit.injected fit.said) few)
 

@@ -117,7 +117,7 @@ counted_in_role scene counts words =
     behind_wanted (are_few (counted counts event)) _ _ (HasItsRole scene.systems) (λ _. is))
 
 pub events_in_roles : (scene : Scene) (n : ℕ) (counts : Counts) (lines : List (List ℕ))
-    → IfOk (events_from scene n counts lines) (AllByRecursion (HasItsRole scene.systems))
+    → IfOk (events_from counted_event scene n counts lines) (AllByRecursion (HasItsRole scene.systems))
 unfolding events_from
 events_in_roles scene n counts [] = tt
 events_in_roles scene n counts (line ∷ lines) =
@@ -126,5 +126,5 @@ events_in_roles scene n counts (line ∷ lines) =
     (behind_result (nothing_after (n + 1) lines) _ (AllByRecursion (HasItsRole scene.systems)) (λ _ _. tt))
     (behind_line_such n (counted_event scene counts (words_of line)) _ (HasItsRole scene.systems) (AllByRecursion (HasItsRole scene.systems))
     (counted_in_role scene counts (words_of line)) (λ event first.
-    behind_such (events_from scene (n + 1) (counted counts event) lines) _ (AllByRecursion (HasItsRole scene.systems)) (AllByRecursion (HasItsRole scene.systems))
+    behind_such (events_from counted_event scene (n + 1) (counted counts event) lines) _ (AllByRecursion (HasItsRole scene.systems)) (AllByRecursion (HasItsRole scene.systems))
     (events_in_roles scene (n + 1) (counted counts event) lines) (λ others rest. (first, rest)))))

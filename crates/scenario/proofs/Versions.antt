@@ -1,13 +1,12 @@
 -- Texts of version 1 beside those of all versions, and scenarios of version 1 in version 2.
-use Rattle.std.proofs.Common.{◌≡◌, ◌≢◌, ◌↔◌, inl, inr, ℕ, ◌+◌, ◌-◌, ◌==◌, ◌&&◌, nat_le, true, false, if◌then◌else◌, List, [], ◌∷◌, map, codes, Result, Ok, Err, IfOk, refl, sym, ap, ◌∙◌, subst, arith}
+use Rattle.std.proofs.Common.{◌≡◌, ◌≢◌, ◌↔◌, inl, inr, ℕ, ◌+◌, ◌-◌, ◌==◌, if◌then◌else◌, List, [], ◌∷◌, map, codes, None, Result, Ok, Err, IfOk, refl, sym, ap, ◌∙◌, arith}
 use Rattle.std.specs.Str.{bytes_eq}
 use Rattle.std.proofs.lemmas.Bool.{cases_Bool, eq-eqb, eqb-true, ne_eqb, true≢false}
 use Rattle.std.proofs.lemmas.Result.{IfOk-at_ok}
 use Rattle.clnp_plan.specs.ClnpBase.Text.{lines_of}
-use Rattle.clnp_plan.specs.Configuration.{IsWithin}
 use Rattle.scenario.specs.Canonical.{text_of}
 use Rattle.scenario.specs.Codes.{number_of}
-use Rattle.scenario.specs.Grammar.{BadLine, ReadTo, at_line, newest_version, version_of, header_from, declarations_from, plan_behind, plan_at, plan_of, plan_of_version_1, events_from}
+use Rattle.scenario.specs.Grammar.{BadLine, ReadTo, at_line, newest_version, version_of, header_from, declarations_from, plan_behind, plan_at, plan_of, plan_of_version_1, counted_event, events_from}
 use Rattle.scenario.specs.Declarations.{nothing_declared, configuration_of}
 use Rattle.scenario.specs.Events.{scene_of, nothing_counted}
 use Rattle.scenario.specs.Migration.{IsReadAlike, migrated, migration_of}
@@ -52,20 +51,20 @@ header_is n (line ∷ lines) =
       | inr stands ↦ rw stands (header_line n line lines)
     ]
 
-plan_is_behind : (lines : List (List ℕ)) → plan_at 1 lines ≡ (of_version_1 (header_from newest_version 1 lines) >>= plan_behind)
+plan_is_behind : (lines : List (List ℕ)) → plan_at None 1 lines ≡ (of_version_1 (header_from newest_version 1 lines) >>= plan_behind None)
 unfolding plan_at
-plan_is_behind lines = ap (λ (r : Result (ReadTo ℕ) BadLine). r >>= plan_behind) (header_is 1 lines)
+plan_is_behind lines = ap (λ (r : Result (ReadTo ℕ) BadLine). r >>= plan_behind None) (header_is 1 lines)
 
-newest_is_behind : (lines : List (List ℕ)) → plan_at newest_version lines ≡ (header_from newest_version 1 lines >>= plan_behind)
+newest_is_behind : (lines : List (List ℕ)) → plan_at None newest_version lines ≡ (header_from newest_version 1 lines >>= plan_behind None)
 unfolding plan_at
 newest_is_behind lines = refl
 
 -- a plan has the version of its header
-behind_has_version : (header : ReadTo ℕ) → IfOk (plan_behind header) (λ plan. plan.version ≡ header.value)
+behind_has_version : (header : ReadTo ℕ) → IfOk (plan_behind None header) (λ plan. plan.version ≡ header.value)
 behind_has_version header =
     let Has : Plan → Type 0 = λ plan. plan.version ≡ header.value in
     behind_result (declarations_from header.number (nothing_declared header.value) header.lines) _ Has (λ declared _.
-    behind_result (events_from (scene_of declared.value.subnets (map configuration_of declared.value.systems)) declared.number nothing_counted declared.lines) _ Has (λ events _. refl))
+    behind_result (events_from counted_event (scene_of declared.value.subnets (map configuration_of declared.value.systems)) declared.number nothing_counted declared.lines) _ Has (λ events _. refl))
 
 -- ---- what is read alike
 
@@ -78,18 +77,18 @@ is_later header other = rw (ne_eqb header.value 1 other) refl
 -- a text by what is read of its header
 module _ (text : List ℕ) where
   record IsReadBy (reading : Result (ReadTo ℕ) BadLine) : Type 0 where
-    pub first : plan_of_version_1 text ≡ (of_version_1 reading >>= plan_behind)
-    pub all : plan_of text ≡ (reading >>= plan_behind)
+    pub first : plan_of_version_1 text ≡ (of_version_1 reading >>= plan_behind None)
+    pub all : plan_of text ≡ (reading >>= plan_behind None)
 
   is_read : IsReadBy (header_from newest_version 1 (lines_of text))
   is_read = record { first = plan_is_behind (lines_of text); all = newest_is_behind (lines_of text) }
 
-  behind_first : (header : ReadTo ℕ) → IsReadBy (Ok header) → header.value ≡ 1 → plan_of_version_1 text ≡ plan_behind header
-  behind_first header is one = is.first ∙ ap (λ (r : Result (ReadTo ℕ) BadLine). r >>= plan_behind) (is_first header one)
+  behind_first : (header : ReadTo ℕ) → IsReadBy (Ok header) → header.value ≡ 1 → plan_of_version_1 text ≡ plan_behind None header
+  behind_first header is one = is.first ∙ ap (λ (r : Result (ReadTo ℕ) BadLine). r >>= plan_behind None) (is_first header one)
 
   behind_later : (header : ReadTo ℕ) → IsReadBy (Ok header) → header.value ≢ 1
       → plan_of_version_1 text ≡ Err (record { line = header.number - 1; code = number_of bad.Header })
-  behind_later header is other = is.first ∙ ap (λ (r : Result (ReadTo ℕ) BadLine). r >>= plan_behind) (is_later header other)
+  behind_later header is other = is.first ∙ ap (λ (r : Result (ReadTo ℕ) BadLine). r >>= plan_behind None) (is_later header other)
 
   alike : (reading : Result (ReadTo ℕ) BadLine) → IsReadBy reading → IsReadAlike text reading
   alike (Err bad) is = is.first ∙ sym is.all
@@ -102,7 +101,7 @@ module _ (text : List ℕ) where
     not_both : (bad : BadLine) (r : Result Plan BadLine) → r ≡ Ok plan → r ≡ Err bad → ⊥
     not_both bad r ok err = cc (ok, err)
 
-    its_version : (header : ReadTo ℕ) → plan_behind header ≡ Ok plan → plan.version ≡ header.value
+    its_version : (header : ReadTo ℕ) → plan_behind None header ≡ Ok plan → plan.version ≡ header.value
     its_version header is = IfOk-at_ok (λ (p : Plan). p.version ≡ header.value) is (behind_has_version header)
 
     taken : (reading : Result (ReadTo ℕ) BadLine) → IsReadBy reading → plan_of_version_1 text ≡ Ok plan → (plan_of text ≡ Ok plan) × (plan.version ≡ 1)
@@ -111,7 +110,7 @@ module _ (text : List ℕ) where
         elim (cases_Bool (header.value == 1)) [
           | inl first ↦
               let one : header.value ≡ 1 = eqb-true header.value 1 first in
-              let behind : plan_behind header ≡ Ok plan = sym (behind_first header is one) ∙ read in
+              let behind : plan_behind None header ≡ Ok plan = sym (behind_first header is one) ∙ read in
               (is.all ∙ behind, its_version header behind ∙ one)
           | inr other ↦
               let later : header.value ≢ 1 = λ one. true≢false (sym (eq-eqb header.value 1 one) ∙ other) in
@@ -121,7 +120,7 @@ module _ (text : List ℕ) where
     of_first : (reading : Result (ReadTo ℕ) BadLine) → IsReadBy reading → plan_of text ≡ Ok plan → plan.version ≡ 1 → plan_of_version_1 text ≡ Ok plan
     of_first (Err bad) is read one = absurd (not_both bad (plan_of text) read is.all)
     of_first (Ok header) is read one =
-        let behind : plan_behind header ≡ Ok plan = sym is.all ∙ read in
+        let behind : plan_behind None header ≡ Ok plan = sym is.all ∙ read in
         behind_first header is (sym (its_version header behind) ∙ one) ∙ behind
 
     pub taken_alike : (plan_of_version_1 text ≡ Ok plan) ↔ ((plan_of text ≡ Ok plan) × (plan.version ≡ 1))

@@ -51,16 +51,16 @@ events_with : (scene : Scene) (n : ℕ) (counts : Counts) (line : List ℕ) (lin
     (event : Event) (others : List Event)
     → is_skipped line ≡ false → is_line_of (codes "end") (words_of line) ≡ false
     → counted_event scene counts (words_of line) ≡ Ok event
-    → events_from scene (n + 1) (counted counts event) lines ≡ Ok others
-    → events_from scene n counts (line ∷ lines) ≡ Ok (event ∷ others)
+    → events_from counted_event scene (n + 1) (counted counts event) lines ≡ Ok others
+    → events_from counted_event scene n counts (line ∷ lines) ≡ Ok (event ∷ others)
 unfolding events_from
 events_with scene n counts line lines event others stands goes_on first rest =
     rw (stands, goes_on)
     (step (at_line n (counted_event scene counts (words_of line))) _ event (Ok (event ∷ others)) (ap (λ (r : Result Event Code). at_line n r) first)
-    (step (events_from scene (n + 1) (counted counts event) lines) _ others (Ok (event ∷ others)) rest refl))
+    (step (events_from counted_event scene (n + 1) (counted counts event) lines) _ others (Ok (event ∷ others)) rest refl))
 
 at_end : (scene : Scene) (n : ℕ) (counts : Counts)
-    → events_from scene n counts (lines_of (codes "end\n")) ≡ Ok []
+    → events_from counted_event scene n counts (lines_of (codes "end\n")) ≡ Ok []
 unfolding events_from
 at_end scene n counts = refl
 
@@ -101,7 +101,7 @@ event_line_first subnets systems named_subnets named_systems event events more t
 
 pub events_read : ReadsBack → (subnets : List Subnetwork) (systems : List SystemConfiguration) → AreNamed name_of_subnet subnets → AreNamed name_of_system systems
     → (n : ℕ) (counts : Counts) (events : List Event) → AllByRecursion (IsTold subnets systems) events → AreFewMore counts events
-    → events_from (scene_of subnets systems) n counts (lines_of (flat_map (event_text subnets systems) events ++ codes "end\n")) ≡ Ok events
+    → events_from counted_event (scene_of subnets systems) n counts (lines_of (flat_map (event_text subnets systems) events ++ codes "end\n")) ≡ Ok events
 events_read law subnets systems named_subnets named_systems n counts [] told few =
     at_end (scene_of subnets systems) n counts
 events_read law subnets systems named_subnets named_systems n counts (event ∷ events) told few =
@@ -110,7 +110,7 @@ events_read law subnets systems named_subnets named_systems n counts (event ∷ 
     let line : List ℕ = text_of_line (keyword_of event) others in
     let words : words_of line ≡ keyword_of event ∷ others =
     words_of-line (keyword_of event) others (keyword_is_word event) (others_are_words subnets systems named_subnets named_systems event told.0) in
-    ap (λ (lines : List (List ℕ)). events_from scene n counts lines)
+    ap (λ (lines : List (List ℕ)). events_from counted_event scene n counts lines)
     (event_line_first subnets systems named_subnets named_systems event events (codes "end\n") told.0)
     ∙ events_with scene n counts line (lines_of (flat_map (event_text subnets systems) events ++ codes "end\n")) event events
     (line_not_skipped (keyword_of event) others (keyword_is_word event) (keyword_stands event))

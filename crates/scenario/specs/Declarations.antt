@@ -358,6 +358,10 @@ all_declared d = do
   _ ← wanted (has_limits d) bad.Syntax
   wanted (list_all is_complete d.systems) bad.Count
 
+-- whether one system alone is declared, with a port for each of so many links
+abbrev pub fits_board : (links : ℕ) → List DeclaredSystem → Bool
+fits_board links systems = (length systems == 1) && list_all (λ (system : DeclaredSystem). length system.ports == links) systems
+
 -- a system as it is declared
 abbrev pub configuration_of : DeclaredSystem → SystemConfiguration
 configuration_of system =

@@ -1,5 +1,5 @@
 -- The event lines of a scenario text.
-use Rattle.std.specs.Prelude.{ℕ, ◌+◌, ◌&&◌, not, nat_le, length, Bool, true, false, if◌then◌else◌, List, [], ◌∷◌, map, slice_get, codes, Option, None, Some, Result, Ok, Err}
+use Rattle.std.specs.Prelude.{ℕ, ◌+◌, ◌&&◌, ◌||◌, not, nat_le, length, Bool, true, false, if◌then◌else◌, List, [], ◌∷◌, map, slice_get, codes, Option, None, Some, Result, Ok, Err}
 use Rattle.std.specs.List.{list_any}
 use Rattle.std.specs.Str.{bytes_eq}
 use Rattle.clnp_plan.specs.Configuration.{SystemConfiguration}
@@ -202,6 +202,12 @@ event_line scene (keyword ∷ words) =
     else if bytes_eq keyword (codes "congest") then congest_line scene.names scene.systems words
     else if bytes_eq keyword (codes "inject") then inject_line scene.subnets words
     else Err bad.Syntax
+
+-- whether a line's first word is that of an event which a live node takes
+abbrev pub is_live_line : List (List ℕ) → Bool
+is_live_line [] = false
+is_live_line (keyword ∷ words) =
+    bytes_eq keyword (codes "send") || (bytes_eq keyword (codes "echo") || bytes_eq keyword (codes "tick"))
 
 -- the counts with one more event
 abbrev pub counted : Counts → Event → Counts

@@ -1,12 +1,12 @@
 -- The grammar of a scenario text, line by line, with the first bad line and its code.
-use Rattle.std.specs.Prelude.{ℕ, ◌+◌, ◌&&◌, nat_le, Bool, false, if◌then◌else◌, List, [], ◌∷◌, map, codes, Option, None, Some, Result, Ok, Err}
+use Rattle.std.specs.Prelude.{ℕ, ◌+◌, ◌-◌, ◌&&◌, nat_le, Bool, false, if◌then◌else◌, List, [], ◌∷◌, map, codes, Option, None, Some, Result, Ok, Err}
 use Rattle.std.specs.Str.{bytes_eq}
 use Rattle.clnp_plan.specs.ClnpBase.Text.{lines_of, words_of}
 use Rattle.scenario.specs.Codes.{number_of}
 use Rattle.scenario.specs.Scenario.{Plan}
 use Rattle.scenario.specs.Words.{◌>>=◌, wanted, found, one_word, is_skipped}
-use Rattle.scenario.specs.Declarations.{Declarations, nothing_declared, declaration_line, limits_of, all_declared, configuration_of}
-use Rattle.scenario.specs.Events.{Scene, scene_of, event_line, counted, are_few, nothing_counted}
+use Rattle.scenario.specs.Declarations.{Declarations, nothing_declared, declaration_line, limits_of, all_declared, fits_board, configuration_of}
+use Rattle.scenario.specs.Events.{Scene, scene_of, event_line, is_live_line, counted, are_few, nothing_counted}
 use Rattle.scenario.specs.declared.counts.Counts.{Counts}
 use Rattle.scenario.specs.declared.event.Event.{Event}
 use Rattle.scenario.specs.declared.code.Code.{Code}
@@ -77,30 +77,52 @@ counted_event scene counts words = do
   _ ← wanted (are_few (counted counts event)) bad.Count
   Ok event
 
--- The event lines from number n on, and `end`, where the events before them were counted.
-unfoldable pub events_from : Scene → ℕ → Counts → List (List ℕ) → Result (List Event) BadLine
-events_from scene n counts [] = Err (record { line = n; code = number_of bad.Syntax })
-events_from scene n counts (line ∷ lines) =
-    if is_skipped line then events_from scene (n + 1) counts lines
+-- the same for a live node, which takes some events alone: the first word of any other is no keyword
+unfoldable pub live_event : Scene → Counts → List (List ℕ) → Result Event Code
+live_event scene counts words = do
+  _ ← wanted (is_live_line words) bad.Syntax
+  counted_event scene counts words
+
+-- how a line is read that says what happens: to a live node on a board of so many links, or else in a network
+abbrev pub event_for : (links : Option ℕ) → Scene → Counts → List (List ℕ) → Result Event Code
+event_for None = counted_event
+event_for (Some links) = live_event
+
+-- The event lines from number n on, each of which is read like this, and `end`, where the events before them were counted.
+unfoldable pub events_from : (read : Scene → Counts → List (List ℕ) → Result Event Code) → Scene → ℕ → Counts → List (List ℕ) → Result (List Event) BadLine
+events_from read scene n counts [] = Err (record { line = n; code = number_of bad.Syntax })
+events_from read scene n counts (line ∷ lines) =
+    if is_skipped line then events_from read scene (n + 1) counts lines
     else if is_line_of (codes "end") (words_of line) then (nothing_after (n + 1) lines >>= λ _. Ok [])
-    else (at_line n (counted_event scene counts (words_of line)) >>= λ event.
-    events_from scene (n + 1) (counted counts event) lines >>= λ others.
+    else (at_line n (read scene counts (words_of line)) >>= λ event.
+    events_from read scene (n + 1) (counted counts event) lines >>= λ others.
     Ok (event ∷ others))
 
+-- The line `events` of this number is a bad one where what is declared is for a board of so many links and doesn't fit it.
+abbrev pub fit_for : (links : Option ℕ) → ℕ → Declarations → Result (Unit {0}) BadLine
+fit_for None n d = Ok tt
+fit_for (Some links) n d = at_line n (wanted (fits_board links d.systems) bad.Count)
+
 -- what the lines behind a header say, or the first bad line
-abbrev pub plan_behind : ReadTo ℕ → Result Plan BadLine
-plan_behind header = do
+abbrev pub plan_behind : (links : Option ℕ) → ReadTo ℕ → Result Plan BadLine
+plan_behind links header = do
   declared ← declarations_from header.number (nothing_declared header.value) header.lines
-  events ← events_from (scene_of declared.value.subnets (map configuration_of declared.value.systems)) declared.number nothing_counted declared.lines
+  _ ← fit_for links (declared.number - 1) declared.value
+  events ← events_from (event_for links) (scene_of declared.value.subnets (map configuration_of declared.value.systems)) declared.number nothing_counted declared.lines
   Ok (record { version = header.value; limits = limits_of declared.value.limits; subnets = declared.value.subnets; systems = map configuration_of declared.value.systems; events = events })
 
--- what the lines of a text say whose version is one of those up to the newest
-unfoldable pub plan_at : (newest : ℕ) → List (List ℕ) → Result Plan BadLine
-plan_at newest lines = header_from newest 1 lines >>= plan_behind
+-- what the lines of a text say whose version is one of those up to the newest; for a live node, where links are given
+unfoldable pub plan_at : (links : Option ℕ) (newest : ℕ) → List (List ℕ) → Result Plan BadLine
+plan_at links newest lines = header_from newest 1 lines >>= plan_behind links
 
 abbrev pub plan_of : List ℕ → Result Plan BadLine
-plan_of text = plan_at newest_version (lines_of text)
+plan_of text = plan_at None newest_version (lines_of text)
 
 -- the same of texts of version 1 alone: the header of another is a bad one
 abbrev pub plan_of_version_1 : List ℕ → Result Plan BadLine
-plan_of_version_1 text = plan_at 1 (lines_of text)
+plan_of_version_1 text = plan_at None 1 (lines_of text)
+
+-- The same of texts for a live node on a board of so many links: the line `events` is a bad one where not one system alone is
+-- declared, with a port for each link, and so is each event's line whose first word isn't `send`, `echo` or `tick`.
+abbrev pub run_plan_of : (links : ℕ) → List ℕ → Result Plan BadLine
+run_plan_of links text = plan_at (Some links) newest_version (lines_of text)

@@ -136,6 +136,20 @@ IsSaid (Lose count) = IsWithin 1 100000 count
 IsSaid (Tick count) = IsWithin 1 65535 count
 IsSaid _ = Unit {0}
 
+-- what a live node takes: it is asked to send or for an echo, or ticks pass
+abbrev pub IsLive : Event → Type 0
+IsLive (Send system from to body ask) = Unit {0}
+IsLive (Echo system from to body) = Unit {0}
+IsLive (Tick count) = Unit {0}
+IsLive _ = ⊥
+
+-- What a scenario is for a live node on a board of so many links: it has one system, with a port for each link, and no events
+-- but those that a node takes.
+pub record IsForBoard (links : ℕ) (plan : Plan) : Type 0 where
+  pub one : length plan.systems ≡ 1
+  pub ports : AllByRecursion (λ (system : SystemConfiguration). length system.ports ≡ links) plan.systems
+  pub events : AllByRecursion IsLive plan.events
+
 -- no frame comes from outside
 abbrev pub InjectsNothing : Event → Type 0
 InjectsNothing (Inject subnet from to octets) = ⊥

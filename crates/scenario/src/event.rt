@@ -1,9 +1,11 @@
-ghost use Rattle.std.specs.Prelude.{◌≡◌, replicate};
-ghost use Rattle.scenario.specs.Scenario.{moves_of};
+ghost use Rattle.std.specs.Prelude.{◌≡◌, ◌+◌, ◌/◌, ◌%◌, replicate, IfOk};
+ghost use Rattle.scenario.specs.Scenario.{moves_of, octets_of};
+ghost use Rattle.scenario.specs.declared.event.Body.TheVariants.{Pattern};
 
 use clnp_plan::Ask;
-use clnp_plan::clnp_base::Octets;
+use clnp_plan::clnp_base::{NoMemory, Octets};
 use clnp_plan::nsap::{Address, Snpa, Target};
+use std::alloc::Global;
 
 /// The octets of a data unit that is to be sent, in one of the two forms in which they are written.
 #[derive(Drop)]
@@ -12,6 +14,41 @@ pub enum Body {
     Hex(Octets),
     /// So many octets of a pattern: that at place q is q + q / 256 + `start`, modulo 256.
     Pattern { len: u32, start: u8 },
+}
+
+impl Body {
+    /// The octets that are to be sent.
+    ///
+    /// # Errors
+    ///
+    /// Where memory is refused.
+    pub fn octets(&self, alloc: Global) -> Result<Vec<u8>, NoMemory>
+        ensures { IfOk result (λ octets. octets.items ≡ octets_of self.now) }
+    {
+        match self {
+            Body::Hex(octets) => Ok(Vec::from_slice(alloc, octets.as_bytes())?),
+            Body::Pattern { len, start } => pattern(alloc, *len, *start),
+        }
+    }
+}
+
+/// The octets of a pattern.
+fn pattern(alloc: Global, len: u32, start: u8) -> Result<Vec<u8>, NoMemory>
+    ensures { IfOk result (λ octets. octets.items ≡ octets_of (Pattern len start)) }
+{
+    let mut octets = vec![in alloc; 0u8; len as usize]?;
+    for place in 0..len {
+        octets[place as usize] = pattern_octet(place, start);
+    }
+    Ok(octets)
+}
+
+/// The octet at a place of a pattern.
+fn pattern_octet(place: u32, start: u8) -> u8
+    ensures { result ≡ (place + place / 256 + start) % 256 }
+{
+    let place = u64::from(place);
+    ((place + place / 256 + u64::from(start)) % 256) as u8
 }
 
 /// An event of a scenario; systems and subnetworks are named by their places, from 0.

@@ -3,7 +3,7 @@ ghost use Rattle.std.specs.Prelude.{◌≡◌, ◌<◌, ◌≤◌, map, length, 
 ghost use Rattle.std.specs.List.{position};
 ghost use Rattle.std.specs.Str.{bytes_eq};
 ghost use Rattle.clnp_plan.specs.ClnpBase.Text.{words_of};
-ghost use Rattle.scenario.specs.Events.{own_life, is_host, is_host_at, host_word, send_line, deliver_line, count_line, tick_line, restart_line, echo_line, is_router_at, router_word, on_word, congest_line, inject_line, scene_of, event_line};
+ghost use Rattle.scenario.specs.Events.{own_life, is_host, is_host_at, host_word, send_line, deliver_line, count_line, tick_line, restart_line, echo_line, is_router_at, router_word, on_word, congest_line, inject_line, scene_of, event_line, is_live_line};
 ghost use Rattle.scenario.specs.Scenario.{Subnetwork};
 ghost use Rattle.scenario.specs.Words.{declared_word};
 ghost use Rattle.scenario.specs.Refusal.{Faults};
@@ -287,6 +287,18 @@ fn inject_line(alloc: Global, subnets: &[Subnet], line: &[u8]) -> Result<Event, 
         to,
         octets,
     })
+}
+
+/// Whether a line's first word is that of an event which a live node takes.
+pub(crate) fn is_live_line(line: &[u8]) -> bool
+    ensures { result ≡ is_live_line (words_of line.now) }
+{
+    match next_word(line) {
+        Some((keyword, _)) => {
+            same(keyword, b"send") || same(keyword, b"echo") || same(keyword, b"tick")
+        }
+        None => false,
+    }
 }
 
 /// The event of a line.

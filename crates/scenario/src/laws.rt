@@ -1,11 +1,11 @@
 //! Laws of the grammar. Each law is the clause of a function that does nothing.
 
-ghost use Rattle.std.specs.Prelude.{◌≡◌, ◌↔◌, ℕ, List, Ok};
+ghost use Rattle.std.specs.Prelude.{◌≡◌, ◌↔◌, ℕ, List, Option, Ok};
 ghost use Rattle.clnp_plan.specs.ClnpBase.Text.{lines_of};
 ghost use Rattle.scenario.specs.Canonical.{text_of};
-ghost use Rattle.scenario.specs.Grammar.{header_from, newest_version, plan_at, plan_of, plan_of_version_1};
+ghost use Rattle.scenario.specs.Grammar.{header_from, newest_version, plan_at, plan_of, plan_of_version_1, run_plan_of};
 ghost use Rattle.scenario.specs.Migration.{IsReadAlike, migrated, migration_of};
-ghost use Rattle.scenario.specs.Scenario.{IsClosed, IsFit, Plan};
+ghost use Rattle.scenario.specs.Scenario.{IsClosed, IsFit, IsForBoard, Plan};
 ghost use Rattle.scenario.specs.Seeds.{storm};
 
 /// What the grammar accepts is fit to be run: its version, limits, settings and numbers are in their ranges, its clocks
@@ -23,13 +23,19 @@ pub fn accepted_is_fit()
     each_version_is_fit();
 }
 
-/// So is what is accepted where a version is the newest that is read.
+/// So is what is accepted where a version is the newest that is read, for a live node too.
 pub(crate) fn each_version_is_fit()
-    ensures { (newest : ℕ) (text : List ℕ) (plan : Plan) → plan_at newest (lines_of text) ≡ Ok plan → IsFit plan }
+    ensures { (links : Option ℕ) (newest : ℕ) (text : List ℕ) (plan : Plan) → plan_at links newest (lines_of text) ≡ Ok plan → IsFit plan }
 {
     clnp_plan::clnp_options::laws::spelled_where_no_rule_is_broken();
     clnp_plan::nsap::laws::read_is_address();
 }
+
+/// What is accepted for a live node on a board of so many links is what is accepted anyhow and is for that board: it has
+/// one system, with a port for each link, and no events but those that a node takes.
+pub fn accepted_for_run()
+    ensures { (links : ℕ) (text : List ℕ) (plan : Plan) → (run_plan_of links text ≡ Ok plan) ↔ ((plan_of text ≡ Ok plan) × IsForBoard links plan) }
+{}
 
 /// What is written of a scenario is read as that scenario.
 pub fn what_is_written_is_read()

@@ -26,6 +26,6 @@ pub use event::{Body, Event, Move};
 pub use fault::ScenarioRefusal;
 pub use migration::migrate;
 pub use plan::{Scenario, Subnet};
-pub use reader::{read, read_version_1};
+pub use reader::{read, read_for_run, read_version_1};
 pub use seed::from_seed;
 pub use writer::write;

@@ -5,16 +5,17 @@ ghost use Rattle.clnp_plan.specs.ClnpBase.Text.{lines_of, words_of};
 ghost use Rattle.clnp_plan.specs.Configuration.{IsSystem};
 ghost use Rattle.scenario.specs.Declarations.{declaration_line, all_declared, configuration_of};
 ghost use Rattle.scenario.specs.Events.{scene_of, counted, are_few, nothing_counted};
-ghost use Rattle.scenario.specs.Grammar.{at_line, version_of, header_from, declarations_from, nothing_after, counted_event, events_from, plan_at, plan_of, plan_of_version_1};
+ghost use Rattle.scenario.specs.Grammar.{at_line, version_of, header_from, declarations_from, nothing_after, counted_event, live_event, event_for, events_from, fit_for, plan_at, plan_of, plan_of_version_1, run_plan_of};
 ghost use Rattle.scenario.specs.Codes.{number_of};
 ghost use Rattle.scenario.specs.declared.fault.ScenarioRefusal.TheVariants.{BadLine};
 ghost use Rattle.scenario.specs.Refusal.{Refuses, Faults};
+ghost use Rattle.scenario.specs.Scenario.{IsForBoard};
 
 use crate::code::Code;
 use crate::counts::Counts;
 use crate::declarations::Declared;
 use crate::event::Event;
-use crate::event_line::event_line;
+use crate::event_line::{event_line, is_live_line};
 use crate::fault::{LineFault, ScenarioRefusal};
 use crate::laws;
 use crate::plan::{Scenario, Subnet};
@@ -117,6 +118,7 @@ fn declarations<'a>(
         (λ r. reading ≡ Ok (record { value = declared.new; number = r.0; lines = lines_of r.1.now }))
         (λ refusal. Refuses refusal reading) }
     ensures few { IfOk result (λ r. r.0 + length (lines_of r.1.now) < 2 ^ 32) }
+    ensures behind { IfOk result (λ r. 1 ≤ r.0) }
 {
     let mut number = number;
     let mut left = text;
@@ -182,9 +184,56 @@ fn counted_event(
     Ok(event)
 }
 
+/// The event of the line of this number for a live node, which takes some alone.
+#[tactic(auto, unfolding(crate::specs::Grammar::live_event))]
+fn live_event(
+    alloc: Global,
+    subnets: &[Subnet],
+    systems: &[SystemConfig],
+    number: u32,
+    counts: Counts,
+    line: &[u8],
+) -> Result<Event, ScenarioRefusal>
+    requires few { are_few counts ≡ true }
+    requires subnets { length subnets.now ≤ 64 }
+    requires systems { length systems.now ≤ 64 }
+    ensures event { let reading = at_line number (live_event (scene_of subnets.now systems.now) counts (words_of line.now)) in
+        MatchResult result (λ event. reading ≡ Ok event) (λ refusal. Refuses refusal reading) }
+    ensures few { IfOk result (λ event. are_few (counted counts event) ≡ true) }
+{
+    if !is_live_line(line) {
+        return Err(bad_line(number, Code::Syntax));
+    }
+    counted_event(alloc, subnets, systems, number, counts, line)
+}
+
+/// The event of the line of this number: for a live node on a board of so many links, where there is one.
+fn event_for(
+    alloc: Global,
+    links: Option<usize>,
+    subnets: &[Subnet],
+    systems: &[SystemConfig],
+    number: u32,
+    counts: Counts,
+    line: &[u8],
+) -> Result<Event, ScenarioRefusal>
+    requires few { are_few counts ≡ true }
+    requires subnets { length subnets.now ≤ 64 }
+    requires systems { length systems.now ≤ 64 }
+    ensures event { let reading = at_line number (event_for links (scene_of subnets.now systems.now) counts (words_of line.now)) in
+        MatchResult result (λ event. reading ≡ Ok event) (λ refusal. Refuses refusal reading) }
+    ensures few { IfOk result (λ event. are_few (counted counts event) ≡ true) }
+{
+    match links {
+        None => counted_event(alloc, subnets, systems, number, counts, line),
+        Some(_) => live_event(alloc, subnets, systems, number, counts, line),
+    }
+}
+
 /// The events of the lines from this number on, and `end`.
 fn events_of(
     alloc: Global,
+    links: Option<usize>,
     subnets: &[Subnet],
     systems: &[SystemConfig],
     number: u32,
@@ -193,7 +242,7 @@ fn events_of(
     requires few { number + length (lines_of text.now) < 2 ^ 32 }
     requires subnets { length subnets.now ≤ 64 }
     requires systems { length systems.now ≤ 64 }
-    ensures { let reading = events_from (scene_of subnets.now systems.now) number nothing_counted (lines_of text.now) in
+    ensures { let reading = events_from (event_for links) (scene_of subnets.now systems.now) number nothing_counted (lines_of text.now) in
         MatchResult result (λ events. reading ≡ Ok events.items) (λ refusal. Refuses refusal reading) }
 {
     let mut events = Vec::new(alloc);
@@ -211,7 +260,7 @@ fn events_of(
             nothing_after(number, rest)?;
             return Ok(events);
         }
-        let event = counted_event(alloc, subnets, systems, at, counts, line)?;
+        let event = event_for(alloc, links, subnets, systems, at, counts, line)?;
         counts = counts.with(&event);
         events.push(event)?;
     }
@@ -240,7 +289,7 @@ pub fn read(alloc: Global, text: &[u8]) -> Result<Scenario, ScenarioRefusal>
     requires { length (lines_of text.now) < 2 ^ 32 - 1 }
     ensures { MatchResult result (λ scenario. plan_of text.now ≡ Ok scenario) (λ refusal. Refuses refusal (plan_of text.now)) }
 {
-    read_up_to(alloc, NEWEST_VERSION, text)
+    read_as(alloc, None, NEWEST_VERSION, text)
 }
 
 /// What a scenario text of version 1 says. That of another version has a bad header.
@@ -254,24 +303,69 @@ pub fn read_version_1(alloc: Global, text: &[u8]) -> Result<Scenario, ScenarioRe
     ensures version { IfOk result (λ scenario. scenario.version ≡ 1) }
 {
     laws::version_1_is_read_alike();
-    read_up_to(alloc, 1, text)
+    read_as(alloc, None, 1, text)
 }
 
-/// What a scenario text of a version up to the newest says.
-#[tactic(auto, unfolding(crate::specs::Grammar::plan_at))]
-fn read_up_to(alloc: Global, newest: u8, text: &[u8]) -> Result<Scenario, ScenarioRefusal>
+/// What a scenario text says for a live node on a board of so many links: what `read` gives, where one system is declared
+/// alone, with a port for each link, and the events are `send`, `echo` and `tick` alone.
+///
+/// # Errors
+///
+/// As `read`. `BadLine` comes besides with the line `events` and the code of a count, where as many systems or ports are
+/// not declared and nothing else is wrong there; and with the line of another event and the code of an unknown word.
+pub fn read_for_run(alloc: Global, text: &[u8], links: usize) -> Result<Scenario, ScenarioRefusal>
     requires { length (lines_of text.now) < 2 ^ 32 - 1 }
-    ensures { let reading = plan_at newest (lines_of text.now) in
+    ensures says { MatchResult result (λ scenario. run_plan_of links text.now ≡ Ok scenario) (λ refusal. Refuses refusal (run_plan_of links text.now)) }
+    ensures alike { IfOk result (λ scenario. plan_of text.now ≡ Ok scenario) }
+    ensures fits { IfOk result (λ scenario. IsForBoard links scenario) }
+{
+    laws::accepted_for_run();
+    read_as(alloc, Some(links), NEWEST_VERSION, text)
+}
+
+/// What is declared up to the line `events` of this number fits the board of so many links, where there is one.
+fn fits_at(links: Option<usize>, number: u32, declared: &Declared) -> Result<(), ScenarioRefusal>
+    ensures { let reading = fit_for links number declared.now in
+        MatchResult result (λ _. reading ≡ Ok tt) (λ refusal. Refuses refusal reading) }
+{
+    let Some(links) = links else {
+        return Ok(());
+    };
+    if !declared.fits_board(links) {
+        return Err(bad_line(number, Code::Count));
+    }
+    Ok(())
+}
+
+/// What a scenario text of a version up to the newest says: for a live node on a board of so many links, where there is
+/// one.
+#[tactic(auto, unfolding(crate::specs::Grammar::plan_at))]
+fn read_as(
+    alloc: Global,
+    links: Option<usize>,
+    newest: u8,
+    text: &[u8],
+) -> Result<Scenario, ScenarioRefusal>
+    requires { length (lines_of text.now) < 2 ^ 32 - 1 }
+    ensures { let reading = plan_at links newest (lines_of text.now) in
         MatchResult result (λ scenario. reading ≡ Ok scenario) (λ refusal. Refuses refusal reading) }
 {
     laws::each_version_is_fit();
     let (version, number, text) = header(newest, text)?;
     let mut declared = Declared::new(alloc, version);
     let (number, text) = declarations(alloc, &mut declared, number, text)?;
+    fits_at(links, number - 1, &declared)?;
     let limits = declared.limits();
     let (subnets, systems) = declared.into_parts();
     let systems = systems_of(alloc, systems)?;
-    let events = events_of(alloc, subnets.as_slice(), systems.as_slice(), number, text)?;
+    let events = events_of(
+        alloc,
+        links,
+        subnets.as_slice(),
+        systems.as_slice(),
+        number,
+        text,
+    )?;
     Ok(Scenario {
         version,
         limits,

@@ -240,6 +240,13 @@ impl System {
         !self.addresses.is_empty() && !self.ports.is_empty() && have_no_gap(&self.ports)
     }
 
+    /// Whether it has so many ports.
+    pub(crate) fn has_ports(&self, count: usize) -> bool
+        ensures { result ≡ (length self.now.ports == count) }
+    {
+        self.ports.len() == count
+    }
+
     /// The system as it is declared.
     pub(crate) fn into_config(self, alloc: Global) -> Result<SystemConfig, AllocError>
         requires { IsSystem (configuration_of self) }

@@ -4,6 +4,7 @@ ghost use Rattle.link_board.specs.Links.{PollOf, SendOf};
 ghost use Rattle.link_words.specs.Words.{is_link_word};
 
 use crate::socket::{Gift, Look, MOST, address_of, give, look_at};
+use crate::traffic::Traffic;
 use link_board::clnp_base::{Failed, NoMemory};
 use link_board::nsap::Target;
 use link_board::{Got, Link};
@@ -26,13 +27,15 @@ pub enum LinkFault {
 ///
 /// A frame for one system goes to the end that has its SNPA, a peer or not; there is nobody at an SNPA that is that of no
 /// end. A frame for a group goes to each peer of that role. Whatever comes is from its sender alone, and never through a
-/// group. A look that sees nothing takes seven sleeps of a millisecond.
+/// group. A look that sees nothing takes seven sleeps of a millisecond, but none where a datagram came on this link or on
+/// another of the same traffic since its last look: a link where nothing comes holds up no other.
 #[derive(Drop)]
 pub struct UdpLink<R: Clock + Drop> {
     clock: R,
     socket: UdpSocket,
     ends: LinkEnds,
     datagram: Vec<u8>,
+    traffic: Traffic,
     faults: u64,
     empties: u64,
     ghost room: { 70000 ≤ vec_capacity datagram },
@@ -46,12 +49,12 @@ const WAITS: u8 = 7;
 const TRIES: u16 = 1000;
 
 impl<R: Net + AllocGlobal + Clock + Drop> UdpLink<R> {
-    /// A link with the ends of a link word. It reserves all room that it needs.
+    /// A link with the ends of a link word, of this traffic. It reserves all room that it needs.
     ///
     /// # Errors
     ///
     /// `Refused` only where the local end couldn't be bound, or waits where it mustn't; else `NoMemory`.
-    pub fn open(machine: R, word: &[u8]) -> Result<UdpLink<R>, LinkFault>
+    pub fn open(machine: R, word: &[u8], traffic: Traffic) -> Result<UdpLink<R>, LinkFault>
         requires { is_link_word word.now ≡ true }
         ensures { IfOk result (λ link. ⟦<UdpLink<R> as Link>⟧.seen link ≡ record { looks = None; sent = None; faults = 0; empties = 0 }) }
     {
@@ -72,6 +75,7 @@ impl<R: Net + AllocGlobal + Clock + Drop> UdpLink<R> {
             socket,
             ends,
             datagram,
+            traffic,
             faults: 0,
             empties: 0,
         })
@@ -79,12 +83,12 @@ impl<R: Net + AllocGlobal + Clock + Drop> UdpLink<R> {
 }
 
 impl<R: Clock + Drop> UdpLink<R> {
-    /// Looks at the socket, and waits some milliseconds for a datagram.
-    fn look(&self, buf: &mut [u8]) -> Look
+    /// Looks at the socket, and for a datagram that hasn't come yet so many times more, a millisecond apart.
+    fn look(&self, waits: u8, buf: &mut [u8]) -> Look
         requires { 70000 ≤ length buf.old }
         ensures { (got : Got) → result ≡ Look.Frame got → got.len ≤ 70000 }
     {
-        for _ in 0..WAITS {
+        for _ in 0..waits {
             match look_at(&self.socket, buf) {
                 Look::Nothing => self.wait(),
                 look => return look,
@@ -158,8 +162,12 @@ impl<R: Clock + Drop> Link for UdpLink<R> {
     ghost seen = { λ l. record { looks = None; sent = None; faults = l.faults; empties = l.empties } };
 
     fn poll(&mut self, buf: &mut [u8]) -> Result<Option<Got>, Failed> {
-        match self.look(buf) {
-            Look::Frame(got) => Ok(Some(got)),
+        let waits = if self.traffic.rests() { WAITS } else { 0 };
+        match self.look(waits, buf) {
+            Look::Frame(got) => {
+                self.traffic.comes();
+                Ok(Some(got))
+            }
             Look::Nothing => {
                 self.empties = self.empties.saturating_add(1);
                 Ok(None)

@@ -4,9 +4,9 @@ ghost use Rattle.std.specs.Prelude.{◌≤◌, length};
 use std::alloc::Global;
 use std::net::{Ipv4Addr, Net, SocketAddr, SocketAddrV4, UdpSocket};
 use std::rt::Clock;
-use udp_links::UdpLink;
 use udp_links::link_board::{Got, Link};
 use udp_links::link_words::{End, is_link_word};
+use udp_links::{Traffic, UdpLink};
 
 /// A port that is free just now.
 pub fn free_port<R: Net>(machine: &R) -> Option<u16> {
@@ -31,7 +31,8 @@ pub fn opened<R: Net + AllocGlobal + Clock + Drop>(machine: R, word: &[u8]) -> O
     if !is_link_word(word) {
         return None;
     }
-    UdpLink::open(machine, word).ok()
+    let traffic = Traffic::new(machine.alloc()).ok()?;
+    UdpLink::open(machine, word, traffic).ok()
 }
 
 /// A link without peers at a free port, and that port.

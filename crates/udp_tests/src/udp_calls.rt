@@ -5,7 +5,7 @@ use std::time::{Duration, Instant};
 use udp_links::link_board::Link;
 use udp_links::link_board::clnp_base::Failed;
 use udp_links::link_board::nsap::{Snpa, Target};
-use udp_links::{LinkFault, UdpLink};
+use udp_links::{LinkFault, Traffic, UdpLink};
 
 /// A data unit of the two octets `hi` from 47002702 to 47002701: its header.
 const HEAD: [u8; 19] = [
@@ -116,6 +116,7 @@ fn an_end_that_is_taken_is_refused(rt: HostRuntime) {
     let word = format!(in rt.alloc(); "udp:127.0.0.1:{port}").expect(&rt, "memory");
     let machine = rt.clone().expect(&rt, "memory");
     assert!(rt; udp_links::link_words::is_link_word(word.as_bytes()));
-    let again = UdpLink::open(machine, word.as_bytes());
+    let traffic = Traffic::new(rt.alloc()).expect(&rt, "memory");
+    let again = UdpLink::open(machine, word.as_bytes(), traffic);
     assert!(rt; matches!(again, Err(LinkFault::Refused)));
 }

@@ -1,4 +1,5 @@
 //! The cases, as their file tells them.
+use crate::links::CaseLink;
 use crate::selection::Selection;
 use clnp_program::clnp_base::{HexFault, decimal, push_unhex};
 use std::alloc::{AllocError, Global};
@@ -18,6 +19,10 @@ pub struct Case<'a> {
     pub output: Vec<u8>,
     /// What is said on standard error.
     pub said: Vec<u8>,
+    /// The moments that the clock gives.
+    pub moments: &'a [u8],
+    /// The links of the board.
+    pub links: Vec<CaseLink<'a>>,
     /// Whether each of its lines has a mark that stands for something.
     pub is_read: bool,
 }
@@ -33,13 +38,15 @@ impl<'a> Case<'a> {
             selection: Selection::All,
             output: Vec::new(alloc),
             said: Vec::new(alloc),
+            moments: b"",
+            links: Vec::new(alloc),
             is_read: true,
         }
     }
 }
 
 /// Takes a line of a case.
-pub fn take_line<'a>(case: &mut Case<'a>, line: &'a [u8]) -> Result<(), AllocError> {
+pub fn take_line<'a>(alloc: Global, case: &mut Case<'a>, line: &'a [u8]) -> Result<(), AllocError> {
     match line {
         [] | [b'#', ..] => {}
         [b'<'] => push_line(b"", &mut case.input)?,
@@ -51,6 +58,10 @@ pub fn take_line<'a>(case: &mut Case<'a>, line: &'a [u8]) -> Result<(), AllocErr
         [b'}', b' ', digits @ ..] => case.is_read &= has_octets(digits, &mut case.output)?,
         [b'!', b' ', text @ ..] => push_line(text, &mut case.said)?,
         [b'$', b' ', text @ ..] => case.words = text,
+        [b'@', b' ', text @ ..] => case.moments = text,
+        [b'|'] => case.links.push(CaseLink::new(alloc, b""))?,
+        [b'|', b' ', text @ ..] => case.links.push(CaseLink::new(alloc, text))?,
+        [b'+', b' ', text @ ..] => take_frame(case, text)?,
         [b'?', b' ', text @ ..] => take_number(case, text),
         [b'~', b' ', text @ ..] => take_selection(case, text),
         _ => case.is_read = false,
@@ -64,6 +75,17 @@ fn has_octets(digits: &[u8], out: &mut Vec<u8>) -> Result<bool, AllocError> {
         Ok(()) => Ok(true),
         Err(HexFault::NoMemory) => Err(AllocError),
         Err(_) => Ok(false),
+    }
+}
+
+/// Takes a frame that comes on the last link of a case.
+fn take_frame<'a>(case: &mut Case<'a>, text: &'a [u8]) -> Result<(), AllocError> {
+    match case.links.last_mut() {
+        Some(link) => link.push(text),
+        None => {
+            case.is_read = false;
+            Ok(())
+        }
     }
 }
 

@@ -16,11 +16,17 @@
 //! { DIGITS      octets of the input, in hexadecimal digits
 //! } DIGITS      octets of the output, in hexadecimal digits
 //! ! TEXT        a line on standard error
+//! @ MOMENTS     the moments that the clock gives, the last of them for ever; 0 where this line isn't there
+//! | NUMBERS     a link of the board, behind the others, whose calls of these numbers, from 1, fail
+//! + WAY FROM DIGITS
+//!               a frame that comes on the last of the links, for this one system or for a group: `one` or `group`,
+//!               its sender's SNPA, and its octets
 //! # TEXT        a remark; empty lines are skipped too
 //! ```
 #![tactic(auto)]
 
 mod case;
+mod links;
 mod outcome;
 mod selection;
 
@@ -64,7 +70,7 @@ fn run_cases(
             judge(alloc, &case, tally, report)?;
             case = Case::new(alloc, name);
         } else {
-            take_line(&mut case, line)?;
+            take_line(alloc, &mut case, line)?;
         }
     }
     judge(alloc, &case, tally, report)

@@ -1,8 +1,10 @@
 //! The cases, run and judged.
 
 use crate::case::Case;
+use crate::links::{CaseClock, numbers};
 use crate::selection::{Selection, selected};
 use clnp_program::clnp_base::{MemSink, MemSource, NoMemory, words};
+use clnp_program::clnp_commands::link_board::{Board, Link, MemLink};
 use clnp_program::run;
 use std::alloc::{AllocError, Global};
 
@@ -55,6 +57,24 @@ fn is_as_wanted(came: &Outcome, case: &Case<'_>) -> bool {
         && came.said.as_slice() == case.said.as_slice()
 }
 
+/// The links of a case; those behind one that isn't of its form are left out, which no case is right with.
+fn links_of(alloc: Global, case: &Case<'_>) -> Result<Vec<MemLink>, AllocError> {
+    let mut links = Vec::new(alloc);
+    for link in &case.links {
+        let Some(link) = link.open(alloc)? else {
+            return Ok(links);
+        };
+        links.push(link)?;
+    }
+    Ok(links)
+}
+
+/// The clock of a case; it gives 0 for ever where a moment is none.
+fn clock_of(alloc: Global, case: &Case<'_>) -> Result<CaseClock, AllocError> {
+    let moments = numbers(alloc, case.moments)?.unwrap_or(Vec::new(alloc));
+    Ok(CaseClock::new(moments))
+}
+
 /// Calls the program as a case says.
 fn run_case(alloc: Global, case: &Case<'_>) -> Result<Outcome, AllocError> {
     let mut list = Vec::new(alloc);
@@ -65,7 +85,23 @@ fn run_case(alloc: Global, case: &Case<'_>) -> Result<Outcome, AllocError> {
     let mut source = MemSource::new(input, PIECE, Vec::new(alloc));
     let mut sink = sink_of(alloc)?;
     let mut errors = sink_of(alloc)?;
-    let number = run(alloc, list.as_slice(), &mut source, &mut sink, &mut errors);
+    let mut links: Vec<Box<dyn Link>> = Vec::new(alloc);
+    for link in links_of(alloc, case)? {
+        links.push(Box::new(alloc, link)?)?;
+    }
+    let Ok(mut board) = Board::new(alloc, links) else {
+        return Err(AllocError);
+    };
+    let mut clock = clock_of(alloc, case)?;
+    let number = run(
+        alloc,
+        list.as_slice(),
+        &mut source,
+        &mut sink,
+        &mut board,
+        &mut clock,
+        &mut errors,
+    );
     let output = compared(alloc, case.selection, sink.as_bytes())?;
     let said = Vec::from_slice(alloc, errors.as_bytes())?;
     Ok(Outcome {

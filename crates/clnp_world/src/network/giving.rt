@@ -1,9 +1,8 @@
 //! Copies that are given to the systems that they are for.
 ghost use Rattle.std.specs.Prelude.{◌≡◌, ◌+◌, ◌<◌, ◌≤◌, ◌∷◌, [], OnOk, Some, slice_get, vec_len};
 ghost use Rattle.clnp_machine.specs.System.{SystemState};
-ghost use Rattle.clnp_machine.specs.Step.{step};
 ghost use Rattle.clnp_network.specs.World as network;
-ghost use Rattle.clnp_machine.specs.ClnpPlan.Journal.{Late, Void};
+ghost use Rattle.clnp_machine.specs.ClnpPlan.Journal.{Late, Received, Void};
 ghost use Rattle.clnp_world.specs.Lines.{Gains};
 ghost use Rattle.clnp_world.specs.Parts.{Follows, Holds, IsRunning, Shows};
 
@@ -63,7 +62,7 @@ impl Network {
         self.give_each(alloc, limits, at, lines)
     }
 
-    /// Gives a copy to each of its addressees, in the order of the declarations.
+    /// Gives a copy to each of its addressees, in the order of the declarations; where it has none, a line says so.
     fn give_each(
         &mut self,
         alloc: Global,
@@ -76,15 +75,20 @@ impl Network {
         ensures { OnOk result ((model : network.World) (copy : network.Copy) → Holds self.old model
             → slice_get model.copies at ≡ Some copy
             → Follows self.new lines.old lines.new
-            (network.give_each limits (record { number = at + 1; copy = copy }) model (network.addressees_from 0 copy model.systems))) }
+            (network.settle_for limits (record { number = at + 1; copy = copy }) model (network.addressees_from 0 copy model.systems))) }
     {
         let number = at as u64 + 1;
+        let mut given = false;
         for place in 0..self.systems.len() {
             if self.is_for(at, place) {
                 self.give(alloc, limits, number, at, place, lines)?;
+                given = true;
             }
         }
-        Ok(())
+        if given {
+            return Ok(());
+        }
+        lines.nobody(alloc, self.clock, number)
     }
 
     /// Whether a copy is for the system at a place.
@@ -131,7 +135,7 @@ impl Network {
         if self.is_late(limits, at) {
             return self.write_late(alloc, number, place, lines);
         }
-        self.hand(alloc, at, place, lines)
+        self.hand(alloc, number, at, place, lines)
     }
 
     /// Whether a copy is older than one may be that is given.
@@ -144,10 +148,11 @@ impl Network {
         self.clock.saturating_sub(birth) > u64::from(limits.age)
     }
 
-    /// Hands a copy to the system at a place, by the least of its ports that it is for.
+    /// Hands a copy to the system at a place, by the least of its ports that it is for, and a line tells by which.
     fn hand(
         &mut self,
         alloc: Global,
+        number: u64,
         at: usize,
         place: usize,
         lines: &mut Lines,
@@ -157,12 +162,13 @@ impl Network {
         requires running { IsRunning self.old }
         ensures follows { OnOk result ((model : network.World) (copy : network.Copy) (system : SystemState) → Holds self.old model
             → slice_get model.copies at ≡ Some copy → slice_get model.systems place ≡ Some system
-            → Follows self.new lines.old lines.new (network.takes_effect model place (step system (network.frame_to system copy)))) }
+            → Follows self.new lines.old lines.new (network.hand_to (record { number = number; copy = copy }) model place system)) }
         ensures systems { vec_len self.new.systems ≡ vec_len self.old.systems }
         ensures copies { vec_len self.old.copies ≤ vec_len self.new.copies }
     {
         names_of_inputs(None, None);
         let port = self.port_for(at, place);
+        self.write_receipt(alloc, number, port, place, lines)?;
         let copy = &self.copies[at];
         let birth = copy.birth;
         let from = copy.sender;
@@ -175,6 +181,24 @@ impl Network {
             frame: &frame,
         };
         self.comes(alloc, place, birth, &input, lines)
+    }
+
+    /// The line of a copy that comes to the system at a place on a port.
+    fn write_receipt(
+        &self,
+        alloc: Global,
+        number: u64,
+        port: u8,
+        place: usize,
+        lines: &mut Lines,
+    ) -> Result<(), NoMemory>
+        requires { place < vec_len self.now.systems }
+        ensures { OnOk result ((model : network.World) (system : SystemState) → Shows self.now model
+            → slice_get model.systems place ≡ Some system
+            → Gains lines.old lines.new (Received model.clock system.configuration.name number port ∷ [])) }
+    {
+        let name = self.config_at(place).name();
+        lines.receipt(alloc, self.clock, name, number, port)
     }
 
     /// The line of a copy that isn't there for the system at a place.

@@ -11,38 +11,39 @@ use super::Network;
 use super::coming::names_of_inputs;
 use crate::lines::{Counts, Form, Lines};
 use clnp_machine::clnp_base::NoMemory;
-use clnp_machine::clnp_plan::Limits;
+use clnp_machine::clnp_plan::{Limits, Telling};
 use clnp_network::scenario::{Event, Move, Scenario, Subnet};
 use clnp_systems::Input;
 use std::alloc::Global;
 use std::mem;
 
 impl Network {
-    /// Makes one move, and appends its lines to the journal, all of them or none. Until the move is made they stand in
-    /// `room`, which serves every move.
+    /// Makes one move, and appends its lines to a journal or a trace, all of them or none. Until the move is made they
+    /// stand in `room`, which serves every move.
     pub(crate) fn write_move(
         &mut self,
         alloc: Global,
         scenario: &Scenario,
         mv: &Move,
+        telling: Telling,
         room: &mut Vec<u8>,
-        journal: &mut Vec<u8>,
+        out: &mut Vec<u8>,
     ) -> Result<(), NoMemory>
         requires clock { self.old.clock + 1 < 2 ^ 62 }
         requires running { IsRunning self.old }
         ensures follows { OnOk result ((model : network.World) → Holds self.old model
-            → FollowsIn self.new journal.old.items journal.new.items (network.after scenario.now model mv.now)) }
-        ensures same { OnErr result (journal.new.items ≡ journal.old.items) }
+            → FollowsIn telling self.new out.old.items out.new.items (network.after scenario.now model mv.now)) }
+        ensures same { OnErr result (out.new.items ≡ out.old.items) }
     {
         let mut text = mem::replace(room, Vec::new(alloc));
         text.clear();
         let mut lines = Lines {
-            form: Form::Written,
+            form: Form::Written(telling),
             text,
             counts: Counts::none(),
         };
         self.make_move(alloc, scenario, mv, &mut lines)?;
-        journal.extend_from_slice(lines.text.as_slice())?;
+        out.extend_from_slice(lines.text.as_slice())?;
         *room = lines.text;
         Ok(())
     }
@@ -94,10 +95,7 @@ impl Network {
                 self.event_at(alloc, subnets, limits, scenario.events(), *place, lines)
             }
             Move::SettleOne => self.settle_one(alloc, limits, lines),
-            Move::LoseOne => {
-                self.lose_one();
-                Ok(())
-            }
+            Move::LoseOne => self.lose_one(alloc, lines),
             Move::TickOne => self.tick_one(alloc, lines),
         }
     }
@@ -172,14 +170,15 @@ impl Network {
     }
 
     /// Passes over the copy at the cursor: it is given to nobody.
-    fn lose_one(&mut self)
-        ensures { (model : network.World) → Holds self.old model
-            → (lines : Lines) → Follows self.new lines lines (network.lose_one model) }
+    fn lose_one(&mut self, alloc: Global, lines: &mut Lines) -> Result<(), NoMemory>
+        ensures { OnOk result ((model : network.World) → Holds self.old model
+            → Follows self.new lines.old lines.new (network.lose_one model)) }
     {
         if self.cursor >= self.copies.len() {
-            return;
+            return Ok(());
         }
         self.cursor += 1;
+        lines.loss(alloc, self.clock, self.cursor as u64)
     }
 
     /// Restarts the system at a place.

@@ -1,7 +1,7 @@
 //! What systems give out: frames become copies on a subnetwork, and notes lines.
-ghost use Rattle.std.specs.Prelude.{◌≡◌, ◌+◌, ◌<◌, ◌≤◌, ◌++◌, if◌then◌else◌, List, [], ◌∷◌, IfOk, IfSome, OnOk, Some, length, slice_get, vec_len};
+ghost use Rattle.std.specs.Prelude.{◌≡◌, ◌+◌, ◌<◌, ◌≤◌, if◌then◌else◌, List, [], ◌∷◌, IfSome, OnOk, Some, length, slice_get, vec_len};
 ghost use Rattle.clnp_machine.specs.Content.{Content};
-ghost use Rattle.clnp_machine.specs.Given.{GiveAllFor, GivesFor, body_of, frame_in};
+ghost use Rattle.clnp_machine.specs.Given.{GiveAllFor, GivesFor};
 ghost use Rattle.clnp_machine.specs.System as machine;
 ghost use Rattle.clnp_machine.specs.System.{SystemState};
 ghost use Rattle.clnp_network.specs.World as network;
@@ -18,6 +18,7 @@ use clnp_machine::clnp_base::NoMemory;
 use clnp_machine::clnp_plan::{Note, Output, Sending, SystemConfig};
 use clnp_machine::clnp_views::Frame;
 use clnp_machine::nsap::Target;
+use clnp_systems::sent_frame;
 use std::alloc::Global;
 
 /// What a copy weighs beside the octets of its frame.
@@ -71,7 +72,7 @@ impl Network {
         match output {
             Output::Note(note) => self.write_note(alloc, place, note, lines),
             Output::Transmit(sending) => {
-                let frame = frame_of(alloc, sending)?;
+                let frame = sent_frame(alloc, sending)?;
                 self.write_transmission(alloc, place, sending.port, sending.to, &frame, lines)?;
                 let birth = self.birth_of(sending, came);
                 self.put_copy(place, sending.port, sending.to, birth, frame)
@@ -188,26 +189,4 @@ fn weight_with(weight: u64, frame: &Frame) -> Option<u64>
     weight
         .checked_add(frame.bytes().len() as u64)?
         .checked_add(COPY_WEIGHT)
-}
-
-/// The frame that goes out: the header's octets, and the data that follow them.
-fn frame_of(alloc: Global, sending: &Sending) -> Result<Frame, NoMemory>
-    ensures { IfOk result (λ frame. frame ≡ frame_in sending.now) }
-{
-    let head = sending.head.as_bytes();
-    let body = body(sending);
-    let mut octets = Vec::with_capacity(alloc, head.len().saturating_add(body.len()))?;
-    octets.extend_from_slice(head)?;
-    octets.extend_from_slice(body)?;
-    Frame::from_vec(octets)
-}
-
-/// The data that follow the header.
-fn body(sending: &Sending) -> &[u8]
-    ensures { result.now ≡ body_of sending.now.body }
-{
-    match &sending.body {
-        Some(body) => body.bytes(),
-        None => &[],
-    }
 }

@@ -1,12 +1,11 @@
 //! Data units that a host is asked to send.
-ghost use Rattle.std.specs.Prelude.{◌≡◌, ◌+◌, ◌/◌, ◌%◌, IfOk, OnOk, false};
+ghost use Rattle.std.specs.Prelude.{OnOk, false};
 ghost use Rattle.clnp_machine.specs.System.{AsksForEcho, AsksToSend};
 ghost use Rattle.clnp_network.specs.World as network;
 ghost use Rattle.clnp_machine.specs.ClnpOptions.Grammar.{FitsKind};
 ghost use Rattle.clnp_machine.specs.ClnpOptions.Parameter.{parameters};
 ghost use Rattle.clnp_world.specs.Parts.{Follows, Holds};
 ghost use Rattle.clnp_network.specs.Scenario.Scenario.{octets_of};
-ghost use Rattle.clnp_network.specs.Scenario.declared.event.Body.TheVariants.{Pattern};
 
 use super::Network;
 use super::coming::names_of_inputs;
@@ -35,15 +34,8 @@ impl Network {
             → Follows self.new lines.old lines.new
             (network.asks model place (AsksToSend from to (octets_of body.now) ask.now))) }
     {
-        match body {
-            Body::Hex(octets) => {
-                self.send_octets(alloc, place, from, to, octets.as_bytes(), ask, lines)
-            }
-            Body::Pattern { len, start } => {
-                let octets = pattern(alloc, *len, *start)?;
-                self.send_octets(alloc, place, from, to, &octets, ask, lines)
-            }
-        }
+        let octets = body.octets(alloc)?;
+        self.send_octets(alloc, place, from, to, &octets, ask, lines)
     }
 
     /// Asks the system at a place to send a unit of these octets, where it is a host.
@@ -94,13 +86,8 @@ impl Network {
             → Follows self.new lines.old lines.new
             (network.comes model place (AsksForEcho from to (octets_of body.now)))) }
     {
-        match body {
-            Body::Hex(octets) => self.echo_octets(alloc, place, from, to, octets.as_bytes(), lines),
-            Body::Pattern { len, start } => {
-                let octets = pattern(alloc, *len, *start)?;
-                self.echo_octets(alloc, place, from, to, &octets, lines)
-            }
-        }
+        let octets = body.octets(alloc)?;
+        self.echo_octets(alloc, place, from, to, &octets, lines)
     }
 
     /// Asks the system at a place for an echo request with these octets.
@@ -121,23 +108,4 @@ impl Network {
         let input = Input::Echo { from, to, body };
         self.comes(alloc, place, self.clock, &input, lines)
     }
-}
-
-/// The octets of a pattern.
-fn pattern(alloc: Global, len: u32, start: u8) -> Result<Vec<u8>, NoMemory>
-    ensures { IfOk result (λ octets. octets.items ≡ octets_of (Pattern len start)) }
-{
-    let mut octets = vec![in alloc; 0u8; len as usize]?;
-    for place in 0..len {
-        octets[place as usize] = pattern_octet(place, start);
-    }
-    Ok(octets)
-}
-
-/// The octet at a place of a pattern.
-fn pattern_octet(place: u32, start: u8) -> u8
-    ensures { result ≡ (place + place / 256 + start) % 256 }
-{
-    let place = u64::from(place);
-    ((place + place / 256 + u64::from(start)) % 256) as u8
 }

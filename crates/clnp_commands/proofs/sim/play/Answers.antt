@@ -2,7 +2,7 @@ use Rattle.std.proofs.Common.{[]}
 use Rattle.std.proofs.lemmas.Result.{err_from_is_err_and}
 use Rattle.clnp_world.specs.ClnpNetwork.World.{first_world}
 use Rattle.clnp_commands.proofs.Clocks.{time_at_first}
-use Rattle.clnp_commands.proofs.Playing.{journal_stopped, journal_ended, set_out}
+use Rattle.clnp_commands.proofs.Playing.{run_ended, run_stopped, set_out}
 use Rattle.clnp_commands.proofs.sim.play.Goals as goal
 
 pub play_events-requires : goal.play_events-requires
@@ -12,13 +12,13 @@ pub returns-in_err-play_events-in-Ok-clause-comes_to :
     goal.returns-in_err-play_events-in-Ok-clause-comes_to
 returns-in_err-play_events-in-Ok-clause-comes_to g c =
     let p = err_from_is_err_and c.from_residual.result c.from_residual.ensures.1 in
-    rw (p.1, p.2) (journal_stopped c.args.scenario.now _ _ c.in_err-play_events-in-Ok.field-0.0
+    rw (p.1, p.2) (run_stopped c.args.telling c.args.scenario.now _ _ c.in_err-play_events-in-Ok.field-0.0
     (c.in_err-play_events-in-Ok.ensures.comes_to (first_world c.args.scenario.now) [] (g.K.Sink.written c.args.sink.now)
-    (rw c.new-block.ensures.items (set_out c.args.scenario.now (first_world c.args.scenario.now) c.in-Ok.world (g.K.Sink.written c.args.sink.now) c.in-Ok.ensures))))
+    (rw c.new-block.ensures.items (set_out c.args.telling c.args.scenario.now (first_world c.args.scenario.now) c.in-Ok.world (g.K.Sink.written c.args.sink.now) c.in-Ok.ensures))))
 
 pub returns-in_ok-play_events-in-Ok-clause-comes_to :
     goal.returns-in_ok-play_events-in-Ok-clause-comes_to
 returns-in_ok-play_events-in-Ok-clause-comes_to g c =
     let played = c.in_ok-play_events-in-Ok.ensures.comes_to (first_world c.args.scenario.now) [] (g.K.Sink.written c.args.sink.now)
-    (rw c.new-block.ensures.items (set_out c.args.scenario.now (first_world c.args.scenario.now) c.in-Ok.world (g.K.Sink.written c.args.sink.now) c.in-Ok.ensures)) in
-    journal_ended c.args.scenario.now _ _ _ _ _ c.write_end.result played (c.write_end.ensures.comes_to _ played.stands)
+    (rw c.new-block.ensures.items (set_out c.args.telling c.args.scenario.now (first_world c.args.scenario.now) c.in-Ok.world (g.K.Sink.written c.args.sink.now) c.in-Ok.ensures)) in
+    run_ended c.args.telling c.args.scenario.now _ _ _ _ _ c.write_end.result played (c.write_end.ensures.comes_to _ played.stands)

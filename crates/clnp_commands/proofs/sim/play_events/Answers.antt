@@ -24,7 +24,7 @@ returns-in_err-play_event-clause-comes_to g c = λ model past before u.
     let within : c.loop-place.place < length events = omega arith in
     let is : c.event-item.result ≡ get_or events c.loop-place.place c.event-item.result = rw c.events-event-items.ensures at c.event-item.is in
     let p = err_from_is_err_and c.from_residual.result c.from_residual.ensures.1 in
-    rw (p.1, p.2) (stopped_next c.args.scenario.now model past _ _ _ _ _ _ c.in_err-play_event.field-0.0
+    rw (p.1, p.2) (stopped_next c.args.telling c.args.scenario.now model past _ _ _ _ _ _ c.in_err-play_event.field-0.0
     (moves_from_next events c.loop-place.place c.event-item.result within is)
     (c.in_err-play_event.ensures.comes_to model _ before (c.loop-place.invariant.1 model past before u)))
 

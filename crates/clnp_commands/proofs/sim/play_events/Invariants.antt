@@ -11,6 +11,6 @@ abbrev pub invariant-loop-place : goal.invariant-loop-place
 invariant-loop-place g l =
     ((model : network.World) → Stands l.initial.world model → Stands l.world (world_after l.scenario model (moves_from 0 (take l.place l.scenario.events))))
     × ((model : network.World) (past : List Move) (before : Option (List ℕ))
-    → UnderWay l.scenario model past l.initial.world before (g.K.Sink.written l.initial.sink) l.initial.block.items
-    → UnderWay l.scenario model (past ++ moves_from 0 (take l.place l.scenario.events)) l.world before (g.K.Sink.written l.sink) l.block.items)
+    → UnderWay l.telling l.scenario model past l.initial.world before (g.K.Sink.written l.initial.sink) l.initial.block.items
+    → UnderWay l.telling l.scenario model (past ++ moves_from 0 (take l.place l.scenario.events)) l.world before (g.K.Sink.written l.sink) l.block.items)
     × (g.K.Sink.faults l.initial.sink ≤ g.K.Sink.faults l.sink)

@@ -21,7 +21,7 @@ play_move-requires g c =
 pub returns-in_err-play_move-clause-comes_to : goal.returns-in_err-play_move-clause-comes_to
 returns-in_err-play_move-clause-comes_to g c = λ model past before u.
     let p = err_from_is_err_and c.from_residual.result c.from_residual.ensures.1 in
-    rw (p.1, p.2) (stopped_next c.args.scenario.now model past _ _ _ _ _ _ c.in_err-play_move.field-0.0
+    rw (p.1, p.2) (stopped_next c.args.telling c.args.scenario.now model past _ _ _ _ _ _ c.in_err-play_move.field-0.0
     (replicate_next c.loop-made._made c.args.count c.args.mv.now (omega arith))
     (c.in_err-play_move.ensures.comes_to model _ before (c.loop-made.invariant.1 model past before u)))
 
@@ -57,5 +57,5 @@ returns-then-matches-clause-comes_to g c = λ model past before u.
       | in_default w ↦ absurd (true≢false (sym c.if-matches.true ∙ w.matches-is))
     ] in
     let so_far = c.loop-made.invariant.1 model past before u in
-    plays_rest c.args.scenario.now model past c.args.mv.now c.loop-made._made c.args.count _ _ before _ _ _ _ within is
+    plays_rest c.args.telling c.args.scenario.now model past c.args.mv.now c.loop-made._made c.args.count _ _ before _ _ _ _ within is
     (sym (c.is_settled-settled.ensures.stands _ so_far.stands) ∙ c.if-settled.true) so_far (c.in_ok-play_move.ensures.comes_to model _ before so_far)

@@ -10,6 +10,6 @@ abbrev pub invariant-loop-made : goal.invariant-loop-made
 invariant-loop-made g l =
     ((model : network.World) → Stands l.initial.world model → Stands l.world (world_after l.scenario model (replicate l._made l.mv)))
     × ((model : network.World) (past : List Move) (before : Option (List ℕ))
-    → UnderWay l.scenario model past l.initial.world before (g.K.Sink.written l.initial.sink) l.initial.block.items
-    → UnderWay l.scenario model (past ++ replicate l._made l.mv) l.world before (g.K.Sink.written l.sink) l.block.items)
+    → UnderWay l.telling l.scenario model past l.initial.world before (g.K.Sink.written l.initial.sink) l.initial.block.items
+    → UnderWay l.telling l.scenario model (past ++ replicate l._made l.mv) l.world before (g.K.Sink.written l.sink) l.block.items)
     × (g.K.Sink.faults l.initial.sink ≤ g.K.Sink.faults l.sink)

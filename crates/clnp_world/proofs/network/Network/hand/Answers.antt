@@ -1,13 +1,15 @@
--- The copy's frame comes to the system.
-use Rattle.std.proofs.Common.{◌∙◌, Option, Some, sym, ap, subst, arith}
+-- A line tells that the copy comes, and then its frame comes to the system.
+use Rattle.std.proofs.Common.{◌∙◌, ℕ, [], ◌∷◌, Option, Some, sym, ap, subst, arith}
 use Rattle.std.proofs.lemmas.Result.{on_ok_weaker}
 use Rattle.clnp_machine.specs.Step.{step}
 use Rattle.clnp_machine.specs.System.{FrameComes, Input, SystemState}
 use Rattle.clnp_network.specs.World as network
+use Rattle.clnp_machine.specs.ClnpPlan.Journal.{Received}
+use Rattle.clnp_world.specs.Lines.{Gains}
 use Rattle.clnp_world.specs.Parts.{Follows}
 use Rattle.clnp_world.specs.Stands.{IsBornWithUnit}
 use Rattle.clnp_world.specs.declared.copy.FrameCopy.{FrameCopy}
-use Rattle.clnp_world.proofs.GiveSteps.{born_at, came, copy_at, carried_at}
+use Rattle.clnp_world.proofs.GiveSteps.{born_at, came, copy_at, carried_at, hands_over}
 use Rattle.clnp_world.proofs.TakeSteps.{is_current}
 use Rattle.clnp_world.proofs.network.Network.hand.Goals as goal
 
@@ -24,7 +26,11 @@ returns-clause-follows c =
     let octets = ap (λ (f : FrameCopy). f.frame) (sym same) ∙ sym c.in_ok-frame.ensures in
     let sent : Input = FrameComes c.port_for-port.result seen.sender c.is_to_group-group.result copy.content in
     let part = follows model copy.content h (carried, octets) born (is_current old c.args.place model h) in
-    subst (λ (i : Input). Follows c.comes.new.self c.args.lines.now c.comes.new.lines (network.takes_effect model c.args.place (step system i))) comes
-    (subst (λ (s : Option SystemState). Follows c.comes.new.self c.args.lines.now c.comes.new.lines
-    (network.comes_to model c.args.place sent s)) there part))
+    let line = subst (λ (port : ℕ). Gains c.args.lines.now c.write_receipt.new.lines
+    (Received model.clock system.configuration.name c.args.number port ∷ [])) (c.port_for-port.ensures model copy system h.shows at there)
+    (c.in_ok-write_receipt.ensures model system h.shows there) in
+    hands_over c.comes.new.self c.args.lines.now c.write_receipt.new.lines c.comes.new.lines c.args.number c.args.place model copy system line
+    (subst (λ (i : Input). Follows c.comes.new.self c.write_receipt.new.lines c.comes.new.lines (network.takes_effect model c.args.place (step system i))) comes
+    (subst (λ (s : Option SystemState). Follows c.comes.new.self c.write_receipt.new.lines c.comes.new.lines
+    (network.comes_to model c.args.place sent s)) there part)))
     c.comes.ensures.follows

@@ -1,0 +1,14 @@
+-- A copy is lost, where one is left.
+use Rattle.std.proofs.Common.{arith}
+use Rattle.std.proofs.lemmas.Result.{on_ok_weaker}
+use Rattle.clnp_world.proofs.GiveSteps.{loses, loses_none}
+use Rattle.clnp_world.proofs.network.Network.lose_one.Goals as goal
+
+pub returns-then-self-len : goal.returns-then-self-len
+returns-then-self-len c = loses_none c.args.self.now c.args.lines.now (omega (arith, c.args.self.now.copies.ok.0))
+
+pub returns : goal.returns
+returns c =
+    on_ok_weaker c.loss.result
+    (loses c.args.self.now c.args.lines.now c.loss.new.self (omega (arith, c.args.self.now.copies.ok.0)))
+    c.loss.ensures

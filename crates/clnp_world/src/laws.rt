@@ -1,0 +1,19 @@
+//! Laws of what a trace tells of copies. Each is the clause of a function that does nothing.
+ghost use Rattle.std.specs.Prelude.{◌≡◌, ℕ, Some, slice_get};
+ghost use Rattle.clnp_machine.specs.ClnpPlan.declared.config.Limits.{Limits};
+ghost use Rattle.clnp_machine.specs.System.{SystemState};
+ghost use Rattle.clnp_network.specs.World.{Copy, Numbered, World};
+ghost use Rattle.clnp_world.specs.Becoming.{GivesAsTold, TellsOnce};
+
+/// Of a copy that is passed it is told to each of its addressees once that it comes, and by which port, or that it is too old, in
+/// the order of the declarations; or that it is for nobody, or lost. No copy is passed twice.
+pub fn what_becomes_of_a_copy_is_told_once()
+    ensures { (limits : Limits) (w : World) (copy : Copy) → slice_get w.copies w.cursor ≡ Some copy → TellsOnce limits w copy }
+{}
+
+/// What the giving of a copy to a system writes begins with what is told of the copy, and behind that stands what came of it, up
+/// to where something is told of a copy again.
+pub fn a_giving_is_told_before_what_it_causes()
+    ensures { (limits : Limits) (given : Numbered) (w : World) (place : ℕ) (system : SystemState)
+        → slice_get w.systems place ≡ Some system → GivesAsTold limits given w place system }
+{}

@@ -1,0 +1,10 @@
+pub mod Ports
+pub mod Playing
+pub mod Breaking
+pub mod Steps
+pub mod Given
+pub mod Dues
+pub mod Inputs
+pub mod Attached
+pub mod Courses
+pub mod Runs

@@ -1,0 +1,21 @@
+use Rattle.std.proofs.Common.{◌≡◌, ◌≤◌, length}
+use Rattle.clnp_systems.specs.Stands as systems
+use Rattle.live_model.specs.Node.{Node}
+use Rattle.live_model.specs.Turn.{dues_from}
+use Rattle.live_node.specs.Agenda.{dues_of}
+use Rattle.live_node.specs.Plays.{Stands}
+use Rattle.live_node.specs.Ran.{RanTo}
+use Rattle.live_node.proofs.run.run_turns.Given as goal
+
+abbrev pub invariant-loop-made : goal.invariant-loop-made
+invariant-loop-made g l = record {
+  moment : (systems.entity_of l.live.system).moment ≤ g.C.Clock.last l.clock;
+  room : 70000 ≤ length l.room;
+  ports : length (g.B.Ports.ports l.board) ≡ length (g.B.Ports.ports l.fn.board);
+  faults : g.K.Sink.faults l.fn.sink ≤ g.K.Sink.faults l.sink;
+  last : g.C.Clock.last l.fn.clock ≤ g.C.Clock.last l.clock;
+  ran : (model : Node) → Stands l.fn.live (g.B.Ports.ports l.fn.board) model
+      → RanTo (dues_from l.start l.scenario.events) (dues_of l.agenda l.scenario.events) model l.live l.made
+      (g.C.Clock.moments l.fn.clock) (g.C.Clock.moments l.clock) (g.B.Ports.ports l.fn.board) (g.B.Ports.ports l.board)
+      (g.K.Sink.written l.fn.sink) (g.K.Sink.written l.sink);
+}

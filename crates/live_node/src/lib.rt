@@ -1,0 +1,13 @@
+//! A live node: one system whose ports have links, run turn by turn.
+#![tactic(auto)]
+
+mod agenda;
+mod lines;
+mod looks;
+mod node;
+mod outputs;
+mod run;
+mod turns;
+
+pub use live_model;
+pub use run::{RunStop, run_node};

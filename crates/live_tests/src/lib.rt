@@ -1,0 +1,7 @@
+//! Tests of runs of live nodes over boards of links.
+#![tactic(auto)]
+
+#[cfg(test)]
+mod noting;
+#[cfg(test)]
+mod runs;
