@@ -2,6 +2,8 @@
 #![tactic(auto)]
 
 #[cfg(test)]
+mod captured;
+#[cfg(test)]
 mod noting;
 #[cfg(test)]
 mod runs;

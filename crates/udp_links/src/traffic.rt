@@ -4,22 +4,24 @@ use std::alloc::Global;
 use std::cell::Cell;
 use std::rc::Rc;
 
-/// How many datagrams came on some links, as one of them sees it: each has a share of the same traffic.
+/// Behind so many looks in turn that saw nothing a link waits at the next one.
+const PATIENCE: u32 = 200;
+
+/// The traffic on some links, of which each has a share: how many looks in turn saw nothing.
 #[derive(Drop)]
 pub struct Traffic {
-    came: Rc<Cell<u64>>,
-    known: u64,
+    quiet: Rc<Cell<u32>>,
 }
 
 impl Traffic {
-    /// That of links on which nothing came yet.
+    /// That of links on which nothing came for long.
     ///
     /// # Errors
     ///
     /// `NoMemory`.
     pub fn new(alloc: Global) -> Result<Traffic, NoMemory> {
-        let came = Rc::new(alloc, Cell::new(0))?;
-        Ok(Traffic { came, known: 0 })
+        let quiet = Rc::new(alloc, Cell::new(PATIENCE))?;
+        Ok(Traffic { quiet })
     }
 
     /// The same traffic, for one more link.
@@ -28,23 +30,22 @@ impl Traffic {
     ///
     /// `NoMemory`.
     pub fn share(&self) -> Result<Traffic, NoMemory> {
-        let came = self.came.clone()?;
-        Ok(Traffic {
-            came,
-            known: self.known,
-        })
+        let quiet = self.quiet.clone()?;
+        Ok(Traffic { quiet })
     }
 
-    /// Whether no datagram came on any of the links since this was asked for this one.
-    pub(crate) fn rests(&mut self) -> bool {
-        let came = self.came.get();
-        let rests = came == self.known;
-        self.known = came;
-        rests
+    /// Whether nothing came on any of the links for many looks.
+    pub(crate) fn rests(&self) -> bool {
+        self.quiet.get() >= PATIENCE
     }
 
     /// A datagram came.
-    pub(crate) fn comes(&mut self) {
-        self.came.set(self.came.get().wrapping_add(1));
+    pub(crate) fn comes(&self) {
+        self.quiet.set(0);
+    }
+
+    /// A look saw nothing.
+    pub(crate) fn pauses(&self) {
+        self.quiet.set(self.quiet.get().saturating_add(1));
     }
 }
