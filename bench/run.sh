@@ -3,7 +3,7 @@
 # second, beside a plain Rust loop over recv_from and send_to that sends on what comes as it is; and how much of a processor
 # a router takes to which nothing comes. A load keeps 64 datagrams of each flow on their way: units of 2 octets, then of 1,400.
 # The flows are: back by the port by which they come; over two ports, in both ways at once; over two ports, in one way, so
-# that in each turn the look at the other port waits. Each rate is the best of three, of both in turn, over so many
+# that nothing comes at the other port. Each rate is the best of three, of both in turn, over so many
 # seconds. The program is the built one: what `rt try` compiles is watched while it runs, and far slower. It needs rustc.
 # usage: bench/run.sh [SECONDS [PROGRAM]]
 set -eu

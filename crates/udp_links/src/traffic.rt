@@ -4,24 +4,22 @@ use std::alloc::Global;
 use std::cell::Cell;
 use std::rc::Rc;
 
-/// Behind so many looks in turn that saw nothing a link waits at the next one.
-const PATIENCE: u32 = 200;
-
-/// The traffic on some links, of which each has a share: how many looks in turn saw nothing.
+/// How many datagrams came on some links, as one of them sees it: each has a share of the same traffic.
 #[derive(Drop)]
 pub struct Traffic {
-    quiet: Rc<Cell<u32>>,
+    came: Rc<Cell<u64>>,
+    known: u64,
 }
 
 impl Traffic {
-    /// That of links on which nothing came for long.
+    /// That of links on which nothing came yet.
     ///
     /// # Errors
     ///
     /// `NoMemory`.
     pub fn new(alloc: Global) -> Result<Traffic, NoMemory> {
-        let quiet = Rc::new(alloc, Cell::new(PATIENCE))?;
-        Ok(Traffic { quiet })
+        let came = Rc::new(alloc, Cell::new(0))?;
+        Ok(Traffic { came, known: 0 })
     }
 
     /// The same traffic, for one more link.
@@ -30,22 +28,23 @@ impl Traffic {
     ///
     /// `NoMemory`.
     pub fn share(&self) -> Result<Traffic, NoMemory> {
-        let quiet = self.quiet.clone()?;
-        Ok(Traffic { quiet })
+        let came = self.came.clone()?;
+        Ok(Traffic {
+            came,
+            known: self.known,
+        })
     }
 
-    /// Whether nothing came on any of the links for many looks.
-    pub(crate) fn rests(&self) -> bool {
-        self.quiet.get() >= PATIENCE
+    /// Whether no datagram came on any of the links since this was asked for this one.
+    pub(crate) fn rests(&mut self) -> bool {
+        let came = self.came.get();
+        let rests = came == self.known;
+        self.known = came;
+        rests
     }
 
     /// A datagram came.
-    pub(crate) fn comes(&self) {
-        self.quiet.set(0);
-    }
-
-    /// A look saw nothing.
-    pub(crate) fn pauses(&self) {
-        self.quiet.set(self.quiet.get().saturating_add(1));
+    pub(crate) fn comes(&mut self) {
+        self.came.set(self.came.get().wrapping_add(1));
     }
 }

@@ -28,7 +28,7 @@ pub enum LinkFault {
 /// A frame for one system goes to the end that has its SNPA, a peer or not; there is nobody at an SNPA that is that of no
 /// end. A frame for a group goes to each peer of that role. Whatever comes is from its sender alone, and never through a
 /// group. A look that sees nothing takes seven sleeps of a millisecond, but none where a datagram came on this link or on
-/// another of the same traffic within their last 200 looks: a link where nothing comes holds up no other.
+/// another of the same traffic since its last look: a link where nothing comes holds up no other.
 #[derive(Drop)]
 pub struct UdpLink<R: Clock + Drop> {
     clock: R,
@@ -169,7 +169,6 @@ impl<R: Clock + Drop> Link for UdpLink<R> {
                 Ok(Some(got))
             }
             Look::Nothing => {
-                self.traffic.pauses();
                 self.empties = self.empties.saturating_add(1);
                 Ok(None)
             }
