@@ -106,3 +106,42 @@ fn a_run_ends_without_links(rt: HostRuntime) {
     board.drop_gone();
     assert!(rt; is_dropped(&first) && is_dropped(&second));
 }
+
+/// The unit as the router sends it on.
+const SENT_ON: &[u8] =
+    b"\x81\x13\x01\x09\x3c\x00\x15\xd3\x54\x04\x47\x00\x27\x01\x04\x47\x00\x27\x02hi";
+
+/// Sees a run of three turns in which the first link fails at the call of this number, and what was sent on the second one,
+/// which sees three looks that are empty whatever comes of the first.
+fn see_failure(rt: &impl Abort, alloc: Global, call: u64, sent: &[u8]) {
+    let first = no_notes(alloc).expect(rt, "memory");
+    let second = no_notes(alloc).expect(rt, "memory");
+    let mut links: Vec<Box<dyn Link>> = Vec::new(alloc);
+    let failing = noting_link(alloc, &[CAME], &[call], &first).expect(rt, "memory");
+    links
+        .push(Box::new(alloc, failing).expect(rt, "memory"))
+        .expect(rt, "memory");
+    let steady = noting_link(alloc, &[], &[], &second).expect(rt, "memory");
+    links
+        .push(Box::new(alloc, steady).expect(rt, "memory"))
+        .expect(rt, "memory");
+    let mut board = Board::new(alloc, links).expect(rt, "memory");
+    let mut sink = MemSink::new(alloc, 1_000, 10, Vec::new(alloc)).expect(rt, "memory");
+    let came = run(rt, alloc, 3, &mut board, &mut sink);
+    assert!(rt; came == Ok(()));
+    let seen = second.try_borrow().expect(rt, "free");
+    assert!(rt; seen.empties == 3);
+    assert!(rt; seen.sent.as_slice() == sent);
+    board.drop_gone();
+    // Three turns have three looks at the first link, so a fourth call never comes.
+    assert!(rt; is_dropped(&first) == (call <= 3));
+}
+
+#[test]
+fn a_fault_leaves_the_other_link(rt: HostRuntime) {
+    let alloc = rt.alloc();
+    see_failure(&rt, alloc, 1, b"");
+    see_failure(&rt, alloc, 2, SENT_ON);
+    see_failure(&rt, alloc, 3, SENT_ON);
+    see_failure(&rt, alloc, 4, SENT_ON);
+}
