@@ -4,10 +4,12 @@
 Half of the texts are scenarios, the others have a few words or lines changed. In a third of them frames come from outside. For
 each one the program must write the models' journal, or with --trace their trace, or refuse the models' line and code.
 
-usage: tests/by_hand/networks.py [--program PATH | --try] [--trace] [SEED [TEXTS]]
+usage: tests/by_hand/networks.py [--program PATH | --try] [--trace] [--version-2 [--together]] [SEED [TEXTS]]
 
 PATH is another program to run than the built one. With --try the program is compiled and run by `rt try`, which takes
-less than a minute and proves nothing.
+less than a minute and proves nothing. With --version-2 most texts are of version 2 with all of its events: ports that move,
+routes that are set and taken away, other MTUs, clocks that stand apart. It is for a program that has these events. With
+--together besides clocks tick together: S is 0, and no clock ticks alone.
 """
 import argparse
 import collections
@@ -23,7 +25,7 @@ sys.path.append(os.path.join(ROOT, "tests", "models"))
 
 from frames import Outside
 from network_model import Network
-from scenario_model import CODE_NAMES, Text, read
+from scenario_model import CODE_NAMES, Text, TextOfToday, TextTogether, read
 
 PROGRAM = os.path.join(ROOT, "crates", "clnp_tool", "out", "clnp_tool")
 
@@ -121,7 +123,69 @@ def random_routes(router, there, snpas, known):
     return lines
 
 
-def random_scenario():
+class Changes:
+    """The events of version 2, most of which may come: it knows where each port is, which prefixes a router has, and by how much
+    a clock is ahead of where the others began."""
+
+    def __init__(self, subnets, there, snpas, known, skew):
+        self.subnets, self.there, self.snpas, self.known, self.skew = subnets, there, snpas, known, skew
+        self.ahead = {name: 0 for name in there}
+        self.prefixes = {name: ["", "47"] for name in there if name[0] == "r"}
+        self.left = ["05"]
+
+    def moved_port(self):
+        """A port goes where its system is not yet, or gets another SNPA, at times one that another port had."""
+        name = random.choice(list(self.there))
+        number = random.randrange(len(self.there[name]))
+        old = self.there[name][number]
+        free = [subnet for subnet in self.subnets if subnet == old or subnet not in self.there[name]]
+        subnet = random.choice(free if random.random() < 0.995 else self.subnets)
+        snpa = random.choice([self.snpas[name, old], random.choice(self.left), random.randbytes(random.choice([1, 6])).hex()])
+        taken = [other for (system, at), other in self.snpas.items() if at == subnet and (system, at) != (name, old)]
+        if taken and random.random() < 0.005:
+            snpa = random.choice(taken)
+        elif snpa in taken:
+            snpa = random.randbytes(6).hex()
+        if subnet in free:
+            self.left.append(self.snpas.pop((name, old)))
+            self.there[name][number], self.snpas[name, subnet] = subnet, snpa
+        return [f"port {name} {number} {subnet} {snpa}"]
+
+    def other_mtu(self):
+        return [f"mtu {random.choice(self.subnets)} {random.choice([512, 512, 513, 800, 1500, 65535])}"]
+
+    def other_route(self):
+        router, other = random.choice(list(self.prefixes)), random.choice(list(self.there))
+        leading = random.choice(self.known[other] or ["47"])[:random.choice([0, 1, 4, 7, 40, 40])]
+        prefix = random.choice([leading, leading, random.choice(self.prefixes[router])])
+        if random.random() < 0.4:
+            return [f"unroute {router} {prefix or random.choice(['*', '.'])}"]
+        port, name, snpa = random_hop(router, other, self.there, self.snpas)
+        self.prefixes[router].append(prefix)
+        return [f"route {router} {prefix or '*'} {port} {snpa} {random.choice(self.known[name or other] or ['4700'])}"]
+
+    def tick_alone(self):
+        """The clock of a system goes on, mostly one that is behind."""
+        name = min(random.sample(list(self.ahead), min(2, len(self.ahead))), key=self.ahead.get)
+        most = min([65535, *(self.ahead[other] + self.skew - self.ahead[name] for other in self.ahead if other != name)])
+        most = max(most, 1) if random.random() < 0.005 else most
+        if most < 1:
+            return []
+        ticks = min(most, random.choice([1, 1, 2, 3, 8, most]))
+        self.ahead[name] += ticks
+        return [f"tick {name} {ticks}"]
+
+    def lines(self):
+        forms = [self.moved_port, self.moved_port, self.other_mtu] if self.there else [self.other_mtu]
+        forms += [self.other_route] if self.prefixes else []
+        forms += 3 * [self.tick_alone] if self.skew > 0 and self.there else []
+        lines = []
+        for _ in range(random.choice([1, 1, 2, 3])):
+            lines += random.choice(forms)()
+        return lines + random.choice([[], [], [], ["tick 1", "settle 8"], [f"settle {random.choice([1, 4])}"], ["settle 30"]])
+
+
+def random_scenario(kind=TextOfToday):
     subnets, hosts, there = random_network()
     systems = [(name, "host" if name in hosts else "router") for name in there]
     random.shuffle(systems)
@@ -139,10 +203,12 @@ def random_scenario():
             snpas[name, subnet] = random.randbytes(random.choice([1, 6])).hex()
             transit = random.choice(["", "", " 1", " 2", f" {random.randint(1, 20)}", " 255"])
             attached.append(f"port {name} {at} {subnet} {snpas[name, subnet]}{transit}")
-    version = random.choice([1, 1, 2])
+    version = 2 if kind.has_changes and random.random() < 0.9 else random.choice([1, 1, 2])
+    skew = random.choice([0, 1, 2, 3, 9, 60]) if version == 2 and kind.most_skew > 0 else 0
     if version == 2 or random.random() < 0.5:
         age, hold = random.randint(1, 9), random.randint(1, 9)
-        attached.append(f"limits {age} {hold} {age + hold + random.randint(0, 3)}{'' if version == 1 else ' 0'}")
+        rest = age + hold + 2 * skew + random.randint(0, 3)
+        attached.append(f"limits {age} {hold} {rest}{'' if version == 1 else f' {skew}'}")
     random.shuffle(attached)
     routers = [name for name, role in systems if role == "router"]
     for name in routers:
@@ -152,7 +218,9 @@ def random_scenario():
     events = random.choice([[], ["tick 1", "settle 40"], ["tick 1", "settle 40"]])
     outside = Outside(there, snpas, known, everyone, lambda: random_options(routers[:1], routers or names, known, everyone))
     is_open = bool(there) and random.random() < 0.35
+    changes = Changes(subnets, there, snpas, known, skew) if version == 2 and kind.has_changes else None
     for _ in range(random.randint(0, 40)):
+        events += changes.lines() if changes and random.random() < 0.4 else []
         events += outside.lines() if is_open and random.random() < 0.4 else []
         events += random_echoes(names, known, everyone) if random.random() < 0.12 else []
         if len(hosts) > 1 and len(hosts) < len(there) and random.random() < 0.2:
@@ -310,21 +378,25 @@ life=300 whole congest on off zz a.b 4 . * ** 4700* 47.0 route echo hex:1 hex -1
 checksum=maybe h0 s0 H0 inject es is ES eses 81 8
 abcdefghijklmnopq 012345678901234567890123456789012345678 01234567890123456789012345678901234567890""".split()
 MORE = "x whole life=3 noreport hello=0 hello=2 suggest=3 checksum=on opt=cd0101 slots=2 7".split()
+WORDS_OF_VERSION_2 = WORDS + "mtu unroute port tick r0 h1 s1 4096 4097 65536 513".split()
 
 
-def changed(lines):
-    routes = [at for at, line in enumerate(lines) if line.startswith("route")]
+def changed(lines, kind_of_text=TextOfToday):
+    all_words, first_words = WORDS, ("route",)
+    if kind_of_text.has_changes:
+        all_words, first_words = WORDS_OF_VERSION_2, ("route", "mtu", "unroute", "port", "tick")
+    favoured = [at for at, line in enumerate(lines) if line.startswith(first_words)]
     for _ in range(random.randint(1, 2)):
         at, kind = random.randrange(len(lines)), random.randrange(10)
-        if routes and random.random() < 0.2:
-            at, kind = min(random.choice(routes), len(lines) - 1), random.choice([1, 2, 2, 2, 3, 5, 9])
+        if favoured and random.random() < 0.2:
+            at, kind = min(random.choice(favoured), len(lines) - 1), random.choice([1, 2, 2, 2, 3, 5, 9])
         words = lines[at].split(" ")
         if kind == 0 and len(lines) > 1:
             del lines[at]
         elif kind == 1:
             lines.insert(at, random.choice(lines))
         elif kind == 2:
-            words[random.randrange(len(words))] = random.choice(WORDS)
+            words[random.randrange(len(words))] = random.choice(all_words)
             lines[at] = " ".join(words)
         elif kind == 3:
             del words[random.randrange(len(words))]
@@ -351,7 +423,10 @@ def kinds_of(journal):
     """How often each kind of line stands in a journal, with a hearing's table and answer, a drop's reason, and the like."""
     lines = [line.split(" ") for line in journal.splitlines()]
     words = [line[2:] for line in lines if line[0] != "end"]
-    told = {"hear": [1, 3], "gone": [1], "ignored": [1], "drop": [1], "badesis": [1], "sent": [1], "refused": [1], "congest": [1]}
+    told = {
+        "hear": [1, 3], "gone": [1], "ignored": [1], "drop": [1], "badesis": [1], "sent": [1], "refused": [1], "congest": [1],
+        "unroute": [2],
+    }
     return collections.Counter("-".join([line[0]] + [line[at] for at in told.get(line[0], [])]) for line in words)
 
 
@@ -388,9 +463,9 @@ def without_advice(status, output, said):
     return status, output, lines[0]
 
 
-def wanted_of(text, command, kinds):
+def wanted_of(text, command, kinds, kind=TextOfToday):
     """What the models say of a text that a command reads, and whether it is a scenario."""
-    found = read(text)
+    found = read(text, kind=kind)
     if not isinstance(found, Text):
         return (3, "", f"clnp: bad input at line {found[0]}: {CODE_NAMES[found[1]]}\n"), False
     network = Network(found)
@@ -400,8 +475,8 @@ def wanted_of(text, command, kinds):
     return (0, journal, "") if full is None else (4, journal, f"clnp: world full at {full} octets\n"), True
 
 
-def random_text():
-    lines = random_scenario() if random.random() < 0.5 else changed(random_scenario())
+def random_text(kind=TextOfToday):
+    lines = random_scenario(kind) if random.random() < 0.5 else changed(random_scenario(kind), kind)
     end = random.choice(["\n", "\r\n"]) if random.random() < 0.2 else "\n"
     return (end.join(lines) + ("\n" if random.random() < 0.9 else "")).encode()
 
@@ -413,14 +488,19 @@ def main():
     words.add_argument("--program", help="another program to run than the built one")
     words.add_argument("--try", dest="tries", action="store_true", help="run what `rt try` compiles")
     words.add_argument("--trace", dest="command", action="store_const", const="trace", default="sim", help="compare traces")
+    words.add_argument("--version-2", dest="version_2", action="store_true", help="with all events of version 2")
+    words.add_argument("--together", action="store_true", help="with those events, but clocks tick together")
     asked = words.parse_args()
+    if asked.together and not asked.version_2:
+        words.error("--together is for --version-2")
+    kind = (TextTogether if asked.together else Text) if asked.version_2 else TextOfToday
     random.seed(asked.seed)
-    texts = [random_text() for _ in range(asked.texts)]
+    texts = [random_text(kind) for _ in range(asked.texts)]
     if asked.program is None and not asked.tries:
         subprocess.run([os.path.join(ROOT, "clnp"), "--version"], check=True, stdout=subprocess.DEVNULL)
     accepted, kinds = 0, collections.Counter()
     for text, came in zip(texts, try_all(asked.command, texts) if asked.tries else run_each(asked.program or PROGRAM, asked.command, texts)):
-        wanted, is_scenario = wanted_of(text, asked.command, kinds)
+        wanted, is_scenario = wanted_of(text, asked.command, kinds, kind)
         accepted += is_scenario
         if without_advice(*came) != wanted:
             sys.stdout.buffer.write(text)

@@ -10,8 +10,8 @@ usage: tests/models/live_model.py, which compares some runs with what the rules 
 import functools
 import sys
 
-from network_model import Network, frame_from_outside, shown
-from scenario_model import COUNT, SYNTAX, Text, read, want
+from network_model import Network, frame_from_outside
+from scenario_model import COUNT, SYNTAX, Text, read, shown_target, want
 
 LAST_NUMBER = 2**64 - 1
 
@@ -28,7 +28,7 @@ class LiveText(Text):
         want(len(self.systems) == 1 and len(self.systems[0].ports) == self.links, COUNT)
 
     def event(self, keyword, words):
-        want(keyword in (b"send", b"echo", b"tick"), SYNTAX)
+        want(keyword in (b"send", b"echo") or keyword == b"tick" and len(words) == 1, SYNTAX)
         super().event(keyword, words)
 
 
@@ -54,16 +54,20 @@ class Node(Network):
 
     def __init__(self, text, start, takes=lambda port: True):
         super().__init__(text)
-        [self.system] = text.systems
-        self.takes, self.clock, self.transmitted = takes, start, 0
-        self.system.starts(start, start + self.reuse)
+        [self.system] = self.systems
+        self.takes, self.transmitted = takes, 0
+        self.comes_to(start)
+        self.system.starts(start + self.reuse)
         self.attached, self.dues = set(self.system.ports), dues(text.events, start)
 
-    def puts(self, system, hop, frame, birth, **carried):
+    def comes_to(self, moment):
+        self.clock = self.system.clock = moment
+
+    def puts(self, system, hop, frame, maker, birth, **carried):
         """A frame is written, and sent where the link of its port is attached."""
         port, target = hop
         self.transmitted = min(self.transmitted + 1, LAST_NUMBER)
-        self.note(system, f"tx {self.transmitted} {port} {shown(target)} {frame.hex()}")
+        self.note(system, f"tx {self.transmitted} {port} {shown_target(target)} {frame.hex()}")
         if port in self.attached and not self.takes(port):
             self.loses(port)
 
@@ -74,7 +78,7 @@ class Node(Network):
 
     def begins(self, moment):
         """A turn begins: its moment comes, and each event is done that is due by then."""
-        self.clock = moment
+        self.comes_to(moment)
         self.does_what_is_due(self.system)
         while self.dues and self.dues[0][0] <= moment:
             self.asks(self.dues.pop(0)[1])
@@ -180,6 +184,7 @@ tick 320
 send a 47002702 47002701 hex:6869
 end
 """
+HOST_OF_VERSION_2 = HOST.replace("clnp-sim 1", "clnp-sim 2\nlimits 256 60 320 0")
 ALONE = """clnp-sim 1
 limits 2 1 3
 subnet lan 1500
@@ -215,6 +220,9 @@ WORKED = [
         "0 a refused quiet 320", "320 a sent dt 1 0000 47002702 47002701 2",
         "320 a tx 1 0 es 81190140bc001b39100447002701044700270200000000001b6869", "end 320 1",
     ], "done"),
+    ("a text of version 2 is run as one of version 1", HOST_OF_VERSION_2, 1, 0, [(0, [EMPTY])], [
+        "0 a refused quiet 320", "end 0 0",
+    ], "done"),
     ("quiet time and events count from the start; a hello is due at the first turn, and again a period after it", ALONE, 1, 7, [
         (7, [("took", 0), ("took", 0), EMPTY]), (8, [EMPTY]), (11, [("took", 0), ("took", 0), EMPTY]), (11, [EMPTY]),
     ], [
@@ -243,6 +251,8 @@ BAD = [
     (HOST.replace("system a", "system b host\naddress b 01\nport b 0 lan 07\nsystem a"), 1, (9, COUNT)),
     (HOST.replace("address", "# address"), 2, (6, COUNT)), (HOST.replace("tick 320", "restart a"), 1, (8, SYNTAX)),
     (HOST.replace("tick 320", "settle 1"), 1, (8, SYNTAX)), (HOST.replace("tick 320", "inject lan 02 es 83"), 1, (8, SYNTAX)),
+    (HOST_OF_VERSION_2.replace("tick 320", "tick a 320"), 1, (9, SYNTAX)),
+    (HOST_OF_VERSION_2.replace("tick 320", "mtu lan 512"), 1, (9, SYNTAX)),
 ]
 STRAYING = [[(0, [("saw", 1, None)])], [(0, [("took", 0)])], [(0, [EMPTY])], [(0, [EMPTY, ("saw", 1, None), EMPTY])]]
 

@@ -1,7 +1,9 @@
 """A plain model of the network: what hosts and routers do in a scenario, and the journal and the trace of it."""
 import collections
+from copy import deepcopy
 
 from pdu_model import REASON, TYPES, Broken, options_from, read_clnp, read_esis, report_to, sealed
+from scenario_model import DEFAULT_LIMITS, shown_prefix, shown_target
 
 MOST_WEIGHT = 268_435_456
 MOST_OCTETS = 64_512
@@ -50,7 +52,7 @@ def frame_from_outside(frame):
 def from_clnp(read, back):
     """A PDU with the unit of which it is a part; of its octets those of the unit are known that it has."""
     unit = {name: read[name] for name in ("kind", "life", "id", "total", "from", "to", "report", "options", "octets")}
-    unit.update(number=None, sealed=any(read["sum"]), length=read["total"] - len(read["header"]))
+    unit.update(maker=None, number=None, sealed=any(read["sum"]), length=read["total"] - len(read["header"]))
     assert pdu(unit, read["life"], read["offset"], read["octets"]) == read["header"] + read["octets"]
     return dict(unit=unit, **{name: read[name] for name in ("life", "offset", "octets", "header")}, back=back)
 
@@ -76,9 +78,14 @@ def needs_identifier(source, destination, octets):
     return 11 + len(source) + len(destination) + len(octets) > 512
 
 
+def holding_of(system):
+    """How long a system's hello holds: for two of its periods, so that one may be lost."""
+    return min(65535, 2 * system.period)
+
+
 def hello(system):
     """A system's hello: of its addresses, or of its title with the period that it asks hosts for."""
-    holding = min(65535, 2 * system.period).to_bytes(2, "big")
+    holding = holding_of(system).to_bytes(2, "big")
     if system.role == b"host":
         kind, part = 2, bytes([len(system.addresses)])
         part += b"".join(bytes([len(octets)]) + octets for octets in system.addresses)
@@ -117,10 +124,6 @@ def recorded(value, title):
     return value[:1] + bytes([last + 1]) + value[2:pointer - 1] + bytes([len(title)]) + title + value[last:]
 
 
-def shown(target):
-    return target if isinstance(target, str) else target.hex()
-
-
 def redirect(router, holding, to, via, title):
     """A router's redirect: where the next hop towards an address is, and its title unless it is that address itself."""
     part = b"".join(bytes([len(octets)]) + octets for octets in (to, via, title))
@@ -129,34 +132,49 @@ def redirect(router, holding, to, via, title):
 
 
 class Network:
-    """The network of a text: it plays the text's events."""
+    """The network of a text: it plays the text's events, on systems of its own. Its clock is that of the system that is furthest
+    ahead. A copy grows old by the clock of the system that made what it carries, or by the network's where none did."""
 
     def __init__(self, text):
         self.text, self.clock, self.copies, self.cursor, self.weight = text, 0, [], 0, 0
+        self.systems, self.mtus = deepcopy(text.systems), [mtu for _, mtu in text.subnets]
         # the lines of the trace, and the places of those that the journal hasn't
         self.lines, self.only_traced = [], set()
         self.met = collections.Counter()
-        self.age, self.hold, self.reuse = text.limits or (256, 60, 320)
+        self.age, self.hold, self.reuse, _ = text.limits or DEFAULT_LIMITS
 
     def note(self, system, words):
-        self.lines.append(f"{self.clock} {system.name.decode()} {words}")
+        """A line of a system, at the moment of its clock."""
+        self.lines.append(f"{system.clock} {system.name.decode()} {words}")
 
-    def traces(self, name, words):
+    def tells(self, words):
+        """A line of no system, at the moment of the network's clock."""
+        self.lines.append(f"{self.clock} - {words}")
+
+    def traces(self, words, system=None):
         """Tells of a copy what the trace alone tells: that it came to a system, or to none."""
         self.only_traced.add(len(self.lines))
-        self.lines.append(f"{self.clock} {name} {words}")
+        if system is None:
+            self.tells(words)
+        else:
+            self.note(system, words)
 
-    def puts(self, system, hop, frame, birth, **carried):
+    def puts(self, system, hop, frame, maker, birth, **carried):
         """A frame goes out on a port, to an address there or to a group."""
         port, target = hop
         subnet, snpa = system.ports[port]
-        self.adds(subnet, snpa, target, frame, birth, **carried)
-        self.note(system, f"tx {len(self.copies)} {port} {shown(target)} {frame.hex()}")
+        self.adds(subnet, snpa, target, frame, maker, birth, **carried)
+        self.note(system, f"tx {len(self.copies)} {port} {shown_target(target)} {frame.hex()}")
 
-    def adds(self, subnet, sender, target, frame, birth, **carried):
-        """A frame becomes the next copy."""
-        self.copies.append(dict(subnet=subnet, sender=sender, target=target, birth=birth, size=len(frame), **carried))
+    def adds(self, subnet, sender, target, frame, maker, birth, **carried):
+        """A frame becomes the next copy, born at a moment of its maker's clock."""
+        copy = dict(subnet=subnet, sender=sender, target=target, maker=maker, birth=birth, size=len(frame), **carried)
+        self.copies.append(copy)
         self.weight += len(frame) + 64
+
+    def age_of(self, copy):
+        """How old a copy is: by its maker's clock, or by the network's where it came from outside."""
+        return (self if copy["maker"] is None else copy["maker"]).clock - copy["birth"]
 
     def entries(self, copy, system):
         """The ports by which a copy comes to a system."""
@@ -170,11 +188,14 @@ class Network:
 
     def give(self, number_of_copy, system):
         copy = self.copies[number_of_copy - 1]
-        if self.clock > copy["birth"] + self.age:
+        is_late = self.age_of(copy) > self.age
+        self.met["late-by-its-maker-alone"] += is_late and system.clock - copy["birth"] <= self.age
+        self.met["late-by-its-holder-alone"] += not is_late and system.clock - copy["birth"] > self.age
+        if is_late:
             self.note(system, f"late {number_of_copy}")
         else:
             port = self.entries(copy, system)[0]
-            self.traces(system.name.decode(), f"rx {number_of_copy} {port}")
+            self.traces(f"rx {number_of_copy} {port}", system)
             self.comes(system, port, copy)
 
     def comes(self, system, port, copy):
@@ -204,8 +225,8 @@ class Network:
 
     def says(self, system, hop):
         suggest = system.settings[b"suggest"] if system.role == b"router" else 0
-        told = dict(role=system.role, addresses=system.addresses, holding=2 * system.period, suggest=suggest)
-        self.puts(system, hop, hello(system), self.clock, hello=told)
+        told = dict(role=system.role, addresses=system.addresses, holding=holding_of(system), suggest=suggest)
+        self.puts(system, hop, hello(system), system, system.clock, hello=told)
 
     def tells_of_itself(self, system, hop):
         if system.period > 0:
@@ -220,11 +241,11 @@ class Network:
             self.tells_of_itself(system, source)
         if suggest > 0 and system.period > 0:
             system.period = suggest
-            system.due = min(system.due, self.clock + 2 * suggest)
+            system.due = min(system.due, system.clock + 2 * suggest)
 
     def hears_redirect(self, host, source, to, via, holding):
         """A host hears redirects of the routers that it knows."""
-        if source[1] in [snpa for _, snpa in host.known("is", self.clock).values()]:
+        if source[1] in [snpa for _, snpa in host.known("is").values()]:
             self.keeps_in_mind(host, "rd", to, (source[0], via), holding)
         else:
             self.note(host, "ignored rd")
@@ -240,19 +261,19 @@ class Network:
         else:
             answer = "again" if key in entries else "new"
             entries.pop(key, None)
-            entries[key] = dict(place=source, until=self.clock + 2 * holding)
+            entries[key] = dict(place=source, until=system.clock + 2 * holding)
         self.note(system, f"hear {table} {key.hex()} {answer}")
         return answer
 
     def forgets(self, system):
         for table, entries in system.heard.items():
-            for key in sorted(key for key, entry in entries.items() if entry["until"] <= self.clock):
+            for key in sorted(key for key, entry in entries.items() if entry["until"] <= system.clock):
                 del entries[key]
                 self.note(system, f"gone {table} {key.hex()}")
 
     def says_hello(self, system):
-        if system.period > 0 and system.due <= self.clock:
-            system.due = self.clock + 2 * system.period
+        if system.period > 0 and system.due <= system.clock:
+            system.due = system.clock + 2 * system.period
             for port in sorted(system.ports):
                 self.says(system, (port, "is" if system.role == b"host" else "es"))
 
@@ -271,7 +292,7 @@ class Network:
         while titles[:1] == [own]:
             passed, titles = passed + 1, titles[1:]
         target = titles[0] if titles else unit["to"]
-        way = router.way(target, self.clock)
+        way = router.way(target)
         if way is None:
             return self.discards(router, copy, "92 00" if titles else "81 00")
         hop, title = way
@@ -309,7 +330,7 @@ class Network:
         """A PDU went on by the port by which it came. Its source is told of the next hop there, where the PDU begins its unit
         and its source is known to be where it came from, unless the router's redirects are held for no time."""
         holding, to = router.settings[b"rhold"], copy["unit"]["to"]
-        known = router.known("es", self.clock).get(copy["unit"]["from"])
+        known = router.known("es").get(copy["unit"]["from"])
         if holding == 0:
             self.met["back-with-redirects-off"] += 1
         elif copy["offset"] > 0:
@@ -319,11 +340,11 @@ class Network:
         else:
             self.met["redirect-to-a-route" if title else "redirect-to-an-end-system"] += 1
             told = dict(to=to, via=via, holding=holding)
-            self.puts(router, came, redirect(router, holding, to, via, title), self.clock, redirect=told)
+            self.puts(router, came, redirect(router, holding, to, via, title), router, router.clock, redirect=told)
 
     def goes_on(self, system, hop, unit, life, birth, offset, octets):
         """Octets of a unit go out on a port, in PDUs that its subnetwork takes, unless they may not be cut."""
-        cut = pieces(unit, offset, octets, self.text.subnets[system.ports[hop[0]][0]][1])
+        cut = pieces(unit, offset, octets, self.mtus[system.ports[hop[0]][0]])
         if cut is None:
             return False
         is_on_its_way, is_segment = life < unit["life"], len(octets) < unit["length"]
@@ -331,8 +352,8 @@ class Network:
         self.met["cut-again" if is_segment else "cut-on-the-way" if is_on_its_way else "cut"] += len(cut) > 1
         for start, part in cut:
             frame = pdu(unit, life, start, part)
-            header, back = frame[:len(frame) - len(part)], report_to(frame)
-            self.puts(system, hop, frame, birth, unit=unit, life=life, offset=start, octets=part, header=header, back=back)
+            carried = dict(unit=unit, life=life, offset=start, octets=part, header=frame[:len(frame) - len(part)])
+            self.puts(system, hop, frame, unit["maker"], birth, **carried, back=report_to(frame))
         return True
 
     def discards(self, system, copy, reason):
@@ -397,7 +418,7 @@ class Network:
             self.discards(system, copy, "03 00")
         else:
             if not there:
-                deadline = self.clock + min(self.hold, copy["life"])
+                deadline = system.clock + min(self.hold, copy["life"])
                 there = [dict(key=key, shape=shape, deadline=deadline, kept=[], octets={})]
                 system.buffers.append(there[0])
             buffer = there[0]
@@ -433,11 +454,11 @@ class Network:
         """The next identifier, or why there is none."""
         identifier = len(system.uses) % 65536
         used = [moment for other, moment in system.uses if other == identifier]
-        if self.clock < system.quiet:
+        if system.clock < system.quiet:
             return None, f"refused quiet {system.quiet}"
-        if used and used[-1] + self.reuse > self.clock:
+        if used and used[-1] + self.reuse > system.clock:
             return None, f"refused ids-busy {used[-1]}"
-        system.uses.append((identifier, self.clock))
+        system.uses.append((identifier, system.clock))
         return identifier, f"{identifier:04x}"
 
     def makes(self, system, kind, source, destination, octets, life=None, report=False, segment=False, options=b""):
@@ -448,7 +469,7 @@ class Network:
         system.units += 1
         total = 11 + len(destination) + len(source) + len(options) + (6 if segment else 0) + len(octets)
         unit = {
-            "kind": kind, "number": system.units, "id": identifier, "total": total, "length": len(octets),
+            "kind": kind, "maker": system, "number": system.units, "id": identifier, "total": total, "length": len(octets),
             "sealed": system.sealed,
             "from": source, "to": destination, "octets": octets, "report": report, "options": options,
             "life": system.settings[b"life"] if life is None else life,
@@ -457,20 +478,29 @@ class Network:
             self.met["forgot-a-request"] += len(system.pending) == 8
             system.pending = (system.pending + [unit])[-8:]
         self.note(system, f"sent {kind} {system.units} {shown} {source.hex()} {destination.hex()} {len(octets)}")
-        self.met["sent-as-redirected"] += system.role == b"host" and destination in system.known("rd", self.clock)
+        self.met["sent-as-redirected"] += system.role == b"host" and destination in system.known("rd")
         is_to_itself = system.role == b"router" and destination in system.addresses
-        hop = None if is_to_itself else system.next_hop(destination, self.clock)
+        hop = None if is_to_itself else system.next_hop(destination)
         if hop is None:
             self.note(system, "drop 81 00")
-        elif not self.goes_on(system, hop, unit, unit["life"], self.clock, 0, octets):
+        elif not self.goes_on(system, hop, unit, unit["life"], system.clock, 0, octets):
             self.note(system, "drop 05 00")
 
     # moves
 
     def tick(self):
         self.clock += 1
-        for system in self.text.systems:
-            self.does_what_is_due(system)
+        for system in self.systems:
+            self.ticks(system)
+
+    def tick_alone(self, system):
+        """The clock of one system goes on, and the network's where it passes that."""
+        self.clock = max(self.clock, system.clock + 1)
+        self.ticks(system)
+
+    def ticks(self, system):
+        system.clock += 1
+        self.does_what_is_due(system)
 
     def does_what_is_due(self, system):
         self.expire(system)
@@ -478,7 +508,7 @@ class Network:
         self.says_hello(system)
 
     def expire(self, system):
-        while due := [buffer for buffer in system.buffers if buffer["deadline"] <= self.clock]:
+        while due := [buffer for buffer in system.buffers if buffer["deadline"] <= system.clock]:
             buffer = min(due, key=lambda ended: ended["deadline"])
             system.buffers.remove(buffer)
             self.note(system, f"expired {buffer['key'][2]:04x} {system.held()}")
@@ -496,49 +526,78 @@ class Network:
             return
         self.cursor += 1
         copy = self.copies[self.cursor - 1]
-        addressees = [system for system in self.text.systems if self.entries(copy, system)]
+        addressees = [system for system in self.systems if self.entries(copy, system)]
         if not settles:
-            self.traces("-", f"lost {self.cursor}")
+            self.traces(f"lost {self.cursor}")
         elif not addressees:
-            self.traces("-", f"nobody {self.cursor}")
+            self.traces(f"nobody {self.cursor}")
         for system in addressees if settles else []:
             self.give(self.cursor, system)
 
     def restart(self, system):
-        system.starts(self.clock, self.clock + self.reuse)
+        system.starts(system.clock + self.reuse)
         self.note(system, "restart")
 
     def inject(self, subnet, sender, target, frame):
         """A frame comes from outside on a subnetwork."""
         carried = frame_from_outside(frame)
-        self.adds(subnet, sender, target, frame, self.clock, **carried)
+        self.adds(subnet, sender, target, frame, None, self.clock, **carried)
         self.met[f"injected-{next(iter(carried))}"] += 1
-        name = self.text.subnets[subnet][0].decode()
-        self.lines.append(f"{self.clock} - inject {len(self.copies)} {name} {sender.hex()} {shown(target)}")
+        self.tells(f"inject {len(self.copies)} {self.name_of(subnet)} {sender.hex()} {shown_target(target)}")
+
+    def name_of(self, subnet):
+        return self.text.subnets[subnet][0].decode()
 
     def congest(self, router, is_congested):
         router.congested = is_congested
         self.note(router, f"congest {'on' if is_congested else 'off'}")
 
+    # changes of a network
+
+    def resize(self, subnet, mtu):
+        """A subnetwork takes frames of so many octets, from whatever port is on it."""
+        self.mtus[subnet] = mtu
+        self.tells(f"mtu {self.name_of(subnet)} {mtu}")
+
+    def set_route(self, router, digits, hop, title):
+        """A route takes the place of the one of its prefix."""
+        self.met["route-set-again"] += digits in router.routes
+        router.routes[digits] = hop, title
+        self.note(router, f"route {shown_prefix(digits)}")
+
+    def remove_route(self, router, digits):
+        was_there = router.routes.pop(digits, None) is not None
+        self.note(router, f"unroute {shown_prefix(digits)} {'yes' if was_there else 'no'}")
+
+    def move_port(self, system, port, subnet, snpa):
+        """A port is elsewhere, with the transit that it had; what the system heard and keeps stays, and it says hello at its next
+        tick, where it says hello at all."""
+        self.met["port-of-a-buffer"] += system.buffers != []
+        system.ports[port] = subnet, snpa
+        system.due = system.clock
+        self.note(system, f"port {port} {self.name_of(subnet)} {snpa.hex()}")
+
     def moves(self, event):
-        if event[0] in ("settle", "lose"):
-            return event[1] * [lambda: self.pass_on(event[0] == "settle")]
-        if event[0] == "tick":
-            return event[1] * [self.tick]
-        if event[0] == "deliver":
-            return [lambda: self.deliver(event[1], self.text.systems[event[2]])]
-        if event[0] == "congest":
-            return [lambda: self.congest(self.text.systems[event[1]], event[2])]
-        if event[0] == "inject":
-            return [lambda: self.inject(*event[1:])]
-        if event[0] == "restart":
-            return [lambda: self.restart(self.text.systems[event[1]])]
+        kind, *words = event
+        if kind in ("settle", "lose"):
+            return words[0] * [lambda: self.pass_on(kind == "settle")]
+        if kind == "tick":
+            return words[0] * [self.tick]
+        if kind == "tick alone":
+            return words[1] * [lambda: self.tick_alone(self.systems[words[0]])]
+        if kind == "deliver":
+            return [lambda: self.deliver(words[0], self.systems[words[1]])]
+        if kind in ("inject", "mtu"):
+            return [lambda: (self.inject if kind == "inject" else self.resize)(*words)]
         return [lambda: self.asks(event)]
 
     def asks(self, event):
-        """A system is asked to send data or an echo request."""
-        asked = self.send if event[0] == "send" else self.echo
-        asked(self.text.systems[event[1]], *event[2:])
+        """One system is asked for something, or changed."""
+        asked = {
+            "send": self.send, "echo": self.echo, "restart": self.restart, "congest": self.congest,
+            "route": self.set_route, "unroute": self.remove_route, "port": self.move_port,
+        }
+        asked[event[0]](self.systems[event[1]], *event[2:])
 
     def runs(self):
         """Plays the events, and tells the weight at which the run stops, where it does."""

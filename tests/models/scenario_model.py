@@ -1,4 +1,5 @@
-"""A plain model of the grammar of scenario texts."""
+"""A plain model of the grammar of scenario texts: what a text says, the first bad line, and the canonical text."""
+import copy
 import re
 
 from pdu_model import is_options
@@ -16,6 +17,11 @@ RANGES = {
     b"budget": (512, 4194304, 262144), b"neighbours": (1, 1024, 64), b"routers": (1, 64, 8),
     b"redirects": (1, 1024, 64), b"life": (1, 255, 64),
 }
+
+# how old a copy may be, how long a buffer lasts, how long an identifier rests, and how far apart clocks may stand
+DEFAULT_LIMITS = (256, 60, 320, 0)
+
+MOST_ROUTES = 256
 
 # the least and the greatest numbers of addresses and of ports of a role
 ADDRESSES = {b"host": (1, 8), b"router": (1, 1)}
@@ -41,8 +47,13 @@ def name(word):
     return word
 
 
+def decimal(word):
+    want(re.fullmatch(rb"[0-9]+", word), NUMBER)
+    return int(word)
+
+
 def number(word, low, high):
-    want(re.fullmatch(rb"[0-9]+", word) and low <= int(word) <= high, NUMBER)
+    want(low <= decimal(word) <= high, NUMBER)
     return int(word)
 
 
@@ -68,19 +79,21 @@ def place(names, word):
 # ---- the text
 
 class System:
-    """A host or a router."""
+    """A host or a router, with a clock of its own."""
 
     def __init__(self, system_name, role, sealed, settings):
         self.name, self.role, self.sealed, self.settings = system_name, role, sealed, settings
         self.addresses, self.ports, self.transits, self.routes, self.units = [], {}, {}, {}, 0
-        self.starts(0, 0)
+        self.clock = 0
+        self.starts(0)
 
-    def starts(self, moment, quiet):
-        """At its start, and again at a restart: nothing is kept, nothing was heard, no congestion, and its hello is due."""
+    def starts(self, quiet):
+        """At its start, and again at a restart: nothing is kept, nothing was heard, no congestion, and its hello is due. Its
+        ports and routes are those that it has."""
         self.uses, self.buffers, self.pending, self.quiet = [], [], [], quiet
         self.congested = False
         self.heard = {"es": {}, "is": {}, "rd": {}}
-        self.period, self.due = self.settings[b"hello"], moment
+        self.period, self.due = self.settings[b"hello"], self.clock
 
     def held(self):
         return sum(segment["size"] for buffer in self.buffers for segment in buffer["kept"])
@@ -93,37 +106,45 @@ class System:
         in_range = all(ranges[self.role][0] <= count <= ranges[self.role][1] for count, ranges in counts)
         return in_range and sorted(self.ports) == list(range(len(self.ports)))
 
-    def known(self, table, moment):
+    def known(self, table):
         """The places of all that it knows of end systems (es), of routers (is) or of better hops (rd)."""
-        return {key: entry["place"] for key, entry in self.heard[table].items() if entry["until"] > moment}
+        return {key: entry["place"] for key, entry in self.heard[table].items() if entry["until"] > self.clock}
 
-    def next_hop(self, destination, moment):
+    def next_hop(self, destination):
         """Where a PDU goes, a port and whom it is for there. A host sends it to the better hop that a redirect named for this
         address, else to the end system of this address, else to the router that it heard last, or to all end systems."""
         if self.role == b"router":
-            way = self.way(destination, moment)
+            way = self.way(destination)
             return way and way[0]
         for table in ("rd", "es"):
-            if destination in (known := self.known(table, moment)):
+            if destination in (known := self.known(table)):
                 return known[destination]
-        return (list(self.known("is", moment).values()) or [(0, "es")])[-1]
+        return (list(self.known("is").values()) or [(0, "es")])[-1]
 
-    def way(self, destination, moment):
+    def way(self, destination):
         """A router's next hop, and the title of the system there: none where it is the end system of this address, which
         comes before the route of the most digits."""
-        if destination in (known := self.known("es", moment)):
+        if destination in (known := self.known("es")):
             return known[destination], b""
         covering = [digits for digits in self.routes if destination.hex().startswith(digits)]
         return self.routes[max(covering, key=len)] if covering else None
 
 
 class Text:
-    """What the lines so far declare, in a text of a version, and their events."""
+    """What the lines so far declare, in a text of a version, and their events. Event lines are read over what the events before
+    them leave: where each port is, which prefixes a router has, and where each clock stands."""
+
+    # whether version 2 has the events that change a network, and how far apart its clocks may stand; where they tick together,
+    # no clock ticks alone
+    has_changes, most_skew = True, 4096
+    # whether limits are refused in which an identifier rests for too short a time
+    judges_rest = True
 
     def __init__(self, version):
         self.version = version
         self.subnets, self.systems, self.events, self.passed, self.ticks = [], [], [], 0, 0
         self.limits = None
+        self.spots, self.prefixes, self.clocks = [], [], []
 
     def subnet_names(self):
         return [subnet[0] for subnet in self.subnets]
@@ -142,19 +163,18 @@ class Text:
     def limit(self, words):
         want(len(words) == (3 if self.version == 1 else 4), SYNTAX)
         age, hold, reuse = number(words[0], 1, 4096), number(words[1], 1, 255), number(words[2], 1, 16384)
-        skew = 0 if self.version == 1 else number(words[3], 0, 0)
+        skew = 0 if self.version == 1 else number(words[3], 0, self.most_skew)
         want(self.limits is None, DUP_NAME)
-        want(age + hold + 2 * skew <= reuse, LIMITS)
-        self.limits = (age, hold, reuse)
+        want(age + hold + 2 * skew <= reuse or not self.judges_rest, LIMITS)
+        self.limits = (age, hold, reuse, skew)
 
     def subnet(self, words):
         want(len(words) == 2, SYNTAX)
-        subnet_name = name(words[0])
-        want(re.fullmatch(rb"[0-9]+", words[1]), NUMBER)
+        subnet_name, mtu = name(words[0]), decimal(words[1])
         want(subnet_name not in self.subnet_names(), DUP_NAME)
-        want(512 <= int(words[1]) <= 65535, MTU)
+        want(512 <= mtu <= 65535, MTU)
         want(len(self.subnets) < 64, COUNT)
-        self.subnets.append((subnet_name, int(words[1])))
+        self.subnets.append((subnet_name, mtu))
 
     def system(self, words):
         want(len(words) >= 2, SYNTAX)
@@ -196,56 +216,89 @@ class Text:
         want(len(system.ports) < PORTS[system.role][1], COUNT)
         system.ports[port_number], system.transits[port_number] = (subnet, snpa), transit
 
-    def route(self, words):
+    def route_of(self, words):
+        """The place of a router, and a route of it: its prefix, the hop, and the title there."""
         want(len(words) == 5, SYNTAX)
-        router = self.systems[place(self.system_names(), words[0])]
-        want(router.role == b"router", UNKNOWN_NAME)
+        router = self.router(words[0])
         digits, port_number = prefix(words[1]), number(words[2], 0, 7)
-        want(port_number in router.ports, UNKNOWN_NAME)
-        snpa, title = address(words[3]), address(words[4])
+        want(port_number in self.systems[router].ports, UNKNOWN_NAME)
+        return router, digits, (port_number, address(words[3])), address(words[4])
+
+    def router(self, word):
+        router = place(self.system_names(), word)
+        want(self.systems[router].role == b"router", UNKNOWN_NAME)
+        return router
+
+    def route(self, words):
+        at, digits, hop, title = self.route_of(words)
+        router = self.systems[at]
         want(digits not in router.routes, DUP_ADDRESS)
-        want(len(router.routes) < 256, COUNT)
-        router.routes[digits] = (port_number, snpa), title
+        want(len(router.routes) < MOST_ROUTES, COUNT)
+        router.routes[digits] = hop, title
 
     def start(self):
         want(self.version == 1 or self.limits is not None, SYNTAX)
         want(all(system.is_complete() for system in self.systems), COUNT)
+        self.spots = [dict(system.ports) for system in self.systems]
+        self.prefixes = [set(system.routes) for system in self.systems]
+        self.clocks = [0 for _ in self.systems]
+
+    # events
 
     def event(self, keyword, words):
-        passed = ticks = 0
-        if keyword == b"send":
-            event = self.send(words)
-        elif keyword == b"echo":
-            want(len(words) == 4, SYNTAX)
-            system = place(self.system_names(), words[0])
-            event = ("echo", system, address(words[1]), address(words[2]), data(words[3]))
-        elif keyword == b"deliver":
-            want(len(words) == 2, SYNTAX)
-            copy = number(words[0], 1, 1_000_000_000)
-            event = ("deliver", copy, place(self.system_names(), words[1]))
-        elif keyword == b"tick":
-            want(len(words) == 1, SYNTAX)
-            ticks = number(words[0], 1, 65535)
-            event = ("tick", ticks)
-        elif keyword == b"restart":
-            want(len(words) == 1, SYNTAX)
-            event = ("restart", place(self.system_names(), words[0]))
-        elif keyword == b"congest":
-            want(len(words) == 2, SYNTAX)
-            router = place(self.system_names(), words[0])
-            want(self.systems[router].role == b"router", UNKNOWN_NAME)
-            want(words[1] in (b"on", b"off"), SYNTAX)
-            event = ("congest", router, words[1] == b"on")
-        elif keyword == b"inject":
-            event = self.inject(words)
-        else:
-            want(keyword in (b"settle", b"lose") and len(words) == 1, SYNTAX)
-            passed = number(words[0], 1, 100_000)
-            event = (keyword.decode(), passed)
-        self.passed += passed
-        self.ticks += ticks
+        kinds = {
+            b"send": self.send, b"echo": self.echo, b"deliver": self.deliver, b"settle": self.settle, b"lose": self.lose,
+            b"tick": self.tick, b"restart": self.restart, b"congest": self.congest, b"inject": self.inject,
+        }
+        if self.version > 1 and self.has_changes:
+            kinds.update({b"mtu": self.resize, b"route": self.set_route, b"unroute": self.remove_route, b"port": self.move_port})
+        want(keyword in kinds, SYNTAX)
+        event = kinds[keyword](words)
+        self.passed += event[1] if event[0] in ("settle", "lose") else 0
+        self.ticks += event[-1] if event[0] in ("tick", "tick alone") else 0
         want(len(self.events) < 100_000 and self.passed <= 10_000_000 and self.ticks <= 1_000_000, COUNT)
         self.events.append(event)
+
+    def echo(self, words):
+        want(len(words) == 4, SYNTAX)
+        system = place(self.system_names(), words[0])
+        return ("echo", system, address(words[1]), address(words[2]), data(words[3]))
+
+    def deliver(self, words):
+        want(len(words) == 2, SYNTAX)
+        copy_number = number(words[0], 1, 1_000_000_000)
+        return ("deliver", copy_number, place(self.system_names(), words[1]))
+
+    def settle(self, words):
+        want(len(words) == 1, SYNTAX)
+        return ("settle", number(words[0], 1, 100_000))
+
+    def lose(self, words):
+        want(len(words) == 1, SYNTAX)
+        return ("lose", number(words[0], 1, 100_000))
+
+    def tick(self, words):
+        """All clocks go on, or that of one system alone, which may not come too far ahead of another one."""
+        if len(words) == 2 and self.version > 1 and self.most_skew > 0:
+            system = place(self.system_names(), words[0])
+            ticks = number(words[1], 1, 65535)
+            self.clocks[system] += ticks
+            want(self.clocks[system] <= min(self.clocks) + self.limits[3], LIMITS)
+            return ("tick alone", system, ticks)
+        want(len(words) == 1, SYNTAX)
+        ticks = number(words[0], 1, 65535)
+        self.clocks = [clock + ticks for clock in self.clocks]
+        return ("tick", ticks)
+
+    def restart(self, words):
+        want(len(words) == 1, SYNTAX)
+        return ("restart", place(self.system_names(), words[0]))
+
+    def congest(self, words):
+        want(len(words) == 2, SYNTAX)
+        router = self.router(words[0])
+        want(words[1] in (b"on", b"off"), SYNTAX)
+        return ("congest", router, words[1] == b"on")
 
     def send(self, words):
         want(len(words) >= 4, SYNTAX)
@@ -270,7 +323,6 @@ class Text:
         report, segment = b"noreport" not in kinds, b"whole" not in kinds
         return ("send", host, source, destination, octets, lifetime, report, segment, options)
 
-
     def inject(self, words):
         want(len(words) == 4, SYNTAX)
         subnet = place(self.subnet_names(), words[0])
@@ -280,16 +332,70 @@ class Text:
         want(len(words[3]) <= 2 * 70_000, COUNT)
         return ("inject", subnet, sender, target, bytes.fromhex(words[3].decode()))
 
+    # events that change a network
+
+    def resize(self, words):
+        want(len(words) == 2, SYNTAX)
+        subnet, mtu = place(self.subnet_names(), words[0]), decimal(words[1])
+        want(512 <= mtu <= 65535, MTU)
+        return ("mtu", subnet, mtu)
+
+    def set_route(self, words):
+        router, digits, hop, title = self.route_of(words)
+        self.prefixes[router].add(digits)
+        want(len(self.prefixes[router]) <= MOST_ROUTES, COUNT)
+        return ("route", router, digits, hop, title)
+
+    def remove_route(self, words):
+        want(len(words) == 2, SYNTAX)
+        router, digits = self.router(words[0]), prefix(words[1])
+        self.prefixes[router].discard(digits)
+        return ("unroute", router, digits)
+
+    def move_port(self, words):
+        """A port goes elsewhere: not where another port of its system is, nor to the address of another port there."""
+        want(len(words) == 4, SYNTAX)
+        system, port_number = place(self.system_names(), words[0]), number(words[1], 0, 7)
+        want(port_number in self.spots[system], UNKNOWN_NAME)
+        subnet, snpa = place(self.subnet_names(), words[2]), address(words[3])
+        others = [dict(spots) for spots in self.spots]
+        del others[system][port_number]
+        want(all(subnet != other for other, _ in others[system].values()), DUP_NAME)
+        want(all((subnet, snpa) not in spots.values() for spots in others), DUP_ADDRESS)
+        self.spots[system][port_number] = (subnet, snpa)
+        return ("port", system, port_number, subnet, snpa)
+
+
+class TextTogether(Text):
+    """The same where the clocks of version 2 tick together too."""
+
+    most_skew = 0
+
+
+class TextOfToday(TextTogether):
+    """The same as far as the program reads it today: version 2 has no event of its own."""
+
+    has_changes = False
+
+
+class Data(bytes):
+    """Octets, and the canonical word that gives them. (The word comes later where octets are copied.)"""
+
+    def __new__(cls, octets, word=None):
+        made = super().__new__(cls, octets)
+        made.word = word
+        return made
+
 
 def data(word):
     if word.startswith(b"pat:"):
         fields = word[4:].split(b":")
         want(len(fields) == 2, SYNTAX)
         length, start = number(fields[0], 0, 70_000), number(fields[1], 0, 255)
-        return bytes((at + at // 256 + start) % 256 for at in range(length))
+        return Data(((at + at // 256 + start) % 256 for at in range(length)), f"pat:{length}:{start}")
     want(word.startswith(b"hex:"), SYNTAX)
     want(re.fullmatch(rb"([0-9a-fA-F]{2})*", word[4:]), ADDRESS)
-    return bytes.fromhex(word[4:].decode())
+    return Data(bytes.fromhex(word[4:].decode()), word.decode().lower())
 
 
 def lines_of(text):
@@ -326,3 +432,99 @@ def read(text, newest=2, kind=Text):
         except Refused as refused:
             return (number_of_line, refused.code)
     return (len(lines) + 1, SYNTAX)
+
+
+# ---- the canonical text
+
+def shown_prefix(digits):
+    return digits or "*"
+
+
+def shown_target(target):
+    return target if isinstance(target, str) else target.hex()
+
+
+def system_line(system):
+    settings = "".join(f" {key.decode()}={system.settings[key]}" for key in RANGES)
+    return f"system {system.name.decode()} {system.role.decode()}{settings} checksum={'on' if system.sealed else 'off'}"
+
+
+def lines_of_system(text, system):
+    """The addresses of a system, its ports by their numbers, and its routes."""
+    own, subnets = system.name.decode(), text.subnet_names()
+    lines = [f"address {own} {octets.hex()}" for octets in system.addresses]
+    for port_number, (subnet, snpa) in sorted(system.ports.items()):
+        lines.append(f"port {own} {port_number} {subnets[subnet].decode()} {snpa.hex()} {system.transits[port_number]}")
+    for digits, ((port_number, snpa), title) in system.routes.items():
+        lines.append(f"route {own} {shown_prefix(digits)} {port_number} {snpa.hex()} {title.hex()}")
+    return lines
+
+
+def send_words(source, destination, octets, life, report, segment, options):
+    words = [source.hex(), destination.hex(), octets.word, f"life={life}"]
+    words += ([] if report else ["noreport"]) + ([] if segment else ["whole"])
+    return words + ([f"opt={options.hex()}"] if options else [])
+
+
+def event_line(text, event):
+    """The line of an event: its words as they stand in the event, but for names, addresses and the like."""
+    kind, first, *others = event
+    systems = [system.name.decode() for system in text.systems]
+    subnets = [subnet.decode() for subnet in text.subnet_names()]
+    if kind == "deliver":
+        words = [first, systems[others[0]]]
+    elif kind in ("settle", "lose", "tick"):
+        words = [first]
+    elif kind == "inject":
+        sender, target, frame = others
+        words = [subnets[first], sender.hex(), shown_target(target), frame.hex()]
+    elif kind == "mtu":
+        words = [subnets[first], *others]
+    else:
+        words = [systems[first], *words_of_system(subnets, kind, others)]
+    return " ".join([kind.split(" ")[0], *map(str, words)])
+
+
+def words_of_system(subnets, kind, words):
+    """What stands behind the name of a system in the line of an event of this kind."""
+    if kind == "send":
+        return send_words(*words)
+    if kind == "echo":
+        source, destination, octets = words
+        return [source.hex(), destination.hex(), octets.word]
+    if kind == "congest":
+        return ["on" if words[0] else "off"]
+    if kind == "route":
+        digits, (port_number, snpa), title = words
+        return [shown_prefix(digits), port_number, snpa.hex(), title.hex()]
+    if kind == "unroute":
+        return [shown_prefix(words[0])]
+    if kind == "port":
+        port_number, subnet, snpa = words
+        return [port_number, subnets[subnet], snpa.hex()]
+    return words
+
+
+def write(text):
+    """The canonical text of a scenario."""
+    limits = (text.limits or DEFAULT_LIMITS)[:3 if text.version == 1 else 4]
+    lines = [f"clnp-sim {text.version}", "limits " + " ".join(map(str, limits))]
+    lines += [f"subnet {subnet.decode()} {mtu}" for subnet, mtu in text.subnets]
+    lines += [system_line(system) for system in text.systems]
+    for system in text.systems:
+        lines += lines_of_system(text, system)
+    lines += ["events", *(event_line(text, event) for event in text.events), "end"]
+    return "".join(line + "\n" for line in lines)
+
+
+def migrated(text):
+    """The scenario of a text of version 1 in version 2, where clocks tick together."""
+    found = copy.copy(text)
+    found.version, found.limits = 2, text.limits or DEFAULT_LIMITS
+    return found
+
+
+def migrate(text):
+    """The canonical text in version 2 of a text of version 1, or the first bad line with its code."""
+    found = read(text, newest=1)
+    return write(migrated(found)) if isinstance(found, Text) else found
