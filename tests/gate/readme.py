@@ -2,7 +2,8 @@
 """Runs the commands of the fenced `sh` blocks of the documents below and compares what they write with what stands there.
 
 A command is a line that begins with `$ `; what it writes, on standard error too, stands below it, up to the next
-command or the end of the block. Blocks without such a line are only read.
+command or the end of the block. Lines that begin with `# ` and stand right above a command say something of it, and
+belong to no output. Blocks without a command are only read.
 """
 import os
 import re
@@ -16,6 +17,7 @@ DOCUMENTS = ["README.md", "docs/FIRST.md", "docs/TOUR.md", "docs/FORMATS.md"]
 def examples(text):
     """The commands with what they write."""
     for block in re.findall(r"^```sh\n(.*?)^```$", text, re.MULTILINE | re.DOTALL):
+        block = re.sub(r"^(?:# .*\n)+(?=\$ )", "", block, flags=re.MULTILINE)
         found = []
         for line in block.splitlines(keepends=True):
             if line.startswith("$ "):
