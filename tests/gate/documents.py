@@ -7,6 +7,8 @@
   the program doesn't make.
 - every document: each file that stands in backquotes or in a command of a fenced block, and each heading that stands in
   quotes behind a document's name.
+- docs/CHANGING.md: the words that stand in backquotes in parentheses right behind a file, in that file; and the files that
+  stand by their bare names behind one of a crate's `proofs/`.
 - docs/ARCHITECTURE.md: its picture and its table of crates have each crate of crates.txt, and no other; in the picture each
   stands on those that it stands on there; the list of what must be believed
   has each file that `tests/gate/believed.py` finds, and no other.
@@ -211,6 +213,29 @@ def judge_files():
     return files, headings
 
 
+def judge_changing():
+    """What docs/CHANGING.md says is in a file, and the files that it names by their bare names."""
+    crates, words = set(crate_names()), 0
+    for place, line in enumerate(text_of("docs/CHANGING.md").splitlines(), 1):
+        crate = "*"
+        for name, inside, others in re.findall(NAMES + r"(?: \(([^)]*)\))?((?:, `[A-Z]\w+`)*)", line):
+            if name in crates:
+                crate = name
+            if not is_file(name) or not name.endswith((".rt", ".antt", ".py")):
+                continue
+            beginning = os.path.join("crates", crate) if name.startswith(IN_A_CRATE) else ""
+            text = "".join(text_of(path) for path in paths_of(os.path.join(beginning, name)))
+            for word in re.findall(r"`(\w+)`", inside):
+                words += 1
+                if not re.search(rf"\b{word}\b", text):
+                    wrong.append(f"docs/CHANGING.md, line {place}: `{word}` isn't in `{name}`")
+            for other in re.findall(r"`(\w+)`", others) if name.startswith("proofs/") else []:
+                words += 1
+                if not paths_of(os.path.join(beginning, "proofs", other + ".antt")):
+                    wrong.append(f"docs/CHANGING.md, line {place}: `proofs/{other}.antt` isn't there in `{crate}`")
+    return words
+
+
 def section(document, heading):
     """What stands in a document below a heading, up to the next one."""
     found = re.search(rf"^## {re.escape(heading)}$(.*?)(?=^## |\Z)", text_of(document), re.MULTILINE | re.DOTALL)
@@ -256,13 +281,15 @@ def judge_manual():
 def main():
     rows, references = judge_promises()
     files, headings = judge_files()
+    words = judge_changing()
     judge_crates()
     judge_believed()
     judge_manual()
     for line in wrong:
         print(line, file=sys.stderr)
-    print(f"documents: {rows} promises with {references} names, {files} files and {headings} headings named, {len(wrong)} wrong")
-    if wrong or not (rows and references and files):
+    print(f"documents: {rows} promises with {references} names, {files} files and {headings} headings named, "
+          f"{words} words where to change, {len(wrong)} wrong")
+    if wrong or not (rows and references and files and words):
         sys.exit(1)
 
 
