@@ -2,10 +2,10 @@
 """Which files hold what the contracts of the top calls say: the definitions that they use, those that these use, and so
 on, and the code that declares the types in them.
 
-usage: tests/gate/believed.py [--definitions]
+usage: tests/gate/believed.py [--headline] [--definitions]
 
-It writes the files, lowest crates first; with --definitions the names in each that are used. `tests/gate/documents.py` compares
-the files with the list in docs/ARCHITECTURE.md.
+It writes the files, lowest crates first; with --headline those alone of which the headline speaks, with --definitions the
+names in each that are used. `tests/gate/documents.py` compares the files with the lists in docs/ARCHITECTURE.md.
 """
 import collections
 import os
@@ -15,6 +15,15 @@ import sys
 ROOT = os.path.abspath(os.path.join(os.path.dirname(__file__), "..", ".."))
 # the calls whose contracts are what is promised, and the file that each is in
 CALLS = [("clnp_program", "src/call.rt", "run"), ("clnp_commands", "src/top.rt", "clnp_main")]
+# what the headline doesn't speak of: crates and files of other commands than `sim`, of what is said of refused texts, and of
+# the program's texts about itself
+OF_OTHERS = [
+    "capture_commands", "pcap_commands", "fair_commands", "live_commands", "link_board", "link_words", "scenario_advice",
+    "clnp_commands/specs/Storm.antt", "clnp_commands/src/storm.rt", "clnp_commands/specs/Live.antt",
+    "clnp_commands/specs/Advised.antt", "clnp_commands/specs/Agree.antt", "command_base/specs/ByLine.antt",
+    "command_base/specs/Output.antt", "clnp_program/specs/Texts.antt", "scenario/specs/Canonical.antt",
+    "scenario/specs/Migration.antt", "scenario/specs/Seeds.antt",
+]
 NAME = r"[A-Za-z_][A-Za-z0-9_]*"
 
 
@@ -103,8 +112,8 @@ def contract(text, call):
     return begun[0]
 
 
-def believed():
-    """The files with the names in them that are used."""
+def believed(headline=False):
+    """The files with the names in them that are used: in all that the top calls promise, or in the headline alone."""
     files, found, waiting = {}, collections.defaultdict(set), []
 
     def file_of(crate, file):
@@ -123,19 +132,21 @@ def believed():
             crate, file = module[:2] if module else at
             if name in found[crate, file] or not name:
                 continue
+            if headline and (crate in OF_OTHERS or f"{crate}/{file}" in OF_OTHERS):
+                continue
             found[crate, file].add(name)
             if file.endswith(".antt"):
                 waiting.append(((crate, file), file_of(crate, file).defined.get(name, "")))
     return {at: names for at, names in found.items() if names}
 
 
-def files():
+def files(headline=False):
     """The files, lowest crates first, in a crate definitions before code."""
-    return [os.path.join("crates", *at) for at in sorted(believed(), key=lambda at: (CRATES.index(at[0]), at[1]))]
+    return [os.path.join("crates", *at) for at in sorted(believed(headline), key=lambda at: (CRATES.index(at[0]), at[1]))]
 
 
 def main():
-    names = believed()
+    names = believed("--headline" in sys.argv[1:])
     for crate, file in sorted(names, key=lambda at: (CRATES.index(at[0]), at[1])):
         told = " " + " ".join(sorted(names[crate, file])) if "--definitions" in sys.argv[1:] else ""
         print(os.path.join("crates", crate, file) + told)

@@ -10,8 +10,8 @@
 - docs/CHANGING.md: the words that stand in backquotes in parentheses right behind a file, in that file; and the files that
   stand by their bare names behind one of a crate's `proofs/`.
 - docs/ARCHITECTURE.md: its picture and its table of crates have each crate of crates.txt, and no other; in the picture each
-  stands on those that it stands on there; the list of what must be believed
-  has each file that `tests/gate/believed.py` finds, and no other.
+  stands on those that it stands on there; the lists of what must be believed
+  have each file that `tests/gate/believed.py` finds, that for the headline each that it finds for that, and no other.
 - docs/clnp.1: where mandoc is installed, its lint finds nothing.
 
 usage: tests/gate/documents.py [FOLDER], the folder of a repository; without one it is that of this file.
@@ -257,19 +257,28 @@ def judge_crates():
         wrong.append(f"docs/ARCHITECTURE.md: the crate `{name}` isn't in crates.txt")
 
 
-def judge_believed():
-    listed = set()
-    for row in re.findall(r"^\| `.*$", section("docs/ARCHITECTURE.md", "What must be read and believed"), re.MULTILINE):
+def files_listed(text):
+    """The files in a list of what must be believed: a row for each crate, with definitions and code."""
+    for row in re.findall(r"^\| `.*$", text, re.MULTILINE):
         crate, specs, code = (re.sub(r"\(.*?\)", "", cell) for cell in row.strip("|").split("|"))
         crate = re.findall(NAMES, crate)[0]
-        listed.update(f"crates/{crate}/specs/{name}.antt" for name in re.findall(NAMES, specs))
-        listed.update(f"crates/{crate}/src/{name}.rt" for name in re.findall(NAMES, code))
+        yield from (f"crates/{crate}/specs/{name}.antt" for name in re.findall(NAMES, specs))
+        yield from (f"crates/{crate}/src/{name}.rt" for name in re.findall(NAMES, code))
+
+
+def judge_believed():
     believed.ROOT, believed.CRATES = ROOT, crate_names()
-    found = set(believed.files())
-    for path in sorted(found - listed):
-        wrong.append(f"docs/ARCHITECTURE.md: `{path}` isn't in the list of what must be believed")
-    for path in sorted(listed - found):
-        wrong.append(f"docs/ARCHITECTURE.md: `{path}` needn't be believed, or isn't there")
+    below = section("docs/ARCHITECTURE.md", "What must be read and believed")
+    headline, _, others = below.partition("### For the other promises")
+    of_headline, all_found = set(believed.files(headline=True)), set(believed.files())
+    for told, listed, found in [
+        ("the headline", list(files_listed(headline)), of_headline),
+        ("the other promises", list(files_listed(others)), all_found - of_headline),
+    ]:
+        for path in sorted(found - set(listed)):
+            wrong.append(f"docs/ARCHITECTURE.md: `{path}` isn't in the list of what must be believed for {told}")
+        for path in sorted(set(listed) - found):
+            wrong.append(f"docs/ARCHITECTURE.md: `{path}` needn't be believed for {told}, or isn't there")
 
 
 def judge_manual():
