@@ -9,6 +9,7 @@
   quotes behind a document's name.
 - docs/CHANGING.md: the words that stand in backquotes in parentheses right behind a file, in that file; and the files that
   stand by their bare names behind one of a crate's `proofs/`.
+- edits/README.md: the edits in its tables.
 - docs/ARCHITECTURE.md: its picture and its table of crates have each crate of crates.txt, and no other; in the picture each
   stands on those that it stands on there; the lists of what must be believed
   have each file that `tests/gate/believed.py` finds, that for the headline each that it finds for that, and no other.
@@ -236,6 +237,19 @@ def judge_changing():
     return words
 
 
+def judge_edits():
+    """The edits that the tables of edits/README.md name: each is one of the crates of its row."""
+    named = 0
+    for place, line in enumerate(text_of("edits/README.md").splitlines(), 1):
+        if found := re.match(r"\| (`.*?) \| (.*) \|$", line):
+            crates = re.findall(NAMES, found[1])
+            for name in re.findall(NAMES, re.sub(r"the call `\w+`", "", found[2])):
+                named += 1
+                if not any(paths_of(f"{folder}/{name}.edit") for crate in crates for folder in (f"edits/{crate}", f"crates/{crate}/must-fail")):
+                    wrong.append(f"edits/README.md, line {place}: there is no edit `{name}` of {found[1]}")
+    return named
+
+
 def section(document, heading):
     """What stands in a document below a heading, up to the next one."""
     found = re.search(rf"^## {re.escape(heading)}$(.*?)(?=^## |\Z)", text_of(document), re.MULTILINE | re.DOTALL)
@@ -290,15 +304,15 @@ def judge_manual():
 def main():
     rows, references = judge_promises()
     files, headings = judge_files()
-    words = judge_changing()
+    words, edits = judge_changing(), judge_edits()
     judge_crates()
     judge_believed()
     judge_manual()
     for line in wrong:
         print(line, file=sys.stderr)
     print(f"documents: {rows} promises with {references} names, {files} files and {headings} headings named, "
-          f"{words} words where to change, {len(wrong)} wrong")
-    if wrong or not (rows and references and files and words):
+          f"{words} words where to change, {edits} edits named, {len(wrong)} wrong")
+    if wrong or not (rows and references and files and words and edits):
         sys.exit(1)
 
 
