@@ -31,7 +31,9 @@ pub fn write(alloc: Global, scenario: &Scenario, out: &mut Vec<u8>) -> Result<()
     ensures read_back { OnOk result (plan_of (text_of scenario.now) ≡ Ok scenario.now) }
     ensures same { OnErr result (out.new.items ≡ out.old.items) }
 {
+    // Its clause: what is written of a fit scenario is read as that scenario.
     laws::what_is_written_is_read();
+    // Its clause: this scenario is fit.
     scenario.is_fit();
     let mut text = Vec::new(alloc);
     push_scenario(scenario, &mut text)?;
@@ -165,6 +167,7 @@ fn push_belongings(
 ) -> Result<(), NoMemory>
     ensures { OnOk result (out.new.items ≡ out.old.items ++ belongings_text subnets.now system.now) }
 {
+    // Its clause: a system has up to eight ports.
     system.is_system();
     push_addresses(system.name(), system.addresses(), out)?;
     push_ports(subnets, system.name(), system.ports(), out)?;
