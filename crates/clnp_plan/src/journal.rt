@@ -91,12 +91,12 @@ pub fn journal_text<'a>(
             push_two(start, b"drop", Word::Octet(reason), Word::Octet(place), out)
         }
         Note::Held { id, offset, held } => push_held(start, id, offset, held, out),
-        Note::Repeat { id, offset } => push_segment(start, b"repeat", id, offset as u64, out),
+        Note::Repeat { id, offset } => push_segment(start, b"repeat", id, u64::from(offset), out),
         Note::Crowded { held, size } => push_crowded(start, held, size, out),
-        Note::Many { kept } => push_one(start, b"many", Word::Number(kept as u64), out),
-        Note::NoSlot { live } => push_one(start, b"noslot", Word::Number(live as u64), out),
+        Note::Many { kept } => push_one(start, b"many", Word::Number(u64::from(kept)), out),
+        Note::NoSlot { live } => push_one(start, b"noslot", Word::Number(u64::from(live)), out),
         Note::Interference { id } => push_one(start, b"interference", Word::Identifier(id), out),
-        Note::Expired { id, held } => push_segment(start, b"expired", id, held as u64, out),
+        Note::Expired { id, held } => push_segment(start, b"expired", id, u64::from(held), out),
         Note::NotMine { ref to } => push_one(start, b"notmine", Word::Address(to), out),
         Note::Alien => push_label(start, b"alien", out),
         Note::BadEsis { rule, place } => {
@@ -148,7 +148,7 @@ fn push_sent<'a>(
         identifier_word(id),
         Word::Address(from),
         Word::Address(to),
-        Word::Number(len as u64),
+        Word::Number(u64::from(len)),
     ];
     push_line(Word::Number(start.moment), &words, out)
 }
@@ -237,8 +237,8 @@ fn push_held(
         ++ line_from start.entry (codes "held" ∷ hex_text (pair_of id) ∷ decimal offset ∷ decimal held ∷ [])) }
     ensures same { OnErr result (out.new.items ≡ out.old.items) }
 {
-    let offset = Word::Number(offset as u64);
-    let held = Word::Number(held as u64);
+    let offset = Word::Number(u64::from(offset));
+    let held = Word::Number(u64::from(held));
     push_three(start, b"held", Word::Identifier(id), offset, held, out)
 }
 
@@ -283,8 +283,8 @@ fn push_crowded(start: Start<'_>, held: u32, size: u32, out: &mut Vec<u8>) -> Re
         ++ line_from start.entry (codes "crowded" ∷ decimal held ∷ decimal size ∷ [])) }
     ensures same { OnErr result (out.new.items ≡ out.old.items) }
 {
-    let held = Word::Number(held as u64);
-    let size = Word::Number(size as u64);
+    let held = Word::Number(u64::from(held));
+    let size = Word::Number(u64::from(size));
     push_two(start, b"crowded", held, size, out)
 }
 
@@ -313,7 +313,7 @@ fn push_hearing<'a>(
                 table,
                 key,
                 Word::Text(b"full"),
-                Word::Number(entries as u64),
+                Word::Number(u64::from(entries)),
             ];
             push_line(Word::Number(start.moment), &words, out)
         }
