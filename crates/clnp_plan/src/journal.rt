@@ -3,7 +3,7 @@ ghost use Rattle.std.specs.Prelude.{◌≡◌, [], ◌∷◌, ◌++◌, codes, m
 ghost use Rattle.std.specs.Fmt.{decimal};
 ghost use Rattle.pdu_header.specs.Nsap.Text.{hex_text};
 ghost use Rattle.pdu_header.specs.Spelling.{pair_of};
-ghost use Rattle.clnp_plan.specs.Journal.{ForNobody, Injected, Late, Lost, Noted, Received, Transmitted, Void, line_of, line_text, trace_text, end_text, heard_words, ignored_word, kind_word, on_word, table_word, why_word, octet_word, octets_word, identifier_word, rule_word, target_word};
+ghost use Rattle.clnp_plan.specs.Journal.{ForNobody, Injected, Late, Lost, Noted, Received, Transmitted, Void, line_of, line_text, trace_text, end_text, heard_words, ignored_word, kind_word, on_or_off, table_word, why_word, octet_word, octets_word, identifier_word, rule_word, target_text};
 ghost use Rattle.clnp_plan.specs.Words.{line_from, word_text};
 
 use crate::note::{Note, Why};
@@ -112,7 +112,7 @@ pub fn journal_text<'a>(
         }
         Note::Ignored { rd } => push_one(start, b"ignored", ignored_word(rd), out),
         Note::Restart => push_label(start, b"restart", out),
-        Note::Congest { on } => push_one(start, b"congest", on_word(on), out),
+        Note::Congest { on } => push_one(start, b"congest", on_or_off(on), out),
     }
 }
 
@@ -401,7 +401,7 @@ pub fn transmission_text<'a>(
         Word::Text(b"tx"),
         Word::Number(copy),
         Word::Number(u64::from(port)),
-        target_word(&target),
+        target_text(&target),
         octets_word(frame),
     ];
     push_line(Word::Number(now), &words, out)
@@ -474,7 +474,7 @@ pub fn injection_text<'a>(
         Word::Number(copy),
         Word::Text(subnet),
         Word::Octets(sender.as_bytes()),
-        target_word(target),
+        target_text(target),
     ];
     push_line(Word::Number(now), &words, out)
 }
@@ -637,8 +637,8 @@ fn ignored_word(rd: bool) -> Word<'static>
 }
 
 /// The word of whether a router is congested.
-fn on_word(on: bool) -> Word<'static>
-    ensures { word_text result ≡ on_word on }
+fn on_or_off(on: bool) -> Word<'static>
+    ensures { word_text result ≡ on_or_off on }
 {
     if on {
         Word::Text(b"on")
@@ -670,8 +670,8 @@ fn identifier_word(identifier: Option<u16>) -> Word<'static>
 }
 
 /// The word of where a frame goes: to one system, or to a group.
-fn target_word(target: &Target) -> Word<'_>
-    ensures { word_text result ≡ target_word target.now }
+fn target_text(target: &Target) -> Word<'_>
+    ensures { word_text result ≡ target_text target.now }
 {
     match target {
         Target::System(snpa) => Word::Octets(snpa.as_bytes()),

@@ -3,7 +3,7 @@ ghost use Rattle.std.specs.Prelude.{◌≡◌, ◌++◌, ◌≤◌, codes, lengt
 ghost use Rattle.std.specs.List.{flat_map};
 ghost use Rattle.std.specs.Fmt.{decimal};
 ghost use Rattle.clnp_plan.specs.Nsap.Text.{hex_text};
-ghost use Rattle.clnp_plan.specs.Journal.{behind_space, line_of, on_word, target_word};
+ghost use Rattle.clnp_plan.specs.Journal.{behind_space, line_of, on_or_off, target_text};
 ghost use Rattle.scenario.specs.Canonical as canonical;
 ghost use Rattle.scenario.specs.Canonical.{address_text, ask_words, belongings_text, event_text, header_text, limits_text, port_text, port_texts, route_text, subnet_text, system_text, text_of};
 ghost use Rattle.scenario.specs.Grammar.{plan_of};
@@ -60,7 +60,7 @@ fn push_scenario(scenario: &Scenario, out: &mut Vec<u8>) -> Result<(), NoMemory>
 fn push_header(version: u8, out: &mut Vec<u8>) -> Result<(), NoMemory>
     ensures { OnOk result (out.new.items ≡ out.old.items ++ header_text version) }
 {
-    push_line(b"clnp-sim", &[number_word(u64::from(version))], out)
+    push_line(b"clnp-sim", &[decimal_text(u64::from(version))], out)
 }
 
 /// Appends what is declared.
@@ -78,9 +78,9 @@ fn push_limits(version: u8, limits: &Limits, out: &mut Vec<u8>) -> Result<(), No
     ensures { OnOk result (out.new.items ≡ out.old.items ++ limits_text version limits.now) }
 {
     let words = [
-        number_word(u64::from(limits.age)),
-        number_word(u64::from(limits.hold)),
-        number_word(u64::from(limits.reuse)),
+        decimal_text(u64::from(limits.age)),
+        decimal_text(u64::from(limits.hold)),
+        decimal_text(u64::from(limits.reuse)),
     ];
     push(b"limits", out)?;
     push_words(&words, out)?;
@@ -95,7 +95,7 @@ fn push_skew(version: u8, skew: u16, out: &mut Vec<u8>) -> Result<(), NoMemory>
     if version == 1 {
         return Ok(());
     }
-    push_words(&[number_word(u64::from(skew))], out)
+    push_words(&[decimal_text(u64::from(skew))], out)
 }
 
 fn push_subnets(subnets: &[Subnet], out: &mut Vec<u8>) -> Result<(), NoMemory>
@@ -104,7 +104,7 @@ fn push_subnets(subnets: &[Subnet], out: &mut Vec<u8>) -> Result<(), NoMemory>
     for subnet in subnets {
         let words = [
             Word::Text(subnet.name()),
-            number_word(u64::from(subnet.mtu)),
+            decimal_text(u64::from(subnet.mtu)),
         ];
         push_line(b"subnet", &words, out)?;
     }
@@ -128,7 +128,7 @@ fn push_system(system: &SystemConfig, out: &mut Vec<u8>) -> Result<(), NoMemory>
     let settings = system.settings();
     let words = [
         Word::Text(system.name()),
-        role_word(system.role()),
+        role_text(system.role()),
         Word::Number(b"hello=", u64::from(settings.hello)),
         Word::Number(b"suggest=", u64::from(settings.suggest)),
         Word::Number(b"rhold=", u64::from(settings.rhold)),
@@ -139,7 +139,7 @@ fn push_system(system: &SystemConfig, out: &mut Vec<u8>) -> Result<(), NoMemory>
         Word::Number(b"routers=", u64::from(settings.routers)),
         Word::Number(b"redirects=", u64::from(settings.redirects)),
         Word::Number(b"life=", u64::from(settings.life)),
-        checksum_word(settings.sealed),
+        checksum_text(settings.sealed),
     ];
     push_line(b"system", &words, out)
 }
@@ -186,7 +186,11 @@ fn push_addresses(name: &[u8], addresses: &[Address], out: &mut Vec<u8>) -> Resu
 fn push_address<'a>(name: &'a [u8], address: &'a Address, out: &mut Vec<u8>) -> Result<(), NoMemory>
     ensures { OnOk result (out.new.items ≡ out.old.items ++ address_text name.now address.now) }
 {
-    push_line(b"address", &[Word::Text(name), address_word(address)], out)
+    push_line(
+        b"address",
+        &[Word::Text(name), address_digits(address)],
+        out,
+    )
 }
 
 /// Appends ports, by their numbers from 0.
@@ -221,10 +225,10 @@ fn push_port<'a>(
 {
     let words = [
         Word::Text(name),
-        number_word(number),
-        subnet_word(subnets, port.subnet),
+        decimal_text(number),
+        subnet_name(subnets, port.subnet),
         Word::Octets(b"", port.snpa.as_bytes()),
-        number_word(u64::from(port.transit)),
+        decimal_text(u64::from(port.transit)),
     ];
     push_line(b"port", &words, out)
 }
@@ -244,9 +248,9 @@ fn push_route<'a>(name: &'a [u8], route: &'a Route, out: &mut Vec<u8>) -> Result
     let words = [
         Word::Text(name),
         Word::Digits(&route.prefix),
-        number_word(u64::from(route.port)),
+        decimal_text(u64::from(route.port)),
         Word::Octets(b"", route.snpa.as_bytes()),
-        address_word(&route.title),
+        address_digits(&route.title),
     ];
     push_line(b"route", &words, out)
 }
@@ -283,21 +287,24 @@ fn push_event<'a>(
             ask,
         } => {
             let words = [
-                name_word(systems, *system),
-                address_word(from),
-                address_word(to),
-                body_word(body),
+                system_name(systems, *system),
+                address_digits(from),
+                address_digits(to),
+                body_text(body),
             ];
             push_send(&words, ask, out)
         }
         Event::Deliver { copy, system } => {
-            let words = [number_word(u64::from(*copy)), name_word(systems, *system)];
+            let words = [
+                decimal_text(u64::from(*copy)),
+                system_name(systems, *system),
+            ];
             push_line(b"deliver", &words, out)
         }
-        Event::Settle { count } => push_line(b"settle", &[number_word(u64::from(*count))], out),
-        Event::Lose { count } => push_line(b"lose", &[number_word(u64::from(*count))], out),
-        Event::Tick { count } => push_line(b"tick", &[number_word(u64::from(*count))], out),
-        Event::Restart { system } => push_line(b"restart", &[name_word(systems, *system)], out),
+        Event::Settle { count } => push_line(b"settle", &[decimal_text(u64::from(*count))], out),
+        Event::Lose { count } => push_line(b"lose", &[decimal_text(u64::from(*count))], out),
+        Event::Tick { count } => push_line(b"tick", &[decimal_text(u64::from(*count))], out),
+        Event::Restart { system } => push_line(b"restart", &[system_name(systems, *system)], out),
         Event::Echo {
             system,
             from,
@@ -305,17 +312,17 @@ fn push_event<'a>(
             body,
         } => {
             let words = [
-                name_word(systems, *system),
-                address_word(from),
-                address_word(to),
-                body_word(body),
+                system_name(systems, *system),
+                address_digits(from),
+                address_digits(to),
+                body_text(body),
             ];
             push_line(b"echo", &words, out)
         }
         Event::Congest { system, on } => {
             push_line(
                 b"congest",
-                &[name_word(systems, *system), on_word(*on)],
+                &[system_name(systems, *system), on_or_off(*on)],
                 out,
             )
         }
@@ -326,9 +333,9 @@ fn push_event<'a>(
             octets,
         } => {
             let words = [
-                subnet_word(subnets, *subnet),
+                subnet_name(subnets, *subnet),
                 Word::Octets(b"", from.as_bytes()),
-                target_word(to),
+                target_text(to),
                 Word::Octets(b"", octets.as_bytes()),
             ];
             push_line(b"inject", &words, out)
@@ -377,21 +384,21 @@ fn push_options(options: &[u8], out: &mut Vec<u8>) -> Result<(), NoMemory>
 }
 
 /// The word of a number.
-fn number_word(number: u64) -> Word<'static>
+fn decimal_text(number: u64) -> Word<'static>
     ensures { word_text result ≡ decimal number }
 {
     Word::Number(b"", number)
 }
 
 /// The word of an address.
-fn address_word(address: &Address) -> Word<'_>
+fn address_digits(address: &Address) -> Word<'_>
     ensures { word_text result ≡ hex_text address.now }
 {
     Word::Octets(b"", address.as_bytes())
 }
 
 /// The word of the name of the system at a place.
-fn name_word(systems: &[SystemConfig], place: u8) -> Word<'_>
+fn system_name(systems: &[SystemConfig], place: u8) -> Word<'_>
     ensures { word_text result ≡ canonical.system_name (slice_get systems.now place) }
 {
     match systems.get(usize::from(place)) {
@@ -401,7 +408,7 @@ fn name_word(systems: &[SystemConfig], place: u8) -> Word<'_>
 }
 
 /// The word of the name of the subnetwork at a place.
-fn subnet_word(subnets: &[Subnet], place: u8) -> Word<'_>
+fn subnet_name(subnets: &[Subnet], place: u8) -> Word<'_>
     ensures { word_text result ≡ canonical.subnet_name (slice_get subnets.now place) }
 {
     match subnets.get(usize::from(place)) {
@@ -411,8 +418,8 @@ fn subnet_word(subnets: &[Subnet], place: u8) -> Word<'_>
 }
 
 /// The word of where a frame goes: to one system, or to a group.
-fn target_word(target: &Target) -> Word<'_>
-    ensures { word_text result ≡ target_word target.now }
+fn target_text(target: &Target) -> Word<'_>
+    ensures { word_text result ≡ target_text target.now }
 {
     match target {
         Target::System(snpa) => Word::Octets(b"", snpa.as_bytes()),
@@ -422,7 +429,7 @@ fn target_word(target: &Target) -> Word<'_>
 }
 
 /// The word of data, in the form in which they were read.
-fn body_word(body: &Body) -> Word<'_>
+fn body_text(body: &Body) -> Word<'_>
     ensures { word_text result ≡ canonical.body_text body.now }
 {
     match body {
@@ -432,7 +439,7 @@ fn body_word(body: &Body) -> Word<'_>
 }
 
 /// The word of whether a system is a host or a router.
-fn role_word(role: Role) -> Word<'static>
+fn role_text(role: Role) -> Word<'static>
     ensures { word_text result ≡ canonical.role_text role }
 {
     match role {
@@ -442,7 +449,7 @@ fn role_word(role: Role) -> Word<'static>
 }
 
 /// The word of whether headers get a checksum.
-fn checksum_word(sealed: bool) -> Word<'static>
+fn checksum_text(sealed: bool) -> Word<'static>
     ensures { word_text result ≡ canonical.checksum_text sealed }
 {
     if sealed {
@@ -453,8 +460,8 @@ fn checksum_word(sealed: bool) -> Word<'static>
 }
 
 /// The word of whether a router is congested.
-fn on_word(on: bool) -> Word<'static>
-    ensures { word_text result ≡ on_word on }
+fn on_or_off(on: bool) -> Word<'static>
+    ensures { word_text result ≡ on_or_off on }
 {
     if on {
         Word::Text(b"on")
