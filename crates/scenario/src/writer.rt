@@ -1,22 +1,23 @@
 //! The writer of scenario texts.
-ghost use Rattle.std.specs.Prelude.{◌≡◌, ◌++◌, ◌≤◌, codes, length, map, slice_get, Ok, OnOk, OnErr};
+ghost use Rattle.std.specs.Prelude.{◌≡◌, [], ◌∷◌, ◌++◌, ◌≤◌, codes, length, map, slice_get, Ok, OnOk, OnErr};
 ghost use Rattle.std.specs.List.{flat_map};
 ghost use Rattle.std.specs.Fmt.{decimal};
-ghost use Rattle.clnp_plan.specs.Nsap.Text.{hex_text};
-ghost use Rattle.clnp_plan.specs.Journal.{behind_space, line_of, on_or_off, target_text};
+ghost use Rattle.clnp_plan.specs.Journal.{behind_space, line_of};
+ghost use Rattle.clnp_plan.specs.Words.{word_text};
 ghost use Rattle.scenario.specs.Canonical as canonical;
 ghost use Rattle.scenario.specs.Canonical.{address_text, ask_words, belongings_text, event_text, header_text, limits_text, port_text, port_texts, route_text, subnet_text, system_text, text_of};
 ghost use Rattle.scenario.specs.Grammar.{plan_of};
-ghost use Rattle.scenario.specs.Lines.{word_text};
 
 use crate::event::{Body, Event};
 use crate::laws;
-use crate::line::{Word, push_line, push_words};
 use crate::plan::{Scenario, Subnet};
 use clnp_plan::clnp_base::{NoMemory, push};
 use clnp_plan::forwarding::Route;
-use clnp_plan::nsap::{Address, Target};
-use clnp_plan::{Ask, Limits, PortConfig, Role, SystemConfig};
+use clnp_plan::nsap::Address;
+use clnp_plan::{
+    Ask, Limits, PortConfig, Role, SystemConfig, Word, on_or_off, push_line, push_words,
+    target_text,
+};
 use std::alloc::Global;
 
 /// Appends the text of a scenario, from which `read` reads it again: each line with all its words, in one order, and
@@ -60,7 +61,11 @@ fn push_scenario(scenario: &Scenario, out: &mut Vec<u8>) -> Result<(), NoMemory>
 fn push_header(version: u8, out: &mut Vec<u8>) -> Result<(), NoMemory>
     ensures { OnOk result (out.new.items ≡ out.old.items ++ header_text version) }
 {
-    push_line(b"clnp-sim", &[decimal_text(u64::from(version))], out)
+    push_line(
+        Word::Text(b"clnp-sim"),
+        &[Word::Number(u64::from(version))],
+        out,
+    )
 }
 
 /// Appends what is declared.
@@ -78,9 +83,9 @@ fn push_limits(version: u8, limits: &Limits, out: &mut Vec<u8>) -> Result<(), No
     ensures { OnOk result (out.new.items ≡ out.old.items ++ limits_text version limits.now) }
 {
     let words = [
-        decimal_text(u64::from(limits.age)),
-        decimal_text(u64::from(limits.hold)),
-        decimal_text(u64::from(limits.reuse)),
+        Word::Number(u64::from(limits.age)),
+        Word::Number(u64::from(limits.hold)),
+        Word::Number(u64::from(limits.reuse)),
     ];
     push(b"limits", out)?;
     push_words(&words, out)?;
@@ -95,7 +100,7 @@ fn push_skew(version: u8, skew: u16, out: &mut Vec<u8>) -> Result<(), NoMemory>
     if version == 1 {
         return Ok(());
     }
-    push_words(&[decimal_text(u64::from(skew))], out)
+    push_words(&[Word::Number(u64::from(skew))], out)
 }
 
 fn push_subnets(subnets: &[Subnet], out: &mut Vec<u8>) -> Result<(), NoMemory>
@@ -104,9 +109,9 @@ fn push_subnets(subnets: &[Subnet], out: &mut Vec<u8>) -> Result<(), NoMemory>
     for subnet in subnets {
         let words = [
             Word::Text(subnet.name()),
-            decimal_text(u64::from(subnet.mtu)),
+            Word::Number(u64::from(subnet.mtu)),
         ];
-        push_line(b"subnet", &words, out)?;
+        push_line(Word::Text(b"subnet"), &words, out)?;
     }
     Ok(())
 }
@@ -129,19 +134,19 @@ fn push_system(system: &SystemConfig, out: &mut Vec<u8>) -> Result<(), NoMemory>
     let words = [
         Word::Text(system.name()),
         role_text(system.role()),
-        Word::Number(b"hello=", u64::from(settings.hello)),
-        Word::Number(b"suggest=", u64::from(settings.suggest)),
-        Word::Number(b"rhold=", u64::from(settings.rhold)),
-        Word::Number(b"slots=", u64::from(settings.slots)),
-        Word::Number(b"segments=", u64::from(settings.segments)),
-        Word::Number(b"budget=", u64::from(settings.budget)),
-        Word::Number(b"neighbours=", u64::from(settings.neighbours)),
-        Word::Number(b"routers=", u64::from(settings.routers)),
-        Word::Number(b"redirects=", u64::from(settings.redirects)),
-        Word::Number(b"life=", u64::from(settings.life)),
+        Word::KeyedNumber(b"hello=", u64::from(settings.hello)),
+        Word::KeyedNumber(b"suggest=", u64::from(settings.suggest)),
+        Word::KeyedNumber(b"rhold=", u64::from(settings.rhold)),
+        Word::KeyedNumber(b"slots=", u64::from(settings.slots)),
+        Word::KeyedNumber(b"segments=", u64::from(settings.segments)),
+        Word::KeyedNumber(b"budget=", u64::from(settings.budget)),
+        Word::KeyedNumber(b"neighbours=", u64::from(settings.neighbours)),
+        Word::KeyedNumber(b"routers=", u64::from(settings.routers)),
+        Word::KeyedNumber(b"redirects=", u64::from(settings.redirects)),
+        Word::KeyedNumber(b"life=", u64::from(settings.life)),
         checksum_text(settings.sealed),
     ];
-    push_line(b"system", &words, out)
+    push_line(Word::Text(b"system"), &words, out)
 }
 
 /// Appends what each system has.
@@ -187,8 +192,8 @@ fn push_address<'a>(name: &'a [u8], address: &'a Address, out: &mut Vec<u8>) -> 
     ensures { OnOk result (out.new.items ≡ out.old.items ++ address_text name.now address.now) }
 {
     push_line(
-        b"address",
-        &[Word::Text(name), address_digits(address)],
+        Word::Text(b"address"),
+        &[Word::Text(name), Word::Address(address)],
         out,
     )
 }
@@ -225,12 +230,12 @@ fn push_port<'a>(
 {
     let words = [
         Word::Text(name),
-        decimal_text(number),
+        Word::Number(number),
         subnet_name(subnets, port.subnet),
-        Word::Octets(b"", port.snpa.as_bytes()),
-        decimal_text(u64::from(port.transit)),
+        Word::Octets(port.snpa.as_bytes()),
+        Word::Number(u64::from(port.transit)),
     ];
-    push_line(b"port", &words, out)
+    push_line(Word::Text(b"port"), &words, out)
 }
 
 fn push_routes(name: &[u8], routes: &[Route], out: &mut Vec<u8>) -> Result<(), NoMemory>
@@ -247,12 +252,12 @@ fn push_route<'a>(name: &'a [u8], route: &'a Route, out: &mut Vec<u8>) -> Result
 {
     let words = [
         Word::Text(name),
-        Word::Digits(&route.prefix),
-        decimal_text(u64::from(route.port)),
-        Word::Octets(b"", route.snpa.as_bytes()),
-        address_digits(&route.title),
+        Word::Prefix(&route.prefix),
+        Word::Number(u64::from(route.port)),
+        Word::Octets(route.snpa.as_bytes()),
+        Word::Address(&route.title),
     ];
-    push_line(b"route", &words, out)
+    push_line(Word::Text(b"route"), &words, out)
 }
 
 fn push_events(
@@ -288,23 +293,27 @@ fn push_event<'a>(
         } => {
             let words = [
                 system_name(systems, *system),
-                address_digits(from),
-                address_digits(to),
+                Word::Address(from),
+                Word::Address(to),
                 body_text(body),
             ];
             push_send(&words, ask, out)
         }
         Event::Deliver { copy, system } => {
             let words = [
-                decimal_text(u64::from(*copy)),
+                Word::Number(u64::from(*copy)),
                 system_name(systems, *system),
             ];
-            push_line(b"deliver", &words, out)
+            push_line(Word::Text(b"deliver"), &words, out)
         }
-        Event::Settle { count } => push_line(b"settle", &[decimal_text(u64::from(*count))], out),
-        Event::Lose { count } => push_line(b"lose", &[decimal_text(u64::from(*count))], out),
-        Event::Tick { count } => push_line(b"tick", &[decimal_text(u64::from(*count))], out),
-        Event::Restart { system } => push_line(b"restart", &[system_name(systems, *system)], out),
+        Event::Settle { count } => push_count(b"settle", *count, out),
+        Event::Lose { count } => push_count(b"lose", *count, out),
+        Event::Tick { count } => push_count(b"tick", *count, out),
+        Event::Restart { system } => push_line(
+            Word::Text(b"restart"),
+            &[system_name(systems, *system)],
+            out,
+        ),
         Event::Echo {
             system,
             from,
@@ -313,15 +322,15 @@ fn push_event<'a>(
         } => {
             let words = [
                 system_name(systems, *system),
-                address_digits(from),
-                address_digits(to),
+                Word::Address(from),
+                Word::Address(to),
                 body_text(body),
             ];
-            push_line(b"echo", &words, out)
+            push_line(Word::Text(b"echo"), &words, out)
         }
         Event::Congest { system, on } => {
             push_line(
-                b"congest",
+                Word::Text(b"congest"),
                 &[system_name(systems, *system), on_or_off(*on)],
                 out,
             )
@@ -334,13 +343,20 @@ fn push_event<'a>(
         } => {
             let words = [
                 subnet_name(subnets, *subnet),
-                Word::Octets(b"", from.as_bytes()),
+                Word::Octets(from.as_bytes()),
                 target_text(to),
-                Word::Octets(b"", octets.as_bytes()),
+                Word::Octets(octets.as_bytes()),
             ];
-            push_line(b"inject", &words, out)
+            push_line(Word::Text(b"inject"), &words, out)
         }
     }
+}
+
+/// Appends the line of a keyword and a count.
+fn push_count(keyword: &[u8], count: u32, out: &mut Vec<u8>) -> Result<(), NoMemory>
+    ensures { OnOk result (out.new.items ≡ out.old.items ++ line_of keyword.now (decimal count ∷ [])) }
+{
+    push_line(Word::Text(keyword), &[Word::Number(u64::from(count))], out)
 }
 
 /// Appends the line of a `send`, whose words before the lifetime are given.
@@ -357,7 +373,7 @@ fn push_send<'a>(words: &[Word<'a>], ask: &Ask, out: &mut Vec<u8>) -> Result<(),
 fn push_ask(ask: &Ask, out: &mut Vec<u8>) -> Result<(), NoMemory>
     ensures { OnOk result (out.new.items ≡ out.old.items ++ flat_map behind_space (ask_words ask.now)) }
 {
-    push_words(&[Word::Number(b"life=", u64::from(ask.life))], out)?;
+    push_words(&[Word::KeyedNumber(b"life=", u64::from(ask.life))], out)?;
     push_word_if(!ask.report, b"noreport", out)?;
     push_word_if(!ask.segment, b"whole", out)?;
     push_options(ask.options.as_bytes(), out)
@@ -380,21 +396,7 @@ fn push_options(options: &[u8], out: &mut Vec<u8>) -> Result<(), NoMemory>
     if options.is_empty() {
         return Ok(());
     }
-    push_words(&[Word::Octets(b"opt=", options)], out)
-}
-
-/// The word of a number.
-fn decimal_text(number: u64) -> Word<'static>
-    ensures { word_text result ≡ decimal number }
-{
-    Word::Number(b"", number)
-}
-
-/// The word of an address.
-fn address_digits(address: &Address) -> Word<'_>
-    ensures { word_text result ≡ hex_text address.now }
-{
-    Word::Octets(b"", address.as_bytes())
+    push_words(&[Word::KeyedOctets(b"opt=", options)], out)
 }
 
 /// The word of the name of the system at a place.
@@ -417,23 +419,12 @@ fn subnet_name(subnets: &[Subnet], place: u8) -> Word<'_>
     }
 }
 
-/// The word of where a frame goes: to one system, or to a group.
-fn target_text(target: &Target) -> Word<'_>
-    ensures { word_text result ≡ target_text target.now }
-{
-    match target {
-        Target::System(snpa) => Word::Octets(b"", snpa.as_bytes()),
-        Target::EndSystems => Word::Text(b"es"),
-        Target::Routers => Word::Text(b"is"),
-    }
-}
-
 /// The word of data, in the form in which they were read.
 fn body_text(body: &Body) -> Word<'_>
     ensures { word_text result ≡ canonical.body_text body.now }
 {
     match body {
-        Body::Hex(octets) => Word::Octets(b"hex:", octets.as_bytes()),
+        Body::Hex(octets) => Word::KeyedOctets(b"hex:", octets.as_bytes()),
         Body::Pattern { len, start } => Word::Pattern(*len, *start),
     }
 }
@@ -456,16 +447,5 @@ fn checksum_text(sealed: bool) -> Word<'static>
         Word::Text(b"checksum=on")
     } else {
         Word::Text(b"checksum=off")
-    }
-}
-
-/// The word of whether a router is congested.
-fn on_or_off(on: bool) -> Word<'static>
-    ensures { word_text result ≡ on_or_off on }
-{
-    if on {
-        Word::Text(b"on")
-    } else {
-        Word::Text(b"off")
     }
 }
