@@ -4,7 +4,7 @@ use Rattle.std.specs.List.{AllByRecursion, flat_map}
 use Rattle.std.proofs.lemmas.List.Concat.{flat_map-cons}
 use Rattle.clnp_machine.specs.ClnpBase.Text.{lines_of, onto_first, begins_with}
 use Rattle.clnp_machine.specs.Nsap.Text.{hex_text}
-use Rattle.clnp_machine.specs.ClnpPlan.Journal.{Line, Noted, Transmitted, Void, Late, Injected, Received, Lost, ForNobody, line_of, line_text, behind_space, note_words, target_word, octets_word}
+use Rattle.clnp_machine.specs.ClnpPlan.Journal.{Line, Noted, Transmitted, Void, Late, Injected, Received, Lost, ForNobody, line_of, line_text, behind_space, note_words, target_text, octets_word}
 use Rattle.std.specs.Fmt.{decimal}
 use Rattle.clnp_world.specs.Scenario.Scenario.{Plan}
 use Rattle.clnp_world.specs.Scenario.declared.event.Move.{Move}
@@ -78,11 +78,11 @@ line_of-ends first others =
 line_text-ends : (line : Line) → EndsLines (line_text line)
 line_text-ends (Noted now name note) = line_of-ends (decimal now) (name ∷ note_words note)
 line_text-ends (Transmitted now name copy port target frame) =
-    line_of-ends (decimal now) (name ∷ codes "tx" ∷ decimal copy ∷ decimal port ∷ target_word target ∷ octets_word frame ∷ [])
+    line_of-ends (decimal now) (name ∷ codes "tx" ∷ decimal copy ∷ decimal port ∷ target_text target ∷ octets_word frame ∷ [])
 line_text-ends (Void now name copy) = line_of-ends (decimal now) (name ∷ codes "void" ∷ decimal copy ∷ [])
 line_text-ends (Late now name copy) = line_of-ends (decimal now) (name ∷ codes "late" ∷ decimal copy ∷ [])
 line_text-ends (Injected now copy subnet sender target) =
-    line_of-ends (decimal now) (codes "-" ∷ codes "inject" ∷ decimal copy ∷ subnet ∷ hex_text sender ∷ target_word target ∷ [])
+    line_of-ends (decimal now) (codes "-" ∷ codes "inject" ∷ decimal copy ∷ subnet ∷ hex_text sender ∷ target_text target ∷ [])
 line_text-ends (Received now name copy port) = ends-none
 line_text-ends (Lost now copy) = ends-none
 line_text-ends (ForNobody now copy) = ends-none

@@ -17,7 +17,7 @@ use Rattle.clnp_machine.specs.EsisTables.declared.fact.Heard.TheVariants as hear
 use Rattle.clnp_machine.specs.EsisTables.declared.fact.TableKind.{TableKind}
 use Rattle.clnp_machine.specs.EsisTables.declared.fact.TableKind.TheVariants as table
 use Rattle.clnp_machine.specs.ClnpBase.Text.{lines_of, words_of}
-use Rattle.clnp_machine.specs.ClnpPlan.Journal.{Line, Noted, Transmitted, Void, Late, Injected, Received, Lost, ForNobody, behind_space, heard_words, identifier_word, ignored_word, kind_word, line_of, line_text, note_words, octet_word, octets_word, on_word, rule_word, table_word, target_word, why_word}
+use Rattle.clnp_machine.specs.ClnpPlan.Journal.{Line, Noted, Transmitted, Void, Late, Injected, Received, Lost, ForNobody, behind_space, heard_words, identifier_word, ignored_word, kind_word, line_of, line_text, note_words, octet_word, octets_word, on_or_off, rule_word, table_word, target_text, why_word}
 use Rattle.clnp_machine.specs.ClnpPlan.declared.note.Note.{Note}
 use Rattle.clnp_machine.specs.ClnpPlan.declared.note.Note.TheVariants.{Sent, Refused, Got, Report, Echoed, Stray, Discard, Held, Repeat, Crowded, Many, NoSlot, Interference, Expired, NotMine, Alien, BadEsis, Hear, Gone, Ignored, Restart, Congest}
 use Rattle.clnp_machine.specs.ClnpPlan.declared.note.Why.{Why}
@@ -99,11 +99,11 @@ ignored_in_line : (rd : Bool) → IsInLine (ignored_word rd)
 ignored_in_line true = word_in_line (codes "rd") (spelled (codes "rd") refl)
 ignored_in_line false = word_in_line (codes "ish") (spelled (codes "ish") refl)
 
-on_in_line : (on : Bool) → IsInLine (on_word on)
+on_in_line : (on : Bool) → IsInLine (on_or_off on)
 on_in_line true = word_in_line (codes "on") (spelled (codes "on") refl)
 on_in_line false = word_in_line (codes "off") (spelled (codes "off") refl)
 
-pub target_in_line : (target : Target) → IsInLine (target_word target)
+pub target_in_line : (target : Target) → IsInLine (target_text target)
 target_in_line (System snpa) = hex_in_line snpa
 target_in_line EndSystems = word_in_line (codes "es") (spelled (codes "es") refl)
 target_in_line Routers = word_in_line (codes "is") (spelled (codes "is") refl)
@@ -233,7 +233,7 @@ note_is (Ignored rd) = record {
 }
 note_is Restart = record { others = []; split = refl; is_word = spelled (codes "restart") refl; in_line = tt }
 note_is (Congest on) = record {
-  others = on_word on ∷ [];
+  others = on_or_off on ∷ [];
   split = refl;
   is_word = spelled (codes "congest") refl;
   in_line = (on_in_line on, tt);
@@ -297,7 +297,7 @@ line_counts (Noted now name note) named =
 line_counts (Transmitted now name copy port target frame) named =
     counts_of_line (Transmitted now name copy port target frame)
     (is_line (Transmitted now name copy port target frame) (decimal now) name (codes "tx")
-    (decimal copy ∷ decimal port ∷ target_word target ∷ octets_word frame ∷ []) refl refl (decimal_is_word now) named (spelled (codes "tx") refl)
+    (decimal copy ∷ decimal port ∷ target_text target ∷ octets_word frame ∷ []) refl refl (decimal_is_word now) named (spelled (codes "tx") refl)
     (decimal_in_line copy, (decimal_in_line port, (target_in_line target, (octets_in_line frame, tt)))))
 line_counts (Void now name copy) named =
     counts_of_line (Void now name copy)
@@ -310,7 +310,7 @@ line_counts (Late now name copy) named =
 line_counts (Injected now copy subnet sender target) named =
     counts_of_line (Injected now copy subnet sender target)
     (is_line (Injected now copy subnet sender target) (decimal now) (codes "-") (codes "inject")
-    (decimal copy ∷ subnet ∷ hex_text sender ∷ target_word target ∷ []) refl refl (decimal_is_word now) (spelled (codes "-") refl) (spelled (codes "inject") refl)
+    (decimal copy ∷ subnet ∷ hex_text sender ∷ target_text target ∷ []) refl refl (decimal_is_word now) (spelled (codes "-") refl) (spelled (codes "inject") refl)
     (decimal_in_line copy, (named, (hex_in_line sender, (target_in_line target, tt)))))
 line_counts (Received now name copy port) named = refl
 line_counts (Lost now copy) named = refl

@@ -1,5 +1,5 @@
 //! Laws of one step of a system: each holds for every state and whatever comes, and its function
-//! does nothing.
+//! does nothing; one that calls others has their clauses for its proof.
 ghost use Rattle.std.specs.Prelude.{All, Bool, false, true, ◌≡◌, ◌≢◌, ◌==◌, ◌&&◌, ◌↔◌, ◌⊎◌, ◌<◌, ◌≤◌, ◌+◌, ◌*◌, ◌-◌, ℕ, IsTrue, None, Some, List, [], ◌∷◌, ◌++◌, length, map, not, option_map, slice_get};
 ghost use Rattle.std.specs.List.{AllByRecursion, Contains, filter, flat_map, list_any};
 ghost use Rattle.hex.specs.Hex.{IsBytes};

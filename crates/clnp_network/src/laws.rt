@@ -1,4 +1,5 @@
-//! Laws of runs and their journals. Each is the clause of a function that does nothing.
+//! Laws of runs and their journals. Each is the clause of a function that does nothing; one that calls others has their
+//! clauses for its proof.
 ghost use Rattle.std.specs.Prelude.{◌≡◌, ◌++◌, ℕ, List, IfOk};
 ghost use Rattle.std.specs.List.{flat_map};
 ghost use Rattle.scenario.specs.Grammar.{plan_of_version_1};

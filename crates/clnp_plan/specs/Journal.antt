@@ -68,15 +68,15 @@ ignored_word true = codes "rd"
 ignored_word false = codes "ish"
 
 -- whether a router is congested
-abbrev pub on_word : Bool → List ℕ
-on_word true = codes "on"
-on_word false = codes "off"
+abbrev pub on_or_off : Bool → List ℕ
+on_or_off true = codes "on"
+on_or_off false = codes "off"
 
 -- where a frame goes: to one system, or to a group
-abbrev pub target_word : Target → List ℕ
-target_word (System snpa) = hex_text snpa
-target_word EndSystems = codes "es"
-target_word Routers = codes "is"
+abbrev pub target_text : Target → List ℕ
+target_text (System snpa) = hex_text snpa
+target_text EndSystems = codes "es"
+target_text Routers = codes "is"
 
 -- a word and the space before it
 abbrev pub behind_space : List ℕ → List ℕ
@@ -111,7 +111,7 @@ note_words (Hear table key heard) = codes "hear" ∷ table_word table ∷ hex_te
 note_words (Gone table key) = codes "gone" ∷ table_word table ∷ hex_text key ∷ []
 note_words (Ignored rd) = codes "ignored" ∷ ignored_word rd ∷ []
 note_words Restart = codes "restart" ∷ []
-note_words (Congest on) = codes "congest" ∷ on_word on ∷ []
+note_words (Congest on) = codes "congest" ∷ on_or_off on ∷ []
 
 -- A line: what a system notes, a frame that it transmits as a copy with a number on a port, a copy that isn't there
 -- for it to be given, or one that is too old to be given; or a frame from outside that became a copy on a subnetwork. And
@@ -144,11 +144,11 @@ traced telling.Trace text = text
 abbrev pub told_text : Telling → Line → List ℕ
 told_text form (Noted now name note) = line_of (decimal now) (name ∷ note_words note)
 told_text form (Transmitted now name copy port target frame) =
-    line_of (decimal now) (name ∷ codes "tx" ∷ decimal copy ∷ decimal port ∷ target_word target ∷ octets_word frame ∷ [])
+    line_of (decimal now) (name ∷ codes "tx" ∷ decimal copy ∷ decimal port ∷ target_text target ∷ octets_word frame ∷ [])
 told_text form (Void now name copy) = line_of (decimal now) (name ∷ codes "void" ∷ decimal copy ∷ [])
 told_text form (Late now name copy) = line_of (decimal now) (name ∷ codes "late" ∷ decimal copy ∷ [])
 told_text form (Injected now copy subnet sender target) =
-    line_of (decimal now) (codes "-" ∷ codes "inject" ∷ decimal copy ∷ subnet ∷ hex_text sender ∷ target_word target ∷ [])
+    line_of (decimal now) (codes "-" ∷ codes "inject" ∷ decimal copy ∷ subnet ∷ hex_text sender ∷ target_text target ∷ [])
 told_text form (Received now name copy port) =
     traced form (line_of (decimal now) (name ∷ codes "rx" ∷ decimal copy ∷ decimal port ∷ []))
 told_text form (Lost now copy) = traced form (line_of (decimal now) (codes "-" ∷ codes "lost" ∷ decimal copy ∷ []))

@@ -1,21 +1,25 @@
 -- The words of a line, as the code has them.
-use Rattle.std.specs.Prelude.{ℕ, List, [], ◌∷◌}
+use Rattle.std.specs.Prelude.{ℕ, List, [], ◌∷◌, ◌++◌, codes}
 use Rattle.std.specs.Fmt.{decimal}
+use Rattle.pdu_header.specs.Nsap.Prefix.{prefix_text}
 use Rattle.pdu_header.specs.Nsap.Text.{hex_text}
 use Rattle.pdu_header.specs.Spelling.{pair_of}
-use Rattle.clnp_plan.specs.declared.journal.Word.{Word}
-use Rattle.clnp_plan.specs.declared.journal.Word.TheVariants.{Text, Number, Octet, Identifier, Rule, Octets, Address}
+use Rattle.clnp_plan.specs.declared.line.Word.{Word}
+use Rattle.clnp_plan.specs.declared.line.Word.TheVariants.{Text, Number, KeyedNumber, Octet, Identifier, Octets, KeyedOctets, Address, Prefix, Pattern}
 use Rattle.clnp_plan.specs.declared.journal.Start.{Start}
-use Rattle.clnp_plan.specs.Journal.{line_of, rule_word}
+use Rattle.clnp_plan.specs.Journal.{line_of}
 
 abbrev pub word_text : Word → List ℕ
 word_text (Text text) = text.now
 word_text (Number number) = decimal number
+word_text (KeyedNumber key number) = key.now ++ decimal number
 word_text (Octet octet) = hex_text (octet ∷ [])
 word_text (Identifier identifier) = hex_text (pair_of identifier)
-word_text (Rule rule) = rule_word rule
 word_text (Octets octets) = hex_text octets.now
+word_text (KeyedOctets key octets) = key.now ++ hex_text octets.now
 word_text (Address address) = hex_text address.now
+word_text (Prefix prefix) = prefix_text prefix.now
+word_text (Pattern len start) = (codes "pat:" ++ decimal len) ++ (codes ":" ++ decimal start)
 
 -- a system's line: its beginning, and the words behind it
 abbrev pub line_from : Start → List (List ℕ) → List ℕ

@@ -188,6 +188,7 @@ impl SystemConfig {
     pub fn is_system(&self)
         ensures { IsSystem self.now }
     {
+        // The look at a field brings the invariant.
         let _name = &self.name;
     }
 

@@ -1,15 +1,16 @@
-//! The text of the lines of journals and traces: words separated by one space, each line ended by `\n`.
-ghost use Rattle.std.specs.Prelude.{◌≡◌, [], ◌∷◌, ◌++◌, codes, map, take, length, OnOk, OnErr};
+//! The text of the lines of journals and traces.
+ghost use Rattle.std.specs.Prelude.{◌≡◌, [], ◌∷◌, ◌++◌, codes, OnOk, OnErr};
 ghost use Rattle.std.specs.Fmt.{decimal};
 ghost use Rattle.pdu_header.specs.Nsap.Text.{hex_text};
 ghost use Rattle.pdu_header.specs.Spelling.{pair_of};
-ghost use Rattle.clnp_plan.specs.Journal.{ForNobody, Injected, Late, Lost, Noted, Received, Transmitted, Void, line_of, line_text, trace_text, end_text, heard_words, ignored_word, kind_word, on_word, table_word, why_word, octet_word, octets_word, identifier_word, rule_word, target_word};
+ghost use Rattle.clnp_plan.specs.Journal.{ForNobody, Injected, Late, Lost, Noted, Received, Transmitted, Void, line_of, line_text, trace_text, end_text, heard_words, ignored_word, kind_word, table_word, why_word, octet_word, octets_word, identifier_word, rule_word};
 ghost use Rattle.clnp_plan.specs.Words.{line_from, word_text};
 
+use crate::line::{Word, on_or_off, push_line, target_text};
 use crate::note::{Note, Why};
 use esis_tables::{Heard, TableKind};
 use pdu_header::Kind;
-use pdu_header::clnp_base::{NoMemory, Octets, push, push_decimal, push_hex};
+use pdu_header::clnp_base::{NoMemory, Octets};
 use pdu_header::nsap::{Address, Snpa, Target};
 use std::alloc::Global;
 
@@ -20,25 +21,6 @@ pub enum Telling {
     Journal,
     /// Those of a trace: beside these what becomes of each copy.
     Trace,
-}
-
-/// A word of a line.
-#[derive(Clone, Copy)]
-enum Word<'a> {
-    /// A text as it stands.
-    Text(&'a [u8]),
-    /// A number, in decimal digits.
-    Number(u64),
-    /// An octet, in two hexadecimal digits.
-    Octet(u8),
-    /// A data unit identifier, in four hexadecimal digits.
-    Identifier(u16),
-    /// A rule of ES-IS PDUs, by its number.
-    Rule(u8),
-    /// Octets, in two hexadecimal digits each.
-    Octets(&'a [u8]),
-    /// An address, in two hexadecimal digits an octet.
-    Address(&'a Address),
 }
 
 /// Appends the line of a note: the moment in ticks of 500 ms, the system's name, and the note.
@@ -91,16 +73,16 @@ pub fn journal_text<'a>(
             push_two(start, b"drop", Word::Octet(reason), Word::Octet(place), out)
         }
         Note::Held { id, offset, held } => push_held(start, id, offset, held, out),
-        Note::Repeat { id, offset } => push_segment(start, b"repeat", id, offset as u64, out),
+        Note::Repeat { id, offset } => push_segment(start, b"repeat", id, u64::from(offset), out),
         Note::Crowded { held, size } => push_crowded(start, held, size, out),
-        Note::Many { kept } => push_one(start, b"many", Word::Number(kept as u64), out),
-        Note::NoSlot { live } => push_one(start, b"noslot", Word::Number(live as u64), out),
+        Note::Many { kept } => push_one(start, b"many", Word::Number(u64::from(kept)), out),
+        Note::NoSlot { live } => push_one(start, b"noslot", Word::Number(u64::from(live)), out),
         Note::Interference { id } => push_one(start, b"interference", Word::Identifier(id), out),
-        Note::Expired { id, held } => push_segment(start, b"expired", id, held as u64, out),
+        Note::Expired { id, held } => push_segment(start, b"expired", id, u64::from(held), out),
         Note::NotMine { ref to } => push_one(start, b"notmine", Word::Address(to), out),
         Note::Alien => push_label(start, b"alien", out),
         Note::BadEsis { rule, place } => {
-            push_two(start, b"badesis", Word::Rule(rule), Word::Octet(place), out)
+            push_two(start, b"badesis", rule_word(rule), Word::Octet(place), out)
         }
         Note::Hear {
             table,
@@ -112,7 +94,7 @@ pub fn journal_text<'a>(
         }
         Note::Ignored { rd } => push_one(start, b"ignored", ignored_word(rd), out),
         Note::Restart => push_label(start, b"restart", out),
-        Note::Congest { on } => push_one(start, b"congest", on_word(on), out),
+        Note::Congest { on } => push_one(start, b"congest", on_or_off(on), out),
     }
 }
 
@@ -148,7 +130,7 @@ fn push_sent<'a>(
         identifier_word(id),
         Word::Address(from),
         Word::Address(to),
-        Word::Number(len as u64),
+        Word::Number(u64::from(len)),
     ];
     push_line(Word::Number(start.moment), &words, out)
 }
@@ -237,8 +219,8 @@ fn push_held(
         ++ line_from start.entry (codes "held" ∷ hex_text (pair_of id) ∷ decimal offset ∷ decimal held ∷ [])) }
     ensures same { OnErr result (out.new.items ≡ out.old.items) }
 {
-    let offset = Word::Number(offset as u64);
-    let held = Word::Number(held as u64);
+    let offset = Word::Number(u64::from(offset));
+    let held = Word::Number(u64::from(held));
     push_three(start, b"held", Word::Identifier(id), offset, held, out)
 }
 
@@ -283,8 +265,8 @@ fn push_crowded(start: Start<'_>, held: u32, size: u32, out: &mut Vec<u8>) -> Re
         ++ line_from start.entry (codes "crowded" ∷ decimal held ∷ decimal size ∷ [])) }
     ensures same { OnErr result (out.new.items ≡ out.old.items) }
 {
-    let held = Word::Number(held as u64);
-    let size = Word::Number(size as u64);
+    let held = Word::Number(u64::from(held));
+    let size = Word::Number(u64::from(size));
     push_two(start, b"crowded", held, size, out)
 }
 
@@ -313,7 +295,7 @@ fn push_hearing<'a>(
                 table,
                 key,
                 Word::Text(b"full"),
-                Word::Number(entries as u64),
+                Word::Number(u64::from(entries)),
             ];
             push_line(Word::Number(start.moment), &words, out)
         }
@@ -401,7 +383,7 @@ pub fn transmission_text<'a>(
         Word::Text(b"tx"),
         Word::Number(copy),
         Word::Number(u64::from(port)),
-        target_word(&target),
+        target_text(&target),
         octets_word(frame),
     ];
     push_line(Word::Number(now), &words, out)
@@ -474,7 +456,7 @@ pub fn injection_text<'a>(
         Word::Number(copy),
         Word::Text(subnet),
         Word::Octets(sender.as_bytes()),
-        target_word(target),
+        target_text(target),
     ];
     push_line(Word::Number(now), &words, out)
 }
@@ -546,62 +528,6 @@ pub fn push_end(_alloc: Global, now: u64, copies: u64, out: &mut Vec<u8>) -> Res
     )
 }
 
-/// Appends a line of words.
-fn push_line<'a>(first: Word<'a>, others: &[Word<'a>], out: &mut Vec<u8>) -> Result<(), NoMemory>
-    ensures written { OnOk result (out.new.items ≡ out.old.items ++ line_of (word_text first.entry) (map word_text others.now)) }
-    ensures same { OnErr result (out.new.items ≡ out.old.items) }
-{
-    let len = out.len();
-    let written = push_words(first, others, out);
-    if written.is_err() {
-        out.truncate(len);
-    }
-    written
-}
-
-/// Appends a line of words; where memory is refused, some of it stands behind what was there.
-fn push_words<'a>(first: Word<'a>, others: &[Word<'a>], out: &mut Vec<u8>) -> Result<(), NoMemory>
-    ensures written { OnOk result (out.new.items ≡ out.old.items ++ line_of (word_text first.entry) (map word_text others.now)) }
-    ensures kept { OnErr result (take (length out.old.items) out.new.items ≡ out.old.items) }
-{
-    push_word(first, out)?;
-    for word in others {
-        push(b" ", out)?;
-        push_word(*word, out)?;
-    }
-    push(b"\n", out)
-}
-
-/// Appends a word.
-fn push_word(word: Word<'_>, out: &mut Vec<u8>) -> Result<(), NoMemory>
-    ensures written { OnOk result (out.new.items ≡ out.old.items ++ word_text word.entry) }
-    ensures same { OnErr result (out.new.items ≡ out.old.items) }
-{
-    match word {
-        Word::Text(text) => push(text, out),
-        Word::Number(number) => push_decimal(number, out),
-        Word::Octet(octet) => push_hex(&[octet], out),
-        Word::Identifier(identifier) => push_hex(&identifier.to_be_bytes(), out),
-        Word::Rule(rule) => push_rule(rule, out),
-        Word::Octets(octets) => push_hex(octets, out),
-        Word::Address(address) => push_hex(address.as_bytes(), out),
-    }
-}
-
-/// Appends a rule of ES-IS PDUs.
-fn push_rule(rule: u8, out: &mut Vec<u8>) -> Result<(), NoMemory>
-    ensures written { OnOk result (out.new.items ≡ out.old.items ++ rule_word rule) }
-    ensures same { OnErr result (out.new.items ≡ out.old.items) }
-{
-    let before = out.len();
-    push(b"E", out)?;
-    let written = push_decimal(u64::from(rule), out);
-    if written.is_err() {
-        out.truncate(before);
-    }
-    written
-}
-
 /// The word of a kind of PDU.
 fn kind_word(kind: Kind) -> Word<'static>
     ensures { word_text result ≡ kind_word kind }
@@ -625,6 +551,13 @@ fn table_word(table: TableKind) -> Word<'static>
     }
 }
 
+/// The word of a rule of ES-IS PDUs, by its number.
+fn rule_word(rule: u8) -> Word<'static>
+    ensures { word_text result ≡ rule_word rule }
+{
+    Word::KeyedNumber(b"E", u64::from(rule))
+}
+
 /// The word of what isn't heard: a redirect, or an intermediate system's hello.
 fn ignored_word(rd: bool) -> Word<'static>
     ensures { word_text result ≡ ignored_word rd }
@@ -633,17 +566,6 @@ fn ignored_word(rd: bool) -> Word<'static>
         Word::Text(b"rd")
     } else {
         Word::Text(b"ish")
-    }
-}
-
-/// The word of whether a router is congested.
-fn on_word(on: bool) -> Word<'static>
-    ensures { word_text result ≡ on_word on }
-{
-    if on {
-        Word::Text(b"on")
-    } else {
-        Word::Text(b"off")
     }
 }
 
@@ -666,17 +588,6 @@ fn identifier_word(identifier: Option<u16>) -> Word<'static>
     match identifier {
         Some(identifier) => Word::Identifier(identifier),
         None => Word::Text(b"-"),
-    }
-}
-
-/// The word of where a frame goes: to one system, or to a group.
-fn target_word(target: &Target) -> Word<'_>
-    ensures { word_text result ≡ target_word target.now }
-{
-    match target {
-        Target::System(snpa) => Word::Octets(snpa.as_bytes()),
-        Target::EndSystems => Word::Text(b"es"),
-        Target::Routers => Word::Text(b"is"),
     }
 }
 

@@ -1,9 +1,11 @@
-//! What a scenario says of one system, what a system is asked and gives out, and the lines of a journal.
+//! What a scenario says of one system, what a system is asked and gives out, the lines of a journal, and the words of which
+//! lines are written.
 #![tactic(auto)]
 
 mod ask;
 mod config;
 mod journal;
+mod line;
 mod note;
 mod output;
 
@@ -15,6 +17,7 @@ pub use journal::{
     Telling, injection_text, journal_text, late_text, loss_text, nobody_text, push_end,
     receipt_text, transmission_text, void_text,
 };
+pub use line::{Word, on_or_off, push_line, push_words, target_text};
 pub use note::{Note, Why};
 pub use output::{Output, Sending};
 pub use pdu_header;

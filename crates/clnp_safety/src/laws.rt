@@ -1,4 +1,5 @@
-//! Laws of runs: each holds for every scenario, and its function does nothing.
+//! Laws of runs: each holds for every scenario, and its function does nothing; one that calls others has their clauses for
+//! its proof.
 ghost use Rattle.std.specs.Prelude.{◌≡◌, ℕ, List, [], None, Some};
 ghost use Rattle.std.specs.List.{AllByRecursion};
 ghost use Rattle.clnp_machine.specs.ClnpPlan.declared.config.Limits.{Limits};

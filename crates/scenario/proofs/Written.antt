@@ -291,12 +291,12 @@ not_a_group first (octet ∷ octets) h =
     rw (ne_eqb (slice_index lower_digits (octet % 16)) 115 (second_is_none (octet % 16) (omega arith)))
     (and_right (slice_index lower_digits (octet / 16) == first) false refl)
 
-pub target_is_word : (to : Target) → IsTarget to → IsWord (journal.target_word to)
+pub target_is_word : (to : Target) → IsTarget to → IsWord (journal.target_text to)
 target_is_word (System snpa) is = address_is_word snpa is
 target_is_word EndSystems is = spelled (codes "es") refl
 target_is_word Routers is = spelled (codes "is") refl
 
-pub target_word_read : ReadsBack → (to : Target) → IsTarget to → target_word (journal.target_word to) ≡ Ok to
+pub target_word_read : ReadsBack → (to : Target) → IsTarget to → target_word (journal.target_text to) ≡ Ok to
 target_word_read law (System snpa) is =
     rw (not_a_group 101 snpa is.bytes, not_a_group 105 snpa is.bytes)
     (ap (λ (r : Result (List ℕ) Code). r >>= λ octets. Ok (System octets)) (address_word_read law snpa is))

@@ -317,9 +317,9 @@ others_of subnets systems (Lose count) = decimal count ∷ []
 others_of subnets systems (Tick count) = decimal count ∷ []
 others_of subnets systems (Restart system) = system_name (slice_get systems system) ∷ []
 others_of subnets systems (Echo system from to body) = system_name (slice_get systems system) ∷ hex_text from ∷ hex_text to ∷ body_text body ∷ []
-others_of subnets systems (Congest system on) = system_name (slice_get systems system) ∷ journal.on_word on ∷ []
+others_of subnets systems (Congest system on) = system_name (slice_get systems system) ∷ journal.on_or_off on ∷ []
 others_of subnets systems (Inject subnet from to octets) =
-    subnet_name (slice_get subnets subnet) ∷ hex_text from ∷ journal.target_word to ∷ hex_text octets ∷ []
+    subnet_name (slice_get subnets subnet) ∷ hex_text from ∷ journal.target_text to ∷ hex_text octets ∷ []
 
 pub event_text_is : (subnets : List Subnetwork) (systems : List SystemConfiguration) (event : Event)
     → event_text subnets systems event ≡ line_of (keyword_of event) (others_of subnets systems event)
@@ -380,11 +380,11 @@ echo_of names name source target data_text system from to body is_system is_from
     (step (address_word target) _ to event is_to
     (step (data_word data_text) _ body event is_body refl)))
 
-on_read : (on : Bool) → on_word (journal.on_word on) ≡ Ok on
+on_read : (on : Bool) → on_word (journal.on_or_off on) ≡ Ok on
 on_read true = refl
 on_read false = refl
 
-on_is_word : (on : Bool) → IsWord (journal.on_word on)
+on_is_word : (on : Bool) → IsWord (journal.on_or_off on)
 on_is_word true = spelled (codes "on") refl
 on_is_word false = spelled (codes "off") refl
 
@@ -440,10 +440,10 @@ event_read law subnets systems named_subnets named_systems (Echo system from to 
     (system_read systems system named_systems told.placed)
     (address_word_read law from told.formed.0) (address_word_read law to told.formed.1) (data_read body told.said)
 event_read law subnets systems named_subnets named_systems (Congest system on) told =
-    congest_of (map name_of_system systems) systems (system_name (slice_get systems system)) (journal.on_word on) system on
+    congest_of (map name_of_system systems) systems (system_name (slice_get systems system)) (journal.on_or_off on) system on
     (router_read systems system named_systems told.placed told.congested) (on_read on)
 event_read law subnets systems named_subnets named_systems (Inject subnet from to octets) told =
-    inject_of (map name_of_subnet subnets) (subnet_name (slice_get subnets subnet)) (hex_text from) (journal.target_word to) (hex_text octets) subnet from to octets
+    inject_of (map name_of_subnet subnets) (subnet_name (slice_get subnets subnet)) (hex_text from) (journal.target_text to) (hex_text octets) subnet from to octets
     (subnet_read subnets subnet named_subnets told.injected.placed)
     (address_word_read law from told.injected.sender) (target_word_read law to told.injected.target)
     (frame_word_read octets told.injected.bytes) told.injected.many.most

@@ -6,7 +6,7 @@ use Rattle.clnp_plan.specs.Nsap.Prefix.{prefix_text}
 use Rattle.clnp_plan.specs.Nsap.Text.{hex_text}
 use Rattle.clnp_plan.specs.Forwarding.declared.route.Route.{Route}
 use Rattle.clnp_plan.specs.Configuration.{SystemConfiguration}
-use Rattle.clnp_plan.specs.Journal.{line_of, on_word, target_word}
+use Rattle.clnp_plan.specs.Journal.{line_of, on_or_off, target_text}
 use Rattle.clnp_plan.specs.declared.ask.Ask.{Ask}
 use Rattle.clnp_plan.specs.declared.config.Limits.{Limits}
 use Rattle.clnp_plan.specs.declared.config.PortConfig.{PortConfig}
@@ -34,7 +34,7 @@ role_text Host = codes "host"
 role_text Router = codes "router"
 
 abbrev pub checksum_text : Bool → List ℕ
-checksum_text sealed = codes "checksum=" ++ on_word sealed
+checksum_text sealed = codes "checksum=" ++ on_or_off sealed
 
 -- data keep the form in which they were read
 abbrev pub body_text : Body → List ℕ
@@ -136,9 +136,9 @@ event_text subnets systems (Tick count) = line_of (codes "tick") (decimal count 
 event_text subnets systems (Restart system) = line_of (codes "restart") (system_name (slice_get systems system) ∷ [])
 event_text subnets systems (Echo system from to body) =
     line_of (codes "echo") (system_name (slice_get systems system) ∷ hex_text from ∷ hex_text to ∷ body_text body ∷ [])
-event_text subnets systems (Congest system on) = line_of (codes "congest") (system_name (slice_get systems system) ∷ on_word on ∷ [])
+event_text subnets systems (Congest system on) = line_of (codes "congest") (system_name (slice_get systems system) ∷ on_or_off on ∷ [])
 event_text subnets systems (Inject subnet from to octets) =
-    line_of (codes "inject") (subnet_name (slice_get subnets subnet) ∷ hex_text from ∷ target_word to ∷ hex_text octets ∷ [])
+    line_of (codes "inject") (subnet_name (slice_get subnets subnet) ∷ hex_text from ∷ target_text to ∷ hex_text octets ∷ [])
 
 -- ---- the whole
 

@@ -13,4 +13,3 @@ pub mod Words
 pub mod Seeds
 pub mod Canonical
 pub mod Migration
-pub mod Lines

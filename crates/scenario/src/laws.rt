@@ -1,4 +1,5 @@
-//! Laws of the grammar. Each law is the clause of a function that does nothing.
+//! Laws of the grammar. Each law is the clause of a function that does nothing; one that calls others has their clauses for
+//! its proof.
 
 ghost use Rattle.std.specs.Prelude.{◌≡◌, ◌↔◌, ℕ, List, Option, Ok};
 ghost use Rattle.clnp_plan.specs.ClnpBase.Text.{lines_of};

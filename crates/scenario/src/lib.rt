@@ -8,7 +8,6 @@ mod event;
 mod event_line;
 mod fault;
 pub mod laws;
-mod line;
 mod migration;
 mod plan;
 mod reader;

@@ -25,6 +25,7 @@ impl Model for Subnet {
 }
 
 impl Subnet {
+    /// The name, in the octets of its text.
     pub fn name(&self) -> &[u8]
         ensures { result.now ≡ self.now.name }
     {
@@ -62,6 +63,7 @@ impl Scenario {
     pub fn is_fit(&self)
         ensures { IsFit self.now }
     {
+        // The look at a field brings the invariant.
         let _limits = &self.limits;
     }
 
@@ -78,7 +80,9 @@ impl Scenario {
         ensures migrated { result ≡ migrated self }
         ensures together { result.limits.skew ≡ 0 }
     {
+        // Its clause: a fit scenario is fit in version 2, with clocks that tick together.
         laws::migrated_is_fit();
+        // Its clause: this scenario is fit.
         self.is_fit();
         let Scenario {
             version: _,
@@ -117,6 +121,7 @@ impl Scenario {
         self.systems.as_slice()
     }
 
+    /// The events in the order in which they happen.
     pub fn events(&self) -> &[Event]
         ensures { result.now ≡ self.now.events }
     {

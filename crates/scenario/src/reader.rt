@@ -302,6 +302,7 @@ pub fn read_version_1(alloc: Global, text: &[u8]) -> Result<Scenario, ScenarioRe
     ensures says { MatchResult result (λ scenario. plan_of_version_1 text.now ≡ Ok scenario) (λ refusal. Refuses refusal (plan_of_version_1 text.now)) }
     ensures version { IfOk result (λ scenario. scenario.version ≡ 1) }
 {
+    // Its clause: a scenario that is accepted where version 1 alone is read is one of version 1.
     laws::version_1_is_read_alike();
     read_as(alloc, None, 1, text)
 }
@@ -319,6 +320,7 @@ pub fn read_for_run(alloc: Global, text: &[u8], links: usize) -> Result<Scenario
     ensures alike { IfOk result (λ scenario. plan_of text.now ≡ Ok scenario) }
     ensures fits { IfOk result (λ scenario. IsForBoard links scenario) }
 {
+    // Its clause: what is accepted for a board is accepted anyhow, and fits that board.
     laws::accepted_for_run();
     read_as(alloc, Some(links), NEWEST_VERSION, text)
 }
@@ -350,6 +352,7 @@ fn read_as(
     ensures { let reading = plan_at links newest (lines_of text.now) in
         MatchResult result (λ scenario. reading ≡ Ok scenario) (λ refusal. Refuses refusal reading) }
 {
+    // Its clause: what the grammar accepts is fit, as a `Scenario` has to be.
     laws::each_version_is_fit();
     let (version, number, text) = header(newest, text)?;
     let mut declared = Declared::new(alloc, version);

@@ -58,6 +58,7 @@ pub fn from_seed(alloc: Global, seed: u64) -> Result<Scenario, NoMemory>
     ensures { IfOk result (λ scenario. scenario ≡ storm seed) }
 {
     let networks = networks(alloc)?;
+    // Its clause: the two networks are fit, and so they are with other events that are.
     networks.is_fit();
     let events = events(alloc, seed)?;
     let Scenario {

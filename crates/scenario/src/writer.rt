@@ -1,22 +1,23 @@
 //! The writer of scenario texts.
-ghost use Rattle.std.specs.Prelude.{◌≡◌, ◌++◌, ◌≤◌, codes, length, map, slice_get, Ok, OnOk, OnErr};
+ghost use Rattle.std.specs.Prelude.{◌≡◌, [], ◌∷◌, ◌++◌, ◌≤◌, codes, length, map, slice_get, Ok, OnOk, OnErr};
 ghost use Rattle.std.specs.List.{flat_map};
 ghost use Rattle.std.specs.Fmt.{decimal};
-ghost use Rattle.clnp_plan.specs.Nsap.Text.{hex_text};
-ghost use Rattle.clnp_plan.specs.Journal.{behind_space, line_of, on_word, target_word};
+ghost use Rattle.clnp_plan.specs.Journal.{behind_space, line_of};
+ghost use Rattle.clnp_plan.specs.Words.{word_text};
 ghost use Rattle.scenario.specs.Canonical as canonical;
 ghost use Rattle.scenario.specs.Canonical.{address_text, ask_words, belongings_text, event_text, header_text, limits_text, port_text, port_texts, route_text, subnet_text, system_text, text_of};
 ghost use Rattle.scenario.specs.Grammar.{plan_of};
-ghost use Rattle.scenario.specs.Lines.{word_text};
 
 use crate::event::{Body, Event};
 use crate::laws;
-use crate::line::{Word, push_line, push_words};
 use crate::plan::{Scenario, Subnet};
 use clnp_plan::clnp_base::{NoMemory, push};
 use clnp_plan::forwarding::Route;
-use clnp_plan::nsap::{Address, Target};
-use clnp_plan::{Ask, Limits, PortConfig, Role, SystemConfig};
+use clnp_plan::nsap::Address;
+use clnp_plan::{
+    Ask, Limits, PortConfig, Role, SystemConfig, Word, on_or_off, push_line, push_words,
+    target_text,
+};
 use std::alloc::Global;
 
 /// Appends the text of a scenario, from which `read` reads it again: each line with all its words, in one order, and
@@ -31,7 +32,9 @@ pub fn write(alloc: Global, scenario: &Scenario, out: &mut Vec<u8>) -> Result<()
     ensures read_back { OnOk result (plan_of (text_of scenario.now) ≡ Ok scenario.now) }
     ensures same { OnErr result (out.new.items ≡ out.old.items) }
 {
+    // Its clause: what is written of a fit scenario is read as that scenario.
     laws::what_is_written_is_read();
+    // Its clause: this scenario is fit.
     scenario.is_fit();
     let mut text = Vec::new(alloc);
     push_scenario(scenario, &mut text)?;
@@ -58,7 +61,11 @@ fn push_scenario(scenario: &Scenario, out: &mut Vec<u8>) -> Result<(), NoMemory>
 fn push_header(version: u8, out: &mut Vec<u8>) -> Result<(), NoMemory>
     ensures { OnOk result (out.new.items ≡ out.old.items ++ header_text version) }
 {
-    push_line(b"clnp-sim", &[number_word(u64::from(version))], out)
+    push_line(
+        Word::Text(b"clnp-sim"),
+        &[Word::Number(u64::from(version))],
+        out,
+    )
 }
 
 /// Appends what is declared.
@@ -76,9 +83,9 @@ fn push_limits(version: u8, limits: &Limits, out: &mut Vec<u8>) -> Result<(), No
     ensures { OnOk result (out.new.items ≡ out.old.items ++ limits_text version limits.now) }
 {
     let words = [
-        number_word(u64::from(limits.age)),
-        number_word(u64::from(limits.hold)),
-        number_word(u64::from(limits.reuse)),
+        Word::Number(u64::from(limits.age)),
+        Word::Number(u64::from(limits.hold)),
+        Word::Number(u64::from(limits.reuse)),
     ];
     push(b"limits", out)?;
     push_words(&words, out)?;
@@ -93,7 +100,7 @@ fn push_skew(version: u8, skew: u16, out: &mut Vec<u8>) -> Result<(), NoMemory>
     if version == 1 {
         return Ok(());
     }
-    push_words(&[number_word(u64::from(skew))], out)
+    push_words(&[Word::Number(u64::from(skew))], out)
 }
 
 fn push_subnets(subnets: &[Subnet], out: &mut Vec<u8>) -> Result<(), NoMemory>
@@ -102,9 +109,9 @@ fn push_subnets(subnets: &[Subnet], out: &mut Vec<u8>) -> Result<(), NoMemory>
     for subnet in subnets {
         let words = [
             Word::Text(subnet.name()),
-            number_word(u64::from(subnet.mtu)),
+            Word::Number(u64::from(subnet.mtu)),
         ];
-        push_line(b"subnet", &words, out)?;
+        push_line(Word::Text(b"subnet"), &words, out)?;
     }
     Ok(())
 }
@@ -126,20 +133,20 @@ fn push_system(system: &SystemConfig, out: &mut Vec<u8>) -> Result<(), NoMemory>
     let settings = system.settings();
     let words = [
         Word::Text(system.name()),
-        role_word(system.role()),
-        Word::Number(b"hello=", u64::from(settings.hello)),
-        Word::Number(b"suggest=", u64::from(settings.suggest)),
-        Word::Number(b"rhold=", u64::from(settings.rhold)),
-        Word::Number(b"slots=", u64::from(settings.slots)),
-        Word::Number(b"segments=", u64::from(settings.segments)),
-        Word::Number(b"budget=", u64::from(settings.budget)),
-        Word::Number(b"neighbours=", u64::from(settings.neighbours)),
-        Word::Number(b"routers=", u64::from(settings.routers)),
-        Word::Number(b"redirects=", u64::from(settings.redirects)),
-        Word::Number(b"life=", u64::from(settings.life)),
-        checksum_word(settings.sealed),
+        role_text(system.role()),
+        Word::KeyedNumber(b"hello=", u64::from(settings.hello)),
+        Word::KeyedNumber(b"suggest=", u64::from(settings.suggest)),
+        Word::KeyedNumber(b"rhold=", u64::from(settings.rhold)),
+        Word::KeyedNumber(b"slots=", u64::from(settings.slots)),
+        Word::KeyedNumber(b"segments=", u64::from(settings.segments)),
+        Word::KeyedNumber(b"budget=", u64::from(settings.budget)),
+        Word::KeyedNumber(b"neighbours=", u64::from(settings.neighbours)),
+        Word::KeyedNumber(b"routers=", u64::from(settings.routers)),
+        Word::KeyedNumber(b"redirects=", u64::from(settings.redirects)),
+        Word::KeyedNumber(b"life=", u64::from(settings.life)),
+        checksum_text(settings.sealed),
     ];
-    push_line(b"system", &words, out)
+    push_line(Word::Text(b"system"), &words, out)
 }
 
 /// Appends what each system has.
@@ -165,6 +172,7 @@ fn push_belongings(
 ) -> Result<(), NoMemory>
     ensures { OnOk result (out.new.items ≡ out.old.items ++ belongings_text subnets.now system.now) }
 {
+    // Its clause: a system has up to eight ports.
     system.is_system();
     push_addresses(system.name(), system.addresses(), out)?;
     push_ports(subnets, system.name(), system.ports(), out)?;
@@ -183,7 +191,11 @@ fn push_addresses(name: &[u8], addresses: &[Address], out: &mut Vec<u8>) -> Resu
 fn push_address<'a>(name: &'a [u8], address: &'a Address, out: &mut Vec<u8>) -> Result<(), NoMemory>
     ensures { OnOk result (out.new.items ≡ out.old.items ++ address_text name.now address.now) }
 {
-    push_line(b"address", &[Word::Text(name), address_word(address)], out)
+    push_line(
+        Word::Text(b"address"),
+        &[Word::Text(name), Word::Address(address)],
+        out,
+    )
 }
 
 /// Appends ports, by their numbers from 0.
@@ -218,12 +230,12 @@ fn push_port<'a>(
 {
     let words = [
         Word::Text(name),
-        number_word(number),
-        subnet_word(subnets, port.subnet),
-        Word::Octets(b"", port.snpa.as_bytes()),
-        number_word(u64::from(port.transit)),
+        Word::Number(number),
+        subnet_name(subnets, port.subnet),
+        Word::Octets(port.snpa.as_bytes()),
+        Word::Number(u64::from(port.transit)),
     ];
-    push_line(b"port", &words, out)
+    push_line(Word::Text(b"port"), &words, out)
 }
 
 fn push_routes(name: &[u8], routes: &[Route], out: &mut Vec<u8>) -> Result<(), NoMemory>
@@ -240,12 +252,12 @@ fn push_route<'a>(name: &'a [u8], route: &'a Route, out: &mut Vec<u8>) -> Result
 {
     let words = [
         Word::Text(name),
-        Word::Digits(&route.prefix),
-        number_word(u64::from(route.port)),
-        Word::Octets(b"", route.snpa.as_bytes()),
-        address_word(&route.title),
+        Word::Prefix(&route.prefix),
+        Word::Number(u64::from(route.port)),
+        Word::Octets(route.snpa.as_bytes()),
+        Word::Address(&route.title),
     ];
-    push_line(b"route", &words, out)
+    push_line(Word::Text(b"route"), &words, out)
 }
 
 fn push_events(
@@ -280,21 +292,28 @@ fn push_event<'a>(
             ask,
         } => {
             let words = [
-                name_word(systems, *system),
-                address_word(from),
-                address_word(to),
-                body_word(body),
+                system_name(systems, *system),
+                Word::Address(from),
+                Word::Address(to),
+                body_text(body),
             ];
             push_send(&words, ask, out)
         }
         Event::Deliver { copy, system } => {
-            let words = [number_word(u64::from(*copy)), name_word(systems, *system)];
-            push_line(b"deliver", &words, out)
+            let words = [
+                Word::Number(u64::from(*copy)),
+                system_name(systems, *system),
+            ];
+            push_line(Word::Text(b"deliver"), &words, out)
         }
-        Event::Settle { count } => push_line(b"settle", &[number_word(u64::from(*count))], out),
-        Event::Lose { count } => push_line(b"lose", &[number_word(u64::from(*count))], out),
-        Event::Tick { count } => push_line(b"tick", &[number_word(u64::from(*count))], out),
-        Event::Restart { system } => push_line(b"restart", &[name_word(systems, *system)], out),
+        Event::Settle { count } => push_count(b"settle", *count, out),
+        Event::Lose { count } => push_count(b"lose", *count, out),
+        Event::Tick { count } => push_count(b"tick", *count, out),
+        Event::Restart { system } => push_line(
+            Word::Text(b"restart"),
+            &[system_name(systems, *system)],
+            out,
+        ),
         Event::Echo {
             system,
             from,
@@ -302,17 +321,17 @@ fn push_event<'a>(
             body,
         } => {
             let words = [
-                name_word(systems, *system),
-                address_word(from),
-                address_word(to),
-                body_word(body),
+                system_name(systems, *system),
+                Word::Address(from),
+                Word::Address(to),
+                body_text(body),
             ];
-            push_line(b"echo", &words, out)
+            push_line(Word::Text(b"echo"), &words, out)
         }
         Event::Congest { system, on } => {
             push_line(
-                b"congest",
-                &[name_word(systems, *system), on_word(*on)],
+                Word::Text(b"congest"),
+                &[system_name(systems, *system), on_or_off(*on)],
                 out,
             )
         }
@@ -323,14 +342,21 @@ fn push_event<'a>(
             octets,
         } => {
             let words = [
-                subnet_word(subnets, *subnet),
-                Word::Octets(b"", from.as_bytes()),
-                target_word(to),
-                Word::Octets(b"", octets.as_bytes()),
+                subnet_name(subnets, *subnet),
+                Word::Octets(from.as_bytes()),
+                target_text(to),
+                Word::Octets(octets.as_bytes()),
             ];
-            push_line(b"inject", &words, out)
+            push_line(Word::Text(b"inject"), &words, out)
         }
     }
+}
+
+/// Appends the line of a keyword and a count.
+fn push_count(keyword: &[u8], count: u32, out: &mut Vec<u8>) -> Result<(), NoMemory>
+    ensures { OnOk result (out.new.items ≡ out.old.items ++ line_of keyword.now (decimal count ∷ [])) }
+{
+    push_line(Word::Text(keyword), &[Word::Number(u64::from(count))], out)
 }
 
 /// Appends the line of a `send`, whose words before the lifetime are given.
@@ -347,7 +373,7 @@ fn push_send<'a>(words: &[Word<'a>], ask: &Ask, out: &mut Vec<u8>) -> Result<(),
 fn push_ask(ask: &Ask, out: &mut Vec<u8>) -> Result<(), NoMemory>
     ensures { OnOk result (out.new.items ≡ out.old.items ++ flat_map behind_space (ask_words ask.now)) }
 {
-    push_words(&[Word::Number(b"life=", u64::from(ask.life))], out)?;
+    push_words(&[Word::KeyedNumber(b"life=", u64::from(ask.life))], out)?;
     push_word_if(!ask.report, b"noreport", out)?;
     push_word_if(!ask.segment, b"whole", out)?;
     push_options(ask.options.as_bytes(), out)
@@ -370,25 +396,11 @@ fn push_options(options: &[u8], out: &mut Vec<u8>) -> Result<(), NoMemory>
     if options.is_empty() {
         return Ok(());
     }
-    push_words(&[Word::Octets(b"opt=", options)], out)
-}
-
-/// The word of a number.
-fn number_word(number: u64) -> Word<'static>
-    ensures { word_text result ≡ decimal number }
-{
-    Word::Number(b"", number)
-}
-
-/// The word of an address.
-fn address_word(address: &Address) -> Word<'_>
-    ensures { word_text result ≡ hex_text address.now }
-{
-    Word::Octets(b"", address.as_bytes())
+    push_words(&[Word::KeyedOctets(b"opt=", options)], out)
 }
 
 /// The word of the name of the system at a place.
-fn name_word(systems: &[SystemConfig], place: u8) -> Word<'_>
+fn system_name(systems: &[SystemConfig], place: u8) -> Word<'_>
     ensures { word_text result ≡ canonical.system_name (slice_get systems.now place) }
 {
     match systems.get(usize::from(place)) {
@@ -398,7 +410,7 @@ fn name_word(systems: &[SystemConfig], place: u8) -> Word<'_>
 }
 
 /// The word of the name of the subnetwork at a place.
-fn subnet_word(subnets: &[Subnet], place: u8) -> Word<'_>
+fn subnet_name(subnets: &[Subnet], place: u8) -> Word<'_>
     ensures { word_text result ≡ canonical.subnet_name (slice_get subnets.now place) }
 {
     match subnets.get(usize::from(place)) {
@@ -407,29 +419,18 @@ fn subnet_word(subnets: &[Subnet], place: u8) -> Word<'_>
     }
 }
 
-/// The word of where a frame goes: to one system, or to a group.
-fn target_word(target: &Target) -> Word<'_>
-    ensures { word_text result ≡ target_word target.now }
-{
-    match target {
-        Target::System(snpa) => Word::Octets(b"", snpa.as_bytes()),
-        Target::EndSystems => Word::Text(b"es"),
-        Target::Routers => Word::Text(b"is"),
-    }
-}
-
 /// The word of data, in the form in which they were read.
-fn body_word(body: &Body) -> Word<'_>
+fn body_text(body: &Body) -> Word<'_>
     ensures { word_text result ≡ canonical.body_text body.now }
 {
     match body {
-        Body::Hex(octets) => Word::Octets(b"hex:", octets.as_bytes()),
+        Body::Hex(octets) => Word::KeyedOctets(b"hex:", octets.as_bytes()),
         Body::Pattern { len, start } => Word::Pattern(*len, *start),
     }
 }
 
 /// The word of whether a system is a host or a router.
-fn role_word(role: Role) -> Word<'static>
+fn role_text(role: Role) -> Word<'static>
     ensures { word_text result ≡ canonical.role_text role }
 {
     match role {
@@ -439,23 +440,12 @@ fn role_word(role: Role) -> Word<'static>
 }
 
 /// The word of whether headers get a checksum.
-fn checksum_word(sealed: bool) -> Word<'static>
+fn checksum_text(sealed: bool) -> Word<'static>
     ensures { word_text result ≡ canonical.checksum_text sealed }
 {
     if sealed {
         Word::Text(b"checksum=on")
     } else {
         Word::Text(b"checksum=off")
-    }
-}
-
-/// The word of whether a router is congested.
-fn on_word(on: bool) -> Word<'static>
-    ensures { word_text result ≡ on_word on }
-{
-    if on {
-        Word::Text(b"on")
-    } else {
-        Word::Text(b"off")
     }
 }

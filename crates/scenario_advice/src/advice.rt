@@ -64,7 +64,7 @@ impl Advice {
         } else {
             self
         };
-        // For its clause: what is said is plain.
+        // Its clause: what is said is plain.
         let _ = advice.as_bytes();
         advice
     }

@@ -1,34 +1,50 @@
 //! What a system lacks at the line `events`.
 use crate::advice::Advice;
-use crate::place::{Place, begins, number_at, same, word_at};
-use scenario::clnp_base::lines;
+use crate::place::{Place, number_at, same};
+use scenario::clnp_base::{lines, next_word};
+
+/// The most systems of a scenario.
+const MOST: usize = 64;
 
 /// What the lines before another give a system.
-#[derive(Drop)]
-struct Given {
+#[derive(Clone, Copy)]
+struct Given<'a> {
+    /// The system's name; empty where there is no system.
+    name: &'a [u8],
     has_address: bool,
     /// A bit for each number of a port.
     ports: u8,
 }
 
-impl Given {
-    /// What one line more gives the system of a name.
-    fn add(&mut self, name: &[u8], line: &[u8]) {
-        match word_at(line, 2) {
-            Some(word) if same(word, name) => {}
-            _ => return,
+impl<'a> Given<'a> {
+    /// A system to which nothing is given yet.
+    fn nothing(name: &'a [u8]) -> Given<'a> {
+        Given {
+            name,
+            has_address: false,
+            ports: 0,
         }
-        if begins(line, b"address") {
-            self.has_address = true;
+    }
+
+    /// What the system has with an address more.
+    fn with_address(self) -> Given<'a> {
+        Given {
+            has_address: true,
+            ..self
         }
-        if begins(line, b"port") {
-            self.ports |= bit_of(line);
+    }
+
+    /// What the system has with the port of a line more.
+    fn with_port(self, line: &[u8]) -> Given<'a> {
+        Given {
+            ports: self.ports | bit_of(line),
+            ..self
         }
     }
 
     /// What the system lacks, if it lacks anything.
-    fn lack(&self, name: &[u8]) -> Option<Advice> {
-        let advice = Advice::of("system ").octets(name).text(" has no ");
+    fn lack(self) -> Option<Advice> {
+        let advice = Advice::of("system ").octets(self.name).text(" has no ");
         if !self.has_address {
             return Some(advice.text("address"));
         }
@@ -75,38 +91,77 @@ fn first_gap(ports: u8) -> Option<u64> {
     None
 }
 
-/// What is said at the line `events`: the first system that isn't complete.
+/// What is said at the line `events`: the first system that isn't complete. The lines before it are read once.
 pub(crate) fn of_systems(at: Place<'_>) -> Option<Advice> {
+    let mut systems = [Given::nothing(b""); MOST];
     let mut number: u32 = 1;
     for line in lines(at.text) {
         if number >= at.number {
-            return None;
+            break;
         }
-        if begins(line, b"system") {
-            let name = word_at(line, 2)?;
-            let lack = given_to(at, name).lack(name);
-            if lack.is_some() {
-                return lack;
-            }
-        }
+        take_in(&mut systems, line);
         number = number.saturating_add(1);
     }
-    None
+    first_lack(&systems)
 }
 
-/// What the lines before another give the system of a name.
-fn given_to(at: Place<'_>, name: &[u8]) -> Given {
-    let mut given = Given {
-        has_address: false,
-        ports: 0,
+/// Takes in a line that declares a system, or gives one an address or a port.
+fn take_in<'a>(systems: &mut [Given<'a>], line: &'a [u8]) {
+    let Some((keyword, others)) = next_word(line) else {
+        return;
     };
-    let mut number: u32 = 1;
-    for line in lines(at.text) {
-        if number >= at.number {
-            return given;
-        }
-        given.add(name, line);
-        number = number.saturating_add(1);
+    let Some((name, _)) = next_word(others) else {
+        return;
+    };
+    if same(keyword, b"system") {
+        declare(systems, name);
+    } else if same(keyword, b"address") {
+        give_address(systems, name);
+    } else if same(keyword, b"port") {
+        give_port(systems, name, line);
     }
-    given
+}
+
+/// Puts a system behind those that are declared.
+fn declare<'a>(systems: &mut [Given<'a>], name: &'a [u8]) {
+    for system in systems.iter_mut() {
+        if system.name.is_empty() {
+            *system = Given::nothing(name);
+            return;
+        }
+    }
+}
+
+/// Gives the system of a name an address.
+fn give_address(systems: &mut [Given<'_>], name: &[u8]) {
+    for system in systems.iter_mut() {
+        if same(system.name, name) {
+            *system = system.with_address();
+            return;
+        }
+    }
+}
+
+/// Gives the system of a name the port of a line.
+fn give_port(systems: &mut [Given<'_>], name: &[u8], line: &[u8]) {
+    for system in systems.iter_mut() {
+        if same(system.name, name) {
+            *system = system.with_port(line);
+            return;
+        }
+    }
+}
+
+/// What the first system lacks that isn't complete, in the order of their declarations.
+fn first_lack(systems: &[Given<'_>]) -> Option<Advice> {
+    for system in systems {
+        if system.name.is_empty() {
+            return None;
+        }
+        let lack = system.lack();
+        if lack.is_some() {
+            return lack;
+        }
+    }
+    None
 }
