@@ -235,15 +235,8 @@ impl Router {
                 let from = passing.head.as_bytes().len();
                 let before = out.len();
                 self.entity
-                    .pass_on(alloc, frame, from, passing.len, cuts, way.hop(), out)?;
-                if let Err(refused) = self.redirect(
-                    alloc,
-                    came,
-                    passing,
-                    towards_title,
-                    &way,
-                    out,
-                ) {
+                    .pass_on(frame, from, passing.len, cuts, way.hop(), out)?;
+                if let Err(refused) = self.redirect(came, passing, towards_title, &way, out) {
                     out.truncate(before);
                     return Err(refused);
                 }
@@ -307,7 +300,6 @@ impl Router {
     /// it came, where its source is known to be (ISO 9542, section 6.8).
     fn redirect(
         &mut self,
-        alloc: Global,
         came: &Place,
         passing: &Passing,
         towards_title: bool,
@@ -326,7 +318,7 @@ impl Router {
     {
         if self.is_redirected(came, passing, towards_title, way) {
             let place = *came;
-            return self.entity.redirect(alloc, place, &passing.to, way, out);
+            return self.entity.redirect(place, &passing.to, way, out);
         }
         Ok(())
     }

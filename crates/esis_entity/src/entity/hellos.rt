@@ -5,6 +5,7 @@ ghost use Rattle.clnp_machine.specs.Given.{Appends};
 ghost use Rattle.clnp_machine.specs.System.{SystemState};
 ghost use Rattle.clnp_machine.specs.EsisPdus.Grammar.{Spells};
 ghost use Rattle.clnp_machine.specs.EsisPdus.Making.{esh_length};
+ghost use Rattle.esis_entity.specs.Does.{StaysInFront};
 
 use super::output::send;
 use clnp_machine::clnp_base::NoMemory;
@@ -19,8 +20,9 @@ pub fn say_everywhere(
     period: u16,
     out: &mut Vec<Output>,
 ) -> Result<(), NoMemory>
-    ensures { OnOk result ((s : SystemState) (moment : ℕ) → s.configuration ≡ config.now → s.hello ≡ period
+    ensures said { OnOk result ((s : SystemState) (moment : ℕ) → s.configuration ≡ config.now → s.hello ≡ period
         → Appends moment out.old.items out.new.items (hello_everywhere s)) }
+    ensures front { StaysInFront out.old.items out.new.items }
 {
     let pdu = hello(config, period);
     for port in 0..port_count(config) {
