@@ -49,6 +49,7 @@ pub fn send_unit(
     let Some(hop) = hop else {
         return note(Reason::DestinationUnknown, out);
     };
+    // Its clause: each port takes 512 octets at least.
     config.is_system();
     let Some(port) = config.ports().get(usize::from(hop.port)) else {
         return note(Reason::DestinationUnknown, out);

@@ -280,6 +280,7 @@ impl Router {
             return Err(Reason::PathNotAcceptable);
         }
         let config = self.entity.config();
+        // Its clause: each port takes 512 octets at least.
         config.is_system();
         let Some(port) = config.ports().get(usize::from(way.port)) else {
             return Err(Reason::DestinationUnknown);
@@ -292,6 +293,7 @@ impl Router {
         ensures { (s : SystemState) → Stands self.now s → result.now ≡ title_of s }
     {
         let config = self.entity.config();
+        // Its clause: a router has one address.
         config.is_system();
         &config.addresses()[0]
     }
@@ -373,6 +375,13 @@ impl Router {
         ensures { (s : SystemState) → Stands self.now s → way_option result ≡ way_of s to.now }
     {
         self.entity.way(to)
+    }
+
+    /// It is a router. The function does nothing: its clause tells this to callers.
+    pub fn is_router(&self)
+        ensures { self.now.entity.local.configuration.role ≡ IsRouter }
+    {
+        let _entity = &self.entity;
     }
 
     /// What the scenario says of it.

@@ -12,7 +12,7 @@ use clnp_machine::clnp_views::Head;
 use clnp_machine::nsap::Target;
 
 /// Gives out a note.
-pub fn give_note(note: Note, out: &mut Vec<Output>) -> Result<(), NoMemory>
+pub(crate) fn give_note(note: Note, out: &mut Vec<Output>) -> Result<(), NoMemory>
     ensures given { OnOk result ((moment : ℕ) → Appends moment out.old.items out.new.items (Notes note ∷ [])) }
     ensures front { StaysInFront out.old.items out.new.items }
 {
@@ -21,7 +21,7 @@ pub fn give_note(note: Note, out: &mut Vec<Output>) -> Result<(), NoMemory>
 }
 
 /// Gives out the frame of a PDU.
-pub fn send(port: u8, to: Target, pdu: Head, out: &mut Vec<Output>) -> Result<(), NoMemory>
+pub(crate) fn send(port: u8, to: Target, pdu: Head, out: &mut Vec<Output>) -> Result<(), NoMemory>
     ensures given { OnOk result ((moment : ℕ) (value : EsisValue) → Spells value pdu
         → Appends moment out.old.items out.new.items (SendsEsis port to value ∷ [])) }
     ensures none { OnErr result (out.new.items ≡ out.old.items) }

@@ -372,6 +372,7 @@ pub(super) fn routes_of(alloc: Global, config: &SystemConfig) -> Result<Routes, 
     ensures { IfOk result (λ routes. routing.Stands routes config.now.routes) }
 {
     clnp_machine::forwarding::laws::one_place_is_twice();
+    // Its clause: no two routes have one prefix.
     config.is_system();
     match Routes::from_list(alloc, config.routes()) {
         Ok(routes) => Ok(routes),
@@ -437,5 +438,6 @@ fn octets_have_content(octets: &[u8])
     ensures { (content : Content) × IsCarried content × (frame_of content ≡ octets.now) }
 {
     laws::octets_have_a_content();
+    // Each item of a slice that is used is an octet.
     let _len = octets.len();
 }
