@@ -90,11 +90,11 @@ impl System {
     {
         match self {
             System::Host(host) => {
-                host.config();
+                host.is_host();
                 Some(host)
             }
             System::Router(router) => {
-                router.config();
+                router.is_router();
                 None
             }
         }
@@ -108,11 +108,11 @@ impl System {
     {
         match self {
             System::Host(host) => {
-                host.config();
+                host.is_host();
                 None
             }
             System::Router(router) => {
-                router.config();
+                router.is_router();
                 Some(router)
             }
         }

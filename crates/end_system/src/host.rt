@@ -258,6 +258,13 @@ impl EndSystem {
         }
     }
 
+    /// It is a host. The function does nothing: its clause tells this to callers.
+    pub fn is_host(&self)
+        ensures { self.now.entity.local.configuration.role ≡ Host }
+    {
+        let _entity = &self.entity;
+    }
+
     /// What the scenario says of it.
     pub fn config(&self) -> &SystemConfig
         ensures config { result.now ≡ self.now.entity.local.configuration }

@@ -1,6 +1,7 @@
 mod Effects
 mod Hearing
 mod Forgetting
+mod Fronts
 mod Lengths
 mod LookingUp
 mod Redirects

@@ -1,5 +1,5 @@
 -- What the entity's parts do.
-use Rattle.std.specs.Prelude.{◌≡◌, ℕ, Bool, List}
+use Rattle.std.specs.Prelude.{◌≡◌, ℕ, Bool, List, length, take}
 use Rattle.std.specs.List.{list_any}
 use Rattle.clnp_machine.specs.ClnpPlan.declared.output.Output.{Output}
 use Rattle.clnp_machine.specs.Esis.{tells_new}
@@ -18,3 +18,7 @@ pub record Hears (moment : ℕ) (entity : EsisState) (before after : List Output
     : Type 0 where
   pub does : Does moment entity before after effect
   pub new_is : new ≡ list_any tells_new effect.outputs
+
+-- what a list held stays in front
+abbrev pub StaysInFront : List Output → List Output → Type 0
+StaysInFront before after = take (length before) after ≡ before

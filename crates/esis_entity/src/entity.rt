@@ -1,5 +1,5 @@
 //! The configuration entity of a system.
-ghost use Rattle.std.specs.Prelude.{◌≡◌, ◌≤◌, ◌<◌, ◌^◌, ℕ, IfOk, OnOk};
+ghost use Rattle.std.specs.Prelude.{◌≡◌, ◌≤◌, ◌<◌, ◌^◌, ℕ, IfOk, OnOk, OnErr};
 ghost use Rattle.clnp_machine.specs.ClnpOptions.Parameter.{parameters};
 ghost use Rattle.clnp_machine.specs.EsisPdus.Value.{suggested};
 ghost use Rattle.clnp_machine.specs.EsisPdus.View.{pdu_value};
@@ -10,10 +10,11 @@ ghost use Rattle.clnp_machine.specs.Given.{Appends};
 ghost use Rattle.clnp_machine.specs.ClnpPlan.declared.config.Limits.{Limits};
 ghost use Rattle.clnp_machine.specs.Local.{restarted};
 ghost use Rattle.clnp_machine.specs.System.{SystemState, first_state, then_does};
+ghost use Rattle.esis_entity.specs.Does.{StaysInFront};
 ghost use Rattle.esis_entity.specs.Stands.{Stands, StandsSince};
 
 use clnp_machine::clnp_base::NoMemory;
-use clnp_machine::clnp_plan::{Output, Role, SystemConfig};
+use clnp_machine::clnp_plan::{Output, SystemConfig};
 use clnp_machine::esis_pdus::EsisPdu;
 use clnp_machine::esis_tables::{EsisLimits, Place, Tables};
 use clnp_machine::nsap::{Address, Target};
@@ -21,7 +22,6 @@ use hellos::hello;
 use output::send;
 use std::alloc::Global;
 use std::marker::Model;
-use telling::forget;
 
 mod hearing;
 mod hellos;
@@ -77,7 +77,7 @@ impl EsisEntity {
     ///
     /// # Errors
     ///
-    /// `NoMemory`; of the entity and of what was appended nothing is promised then.
+    /// `NoMemory`: `out` is then as it was; of the entity nothing is promised.
     pub fn hear(
         &mut self,
         config: &SystemConfig,
@@ -93,26 +93,31 @@ impl EsisEntity {
         ensures outputs { OnOk result ((s : SystemState) → Stands self.old s → s.configuration ≡ config.now
             → s.moment ≡ now
             → Appends now out.old.items out.new.items (esis_comes s place (pdu_value pdu.entry)).outputs) }
+        ensures none { OnErr result (out.new.items ≡ out.old.items) }
     {
-        match config.role() {
-            Role::Host => self.hear_as_host(config, now, place, pdu, out),
-            Role::Router => self.hear_as_router(config, now, place, pdu, out),
+        let before = out.len();
+        if let Err(refused) = self.hear_in_role(config, now, place, pdu, out) {
+            out.truncate(before);
+            return Err(refused);
         }
+        Ok(())
     }
 
     /// Tells a system at a place of one's own, unless no hellos are said at all (section 6.6).
     ///
     /// # Errors
     ///
-    /// `NoMemory`; of what was appended nothing is promised then.
+    /// `NoMemory`: `out` is then as it was.
     pub fn tell(
         &self,
         config: &SystemConfig,
         place: Place,
         out: &mut Vec<Output>,
     ) -> Result<(), NoMemory>
-        ensures { OnOk result ((s : SystemState) (moment : ℕ) → Stands self.now s → s.configuration ≡ config.now
+        ensures told { OnOk result ((s : SystemState) (moment : ℕ) → Stands self.now s → s.configuration ≡ config.now
             → Appends moment out.old.items out.new.items (tells_of_itself s place.port place.snpa).outputs) }
+        ensures none { OnErr result (out.new.items ≡ out.old.items) }
+        ensures front { StaysInFront out.old.items out.new.items }
     {
         if self.period == 0 {
             return Ok(());
@@ -126,7 +131,7 @@ impl EsisEntity {
     ///
     /// # Errors
     ///
-    /// `NoMemory`; of the entity and of what was appended nothing is promised then.
+    /// `NoMemory`: `out` is then as it was; of the entity nothing is promised.
     pub fn tick(
         &mut self,
         config: &SystemConfig,
@@ -140,9 +145,14 @@ impl EsisEntity {
         ensures outputs { OnOk result ((s : SystemState) (before : ℕ) → StandsSince before self.old s
             → s.configuration ≡ config.now → s.moment ≡ now → before ≤ now
             → Appends now out.old.items out.new.items (then_does (forgets before s) says_hello).outputs) }
+        ensures none { OnErr result (out.new.items ≡ out.old.items) }
     {
-        forget(&mut self.tables, now, out)?;
-        self.say_hello(config, now, out)
+        let before = out.len();
+        if let Err(refused) = self.forget_and_say(config, now, out) {
+            out.truncate(before);
+            return Err(refused);
+        }
+        Ok(())
     }
 
     /// Forgets what was heard; the first hello is due again.

@@ -1,5 +1,5 @@
 //! What a router tells of better ways (ISO 9542, section 6.8).
-ghost use Rattle.std.specs.Prelude.{◌≡◌, ◌∷◌, [], OnOk, ℕ};
+ghost use Rattle.std.specs.Prelude.{◌≡◌, ◌∷◌, [], OnOk, OnErr, ℕ};
 ghost use Rattle.std.specs.Option.{option_copied};
 ghost use Rattle.clnp_machine.specs.Nsap.declared.target.Target.TheVariants.{System};
 ghost use Rattle.clnp_machine.specs.Esis.{redirect};
@@ -19,7 +19,7 @@ use clnp_machine::nsap::{Address, Snpa, Target};
 ///
 /// # Errors
 ///
-/// `NoMemory`; of what was appended nothing is promised then.
+/// `NoMemory`: `out` is then as it was.
 pub fn send_redirect(
     config: &SystemConfig,
     place: Place,
@@ -28,9 +28,10 @@ pub fn send_redirect(
     title: Option<&Address>,
     out: &mut Vec<Output>,
 ) -> Result<(), NoMemory>
-    ensures { OnOk result ((s : SystemState) (moment : ℕ) → s.configuration ≡ config.now
+    ensures told { OnOk result ((s : SystemState) (moment : ℕ) → s.configuration ≡ config.now
         → Appends moment out.old.items out.new.items
         (SendsEsis place.port (System place.snpa) (redirect s to.now via.now (option_copied title.entry)) ∷ [])) }
+    ensures none { OnErr result (out.new.items ≡ out.old.items) }
 {
     let settings = config.settings();
     let pdu = rd(settings.rhold, to, via, title, settings.sealed);

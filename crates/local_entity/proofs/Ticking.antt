@@ -6,6 +6,7 @@ use Rattle.clnp_machine.proofs.ClnpBase.Filters.{filter-fewer}
 use Rattle.clnp_machine.specs.ClnpViews.Extent.{Extent}
 use Rattle.clnp_machine.specs.Reassembly.Arrival.{same_key}
 use Rattle.clnp_machine.specs.Reassembly.Buffer.{Buffer, due, is_whole, without, without_due}
+use Rattle.clnp_machine.specs.Reassembly.NoWhole.{HasNoWhole}
 use Rattle.clnp_machine.specs.Reassembly.State as table
 use Rattle.clnp_machine.specs.Reassembly.State.{IsReady, TableState}
 use Rattle.clnp_machine.specs.System.{SystemState}
@@ -101,13 +102,13 @@ fewer-without_due now buffers (Some ended) e some =
     subst (λ (l : List (Buffer Extent)). length (without ended.key l) < length l) (sym is.stands_there)
     (filter-fewer (λ (b : Buffer Extent). not (same_key b.key ended.key)) is.before ended is.behind (ap not (same_key-like ended.key ended.key refl)))
 
-pub left_first : (before : ℕ) (now_table : TableState) (live : ℕ) → IsReady before now_table
+pub left_first : (now_table : TableState) (live : ℕ) → HasNoWhole now_table
     → ((buffers : List (Buffer Extent)) → table.Stands now_table buffers → live ≡ length buffers) → IsLeft now_table 0 live
-left_first before now_table live ready live_is = record {
-  buffers = ready.buffers;
-  stands = ready.stands;
-  none_whole = ready.ready.none_whole;
-  fewer = (let e = live_is ready.buffers ready.stands in omega arith);
+left_first now_table live has live_is = record {
+  buffers = has.buffers;
+  stands = has.stands;
+  none_whole = has.none_whole;
+  fewer = (let e = live_is has.buffers has.stands in omega arith);
 }
 
 module _ (mid later : TableState) (now n live : ℕ) (left : IsLeft mid n live) where

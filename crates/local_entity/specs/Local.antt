@@ -1,6 +1,6 @@
 -- What the entity of a system at its own addresses stands for, and what it does.
 use Rattle.std.specs.Prelude.{◌≡◌, List, [], ◌∷◌, ◌++◌, Option, None, Some}
-use Rattle.std.specs.List.{AllByRecursion}
+use Rattle.std.specs.List.{AllByRecursion, AllZip}
 use Rattle.clnp_machine.specs.ClnpViews.Extent.{Extent, seen}
 use Rattle.clnp_machine.specs.PduHeader.Headers.{SpellsHeader}
 use Rattle.clnp_machine.specs.Reassembly.Buffer.{Buffer}
@@ -32,10 +32,7 @@ pub record IsRequest (request : Request) (u : unit.Unit) : Type 0 where
 
 -- the noted requests are these, one by one
 abbrev pub AreRequests : List Request → List unit.Unit → Type 0
-AreRequests [] [] = Unit {0}
-AreRequests (request ∷ requests) (u ∷ units) = IsRequest request u × AreRequests requests units
-AreRequests [] (u ∷ units) = ⊥
-AreRequests (request ∷ requests) [] = ⊥
+AreRequests requests units = AllZip IsRequest requests units
 
 -- An entity stands for the state of a system, whatever its place and its moment.
 pub record Stands (entity : EntityState) (s : SystemState) : Type 0 where
@@ -68,10 +65,7 @@ Does (Noted note) (machine.Sends u) = ⊥
 Does (Send made) (machine.Tells told) = ⊥
 
 abbrev pub DoAll : List Action → List machine.Action → Type 0
-DoAll [] [] = Unit {0}
-DoAll (action ∷ actions) (other ∷ others) = Does action other × DoAll actions others
-DoAll [] (other ∷ others) = ⊥
-DoAll (action ∷ actions) [] = ⊥
+DoAll actions others = AllZip Does actions others
 
 -- actions that are these ones of the model were appended
 pub record Appends (before after : List Action) (others : List machine.Action) : Type 0 where

@@ -26,7 +26,7 @@ pub enum Action {
 /// A unit that is about to be made: its kind, its identifier where it has one, its source and its destination, the header of
 /// its initial PDU, and its data.
 #[derive(Drop)]
-pub struct Draft {
+pub(crate) struct Draft {
     pub kind: Kind,
     pub id: Option<u16>,
     pub from: Address,

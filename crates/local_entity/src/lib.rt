@@ -8,9 +8,11 @@ mod local;
 mod pending;
 mod pool;
 mod purpose;
+mod refusal;
 mod sending;
 
 pub use action::{Action, Made};
 pub use local::Local;
 pub use pool::{DrawRefusal, IdPool};
+pub use refusal::refusal_note;
 pub use sending::{Hop, give_pieces, send_unit};

@@ -55,9 +55,13 @@ impl Model for Local {
 
     ghost Value = { EntityState };
 
+    ghost use Rattle.std.specs.Prelude.{◌≤◌};
     ghost use Rattle.local_entity.specs.Seen.{state_of};
 
     ghost view = { state_of };
+
+    // A buffer that is kept no time would be due at once.
+    ghost invariant = { λ l. 1 ≤ l.table.limits.hold };
 }
 
 impl Local {
@@ -73,10 +77,10 @@ impl Local {
         limits: &Limits,
         quiet: u64,
     ) -> Result<Local, NoMemory>
-        requires { quiet ≤ 2 ^ 62 + 16384 }
+        requires hold { 1 ≤ limits.now.hold }
+        requires quiet { quiet ≤ 2 ^ 62 + 16384 }
         ensures stands { IfOk result (λ local. (place now : ℕ) → Stands local (first_state place config.now limits.now now quiet)) }
         ensures ready { IfOk result (λ local. (now : ℕ) → IsReady now local.table) }
-        ensures hold { IfOk result (λ local. local.table.limits.hold ≡ limits.now.hold) }
     {
         let settings = config.settings();
         let table_limits = TableLimits {
@@ -303,7 +307,6 @@ impl Local {
         requires { now < 2 ^ 62 }
         ensures stands { (s : SystemState) → Stands self.old s → s.moment ≡ now → Stands self.new (machine.restarted s) }
         ensures config { self.new.configuration ≡ self.old.configuration }
-        ensures limits { self.new.table.limits ≡ self.old.table.limits }
         ensures ready { (moment : ℕ) → IsReady moment self.new.table }
     {
         self.pool.restart(now);

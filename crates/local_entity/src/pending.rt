@@ -20,7 +20,7 @@ const MOST: usize = 8;
 
 /// An echo request that was made: its number among the system's units, its source and its destination, and its data.
 #[derive(Drop)]
-pub struct Request {
+pub(crate) struct Request {
     pub unit: u64,
     pub from: Address,
     pub to: Address,
@@ -29,7 +29,7 @@ pub struct Request {
 
 /// The echo requests of a system that are still to be answered, the oldest first.
 #[derive(Drop)]
-pub struct Pending {
+pub(crate) struct Pending {
     requests: Vec<Request>,
 }
 
@@ -51,7 +51,7 @@ impl Request {
     /// # Errors
     ///
     /// `NoMemory`, where a further owner of the data is refused.
-    pub fn of(
+    pub(crate) fn of(
         kind: Kind,
         unit: u64,
         from: Address,
@@ -87,7 +87,7 @@ impl Pending {
     /// # Errors
     ///
     /// `NoMemory`.
-    pub fn new(alloc: Global) -> Result<Pending, NoMemory>
+    pub(crate) fn new(alloc: Global) -> Result<Pending, NoMemory>
         ensures { IfOk result (λ pending. pending ≡ []) }
     {
         let Ok(requests) = Vec::with_capacity(alloc, MOST) else {
@@ -97,7 +97,7 @@ impl Pending {
     }
 
     /// Notes a unit that was made, where it is a request; where there are eight before it, the oldest goes.
-    pub fn note(&mut self, request: Option<Request>)
+    pub(crate) fn note(&mut self, request: Option<Request>)
         ensures { (kind : KindOf) (pending : List unit.Unit) (u : unit.Unit) (noted : Request) → AreRequests self.old pending
             → request ≡ request_of kind noted → IsRequest noted u → AreRequests self.new (with_made kind pending u) }
     {
@@ -111,7 +111,7 @@ impl Pending {
     }
 
     /// Takes out the oldest request that a reply between two addresses with these data answers, and gives its number.
-    pub fn take(&mut self, from: &Address, to: &Address, body: &[u8]) -> Option<u64>
+    pub(crate) fn take(&mut self, from: &Address, to: &Address, body: &[u8]) -> Option<u64>
         ensures number { (pending : List unit.Unit) → AreRequests self.old pending
             → result ≡ option_map (λ u. u.number) (find (is_answer from.now to.now body.now) pending) }
         ensures left { (pending : List unit.Unit) → AreRequests self.old pending
@@ -131,7 +131,7 @@ impl Pending {
     }
 
     /// Forgets all requests.
-    pub fn clear(&mut self)
+    pub(crate) fn clear(&mut self)
         ensures { self.new ≡ [] }
     {
         self.requests.clear();

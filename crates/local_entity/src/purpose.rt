@@ -10,7 +10,7 @@ use clnp_machine::pdu_header::{Kind, Pdu};
 
 /// What a unit is for, once it is whole.
 #[derive(Clone, Copy, PartialEq, Eq)]
-pub enum Purpose {
+pub(crate) enum Purpose {
     /// Its data are handed up.
     Data,
     /// It tells why a PDU was discarded, and the place of the octet at fault (ISO/IEC 8473, section 7.9.5).
@@ -22,7 +22,7 @@ pub enum Purpose {
 }
 
 /// What the unit of a PDU is for, where this PDU makes it whole.
-pub fn purpose_in(pdu: &Pdu<'_>) -> Purpose
+pub(crate) fn purpose_in(pdu: &Pdu<'_>) -> Purpose
     requires { IsPdu (pdu_value pdu.now) }
     ensures { result ≡ purpose_of pdu.now.kind (parameters pdu.now.options.now) }
 {

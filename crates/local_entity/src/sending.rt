@@ -1,6 +1,6 @@
 //! PDUs that go out in pieces, cut for the MTU of a port (ISO/IEC 8473, section 6.7): a unit that was made here, or a PDU that
 //! is forwarded.
-ghost use Rattle.std.specs.Prelude.{◌≡◌, ◌≤◌, ◌+◌, ◌++◌, [], ◌∷◌, IfOk, OnOk, Some, map};
+ghost use Rattle.std.specs.Prelude.{◌≡◌, ◌≤◌, ◌+◌, ◌++◌, [], ◌∷◌, IfOk, OnOk, OnErr, Some, length, map, take};
 ghost use Rattle.std.specs.List.{AllByRecursion};
 ghost use Rattle.clnp_machine.specs.Given.{Appends};
 ghost use Rattle.clnp_machine.specs.Local.{Sends};
@@ -34,7 +34,7 @@ pub struct Hop {
 ///
 /// # Errors
 ///
-/// `NoMemory`; some of the pieces may have been appended.
+/// `NoMemory`: `out` is then as it was.
 pub fn send_unit(
     made: &Made,
     hop: Option<Hop>,
@@ -42,12 +42,14 @@ pub fn send_unit(
     out: &mut Vec<Output>,
 ) -> Result<(), NoMemory>
     requires { (u : Unit) × Does (Send made.now) (Sends u) }
-    ensures { OnOk result ((s : SystemState) (u : Unit) → config.now ≡ s.configuration → Does (Send made.now) (Sends u)
+    ensures sent { OnOk result ((s : SystemState) (u : Unit) → config.now ≡ s.configuration → Does (Send made.now) (Sends u)
         → u.first_position ≡ 0 → Appends u.made out.old.items out.new.items (first_sent s u (hop_option hop))) }
+    ensures none { OnErr result (out.new.items ≡ out.old.items) }
 {
     let Some(hop) = hop else {
         return note(Reason::DestinationUnknown, out);
     };
+    // Its clause: each port takes 512 octets at least.
     config.is_system();
     let Some(port) = config.ports().get(usize::from(hop.port)) else {
         return note(Reason::DestinationUnknown, out);
@@ -59,8 +61,9 @@ pub fn send_unit(
 fn send_on(made: &Made, hop: Hop, port: &PortConfig, out: &mut Vec<Output>) -> Result<(), NoMemory>
     requires made { (u : Unit) × Does (Send made.now) (Sends u) }
     requires least { 512 ≤ port.now.mtu }
-    ensures { OnOk result ((u : Unit) → Does (Send made.now) (Sends u) → u.first_position ≡ 0
+    ensures sent { OnOk result ((u : Unit) → Does (Send made.now) (Sends u) → u.first_position ≡ 0
         → Appends u.made out.old.items out.new.items (sent_on (machine_hop hop) (Some port.now) u)) }
+    ensures none { OnErr result (out.new.items ≡ out.old.items) }
 {
     let octets = made.body.bytes().len();
     match Cuts::new(made.head, octets, port.mtu) {
@@ -73,7 +76,7 @@ fn send_on(made: &Made, hop: Hop, port: &PortConfig, out: &mut Vec<Output>) -> R
 ///
 /// # Errors
 ///
-/// `NoMemory`; some of the pieces may have been appended.
+/// `NoMemory`: `out` is then as it was.
 pub fn give_pieces(
     cuts: Cuts,
     hop: Hop,
@@ -82,7 +85,28 @@ pub fn give_pieces(
     out: &mut Vec<Output>,
 ) -> Result<(), NoMemory>
     requires { AllByRecursion (IsCutOf body.now.len) cuts }
-    ensures { OnOk result (out.new.items ≡ out.old.items ++ map (transmission forwarded hop body.now) cuts) }
+    ensures given { OnOk result (out.new.items ≡ out.old.items ++ map (transmission forwarded hop body.now) cuts) }
+    ensures none { OnErr result (out.new.items ≡ out.old.items) }
+{
+    let before = out.len();
+    if let Err(refused) = push_pieces(cuts, hop, body, forwarded, out) {
+        out.truncate(before);
+        return Err(refused);
+    }
+    Ok(())
+}
+
+/// Appends the pieces of a PDU with these data; where memory is refused some of them stay.
+fn push_pieces(
+    cuts: Cuts,
+    hop: Hop,
+    body: &View,
+    forwarded: bool,
+    out: &mut Vec<Output>,
+) -> Result<(), NoMemory>
+    requires { AllByRecursion (IsCutOf body.now.len) cuts }
+    ensures given { OnOk result (out.new.items ≡ out.old.items ++ map (transmission forwarded hop body.now) cuts) }
+    ensures front { OnErr result (take (length out.old.items) out.new.items ≡ out.old.items) }
 {
     for cut in cuts {
         out.push(Output::Transmit(sending(&cut, hop, body, forwarded)?))?;
@@ -106,7 +130,8 @@ fn sending(cut: &Cut, hop: Hop, body: &View, forwarded: bool) -> Result<Sending,
 
 /// Notes that a unit is discarded for a reason, for which no place in it is told.
 fn note(reason: Reason, out: &mut Vec<Output>) -> Result<(), NoMemory>
-    ensures { OnOk result (out.new.items ≡ out.old.items ++ Noted (Discard (reason_code reason) 0) ∷ []) }
+    ensures noted { OnOk result (out.new.items ≡ out.old.items ++ Noted (Discard (reason_code reason) 0) ∷ []) }
+    ensures none { OnErr result (out.new.items ≡ out.old.items) }
 {
     let reason = reason.code();
     out.push(Output::Note(Note::Discard { reason, place: 0 }))?;

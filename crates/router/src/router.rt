@@ -235,15 +235,8 @@ impl Router {
                 let from = passing.head.as_bytes().len();
                 let before = out.len();
                 self.entity
-                    .pass_on(alloc, frame, from, passing.len, cuts, way.hop(), out)?;
-                if let Err(refused) = self.redirect(
-                    alloc,
-                    came,
-                    passing,
-                    towards_title,
-                    &way,
-                    out,
-                ) {
+                    .pass_on(frame, from, passing.len, cuts, way.hop(), out)?;
+                if let Err(refused) = self.redirect(came, passing, towards_title, &way, out) {
                     out.truncate(before);
                     return Err(refused);
                 }
@@ -287,6 +280,7 @@ impl Router {
             return Err(Reason::PathNotAcceptable);
         }
         let config = self.entity.config();
+        // Its clause: each port takes 512 octets at least.
         config.is_system();
         let Some(port) = config.ports().get(usize::from(way.port)) else {
             return Err(Reason::DestinationUnknown);
@@ -299,6 +293,7 @@ impl Router {
         ensures { (s : SystemState) → Stands self.now s → result.now ≡ title_of s }
     {
         let config = self.entity.config();
+        // Its clause: a router has one address.
         config.is_system();
         &config.addresses()[0]
     }
@@ -307,7 +302,6 @@ impl Router {
     /// it came, where its source is known to be (ISO 9542, section 6.8).
     fn redirect(
         &mut self,
-        alloc: Global,
         came: &Place,
         passing: &Passing,
         towards_title: bool,
@@ -326,7 +320,7 @@ impl Router {
     {
         if self.is_redirected(came, passing, towards_title, way) {
             let place = *came;
-            return self.entity.redirect(alloc, place, &passing.to, way, out);
+            return self.entity.redirect(place, &passing.to, way, out);
         }
         Ok(())
     }
@@ -381,6 +375,13 @@ impl Router {
         ensures { (s : SystemState) → Stands self.now s → way_option result ≡ way_of s to.now }
     {
         self.entity.way(to)
+    }
+
+    /// It is a router. The function does nothing: its clause tells this to callers.
+    pub fn is_router(&self)
+        ensures { self.now.entity.local.configuration.role ≡ IsRouter }
+    {
+        let _entity = &self.entity;
     }
 
     /// What the scenario says of it.

@@ -36,7 +36,6 @@ pub record IsReadyFor (entity : SystemEntityState) : Type 0 where
 -- and that the routes that it keeps are those of its configuration
 pub record IsSound (entity : SystemEntityState) (kept : Routes) : Type 0 where
   pub moment : entity.moment < 2 ^ 62
-  pub hold : 1 ≤ entity.local.table.limits.hold
   pub routes : routing.Stands kept entity.local.configuration.routes
   pub ready : entity.spent ≡ false → IsReadyFor entity
 

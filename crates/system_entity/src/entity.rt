@@ -219,7 +219,6 @@ impl SystemEntity {
     /// `NoMemory`: `out` is then as it was, and the entity is spent.
     pub fn pass_on(
         &mut self,
-        alloc: Global,
         frame: &Frame,
         from: usize,
         len: usize,
@@ -241,7 +240,7 @@ impl SystemEntity {
         if self.spent {
             return Err(NoMemory);
         }
-        match pass_pieces(alloc, frame, from, len, cuts, hop, out) {
+        match pass_pieces(frame, from, len, cuts, hop, out) {
             Ok(()) => Ok(()),
             Err(_) => {
                 self.spent = true;
@@ -257,7 +256,6 @@ impl SystemEntity {
     /// `NoMemory`: `out` is then as it was, and the entity is spent.
     pub fn redirect(
         &mut self,
-        alloc: Global,
         place: Place,
         to: &Address,
         way: &Way,
@@ -277,7 +275,7 @@ impl SystemEntity {
         if self.spent {
             return Err(NoMemory);
         }
-        match tell_way(alloc, self.local.config(), place, to, way, out) {
+        match tell_way(self.local.config(), place, to, way, out) {
             Ok(()) => Ok(()),
             Err(_) => {
                 self.spent = true;

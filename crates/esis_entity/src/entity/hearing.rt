@@ -1,24 +1,52 @@
 //! What a system hears of others (ISO 9542, sections 6.3, 6.4, 6.7 and 6.9).
 ghost use Rattle.std.specs.Prelude.{◌≡◌, ◌<◌, ◌^◌, ℕ, if◌then◌else◌, IfOk, OnOk};
-ghost use Rattle.clnp_machine.specs.Esis.{answers_new, esis_heard, follows, hears, hears_each, redirect_heard, tells_of_itself};
+ghost use Rattle.clnp_machine.specs.ClnpOptions.Parameter.{parameters};
+ghost use Rattle.clnp_machine.specs.EsisPdus.Value.{suggested};
+ghost use Rattle.clnp_machine.specs.EsisPdus.View.{pdu_value};
+ghost use Rattle.clnp_machine.specs.Esis.{answers_new, esis_comes, esis_heard, follows, hears, hears_each, redirect_heard, tells_of_itself};
 ghost use Rattle.clnp_machine.specs.Given.{Appends};
 ghost use Rattle.clnp_machine.specs.System.{SystemState, idles};
 ghost use Rattle.clnp_machine.specs.ClnpPlan.declared.config.Role.TheVariants.{Host, Router};
 ghost use Rattle.clnp_machine.specs.EsisTables.declared.fact.TableKind.TheVariants.{Is};
-ghost use Rattle.esis_entity.specs.Does.{Does, Hears};
+ghost use Rattle.esis_entity.specs.Does.{Does, Hears, StaysInFront};
 ghost use Rattle.esis_entity.specs.Stands.{Stands};
 
 use super::EsisEntity;
 use super::output::give_note;
 use clnp_machine::clnp_base::NoMemory;
-use clnp_machine::clnp_plan::{Note, Output, SystemConfig};
+use clnp_machine::clnp_plan::{Note, Output, Role, SystemConfig};
 use clnp_machine::esis_pdus::{AddressList, EsisBody, EsisPdu};
 use clnp_machine::esis_tables::{Heard, Place, TableKind};
 use clnp_machine::nsap::{Address, Snpa};
 
 impl EsisEntity {
+    /// Hears a PDU in the role of the system.
+    pub(super) fn hear_in_role(
+        &mut self,
+        config: &SystemConfig,
+        now: u64,
+        place: Place,
+        pdu: EsisPdu<'_>,
+        out: &mut Vec<Output>,
+    ) -> Result<(), NoMemory>
+        requires moment { now < 2 ^ 62 }
+        requires timer { pdu.suggested ≡ suggested pdu.body (parameters pdu.options.now) }
+        ensures stands { OnOk result ((s : SystemState) → Stands self.old s → s.configuration ≡ config.now
+            → s.moment ≡ now → Stands self.new (esis_comes s place (pdu_value pdu.entry)).after) }
+        ensures outputs { OnOk result ((s : SystemState) → Stands self.old s → s.configuration ≡ config.now
+            → s.moment ≡ now
+            → Appends now out.old.items out.new.items (esis_comes s place (pdu_value pdu.entry)).outputs) }
+        ensures front { StaysInFront out.old.items out.new.items }
+    {
+        match config.role() {
+            Role::Host => self.hear_as_host(config, now, place, pdu, out),
+            Role::Router => self.hear_as_router(config, now, place, pdu, out),
+        }
+    }
+
     /// Hears a PDU as an end system, which answers an intermediate system that is new, and then follows its wish.
-    pub(super) fn hear_as_host(
+    #[tactic(auto, using(crate::proofs::Fronts::front_more))]
+    fn hear_as_host(
         &mut self,
         config: &SystemConfig,
         now: u64,
@@ -27,9 +55,10 @@ impl EsisEntity {
         out: &mut Vec<Output>,
     ) -> Result<(), NoMemory>
         requires { now < 2 ^ 62 }
-        ensures { OnOk result ((s : SystemState) → Stands self.old s → s.configuration ≡ config.now → s.moment ≡ now
+        ensures done { OnOk result ((s : SystemState) → Stands self.old s → s.configuration ≡ config.now → s.moment ≡ now
             → Does now self.new out.old.items out.new.items
             (esis_heard Host s place pdu.entry.hold pdu.entry.body pdu.entry.suggested)) }
+        ensures front { StaysInFront out.old.items out.new.items }
     {
         let EsisPdu {
             hold,
@@ -52,7 +81,7 @@ impl EsisEntity {
     }
 
     /// Hears a PDU as an intermediate system, which answers an end system with an address that is new.
-    pub(super) fn hear_as_router(
+    fn hear_as_router(
         &mut self,
         config: &SystemConfig,
         now: u64,
@@ -61,9 +90,10 @@ impl EsisEntity {
         out: &mut Vec<Output>,
     ) -> Result<(), NoMemory>
         requires { now < 2 ^ 62 }
-        ensures { OnOk result ((s : SystemState) → Stands self.old s → s.configuration ≡ config.now → s.moment ≡ now
+        ensures done { OnOk result ((s : SystemState) → Stands self.old s → s.configuration ≡ config.now → s.moment ≡ now
             → Does now self.new out.old.items out.new.items
             (esis_heard Router s place pdu.entry.hold pdu.entry.body pdu.entry.suggested)) }
+        ensures front { StaysInFront out.old.items out.new.items }
     {
         let EsisPdu { hold, body, .. } = pdu;
         match body {
@@ -76,6 +106,7 @@ impl EsisEntity {
     }
 
     /// Hears of an intermediate system, and answers it where it is new.
+    #[tactic(auto, using(crate::proofs::Fronts::front_more))]
     fn hear_router(
         &mut self,
         config: &SystemConfig,
@@ -91,12 +122,14 @@ impl EsisEntity {
         ensures outputs { OnOk result ((s : SystemState) → Stands self.old s → s.configuration ≡ config.now
             → s.moment ≡ now → Appends now out.old.items out.new.items
             (answers_new (hears s Is title place.now hold) place.now).outputs) }
+        ensures front { StaysInFront out.old.items out.new.items }
     {
         let new = self.hear_key(now, TableKind::Is, title, place, hold, out)?;
         self.answer(config, place, new, out)
     }
 
     /// Hears a redirect from an intermediate system that is known to be there, and ignores one from elsewhere (section 6.9).
+    #[tactic(auto, using(crate::proofs::Fronts::front_more))]
     fn hear_redirect(
         &mut self,
         now: u64,
@@ -107,8 +140,9 @@ impl EsisEntity {
         out: &mut Vec<Output>,
     ) -> Result<(), NoMemory>
         requires { now < 2 ^ 62 }
-        ensures { OnOk result ((s : SystemState) → Stands self.old s → s.moment ≡ now
+        ensures done { OnOk result ((s : SystemState) → Stands self.old s → s.moment ≡ now
             → Does now self.new out.old.items out.new.items (redirect_heard Host s place.now hold to via)) }
+        ensures front { StaysInFront out.old.items out.new.items }
     {
         if !self.tables.is_router(now, &place.snpa) {
             return give_note(Note::Ignored { rd: true }, out);
@@ -122,6 +156,7 @@ impl EsisEntity {
     }
 
     /// Hears of an end system, and answers it once where an address is new.
+    #[tactic(auto, using(crate::proofs::Fronts::front_more))]
     fn hear_end_system(
         &mut self,
         config: &SystemConfig,
@@ -132,15 +167,17 @@ impl EsisEntity {
         out: &mut Vec<Output>,
     ) -> Result<(), NoMemory>
         requires { now < 2 ^ 62 }
-        ensures { OnOk result ((s : SystemState) → Stands self.old s → s.configuration ≡ config.now → s.moment ≡ now
+        ensures done { OnOk result ((s : SystemState) → Stands self.old s → s.configuration ≡ config.now → s.moment ≡ now
             → Does now self.new out.old.items out.new.items
             (answers_new (hears_each s addresses.entry place.now hold) place.now)) }
+        ensures front { StaysInFront out.old.items out.new.items }
     {
         let new = self.hear_each(now, place, hold, addresses, out)?;
         self.answer(config, place, new, out)
     }
 
     /// Hears each address of an end system, in order. Whether one of them is new.
+    #[tactic(auto, using(crate::proofs::Fronts::front_more))]
     fn hear_each(
         &mut self,
         now: u64,
@@ -150,8 +187,9 @@ impl EsisEntity {
         out: &mut Vec<Output>,
     ) -> Result<bool, NoMemory>
         requires { now < 2 ^ 62 }
-        ensures { IfOk result (λ new. (s : SystemState) → Stands self.old s → s.moment ≡ now
+        ensures heard { IfOk result (λ new. (s : SystemState) → Stands self.old s → s.moment ≡ now
             → Hears now self.new out.old.items out.new.items new (hears_each s addresses.entry place.now hold)) }
+        ensures front { StaysInFront out.old.items out.new.items }
     {
         let mut new = false;
         for address in addresses {
@@ -171,8 +209,9 @@ impl EsisEntity {
         out: &mut Vec<Output>,
     ) -> Result<bool, NoMemory>
         requires { now < 2 ^ 62 }
-        ensures { IfOk result (λ new. (s : SystemState) → Stands self.old s → s.moment ≡ now
+        ensures heard { IfOk result (λ new. (s : SystemState) → Stands self.old s → s.moment ≡ now
             → Hears now self.new out.old.items out.new.items new (hears s table key place.now hold)) }
+        ensures front { StaysInFront out.old.items out.new.items }
     {
         let heard = self.tables.hear(now, table, key, *place, hold);
         give_note(Note::Hear { table, key, heard }, out)?;
@@ -187,9 +226,10 @@ impl EsisEntity {
         new: bool,
         out: &mut Vec<Output>,
     ) -> Result<(), NoMemory>
-        ensures { OnOk result ((s : SystemState) (moment : ℕ) → Stands self.now s → s.configuration ≡ config.now
+        ensures told { OnOk result ((s : SystemState) (moment : ℕ) → Stands self.now s → s.configuration ≡ config.now
             → Appends moment out.old.items out.new.items
             (if new then tells_of_itself s place.now.port place.now.snpa else idles s).outputs) }
+        ensures front { StaysInFront out.old.items out.new.items }
     {
         if new {
             return self.tell(config, *place, out);

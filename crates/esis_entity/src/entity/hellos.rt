@@ -5,6 +5,7 @@ ghost use Rattle.clnp_machine.specs.Given.{Appends};
 ghost use Rattle.clnp_machine.specs.System.{SystemState};
 ghost use Rattle.clnp_machine.specs.EsisPdus.Grammar.{Spells};
 ghost use Rattle.clnp_machine.specs.EsisPdus.Making.{esh_length};
+ghost use Rattle.esis_entity.specs.Does.{StaysInFront};
 
 use super::output::send;
 use clnp_machine::clnp_base::NoMemory;
@@ -14,13 +15,14 @@ use clnp_machine::esis_pdus::{HelloRefusal, esh, ish};
 use clnp_machine::nsap::{Address, Target};
 
 /// Says hello on each port, as a system that says it once in `period` seconds.
-pub fn say_everywhere(
+pub(crate) fn say_everywhere(
     config: &SystemConfig,
     period: u16,
     out: &mut Vec<Output>,
 ) -> Result<(), NoMemory>
-    ensures { OnOk result ((s : SystemState) (moment : ℕ) → s.configuration ≡ config.now → s.hello ≡ period
+    ensures said { OnOk result ((s : SystemState) (moment : ℕ) → s.configuration ≡ config.now → s.hello ≡ period
         → Appends moment out.old.items out.new.items (hello_everywhere s)) }
+    ensures front { StaysInFront out.old.items out.new.items }
 {
     let pdu = hello(config, period);
     for port in 0..port_count(config) {
@@ -30,7 +32,7 @@ pub fn say_everywhere(
 }
 
 /// The hello of a system that says it once in `period` seconds.
-pub fn hello(config: &SystemConfig, period: u16) -> Head
+pub(crate) fn hello(config: &SystemConfig, period: u16) -> Head
     ensures { (s : SystemState) → s.configuration ≡ config.now → s.hello ≡ period → Spells (own_hello s) result }
 {
     match config.role() {
@@ -43,6 +45,7 @@ pub fn hello(config: &SystemConfig, period: u16) -> Head
 fn end_system_hello(config: &SystemConfig, period: u16) -> Head
     ensures { (s : SystemState) → s.configuration ≡ config.now → s.hello ≡ period → Spells (esh_of s) result }
 {
+    // Its clause: a host has eight addresses at most.
     config.is_system();
     let addresses = config.addresses();
     fits(addresses);
@@ -52,7 +55,8 @@ fn end_system_hello(config: &SystemConfig, period: u16) -> Head
     }
 }
 
-/// The hello of at most eight addresses always fits. The function does nothing: its clause tells this to its caller.
+/// The hello of at most eight addresses always fits. The function does nothing but ask each address for its octets, since only
+/// the clause of that call says how many they are: its own clause tells its caller what follows.
 fn fits(addresses: &[Address])
     requires { length addresses.now ≤ 8 }
     ensures { esh_length addresses.now ≤ 254 }
@@ -79,6 +83,7 @@ fn router_hello(config: &SystemConfig, period: u16) -> Head
 fn title(config: &SystemConfig) -> &Address
     ensures { result.now ≡ first_of (slice_get config.now.addresses 0) }
 {
+    // Its clause: a system has an address.
     config.is_system();
     &config.addresses()[0]
 }
@@ -112,6 +117,7 @@ fn hearers(role: Role) -> Target
 fn port_count(config: &SystemConfig) -> u8
     ensures { result ≡ length config.now.ports }
 {
+    // Its clause: a system has eight ports at most.
     config.is_system();
     config.ports().len() as u8
 }

@@ -1,9 +1,10 @@
 //! What is given out.
-ghost use Rattle.std.specs.Prelude.{◌∷◌, [], OnOk, ℕ};
+ghost use Rattle.std.specs.Prelude.{◌≡◌, ◌∷◌, [], OnOk, OnErr, ℕ};
 ghost use Rattle.clnp_machine.specs.Given.{Appends};
 ghost use Rattle.clnp_machine.specs.System.{Notes, SendsEsis};
 ghost use Rattle.clnp_machine.specs.EsisPdus.Grammar.{Spells};
 ghost use Rattle.clnp_machine.specs.EsisPdus.Value.{EsisValue};
+ghost use Rattle.esis_entity.specs.Does.{StaysInFront};
 
 use clnp_machine::clnp_base::NoMemory;
 use clnp_machine::clnp_plan::{Note, Output, Sending};
@@ -11,17 +12,20 @@ use clnp_machine::clnp_views::Head;
 use clnp_machine::nsap::Target;
 
 /// Gives out a note.
-pub fn give_note(note: Note, out: &mut Vec<Output>) -> Result<(), NoMemory>
-    ensures { OnOk result ((moment : ℕ) → Appends moment out.old.items out.new.items (Notes note ∷ [])) }
+pub(crate) fn give_note(note: Note, out: &mut Vec<Output>) -> Result<(), NoMemory>
+    ensures given { OnOk result ((moment : ℕ) → Appends moment out.old.items out.new.items (Notes note ∷ [])) }
+    ensures front { StaysInFront out.old.items out.new.items }
 {
     out.push(Output::Note(note))?;
     Ok(())
 }
 
 /// Gives out the frame of a PDU.
-pub fn send(port: u8, to: Target, pdu: Head, out: &mut Vec<Output>) -> Result<(), NoMemory>
-    ensures { OnOk result ((moment : ℕ) (value : EsisValue) → Spells value pdu
+pub(crate) fn send(port: u8, to: Target, pdu: Head, out: &mut Vec<Output>) -> Result<(), NoMemory>
+    ensures given { OnOk result ((moment : ℕ) (value : EsisValue) → Spells value pdu
         → Appends moment out.old.items out.new.items (SendsEsis port to value ∷ [])) }
+    ensures none { OnErr result (out.new.items ≡ out.old.items) }
+    ensures front { StaysInFront out.old.items out.new.items }
 {
     let sending = Sending {
         port,

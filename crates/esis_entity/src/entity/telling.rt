@@ -4,11 +4,11 @@ ghost use Rattle.clnp_machine.specs.EsisTables.Fact.{Fact};
 ghost use Rattle.clnp_machine.specs.EsisTables.Gone.{gone};
 ghost use Rattle.clnp_machine.specs.EsisTables.Stands as heard;
 ghost use Rattle.clnp_machine.specs.EsisTables.Stands.{limits_of};
-ghost use Rattle.clnp_machine.specs.Esis.{gone_note, says_hello};
+ghost use Rattle.clnp_machine.specs.Esis.{forgets, gone_note, says_hello};
 ghost use Rattle.clnp_machine.specs.Given.{Appends};
-ghost use Rattle.clnp_machine.specs.System.{SystemState};
-ghost use Rattle.esis_entity.specs.Does.{Does};
-ghost use Rattle.esis_entity.specs.Stands.{Stands};
+ghost use Rattle.clnp_machine.specs.System.{SystemState, then_does};
+ghost use Rattle.esis_entity.specs.Does.{Does, StaysInFront};
+ghost use Rattle.esis_entity.specs.Stands.{Stands, StandsSince};
 
 use super::EsisEntity;
 use super::hellos::say_everywhere;
@@ -18,12 +18,13 @@ use clnp_machine::clnp_plan::{Note, Output, SystemConfig};
 use clnp_machine::esis_tables::{Gone, Tables, laws};
 
 /// Forgets what has ended, and notes each key.
-pub fn forget(tables: &mut Tables, now: u64, out: &mut Vec<Output>) -> Result<(), NoMemory>
+fn forget(tables: &mut Tables, now: u64, out: &mut Vec<Output>) -> Result<(), NoMemory>
     ensures stands { OnOk result ((facts : List Fact) (before : ℕ) → heard.Stands tables.old facts before []
         → before ≤ now → heard.Stands tables.new facts now []) }
     ensures limits { limits_of tables.new ≡ limits_of tables.old }
     ensures outputs { OnOk result ((facts : List Fact) (before moment : ℕ) → heard.Stands tables.old facts before []
         → before ≤ now → Appends moment out.old.items out.new.items (map gone_note (gone before now facts))) }
+    ensures front { StaysInFront out.old.items out.new.items }
 {
     laws::time_goes_on();
     while let Some(ended) = tables.flush(now) {
@@ -34,16 +35,38 @@ pub fn forget(tables: &mut Tables, now: u64, out: &mut Vec<Output>) -> Result<()
 }
 
 impl EsisEntity {
-    /// Says hello where it is due; the next one is due a period later.
-    pub(super) fn say_hello(
+    /// What has ended is forgotten, and the hello that is due is said.
+    #[tactic(auto, using(crate::proofs::Fronts::front_more))]
+    pub(super) fn forget_and_say(
         &mut self,
         config: &SystemConfig,
         now: u64,
         out: &mut Vec<Output>,
     ) -> Result<(), NoMemory>
         requires { now < 2 ^ 62 }
-        ensures { OnOk result ((s : SystemState) → Stands self.old s → s.configuration ≡ config.now → s.moment ≡ now
+        ensures stands { OnOk result ((s : SystemState) (before : ℕ) → StandsSince before self.old s
+            → s.configuration ≡ config.now → s.moment ≡ now → before ≤ now
+            → Stands self.new (then_does (forgets before s) says_hello).after) }
+        ensures outputs { OnOk result ((s : SystemState) (before : ℕ) → StandsSince before self.old s
+            → s.configuration ≡ config.now → s.moment ≡ now → before ≤ now
+            → Appends now out.old.items out.new.items (then_does (forgets before s) says_hello).outputs) }
+        ensures front { StaysInFront out.old.items out.new.items }
+    {
+        forget(&mut self.tables, now, out)?;
+        self.say_hello(config, now, out)
+    }
+
+    /// Says hello where it is due; the next one is due a period later.
+    fn say_hello(
+        &mut self,
+        config: &SystemConfig,
+        now: u64,
+        out: &mut Vec<Output>,
+    ) -> Result<(), NoMemory>
+        requires { now < 2 ^ 62 }
+        ensures said { OnOk result ((s : SystemState) → Stands self.old s → s.configuration ≡ config.now → s.moment ≡ now
             → Does now self.new out.old.items out.new.items (says_hello s)) }
+        ensures front { StaysInFront out.old.items out.new.items }
     {
         if self.period == 0 || now < self.next_hello {
             return Ok(());

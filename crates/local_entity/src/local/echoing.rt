@@ -1,17 +1,17 @@
 //! Echo requests answered, and replies taken for answers (RFC 1575).
-ghost use Rattle.std.specs.Prelude.{◌≡◌, ◌<◌, ◌^◌, ℕ, false, IfOk, OnOk, OnErr, Some};
+ghost use Rattle.std.specs.Prelude.{◌≡◌, ◌<◌, ◌^◌, false, OnOk, OnErr};
 ghost use Rattle.clnp_machine.specs.ClnpOptions.Grammar.{FitsKind};
 ghost use Rattle.clnp_machine.specs.ClnpOptions.Parameter.{parameters};
 ghost use Rattle.clnp_machine.specs.Local as machine;
 ghost use Rattle.clnp_machine.specs.System.{SystemState};
-ghost use Rattle.local_entity.specs.Local as entity;
 ghost use Rattle.local_entity.specs.Local.{Appends, Stands};
 
 use super::Local;
 use crate::action::Action;
+use crate::refusal::refusal_note;
 use clnp_machine::clnp_base::NoMemory;
 use clnp_machine::clnp_options::OptionList;
-use clnp_machine::clnp_plan::{Ask, Note, SendRefusal, Why};
+use clnp_machine::clnp_plan::{Ask, Note};
 use clnp_machine::clnp_views::Frame;
 use clnp_machine::echo::needs_id;
 use clnp_machine::nsap::Address;
@@ -100,23 +100,4 @@ impl Local {
         out.push_reserved(Action::Note(note));
         Ok(())
     }
-}
-
-/// What is noted of a unit that isn't made.
-///
-/// # Errors
-///
-/// `NoMemory` exactly where this is why.
-fn refusal_note(refusal: SendRefusal) -> Result<Note, NoMemory>
-    ensures note { IfOk result (λ note. entity.refusal_note refusal ≡ Some note) }
-    ensures memory { OnErr result (refusal ≡ SendRefusal.NoMemory) }
-{
-    let (why, value) = match refusal {
-        SendRefusal::NotMine => (Why::NotMine, 0),
-        SendRefusal::TooLong { octets } => (Why::TooLong, octets as u64),
-        SendRefusal::IdsBusy { used } => (Why::IdsBusy, used),
-        SendRefusal::Quiet { until } => (Why::Quiet, until),
-        SendRefusal::NoMemory => return Err(NoMemory),
-    };
-    Ok(Note::Refused { why, value })
 }

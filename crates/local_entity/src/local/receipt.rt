@@ -54,9 +54,7 @@ impl Local {
         ensures same { OnErr result (self.new ≡ self.old) }
         ensures none { OnErr result (out.new.items ≡ out.old.items) }
         ensures config { self.new.configuration ≡ self.old.configuration }
-        ensures limits { self.new.table.limits ≡ self.old.table.limits }
-        // A buffer that is kept no time is due at once.
-        ensures ready { 1 ≤ self.old.table.limits.hold → IsReady now self.new.table }
+        ensures ready { IsReady now self.new.table }
     {
         laws::one_value();
         machine_laws::a_frame_carries_one_packet();

@@ -1,21 +1,21 @@
 //! What comes to a system beside frames and moments: what it does is given out, and with it the note of it.
-ghost use Rattle.std.specs.Prelude.{◌≡◌, IfOk, OnOk, OnErr, IsErr, Some, false, true};
+ghost use Rattle.std.specs.Prelude.{◌≡◌, OnOk, OnErr, IsErr, false, true};
 ghost use Rattle.clnp_machine.specs.ClnpOptions.Grammar.{FitsKind};
 ghost use Rattle.clnp_machine.specs.ClnpOptions.Parameter.{parameters};
 ghost use Rattle.clnp_machine.specs.PduHeader.Grammar.{is_report};
 ghost use Rattle.clnp_machine.specs.ClnpPlan.declared.config.Role.{Role};
 ghost use Rattle.clnp_machine.specs.Local as machine;
 ghost use Rattle.clnp_machine.specs.System.{SystemState, AsksForEcho, AsksToSend, IsCongested, IsRestarted};
-ghost use Rattle.local_entity.specs.Local as local;
 ghost use Rattle.system_entity.specs.Deeds.{DoesDeed};
 ghost use Rattle.system_entity.specs.Stands.{Stands};
 ghost use Rattle.system_entity.specs.Steps.{IsSpentIn, TakesStep};
 
 use super::SystemEntity;
 use clnp_machine::clnp_base::NoMemory;
-use clnp_machine::clnp_plan::{Ask, Note, Output, SendRefusal, Why};
+use clnp_machine::clnp_plan::{Ask, Note, Output};
 use clnp_machine::nsap::Address;
 use clnp_machine::pdu_header::Kind;
+use local_entity::refusal_note;
 use std::alloc::Global;
 
 impl SystemEntity {
@@ -122,23 +122,4 @@ impl SystemEntity {
         self.congest(on);
         Ok(())
     }
-}
-
-/// What is noted of a unit that isn't made.
-///
-/// # Errors
-///
-/// `NoMemory` exactly where this is why.
-fn refusal_note(refusal: SendRefusal) -> Result<Note, NoMemory>
-    ensures note { IfOk result (λ note. local.refusal_note refusal ≡ Some note) }
-    ensures memory { OnErr result (refusal ≡ SendRefusal.NoMemory) }
-{
-    let (why, value) = match refusal {
-        SendRefusal::NotMine => (Why::NotMine, 0),
-        SendRefusal::TooLong { octets } => (Why::TooLong, octets as u64),
-        SendRefusal::IdsBusy { used } => (Why::IdsBusy, used),
-        SendRefusal::Quiet { until } => (Why::Quiet, until),
-        SendRefusal::NoMemory => return Err(NoMemory),
-    };
-    Ok(Note::Refused { why, value })
 }

@@ -107,7 +107,7 @@ impl SystemEntity {
                 Ok(Arrival::Done)
             }
             Err(Refusal::NotClnp) => {
-                self.other_comes(alloc, place, frame, out)?;
+                self.other_comes(place, frame, out)?;
                 Ok(Arrival::Done)
             }
         }
@@ -206,7 +206,6 @@ impl SystemEntity {
     /// protocol is noted.
     fn other_comes(
         &mut self,
-        alloc: Global,
         place: Place,
         frame: &Frame,
         out: &mut Vec<Output>,
@@ -230,11 +229,8 @@ impl SystemEntity {
         laws::hellos_leave_the_rest();
         match clnp_machine::esis_pdus::decode(frame.bytes()) {
             Ok(pdu) => {
-                let mut outputs = Vec::new(alloc);
                 let config = self.local.config();
-                self.esis
-                    .hear(config, self.moment, place, pdu, &mut outputs)?;
-                out.append(&mut outputs)?;
+                self.esis.hear(config, self.moment, place, pdu, out)?;
                 Ok(())
             }
             Err(refusal) => {
@@ -376,6 +372,7 @@ pub(super) fn routes_of(alloc: Global, config: &SystemConfig) -> Result<Routes, 
     ensures { IfOk result (λ routes. routing.Stands routes config.now.routes) }
 {
     clnp_machine::forwarding::laws::one_place_is_twice();
+    // Its clause: no two routes have one prefix.
     config.is_system();
     match Routes::from_list(alloc, config.routes()) {
         Ok(routes) => Ok(routes),
@@ -386,7 +383,6 @@ pub(super) fn routes_of(alloc: Global, config: &SystemConfig) -> Result<Routes, 
 
 /// Gives out all pieces of the PDU whose data are `len` octets of a frame, from place `from` on, or nothing.
 pub(super) fn pass_pieces(
-    alloc: Global,
     frame: &Frame,
     from: usize,
     len: usize,
@@ -400,15 +396,11 @@ pub(super) fn pass_pieces(
     ensures none { OnErr result (out.new.items ≡ out.old.items) }
 {
     let body = frame.view()?.narrow(from, len);
-    let mut outputs = Vec::new(alloc);
-    give_pieces(cuts, hop, &body, true, &mut outputs)?;
-    out.append(&mut outputs)?;
-    Ok(())
+    give_pieces(cuts, hop, &body, true, out)
 }
 
 /// Tells a system, at a place of one's own, of the way to an address, or gives out nothing.
 pub(super) fn tell_way(
-    alloc: Global,
     config: &SystemConfig,
     place: Place,
     to: &Address,
@@ -420,11 +412,8 @@ pub(super) fn tell_way(
         (SendsEsis place.port (System place.snpa) (redirect s to.now way.now.snpa way.now.title) ∷ [])) }
     ensures none { OnErr result (out.new.items ≡ out.old.items) }
 {
-    let mut outputs = Vec::new(alloc);
     let title = way.title.as_ref();
-    send_redirect(config, place, to, &way.snpa, title, &mut outputs)?;
-    out.append(&mut outputs)?;
-    Ok(())
+    send_redirect(config, place, to, &way.snpa, title, out)
 }
 
 /// What is noted of a frame that no protocol accepts: the rule of ES-IS PDUs that it breaks, or that it is alien.
@@ -449,5 +438,6 @@ fn octets_have_content(octets: &[u8])
     ensures { (content : Content) × IsCarried content × (frame_of content ≡ octets.now) }
 {
     laws::octets_have_a_content();
+    // Each item of a slice that is used is an octet.
     let _len = octets.len();
 }

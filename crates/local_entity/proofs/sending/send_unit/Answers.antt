@@ -9,8 +9,8 @@ use Rattle.clnp_machine.proofs.Given.{appends_note}
 use Rattle.local_entity.proofs.Sent.{port_at, port_missing, sent_by, sent_by_none}
 use Rattle.local_entity.proofs.sending.send_unit.Goals as goal
 
-pub returns-in_default-get : goal.returns-in_default-get
-returns-in_default-get c =
+pub returns-in_default-get-clause-sent : goal.returns-in_default-get-clause-sent
+returns-in_default-get-clause-sent c =
     on_ok_weaker c.note-in_default-get.result
     (λ written s u same does first.
     let none = subst (λ (ps : List PortConfig). slice_get ps c.in-Some.hop.port ≡ None) c.ports.ensures
@@ -18,10 +18,10 @@ returns-in_default-get c =
     subst (λ (others : List Output). Appends u.made c.args.out.now.items c.note-in_default-get.new.out.items others)
     (sent_by_none s u c.in-Some.hop c.args.hop c.args.config.now same c.in-Some.is none)
     (appends_note u.made c.args.out.now.items c.note-in_default-get.new.out.items _ _ written refl))
-    c.note-in_default-get.ensures
+    c.note-in_default-get.ensures.noted
 
-pub returns : goal.returns
-returns c =
+pub returns-clause-sent : goal.returns-clause-sent
+returns-clause-sent c =
     on_ok_weaker c.send_on.result
     (λ given s u same does first.
     subst (λ (others : List Output). Appends u.made c.args.out.now.items c.send_on.new.out.items others)
@@ -30,4 +30,4 @@ returns c =
     (port_at c.ports.result.now c.in-Some.hop.port c.from.result c.in-Some-get.port.now c.from.ensures c.in-Some-get.ensures.lookup.0
     c.in-Some-get.ensures.lookup.1)))
     (given u does first))
-    c.send_on.ensures
+    c.send_on.ensures.sent

@@ -1,8 +1,9 @@
 //! Reassembly buffers whose time has ended (ISO/IEC 8473, section 6.9).
-ghost use Rattle.std.specs.Prelude.{◌≡◌, ◌<◌, ◌≤◌, ◌+◌, ◌^◌, ◌++◌, ◌∷◌, ℕ, List, Option, OnOk, OnErr, is_some, option_map, vec_capacity, vec_len};
+ghost use Rattle.std.specs.Prelude.{◌≡◌, ◌<◌, ◌≤◌, ◌+◌, ◌^◌, ◌++◌, ◌∷◌, List, Option, OnOk, OnErr, is_some, option_map, vec_capacity, vec_len};
 ghost use Rattle.clnp_machine.specs.ClnpViews.Extent.{Extent, seen};
 ghost use Rattle.clnp_machine.specs.Reassembly.Buffer as buffer;
 ghost use Rattle.clnp_machine.specs.Reassembly.Buffer.{Buffer};
+ghost use Rattle.clnp_machine.specs.Reassembly.NoWhole.{HasNoWhole};
 ghost use Rattle.clnp_machine.specs.Reassembly.State as table;
 ghost use Rattle.clnp_machine.specs.Reassembly.State.{IsReady};
 ghost use Rattle.clnp_machine.specs.ClnpPlan.declared.note.Note.TheVariants.{Expired};
@@ -28,15 +29,13 @@ impl Local {
     /// `NoMemory`: nothing changes then.
     pub fn tick(&mut self, alloc: Global, now: u64, out: &mut Vec<Action>) -> Result<(), NoMemory>
         requires moment { now < 2 ^ 62 }
-        requires ready { (before : ℕ) × IsReady before self.old.table }
         ensures stands { OnOk result ((s : SystemState) → Stands self.old s → Stands self.new (machine.tick s now).after) }
         ensures actions { OnOk result ((s : SystemState) → Stands self.old s
             → Appends out.old.items out.new.items (machine.tick s now).actions) }
         ensures same { OnErr result (self.new ≡ self.old) }
         ensures none { OnErr result (out.new.items ≡ out.old.items) }
         ensures config { self.new.configuration ≡ self.old.configuration }
-        ensures limits { self.new.table.limits ≡ self.old.table.limits }
-        ensures ready { OnOk result (IsReady now self.new.table) }
+        ensures ready { OnOk result (HasNoWhole self.old.table → IsReady now self.new.table) }
     {
         let live = usize::from(self.table.live());
         // A buffer's end is noted, and perhaps a discard and its report, which is noted and sent.
@@ -63,7 +62,6 @@ impl Local {
         ensures len { vec_len out.new ≤ vec_len out.old + 4 }
         ensures capacity { vec_capacity out.old ≤ vec_capacity out.new }
         ensures config { self.new.configuration ≡ self.old.configuration }
-        ensures limits { self.new.table.limits ≡ self.old.table.limits }
     {
         let Some(ended) = self.table.expire(now) else {
             return false;

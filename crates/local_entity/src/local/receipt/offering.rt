@@ -55,8 +55,7 @@ impl Local {
         ensures same { OnErr result (self.new ≡ self.old) }
         ensures none { OnErr result (out.new.items ≡ out.old.items) }
         ensures config { self.new.configuration ≡ self.old.configuration }
-        ensures limits { self.new.table.limits ≡ self.old.table.limits }
-        ensures ready { 1 ≤ self.old.table.limits.hold → IsReady now self.new.table }
+        ensures ready { IsReady now self.new.table }
     {
         let room = room_for(alloc, &segment)?;
         let frame = frame.view()?;

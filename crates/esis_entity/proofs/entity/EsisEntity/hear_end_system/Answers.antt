@@ -6,12 +6,12 @@ use Rattle.esis_entity.proofs.Hearing.{hears_alike}
 use Rattle.esis_entity.proofs.Ticking.{on_ok}
 use Rattle.esis_entity.proofs.entity.EsisEntity.hear_end_system.Goals as goal
 
-pub returns : goal.returns
-returns c =
+pub returns-clause-done : goal.returns-clause-done
+returns-clause-done c =
     on_ok c.answer.result
     (λ told s h same at.
     let heard : Effect = hears_each s c.args.addresses c.args.place.now c.args.hold in
-    let does = c.in_ok-new.ensures s h at in
+    let does = c.in_ok-new.ensures.heard s h at in
     does_answer c.args.now c.hear_each.new.self c.args.out.now.items c.hear_each.new.out.items c.answer.new.out.items c.in_ok-new.new heard c.args.place.now does
     (told heard.after c.args.now does.does.stands (hears_alike s c.args.addresses c.args.place.now c.args.hold ∙ same)))
-    c.answer.ensures
+    c.answer.ensures.told

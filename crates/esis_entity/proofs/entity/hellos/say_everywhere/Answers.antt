@@ -2,18 +2,22 @@ use Rattle.std.proofs.Common.{◌∙◌, ap, sym, length, arith}
 use Rattle.clnp_machine.specs.ClnpPlan.Configuration.{SystemConfiguration}
 use Rattle.clnp_machine.specs.ClnpPlan.declared.config.Role.{Role}
 use Rattle.clnp_machine.specs.Esis.{hearers, own_hello}
+use Rattle.esis_entity.proofs.Fronts.{front_more}
 use Rattle.esis_entity.proofs.Saying.{all_said, one_said}
 use Rattle.esis_entity.proofs.entity.hellos.say_everywhere.Goals as goal
 
 pub loop-port-preserved : goal.loop-port-preserved
-loop-port-preserved c = λ s moment same period.
-    one_said moment c.args.out.now.items c.loop-port.out.items c.send.new.out.items s c.loop-port.port c.hearers.result
-    (c.loop-port.invariant s moment same period)
-    (c.in_ok-send.ensures moment (own_hello s) (c.hello-pdu.ensures s same period))
-    (c.hearers.ensures ∙ ap (λ (role : Role). hearers role) (c.role.ensures ∙ ap (λ (configuration : SystemConfiguration). configuration.role) (sym same)))
+loop-port-preserved c = record {
+  said = λ s moment same period.
+      one_said moment c.args.out.now.items c.loop-port.out.items c.send.new.out.items s c.loop-port.port c.hearers.result
+      (c.loop-port.invariant.said s moment same period)
+      (c.in_ok-send.ensures.given moment (own_hello s) (c.hello-pdu.ensures s same period))
+      (c.hearers.ensures ∙ ap (λ (role : Role). hearers role) (c.role.ensures ∙ ap (λ (configuration : SystemConfiguration). configuration.role) (sym same)));
+  front = front_more c.args.out.now.items c.loop-port.out.items c.send.new.out.items c.loop-port.invariant.front c.send.ensures.front;
+}
 
-pub returns : goal.returns
-returns c = λ s moment same period.
+pub returns-clause-said : goal.returns-clause-said
+returns-clause-said c = λ s moment same period.
     all_said moment c.args.out.now.items c.loop-port.out.items s c.loop-port.port
     (omega (arith, c.loop-port-test.false, c.port_count-port-end.ensures, ap (λ (configuration : SystemConfiguration). length configuration.ports) same))
-    (c.loop-port.invariant s moment same period)
+    (c.loop-port.invariant.said s moment same period)

@@ -3,10 +3,13 @@ use Rattle.std.specs.List.{range_with_len}
 use Rattle.clnp_machine.specs.Esis.{hearers, own_hello}
 use Rattle.clnp_machine.specs.Given.{Appends}
 use Rattle.clnp_machine.specs.System.{SendsEsis, SystemState}
+use Rattle.esis_entity.specs.Does.{StaysInFront}
 use Rattle.esis_entity.proofs.entity.hellos.say_everywhere.Given as goal
 
 abbrev pub invariant-loop-port : goal.invariant-loop-port
-invariant-loop-port l =
-    (s : SystemState) (moment : ℕ) → s.configuration ≡ l.config → s.hello ≡ l.period
-    → Appends moment l.initial.out.items l.out.items
-    (map (λ port. SendsEsis port (hearers s.configuration.role) (own_hello s)) (range_with_len 0 l.port))
+invariant-loop-port l = record {
+  said : (s : SystemState) (moment : ℕ) → s.configuration ≡ l.config → s.hello ≡ l.period
+      → Appends moment l.initial.out.items l.out.items
+      (map (λ port. SendsEsis port (hearers s.configuration.role) (own_hello s)) (range_with_len 0 l.port));
+  front : StaysInFront l.initial.out.items l.out.items;
+}

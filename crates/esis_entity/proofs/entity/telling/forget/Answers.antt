@@ -1,6 +1,7 @@
 use Rattle.std.proofs.Common.{◌≡◌, ◌∙◌, refl, ℕ, ◌+◌, ◌-◌, ◌^◌, ◌<◌, ◌≤◌, [], ◌∷◌, length, arith}
 use Rattle.clnp_machine.specs.EsisTables.Gone.{gone}
 use Rattle.clnp_machine.specs.Esis.{gone_note}
+use Rattle.esis_entity.proofs.Fronts.{front_more, front_none}
 use Rattle.esis_entity.proofs.Forgetting.{appended_length, all_forgotten, none_forgotten, one_forgotten}
 use Rattle.esis_entity.proofs.entity.telling.forget.Goals as goal
 
@@ -14,12 +15,13 @@ loop-ended-init c = record {
   forgot = λ facts before moment stands later.
       none_forgotten moment c.args.now c.args.tables.now c.args.out.now.items facts (gone before c.args.now facts)
       (c.time_goes_on.ensures c.args.tables.now facts before c.args.now stands later);
+  front = front_none c.args.out.now.items;
 }
 
 pub loop-ended-smaller : goal.loop-ended-smaller
 loop-ended-smaller c =
     shrinks (length c.loop-ended.out.items) (length c.give_note.new.out.items) c.give_note.new.out.len c.give_note.new.out.cap
-    (appended_length c.args.now c.loop-ended.out.items c.give_note.new.out.items (gone_note c.in-Some.ended ∷ []) (c.in_ok-give_note.ensures c.args.now))
+    (appended_length c.args.now c.loop-ended.out.items c.give_note.new.out.items (gone_note c.in-Some.ended ∷ []) (c.in_ok-give_note.ensures.given c.args.now))
     c.give_note.new.out.ok.0 c.give_note.new.out.ok.1 c.give_note.new.out.small
 
 pub loop-ended-preserved : goal.loop-ended-preserved
@@ -28,7 +30,8 @@ loop-ended-preserved c = record {
   forgot = λ facts before moment stands later.
       one_forgotten moment c.args.now c.loop-ended.tables c.flush.new.self c.args.out.now.items c.loop-ended.out.items c.give_note.new.out.items c.in-Some.ended
       c.flush.result facts (gone before c.args.now facts) (c.loop-ended.invariant.forgot facts before moment stands later) c.in-Some.is c.flush.ensures.next
-      (c.in_ok-give_note.ensures moment);
+      (c.in_ok-give_note.ensures.given moment);
+  front = front_more c.args.out.now.items c.loop-ended.out.items c.give_note.new.out.items c.loop-ended.invariant.front c.give_note.ensures.front;
 }
 
 pub returns-clause-stands : goal.returns-clause-stands

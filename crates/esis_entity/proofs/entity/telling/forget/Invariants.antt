@@ -3,6 +3,7 @@ use Rattle.clnp_machine.specs.EsisTables.Fact.{Fact}
 use Rattle.clnp_machine.specs.EsisTables.Stands as heard
 use Rattle.clnp_machine.specs.EsisTables.Gone.{gone}
 use Rattle.clnp_machine.specs.EsisTables.Stands.{limits_of}
+use Rattle.esis_entity.specs.Does.{StaysInFront}
 use Rattle.esis_entity.proofs.Forgetting.{ForgotSoFar}
 use Rattle.esis_entity.proofs.entity.telling.forget.Given as goal
 
@@ -11,6 +12,7 @@ invariant-loop-ended l = record {
   limits : limits_of l.tables ≡ limits_of l.initial.tables;
   forgot : (facts : List Fact) (before moment : ℕ) → heard.Stands l.initial.tables facts before [] → before ≤ l.now
       → ForgotSoFar moment l.now l.tables l.initial.out.items l.out.items facts (gone before l.now facts);
+  front : StaysInFront l.initial.out.items l.out.items;
 }
 
 -- each turn appends a note, and no list has more elements

@@ -49,7 +49,7 @@ returns-in_default-hand_up-clause-same c =
     ∙ c.self.view_is
 
 pub returns-in_default-hand_up-clause-ready : goal.returns-in_default-hand_up-clause-ready
-returns-in_default-hand_up-clause-ready c hold =
+returns-in_default-hand_up-clause-ready c =
     subst (λ (t : TableState). IsReady c.args.now t) (sym (undone c))
     (subst (λ (e : EntityState). IsReady c.args.now e.table) (sym c.self.view_is) c.requires.ready)
 
@@ -94,12 +94,11 @@ returns-in-Ok-hand_up-clause-actions c s content arrival stands moment shows sam
     moment purpose))
 
 pub returns-in-Ok-hand_up-clause-ready : goal.returns-in-Ok-hand_up-clause-ready
-returns-in-Ok-hand_up-clause-ready c hold =
-    let held = subst (λ (e : EntityState). 1 ≤ e.table.limits.hold) (sym c.self.view_is) hold in
+returns-in-Ok-hand_up-clause-ready c =
     let ready = subst (λ (e : EntityState). IsReady c.args.now e.table) (sym c.self.view_is) c.requires.ready in
     let table_is : c.self-in-Whole.inside.table ≡ c.accept.new.self = ap (λ (e : EntityState). e.table) c.self-in-Whole.view_is ∙ c.hand_up.ensures.table in
     let later = after c.self.inside.table.limits c.args.now (arrival_of c.args.segment) ready.buffers in
-    whole_ready c.self.inside.table c.release.new.self c.args.now c.args.segment ready held c.requires.offered.alive
+    whole_ready c.self.inside.table c.release.new.self c.args.now c.args.segment ready c.self.invariant c.requires.offered.alive
     (sym (c.in-Whole.ensures.answered ready.buffers ready.stands))
     (c.release.ensures.stands later c.args.segment.key
     (subst (λ (t : TableState). StandsFor t later) (sym table_is) (c.in-Whole.ensures.stands ready.buffers ready.stands))
@@ -133,10 +132,9 @@ returns-in_default-accept-clause-actions c s content arrival stands moment shows
     (ap (λ (a : Arrival (List ℕ)). a.key.id) (sym shows.shown)) (ap (λ (a : Arrival (List ℕ)). a.offset) (sym shows.shown))))
 
 pub returns-in_default-accept-clause-ready : goal.returns-in_default-accept-clause-ready
-returns-in_default-accept-clause-ready c hold =
-    let held = subst (λ (e : EntityState). 1 ≤ e.table.limits.hold) (sym c.self.view_is) hold in
+returns-in_default-accept-clause-ready c =
     let ready = subst (λ (e : EntityState). IsReady c.args.now e.table) (sym c.self.view_is) c.requires.ready in
     subst (λ (t : TableState). IsReady c.args.now t) (sym c.tell.ensures.table)
-    (told_ready c.self.inside.table c.accept.new.self c.args.now c.args.segment ready held c.requires.offered.alive
+    (told_ready c.self.inside.table c.accept.new.self c.args.now c.args.segment ready c.self.invariant c.requires.offered.alive
     (λ whole. said_not_whole c.accept.result c.in_default-accept.not-Whole (c.accept.ensures.answered ready.buffers ready.stands ∙ whole))
     (c.accept.ensures.stands ready.buffers ready.stands))

@@ -1,6 +1,7 @@
 -- Buffers end, what was heard is forgotten, and a hello may be due.
 use Rattle.std.proofs.Common.{◌≡◌, ◌∙◌, ℕ, ◌≤◌, sym, subst, ◌++◌}
 use Rattle.std.specs.List.{AllByRecursion}
+use Rattle.clnp_machine.specs.Reassembly.State.{IsReady}
 use Rattle.clnp_machine.specs.Given.{Appends}
 use Rattle.clnp_machine.specs.Esis.{forgets, says_hello}
 use Rattle.clnp_machine.specs.Local.{at_moment, tick}
@@ -62,3 +63,8 @@ returns-clause-outputs c = λ s h.
     ((effect_of deed).outputs ++ (then_does (forgets s.moment t) says_hello).outputs) c.new-outputs.ensures.items c.in_ok-append.ensures.items
     (appends_both c.args.now c.new-outputs.result.items c.give_out.new.out.items c.tick-2.new.out.items (effect_of deed).outputs
     (then_does (forgets s.moment t) says_hello).outputs first second)
+
+pub returns-clause-ready : goal.returns-clause-ready
+returns-clause-ready c =
+    let ready = subst (λ (e : SystemEntityState). IsReady e.moment e.local.table) (sym c.self.view_is) c.requires.at_work.ready in
+    c.in_ok-tick.ensures.ready (record { buffers = ready.buffers; stands = ready.stands; none_whole = ready.ready.none_whole })

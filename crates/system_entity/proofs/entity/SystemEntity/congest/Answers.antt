@@ -6,7 +6,6 @@ use Rattle.system_entity.proofs.entity.SystemEntity.congest.Goals as goal
 pub invariant_of-self : goal.invariant_of-self
 invariant_of-self c = record {
   moment = c.self.invariant.moment;
-  hold = c.self.invariant.hold;
   routes = c.self.invariant.routes;
   ready = λ free.
       let r = c.self.invariant.ready free in

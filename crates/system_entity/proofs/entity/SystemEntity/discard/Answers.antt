@@ -27,7 +27,6 @@ invariant_of-self-2 c =
     let content = c.has_content.ensures in
     record {
       moment = c.self-2.invariant.moment;
-      hold = c.self-2.invariant.hold;
       routes = c.self-2.invariant.routes;
       ready = λ free. record {
         state = (discard old.state content.0 c.args.reason c.args.place).after;

@@ -45,7 +45,6 @@ invariant_of-self-2 c =
     (c.in_ok-arrival.ensures.comes old.state content.0 parts content.1 content.2) c.in_ok-arrival.ensures.left parts in
     record {
       moment = c.self-2.invariant.moment;
-      hold = c.self-2.invariant.hold;
       routes = c.self-2.invariant.routes;
       ready = λ free. record {
         state = some.0;

@@ -38,4 +38,4 @@ returns-in-Send c =
     let p = subst (λ (e : SystemEntityState). PartsStandSince before e s) (sym c.self.view_is) h in
     unit_given s c.args.out.now.items c.send_unit.new.out.items c.args.action c.in-Send.made c.unit_hop.result c.in-Send.is
     (λ u to. c.unit_hop.ensures s before u h to) (λ u does_it first. given s u (c.config.ensures ∙ p.local.configuration) does_it first) other does fresh)
-    c.send_unit.ensures
+    c.send_unit.ensures.sent

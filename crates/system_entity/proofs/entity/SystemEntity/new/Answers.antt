@@ -20,7 +20,6 @@ returns-clause-stands c = λ place. record {
 pub invariant_of-result : goal.invariant_of-result
 invariant_of-result c = record {
   moment = c.requires.moment;
-  hold = rw c.in_ok-local.ensures.hold c.requires.hold;
   routes = subst (λ (x : SystemConfiguration). routing.Stands c.in_ok-routes.routes x.routes)
       (sym (c.in_ok-local.ensures.stands 0 c.args.now).configuration) c.in_ok-routes.ensures;
   ready = λ free. record {

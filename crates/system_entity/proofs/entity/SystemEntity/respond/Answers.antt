@@ -23,7 +23,7 @@ returns-in-Host c =
     let role = sym (ap (λ (x : SystemConfiguration). x.role) (c.config.ensures ∙ parts.local.configuration)) ∙ sym c.role.ensures ∙ c.in-Host.is in
     subst (λ (e : Effect). Appends s.moment c.args.out.now.items c.tell.new.out.items e.outputs) (sym (host_responds s c.args.place c.args.group p role (search) alive own))
     (told s s.moment parts.esis (sym parts.local.configuration ∙ sym c.config-in-Host.ensures)))
-    c.tell.ensures
+    c.tell.ensures.told
 
 pub returns-in-Router : goal.returns-in-Router
 returns-in-Router c = λ s p h alive own.

@@ -35,7 +35,6 @@ returns-clause-stands c = λ s h. again c s (subst (λ (e : SystemEntityState). 
 pub invariant_of-self : goal.invariant_of-self
 invariant_of-self c = record {
   moment = c.self.invariant.moment;
-  hold = rw c.restart.ensures.limits c.self.invariant.hold;
   routes = subst (λ (x : SystemConfiguration). routing.Stands c.self.inside.routes x.routes) (sym c.restart.ensures.config) c.self.invariant.routes;
   ready = λ free.
       let r = c.self.invariant.ready free in

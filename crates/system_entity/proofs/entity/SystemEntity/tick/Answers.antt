@@ -12,7 +12,6 @@ invariant_of-self-2 c =
     let old = c.self.invariant.ready c.if-self.false in
     record {
       moment = c.self-2.invariant.moment;
-      hold = c.self-2.invariant.hold;
       routes = c.self-2.invariant.routes;
       ready = λ free. record {
         state = (moment_comes old.state c.args.now).after;

@@ -3,7 +3,7 @@ use Rattle.clnp_machine.specs.EsisTables.Stands as heard
 use Rattle.clnp_machine.specs.EsisTables.Stands.{limits_of}
 use Rattle.esis_entity.specs.State.{EsisState}
 use Rattle.esis_entity.proofs.Ticking.{does_tick, on_ok}
-use Rattle.esis_entity.proofs.entity.EsisEntity.tick.Goals as goal
+use Rattle.esis_entity.proofs.entity.EsisEntity.forget_and_say.Goals as goal
 
 pub returns-clause-stands : goal.returns-clause-stands
 returns-clause-stands c =
@@ -20,7 +20,7 @@ returns-clause-stands c =
     (c.in_ok-forget.ensures.stands s.facts before there passed)
     (c.in_ok-forget.ensures.outputs s.facts before c.args.now there passed)
     (λ stands. says s stands same at)).stands)
-    c.say_hello.ensures
+    c.say_hello.ensures.said
 
 pub returns-clause-outputs : goal.returns-clause-outputs
 returns-clause-outputs c =
@@ -37,4 +37,4 @@ returns-clause-outputs c =
     (c.in_ok-forget.ensures.stands s.facts before there passed)
     (c.in_ok-forget.ensures.outputs s.facts before c.args.now there passed)
     (λ stands. says s stands same at)).appends)
-    c.say_hello.ensures
+    c.say_hello.ensures.said

@@ -2,7 +2,7 @@ use Rattle.std.proofs.Common.{◌≡◌, ◌++◌, map}
 use Rattle.std.specs.List.{AllByRecursion}
 use Rattle.clnp_machine.specs.Segmenter.Left.{IsCutOf}
 use Rattle.local_entity.specs.Sending.{transmission}
-use Rattle.local_entity.proofs.sending.give_pieces.Given as goal
+use Rattle.local_entity.proofs.sending.push_pieces.Given as goal
 
 abbrev pub invariant-loop-cut : goal.invariant-loop-cut
 invariant-loop-cut l = record {

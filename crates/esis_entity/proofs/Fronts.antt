@@ -1,0 +1,18 @@
+-- What stays in front of a list to which more is appended.
+use Rattle.std.proofs.Common.{◌≡◌, refl, ap, List, [], ◌∷◌, length, take}
+use Rattle.clnp_machine.specs.ClnpPlan.declared.output.Output.{Output}
+use Rattle.esis_entity.specs.Does.{StaysInFront}
+
+pub front_none : (list : List Output) → StaysInFront list list
+front_none [] = refl
+front_none (first ∷ others) = ap (λ (list : List Output). first ∷ list) (front_none others)
+
+pub front_more : (before mid after : List Output) → StaysInFront before mid → StaysInFront mid after → StaysInFront before after
+front_more [] mid after first second = refl
+front_more (x ∷ before) [] after first second = absurd (cc)
+front_more (x ∷ before) (y ∷ mid) [] first second = absurd (cc)
+front_more (x ∷ before) (y ∷ mid) (z ∷ after) first second =
+    let here : take (length before) mid ≡ before = cc in
+    let there : take (length mid) after ≡ mid = cc in
+    let rest : take (length before) after ≡ before = front_more before mid after here there in
+    cc
