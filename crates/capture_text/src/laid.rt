@@ -6,8 +6,8 @@ ghost use Rattle.capture_text.specs.View.{Misses, said_by};
 
 use crate::pieces::{Pieces, pieces_of};
 use crate::refusal::PackRefusal;
-use crate::words::{octet_5, same, type_of};
-use captures::clnp_base::{next_word, push};
+use crate::words::{octet_5, type_of};
+use captures::clnp_base::{next_word, push, same};
 use std::alloc::Global;
 
 /// The first octets of the protocols (ISO 8473, section 7.2.2; ISO 9542, section 7.2).

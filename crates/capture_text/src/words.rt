@@ -1,18 +1,12 @@
 //! Words of a shown line.
 ghost use Rattle.std.specs.Prelude.{◌≡◌, ◌==◌, ◌≤◌, IfSome, MatchOption, drop, length, true, false};
 ghost use Rattle.std.specs.List.{list_any};
-ghost use Rattle.std.specs.Str.{bytes_eq};
 ghost use Rattle.capture_text.specs.Laid as laid;
 ghost use Rattle.capture_text.specs.Laid.{octet_5};
 ghost use Rattle.captures.specs.Captures.{is_skipped};
 ghost use Rattle.capture_text.specs.Packing.{has_prefix, is_unpackable};
 
-/// Whether two words are the same.
-pub(crate) fn same(word: &[u8], other: &[u8]) -> bool
-    ensures { result ≡ bytes_eq word.now other.now }
-{
-    word == other
-}
+use captures::clnp_base::same;
 
 /// Whether a text begins so.
 pub(crate) fn has_prefix(prefix: &[u8], text: &[u8]) -> bool
