@@ -74,7 +74,7 @@ fn refusal_of(line: &[u8], other: LineRefusal) -> LineRefusal
 }
 
 /// Whether a line is to be skipped.
-pub fn is_skipped(line: &[u8]) -> bool
+pub(crate) fn is_skipped(line: &[u8]) -> bool
     ensures { result ≡ is_skipped line.now }
 {
     match line {
