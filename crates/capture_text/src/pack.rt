@@ -10,9 +10,9 @@ ghost use Rattle.capture_text.specs.Packing.{IsNotShown, Lacks, Packs, PacksTooM
 
 use crate::laid::frame_of;
 use crate::refusal::PackRefusal;
-use crate::words::{is_skipped, is_unpackable};
+use crate::words::is_unpackable;
 use captures::clnp_base::{push_hex, same};
-use captures::{MOST_OCTETS, laws, show_line};
+use captures::{MOST_OCTETS, is_skipped, laws, show_line};
 use std::alloc::Global;
 
 /// Appends the digits of the frame that a shown line packs to, and answers true; or answers false where the line is to
