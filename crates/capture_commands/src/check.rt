@@ -52,6 +52,7 @@ pub fn check<K: Sink>(alloc: Global, text: &[u8], sink: &mut K) -> Status
     ensures comes_to { ComesAs (task_of checking first_checked (lines_of text.now)) (K.written sink.old) (K.written sink.new) result }
     ensures failed { result ≡ Status.WriteFault → Rose (K.faults sink.old) (K.faults sink.new) }
 {
+    // Its clause: vectors behind a stop have their verdicts too.
     every_vector_is_judged();
     let mut block = Vec::new(alloc);
     let mut tally = Tally {
@@ -78,6 +79,7 @@ fn every_vector_is_judged()
     ensures { (number : ℕ) (octets expected : List ℕ) → IsBytes octets
         → (verdict : Verdict) × ((text : List ℕ) × Judges number octets expected verdict text) }
 {
+    // Its clause `some`.
     laws::one_verdict();
 }
 

@@ -12,6 +12,7 @@ pub fn what_is_shown_is_packed_again()
     ensures { (capture : List ℕ) → IsAcceptedCapture capture
         → (text : List ℕ) × ShowsAs capture text × PacksTo text capture × (length capture ≤ length text) }
 {
+    // Their clauses: a frame has one line, a line packs to one frame, and either text is read line by line.
     shown::one_line();
     packed::the_outcome_of_a_line();
     packed::packed_lines_are_asked();
@@ -25,6 +26,7 @@ pub fn what_is_packed_is_shown_again()
     ensures { (text packed : List ℕ) → EndsPlainly text → PacksTo text packed
         → ShowsAs packed (without_skipped text) × (length packed ≤ length text) }
 {
+    // Their clauses: a frame has one line, a line packs to one frame, and either text is read line by line.
     shown::one_line();
     packed::the_outcome_of_a_line();
     packed::packed_lines_are_asked();

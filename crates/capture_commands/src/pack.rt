@@ -59,6 +59,7 @@ fn pack_next<K: Sink>(
 fn push_line(alloc: Global, line: &[u8], block: &mut Vec<u8>) -> Result<(), LineFault>
     ensures { (number : ℕ) → PushOf packing number (λ done. number + 1) number line.now block.old.items block.new.items result }
 {
+    // Its clause: one thing comes of a line.
     laws::the_outcome_of_a_line();
     match pack_line(alloc, line, block) {
         Ok(false) => Ok(()),

@@ -21,6 +21,7 @@ pub fn show<K: Sink>(alloc: Global, text: &[u8], sink: &mut K) -> Status
     ensures comes_to { ComesAs (task_of showing 1 (lines_of text.now)) (K.written sink.old) (K.written sink.new) result }
     ensures failed { result ≡ Status.WriteFault → Rose (K.faults sink.old) (K.faults sink.new) }
 {
+    // Its clause: frames behind a stop have their lines too.
     every_frame_is_shown();
     let mut frame = Vec::new(alloc);
     let mut block = Vec::new(alloc);
@@ -43,6 +44,7 @@ pub fn show<K: Sink>(alloc: Global, text: &[u8], sink: &mut K) -> Status
 fn every_frame_is_shown()
     ensures { (frame : List ℕ) → IsBytes frame → (line : List ℕ) × Shows frame line }
 {
+    // Its clause `some`.
     laws::one_line();
 }
 

@@ -19,7 +19,7 @@ use Rattle.captures.specs.Shown.{kind_word, flags_word, letters_of, segmentation
 use Rattle.capture_text.specs.Said.{Said, nothing}
 use Rattle.capture_text.specs.Words.{says_words}
 use Rattle.capture_text.specs.Laid.{laid, type_of, octet_5, clnp_frame, frame_of}
-use Rattle.capture_text.proofs.Plain.{IsWord, known, first_word}
+use Rattle.captures.proofs.ClnpBase.PlainWords.{IsWord, known, first_word}
 use Rattle.capture_text.proofs.Bytes.{left_bytes, right_bytes}
 use Rattle.capture_text.proofs.Checksums.{nine, checksum_is, behind_nine}
 use Rattle.capture_text.proofs.Steps.{AreShort, step_life, step_sum, step_to, step_from, step_segmentation, step_options, ends_options, last_data}

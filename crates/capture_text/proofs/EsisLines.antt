@@ -21,7 +21,7 @@ use Rattle.captures.specs.EsisShown.{esis_word, body_text, esis_text, ShowsEsis}
 use Rattle.capture_text.specs.Said.{Said, nothing}
 use Rattle.capture_text.specs.Words.{says_words}
 use Rattle.capture_text.specs.Laid.{laid, esis_frame, frame_of}
-use Rattle.capture_text.proofs.Plain.{IsWord, known, first_word}
+use Rattle.captures.proofs.ClnpBase.PlainWords.{IsWord, known, first_word}
 use Rattle.capture_text.proofs.Bytes.{left_bytes, right_bytes}
 use Rattle.capture_text.proofs.Checksums.{nine, checksum_is, behind_nine}
 use Rattle.capture_text.proofs.Steps.{step_hold, step_sum, step_to, step_via, step_title, step_addresses, step_options, ends_addresses, ends_options, last_rest}

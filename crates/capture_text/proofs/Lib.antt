@@ -1,4 +1,3 @@
-pub mod Plain
 pub mod ReadBack
 pub mod Steps
 pub mod Bytes

@@ -24,7 +24,7 @@ use Rattle.captures.specs.EsisShown.{address_text, addresses_text, body_text, es
 use Rattle.captures.proofs.ClnpBase.Lists.{AllByRecursion-append, AllByRecursion-implies}
 use Rattle.captures.proofs.ClnpBase.Reading.{IsWithinLine, lines_of-line}
 use Rattle.capture_text.specs.Packing.{Packs}
-use Rattle.capture_text.proofs.Plain.{IsPlain, decimal_plain, digit_plain}
+use Rattle.captures.proofs.ClnpBase.PlainWords.{IsPlain, decimal_plain, digit_plain}
 use Rattle.capture_text.proofs.Packed.{value_of}
 
 -- a text in which no line ends

@@ -12,7 +12,7 @@ use Rattle.captures.specs.ClnpOptions.Parameter.{Parameter, spelling}
 use Rattle.captures.specs.PduHeader.Spelling.{pair_of, counted}
 use Rattle.captures.specs.Words.{octet_word}
 use Rattle.capture_text.specs.Said.{octets_in, with_octets, with_counted, with_option, with_number, within_pair, number_in}
-use Rattle.capture_text.proofs.Plain.{decimal_read}
+use Rattle.captures.proofs.ClnpBase.PlainWords.{decimal_read}
 use Rattle.capture_text.proofs.Bytes.{one_byte}
 
 pub octets_read : (front octets : List ℕ) → IsBytes octets → with_octets front (hex_text octets) ≡ Some (front ++ octets)

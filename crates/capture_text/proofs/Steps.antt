@@ -19,7 +19,7 @@ use Rattle.captures.specs.Shown.{segmentation_text}
 use Rattle.captures.specs.EsisShown.{addresses_text}
 use Rattle.capture_text.specs.Said.{Said, octets_in, with_octets, with_counted, with_number, with_option}
 use Rattle.capture_text.specs.Words.{says_word, says_address, says_field, says_words}
-use Rattle.capture_text.proofs.Plain.{IsPlain, IsWord, keyed, first_word, last_word, hex_plain, decimal_plain}
+use Rattle.captures.proofs.ClnpBase.PlainWords.{IsPlain, IsWord, keyed, first_word, last_word, hex_plain, decimal_plain}
 use Rattle.capture_text.proofs.Bytes.{left_bytes, right_bytes, pair_bytes, one_byte}
 use Rattle.capture_text.proofs.ReadBack.{octets_read, half, counted_read, option_read, number_read, number_put}
 

@@ -6,13 +6,14 @@ ghost use Rattle.capture_text.specs.View.{Misses, said_by};
 
 use crate::pieces::{Pieces, pieces_of};
 use crate::refusal::PackRefusal;
-use crate::words::{octet_5, same, type_of};
-use captures::clnp_base::{next_word, push};
+use crate::words::{octet_5, type_of};
+use captures::clnp_base::{next_word, push, same};
 use std::alloc::Global;
 
-/// The first octets of the protocols (ISO 8473, section 7.2.2; ISO 9542, section 7.2).
+/// The first octet of a CLNP PDU (ISO 8473, section 7.2.2).
 const CLNP: u8 = 0x81;
 
+/// The first octet of an ES-IS PDU (ISO 9542, section 7.2).
 const ESIS: u8 = 0x82;
 
 /// The version of both (ISO 8473, section 7.2.4; ISO 9542, section 7.2).
@@ -27,11 +28,13 @@ const MOST_HEADER: usize = 254;
 /// The most octets of header and data (ISO 8473, section 7.2.8).
 const MOST_TOTAL: usize = 65_535;
 
-/// The types of ES-IS PDUs: end system hello, intermediate system hello, redirect (ISO 9542, section 7.2).
+/// The type of an end system hello (ISO 9542, section 7.2).
 const END_SYSTEM_HELLO: u8 = 2;
 
+/// The type of an intermediate system hello (ISO 9542, section 7.2).
 const INTERMEDIATE_SYSTEM_HELLO: u8 = 4;
 
+/// The type of a redirect (ISO 9542, section 7.2).
 const REDIRECT: u8 = 6;
 
 /// The frame that a shown line is of, if it is of any.

@@ -26,6 +26,7 @@ pub fn packed_lines_are_asked()
 pub fn the_outcome_of_a_line()
     ensures { (line : List ℕ) (outcome : Outcome) → (outcome_of line ≡ outcome) ↔ ComesOf outcome line }
 {
+    // Its clause: a frame has one line.
     shown::one_line();
 }
 

@@ -10,9 +10,9 @@ ghost use Rattle.capture_text.specs.Packing.{IsNotShown, Lacks, Packs, PacksTooM
 
 use crate::laid::frame_of;
 use crate::refusal::PackRefusal;
-use crate::words::{is_skipped, is_unpackable, same};
-use captures::clnp_base::push_hex;
-use captures::{MOST_OCTETS, laws, show_line};
+use crate::words::is_unpackable;
+use captures::clnp_base::{push_hex, same};
+use captures::{MOST_OCTETS, is_skipped, laws, show_line};
 use std::alloc::Global;
 
 /// Appends the digits of the frame that a shown line packs to, and answers true; or answers false where the line is to
@@ -82,6 +82,7 @@ fn shown_by(alloc: Global, line: &[u8], frame: Vec<u8>) -> Result<Vec<u8>, PackR
     requires read { laid.frame_of (words_of line.now) ≡ Some frame.items }
     ensures { MatchResult result (λ frame. Packs line.now frame.items) (λ refusal. Lacks refusal line.now) }
 {
+    // Its clause: no other line shows the frame.
     laws::one_line();
     let shown = shown(alloc, &frame, line.len())?;
     if same(&shown, line) {

@@ -1,18 +1,12 @@
 //! Words of a shown line.
 ghost use Rattle.std.specs.Prelude.{◌≡◌, ◌==◌, ◌≤◌, IfSome, MatchOption, drop, length, true, false};
 ghost use Rattle.std.specs.List.{list_any};
-ghost use Rattle.std.specs.Str.{bytes_eq};
 ghost use Rattle.capture_text.specs.Laid as laid;
 ghost use Rattle.capture_text.specs.Laid.{octet_5};
-ghost use Rattle.captures.specs.Captures.{is_skipped};
 ghost use Rattle.capture_text.specs.Packing.{has_prefix, is_unpackable};
 
-/// Whether two words are the same.
-pub(crate) fn same(word: &[u8], other: &[u8]) -> bool
-    ensures { result ≡ bytes_eq word.now other.now }
-{
-    word == other
-}
+use captures::clnp_base::same;
+use captures::esis_pdus::pdu_header::Kind;
 
 /// Whether a text begins so.
 pub(crate) fn has_prefix(prefix: &[u8], text: &[u8]) -> bool
@@ -35,16 +29,16 @@ pub(crate) fn type_of(word: &[u8]) -> Option<u8>
     ensures small { IfSome result (λ code. code ≤ 31) }
 {
     if same(word, b"dt") {
-        return Some(28);
+        return Some(Kind::Dt.type_code());
     }
     if same(word, b"er") {
-        return Some(1);
+        return Some(Kind::Er.type_code());
     }
     if same(word, b"erq") {
-        return Some(30);
+        return Some(Kind::Erq.type_code());
     }
     if same(word, b"erp") {
-        return Some(31);
+        return Some(Kind::Erp.type_code());
     }
     None
 }
@@ -75,16 +69,6 @@ pub(crate) fn octet_5(letters: &[u8], code: u8) -> u8
     ensures { result ≡ octet_5 letters.now code }
 {
     flag(b's', 128, letters) + flag(b'm', 64, letters) + flag(b'e', 32, letters) + code
-}
-
-/// Whether a line is to be skipped: it is empty or begins with `#`.
-pub(crate) fn is_skipped(line: &[u8]) -> bool
-    ensures { result ≡ is_skipped line.now }
-{
-    match line {
-        [] => true,
-        [first, ..] => *first == b'#',
-    }
 }
 
 /// Whether a line is that of a refused frame, or of one of neither protocol.

@@ -73,7 +73,7 @@ fn refusal_of(line: &[u8], other: LineRefusal) -> LineRefusal
     }
 }
 
-/// Whether a line is to be skipped.
+/// Whether a line is to be skipped: it is empty or begins with `#`.
 pub fn is_skipped(line: &[u8]) -> bool
     ensures { result ≡ is_skipped line.now }
 {

@@ -12,7 +12,7 @@ use esis_pdus::nsap::Address;
 use esis_pdus::{AddressList, EsisBody, EsisPdu, EsisRefusal, decode};
 
 /// Appends the text of a frame that doesn't begin with 0x81.
-pub fn push_other(frame: &[u8], line: &mut Vec<u8>) -> Result<(), NoMemory>
+pub(crate) fn push_other(frame: &[u8], line: &mut Vec<u8>) -> Result<(), NoMemory>
     ensures { OnOk result ((text : List ℕ) × ShowsOther frame.now text × (line.new.items ≡ line.old.items ++ text)) }
 {
     match decode(frame) {

@@ -14,6 +14,7 @@ pub fn one_line()
     ensures some { (frame : List ℕ) → IsBytes frame → (line : List ℕ) × Shows frame line }
     ensures one { (frame line other : List ℕ) → Shows frame line → Shows frame other → line ≡ other }
 {
+    // Their clauses: a frame of either protocol has one value, exactly where it breaks no rule.
     clnp::one_value();
     clnp::spelled_where_no_rule_is_broken();
     esis::one_value();
@@ -28,5 +29,6 @@ pub fn one_verdict()
         → Judges number octets expected verdict text → Judges number octets expected other another
         → (verdict ≡ other) × (text ≡ another) }
 {
+    // Its clause: a frame has one line.
     one_line();
 }

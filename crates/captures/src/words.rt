@@ -12,7 +12,7 @@ use esis_pdus::clnp_options::first_option;
 use esis_pdus::pdu_header::Kind;
 
 /// Appends a label, and octets as hexadecimal digits in lower case.
-pub fn push_octets(label: &[u8], octets: &[u8], line: &mut Vec<u8>) -> Result<(), NoMemory>
+pub(crate) fn push_octets(label: &[u8], octets: &[u8], line: &mut Vec<u8>) -> Result<(), NoMemory>
     ensures { OnOk result (line.new.items ≡ line.old.items ++ (label.now ++ hex_text octets.now)) }
 {
     push(label, line)?;
@@ -20,7 +20,7 @@ pub fn push_octets(label: &[u8], octets: &[u8], line: &mut Vec<u8>) -> Result<()
 }
 
 /// Appends a label, and a number in decimal digits.
-pub fn push_number(label: &[u8], number: u16, line: &mut Vec<u8>) -> Result<(), NoMemory>
+pub(crate) fn push_number(label: &[u8], number: u16, line: &mut Vec<u8>) -> Result<(), NoMemory>
     ensures { OnOk result (line.new.items ≡ line.old.items ++ (label.now ++ decimal number)) }
 {
     push(label, line)?;
@@ -28,14 +28,14 @@ pub fn push_number(label: &[u8], number: u16, line: &mut Vec<u8>) -> Result<(), 
 }
 
 /// Appends a label, and a number of two octets in four hexadecimal digits.
-pub fn push_pair(label: &[u8], number: u16, line: &mut Vec<u8>) -> Result<(), NoMemory>
+pub(crate) fn push_pair(label: &[u8], number: u16, line: &mut Vec<u8>) -> Result<(), NoMemory>
     ensures { OnOk result (line.new.items ≡ line.old.items ++ (label.now ++ pair_word number)) }
 {
     push_octets(label, &number.to_be_bytes(), line)
 }
 
 /// The word of a kind of PDU.
-pub fn kind_text(kind: Kind) -> &'static [u8]
+pub(crate) fn kind_text(kind: Kind) -> &'static [u8]
     ensures { result.now ≡ kind_word kind }
 {
     match kind {
@@ -47,7 +47,7 @@ pub fn kind_text(kind: Kind) -> &'static [u8]
 }
 
 /// The word of whether an error report is made.
-pub fn report_text(reportable: bool) -> &'static [u8]
+pub(crate) fn report_text(reportable: bool) -> &'static [u8]
     ensures { result.now ≡ report_word reportable }
 {
     if reportable { b"report" } else { b"silent" }
@@ -55,7 +55,7 @@ pub fn report_text(reportable: bool) -> &'static [u8]
 
 /// The letters of the flags that are 1: s where segmentation is permitted, m where more segments
 /// follow, e where an error report is wanted; `-` where none is.
-pub fn flags_text(segmented: bool, more: bool, report: bool) -> &'static [u8]
+pub(crate) fn flags_text(segmented: bool, more: bool, report: bool) -> &'static [u8]
     ensures { result.now ≡ flags_word (letters_of segmented more report) }
 {
     match (segmented, more, report) {
@@ -72,7 +72,7 @@ pub fn flags_text(segmented: bool, more: bool, report: bool) -> &'static [u8]
 
 /// Appends the options that stand in a part of a header, in order.
 #[tactic(auto, unfolding(crate::specs::Words::options_text))]
-pub fn push_options(part: &[u8], line: &mut Vec<u8>) -> Result<(), NoMemory>
+pub(crate) fn push_options(part: &[u8], line: &mut Vec<u8>) -> Result<(), NoMemory>
     ensures { OnOk result (line.new.items ≡ line.old.items ++ options_text (parameters part.now)) }
 {
     let mut left = part;

@@ -7,6 +7,7 @@ pub mod Laid
 pub mod ListSteps
 pub mod Lists
 pub mod Maps
+pub mod PlainWords
 pub mod Pouring
 pub mod Ranges
 pub mod Reading

@@ -10,7 +10,7 @@ use hex::FromHex;
 const UNASKED: u8 = 254;
 
 /// Decodes digits into the octets' place, and says whether all are digits.
-pub fn decode(digits: &[u8], place: &mut [u8]) -> bool
+pub(crate) fn decode(digits: &[u8], place: &mut [u8]) -> bool
     requires { length digits.now ≡ 2 * length place.old }
     ensures { Spells result digits.now place.new }
 {

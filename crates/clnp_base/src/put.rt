@@ -50,6 +50,18 @@ pub fn push_decimal(number: u64, out: &mut Vec<u8>) -> Result<(), NoMemory>
     push(buffer.format(number).as_bytes(), out)
 }
 
+/// Appends a label, and a number in decimal digits.
+///
+/// # Errors
+///
+/// `NoMemory`; some of it may stand behind what was in `out` then.
+pub fn push_number(label: &[u8], number: u64, out: &mut Vec<u8>) -> Result<(), NoMemory>
+    ensures { OnOk result (out.new.items ≡ out.old.items ++ (label.now ++ decimal number)) }
+{
+    push(label, out)?;
+    push_decimal(number, out)
+}
+
 /// Why no octets were read of hexadecimal digits.
 #[derive(Clone, Copy, Debug, PartialEq, Eq)]
 pub enum HexFault {

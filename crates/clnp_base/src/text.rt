@@ -1,4 +1,5 @@
 ghost use Rattle.std.specs.Prelude.{◌≡◌, ◌-◌, ◌<◌, ◌≤◌, ◌∷◌, [], drop, length, false, MatchOption, IfSome};
+ghost use Rattle.std.specs.Str.{bytes_eq};
 ghost use Rattle.clnp_base.specs.Text.{lines_of, words_of, begins_with, decimal_of};
 ghost use Rattle.clnp_base.specs.Cuts.{index_of, without_return, with_digit};
 
@@ -38,6 +39,13 @@ pub fn next_word(line: &[u8]) -> Option<(&[u8], &[u8])>
     }
     let end = index_of(left, b' ');
     Some(left.split_at(end))
+}
+
+/// Whether two texts are the same.
+pub fn same(text: &[u8], other: &[u8]) -> bool
+    ensures { result ≡ bytes_eq text.now other.now }
+{
+    text == other
 }
 
 /// The lines of a text, in order.

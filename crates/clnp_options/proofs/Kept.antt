@@ -19,14 +19,15 @@ use Rattle.clnp_base.proofs.Lists.{pairs_first, pairs_others}
 
 pub HaveOneForm-same : (os : List Parameter) → HaveOneForm os os
 HaveOneForm-same [] = tt
-HaveOneForm-same (o ∷ os) = (refl, refl, HaveOneForm-same os)
+HaveOneForm-same (o ∷ os) = ((refl, refl), HaveOneForm-same os)
 
 pub HaveOneForm-chained : (os ps qs : List Parameter) → HaveOneForm os ps → HaveOneForm ps qs → HaveOneForm os qs
 HaveOneForm-chained [] [] qs h k = k
 HaveOneForm-chained [] (p ∷ ps) qs h k = absurd h
 HaveOneForm-chained (o ∷ os) [] qs h k = absurd h
 HaveOneForm-chained (o ∷ os) (p ∷ ps) [] h k = absurd k
-HaveOneForm-chained (o ∷ os) (p ∷ ps) (q ∷ qs) h k = (h.0 ∙ k.0, h.1 ∙ k.1, HaveOneForm-chained os ps qs h.2 k.2)
+HaveOneForm-chained (o ∷ os) (p ∷ ps) (q ∷ qs) h k =
+    ((h.0.0 ∙ k.0.0, h.0.1 ∙ k.0.1), HaveOneForm-chained os ps qs h.1 k.1)
 
 pub length-one_form : (os ps : List Parameter) → HaveOneForm os ps → length (spelled os) ≡ length (spelled ps)
 unfolding spelled
@@ -34,7 +35,7 @@ length-one_form [] [] h = refl
 length-one_form [] (p ∷ ps) h = absurd h
 length-one_form (o ∷ os) [] h = absurd h
 length-one_form (o ∷ os) (p ∷ ps) h =
-    omega (arith, h.1, length-append o.value (spelled os), length-append p.value (spelled ps), length-one_form os ps h.2)
+    omega (arith, h.0.1, length-append o.value (spelled os), length-append p.value (spelled ps), length-one_form os ps h.1)
 
 -- a change that keeps the length of each value
 pub edited-one_form : (code : ℕ) (change : List ℕ → List ℕ) (os : List Parameter) → All (λ o. o.code ≡ code → length (change o.value) ≡ length o.value) os → HaveOneForm (edited code change os) os
@@ -44,8 +45,8 @@ edited-one_form code change (o ∷ os) h =
     let P : Parameter → Type 0 = λ p. p.code ≡ code → length (change p.value) ≡ length p.value in
     let others = edited-one_form code change os (All-tail P o os h) in
     elim (cases_Bool (eqb o.code code)) [
-      | inl t ↦ let e = eqb-true o.code code t in rw t (sym e, All-head P o os h e, others)
-      | inr f ↦ rw f (refl, refl, others)
+      | inl t ↦ let e = eqb-true o.code code t in rw t ((sym e, All-head P o os h e), others)
+      | inr f ↦ rw f ((refl, refl), others)
     ]
 
 pub advanced-one_form : (os : List Parameter) → HaveOneForm (edited source_route advanced os) os

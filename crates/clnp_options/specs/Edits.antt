@@ -1,6 +1,7 @@
 -- What a router reads and changes in the options of a PDU that it forwards.
-use Rattle.std.specs.Prelude.{◌≡◌, ℕ, ◌+◌, ◌-◌, ◌==◌, nat_le, Bool, false, if◌then◌else◌, List, [], ◌∷◌, ◌++◌, map, length, take, drop, slice_index, slice_set, bit_or, Option, Some, None, option_and_then, ⊤}
+use Rattle.std.specs.Prelude.{◌≡◌, ℕ, ◌+◌, ◌-◌, ◌==◌, nat_le, Bool, false, if◌then◌else◌, List, [], ◌∷◌, ◌++◌, map, length, take, drop, slice_index, slice_set, bit_or, Option, Some, None, option_and_then}
 use Rattle.std.specs.Option.{option_map_or}
+use Rattle.std.specs.List.{AllZip}
 use Rattle.clnp_options.specs.Parameter.{Parameter, source_route}
 
 -- the options with the value of each one of this code changed
@@ -65,8 +66,4 @@ marked value = if nat_le 192 (slice_index value 0) then slice_set value 0 (bit_o
 
 -- options of the same codes, with values of the same lengths
 abbrev pub HaveOneForm : List Parameter → List Parameter → Type 0
-HaveOneForm [] [] = ⊤
-HaveOneForm [] (other ∷ others) = ⊥
-HaveOneForm (one ∷ ones) [] = ⊥
-HaveOneForm (one ∷ ones) (other ∷ others) =
-    (one.code ≡ other.code) × (length one.value ≡ length other.value) × HaveOneForm ones others
+HaveOneForm options others = AllZip (λ one other. (one.code ≡ other.code) × (length one.value ≡ length other.value)) options others

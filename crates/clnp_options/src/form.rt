@@ -9,7 +9,7 @@ use crate::codes::{PADDING, PRIORITY, QUALITY, REASON, RECORDING, SECURITY, SOUR
 
 /// What a rule looks for in an option.
 #[derive(Clone, Copy)]
-pub enum Test {
+pub(crate) enum Test {
     /// A code that isn't in the table.
     Unknown,
     /// A security option that is empty or of the reserved format.
@@ -23,7 +23,7 @@ pub enum Test {
 }
 
 /// Whether an option is what the rule looks for.
-pub fn picks(test: Test, code: u8, value: &[u8]) -> bool
+pub(crate) fn picks(test: Test, code: u8, value: &[u8]) -> bool
     ensures { result ≡ test_of test (record { code = code; value = value.now }) }
 {
     match test {

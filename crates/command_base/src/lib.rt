@@ -3,10 +3,9 @@
 #![tactic(auto)]
 
 mod block;
-mod number;
 mod status;
 
 pub use block::{LineFault, LineStop, flush, flush_full, refuse, write_block, write_full_block};
 pub use clnp_base;
-pub use number::push_number;
+pub use clnp_base::push_number;
 pub use status::Status;

@@ -34,6 +34,7 @@ pub fn reply(request: &Pdu<'_>, id: Option<u16>, life: u8, sealed: bool) -> Part
     ensures fit { AreFit result (length request.now.body.now) }
     ensures short { too_long (parts_length result) (length request.now.body.now) ≡ None }
 {
+    // Its clause: no octets are no options.
     pdu_header::clnp_options::laws::spelled_options_read_back();
     Parts {
         kind: Kind::Erp,

@@ -18,6 +18,7 @@ fn is_request(octets: &[u8], body: &[u8]) -> bool
     ensures answers { IsTrue result ↔ AreRequest body.now octets.now }
     ensures test { result ≡ are_request body.now octets.now }
 {
+    // Their clauses: octets spell one PDU at most, and the test says what the rule says.
     pdu_header::laws::one_value();
     crate::laws::the_test_is_the_rule();
     let Ok(pdu) = decode(octets) else {

@@ -14,6 +14,7 @@ pub fn no_report_of_a_report()
     ensures made { (frame own : List ℕ) (cause place life : ℕ) (is_sealed : Bool) (octets rest : List ℕ)
         → BeginsWith octets (report_of frame own cause place life is_sealed) rest → is_reportable octets ≡ false }
 {
+    // Its clause: a frame is reported as the value says that it begins with.
     pdu_header::laws::reportable_where_wanted();
 }
 

@@ -74,6 +74,7 @@ fn reason_alone(code: u8, place: u8) -> OptionList
     ensures fits { FitsKind true (parameters result) }
     ensures size { length (spelled (parameters result)) ≡ 4 }
 {
+    // Their clauses: formed options break no rule of form, and what they spell reads back.
     pdu_header::clnp_options::laws::formed_where_no_form_rule_is_broken();
     pdu_header::clnp_options::laws::spelled_options_read_back();
     let mut options = OptionList::new();

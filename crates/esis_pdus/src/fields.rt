@@ -8,7 +8,7 @@ const MOST: usize = 20;
 
 /// The octets of the field at the front and what follows it, where it lies whole in the part and has
 /// at most 20 octets.
-pub fn field(part: &[u8]) -> Option<(&[u8], &[u8])>
+pub(crate) fn field(part: &[u8]) -> Option<(&[u8], &[u8])>
     ensures judged { MatchOption result (is_field 0 part.now ≡ false) (λ _. is_field 0 part.now ≡ true) }
     ensures octets { IfSome result (λ r. r.0.now ≡ fields.field part.now) }
     ensures behind { IfSome result (λ r. r.1.now ≡ behind part.now) }

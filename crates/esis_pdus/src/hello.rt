@@ -19,7 +19,7 @@ use pdu_header::clnp_views::Head;
 use pdu_header::nsap::{Address, Snpa};
 
 /// The code of the suggested end system configuration timer (ISO 9542:1988).
-pub const TIMER: u8 = 0xc6;
+pub(crate) const TIMER: u8 = 0xc6;
 
 /// Why no hello can be made.
 #[derive(Clone, Copy, Debug, PartialEq, Eq)]
@@ -113,7 +113,7 @@ pub fn rd(hold: u16, to: &Address, via: &Snpa, title: Option<&Address>, sealed: 
 }
 
 /// Puts a redirect's title behind its length, which is 0 where there is none.
-pub fn push_title(plain: &mut InlineOctets<MOST>, title: Option<&Address>)
+pub(crate) fn push_title(plain: &mut InlineOctets<MOST>, title: Option<&Address>)
     requires { length plain.old + 21 ≤ 254 }
     ensures octets { plain.new ≡ plain.old ++ counted (title_octets (option_copied title.entry)) }
     ensures title { IsTitleOrNone (option_copied title.entry) }

@@ -4,14 +4,14 @@ ghost use Rattle.std.specs.Prelude.{◌≡◌, ◌==◌, ◌||◌, MatchOption, 
 
 /// The kind that a header's type says (ISO 9542, section 7.2).
 #[derive(Clone, Copy)]
-pub enum Kind {
+pub(crate) enum Kind {
     EndSystemHello,
     IntermediateSystemHello,
     Redirect,
 }
 
 /// The kind that an octet of three bits 0 and a type says.
-pub fn kind_of(octet: u8) -> Option<Kind>
+pub(crate) fn kind_of(octet: u8) -> Option<Kind>
     ensures { MatchOption result ((octet == 2 || (octet == 4 || octet == 6)) ≡ false) (λ kind. octet ≡ code_of kind) }
 {
     match octet {
@@ -23,7 +23,7 @@ pub fn kind_of(octet: u8) -> Option<Kind>
 }
 
 /// The type of a kind.
-pub fn type_of(kind: Kind) -> u8
+pub(crate) fn type_of(kind: Kind) -> u8
     ensures { result ≡ code_of kind }
 {
     match kind {

@@ -18,10 +18,10 @@ const PROTOCOL: u8 = 0x82;
 const VERSION: u8 = 1;
 
 /// The most octets of a header (section 7.2).
-pub const MOST: usize = 254;
+pub(crate) const MOST: usize = 254;
 
 /// A header's fixed part, with a length of 0 and a checksum that isn't in use (section 7.2).
-pub fn begun(kind: Kind, hold: u16) -> InlineOctets<MOST>
+pub(crate) fn begun(kind: Kind, hold: u16) -> InlineOctets<MOST>
     ensures { result ≡ fixed_part 0 (code_of kind) hold }
 {
     let mut seconds = [0; 2];
@@ -40,7 +40,7 @@ pub fn begun(kind: Kind, hold: u16) -> InlineOctets<MOST>
 }
 
 /// Puts an address behind its length.
-pub fn push_counted(plain: &mut InlineOctets<MOST>, address: &[u8])
+pub(crate) fn push_counted(plain: &mut InlineOctets<MOST>, address: &[u8])
     requires { length plain.old + length (counted address.now) ≤ 254 }
     ensures { plain.new ≡ plain.old ++ counted address.now }
 {
@@ -49,7 +49,7 @@ pub fn push_counted(plain: &mut InlineOctets<MOST>, address: &[u8])
 }
 
 /// The header with its length, and with a checksum where it is to have one.
-pub fn finished(plain: &InlineOctets<MOST>, sealed: bool) -> Head
+pub(crate) fn finished(plain: &InlineOctets<MOST>, sealed: bool) -> Head
     requires { 9 ≤ length plain.now }
     ensures { result ≡ checked sealed (slice_set plain.now 1 (length plain.now)) }
 {

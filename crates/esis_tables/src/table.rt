@@ -19,7 +19,7 @@ use std::marker::Model;
 
 /// What a table keeps of a key: what was heard of it last.
 #[derive(Clone, Copy)]
-pub struct Entry {
+struct Entry {
     key: Address,
     place: Place,
     /// The moment from which its time has ended.
@@ -32,7 +32,7 @@ pub struct Entry {
 ///
 /// A contract sees what the table keeps; `Keeps` says which facts these are.
 #[derive(Drop)]
-pub struct Table {
+pub(crate) struct Table {
     limit: u16,
     entries: Vec<Entry>,
     /// A moment before which no time of an entry ends, so that a flush before it looks at none.
@@ -60,7 +60,7 @@ impl Table {
     /// # Errors
     ///
     /// `NoMemory`.
-    pub fn new(alloc: Global, limit: u16) -> Result<Table, NoMemory>
+    pub(crate) fn new(alloc: Global, limit: u16) -> Result<Table, NoMemory>
         ensures limit { IfOk result (λ table. table.limit ≡ limit) }
         ensures empty { IfOk result (λ table. table.entries ≡ []) }
     {
@@ -76,7 +76,7 @@ impl Table {
     }
 
     /// Notes that the system of a key is reached at a place, for `hold` seconds from `now` on.
-    pub fn hear(&mut self, now: u64, key: Address, place: Place, hold: u16) -> Heard
+    pub(crate) fn hear(&mut self, now: u64, key: Address, place: Place, hold: u16) -> Heard
         requires { now < 2 ^ 62 }
         ensures answered { (table : TableKind) (kept : List Fact) → Keeps self.old kept
             → result ≡ answer_of self.old.limit (hearing now table key place hold) kept }
@@ -192,7 +192,7 @@ impl Table {
     }
 
     /// Takes out the entry with the least key of those whose time has ended, and gives the key.
-    pub fn flush(&mut self, now: u64) -> Option<Address>
+    pub(crate) fn flush(&mut self, now: u64) -> Option<Address>
         ensures flushed { (kept : List Fact) → Keeps self.old kept
             → MatchOption result (ended_keys now kept ≡ []) (λ key. ended_keys now kept ≡ key ∷ ended_keys now (without key kept)) }
         ensures keeps { (kept : List Fact) → Keeps self.old kept
@@ -219,7 +219,7 @@ impl Table {
     }
 
     /// Where the system of a key is reached, while what was heard of it holds.
-    pub fn held(&self, now: u64, key: &Address) -> Option<Place>
+    pub(crate) fn held(&self, now: u64, key: &Address) -> Option<Place>
         ensures { IsRising key_in self.now.entries → result ≡ place_while_kept now (find (is_of key.now) self.now.entries) }
     {
         let Ok(at) = self.find(key) else {
@@ -234,7 +234,7 @@ impl Table {
     }
 
     /// Where the system is reached that was heard last, of those of which what was heard holds.
-    pub fn last_held(&self, now: u64) -> Option<Place>
+    pub(crate) fn last_held(&self, now: u64) -> Option<Place>
         ensures { result ≡ option_map place_in (latest_kept now None self.now.entries) }
     {
         let mut latest: Option<Entry> = None;
@@ -247,7 +247,7 @@ impl Table {
     }
 
     /// Whether a system is reached at this address on its subnetwork, by what holds.
-    pub fn is_held_at(&self, now: u64, snpa: &Snpa) -> bool
+    pub(crate) fn is_held_at(&self, now: u64, snpa: &Snpa) -> bool
         ensures { result ≡ list_any (is_kept_at now snpa.now) self.now.entries }
     {
         self.entries
@@ -256,7 +256,7 @@ impl Table {
     }
 
     /// Takes all entries out.
-    pub fn clear(&mut self)
+    pub(crate) fn clear(&mut self)
         ensures limit { self.new.limit ≡ self.old.limit }
         ensures empty { self.new.entries ≡ [] }
     {

@@ -46,6 +46,7 @@ pub(crate) fn push_frame(
     ensures { OnOk result ((s : Shares) (before : List CameOf) → StandBehind s before tables.old
         → GoesOn s before came.now tables.new out.old.items out.new.items) }
 {
+    // Its clause: a frame changes the table of its source as the model says, and no other.
     laws::tables_stand_behind_each_frame();
     match decode(came.frame.bytes()) {
         Ok(pdu) => push_pdu(alloc, tables, came, &pdu, out),
@@ -70,6 +71,7 @@ fn push_pdu(
     ensures tells { OnOk result (ChangesTable (place_of tables.old.sources pdu.now.from) tables.old tables.new
         (Tells (λ limits buffers. comes limits came.now buffers) came.now.moment out.old.items out.new.items)) }
 {
+    // Its clause: the value is read off the frame.
     laws::a_frame_has_one_value();
     push_expired(came.moment, tables, &pdu.from, out)?;
     push_arrived(alloc, tables, came, pdu, out)
@@ -88,6 +90,7 @@ fn push_expired(
         (Tells (λ limits buffers. expire_all moment buffers) moment out.old.items out.new.items)) }
     ensures ready { OnOk result (IsAt tables.new (place_of tables.old.sources from.now) (IsReady moment)) }
 {
+    // Its clauses: what ends behind the first that is due.
     laws::buffers_end_until_none_is_due();
     while let Some(ended) = tables.expire(moment, from) {
         let place = tables.place(from);

@@ -32,6 +32,7 @@ pub fn reassemble<K: Sink>(alloc: Global, text: &[u8], sink: &mut K) -> Status
 {
     // A text has no more lines than octets.
     let _lines = lines(text);
+    // Its clause: frames and shares of an accepted text keep the limits.
     an_accepted_text_is_in_range();
     match read(alloc, text) {
         Ok(capture) => match join(alloc, &capture, sink) {
@@ -84,6 +85,7 @@ fn take_in<K: Sink>(
         → TakenOf s frames.now tables.new (K.written sink.old) (K.written sink.new) block.new.items result }
     ensures failed { result ≡ Err Stop.WriteFault → Rose (K.faults sink.old) (K.faults sink.new) }
 {
+    // Its clause: what is told of frames goes on behind what was told of those before them.
     what_is_told_goes_on();
     for came in frames {
         take_in_next(alloc, came, tables, block, sink)?;
@@ -107,6 +109,7 @@ fn take_in_next<K: Sink>(
         → TakenOf s (frames ++ came.now ∷ []) tables.new before (K.written sink.new) block.new.items result }
     ensures failed { result ≡ Err Stop.WriteFault → Rose (K.faults sink.old) (K.faults sink.new) }
 {
+    // Its clause: what is told of frames goes on behind what was told of those before them.
     what_is_told_goes_on();
     match push_frame(alloc, tables, came, block) {
         Ok(()) => match flush_full(block, sink) {

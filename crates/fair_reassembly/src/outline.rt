@@ -1,10 +1,9 @@
 //! What a PDU says of the segment that it is.
 ghost use Rattle.std.specs.Prelude.{◌≡◌, ◌+◌, ◌≤◌, length};
 ghost use Rattle.fair_reassembly.specs.Coming.{of_unit, outlined, segment_by};
-ghost use Rattle.pdu_header.specs.Spelling.{type_code};
 
 use pdu_header::clnp_views::View;
-use pdu_header::{Kind, Pdu, SegPart};
+use pdu_header::{Pdu, SegPart};
 use reassembly::{Key, Segment, Shape};
 
 /// A segment but for its octets: of which unit and shape it is, its place and lifetime, and how many octets its PDU has.
@@ -32,7 +31,7 @@ impl Outline {
         let shape = Shape {
             total: part.total,
             head_len: pdu.head.len() as u8,
-            kind: type_code(pdu.kind),
+            kind: pdu.kind.type_code(),
         };
         Outline {
             key,
@@ -67,16 +66,4 @@ pub(crate) fn of_unit(part: Option<SegPart>, more: bool) -> Option<SegPart>
         return None;
     }
     Some(part)
-}
-
-/// The type of a PDU of this kind, as its octet says (ISO/IEC 8473, section 7.2.7; RFC 1575, section 4).
-fn type_code(kind: Kind) -> u8
-    ensures { result ≡ type_code kind }
-{
-    match kind {
-        Kind::Er => 1,
-        Kind::Dt => 28,
-        Kind::Erq => 30,
-        Kind::Erp => 31,
-    }
 }

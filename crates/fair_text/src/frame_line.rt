@@ -6,9 +6,10 @@ ghost use Rattle.fair_text.specs.Refusal.{Faults};
 
 use crate::digits::DigitValues;
 use crate::fault::LineFault;
-use crate::word::{number_word, same, two_words};
+use crate::word::{number_word, two_words};
 use fair_reassembly::Came;
 use scenario::Code;
+use scenario::clnp_base::same;
 use scenario::clnp_views::Frame;
 use std::alloc::Global;
 

@@ -12,11 +12,11 @@ use crate::declaration::{declare_share, others_line};
 use crate::digits::DigitValues;
 use crate::fault::{CaptureRefusal, LineFault};
 use crate::frame_line::next_frame;
-use crate::word::{is_line_of, is_skipped, same};
+use crate::word::{is_line_of, is_skipped};
 use fair_reassembly::reassembly::TableLimits;
 use fair_reassembly::{Came, Share};
 use scenario::Code;
-use scenario::clnp_base::next_line;
+use scenario::clnp_base::{next_line, same};
 use std::alloc::Global;
 
 /// A line that breaks the grammar, by its number and the code's.

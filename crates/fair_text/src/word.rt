@@ -1,13 +1,12 @@
 //! The words of a line: each gives its value, or the code of what is wrong with it.
 ghost use Rattle.std.specs.Prelude.{◌≡◌, ◌≤◌, IfOk, IfSome, None, Some, MatchOption};
-ghost use Rattle.std.specs.Str.{bytes_eq};
 ghost use Rattle.scenario.specs.ClnpBase.Text.{words_of};
 ghost use Rattle.scenario.specs.Grammar.{is_line_of};
 ghost use Rattle.scenario.specs.Words.{address_word, five_words, four_words, is_skipped, literal, number_within, number_word, one_word, three_words, two_words, wanted};
 ghost use Rattle.fair_text.specs.Grammar.{budget_word, segments_word, slots_word};
 
 use scenario::Code;
-use scenario::clnp_base::{decimal, next_word};
+use scenario::clnp_base::{decimal, next_word, same};
 use scenario::nsap::Address;
 
 /// The word of a line that has one word.
@@ -79,13 +78,6 @@ pub(crate) fn is_skipped(line: &[u8]) -> bool
         [first, ..] => *first == b'#',
         [] => true,
     }
-}
-
-/// Whether two words are the same.
-pub(crate) fn same(word: &[u8], other: &[u8]) -> bool
-    ensures { result ≡ bytes_eq word.now other.now }
-{
-    word == other
 }
 
 /// Nothing where it holds, and else the code.

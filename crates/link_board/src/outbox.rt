@@ -9,14 +9,14 @@ use std::marker::Model;
 
 /// To whom a frame was sent, and how many octets it has.
 #[derive(Drop)]
-pub struct Entry {
+struct Entry {
     to: Target,
     len: usize,
 }
 
 /// Frames that were sent, in order, in room that was reserved for them; their octets stand one behind the other.
 #[derive(Drop)]
-pub struct Outbox {
+pub(crate) struct Outbox {
     entries: Vec<Entry>,
     octets: Vec<u8>,
     sends: usize,

@@ -9,7 +9,7 @@ use nsap::clnp_base::Failed;
 
 /// A port: its link, until that is dropped, and whether the link is attached.
 #[derive(Drop)]
-pub struct Port {
+pub(crate) struct Port {
     pub(crate) link: Option<Box<dyn Link>>,
     pub(crate) attached: bool,
     ghost there: { IsTrue attached → IsSome link },

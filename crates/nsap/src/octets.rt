@@ -18,7 +18,7 @@ const MOST: usize = 20;
 /// One to twenty octets, which a contract sees as their list. They are ordered as lists are: the first
 /// octets that differ decide, and a beginning of a list comes before it.
 #[derive(Clone, Copy, Debug)]
-pub struct Octets {
+pub(crate) struct Octets {
     octets: InlineOctets<MOST>,
 }
 
@@ -37,7 +37,7 @@ impl Model for Octets {
 
 impl Octets {
     /// These octets, where they are 1 to 20.
-    pub fn from_bytes(octets: &[u8]) -> Result<Octets, NsapFault>
+    pub(crate) fn from_bytes(octets: &[u8]) -> Result<Octets, NsapFault>
         ensures value { result ≡ address_of octets.now }
         ensures bounds { IfOk result IsAddress }
     {
@@ -50,7 +50,7 @@ impl Octets {
     }
 
     /// The octets that a text spells.
-    pub fn from_text(text: &[u8]) -> Result<Octets, NsapFault>
+    pub(crate) fn from_text(text: &[u8]) -> Result<Octets, NsapFault>
         ensures value { result ≡ octets_of text.now }
         ensures bounds { IfOk result IsAddress }
     {
@@ -70,7 +70,7 @@ impl Octets {
     }
 
     /// The octets.
-    pub fn as_bytes(&self) -> &[u8]
+    pub(crate) fn as_bytes(&self) -> &[u8]
         ensures octets { result.now ≡ self.now }
         ensures bounds { IsAddress self.now }
     {
@@ -78,7 +78,7 @@ impl Octets {
     }
 
     /// Appends the octets as hexadecimal digits.
-    pub fn push_text(&self, out: &mut Vec<u8>) -> Result<(), NoMemory>
+    pub(crate) fn push_text(&self, out: &mut Vec<u8>) -> Result<(), NoMemory>
         ensures written { OnOk result (out.new.items ≡ out.old.items ++ hex_text self.now) }
         ensures same { OnErr result (out.new.items ≡ out.old.items) }
     {

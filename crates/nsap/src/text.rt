@@ -10,7 +10,7 @@ fn is_text(c: u8) -> bool
 }
 
 /// The place of the first character that may not stand there.
-pub fn first_bad_digit(text: &[u8]) -> Option<usize>
+pub(crate) fn first_bad_digit(text: &[u8]) -> Option<usize>
     ensures { result ≡ bad_digit text.now }
 {
     text.iter().position(|c| !is_text(*c))
@@ -18,7 +18,7 @@ pub fn first_bad_digit(text: &[u8]) -> Option<usize>
 
 /// Puts the characters of the text that aren't dots at the front of `digits`, and gives their number;
 /// none where they are more than 40.
-pub fn collect_digits(text: &[u8], digits: &mut [u8; 40]) -> Option<usize>
+pub(crate) fn collect_digits(text: &[u8], digits: &mut [u8; 40]) -> Option<usize>
     ensures few { IfSome result (λ n. (n ≤ 40) × (take n digits.new ≡ without_dots text.now)) }
     ensures many { IfNone result (40 < length (without_dots text.now)) }
 {

@@ -6,6 +6,5 @@ pub mod Steps
 pub mod Answering
 pub mod FrameLines
 pub mod Makes
-pub mod PlainWords
 pub mod Worked
 pub mod WrittenLines

@@ -29,7 +29,7 @@ use Rattle.pcap_commands.specs.Lines.{TellsRecords, line_seen}
 use Rattle.pcap_commands.specs.Make.{Skipped, Makes, and_frames, four_of, frame_of_words, frames_of, line_of, make_status, pdu_of, seconds_in, status_at}
 use Rattle.pcap_commands.specs.Laws.{lines_of_frames}
 use Rattle.pcap_commands.proofs.FrameLines.{read_line, skipped_line}
-use Rattle.pcap_commands.proofs.PlainWords.{IsHigh, IsWord, decimal_high, decimal_plain, decimal_read, decimal_some, first_word, hex_plain, last_word, within_both, within_plain}
+use Rattle.command_base.proofs.ClnpBase.PlainWords.{IsHigh, IsWord, decimal_high, decimal_plain, decimal_read, decimal_some, first_word, hex_plain, last_word, within_both, within_plain}
 
 -- ---- words read again
 

@@ -12,7 +12,7 @@ const HEADER: usize = 24;
 const CUT_FILE: u8 = 15;
 
 /// The answer to a fault behind so many whole records.
-pub fn fault_answer(fault: PcapFault, whole: u32) -> Status
+pub(crate) fn fault_answer(fault: PcapFault, whole: u32) -> Status
     requires { whole + 1 < 2 ^ 32 }
     ensures told { result ≡ fault_status whole fault }
     ensures no_fault { (result ≢ Status.ReadFault) × (result ≢ Status.WriteFault) }
@@ -27,7 +27,7 @@ pub fn fault_answer(fault: PcapFault, whole: u32) -> Status
 }
 
 /// The answer to a file that ends, after so many octets, within its header or within a record behind so many whole ones.
-pub fn cut_answer(size: usize, whole: u32) -> Status
+pub(crate) fn cut_answer(size: usize, whole: u32) -> Status
     requires { whole + 1 < 2 ^ 32 }
     ensures { result ≡ Status.BadInput (cut_place size whole) 15 }
 {

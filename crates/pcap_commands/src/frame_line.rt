@@ -28,22 +28,22 @@ const MOST_PDU: usize = 1497;
 
 /// What a frame has beside its PDU.
 #[derive(Clone, Copy)]
-pub struct Envelope {
+pub(crate) struct Envelope {
     /// The second at which it came.
-    pub seconds: u32,
+    pub(crate) seconds: u32,
     /// Its destination, of six octets.
-    pub to: Snpa,
+    pub(crate) to: Snpa,
     /// Its source, of six octets.
-    pub from: Snpa,
+    pub(crate) from: Snpa,
 }
 
 /// The words of the line of a frame.
 #[derive(Clone, Copy)]
-pub struct LineWords<'a> {
-    pub seconds: &'a [u8],
-    pub to: &'a [u8],
-    pub from: &'a [u8],
-    pub pdu: &'a [u8],
+struct LineWords<'a> {
+    seconds: &'a [u8],
+    to: &'a [u8],
+    from: &'a [u8],
+    pdu: &'a [u8],
 }
 
 /// Reads the line of a frame, `SECONDS DST SRC HEX`: appends the octets of its PDU to `pdu`, which is empty, and gives the
@@ -54,7 +54,7 @@ pub struct LineWords<'a> {
 /// The code of the first word that is wrong, or `NoMemory`: 2 for another number of words, 3 for seconds that are no decimal
 /// below 2^32, 4 for a destination or a source that is none, and for digits that aren't two an octet, 10 for more than
 /// 1,497 octets.
-pub fn read_frame(line: &[u8], pdu: &mut Vec<u8>) -> Result<Envelope, LineFault>
+pub(crate) fn read_frame(line: &[u8], pdu: &mut Vec<u8>) -> Result<Envelope, LineFault>
     requires { pdu.old.items ≡ [] }
     ensures read { ReadOf (frame_of_words (four_of (words_of line.now))) pdu.new.items result }
     ensures frame { IfOk result (λ envelope. IsFrame (frame_value envelope pdu.new.items)) }

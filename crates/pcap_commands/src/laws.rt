@@ -28,6 +28,7 @@ pub fn one_output()
     ensures one { (form : Form) (records : List Captured) (number : ℕ) (output other : List ℕ)
         → TellsRecords form number records output → TellsRecords form number records other → output ≡ other }
 {
+    // Its clause: a frame has one line.
     shown::one_line();
 }
 

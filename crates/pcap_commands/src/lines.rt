@@ -17,7 +17,7 @@ use pcap_frames::{Record, Seen, see};
 use std::alloc::Global;
 
 /// Appends the line of the record with this number, from 1, and its end.
-pub fn push_record(
+pub(crate) fn push_record(
     alloc: Global,
     form: Form,
     number: u32,

@@ -1,15 +1,14 @@
 //! Destinations and sources of frames, as words.
 ghost use Rattle.std.specs.Prelude.{◌≡◌, ◌++◌, OnOk, length};
-ghost use Rattle.std.specs.Str.{bytes_eq};
 ghost use Rattle.captures.specs.Nsap.Text.{hex_text};
 ghost use Rattle.pcap_commands.specs.Stations.{destination_of, destination_word, station_of};
 
-use command_base::clnp_base::{NoMemory, push, push_hex};
+use command_base::clnp_base::{NoMemory, push, push_hex, same};
 use pcap_frames::nsap::Snpa;
 use pcap_frames::{END_SYSTEMS, INTERMEDIATE_SYSTEMS};
 
 /// Appends the word of a destination: `es`, `is`, or its hexadecimal digits in lower case.
-pub fn push_destination(to: &Snpa, out: &mut Vec<u8>) -> Result<(), NoMemory>
+pub(crate) fn push_destination(to: &Snpa, out: &mut Vec<u8>) -> Result<(), NoMemory>
     ensures { OnOk result (out.new.items ≡ out.old.items ++ destination_word to.now) }
 {
     if same(to.as_bytes(), &END_SYSTEMS) {
@@ -22,7 +21,7 @@ pub fn push_destination(to: &Snpa, out: &mut Vec<u8>) -> Result<(), NoMemory>
 }
 
 /// The destination that a word names: `es`, `is`, or an address of six octets.
-pub fn read_destination(word: &[u8]) -> Option<Snpa>
+pub(crate) fn read_destination(word: &[u8]) -> Option<Snpa>
     ensures { result ≡ destination_of word.now }
 {
     if same(word, b"es") {
@@ -35,7 +34,7 @@ pub fn read_destination(word: &[u8]) -> Option<Snpa>
 }
 
 /// The address of six octets that a word spells: two hexadecimal digits an octet, in either case. Dots are skipped.
-pub fn read_station(word: &[u8]) -> Option<Snpa>
+pub(crate) fn read_station(word: &[u8]) -> Option<Snpa>
     ensures { result ≡ station_of word.now }
 {
     let station = Snpa::from_text(word).ok()?;
@@ -54,11 +53,4 @@ fn group(octets: &[u8; 6]) -> Snpa
         unreachable!()
     };
     station
-}
-
-/// Whether two texts are the same.
-fn same(text: &[u8], other: &[u8]) -> bool
-    ensures { result ≡ bytes_eq text.now other.now }
-{
-    text == other
 }

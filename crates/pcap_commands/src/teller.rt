@@ -16,22 +16,22 @@ use std::alloc::Global;
 
 /// A reader of a file, and the lines of the records that came whole.
 #[derive(Drop)]
-pub struct Teller {
+pub(crate) struct Teller {
     /// What the lines are.
-    pub form: Form,
+    pub(crate) form: Form,
     /// Where in the file it is.
-    pub reader: PcapReader,
+    pub(crate) reader: PcapReader,
     /// How many records came whole and were told.
-    pub number: u32,
+    pub(crate) number: u32,
     /// How many octets of the file were taken.
-    pub size: usize,
+    pub(crate) size: usize,
     /// The lines that aren't written yet.
-    pub block: Vec<u8>,
+    pub(crate) block: Vec<u8>,
 }
 
 impl Teller {
     /// A teller at the beginning of a file.
-    pub fn new(alloc: Global, form: Form) -> Result<Teller, NoMemory>
+    pub(crate) fn new(alloc: Global, form: Form) -> Result<Teller, NoMemory>
         ensures { IfOk result (λ teller. (teller.form ≡ form) × (teller.reader ≡ InHeader [])
             × (teller.number ≡ 0) × (teller.size ≡ 0) × (teller.block.items ≡ [])) }
     {
@@ -51,7 +51,12 @@ impl Teller {
     ///
     /// The answer at which telling stops: a fault of the file, whose records before it are written, a fault of the sink, or
     /// want of memory.
-    pub fn take<K: Sink>(&mut self, alloc: Global, piece: &[u8], sink: &mut K) -> Result<(), Status>
+    pub(crate) fn take<K: Sink>(
+        &mut self,
+        alloc: Global,
+        piece: &[u8],
+        sink: &mut K,
+    ) -> Result<(), Status>
         requires few { self.old.size + length piece.now ≤ most_octets }
         requires counted { self.old.number ≤ self.old.size }
         ensures later { K.faults sink.old ≤ K.faults sink.new }
@@ -138,7 +143,7 @@ impl Teller {
     }
 
     /// The answer to the octets that were taken, where they are all of the file.
-    pub fn end(&self) -> Status
+    pub(crate) fn end(&self) -> Status
         requires { self.now.number ≤ most_octets }
         ensures ends { has_fault (ending_of self.now.reader) ≡ false
             → result ≡ whole_status self.now.size self.now.number (ending_of self.now.reader) }
@@ -151,7 +156,7 @@ impl Teller {
     }
 
     /// Writes the lines that wait, and gives this answer, or that the sink failed.
-    pub fn finish<K: Sink>(&mut self, answer: Status, sink: &mut K) -> Status
+    pub(crate) fn finish<K: Sink>(&mut self, answer: Status, sink: &mut K) -> Status
         ensures later { K.faults sink.old ≤ K.faults sink.new }
         ensures wrote { FinishOf answer self.old.block.items (K.written sink.old) (K.written sink.new) result }
         ensures read_fault { answer ≢ Status.ReadFault → result ≢ Status.ReadFault }

@@ -89,6 +89,7 @@ fn take_next<S: Source, K: Sink>(
     ensures read_fault { result ≡ Some Status.ReadFault → Rose (S.faults source.old) (S.faults source.new) }
     ensures write_fault { result ≡ Some Status.WriteFault → Rose (K.faults sink.old) (K.faults sink.new) }
 {
+    // Its clause: frames behind a stop have their lines too.
     every_frame_is_shown();
     match source.read(chunk) {
         Ok(came) => take_piece(alloc, &chunk[..came], teller, sink),
@@ -100,6 +101,7 @@ fn take_next<S: Source, K: Sink>(
 fn every_frame_is_shown()
     ensures { (frame : List ℕ) → IsBytes frame → (line : List ℕ) × Shows frame line }
 {
+    // Its clause `some`.
     laws::one_line();
 }
 
@@ -125,6 +127,7 @@ fn take_piece<K: Sink>(
     ensures read_fault { result ≢ Some Status.ReadFault }
     ensures write_fault { result ≡ Some Status.WriteFault → Rose (K.faults sink.old) (K.faults sink.new) }
 {
+    // Its clause: frames behind a stop have their lines too.
     every_frame_is_shown();
     if piece.is_empty() {
         let answer = teller.end();

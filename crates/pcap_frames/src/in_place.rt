@@ -30,7 +30,7 @@ pub fn first_record(order: Order, octets: &[u8]) -> Option<Record<'_>>
 }
 
 /// The record of these octets.
-pub fn read_record(order: Order, octets: &[u8]) -> Record<'_>
+pub(crate) fn read_record(order: Order, octets: &[u8]) -> Record<'_>
     requires { 16 ≤ length octets.now }
     ensures { captured_value result ≡ captured_in order octets.now }
 {

@@ -15,7 +15,7 @@ pub enum Order {
 
 /// The number of two octets from an index on.
 #[tactic(auto, unfolding(crate::specs::Numbers::value))]
-pub fn two_at(order: Order, octets: &[u8], at: usize) -> u16
+pub(crate) fn two_at(order: Order, octets: &[u8], at: usize) -> u16
     requires { at + 2 ≤ length octets.now }
     ensures { result ≡ value order 2 (drop at octets.now) }
 {
@@ -27,7 +27,7 @@ pub fn two_at(order: Order, octets: &[u8], at: usize) -> u16
 
 /// The number of four octets from an index on.
 #[tactic(auto, unfolding(crate::specs::Numbers::value))]
-pub fn four_at(order: Order, octets: &[u8], at: usize) -> u32
+pub(crate) fn four_at(order: Order, octets: &[u8], at: usize) -> u32
     requires { at + 4 ≤ length octets.now }
     ensures { result ≡ value order 4 (drop at octets.now) }
 {

@@ -4,7 +4,7 @@ use crate::order::Order;
 
 /// How far a reader is, and what the octets are that it holds.
 #[derive(Clone, Copy)]
-pub enum Stage {
+pub(crate) enum Stage {
     /// Some octets of the header, or none.
     Header,
     /// Some octets of a record, or none.

@@ -19,10 +19,10 @@ const UP_TO_LENGTH: usize = 12;
 pub const RECORD_HEADER: usize = 16;
 
 /// The most octets of a frame that a record has.
-pub const MOST_CAPTURED: u32 = 262_144;
+pub(crate) const MOST_CAPTURED: u32 = 262_144;
 
 /// The most octets that are held: the longest record.
-pub const MOST_HELD: usize = 262_160;
+pub(crate) const MOST_HELD: usize = 262_160;
 
 /// What one call of a reader took.
 #[derive(Clone, Copy, Debug, PartialEq, Eq)]
@@ -35,16 +35,16 @@ pub struct Took {
 
 /// How many octets of a piece were taken, and what the octets are that are held then.
 #[derive(Clone, Copy)]
-pub struct Fed {
+pub(crate) struct Fed {
     /// The octets that were taken.
-    pub octets: usize,
+    pub(crate) octets: usize,
     /// What is held then.
-    pub stage: Stage,
+    pub(crate) stage: Stage,
 }
 
 impl Fed {
     /// What is told of it.
-    pub fn answer(&self) -> Result<Took, PcapFault>
+    pub(crate) fn answer(&self) -> Result<Took, PcapFault>
         ensures { result ≡ answer_of self.now.octets self.now.stage }
     {
         match self.stage {
@@ -62,7 +62,7 @@ impl Fed {
 }
 
 /// Takes the next octets of a file, where a stage says what is held.
-pub fn take_next(stage: Stage, part: &mut Vec<u8>, piece: &[u8]) -> Fed
+pub(crate) fn take_next(stage: Stage, part: &mut Vec<u8>, piece: &[u8]) -> Fed
     requires held { IsHeld stage part.old.items }
     requires room { 262160 ≤ vec_capacity part.old }
     ensures front { result.octets ≤ length piece.now }

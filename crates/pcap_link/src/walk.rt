@@ -14,26 +14,26 @@ use pcap_frames::{
 
 /// An OSI PDU in a frame of a file.
 #[derive(Clone, Copy)]
-pub struct Frame<'a> {
+pub(crate) struct Frame<'a> {
     /// The frame's source.
-    pub from: Snpa,
+    pub(crate) from: Snpa,
     /// Whether the frame's destination is a group.
-    pub group: bool,
+    pub(crate) group: bool,
     /// The PDU, of at most 1,497 octets.
-    pub pdu: &'a [u8],
+    pub(crate) pdu: &'a [u8],
 }
 
 /// What is found from an index on, and where it ends.
 #[derive(Clone, Copy)]
-pub struct Found<'a> {
+pub(crate) struct Found<'a> {
     /// The first OSI PDU.
-    pub frame: Option<Frame<'a>>,
+    pub(crate) frame: Option<Frame<'a>>,
     /// The index behind its record; where none is found, that behind the last record.
-    pub at: usize,
+    pub(crate) at: usize,
 }
 
 /// The order of the octets of each number of a file, where its header is whole and right.
-pub fn order_of(file: &[u8]) -> Option<Order>
+pub(crate) fn order_of(file: &[u8]) -> Option<Order>
     ensures told { HeaderTells file.now result }
     ensures octets { IsBytes file.now }
 {
@@ -44,7 +44,7 @@ pub fn order_of(file: &[u8]) -> Option<Order>
 }
 
 /// The first OSI PDU in the records from an index on, where the file has this order, if it has one.
-pub fn next_frame(order: Option<Order>, file: &[u8], start: usize) -> Found<'_>
+pub(crate) fn next_frame(order: Option<Order>, file: &[u8], start: usize) -> Found<'_>
     requires { start ≤ length file.now }
     ensures within { result.at ≤ length file.now }
     ensures few { IfSome result.frame (λ frame. length frame.pdu.now ≤ 1497) }

@@ -18,7 +18,7 @@ const FILE: &[u8] = b"a1b2c3d400020004000000000000000000040000000000010000000000
     00000000000000000000000000000000000000000000000000000000";
 
 /// Appends the record of a PDU to all intermediate systems, at a second.
-pub fn put(seconds: u32, pdu: &[u8], out: &mut Vec<u8>) -> Result<(), NoMemory> {
+pub(crate) fn put(seconds: u32, pdu: &[u8], out: &mut Vec<u8>) -> Result<(), NoMemory> {
     let (Ok(to), Ok(from)) = (Snpa::from_bytes(&TO), Snpa::from_bytes(&FROM)) else {
         return Err(NoMemory);
     };

@@ -35,7 +35,7 @@ fn tell_number(word: &[u8], number: u64, out: &mut Vec<u8>) -> Result<(), NoMemo
 }
 
 /// Appends a record's seconds, fraction, original length and captured length, and what is seen in its frame.
-pub fn tell_record(record: &Record<'_>, out: &mut Vec<u8>) -> Result<(), NoMemory> {
+pub(crate) fn tell_record(record: &Record<'_>, out: &mut Vec<u8>) -> Result<(), NoMemory> {
     tell_number(b"", u64::from(record.seconds), out)?;
     tell_number(b" ", u64::from(record.fraction), out)?;
     tell_number(b" ", u64::from(record.original), out)?;
@@ -46,7 +46,7 @@ pub fn tell_record(record: &Record<'_>, out: &mut Vec<u8>) -> Result<(), NoMemor
 }
 
 /// Appends what is seen in the octets of a frame.
-pub fn tell_seen(octets: &[u8], out: &mut Vec<u8>) -> Result<(), NoMemory> {
+pub(crate) fn tell_seen(octets: &[u8], out: &mut Vec<u8>) -> Result<(), NoMemory> {
     match see(octets) {
         Seen::Other => push(b"other", out),
         Seen::Cut => push(b"cut", out),
@@ -74,7 +74,7 @@ fn tell_fault(fault: PcapFault, out: &mut Vec<u8>) -> Result<(), NoMemory> {
 }
 
 /// Whether a file is read as this, in pieces of so many octets.
-pub fn is_told(alloc: Global, file: &[u8], most: usize, want: &[u8]) -> bool
+pub(crate) fn is_told(alloc: Global, file: &[u8], most: usize, want: &[u8]) -> bool
     requires { 1 ≤ most }
 {
     let mut out = Vec::new(alloc);

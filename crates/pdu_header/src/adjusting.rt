@@ -5,7 +5,7 @@ ghost use Rattle.fletcher.specs.Checksum.{octet};
 ghost use Rattle.pdu_header.specs.Parts.{checked};
 
 /// Writes the octet at a place, counted from 1, and adjusts the checksum where it is in use.
-pub fn adjust(head: &mut [u8], place: usize, new: u8)
+pub(crate) fn adjust(head: &mut [u8], place: usize, new: u8)
     requires at_least { 9 ≤ length head.old }
     requires at_most { length head.old ≤ 254 }
     requires first { 1 ≤ place }
@@ -19,7 +19,7 @@ pub fn adjust(head: &mut [u8], place: usize, new: u8)
 
 /// Takes over the octets of a changed copy from this index on, and adjusts the checksum, where it is in use,
 /// by each octet that changes.
-pub fn adjust_each(head: &mut [u8], changed: &[u8], start: usize)
+pub(crate) fn adjust_each(head: &mut [u8], changed: &[u8], start: usize)
     requires at_most { length head.old ≤ 254 }
     requires behind { 9 ≤ start }
     requires within { start ≤ length head.old }

@@ -15,7 +15,7 @@ use std::marker::Model;
 
 /// Octets of a header. The cells past them are 0, so that one list of octets is one value.
 #[derive(Clone, Copy, PartialEq, Eq)]
-pub struct Cells {
+pub(crate) struct Cells {
     len: usize,
     octets: [u8; MOST_HEADER],
 }
@@ -37,7 +37,7 @@ impl Model for Cells {
 
 impl Cells {
     /// No octets.
-    pub fn new() -> Cells
+    pub(crate) fn new() -> Cells
         ensures { result ≡ [] }
     {
         Cells {
@@ -47,7 +47,7 @@ impl Cells {
     }
 
     /// The octets.
-    pub fn as_bytes(&self) -> &[u8]
+    pub(crate) fn as_bytes(&self) -> &[u8]
         ensures octets { result.now ≡ self.now }
         ensures few { length result.now ≤ 254 }
     {
@@ -55,7 +55,7 @@ impl Cells {
     }
 
     /// Puts a piece behind the octets.
-    pub fn push(&mut self, piece: &[u8])
+    pub(crate) fn push(&mut self, piece: &[u8])
         requires { length self.old + length piece.now ≤ 254 }
         ensures { self.new ≡ self.old ++ piece.now }
     {
@@ -65,7 +65,7 @@ impl Cells {
     }
 
     /// Makes the checksum.
-    pub fn seal(&mut self)
+    pub(crate) fn seal(&mut self)
         requires { 9 ≤ length self.old }
         ensures { self.new ≡ sealed self.old }
     {
@@ -73,7 +73,7 @@ impl Cells {
     }
 
     /// Writes the octet at a place, counted from 1, and adjusts the checksum where it is in use.
-    pub fn adjust(&mut self, place: usize, new: u8)
+    pub(crate) fn adjust(&mut self, place: usize, new: u8)
         requires head { 9 ≤ length self.old }
         requires first { 1 ≤ place }
         requires last { place ≤ length self.old }
@@ -87,7 +87,7 @@ impl Cells {
 
     /// Takes over the octets of a changed copy from this index on, and adjusts the checksum, where it is in use,
     /// by each octet that changes.
-    pub fn take_over(&mut self, changed: &[u8], start: usize)
+    pub(crate) fn take_over(&mut self, changed: &[u8], start: usize)
         requires behind { 9 ≤ start }
         requires within { start ≤ length self.old }
         requires len { length changed.now ≡ length self.old }
@@ -98,7 +98,7 @@ impl Cells {
     }
 
     /// Moves the pointer of the source route in the options, which begin at this index.
-    pub fn advance_route(&mut self, start: usize)
+    pub(crate) fn advance_route(&mut self, start: usize)
         requires start { start ≤ length self.old }
         requires well_formed { IsWellFormed (drop start self.old) }
         requires target { IsSome (target_of (parameters (drop start self.old))) }
@@ -108,7 +108,7 @@ impl Cells {
     }
 
     /// Notes a title in the recording of route in the options, which begin at this index.
-    pub fn record_title(&mut self, start: usize, title: &[u8])
+    pub(crate) fn record_title(&mut self, start: usize, title: &[u8])
         requires start { start ≤ length self.old }
         requires well_formed { IsWellFormed (drop start self.old) }
         requires title { IsTitle title.now }
@@ -118,7 +118,7 @@ impl Cells {
     }
 
     /// Sets the congestion bit in the options, which begin at this index.
-    pub fn mark_congestion(&mut self, start: usize)
+    pub(crate) fn mark_congestion(&mut self, start: usize)
         requires start { start ≤ length self.old }
         requires well_formed { IsWellFormed (drop start self.old) }
         ensures { IsEdited start (edited quality marked) self.old self.new }

@@ -26,6 +26,7 @@ use nsap::Address;
 
 /// The header length that is reserved (section 7.2.3).
 const RESERVED_LENGTH: u8 = 255;
+
 /// The PDU at the front of a frame (ISO 8473, section 7). What follows it in the frame is its `rest`.
 ///
 /// # Errors

@@ -30,8 +30,8 @@ impl Kind {
         }
     }
 
-    /// The type that says this kind.
-    pub(crate) fn type_code(self) -> u8
+    /// The type that says this kind, in the low five bits of the header's octet 5.
+    pub fn type_code(self) -> u8
         ensures { result ≡ layout.type_code self }
     {
         match self {

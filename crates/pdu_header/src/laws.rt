@@ -51,6 +51,7 @@ pub fn the_checksum_is_as_wanted()
     ensures exactly { (v : PduValue) (octets : List ℕ) (is_sealed : Bool) → SpellsHeader v octets → HasChecksum is_sealed octets → is_sealed ≡ v.sealed }
     ensures no_other { (v : PduValue) (octets : List ℕ) (x y : ℕ) → SpellsHeader v octets → x < 256 → y < 256 → HasChecksum v.sealed (with_checksum octets x y) → with_checksum octets x y ≡ octets }
 {
+    // Their clauses: one pair of octets seals a header, and what is sealed keeps its other octets.
     fletcher::laws::one_checksum();
     fletcher::laws::sealed_is_unique();
     fletcher::laws::sealed_keeps_others();

@@ -21,6 +21,7 @@ pub use encoding::{EncodeRefusal, encode};
 pub use fletcher;
 pub use header::{Header, HeaderRefusal};
 pub use kind::Kind;
+pub use layout::{FIXED_PART, SEGMENTATION_PART};
 pub use nsap;
 pub use nsap::clnp_base;
 pub use parts::Parts;

@@ -14,7 +14,7 @@ use crate::pdu::SegPart;
 use byteorder::{BigEndian, ByteOrder};
 
 /// The number of octets of the header that is made from these parts.
-pub fn header_len(parts: &Parts) -> usize
+pub(crate) fn header_len(parts: &Parts) -> usize
     ensures value { result ≡ parts_length parts.now }
     ensures few { result ≤ 311 }
 {
@@ -28,7 +28,7 @@ pub fn header_len(parts: &Parts) -> usize
 }
 
 /// The header that is made from these parts, with its length and that of header and body.
-pub fn written(parts: &Parts, head_len: u8, total: u16) -> Cells
+pub(crate) fn written(parts: &Parts, head_len: u8, total: u16) -> Cells
     requires len { head_len ≡ parts_length parts.now }
     requires few { head_len ≤ 254 }
     ensures value { (body : List ℕ) → segment_length (parts_value parts.now body) ≡ total → result ≡ header (parts_value parts.now body) }

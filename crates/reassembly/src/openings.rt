@@ -13,18 +13,18 @@ use std::marker::Model;
 
 /// A buffer that is open.
 #[derive(Clone, Copy)]
-pub struct Opening {
-    pub key: Key,
-    pub shape: Shape,
+pub(crate) struct Opening {
+    pub(crate) key: Key,
+    pub(crate) shape: Shape,
     /// The moment from which its time has ended.
-    pub deadline: u64,
+    pub(crate) deadline: u64,
 }
 
 /// The open buffers, in the order of their opening.
 ///
 /// A contract sees the openings and their slots, both in that order, and for how many there is room.
 #[derive(Drop)]
-pub struct Openings {
+pub(crate) struct Openings {
     buffers: Slab<Opening>,
     /// The slots that are taken, in the order of opening.
     order: Vec<usize>,
@@ -47,7 +47,7 @@ impl Openings {
     /// # Errors
     ///
     /// `NoMemory`.
-    pub fn new(alloc: Global, room: usize) -> Result<Openings, NoMemory>
+    pub(crate) fn new(alloc: Global, room: usize) -> Result<Openings, NoMemory>
         ensures none { IfOk result (λ openings. openings.list ≡ []) }
         ensures no_slots { IfOk result (λ openings. openings.slots ≡ []) }
         ensures room { IfOk result (λ openings. room ≤ openings.room) }
@@ -62,7 +62,7 @@ impl Openings {
     }
 
     /// How many there are.
-    pub fn len(&self) -> usize
+    pub(crate) fn len(&self) -> usize
         ensures openings { result ≡ length self.now.list }
         ensures slots { result ≡ length self.now.slots }
     {
@@ -70,7 +70,7 @@ impl Openings {
     }
 
     /// The opening at a place.
-    pub fn at(&self, place: usize) -> &Opening
+    pub(crate) fn at(&self, place: usize) -> &Opening
         requires { place < length self.now.list }
         ensures opening { slice_get self.now.list place ≡ Some result.now }
         ensures slots { length self.now.slots ≡ length self.now.list }
@@ -83,7 +83,7 @@ impl Openings {
     }
 
     /// The slot of the opening at a place.
-    pub fn slot_at(&self, place: usize) -> usize
+    pub(crate) fn slot_at(&self, place: usize) -> usize
         requires { place < length self.now.list }
         ensures { slice_get self.now.slots place ≡ Some result }
     {
@@ -91,7 +91,7 @@ impl Openings {
     }
 
     /// The place of the opening in a slot.
-    pub fn place_at(&self, slot: usize) -> usize
+    pub(crate) fn place_at(&self, slot: usize) -> usize
         requires { (place : ℕ) × (slice_get self.now.slots place ≡ Some slot) }
         ensures { (place : ℕ) → slice_get self.now.slots place ≡ Some slot → result ≡ place }
     {
@@ -102,14 +102,14 @@ impl Openings {
     }
 
     /// The place of the opening of a key.
-    pub fn place_of(&self, key: &Key) -> Option<usize>
+    pub(crate) fn place_of(&self, key: &Key) -> Option<usize>
         ensures { result ≡ place_of key.now self.now.list }
     {
         place_of(&self.buffers, &self.order, key)
     }
 
     /// Adds an opening at the end, and gives its slot, which no other has.
-    pub fn push(&mut self, opening: Opening) -> usize
+    pub(crate) fn push(&mut self, opening: Opening) -> usize
         requires { length self.old.list < self.old.room }
         ensures list { self.new.list ≡ self.old.list ++ opening ∷ [] }
         ensures slots { self.new.slots ≡ self.old.slots ++ result ∷ [] }
@@ -123,7 +123,7 @@ impl Openings {
     }
 
     /// Takes the opening at a place out.
-    pub fn remove(&mut self, place: usize) -> Opening
+    pub(crate) fn remove(&mut self, place: usize) -> Opening
         requires { place < length self.old.list }
         ensures opening { slice_get self.old.list place ≡ Some result }
         ensures others { AreWithout place self.old self.new }
@@ -134,7 +134,7 @@ impl Openings {
     }
 
     /// Takes all out.
-    pub fn clear(&mut self)
+    pub(crate) fn clear(&mut self)
         ensures none { self.new.list ≡ [] }
         ensures no_slots { self.new.slots ≡ [] }
         ensures room { self.old.room ≤ self.new.room }

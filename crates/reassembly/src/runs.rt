@@ -11,12 +11,12 @@ use std::marker::Model;
 
 /// Places of a unit's data that stand side by side: a hole, or a piece that one kept segment fills.
 #[derive(Clone, Copy)]
-pub struct Run {
-    pub from: u16,
+pub(crate) struct Run {
+    pub(crate) from: u16,
     /// The place behind the last one.
-    pub to: u16,
+    pub(crate) to: u16,
     /// The index of the segment that fills it, where one does.
-    pub by: Option<u16>,
+    pub(crate) by: Option<u16>,
 }
 
 /// The runs of each open unit, in the order of their openings.
@@ -24,7 +24,7 @@ pub struct Run {
 /// A contract sees a list of runs for each unit, and for how many units and runs there is room. A unit is told by its place
 /// in that order, which isn't the slot of its buffer.
 #[derive(Drop)]
-pub struct Runs {
+pub(crate) struct Runs {
     /// How many runs each unit has.
     counts: Vec<usize>,
     runs: Vec<Run>,
@@ -47,7 +47,7 @@ impl Runs {
     /// # Errors
     ///
     /// `NoMemory`.
-    pub fn new(alloc: Global, slots: usize, room: usize) -> Result<Runs, NoMemory>
+    pub(crate) fn new(alloc: Global, slots: usize, room: usize) -> Result<Runs, NoMemory>
         ensures { IfOk result (λ runs. runs ≡ record { groups = []; slots = slots; room = room }) }
     {
         let Ok(counts) = Vec::with_capacity(alloc, slots) else {
@@ -60,7 +60,7 @@ impl Runs {
     }
 
     /// Opens a unit with so many places, none of which is filled.
-    pub fn open(&mut self, places: u16)
+    pub(crate) fn open(&mut self, places: u16)
         requires slots { length self.old.groups < self.old.slots }
         requires room { total_runs self.old.groups < self.old.room }
         ensures groups { self.new.groups ≡ self.old.groups ++ unfilled places ∷ [] }
@@ -81,7 +81,7 @@ impl Runs {
     }
 
     /// The runs of a unit, one behind the other.
-    pub fn group(&self, slot: usize) -> &[Run]
+    pub(crate) fn group(&self, slot: usize) -> &[Run]
         requires { slot < length self.now.groups }
         ensures { slice_get self.now.groups slot ≡ Some result.now }
     {
@@ -90,7 +90,7 @@ impl Runs {
     }
 
     /// Fills the holes of a unit from a place to the place before another: they are pieces of a segment then.
-    pub fn fill(&mut self, slot: usize, from: u16, to: u16, by: u16)
+    pub(crate) fn fill(&mut self, slot: usize, from: u16, to: u16, by: u16)
         requires slot { slot < length self.old.groups }
         requires order { (runs : List Run) → slice_get self.old.groups slot ≡ Some runs → AreInOrder runs }
         requires room { total_runs self.old.groups + 2 ≤ self.old.room }
@@ -134,7 +134,7 @@ impl Runs {
     }
 
     /// Takes the runs of a unit out.
-    pub fn remove(&mut self, slot: usize)
+    pub(crate) fn remove(&mut self, slot: usize)
         requires { slot < length self.old.groups }
         ensures groups { self.new.groups ≡ remove self.old.groups slot }
         ensures slots { self.old.slots ≤ self.new.slots }
@@ -146,7 +146,7 @@ impl Runs {
     }
 
     /// Gives the segments other indices: those that stand at theirs.
-    pub fn rename(&mut self, names: &[u16])
+    pub(crate) fn rename(&mut self, names: &[u16])
         ensures groups { self.new.groups ≡ map (map (renamed names.now)) self.old.groups }
         ensures slots { self.old.slots ≤ self.new.slots }
         ensures room { self.old.room ≤ self.new.room }
@@ -155,7 +155,7 @@ impl Runs {
     }
 
     /// Takes all runs out.
-    pub fn clear(&mut self)
+    pub(crate) fn clear(&mut self)
         ensures groups { self.new.groups ≡ [] }
         ensures slots { self.old.slots ≤ self.new.slots }
         ensures room { self.old.room ≤ self.new.room }
@@ -166,7 +166,7 @@ impl Runs {
 }
 
 /// Whether a hole has a place from `from` to the place before `to`.
-pub fn has_gap(runs: &[Run], from: u16, to: u16) -> bool
+pub(crate) fn has_gap(runs: &[Run], from: u16, to: u16) -> bool
     requires { AreInOrder runs.now }
     ensures { result ≡ list_any (is_gap from to) runs.now }
 {

@@ -73,6 +73,7 @@ impl Cuts {
         ensures cut { (v : PduValue) → SpellsHeader v head → length v.body ≡ body_len → MatchOption (cut v mtu) (result ≡ Err (record { octets = segment_length v })) (λ pieces. result ≡ Ok (map given pieces)) }
         ensures each { IfOk result (AllByRecursion (IsCutOf body_len)) }
     {
+        // Its clause: a header has one value, but for what the data hold.
         laws::a_header_tells_its_value();
         let head_len = head.as_bytes().len();
         let mtu = usize::from(mtu);

@@ -1,4 +1,4 @@
--- The words that are written: what stands in them, and how a line is cut into them.
+-- Words of a line: what stands in them, how a line is cut into them, and the words that numbers and octets are written as.
 use Rattle.std.proofs.Common.{◌≡◌, ℕ, zero, suc, cond, ◌+◌, ◌-◌, ◌*◌, ◌/◌, ◌%◌, ◌^◌, ◌<◌, ◌==◌, nat_le, nat_lt, Bool, true, false, List, [], ◌∷◌, ◌++◌, length, slice_index, Some, refl, sym, ap, ◌∙◌, arith, append-nil}
 use Rattle.std.specs.List.{AllByRecursion, list_all}
 use Rattle.std.specs.Fmt.{decimal, digits, digits_onto, digit_glyph}
@@ -6,13 +6,12 @@ use Rattle.std.specs.Int.{IsInRange}
 use Rattle.std.proofs.lemmas.Bool.{true≢false, and_parts, ne_eqb, leb-true, le-leb, lt-ltb, ltb-true}
 use Rattle.std.proofs.lemmas.Fmt.{decimal_is_IsNumeral, digits_decimal, digits_value-decimal}
 use Rattle.std.proofs.lemmas.Str.Parse.{IsDigitsTest, FoldsDigits, IsNumeralModel, numerals_by_fold}
-use Rattle.hex.specs.Hex.{IsBytes, encode_with, lower_digits, hex_digit_value}
+use Rattle.hex.specs.Hex.{IsBytes, encode_lower, encode_with, lower_digits, hex_digit_value}
 use Rattle.hex.proofs.HexLemmas.{IsDigits-lower_digits}
-use Rattle.captures.specs.Nsap.Text.{hex_text}
-use Rattle.captures.specs.ClnpBase.Text.{words_of, onto_first, ends_word, is_digit, decimal_of}
-use Rattle.captures.proofs.ClnpBase.Decimals.{value_after}
-use Rattle.captures.proofs.ClnpBase.Lists.{AllByRecursion-append}
-use Rattle.captures.proofs.ClnpBase.Reading.{words_of-next}
+use Rattle.clnp_base.specs.Text.{words_of, onto_first, ends_word, is_digit, decimal_of}
+use Rattle.clnp_base.proofs.Decimals.{value_after}
+use Rattle.clnp_base.proofs.Lists.{AllByRecursion-append}
+use Rattle.clnp_base.proofs.Reading.{IsWithinLine, words_of-next}
 
 -- a character that may stand in a word
 abbrev pub IsPlain : ℕ → Type 0
@@ -60,6 +59,16 @@ first_word (c ∷ cs) rest is e = word_cut c cs rest is.plain.0 is.plain.1 e
 pub last_word : (word : List ℕ) → IsWord word → words_of word ≡ word ∷ []
 last_word word is = ap (λ (t : List ℕ). words_of t) (sym (append-nil word)) ∙ first_word word [] is refl
 
+-- ---- characters that end no line
+
+pub within_plain : (word : List ℕ) → AllByRecursion IsPlain word → AllByRecursion IsWithinLine word
+within_plain [] are = tt
+within_plain (c ∷ cs) are =
+    ((ne_eqb c 10 (omega (arith, are.0)), ne_eqb c 13 (omega (arith, are.0))), within_plain cs are.1)
+
+pub within_both : (a b : List ℕ) → AllByRecursion IsWithinLine a → AllByRecursion IsWithinLine b → AllByRecursion IsWithinLine (a ++ b)
+within_both a b p q = AllByRecursion-append IsWithinLine a b p q
+
 -- ---- hexadecimal digits
 
 hex_digit_plain : (c v : ℕ) → hex_digit_value c ≡ Some v → 32 < c
@@ -68,7 +77,7 @@ hex_digit_plain c v h = grind (arith)
 pub digit_plain : (d : ℕ) → d < 16 → 32 < slice_index lower_digits d
 digit_plain d h = hex_digit_plain (slice_index lower_digits d) d (IsDigits-lower_digits d h)
 
-pub hex_plain : (octets : List ℕ) → IsBytes octets → AllByRecursion IsPlain (hex_text octets)
+pub hex_plain : (octets : List ℕ) → IsBytes octets → AllByRecursion IsPlain (encode_lower octets)
 unfolding encode_with
 hex_plain [] h = tt
 hex_plain (octet ∷ octets) h =
@@ -77,20 +86,31 @@ hex_plain (octet ∷ octets) h =
 
 -- ---- decimal digits
 
-glyph_plain : (d : ℕ) → d < 10 → IsPlain (digit_glyph false d)
-glyph_plain d h = rw (lt-ltb d 10 h) (omega arith)
+-- a character behind `/` and so no `#`
+abbrev pub IsHigh : ℕ → Type 0
+IsHigh c = 47 < c
 
-digits_plain : (k n : ℕ) (acc : List ℕ) → AllByRecursion IsPlain acc → AllByRecursion IsPlain (digits_onto k 10 false n acc)
-digits_plain zero n acc h = h
-digits_plain (suc k) n acc h =
+glyph_high : (d : ℕ) → d < 10 → IsHigh (digit_glyph false d)
+glyph_high d h = rw (lt-ltb d 10 h) (omega arith)
+
+digits_high : (k n : ℕ) (acc : List ℕ) → AllByRecursion IsHigh acc → AllByRecursion IsHigh (digits_onto k 10 false n acc)
+digits_high zero n acc h = h
+digits_high (suc k) n acc h =
     let g = digit_glyph false (n % 10) in
-    let more : AllByRecursion IsPlain (g ∷ acc) = (glyph_plain (n % 10) (omega arith), h) in
-    elim (n / 10 == 0) as (λ b. AllByRecursion IsPlain (cond b (g ∷ acc) (digits_onto k 10 false (n / 10) (g ∷ acc))))
-    [ true ↦ more | false ↦ digits_plain k (n / 10) (g ∷ acc) more ]
+    let more : AllByRecursion IsHigh (g ∷ acc) = (glyph_high (n % 10) (omega arith), h) in
+    elim (n / 10 == 0) as (λ b. AllByRecursion IsHigh (cond b (g ∷ acc) (digits_onto k 10 false (n / 10) (g ∷ acc))))
+    [ true ↦ more | false ↦ digits_high k (n / 10) (g ∷ acc) more ]
+
+pub decimal_high : (n : ℕ) → AllByRecursion IsHigh (decimal n)
+unfolding digits
+decimal_high n = digits_high 64 n [] tt
+
+high_plain : (word : List ℕ) → AllByRecursion IsHigh word → AllByRecursion IsPlain word
+high_plain [] are = tt
+high_plain (c ∷ cs) are = (omega (arith, are.0), high_plain cs are.1)
 
 pub decimal_plain : (n : ℕ) → AllByRecursion IsPlain (decimal n)
-unfolding digits
-decimal_plain n = digits_plain 64 n [] tt
+decimal_plain n = high_plain (decimal n) (decimal_high n)
 
 abbrev are_digits : List ℕ → Type 0
 are_digits cs = list_all is_digit cs ≡ true
@@ -125,3 +145,6 @@ decimal_of-digits (c ∷ cs) n h d v small = rw (d, v, lt-ltb n (2 ^ 64) small) 
 pub decimal_read : (n : ℕ) → n < 2 ^ 64 → decimal_of (decimal n) ≡ Some n
 decimal_read n h =
     decimal_of-digits (decimal n) n (decimal_is_IsNumeral n h).0.0 (digits_decimal own n h) (digits_value-decimal own n h) h
+
+pub decimal_some : (n : ℕ) → n < 2 ^ 64 → 0 < length (decimal n)
+decimal_some n h = (decimal_is_IsNumeral n h).0.0
