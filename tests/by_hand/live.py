@@ -54,6 +54,8 @@ PROGRAM = os.path.join(ROOT, "crates", "clnp_tool", "out", "clnp_tool")
 MOST, LATE, SLACK = 110, 2, 0.5
 # how much longer a process runs than it must
 MORE = 1.4
+# how many turns a process has besides, since behind each frame that comes some are short
+SHORT_TURNS = 500
 # how many moments may pass between two turns of a process on a busy machine, in all
 MOST_PASSED = 6
 # no socket may send there that wasn't allowed to broadcast
@@ -390,7 +392,7 @@ class Play:
 
     def run(self, name, text, links, seconds, wanted):
         """Starts a process that runs for some seconds, with looks at so many ports each, and for some more."""
-        turns = sum(int(MORE * for_so_long / (ports * self.look)) for ports, for_so_long in seconds)
+        turns = SHORT_TURNS + sum(int(MORE * for_so_long / (ports * self.look)) for ports, for_so_long in seconds)
         process = Process(self.program, name, text, links, turns)
         self.all.append(process)
         self.processes.append((process, wanted))

@@ -4,11 +4,11 @@ use std::alloc::Global;
 use std::cell::Cell;
 use std::rc::Rc;
 
-/// How many datagrams came on some links, as one of them sees it: each has a share of the same traffic.
+/// What links know of each other that are looked at in turn: each has a share of the same traffic.
 #[derive(Drop)]
 pub struct Traffic {
-    came: Rc<Cell<u64>>,
-    known: u64,
+    links: Rc<Cell<u64>>,
+    empties: Rc<Cell<u64>>,
 }
 
 impl Traffic {
@@ -18,8 +18,9 @@ impl Traffic {
     ///
     /// `NoMemory`.
     pub fn new(alloc: Global) -> Result<Traffic, NoMemory> {
-        let came = Rc::new(alloc, Cell::new(0))?;
-        Ok(Traffic { came, known: 0 })
+        let links = Rc::new(alloc, Cell::new(0))?;
+        let empties = Rc::new(alloc, Cell::new(0))?;
+        Ok(Traffic { links, empties })
     }
 
     /// The same traffic, for one more link.
@@ -28,23 +29,28 @@ impl Traffic {
     ///
     /// `NoMemory`.
     pub fn share(&self) -> Result<Traffic, NoMemory> {
-        let came = self.came.clone()?;
-        Ok(Traffic {
-            came,
-            known: self.known,
-        })
+        let links = self.links.clone()?;
+        let empties = self.empties.clone()?;
+        Ok(Traffic { links, empties })
     }
 
-    /// Whether no datagram came on any of the links since this was asked for this one.
-    pub(crate) fn rests(&mut self) -> bool {
-        let came = self.came.get();
-        let rests = came == self.known;
-        self.known = came;
-        rests
+    /// A link is opened. It counts as long as the traffic is there, even where it failed.
+    pub(crate) fn link_opens(&self) {
+        self.links.set(self.links.get().saturating_add(1));
     }
 
-    /// A datagram came.
-    pub(crate) fn comes(&mut self) {
-        self.came.set(self.came.get().wrapping_add(1));
+    /// A look saw a datagram.
+    pub(crate) fn datagram_comes(&self) {
+        self.empties.set(0);
+    }
+
+    /// A look saw nothing.
+    pub(crate) fn nothing_comes(&self) {
+        self.empties.set(self.empties.get().saturating_add(1));
+    }
+
+    /// How many times by now all links were looked at in turn, one after another, and nothing came on any.
+    pub(crate) fn empty_rounds(&self) -> u64 {
+        self.empties.get() / self.links.get().max(1)
     }
 }

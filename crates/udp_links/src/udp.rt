@@ -27,8 +27,9 @@ pub enum LinkFault {
 ///
 /// A frame for one system goes to the end that has its SNPA, a peer or not; there is nobody at an SNPA that is that of no
 /// end. A frame for a group goes to each peer of that role. Whatever comes is from its sender alone, and never through a
-/// group. A look that sees nothing takes seven sleeps of a millisecond, but none where a datagram came on this link or on
-/// another of the same traffic since its last look: a link where nothing comes holds up no other.
+/// group. A look that sees nothing waits only where all links of the same traffic were looked at and nothing came on any, and
+/// little at first, so that a link where nothing comes holds up no other; where nothing has come for a while, it takes seven
+/// sleeps of a millisecond.
 #[derive(Drop)]
 pub struct UdpLink<R: Clock + Drop> {
     clock: R,
@@ -41,9 +42,24 @@ pub struct UdpLink<R: Clock + Drop> {
     ghost room: { 70000 ≤ vec_capacity datagram },
 }
 
-/// How many milliseconds a look waits, with a look at the socket behind each. A socket's own timeout is rounded up to
-/// ticks of the system's, to 20 ms for one of 10.
-const WAITS: u8 = 7;
+/// How a look waits for a datagram that hasn't come yet: so many sleeps, with a look at the socket behind each. A socket's own
+/// timeout is rounded up to ticks of the system's, to 20 ms for one of 10.
+#[derive(Clone, Copy)]
+struct Wait {
+    sleeps: u8,
+    micros: u64,
+}
+
+/// How a look waits behind so many rounds in which nothing came on any link.
+fn wait_behind(rounds: u64) -> Wait {
+    let (sleeps, micros) = match rounds {
+        0 => (0, 0),
+        1..=4 => (1, 50),
+        5..=6 => (1, 500),
+        _ => (7, 1000),
+    };
+    Wait { sleeps, micros }
+}
 
 /// How many milliseconds a frame waits for room, before the socket counts as failed.
 const TRIES: u16 = 1000;
@@ -70,6 +86,7 @@ impl<R: Net + AllocGlobal + Clock + Drop> UdpLink<R> {
         if socket.set_nonblocking(true).is_err() {
             return Err(LinkFault::Refused);
         }
+        traffic.link_opens();
         Ok(UdpLink {
             clock: machine,
             socket,
@@ -83,23 +100,23 @@ impl<R: Net + AllocGlobal + Clock + Drop> UdpLink<R> {
 }
 
 impl<R: Clock + Drop> UdpLink<R> {
-    /// Looks at the socket, and for a datagram that hasn't come yet so many times more, a millisecond apart.
-    fn look(&self, waits: u8, buf: &mut [u8]) -> Look
+    /// Looks at the socket, and for a datagram that hasn't come yet as many times more as it waits.
+    fn look(&self, wait: Wait, buf: &mut [u8]) -> Look
         requires { 70000 ≤ length buf.old }
         ensures { (got : Got) → result ≡ Look.Frame got → got.len ≤ 70000 }
     {
-        for _ in 0..waits {
+        for _ in 0..wait.sleeps {
             match look_at(&self.socket, buf) {
-                Look::Nothing => self.wait(),
+                Look::Nothing => self.sleep(wait.micros),
                 look => return look,
             }
         }
         look_at(&self.socket, buf)
     }
 
-    /// Waits a millisecond.
-    fn wait(&self) {
-        thread::sleep(&self.clock, Duration::from_millis(1));
+    /// Sleeps for so many microseconds.
+    fn sleep(&self, micros: u64) {
+        thread::sleep(&self.clock, Duration::from_micros(micros));
     }
 
     /// Whether the socket took the datagram for an end.
@@ -107,7 +124,7 @@ impl<R: Clock + Drop> UdpLink<R> {
         for _ in 0..TRIES {
             match give(&self.socket, self.datagram.as_slice(), end) {
                 Gift::Taken => return true,
-                Gift::Later => self.wait(),
+                Gift::Later => self.sleep(1000),
                 Gift::Fault => return false,
             }
         }
@@ -162,13 +179,14 @@ impl<R: Clock + Drop> Link for UdpLink<R> {
     ghost seen = { λ l. record { looks = None; sent = None; faults = l.faults; empties = l.empties } };
 
     fn poll(&mut self, buf: &mut [u8]) -> Result<Option<Got>, Failed> {
-        let waits = if self.traffic.rests() { WAITS } else { 0 };
-        match self.look(waits, buf) {
+        let wait = wait_behind(self.traffic.empty_rounds());
+        match self.look(wait, buf) {
             Look::Frame(got) => {
-                self.traffic.comes();
+                self.traffic.datagram_comes();
                 Ok(Some(got))
             }
             Look::Nothing => {
+                self.traffic.nothing_comes();
                 self.empties = self.empties.saturating_add(1);
                 Ok(None)
             }

@@ -28,19 +28,49 @@ pub fn end_at(port: u16) -> End {
 
 /// The link of this word, if it can be opened.
 pub fn opened<R: Net + AllocGlobal + Clock + Drop>(machine: R, word: &[u8]) -> Option<UdpLink<R>> {
+    let traffic = Traffic::new(machine.alloc()).ok()?;
+    opened_in(machine, word, traffic)
+}
+
+/// The link of this word and this traffic, if it can be opened.
+fn opened_in<R: Net + AllocGlobal + Clock + Drop>(
+    machine: R,
+    word: &[u8],
+    traffic: Traffic,
+) -> Option<UdpLink<R>> {
     if !is_link_word(word) {
         return None;
     }
-    let traffic = Traffic::new(machine.alloc()).ok()?;
     UdpLink::open(machine, word, traffic).ok()
+}
+
+/// A link without peers at a free port, of this traffic, and that port.
+fn lone_link_in<R: Net + AllocGlobal + Clock + Drop>(
+    machine: R,
+    traffic: Traffic,
+) -> Option<(UdpLink<R>, u16)> {
+    let port = free_port(&machine)?;
+    let word = format!(in machine.alloc(); "udp:127.0.0.1:{port}").ok()?;
+    let link = opened_in(machine, word.as_bytes(), traffic)?;
+    Some((link, port))
 }
 
 /// A link without peers at a free port, and that port.
 pub fn lone_link<R: Net + AllocGlobal + Clock + Drop>(machine: R) -> Option<(UdpLink<R>, u16)> {
-    let port = free_port(&machine)?;
-    let word = format!(in machine.alloc(); "udp:127.0.0.1:{port}").ok()?;
-    let link = opened(machine, word.as_bytes())?;
-    Some((link, port))
+    let traffic = Traffic::new(machine.alloc()).ok()?;
+    lone_link_in(machine, traffic)
+}
+
+/// Two links of one traffic, each on a machine, without peers at free ports, and the port of the first.
+pub fn two_links<R: Net + AllocGlobal + Clock + Drop>(
+    machine: R,
+    other: R,
+) -> Option<(UdpLink<R>, UdpLink<R>, u16)> {
+    let traffic = Traffic::new(machine.alloc()).ok()?;
+    let share = traffic.share().ok()?;
+    let (first, port) = lone_link_in(machine, traffic)?;
+    let (second, _) = lone_link_in(other, share)?;
+    Some((first, second, port))
 }
 
 /// How often a datagram is looked for.

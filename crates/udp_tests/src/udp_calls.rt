@@ -1,5 +1,5 @@
 //! Calls of links over UDP.
-use crate::opening::{brings, end_at, free_port, lone_link, look_for, opened};
+use crate::opening::{brings, end_at, free_port, lone_link, look_for, opened, two_links};
 use std::process::Abort;
 use std::time::{Duration, Instant};
 use udp_links::link_board::Link;
@@ -37,18 +37,50 @@ fn a_frame_goes_from_end_to_end(rt: HostRuntime) {
     assert!(rt; brings(&mut receiver, buf, end_at(from), &UNIT));
 }
 
+/// How many looks of a link alone see nothing before each waits as long as any.
+const SHORT_LOOKS: u8 = 7;
+
 #[test]
-fn an_empty_look_waits_some_milliseconds(rt: HostRuntime) {
+fn a_look_waits_some_milliseconds_where_nothing_came_for_a_while(rt: HostRuntime) {
     let mut room = vec![in rt.alloc(); 0u8; 70_000].expect(&rt, "memory");
     let buf = room.as_mut_slice();
     assert!(rt; buf.len() >= 70_000);
     let machine = rt.clone().expect(&rt, "memory");
     let (mut link, _) = lone_link(machine).expect(&rt, "a free port");
+    for _ in 0..SHORT_LOOKS {
+        assert!(rt; matches!(link.poll(buf), Ok(None)));
+        assert!(rt; buf.len() >= 70_000);
+    }
     let start = Instant::now(&rt).expect(&rt, "a clock");
     assert!(rt; matches!(link.poll(buf), Ok(None)));
     let took = start.elapsed(&rt).expect(&rt, "a clock");
     assert!(rt; took >= Duration::from_millis(7));
     assert!(rt; took < Duration::from_millis(1000));
+}
+
+/// How often a datagram is sent to a link beside which another is idle.
+const TIMES: u8 = 200;
+
+#[test]
+fn an_idle_link_holds_up_no_other(rt: HostRuntime) {
+    let mut room = vec![in rt.alloc(); 0u8; 70_000].expect(&rt, "memory");
+    let buf = room.as_mut_slice();
+    assert!(rt; buf.len() >= 70_000);
+    let machine = rt.clone().expect(&rt, "memory");
+    let (mut sender, from) = lone_link(machine).expect(&rt, "a free port");
+    let machine = rt.clone().expect(&rt, "memory");
+    let other = rt.clone().expect(&rt, "memory");
+    let (mut busy, mut idle, to) = two_links(machine, other).expect(&rt, "free ports");
+    let start = Instant::now(&rt).expect(&rt, "a clock");
+    for _ in 0..TIMES {
+        assert!(rt; sender.send(system_at(to), &HEAD, b"hi") == Ok(()));
+        assert!(rt; buf.len() >= 70_000);
+        assert!(rt; brings(&mut busy, buf, end_at(from), &UNIT));
+        assert!(rt; buf.len() >= 70_000);
+        assert!(rt; matches!(idle.poll(buf), Ok(None)));
+    }
+    let took = start.elapsed(&rt).expect(&rt, "a clock");
+    assert!(rt; took < Duration::from_millis(1400));
 }
 
 #[test]
