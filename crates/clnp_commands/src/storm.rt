@@ -89,6 +89,7 @@ fn write_line<K: Sink>(alloc: Global, summary: Summary, sink: &mut K) -> Status
 fn sum_up(alloc: Global, seed: u64, scenario: &Scenario) -> Result<Summary, WorldRefusal>
     ensures { SumOf seed scenario.now result }
 {
+    // Its clause: the ticks of a scenario are few, so that a clock has room for them.
     scenario.is_fit();
     let Ok(mut world) = World::new(alloc, scenario) else {
         return Err(WorldRefusal::NoMemory);
