@@ -93,10 +93,10 @@ first_checked = record { number = 1; tally = no_vectors }
 -- `check` goes over lines; its output ends with the counts.
 abbrev pub checking : Work
 checking = record {
-  Place = Checked;
+  Point = Checked;
   Ending = Tally → List ℕ;
-  calls = λ ending lines place output. ChecksFrom ending lines place.number place.tally output;
-  answer = λ lines place answered. check_status place.number lines ≡ answered;
+  calls = λ ending lines point output. ChecksFrom ending lines point.number point.tally output;
+  answer = λ lines point answered. check_status point.number lines ≡ answered;
   whole = tally_text;
   broken = λ tally. [];
 }

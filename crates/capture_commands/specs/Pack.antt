@@ -51,10 +51,10 @@ AppendsPackedFront lines before after = AppendsCalledFront (PacksLines lines) be
 abbrev pub AppendsSomePacked : List (List ℕ) → Option (List ℕ) → Option (List ℕ) → Type 0
 AppendsSomePacked lines before after = AppendsCalledPart (PacksLines lines) PacksLines lines before after
 
--- `pack` goes over lines: the place is the number of the next one.
+-- `pack` goes over lines: the point is the number of the next one.
 abbrev pub packing : Work
 packing = record {
-  Place = ℕ;
+  Point = ℕ;
   Ending = Unit {0};
   calls = λ ending lines number output. PacksLines lines output;
   answer = λ lines number answered. pack_status number lines ≡ answered;

@@ -53,10 +53,10 @@ AppendsShownFront lines before after = AppendsCalledFront (ShowsLines lines) bef
 abbrev pub AppendsSomeShown : List (List ℕ) → Option (List ℕ) → Option (List ℕ) → Type 0
 AppendsSomeShown lines before after = AppendsCalledPart (ShowsLines lines) ShowsLines lines before after
 
--- `show` goes over lines: the place is the number of the next one.
+-- `show` goes over lines: the point is the number of the next one.
 abbrev pub showing : Work
 showing = record {
-  Place = ℕ;
+  Point = ℕ;
   Ending = Unit {0};
   calls = λ ending lines number output. ShowsLines lines output;
   answer = λ lines number answered. show_status number lines ≡ answered;

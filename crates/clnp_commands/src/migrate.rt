@@ -11,7 +11,7 @@ use clnp_world::scenario::ScenarioRefusal;
 use std::alloc::Global;
 
 /// Writes the text of a scenario of version 1 in version 2. Nothing is written before the whole text was accepted.
-pub fn migrate<K: Sink>(alloc: Global, text: &[u8], sink: &mut K) -> Status
+pub(crate) fn migrate<K: Sink>(alloc: Global, text: &[u8], sink: &mut K) -> Status
     requires { length text.now ≤ most_input }
     ensures later { K.faults sink.old ≤ K.faults sink.new }
     ensures comes_to { ComesAs (migrate_task text.now) (K.written sink.old) (K.written sink.new) result }

@@ -19,7 +19,7 @@ use clnp_world::{World, WorldRefusal};
 use std::alloc::Global;
 
 /// Writes the journal, or the trace, of the scenario that a text is.
-pub fn sim<K: Sink>(alloc: Global, telling: Telling, text: &[u8], sink: &mut K) -> Status
+pub(crate) fn sim<K: Sink>(alloc: Global, telling: Telling, text: &[u8], sink: &mut K) -> Status
     requires { length text.now ≤ most_input }
     ensures later { K.faults sink.old ≤ K.faults sink.new }
     ensures comes_to { ComesAs (run_task telling text.now) (K.written sink.old) (K.written sink.new) result }

@@ -20,12 +20,12 @@ use std::alloc::Global;
 
 /// What a run of the scenario of a seed comes to.
 #[derive(Clone, Copy, PartialEq, Eq)]
-pub struct Summary {
-    pub seed: u64,
-    pub events: u64,
-    pub copies: u64,
-    pub counts: Counts,
-    pub clock: u64,
+pub(crate) struct Summary {
+    pub(crate) seed: u64,
+    pub(crate) events: u64,
+    pub(crate) copies: u64,
+    pub(crate) counts: Counts,
+    pub(crate) clock: u64,
 }
 
 impl Summary {
@@ -54,7 +54,7 @@ fn push_counts(counts: &Counts, out: &mut Vec<u8>) -> Result<(), NoMemory>
 }
 
 /// Runs the scenario of a seed, and writes a line of what it comes to.
-pub fn storm<K: Sink>(alloc: Global, seed: u64, sink: &mut K) -> Status
+pub(crate) fn storm<K: Sink>(alloc: Global, seed: u64, sink: &mut K) -> Status
     ensures later { K.faults sink.old ≤ K.faults sink.new }
     ensures comes_to { ComesAs (storm_task seed) (K.written sink.old) (K.written sink.new) result }
     ensures failed { result ≡ Status.WriteFault → Rose (K.faults sink.old) (K.faults sink.new) }
@@ -89,6 +89,7 @@ fn write_line<K: Sink>(alloc: Global, summary: Summary, sink: &mut K) -> Status
 fn sum_up(alloc: Global, seed: u64, scenario: &Scenario) -> Result<Summary, WorldRefusal>
     ensures { SumOf seed scenario.now result }
 {
+    // Its clause: the ticks of a scenario are few, so that a clock has room for them.
     scenario.is_fit();
     let Ok(mut world) = World::new(alloc, scenario) else {
         return Err(WorldRefusal::NoMemory);

@@ -13,7 +13,7 @@ use Rattle.clnp_machine.specs.Step.{step}
 use Rattle.clnp_network.specs.World as network
 use Rattle.clnp_world.specs.Lines.{Gains}
 use Rattle.clnp_world.specs.declared.lines.Lines.{Lines}
-use Rattle.clnp_world.specs.Seen.{frame_copy}
+use Rattle.clnp_world.specs.Seen.{IsPortFor, frame_copy}
 use Rattle.clnp_world.specs.Parts.{Shows, Holds, IsRunning, Follows}
 use Rattle.clnp_world.specs.Stands.{IsBornWithUnit}
 use Rattle.clnp_world.specs.declared.network.Network.{Network}
@@ -111,19 +111,37 @@ gives_late code before after limits number at place within tells writes model co
     (network.hand_to (numbered number copy) model place system.0))) (tells model copy h.shows there)
     record { holds = h; lines = part.lines })
 
-pub gives_now : (old code : Network) (before after : Lines) (limits : Limits) (number at place : ℕ) → place < length old.systems.items
-    → TellsLate old limits at false
-    → ((model : network.World) (copy : network.Copy) (system : SystemState) → Holds old model → slice_get model.copies at ≡ Some copy
+pub gives_now : (old code : Network) (before after : Lines) (limits : Limits) (number at place : ℕ) → TellsLate old limits at false
+    → (model : network.World) (copy : network.Copy) (system : SystemState) → Holds old model → slice_get model.copies at ≡ Some copy
     → slice_get model.systems place ≡ Some system
-    → Follows code before after (network.hand_to (numbered number copy) model place system))
+    → Follows code before after (network.hand_to (numbered number copy) model place system)
+    → Follows code before after (network.give limits (numbered number copy) model place)
+gives_now old code before after limits number at place tells model copy system h there here hands =
+    subst (λ (s : Option SystemState). Follows code before after (network.give_to limits (numbered number copy) model place s)) (sym here)
+    (subst (λ (b : Bool). Follows code before after (cond b (network.writes model (Late model.clock system.configuration.name number))
+    (network.hand_to (numbered number copy) model place system))) (tells model copy h.shows there) hands)
+
+-- the port by which the copy comes in to the system at the place, if it is for that one
+abbrev pub TellsPort : Network → ℕ → ℕ → Option ℕ → Type 0
+TellsPort code at place found =
+    (model : network.World) (copy : network.Copy) (system : SystemState) → Shows code model → slice_get model.copies at ≡ Some copy
+    → slice_get model.systems place ≡ Some system → IsPortFor copy system.configuration found
+
+-- what was done to give the copy by a port
+abbrev pub GivesBy : Network → Network → Lines → Lines → Limits → (number at place port : ℕ) → Type 0
+GivesBy old code before after limits number at place port =
+    (model : network.World) (copy : network.Copy) (system : SystemState) → Holds old model → slice_get model.copies at ≡ Some copy
+    → slice_get model.systems place ≡ Some system
+    → port ≡ network.first_port copy system.configuration.role system.configuration.ports
+    → Follows code before after (network.give limits (numbered number copy) model place)
+
+pub gives_by : (old code : Network) (before after : Lines) (limits : Limits) (number at place port : ℕ) → place < length old.systems.items
+    → TellsPort old at place (Some port) → GivesBy old code before after limits number at place port
     → (model : network.World) (copy : network.Copy) → Holds old model → slice_get model.copies at ≡ Some copy
     → Follows code before after (network.give limits (numbered number copy) model place)
-gives_now old code before after limits number at place within tells hands model copy h there =
+gives_by old code before after limits number at place port within tells gives model copy h there =
     let system = system_there old model place h.shows within in
-    subst (λ (s : Option SystemState). Follows code before after (network.give_to limits (numbered number copy) model place s)) (sym system.1)
-    (subst (λ (b : Bool). Follows code before after (cond b (network.writes model (Late model.clock (system.0).configuration.name number))
-    (network.hand_to (numbered number copy) model place system.0))) (tells model copy h.shows there)
-    (hands model copy system.0 h there system.1))
+    gives model copy system.0 h there system.1 (tells model copy system.0 h.shows there system.1).1
 
 -- One copy for each of its addressees.
 
@@ -138,6 +156,12 @@ abbrev pub TellsAddressee : Network → ℕ → ℕ → Bool → Type 0
 TellsAddressee code at place answer =
     (model : network.World) (copy : network.Copy) (system : SystemState) → Shows code model → slice_get model.copies at ≡ Some copy
     → slice_get model.systems place ≡ Some system → answer ≡ network.is_addressee copy system.configuration
+
+pub tells_some : (code : Network) (at place port : ℕ) → TellsPort code at place (Some port) → TellsAddressee code at place true
+tells_some code at place port tells model copy system h there here = (tells model copy system h there here).0
+
+pub tells_none : (code : Network) (at place : ℕ) → TellsPort code at place None → TellsAddressee code at place false
+tells_none code at place tells model copy system h there here = tells model copy system h there here
 
 pub gives_none : (code : Network) (lines : Lines) (limits : Limits) (at : ℕ) → Gives code code lines lines limits at 0
 gives_none code lines limits at model copy h there = follows_nothing code lines model h

@@ -1,7 +1,7 @@
 -- One more output, addressee, tick or system at the end of a list, and what the parts of a move leave as it was.
 use Rattle.std.proofs.Common.{◌≡◌, ℕ, suc, ◌+◌, List, [], ◌∷◌, ◌++◌, length, take, map, cond, Bool, true, false, Option, None, Some, refl, sym, ap, ◌∙◌, subst, arith, append-nil, append_assoc, add-zero, zero-add}
-use Rattle.std.specs.Prelude.{slice_get}
-use Rattle.std.specs.List.{AllByRecursion, position_or_len, range_with_len}
+use Rattle.std.specs.Prelude.{nat_lt, slice_get}
+use Rattle.std.specs.List.{AllByRecursion, list_any, position, position_or_len, range_with_len}
 use Rattle.std.proofs.lemmas.List.Recursion.{is_position_or_len}
 use Rattle.std.proofs.lemmas.List.Concat.{flat_map-append}
 use Rattle.clnp_machine.specs.ClnpPlan.Configuration.{SystemConfiguration}
@@ -17,6 +17,7 @@ use Rattle.clnp_machine.specs.System.{SystemState, MomentComes, Output, Transmit
 use Rattle.clnp_machine.specs.Step.{step}
 use Rattle.clnp_network.specs.World as network
 use Rattle.clnp_network.specs.Run.{told_lines}
+use Rattle.clnp_world.specs.Seen.{IsPortFor}
 use Rattle.clnp_world.specs.Stands.{IsCurrent}
 use Rattle.clnp_machine.proofs.ClnpBase.ListSteps.{slice_get_front, take_push, map_set, all_set, range_push}
 pub use Rattle.clnp_machine.proofs.Deeds.{step_itself, step_moment}
@@ -282,8 +283,28 @@ states_at_start limits k [] = tt
 states_at_start limits k (system ∷ systems) = (refl, states_at_start limits (k + 1) systems)
 
 -- the first port by which a copy comes in, as the code looks for it
-pub first_port_is : (copy : network.Copy) (role : Role) (ports : List PortConfig)
+first_port_is : (copy : network.Copy) (role : Role) (ports : List PortConfig)
     → network.first_port copy role ports ≡ position_or_len (network.enters copy role) ports
 first_port_is copy role ports =
     is_position_or_len (network.first_port copy role) (network.enters copy role) refl
     (λ port others. ap (λ (n : ℕ). cond (network.enters copy role port) 0 n) (omega arith)) ports
+
+-- one of some elements passes a test exactly where the first that does stands before their end
+any_before : {X : Type 0} (p : X → Bool) (xs : List X) → list_any p xs ≡ nat_lt (position_or_len p xs) (length xs)
+any_before p [] = refl
+any_before p (x ∷ xs) = by_test (p x) refl
+  where
+    by_test : (b : Bool) → p x ≡ b → list_any p (x ∷ xs) ≡ nat_lt (position_or_len p (x ∷ xs)) (length (x ∷ xs))
+    by_test true is = rw is refl
+    by_test false is = rw is (any_before p xs)
+
+-- what the code finds is the first port by which a copy comes in, or that the copy isn't for the system
+pub port_found : (copy : network.Copy) (system : SystemConfiguration) → IsPortFor copy system (position (network.enters copy system.role) system.ports)
+port_found copy system =
+    by_test (nat_lt (position_or_len (network.enters copy system.role) system.ports) (length system.ports))
+    (any_before (network.enters copy system.role) system.ports)
+  where
+    by_test : (b : Bool) → network.is_addressee copy system ≡ b
+        → IsPortFor copy system (cond b (Some (position_or_len (network.enters copy system.role) system.ports)) None)
+    by_test true is = (sym is, sym (first_port_is copy system.role system.ports))
+    by_test false is = sym is

@@ -1,5 +1,5 @@
 -- What the lines of a move come to: their text, or what is counted of them.
-use Rattle.std.specs.Prelude.{◌≡◌, ℕ, ◌+◌, List, [], ◌∷◌, ◌++◌, codes, length}
+use Rattle.std.specs.Prelude.{◌≡◌, ◌≤◌, ℕ, ◌+◌, ◌^◌, ◌⊎◌, List, [], ◌∷◌, ◌++◌, codes, length}
 use Rattle.std.specs.List.{filter}
 use Rattle.std.specs.Str.{bytes_eq}
 use Rattle.clnp_machine.specs.ClnpPlan.Journal.{Line, Noted, Transmitted, Void, Late, Injected, Received, Lost, ForNobody, note_words}
@@ -51,6 +51,11 @@ both a b = record {
   drops = a.drops + b.drops;
   expired = a.expired + b.expired;
 }
+
+-- one of these counts is greater than any that the code has
+abbrev pub IsTooGreat : Counts → Type 0
+IsTooGreat counts =
+    (2 ^ 64 ≤ counts.got) ⊎ ((2 ^ 64 ≤ counts.reports) ⊎ ((2 ^ 64 ≤ counts.echoed) ⊎ ((2 ^ 64 ≤ counts.drops) ⊎ (2 ^ 64 ≤ counts.expired))))
 
 -- some lines came to what there was: their text in a journal or in a trace stands behind it, or they were counted
 abbrev pub GainsIn : Form → (before after : Lines) → List Line → Type 0

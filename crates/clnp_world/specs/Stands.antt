@@ -1,6 +1,6 @@
 -- What a simulated network of the code stands for.
 use Rattle.std.specs.Prelude.{◌≡◌, ◌≤◌, ℕ, List, [], ◌∷◌, true, false, length, map, slice_get, Some, Result, Ok, Err}
-use Rattle.std.specs.List.{AllByRecursion}
+use Rattle.std.specs.List.{AllByRecursion, AllZip}
 use Rattle.clnp_machine.specs.Content.{Content, Labelled, Esis, Unlabelled, IsCarried}
 use Rattle.clnp_machine.specs.System.{SystemState}
 use Rattle.clnp_machine.specs.ClnpPlan.declared.config.Role.{Role}
@@ -15,10 +15,7 @@ use Rattle.clnp_world.specs.declared.world.WorldRefusal.TheVariants.{WorldFull, 
 
 -- each system stands for the system at its place, at its moment
 abbrev pub StandEach : List System → List SystemState → Type 0
-StandEach [] [] = Unit {0}
-StandEach (node ∷ nodes) (system ∷ systems) = clnp_systems.Stands node system × StandEach nodes systems
-StandEach [] (system ∷ systems) = ⊥
-StandEach (node ∷ nodes) [] = ⊥
+StandEach nodes systems = AllZip clnp_systems.Stands nodes systems
 
 -- a system of a role was declared at a place
 pub record IsDeclared (model : network.World) (at : ℕ) (role : Role) : Type 0 where

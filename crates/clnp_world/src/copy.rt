@@ -1,7 +1,8 @@
 //! Copies of frames on a subnetwork.
-ghost use Rattle.std.specs.Prelude.{◌≡◌, ◌==◌, ◌&&◌, ◌<◌, IfSome, length};
-ghost use Rattle.std.specs.List.{list_any, position, position_or_len};
+ghost use Rattle.std.specs.Prelude.{◌≡◌, ◌<◌, IfSome, length};
+ghost use Rattle.std.specs.List.{position};
 ghost use Rattle.clnp_network.specs.World as network;
+ghost use Rattle.clnp_world.specs.Seen.{enters};
 
 use clnp_machine::clnp_plan::{PortConfig, Role, SystemConfig};
 use clnp_machine::clnp_views::Frame;
@@ -26,31 +27,21 @@ pub(crate) fn is_to_group(copy: &FrameCopy) -> bool
     !matches!(copy.target, Target::System(_))
 }
 
-/// Whether a copy is for a system: a port of it on the copy's subnetwork is reached.
-pub(crate) fn is_addressee(copy: &FrameCopy, config: &SystemConfig) -> bool
-    ensures { result ≡ list_any (λ port. (port.subnet == copy.now.subnet)
-        && network.reaches config.now.role copy.now.target copy.now.sender port.snpa) config.now.ports }
+/// The least of a system's ports by which a copy comes in, if it is for the system.
+pub(crate) fn first_port(copy: &FrameCopy, config: &SystemConfig) -> Option<u8>
+    ensures { result ≡ position (enters copy.now config.now.role) config.now.ports }
 {
-    let role = config.role();
-    config.ports().iter().any(|port| enters(copy, role, port))
-}
-
-/// The least of a system's ports by which a copy comes in; the number of its ports where it isn't for the system.
-pub(crate) fn first_port(copy: &FrameCopy, config: &SystemConfig) -> u8
-    ensures { result ≡ position_or_len (λ port. (port.subnet == copy.now.subnet)
-        && network.reaches config.now.role copy.now.target copy.now.sender port.snpa) config.now.ports }
-{
+    // Its clause: a system has at most 8 ports, so that an octet numbers each.
     config.is_system();
     match entrance(copy, config) {
-        Some(first) => first as u8,
-        None => config.ports().len() as u8,
+        Some(first) => Some(first as u8),
+        None => None,
     }
 }
 
-/// The least of a system's ports by which a copy comes in, if it is for the system.
+/// The same, as a place among the ports.
 fn entrance(copy: &FrameCopy, config: &SystemConfig) -> Option<usize>
-    ensures place { result ≡ position (λ port. (port.subnet == copy.now.subnet)
-        && network.reaches config.now.role copy.now.target copy.now.sender port.snpa) config.now.ports }
+    ensures place { result ≡ position (enters copy.now config.now.role) config.now.ports }
     ensures within { IfSome result (λ place. place < length config.now.ports) }
 {
     let role = config.role();
@@ -62,8 +53,7 @@ fn entrance(copy: &FrameCopy, config: &SystemConfig) -> Option<usize>
 
 /// Whether a copy comes in by a port of a system of a role.
 fn enters(copy: &FrameCopy, role: Role, port: &PortConfig) -> bool
-    ensures { result ≡ (port.now.subnet == copy.now.subnet)
-        && network.reaches role copy.now.target copy.now.sender port.now.snpa }
+    ensures { result ≡ enters copy.now role port.now }
 {
     port.subnet == copy.subnet && reaches(role, &copy.target, &copy.sender, &port.snpa)
 }

@@ -1,7 +1,7 @@
 //! Where the lines of a move go.
-ghost use Rattle.std.specs.Prelude.{◌≡◌, ◌+◌, ◌∷◌, ℕ, List, [], IfSome, OnOk};
+ghost use Rattle.std.specs.Prelude.{◌≡◌, ◌+◌, ◌∷◌, ℕ, List, [], IfNone, IfSome, OnOk};
 ghost use Rattle.clnp_machine.specs.ClnpPlan.Journal.{ForNobody, Injected, Late, Lost, Noted, Received, Transmitted, Void};
-ghost use Rattle.clnp_world.specs.Lines.{Gains, both, no_lines, tally};
+ghost use Rattle.clnp_world.specs.Lines.{Gains, IsTooGreat, both, no_lines, tally};
 
 use clnp_machine::clnp_base::NoMemory;
 use clnp_machine::clnp_plan::{
@@ -40,9 +40,10 @@ impl Counts {
         }
     }
 
-    /// These, and that of a note; none where no number is so great, and so no memory.
+    /// These, and that of a note, exactly where a number is so great.
     fn with_note(self, note: &Note) -> Option<Counts>
-        ensures { IfSome result (λ counts. (now : ℕ) (name : List ℕ) → counts ≡ both self (tally (Noted now name note.now ∷ []))) }
+        ensures counted { IfSome result (λ counts. (now : ℕ) (name : List ℕ) → counts ≡ both self (tally (Noted now name note.now ∷ []))) }
+        ensures none { IfNone result ((now : ℕ) (name : List ℕ) → IsTooGreat (both self (tally (Noted now name note.now ∷ [])))) }
     {
         match note {
             Note::Got { .. } => Some(Counts {

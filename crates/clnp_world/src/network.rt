@@ -51,6 +51,7 @@ impl Network {
 fn systems_of(alloc: Global, scenario: &Scenario) -> Result<Vec<System>, NoMemory>
     ensures { IfOk result (λ systems. StandEach systems.items (network.states_from scenario.now.limits 0 scenario.now.systems)) }
 {
+    // Its clause: limits and systems are within their ranges, as a system asks at its start.
     scenario.is_fit();
     let limits = scenario.limits();
     let declared = scenario.systems();

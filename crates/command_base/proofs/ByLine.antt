@@ -14,18 +14,18 @@ use Rattle.command_base.specs.ComesAs.{ComesAs}
 use Rattle.command_base.specs.ByLine.{Work, Good, Bad, PushOf, BlockOf, BadOf, RefusalOf, Midway, CutOff, LeftOff, StopOf, NextOf, EndOf, stop_status, task_of}
 use Rattle.command_base.proofs.Fronts.{front-behind, front-longer}
 
--- from every place on, all lines call for some output
+-- from every point on, all lines call for some output
 abbrev pub Total : Work → Type 0
-Total w = (lines : List (List ℕ)) (now : w.Place) → (output : List ℕ) × w.calls w.whole lines now output
+Total w = (lines : List (List ℕ)) (now : w.Point) → (output : List ℕ) × w.calls w.whole lines now output
 
 -- an output that breaks off ends with nothing more
 abbrev pub Breaks : Work → Type 0
-Breaks w = (now : w.Place) → w.calls w.broken [] now []
+Breaks w = (now : w.Point) → w.calls w.broken [] now []
 
-pub Good-none : (w : Work) (now : w.Place) → Good w now now [] []
+pub Good-none : (w : Work) (now : w.Point) → Good w now now [] []
 Good-none w now = record { behind = λ ending later rest calls. calls; answer = λ later answered is. is }
 
-pub Good-more : (w : Work) (first between now : w.Place) (made more : List (List ℕ)) (output next : List ℕ)
+pub Good-more : (w : Work) (first between now : w.Point) (made more : List (List ℕ)) (output next : List ℕ)
     → Good w first between made output → Good w between now more next → Good w first now (made ++ more) (output ++ next)
 Good-more w first between now made more output next g h = record {
   behind = λ ending later rest calls. rw (append_assoc made more later, append_assoc output next rest)
@@ -33,7 +33,7 @@ Good-more w first between now made more output next g h = record {
   answer = λ later answered is. rw (append_assoc made more later) (g.answer (more ++ later) answered (h.answer later answered is));
 }
 
-pub start : (w : Work) (first : w.Place) (all : List (List ℕ)) (a : Option (List ℕ)) → Midway w first first all all a a []
+pub start : (w : Work) (first : w.Point) (all : List (List ℕ)) (a : Option (List ℕ)) → Midway w first first all all a a []
 start w first all a = record {
   made = [];
   waiting = [];
@@ -46,7 +46,7 @@ start w first all a = record {
 }
 
 -- the next line is good
-pub next_good : (w : Work) (first now next : w.Place) (all left : List (List ℕ)) (line : List ℕ) (a b : Option (List ℕ)) (block new output : List ℕ)
+pub next_good : (w : Work) (first now next : w.Point) (all left : List (List ℕ)) (line : List ℕ) (a b : Option (List ℕ)) (block new output : List ℕ)
     → Midway w first now all (line ∷ left) a b block → Good w now next (line ∷ []) output → new ≡ block ++ output
     → Midway w first next all left a b new
 next_good w first now next all left line a b block new output m g e =
@@ -62,12 +62,12 @@ next_good w first now next all left line a b block new output m g e =
     })
 
 -- the lines whose output is written, and those whose output waits
-joined : (w : Work) (first now : w.Place) (all left : List (List ℕ)) (a b : Option (List ℕ)) (block : List ℕ)
+joined : (w : Work) (first now : w.Point) (all left : List (List ℕ)) (a b : Option (List ℕ)) (block : List ℕ)
     → (m : Midway w first now all left a b block) → Good w first now (m.made ++ m.waiting) (m.output ++ block)
 joined w first now all left a b block m = Good-more w first m.between now m.made m.waiting m.output block m.good m.good_block
 
 -- the block is written
-written : (w : Work) (first now : w.Place) (all left : List (List ℕ)) (a b c : Option (List ℕ)) (block : List ℕ)
+written : (w : Work) (first now : w.Point) (all left : List (List ℕ)) (a b c : Option (List ℕ)) (block : List ℕ)
     → Midway w first now all left a b block → Appends b c block → Midway w first now all left a c []
 written w first now all left a b c block m p = record {
   made = m.made ++ m.waiting;
@@ -81,7 +81,7 @@ written w first now all left a b c block m p = record {
 }
 
 -- nothing is written
-unwritten : (w : Work) (first now : w.Place) (all left : List (List ℕ)) (a b c : Option (List ℕ)) (block : List ℕ)
+unwritten : (w : Work) (first now : w.Point) (all left : List (List ℕ)) (a b c : Option (List ℕ)) (block : List ℕ)
     → Midway w first now all left a b block → Appends b c [] → Midway w first now all left a c block
 unwritten w first now all left a b c block m p = record {
   made = m.made;
@@ -95,7 +95,7 @@ unwritten w first now all left a b c block m p = record {
 }
 
 -- only the output of the lines before the block is written
-pub left_off : (w : Work) (first now : w.Place) (all left : List (List ℕ)) (a b c : Option (List ℕ)) (block : List ℕ)
+pub left_off : (w : Work) (first now : w.Point) (all left : List (List ℕ)) (a b c : Option (List ℕ)) (block : List ℕ)
     → Midway w first now all left a b block → Appends b c [] → LeftOff w first all a c
 left_off w first now all left a b c block m p = record {
   made = m.made;
@@ -108,7 +108,7 @@ left_off w first now all left a b c block m p = record {
 }
 
 -- a front of the block is written
-pub cut_off : (w : Work) (first now : w.Place) (all left : List (List ℕ)) (a b c : Option (List ℕ)) (block : List ℕ)
+pub cut_off : (w : Work) (first now : w.Point) (all left : List (List ℕ)) (a b c : Option (List ℕ)) (block : List ℕ)
     → Midway w first now all left a b block → AppendsFront b c block → CutOff w first all a c
 cut_off w first now all left a b c block m p = record {
   made = m.made ++ m.waiting;
@@ -121,7 +121,7 @@ cut_off w first now all left a b c block m p = record {
 }
 
 -- the block is written, and with it all that the lines that are left call for
-pub ended : (w : Work) (first now : w.Place) (all left : List (List ℕ)) (a b c : Option (List ℕ)) (block rest : List ℕ) (answered : Status)
+pub ended : (w : Work) (first now : w.Point) (all left : List (List ℕ)) (a b c : Option (List ℕ)) (block rest : List ℕ) (answered : Status)
     → Midway w first now all left a b block → w.calls w.whole left now rest → w.answer left now answered → Appends b c (block ++ rest)
     → w.answer all first answered × AppendsCalled (w.calls w.whole all first) a c
 ended w first now all left a b c block rest answered m calls is p =
@@ -136,7 +136,7 @@ ended w first now all left a b c block rest answered m calls is p =
     )
 
 -- a front of the block and of what the lines that are left call for is written
-pub ended_early : (w : Work) (first now : w.Place) (all left : List (List ℕ)) (a b c : Option (List ℕ)) (block rest : List ℕ)
+pub ended_early : (w : Work) (first now : w.Point) (all left : List (List ℕ)) (a b c : Option (List ℕ)) (block rest : List ℕ)
     → Midway w first now all left a b block → w.calls w.whole left now rest → AppendsFront b c (block ++ rest)
     → AppendsCalledFront (w.calls w.whole all first) a c
 ended_early w first now all left a b c block rest m calls p =
@@ -149,7 +149,7 @@ ended_early w first now all left a b c block rest m calls p =
     }
 
 -- a front of the output of the lines that are done is one of the whole output
-pub front_called : (w : Work) (first : w.Place) (all : List (List ℕ)) (a c : Option (List ℕ)) → Total w
+pub front_called : (w : Work) (first : w.Point) (all : List (List ℕ)) (a c : Option (List ℕ)) → Total w
     → CutOff w first all a c → AppendsCalledFront (w.calls w.whole all first) a c
 front_called w first all a c total cut =
     let rest = total cut.later cut.now in
@@ -160,7 +160,7 @@ front_called w first all a c total cut =
     }
 
 -- the output of the lines that are done is a part of the whole output
-pub part_called : (w : Work) (first : w.Place) (all : List (List ℕ)) (a c : Option (List ℕ)) → Total w → Breaks w
+pub part_called : (w : Work) (first : w.Point) (all : List (List ℕ)) (a c : Option (List ℕ)) → Total w → Breaks w
     → LeftOff w first all a c → AppendsCalledPart (w.calls w.whole all first) (λ made. w.calls w.broken made first) all a c
 part_called w first all a c total breaks off =
     let rest = total off.later off.now in
@@ -176,27 +176,27 @@ part_called w first all a c total breaks off =
     }
 
 -- the block is written whole behind good lines, or it waits on
-pub next_written : (w : Work) (first now : w.Place) (all left : List (List ℕ)) (a b c : Option (List ℕ)) (block new : List ℕ)
+pub next_written : (w : Work) (first now : w.Point) (all left : List (List ℕ)) (a b c : Option (List ℕ)) (block new : List ℕ)
     → Midway w first now all left a b block → (Appends b c block × (new ≡ [])) ⊎ (Appends b c [] × (new ≡ block))
     → Midway w first now all left a c new
 next_written w first now all left a b c block new m (inl p) = rw p.1 (written w first now all left a b c block m p.0)
 next_written w first now all left a b c block new m (inr p) = rw p.1 (unwritten w first now all left a b c block m p.0)
 
 -- writing the block failed behind good lines
-pub next_failed : (A : Type 0) (w : Work) (first now : w.Place) (all left : List (List ℕ)) (number : ℕ) (a b c : Option (List ℕ)) (block new : List ℕ) (stop : LineStop)
+pub next_failed : (A : Type 0) (w : Work) (first now : w.Point) (all left : List (List ℕ)) (number : ℕ) (a b c : Option (List ℕ)) (block new : List ℕ) (stop : LineStop)
     → Midway w first now all left a b block → BlockOf {A = A} block new b c (Err stop) → StopOf w first all number a c stop
 next_failed A w first now all left number a b c block new WriteFault m p = cut_off w first now all left a b c block m p
 next_failed A w first now all left number a b c block new (BadLine code) m p = absurd p
 next_failed A w first now all left number a b c block new NoMemory m p = absurd p
 
 -- writing a block behind good lines
-pub next_block : {A : Type 0} (w : Work) (first now : w.Place) (all left : List (List ℕ)) (number : ℕ) (a b c : Option (List ℕ)) (block new : List ℕ) (r : Result A LineStop)
+pub next_block : {A : Type 0} (w : Work) (first now : w.Point) (all left : List (List ℕ)) (number : ℕ) (a b c : Option (List ℕ)) (block new : List ℕ) (r : Result A LineStop)
     → Midway w first now all left a b block → BlockOf block new b c r → NextOf w first (λ x. now) all left number a c new r
 next_block w first now all left number a b c block new (Ok x) m p = next_written w first now all left a b c block new m p
 next_block {A = A} w first now all left number a b c block new (Err stop) m p = next_failed A w first now all left number a b c block new stop m p
 
 -- stopping at a bad line
-bad_line : (w : Work) (first now : w.Place) (all left : List (List ℕ)) (line : List ℕ) (number code : ℕ) (a b c : Option (List ℕ)) (block : List ℕ) (stop : LineStop)
+bad_line : (w : Work) (first now : w.Point) (all left : List (List ℕ)) (line : List ℕ) (number code : ℕ) (a b c : Option (List ℕ)) (block : List ℕ) (stop : LineStop)
     → Midway w first now all (line ∷ left) a b block → Bad w now line number code → BadOf code block b c stop
     → StopOf w first all number a c stop
 bad_line w first now all left line number code a b c block WriteFault m bad p = cut_off w first now all (line ∷ left) a b c block m p
@@ -205,7 +205,7 @@ bad_line w first now all left line number code a b c block (BadLine other) m bad
 bad_line w first now all left line number code a b c block NoMemory m bad p = absurd p
 
 -- stopping at a line at fault
-pub refused_line : {A : Type 0} (w : Work) (first now : w.Place) (next : A → w.Place) (all left : List (List ℕ)) (line : List ℕ) (number : ℕ) (a b c : Option (List ℕ)) (block new : List ℕ) (refused : LineFault) (r : Result A LineFault) (stop : LineStop)
+pub refused_line : {A : Type 0} (w : Work) (first now : w.Point) (next : A → w.Point) (all left : List (List ℕ)) (line : List ℕ) (number : ℕ) (a b c : Option (List ℕ)) (block new : List ℕ) (refused : LineFault) (r : Result A LineFault) (stop : LineStop)
     → Midway w first now all (line ∷ left) a b block → r ≡ Err refused → PushOf w now next number line block new r → RefusalOf refused new b c stop
     → StopOf w first all number a c stop
 refused_line w first now next all left line number a b c block new (fault.Bad code) r stop m is pushed p =
@@ -216,27 +216,27 @@ refused_line w first now next all left line number a b c block new fault.NoMemor
     rw p.0 (left_off w first now all (line ∷ left) a b c block m p.1)
 
 -- a command stopped at a line
-pub stopped : (w : Work) (first : w.Place) (all : List (List ℕ)) (number : ℕ) (a b : Option (List ℕ)) (stop : LineStop) → Total w → Breaks w
+pub stopped : (w : Work) (first : w.Point) (all : List (List ℕ)) (number : ℕ) (a b : Option (List ℕ)) (stop : LineStop) → Total w → Breaks w
     → StopOf w first all number a b stop → ComesAs (task_of w first all) a b (stop_status number stop)
 stopped w first all number a b (BadLine code) total breaks s = s
 stopped w first all number a b WriteFault total breaks s = front_called w first all a b total s
 stopped w first all number a b NoMemory total breaks s = inr (part_called w first all a b total breaks s)
 
 -- no line is left, and the block was written
-pub all_done : (w : Work) (first now : w.Place) (all left : List (List ℕ)) (a b c : Option (List ℕ)) (block : List ℕ) → left ≡ []
+pub all_done : (w : Work) (first now : w.Point) (all left : List (List ℕ)) (a b c : Option (List ℕ)) (block : List ℕ) → left ≡ []
     → w.calls w.whole [] now [] → w.answer [] now status.Done
     → Midway w first now all left a b block → Appends b c block → ComesAs (task_of w first all) a c status.Done
 all_done w first now all left a b c block none calls is m p =
     ended w first now all [] a b c block [] status.Done (rw none at m) calls is (rw (append-nil block) p)
 
 -- no line is left, and a front of the block was written
-pub all_cut : (w : Work) (first now : w.Place) (all left : List (List ℕ)) (a b c : Option (List ℕ)) (block : List ℕ) → left ≡ []
+pub all_cut : (w : Work) (first now : w.Point) (all left : List (List ℕ)) (a b c : Option (List ℕ)) (block : List ℕ) → left ≡ []
     → w.calls w.whole [] now [] → Midway w first now all left a b block → AppendsFront b c block → ComesAs (task_of w first all) a c status.WriteFault
 all_cut w first now all left a b c block none calls m p =
     ended_early w first now all [] a b c block [] (rw none at m) calls (rw (append-nil block) p)
 
 -- no line is left, and the end of the output was to be written behind the block
-pub all_ended : (w : Work) (first now : w.Place) (all left : List (List ℕ)) (a b c : Option (List ℕ)) (block rest : List ℕ) (answered : Status)
+pub all_ended : (w : Work) (first now : w.Point) (all left : List (List ℕ)) (a b c : Option (List ℕ)) (block rest : List ℕ) (answered : Status)
     → Total w → Breaks w → left ≡ [] → w.calls w.whole [] now rest → w.answer [] now status.Done
     → Midway w first now all left a b block → EndOf (block ++ rest) b c answered → ComesAs (task_of w first all) a c answered
 all_ended w first now all left a b c block rest status.Done total breaks none calls is m p =

@@ -120,6 +120,7 @@ impl LiveNode {
         ensures later { K.faults sink.old ≤ K.faults sink.new }
         ensures failed { result ≡ Err Stop.WriteFault → Rose (K.faults sink.old) (K.faults sink.new) }
     {
+        // Its clause: the octets are the frame of some content of the model.
         clnp_machine::laws::octets_have_a_content();
         let Ok(frame) = Frame::copy(alloc, octets) else {
             return Err(Stop::NoMemory);

@@ -63,7 +63,6 @@ pub fn run_node<K: Sink, C: Clock, B: Ports>(
         (K.written sink.old) (K.written sink.new) result }
     ensures failed { result ≡ Err RunStop.WriteFault → Rose (K.faults sink.old) (K.faults sink.new) }
 {
-    scenario.is_fit();
     let start = clock.now();
     match open(alloc, scenario, start) {
         Ok((mut live, mut room)) => {
@@ -114,6 +113,7 @@ fn open(alloc: Global, scenario: &Scenario, start: u64) -> Result<(LiveNode, Vec
     ensures moment { IfOk result (λ opened. (systems.entity_of opened.0.system).moment ≡ start) }
     ensures room { IfOk result (λ opened. length opened.1.items ≡ 70000) }
 {
+    // Its clause: the limits are within their ranges, as a system asks at its start.
     scenario.is_fit();
     let live = LiveNode::new(alloc, &scenario.systems()[0], scenario.limits(), start)?;
     let room = vec![in alloc; 0u8; LONGEST_FRAME]?;
@@ -233,6 +233,7 @@ fn count_ports<B: Ports>(scenario: &Scenario, board: &B) -> u8
     requires { IsForBoard (length (B.ports board.now)) scenario.now }
     ensures { result ≡ length (B.ports board.now) }
 {
+    // Its clause: a system has at most 8 ports, so that an octet counts them.
     scenario.is_fit();
     board.count() as u8
 }

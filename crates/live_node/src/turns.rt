@@ -114,6 +114,7 @@ impl LiveNode {
         ensures later { K.faults sink.old ≤ K.faults sink.new }
         ensures failed { result ≡ Err Stop.WriteFault → Rose (K.faults sink.old) (K.faults sink.new) }
     {
+        // Its clause: each event asks of a system what may be asked of it.
         scenario.is_fit();
         let events = scenario.events();
         for place in agenda.next..events.len() {

@@ -1,13 +1,12 @@
 //! A run over a link that plays an Ethernet capture.
-ghost use Rattle.std.specs.Prelude.{IfOk};
-ghost use Rattle.link_board.specs.ClnpBase.Moments.{AreMoments};
 
+use crate::clock::moments;
 use link_board::clnp_base::{MemClock, MemSink, lines};
 use link_board::{Board, Link};
 use live_node::run_node;
 use pcap_link::PcapLink;
 use scenario::read_for_run;
-use std::alloc::{AllocError, Global};
+use std::alloc::Global;
 use std::process::Abort;
 
 /// A host alone.
@@ -34,13 +33,6 @@ const HANDED_UP: &[u8] = b"0 b got 47002702 47002701 6869
 end 0 0
 ";
 
-/// The moment at which a clock stands.
-fn moments(alloc: Global) -> Result<Vec<u64>, AllocError>
-    ensures { IfOk result (λ list. AreMoments list.items) }
-{
-    Vec::from_slice(alloc, &[0])
-}
-
 #[test]
 fn a_captured_unit_is_handed_up(rt: HostRuntime) {
     let alloc = rt.alloc();
@@ -51,6 +43,7 @@ fn a_captured_unit_is_handed_up(rt: HostRuntime) {
         .expect(&rt, "memory");
     let mut board = Board::new(alloc, links).expect(&rt, "memory");
     let mut sink = MemSink::new(alloc, 1_000, 10, Vec::new(alloc)).expect(&rt, "memory");
+    // Its clause: a text has no more lines than octets, so that this one is short.
     let _lines = lines(HOST);
     let scenario = read_for_run(alloc, HOST, 1).expect(&rt, "a scenario");
     let mut clock = MemClock::new(moments(alloc).expect(&rt, "memory"));

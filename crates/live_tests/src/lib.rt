@@ -4,6 +4,8 @@
 #[cfg(test)]
 mod captured;
 #[cfg(test)]
+mod clock;
+#[cfg(test)]
 mod noting;
 #[cfg(test)]
 mod runs;

@@ -10,17 +10,17 @@ use std::rc::Rc;
 
 /// What a test sees of a link.
 #[derive(Drop)]
-pub struct Notes {
+pub(crate) struct Notes {
     /// How many looks were empty.
-    pub empties: u64,
+    pub(crate) empties: u64,
     /// The octets of the frames that were sent, one behind the other.
-    pub sent: Vec<u8>,
+    pub(crate) sent: Vec<u8>,
     /// Whether the link was dropped.
-    pub dropped: bool,
+    pub(crate) dropped: bool,
 }
 
 /// Notes of nothing, which several may hold.
-pub fn no_notes(alloc: Global) -> Result<Rc<RefCell<Notes>>, NoMemory> {
+pub(crate) fn no_notes(alloc: Global) -> Result<Rc<RefCell<Notes>>, NoMemory> {
     let nothing = Notes {
         empties: 0,
         sent: Vec::new(alloc),
@@ -30,9 +30,9 @@ pub fn no_notes(alloc: Global) -> Result<Rc<RefCell<Notes>>, NoMemory> {
 }
 
 /// A link that passes each call on, and notes it.
-pub struct NotingLink {
-    pub link: MemLink,
-    pub notes: Rc<RefCell<Notes>>,
+pub(crate) struct NotingLink {
+    pub(crate) link: MemLink,
+    pub(crate) notes: Rc<RefCell<Notes>>,
 }
 
 impl Drop for NotingLink {
@@ -73,7 +73,7 @@ impl Link for NotingLink {
 
 /// A link in memory that gives the frames of these octets, from the point 01 there to the node alone, has room for eight frames
 /// of together 1,000 octets, and fails at these calls.
-pub fn link_of(alloc: Global, frames: &[&[u8]], fails: &[u64]) -> Result<MemLink, NoMemory> {
+pub(crate) fn link_of(alloc: Global, frames: &[&[u8]], fails: &[u64]) -> Result<MemLink, NoMemory> {
     let Ok(from) = Snpa::from_bytes(&[1]) else {
         return Err(NoMemory);
     };
@@ -89,7 +89,7 @@ pub fn link_of(alloc: Global, frames: &[&[u8]], fails: &[u64]) -> Result<MemLink
 }
 
 /// The same, where it notes what is done with it.
-pub fn noting_link(
+pub(crate) fn noting_link(
     alloc: Global,
     frames: &[&[u8]],
     fails: &[u64],
@@ -102,7 +102,7 @@ pub fn noting_link(
 }
 
 /// Whether it is noted that the link was dropped.
-pub fn is_dropped(notes: &Rc<RefCell<Notes>>) -> bool {
+pub(crate) fn is_dropped(notes: &Rc<RefCell<Notes>>) -> bool {
     match notes.try_borrow() {
         Ok(notes) => notes.dropped,
         Err(_) => false,

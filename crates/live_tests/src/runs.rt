@@ -1,13 +1,12 @@
 //! Runs of a router over two links.
-ghost use Rattle.std.specs.Prelude.{IfOk};
-ghost use Rattle.link_board.specs.ClnpBase.Moments.{AreMoments};
 
+use crate::clock::moments;
 use crate::noting::{is_dropped, no_notes, noting_link};
 use link_board::clnp_base::{MemClock, MemSink, lines};
 use link_board::{Board, Link, Ports};
 use live_node::{RunStop, run_node};
 use scenario::read_for_run;
-use std::alloc::{AllocError, Global};
+use std::alloc::Global;
 use std::process::Abort;
 
 /// A router with a route that leads out of its second port.
@@ -38,13 +37,6 @@ const BOTH_GONE: &[u8] = b"0 r link 0 gone
 0 r link 1 gone
 ";
 
-/// The moment at which a clock stands.
-fn moments(alloc: Global) -> Result<Vec<u64>, AllocError>
-    ensures { IfOk result (λ list. AreMoments list.items) }
-{
-    Vec::from_slice(alloc, &[0])
-}
-
 /// Runs the router so many turns over ports.
 fn run<B: Ports>(
     rt: &impl Abort,
@@ -53,6 +45,7 @@ fn run<B: Ports>(
     board: &mut B,
     sink: &mut MemSink,
 ) -> Result<(), RunStop> {
+    // Its clause: a text has no more lines than octets, so that this one is short.
     let _lines = lines(TEXT);
     let scenario = read_for_run(alloc, TEXT, board.count()).expect(rt, "a scenario");
     let mut clock = MemClock::new(moments(alloc).expect(rt, "memory"));

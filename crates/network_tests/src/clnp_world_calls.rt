@@ -41,6 +41,7 @@ end 1 1
 
 /// The scenario of the text.
 fn scenario_of(rt: &impl Abort, alloc: Global) -> Scenario {
+    // Its clause: a text has no more lines than octets, so that this one is short.
     let _lines = lines(TEXT);
     read(alloc, TEXT).expect(rt, "a scenario")
 }

@@ -28,6 +28,7 @@ end
 fn asking(rt: &impl Abort) -> Ask
     ensures { FitsKind false (parameters result.options) }
 {
+    // Its clause: options that break no rule are in the form of their kind.
     laws::spelled_where_no_rule_is_broken();
     let Ok(options) = OptionList::from_bytes(b"") else {
         panic!(rt; "no options");
@@ -52,6 +53,7 @@ const LINES: &[u8] = b"0 a sent dt 1 - 47002702 47002702 2
 
 /// The scenario of the host.
 fn scenario_of(rt: &impl Abort, alloc: Global) -> Scenario {
+    // Its clause: a text has no more lines than octets, so that this one is short.
     let _lines = lines(HOST);
     read(alloc, HOST).expect(rt, "a scenario")
 }

@@ -93,10 +93,10 @@ frames_of (line ∷ others) = and_frames (line_of line) (frames_of others)
 abbrev pub records_made : List (List ℕ) → List ℕ
 records_made lines = all_captured HighFirst (map made_record (frames_of lines))
 
--- `pcap-make` goes over lines behind the header that it writes: the place is the number of the next one.
+-- `pcap-make` goes over lines behind the header that it writes: the point is the number of the next one.
 abbrev pub making : Work
 making = record {
-  Place = ℕ;
+  Point = ℕ;
   Ending = Unit {0};
   calls = λ ending lines number output. output ≡ records_made lines;
   answer = λ lines number answered. make_status number lines ≡ answered;

@@ -6,30 +6,30 @@ use std::alloc::{AllocError, Global};
 
 /// A call of the program, and what it must come to.
 #[derive(Drop)]
-pub struct Case<'a> {
+pub(crate) struct Case<'a> {
     /// No octets before the first case of a file.
-    pub name: &'a [u8],
+    pub(crate) name: &'a [u8],
     /// The words of the command line, with spaces between them.
-    pub words: &'a [u8],
-    pub input: Vec<u8>,
+    pub(crate) words: &'a [u8],
+    pub(crate) input: Vec<u8>,
     /// The exit number.
-    pub number: u64,
+    pub(crate) number: u64,
     /// Which lines of the output are compared.
-    pub selection: Selection<'a>,
-    pub output: Vec<u8>,
+    pub(crate) selection: Selection<'a>,
+    pub(crate) output: Vec<u8>,
     /// What is said on standard error.
-    pub said: Vec<u8>,
+    pub(crate) said: Vec<u8>,
     /// The moments that the clock gives.
-    pub moments: &'a [u8],
+    pub(crate) moments: &'a [u8],
     /// The links of the board.
-    pub links: Vec<CaseLink<'a>>,
+    pub(crate) links: Vec<CaseLink<'a>>,
     /// Whether each of its lines has a mark that stands for something.
-    pub is_read: bool,
+    pub(crate) is_read: bool,
 }
 
 impl<'a> Case<'a> {
     /// A case of this name, with no words, no input, no output, and the exit number 0.
-    pub fn new(alloc: Global, name: &'a [u8]) -> Case<'a> {
+    pub(crate) fn new(alloc: Global, name: &'a [u8]) -> Case<'a> {
         Case {
             name,
             words: b"",
@@ -46,7 +46,11 @@ impl<'a> Case<'a> {
 }
 
 /// Takes a line of a case.
-pub fn take_line<'a>(alloc: Global, case: &mut Case<'a>, line: &'a [u8]) -> Result<(), AllocError> {
+pub(crate) fn take_line<'a>(
+    alloc: Global,
+    case: &mut Case<'a>,
+    line: &'a [u8],
+) -> Result<(), AllocError> {
     match line {
         [] | [b'#', ..] => {}
         [b'<'] => push_line(b"", &mut case.input)?,

@@ -11,14 +11,14 @@ const ROOM: usize = 1_000_000;
 
 /// A link of a case, as its file tells it: the numbers of its calls that fail, and the frames that come on it.
 #[derive(Drop)]
-pub struct CaseLink<'a> {
+pub(crate) struct CaseLink<'a> {
     fails: &'a [u8],
     frames: Vec<&'a [u8]>,
 }
 
 impl<'a> CaseLink<'a> {
     /// A link on which no frame comes, whose calls of these numbers fail.
-    pub fn new(alloc: Global, fails: &'a [u8]) -> CaseLink<'a> {
+    pub(crate) fn new(alloc: Global, fails: &'a [u8]) -> CaseLink<'a> {
         CaseLink {
             fails,
             frames: Vec::new(alloc),
@@ -26,13 +26,13 @@ impl<'a> CaseLink<'a> {
     }
 
     /// A frame comes behind the others: `one` or `group`, its sender, and its octets.
-    pub fn push(&mut self, frame: &'a [u8]) -> Result<(), AllocError> {
+    pub(crate) fn push(&mut self, frame: &'a [u8]) -> Result<(), AllocError> {
         self.frames.push(frame)?;
         Ok(())
     }
 
     /// The link, or `None` where a line of it isn't of its form.
-    pub fn open(&self, alloc: Global) -> Result<Option<MemLink>, AllocError> {
+    pub(crate) fn open(&self, alloc: Global) -> Result<Option<MemLink>, AllocError> {
         let mut frames = Vec::new(alloc);
         for line in &self.frames {
             let Some(frame) = frame_of(alloc, line)? else {
@@ -75,7 +75,7 @@ fn frame_of(alloc: Global, line: &[u8]) -> Result<Option<MemFrame>, AllocError> 
 }
 
 /// The numbers of a line, or `None` where one of its words is none.
-pub fn numbers(alloc: Global, line: &[u8]) -> Result<Option<Vec<u64>>, AllocError> {
+pub(crate) fn numbers(alloc: Global, line: &[u8]) -> Result<Option<Vec<u64>>, AllocError> {
     let mut numbers = Vec::new(alloc);
     for word in words(line) {
         let Some(number) = decimal(word) else {
@@ -92,7 +92,7 @@ const LATEST: u64 = (1 << 62) - 1;
 /// A clock that gives some moments, and then the last of them for ever. It never goes back, and tells nothing of the moments
 /// that it will give.
 #[derive(Drop)]
-pub struct CaseClock {
+pub(crate) struct CaseClock {
     moments: Vec<u64>,
     at: usize,
     last: u64,
@@ -101,7 +101,7 @@ pub struct CaseClock {
 
 impl CaseClock {
     /// A clock that gives these moments; 0 for ever where there are none.
-    pub fn new(moments: Vec<u64>) -> CaseClock {
+    pub(crate) fn new(moments: Vec<u64>) -> CaseClock {
         CaseClock {
             moments,
             at: 0,

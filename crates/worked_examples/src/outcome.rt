@@ -16,9 +16,9 @@ const PIECE: usize = 4096;
 
 /// How many cases came to what they must, and how many didn't.
 #[derive(Clone, Copy, PartialEq, Eq)]
-pub struct Tally {
-    pub passed: u64,
-    pub failed: u64,
+pub(crate) struct Tally {
+    pub(crate) passed: u64,
+    pub(crate) failed: u64,
 }
 
 /// What a call came to.
@@ -31,7 +31,7 @@ struct Outcome {
 
 /// Runs a case, appends a line that says whether it came to what it must, and counts it. Where it
 /// didn't, what it came to follows.
-pub fn judge(
+pub(crate) fn judge(
     alloc: Global,
     case: &Case<'_>,
     tally: &mut Tally,
@@ -155,7 +155,11 @@ fn push_fail(
 }
 
 /// Appends the counts.
-pub fn push_counts(alloc: Global, tally: Tally, report: &mut Vec<u8>) -> Result<(), AllocError> {
+pub(crate) fn push_counts(
+    alloc: Global,
+    tally: Tally,
+    report: &mut Vec<u8>,
+) -> Result<(), AllocError> {
     let Tally { passed, failed } = tally;
     let text = format!(in alloc; "passed {passed} failed {failed}\n")?;
     report.extend_from_slice(text.as_str().as_bytes())?;

@@ -5,7 +5,7 @@ use std::alloc::{AllocError, Global};
 /// Which lines of an output are compared: where a source tells a part of the lines, the case
 /// compares that part.
 #[derive(Clone, Copy, PartialEq, Eq)]
-pub enum Selection<'a> {
+pub(crate) enum Selection<'a> {
     /// All of them.
     All,
     /// `without KIND ..`: the lines of a journal that are of none of these kinds.
@@ -20,7 +20,7 @@ pub enum Selection<'a> {
 
 impl<'a> Selection<'a> {
     /// The selection that a text names.
-    pub fn of(text: &'a [u8]) -> Option<Selection<'a>> {
+    pub(crate) fn of(text: &'a [u8]) -> Option<Selection<'a>> {
         let (word, rest) = next_word(text)?;
         match word {
             b"without" => Some(Selection::Without { kinds: rest }),
@@ -53,7 +53,7 @@ fn last_of<'a>(text: &[u8]) -> Option<Selection<'a>> {
 }
 
 /// The lines of an output that are compared.
-pub fn selected(
+pub(crate) fn selected(
     alloc: Global,
     selection: Selection<'_>,
     output: &[u8],

@@ -5,10 +5,11 @@ ghost use Rattle.clnp_network.specs.World as network;
 ghost use Rattle.clnp_machine.specs.ClnpPlan.Journal.{Late, Received, Void};
 ghost use Rattle.clnp_world.specs.Lines.{Gains};
 ghost use Rattle.clnp_world.specs.Parts.{Follows, Holds, IsRunning, Shows};
+ghost use Rattle.clnp_world.specs.Seen.{IsPortFor};
 
 use super::Network;
 use super::coming::names_of_inputs;
-use crate::copy::{first_port, is_addressee, is_to_group};
+use crate::copy::{first_port, is_to_group};
 use crate::lines::Lines;
 use clnp_machine::clnp_base::NoMemory;
 use clnp_machine::clnp_plan::Limits;
@@ -37,10 +38,10 @@ impl Network {
         if at >= self.copies.len() {
             return self.write_void(alloc, number, place, lines);
         }
-        if !self.is_for(at, place) {
-            return self.write_void(alloc, number, place, lines);
+        match self.port_for(at, place) {
+            Some(port) => self.give(alloc, limits, u64::from(number), at, place, port, lines),
+            None => self.write_void(alloc, number, place, lines),
         }
-        self.give(alloc, limits, u64::from(number), at, place, lines)
     }
 
     /// Gives the copy at the cursor to each of its addressees.
@@ -80,8 +81,8 @@ impl Network {
         let number = at as u64 + 1;
         let mut given = false;
         for place in 0..self.systems.len() {
-            if self.is_for(at, place) {
-                self.give(alloc, limits, number, at, place, lines)?;
+            if let Some(port) = self.port_for(at, place) {
+                self.give(alloc, limits, number, at, place, port, lines)?;
                 given = true;
             }
         }
@@ -91,29 +92,19 @@ impl Network {
         lines.nobody(alloc, self.clock, number)
     }
 
-    /// Whether a copy is for the system at a place.
-    fn is_for(&self, at: usize, place: usize) -> bool
+    /// The least of the ports of the system at a place by which a copy comes in, if it is for that system.
+    fn port_for(&self, at: usize, place: usize) -> Option<u8>
         requires at_in { at < vec_len self.now.copies }
         requires place_in { place < vec_len self.now.systems }
         ensures { (model : network.World) (copy : network.Copy) (system : SystemState) → Shows self.now model
             → slice_get model.copies at ≡ Some copy → slice_get model.systems place ≡ Some system
-            → result ≡ network.is_addressee copy system.configuration }
-    {
-        is_addressee(&self.copies[at], self.config_at(place))
-    }
-
-    /// The least of the ports of the system at a place by which a copy comes in.
-    fn port_for(&self, at: usize, place: usize) -> u8
-        requires at_in { at < vec_len self.now.copies }
-        requires place_in { place < vec_len self.now.systems }
-        ensures { (model : network.World) (copy : network.Copy) (system : SystemState) → Shows self.now model
-            → slice_get model.copies at ≡ Some copy → slice_get model.systems place ≡ Some system
-            → result ≡ network.first_port copy system.configuration.role system.configuration.ports }
+            → IsPortFor copy system.configuration result }
     {
         first_port(&self.copies[at], self.config_at(place))
     }
 
-    /// Gives a copy to the system at a place, unless it is late; then a line says so.
+    /// Gives a copy to the system at a place by a port, and a line tells by which; where the copy is late, a line tells that
+    /// instead.
     fn give(
         &mut self,
         alloc: Global,
@@ -121,40 +112,7 @@ impl Network {
         number: u64,
         at: usize,
         place: usize,
-        lines: &mut Lines,
-    ) -> Result<(), NoMemory>
-        requires at_in { at < vec_len self.old.copies }
-        requires place_in { place < vec_len self.old.systems }
-        requires running { IsRunning self.old }
-        ensures follows { OnOk result ((model : network.World) (copy : network.Copy) → Holds self.old model
-            → slice_get model.copies at ≡ Some copy
-            → Follows self.new lines.old lines.new (network.give limits (record { number = number; copy = copy }) model place)) }
-        ensures systems { vec_len self.new.systems ≡ vec_len self.old.systems }
-        ensures copies { vec_len self.old.copies ≤ vec_len self.new.copies }
-    {
-        if self.is_late(limits, at) {
-            return self.write_late(alloc, number, place, lines);
-        }
-        self.hand(alloc, number, at, place, lines)
-    }
-
-    /// Whether a copy is older than one may be that is given.
-    fn is_late(&self, limits: Limits, at: usize) -> bool
-        requires { at < vec_len self.now.copies }
-        ensures { (model : network.World) (copy : network.Copy) → Shows self.now model → slice_get model.copies at ≡ Some copy
-            → result ≡ network.is_late limits model copy }
-    {
-        let birth = self.copies[at].birth;
-        self.clock.saturating_sub(birth) > u64::from(limits.age)
-    }
-
-    /// Hands a copy to the system at a place, by the least of its ports that it is for, and a line tells by which.
-    fn hand(
-        &mut self,
-        alloc: Global,
-        number: u64,
-        at: usize,
-        place: usize,
+        port: u8,
         lines: &mut Lines,
     ) -> Result<(), NoMemory>
         requires at_in { at < vec_len self.old.copies }
@@ -162,12 +120,15 @@ impl Network {
         requires running { IsRunning self.old }
         ensures follows { OnOk result ((model : network.World) (copy : network.Copy) (system : SystemState) → Holds self.old model
             → slice_get model.copies at ≡ Some copy → slice_get model.systems place ≡ Some system
-            → Follows self.new lines.old lines.new (network.hand_to (record { number = number; copy = copy }) model place system)) }
+            → port ≡ network.first_port copy system.configuration.role system.configuration.ports
+            → Follows self.new lines.old lines.new (network.give limits (record { number = number; copy = copy }) model place)) }
         ensures systems { vec_len self.new.systems ≡ vec_len self.old.systems }
         ensures copies { vec_len self.old.copies ≤ vec_len self.new.copies }
     {
+        if self.is_late(limits, at) {
+            return self.write_late(alloc, number, place, lines);
+        }
         names_of_inputs(None, None);
-        let port = self.port_for(at, place);
         self.write_receipt(alloc, number, port, place, lines)?;
         let copy = &self.copies[at];
         let birth = copy.birth;
@@ -181,6 +142,16 @@ impl Network {
             frame: &frame,
         };
         self.comes(alloc, place, birth, &input, lines)
+    }
+
+    /// Whether a copy is older than one may be that is given.
+    fn is_late(&self, limits: Limits, at: usize) -> bool
+        requires { at < vec_len self.now.copies }
+        ensures { (model : network.World) (copy : network.Copy) → Shows self.now model → slice_get model.copies at ≡ Some copy
+            → result ≡ network.is_late limits model copy }
+    {
+        let birth = self.copies[at].birth;
+        self.clock.saturating_sub(birth) > u64::from(limits.age)
     }
 
     /// The line of a copy that comes to the system at a place on a port.

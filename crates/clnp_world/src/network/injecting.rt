@@ -34,6 +34,7 @@ impl Network {
         if place >= subnets.len() {
             return Ok(());
         }
+        // Its clause: the octets are the frame of some content of the model.
         clnp_machine::laws::octets_have_a_content();
         let name = subnets[place].name();
         let number = self.copies.len() as u64 + 1;

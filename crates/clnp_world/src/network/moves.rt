@@ -87,6 +87,7 @@ impl Network {
         ensures { OnOk result ((model : network.World) → Holds self.old model
             → Follows self.new lines.old lines.new (network.after scenario.now model mv.now)) }
     {
+        // Its clause: each event asks of a system what may be asked of it, and injects in its form.
         scenario.is_fit();
         let limits = *scenario.limits();
         match mv {

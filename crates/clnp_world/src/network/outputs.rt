@@ -1,5 +1,5 @@
 //! What systems give out: frames become copies on a subnetwork, and notes lines.
-ghost use Rattle.std.specs.Prelude.{◌≡◌, ◌+◌, ◌<◌, ◌≤◌, if◌then◌else◌, List, [], ◌∷◌, IfSome, OnOk, Some, length, slice_get, vec_len};
+ghost use Rattle.std.specs.Prelude.{◌≡◌, ◌+◌, ◌<◌, ◌≤◌, ◌^◌, if◌then◌else◌, List, [], ◌∷◌, IfNone, IfSome, OnOk, Some, length, slice_get, vec_len};
 ghost use Rattle.clnp_machine.specs.Content.{Content};
 ghost use Rattle.clnp_machine.specs.Given.{GiveAllFor, GivesFor};
 ghost use Rattle.clnp_machine.specs.System as machine;
@@ -182,11 +182,12 @@ impl Network {
     }
 }
 
-/// The weight of some copies and of one more; none where no number is so great, and so no memory.
+/// The weight of some copies and of one more, exactly where a number is so great; memory is refused long before there are so many
+/// copies.
 fn weight_with(weight: u64, frame: &Frame) -> Option<u64>
-    ensures { IfSome result (λ more. more ≡ weight + (length frame.now + 64)) }
+    ensures weighed { IfSome result (λ more. more ≡ weight + (length frame.now + 64)) }
+    ensures none { IfNone result (2 ^ 64 ≤ weight + (length frame.now + 64)) }
 {
-    weight
-        .checked_add(frame.bytes().len() as u64)?
-        .checked_add(COPY_WEIGHT)
+    let octets = frame.bytes().len() as u64;
+    weight.checked_add(octets)?.checked_add(COPY_WEIGHT)
 }

@@ -1,9 +1,7 @@
 -- The copy is there, and it is for the system or not.
-use Rattle.std.proofs.Common.{ℕ, Bool, arith, subst}
+use Rattle.std.proofs.Common.{ℕ, Option, arith, subst}
 use Rattle.std.proofs.lemmas.Result.{on_ok_weaker}
-use Rattle.clnp_network.specs.World as network
-use Rattle.clnp_world.specs.Parts.{Follows}
-use Rattle.clnp_world.proofs.GiveSteps.{TellsAddressee, delivers, delivers_nowhere, delivers_none, delivers_other, numbered}
+use Rattle.clnp_world.proofs.GiveSteps.{GivesBy, TellsPort, delivers, delivers_nowhere, delivers_none, delivers_other, gives_by, tells_none, tells_some}
 use Rattle.clnp_world.proofs.network.Network.deliver.Goals as goal
 
 pub returns-then-place-len : goal.returns-then-place-len
@@ -18,23 +16,26 @@ returns-then-at-len c =
     (omega arith) (omega (arith, old.systems.ok.0)) (omega (arith, old.copies.ok.0)))
     c.write_void.ensures
 
-pub returns-then-not-is_for : goal.returns-then-not-is_for
-returns-then-not-is_for c =
+pub returns-in-None : goal.returns-in-None
+returns-in-None c =
     let old = c.args.self.now in
-    let tells = λ (b : Bool). TellsAddressee old c.saturating_sub-at.result c.args.place b in
-    on_ok_weaker c.write_void-then-not-is_for.result
-    (delivers_other old c.args.lines.now c.write_void-then-not-is_for.new.lines c.args.limits c.args.number c.saturating_sub-at.result
+    let tells = λ (found : Option ℕ). TellsPort old c.saturating_sub-at.result c.args.place found in
+    on_ok_weaker c.write_void-in-None.result
+    (delivers_other old c.args.lines.now c.write_void-in-None.new.lines c.args.limits c.args.number c.saturating_sub-at.result
     c.args.place (omega arith) (omega (arith, old.systems.ok.0)) (omega (arith, old.copies.ok.0))
-    (subst tells c.if-not-is_for.true c.is_for.ensures))
-    c.write_void-then-not-is_for.ensures
+    (tells_none old c.saturating_sub-at.result c.args.place (subst tells c.in-None.is c.port_for.ensures)))
+    c.write_void-in-None.ensures
 
-pub returns : goal.returns
-returns c =
+pub returns-in-Some : goal.returns-in-Some
+returns-in-Some c =
     let old = c.args.self.now in
-    let tells = λ (b : Bool). TellsAddressee old c.saturating_sub-at.result c.args.place b in
+    let at = c.saturating_sub-at.result in
+    let port = c.in-Some.port in
+    let tells = subst (λ (found : Option ℕ). TellsPort old at c.args.place found) c.in-Some.is c.port_for.ensures in
     on_ok_weaker c.give.result (λ gives.
-    delivers old c.give.new.self c.args.lines.now c.give.new.lines c.args.limits c.args.number c.saturating_sub-at.result c.args.place
-    (omega arith) (omega (arith, old.systems.ok.0)) (omega (arith, old.copies.ok.0)) (subst tells c.if-not-is_for.false c.is_for.ensures)
-    (λ model copy h there. subst (λ (n : ℕ). Follows c.give.new.self c.args.lines.now c.give.new.lines
-    (network.give c.args.limits (numbered n copy) model c.args.place)) c.from.ensures (gives model copy h there)))
+    delivers old c.give.new.self c.args.lines.now c.give.new.lines c.args.limits c.args.number at c.args.place
+    (omega arith) (omega (arith, old.systems.ok.0)) (omega (arith, old.copies.ok.0)) (tells_some old at c.args.place port tells)
+    (gives_by old c.give.new.self c.args.lines.now c.give.new.lines c.args.limits c.args.number at c.args.place port
+    (omega (arith, old.systems.ok.0)) tells
+    (subst (λ (n : ℕ). GivesBy old c.give.new.self c.args.lines.now c.give.new.lines c.args.limits n at c.args.place port) c.from.ensures gives)))
     c.give.ensures.follows

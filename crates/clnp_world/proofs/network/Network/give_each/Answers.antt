@@ -1,10 +1,10 @@
 -- One system after another is looked at.
-use Rattle.std.proofs.Common.{◌∙◌, ◌≡◌, ◌≤◌, Bool, sym, subst, arith, vec_len}
+use Rattle.std.proofs.Common.{◌∙◌, ◌≡◌, ◌+◌, ◌≤◌, ℕ, Bool, Option, sym, subst, arith, vec_len}
 use Rattle.std.proofs.lemmas.Result.{on_ok_weaker}
 use Rattle.clnp_world.specs.declared.network.Network.{Network}
-use Rattle.clnp_world.proofs.GiveSteps.{TellsAddressee, TellsGiven, given_more, given_skip, gives_more_as, gives_skip_as, settles_none, settles_some, still_running}
+use Rattle.clnp_world.proofs.GiveSteps.{TellsGiven, TellsPort, given_more, given_skip, gives_by, gives_more_as, gives_skip_as, settles_none, settles_some, still_running, tells_none, tells_some}
 use Rattle.clnp_world.proofs.network.Network.give_each.Goals as goal
-use Rattle.clnp_world.proofs.network.Network.give_each.Goals.{then-is_for+in_ok-give, else-is_for}
+use Rattle.clnp_world.proofs.network.Network.give_each.Goals.{in-Some+in_ok-give, in_default}
 
 pub give-requires-clause-running : goal.give-requires-clause-running
 give-requires-clause-running c =
@@ -14,31 +14,37 @@ give-requires-clause-running c =
 pub loop-place-preserved : goal.loop-place-preserved
 loop-place-preserved c =
     let old = c.args.self.now in
-    let tells = λ (b : Bool). TellsAddressee c.loop-place.self c.args.at c.loop-place.place b in
-    elim c.if-is_for.branch [
-      | then-is_for+in_ok-give w ↦ record {
-        gives = gives_more_as old c.loop-place.self w.give.new.self c.if-is_for.self c.args.lines.now c.loop-place.lines
-            w.give.new.lines c.if-is_for.lines c.args.limits c.args.at c.loop-place.place c.loop-place.invariant.gives
-            (omega (arith, old.systems.ok.0)) (subst tells w.if-is_for.true c.is_for.ensures) w.self-is
-            w.lines-is w.in_ok-give.ensures.follows;
-        given = given_more old c.loop-place.self c.args.lines.now c.loop-place.lines c.args.limits c.args.at c.loop-place.place
-            c.if-is_for.given c.loop-place.invariant.gives (omega (arith, old.systems.ok.0))
-            (subst tells w.if-is_for.true c.is_for.ensures) w.given-is;
-        systems = subst (λ (v : Network). vec_len v.systems ≡ vec_len old.systems) (sym w.self-is)
-            (w.in_ok-give.ensures.systems ∙ c.loop-place.invariant.systems);
-        copies = subst (λ (v : Network). vec_len old.copies ≤ vec_len v.copies) (sym w.self-is) (omega (arith, w.in_ok-give.ensures.copies));
-      }
-      | else-is_for w ↦ record {
-        gives = gives_skip_as old c.loop-place.self c.if-is_for.self c.args.lines.now c.loop-place.lines c.if-is_for.lines
-            c.args.limits c.args.at c.loop-place.place c.loop-place.invariant.gives
-            (omega (arith, old.systems.ok.0)) (subst tells w.if-is_for.false c.is_for.ensures) w.self-is
-            w.lines-is;
-        given = given_skip old c.loop-place.self c.args.lines.now c.loop-place.lines c.args.limits c.args.at c.loop-place.place
-            c.loop-place.given c.if-is_for.given c.loop-place.invariant.gives (omega (arith, old.systems.ok.0))
-            (subst tells w.if-is_for.false c.is_for.ensures) c.loop-place.invariant.given w.given-is;
-        systems = subst (λ (v : Network). vec_len v.systems ≡ vec_len old.systems) (sym w.self-is) c.loop-place.invariant.systems;
-        copies = subst (λ (v : Network). vec_len old.copies ≤ vec_len v.copies) (sym w.self-is) c.loop-place.invariant.copies;
-      }
+    let at = c.args.at in
+    let place = c.loop-place.place in
+    let tells = λ (found : Option ℕ). TellsPort c.loop-place.self at place found in
+    elim c.match-port_for.branch [
+      | in-Some+in_ok-give w ↦
+          let port = w.in-Some.port in
+          let found = subst tells w.in-Some.is c.port_for.ensures in
+          let is_for = tells_some c.loop-place.self at place port found in
+          record {
+            gives = gives_more_as old c.loop-place.self w.give.new.self c.match-port_for.self c.args.lines.now c.loop-place.lines
+                w.give.new.lines c.match-port_for.lines c.args.limits at place c.loop-place.invariant.gives
+                (omega (arith, old.systems.ok.0)) is_for w.self-is w.lines-is
+                (gives_by c.loop-place.self w.give.new.self c.loop-place.lines w.give.new.lines c.args.limits (at + 1) at place port
+                (omega (arith, c.loop-place.invariant.systems, old.systems.ok.0, c.loop-place.self.systems.ok.0)) found w.in_ok-give.ensures.follows);
+            given = given_more old c.loop-place.self c.args.lines.now c.loop-place.lines c.args.limits at place
+                c.match-port_for.given c.loop-place.invariant.gives (omega (arith, old.systems.ok.0)) is_for w.given-is;
+            systems = subst (λ (v : Network). vec_len v.systems ≡ vec_len old.systems) (sym w.self-is)
+                (w.in_ok-give.ensures.systems ∙ c.loop-place.invariant.systems);
+            copies = subst (λ (v : Network). vec_len old.copies ≤ vec_len v.copies) (sym w.self-is) (omega (arith, w.in_ok-give.ensures.copies));
+          }
+      | in_default w ↦
+          let is_for = tells_none c.loop-place.self at place (subst tells w.in_default.is c.port_for.ensures) in
+          record {
+            gives = gives_skip_as old c.loop-place.self c.match-port_for.self c.args.lines.now c.loop-place.lines c.match-port_for.lines
+                c.args.limits at place c.loop-place.invariant.gives (omega (arith, old.systems.ok.0)) is_for w.self-is w.lines-is;
+            given = given_skip old c.loop-place.self c.args.lines.now c.loop-place.lines c.args.limits at place
+                c.loop-place.given c.match-port_for.given c.loop-place.invariant.gives (omega (arith, old.systems.ok.0)) is_for
+                c.loop-place.invariant.given w.given-is;
+            systems = subst (λ (v : Network). vec_len v.systems ≡ vec_len old.systems) (sym w.self-is) c.loop-place.invariant.systems;
+            copies = subst (λ (v : Network). vec_len old.copies ≤ vec_len v.copies) (sym w.self-is) c.loop-place.invariant.copies;
+          }
     ]
 
 pub returns-then-given : goal.returns-then-given
