@@ -1,7 +1,6 @@
 pub use Rattle.clnp_machine.specs.ClnpBase
 pub use Rattle.capture_commands.specs.CommandBase
 pub use Rattle.live_commands.specs.LinkBoard
-pub mod Objects
 pub mod Sim
 pub mod Time
 pub mod Play

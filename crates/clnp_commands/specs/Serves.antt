@@ -1,6 +1,7 @@
 -- What a call makes of its words, a source and a sink.
-use Rattle.std.specs.Prelude.{◌≡◌, ◌≢◌, ℕ, ◌+◌, ◌≤◌, ◌⊎◌, List, [], Result, Ok, Err, IfSome}
+use Rattle.std.specs.Prelude.{◌≡◌, ◌≢◌, ℕ, ◌+◌, ◌≤◌, ◌⊎◌, List, [], Option, Result, Ok, Err, IfSome}
 use Rattle.std.specs.Io.KnownBytes.{Keeps}
+use Rattle.clnp_machine.specs.ClnpBase.Streams.{Rose}
 use Rattle.capture_commands.specs.CommandBase.declared.status.Status.{Status}
 use Rattle.capture_commands.specs.CommandBase.declared.status.Status.TheVariants.{Done, BadWords, TooLong, BadInput, WorldFull, ReadFault, WriteFault, LinksGone, NoMemory}
 use Rattle.capture_commands.specs.CommandBase.ComesAs.{Task}
@@ -14,9 +15,19 @@ use Rattle.clnp_commands.specs.declared.command.WholeCommand.{WholeCommand}
 use Rattle.clnp_commands.specs.declared.command.WholeCommand.TheVariants.{Storm}
 use Rattle.clnp_commands.specs.declared.command.StreamedCommand.{StreamedCommand}
 use Rattle.clnp_commands.specs.declared.command.StreamedCommand.TheVariants.{PcapShow, PcapLines}
-use Rattle.clnp_commands.specs.Objects.{Stream}
 use Rattle.clnp_commands.specs.Tasks.{CalledBy, task}
 use Rattle.clnp_commands.specs.Words.{command_of, Reads}
+
+-- What a contract sees of a source, by what it has left, or of a sink, by what stands in it, before a call and after it, where it
+-- tells that; that it is as it was, and that it failed in the call.
+pub record Stream : Type 1 where
+  pub before : Option (List ℕ)
+  pub after : Option (List ℕ)
+  pub same : Type 0
+  pub failed : Type 0
+
+abbrev pub stream : {X : Type 0} → (tells : X → Option (List ℕ)) → (faults : X → ℕ) → (old new : X) → Stream
+stream tells faults old new = record { before = tells old; after = tells new; same = new ≡ old; failed = Rose (faults old) (faults new) }
 
 -- All of a command's input was read: this is the status that both call for, and the output that they call for was written.
 pub record Outputs (command : WholeCommand) (source sink : Stream) (status : Status) : Type 0 where

@@ -5,9 +5,8 @@ use Rattle.clnp_commands.specs.ClnpBase.Streams.{AppendsFront}
 use Rattle.clnp_commands.specs.CommandBase.declared.status.Status.{Status}
 use Rattle.clnp_commands.specs.CommandBase.declared.status.Status.TheVariants.{Done, WriteFault}
 use Rattle.clnp_commands.specs.CommandBase.Exit.{exit_number}
-use Rattle.clnp_commands.specs.Live.{RunsAs}
-use Rattle.clnp_commands.specs.Objects.{Stream, Surroundings}
-use Rattle.clnp_commands.specs.Serves.{Serves}
+use Rattle.clnp_commands.specs.Live.{RunsAs, Surroundings}
+use Rattle.clnp_commands.specs.Serves.{Serves, Stream}
 use Rattle.clnp_commands.specs.Words.{command_of}
 use Rattle.clnp_program.specs.Texts.{behind_fault, information}
 use Rattle.clnp_program.specs.declared.fault.Fault.{Fault}

@@ -2,7 +2,8 @@
 ghost use Rattle.std.specs.Prelude.{◌≡◌, ◌≤◌, ◌⊎◌, ℕ, false, List, [], map, string_bytes};
 ghost use Rattle.clnp_commands.specs.Advised.{Advised, is_bad_input};
 ghost use Rattle.clnp_commands.specs.ClnpBase.Streams.{Rose};
-ghost use Rattle.clnp_commands.specs.Objects.{stream, surroundings};
+ghost use Rattle.clnp_commands.specs.Live.{surroundings};
+ghost use Rattle.clnp_commands.specs.Serves.{stream};
 ghost use Rattle.clnp_commands.specs.Words.{command_of};
 ghost use Rattle.clnp_program.specs.declared.fault.Fault.{Fault};
 ghost use Rattle.clnp_program.specs.Answers.{Answers, Ends, Informs, Runs, WritesLine};

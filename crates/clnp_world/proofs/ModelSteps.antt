@@ -292,11 +292,12 @@ first_port_is copy role ports =
 -- one of some elements passes a test exactly where the first that does stands before their end
 any_before : {X : Type 0} (p : X → Bool) (xs : List X) → list_any p xs ≡ nat_lt (position_or_len p xs) (length xs)
 any_before p [] = refl
-any_before p (x ∷ xs) = by_test (p x) refl
+any_before p (x ∷ xs) = by_test (any_before p xs) (p x) refl
   where
-    by_test : (b : Bool) → p x ≡ b → list_any p (x ∷ xs) ≡ nat_lt (position_or_len p (x ∷ xs)) (length (x ∷ xs))
-    by_test true is = rw is refl
-    by_test false is = rw is (any_before p xs)
+    by_test : list_any p xs ≡ nat_lt (position_or_len p xs) (length xs) → (b : Bool) → p x ≡ b
+        → list_any p (x ∷ xs) ≡ nat_lt (position_or_len p (x ∷ xs)) (length (x ∷ xs))
+    by_test rest true is = rw is refl
+    by_test rest false is = rw is rest
 
 -- what the code finds is the first port by which a copy comes in, or that the copy isn't for the system
 pub port_found : (copy : network.Copy) (system : SystemConfiguration) → IsPortFor copy system (position (network.enters copy system.role) system.ports)
