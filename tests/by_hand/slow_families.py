@@ -715,9 +715,8 @@ def refused_at_the_last_route(size):
 
 @family("sim", 4_000_000, status=3)
 def refused_for_systems_without_ports(size):
-    """64 systems of which the last has no port, and comments of so many octets between them"""
-    lines = [line for line in lan(64, "host") if not line.startswith("port s63 ")]
-    return scenario([line + "\n#" + size // 192 * "x" for line in lines], [])
+    """64 systems of which the last has no port, and behind them so many empty lines"""
+    return scenario([line for line in lan(64, "host") if not line.startswith("port s63 ")] + size * [""], [])
 
 
 @family("sim", 4_000_000, status=3)

@@ -207,4 +207,5 @@ def main():
     sys.exit(any(row.fault for row in rows))
 
 
-main()
+if __name__ == "__main__":
+    main()
