@@ -11,8 +11,8 @@ ghost use Rattle.clnp_commands.specs.Advised.{Advised};
 ghost use Rattle.clnp_commands.specs.declared.command.Command.TheVariants.{Whole};
 ghost use Rattle.pcap_commands.specs.Serves.{ServesFile};
 ghost use Rattle.capture_commands.specs.CommandBase.Reading.{TakesTooMany, TakesWithin};
-ghost use Rattle.clnp_commands.specs.Live.{RunsAs, surroundings};
-ghost use Rattle.clnp_commands.specs.Serves.{Serves, ServesCommand, form_of, stream};
+ghost use Rattle.clnp_commands.specs.Live.{RunsAs};
+ghost use Rattle.clnp_commands.specs.Serves.{Serves, ServesCommand, form_of};
 ghost use Rattle.clnp_commands.specs.Tasks.{task};
 ghost use Rattle.clnp_commands.specs.Agree.{TextsAgree};
 ghost use Rattle.capture_commands.specs.CommandBase.ComesAs.{ComesAs, most_input};
@@ -68,13 +68,15 @@ pub fn clnp_main<S: Source, K: Sink, B: Ports, C: Clock>(
     ensures later { (S.faults source.old ≤ S.faults source.new) × (K.faults sink.old ≤ K.faults sink.new) × (C.last clock.old ≤ C.last clock.new) }
 
     // What was taken from the source, what was written to the sink, and which status is answered.
-    ensures serves { Serves (map string_bytes words.now)
-        (stream S.left S.faults source.old source.new) (stream K.written K.faults sink.old sink.new) result }
+    ensures serves { Serves (map string_bytes words.now) (S.left source.old) (S.left source.new) (K.written sink.old) (K.written sink.new)
+        (source.new ≡ source.old) (sink.new ≡ sink.old)
+        (Rose (S.faults source.old) (S.faults source.new)) (Rose (K.faults sink.old) (K.faults sink.new)) result }
 
     // What became of the board and the clock; and what the call comes to that runs a node.
-    ensures runs { RunsAs (command_of (map string_bytes words.now))
-        (stream S.left S.faults source.old source.new) (stream K.written K.faults sink.old sink.new)
-        (surroundings B.ports board.old board.new C.moments clock.old clock.new) result }
+    ensures runs { RunsAs (command_of (map string_bytes words.now)) (S.left source.old) (S.left source.new) (K.written sink.old) (K.written sink.new)
+        (B.ports board.old) (B.ports board.new) (C.moments clock.old) (C.moments clock.new)
+        (sink.new ≡ sink.old) (board.new ≡ board.old) (clock.new ≡ clock.old)
+        (Rose (S.faults source.old) (S.faults source.new)) (Rose (K.faults sink.old) (K.faults sink.new)) result }
 
     // What the author of the input is told beside the status, and when nothing is.
     ensures advised { Advised (command_of (map string_bytes words.now)) result advice.new }
@@ -110,8 +112,9 @@ fn serve<S: Source, K: Sink>(
 ) -> Status
     requires { advice.old ≡ [] }
     ensures later { (S.faults source.old ≤ S.faults source.new) × (K.faults sink.old ≤ K.faults sink.new) }
-    ensures serves { ServesCommand command
-        (stream S.left S.faults source.old source.new) (stream K.written K.faults sink.old sink.new) result }
+    ensures serves { ServesCommand command (S.left source.old) (S.left source.new) (K.written sink.old) (K.written sink.new)
+        (source.new ≡ source.old) (sink.new ≡ sink.old)
+        (Rose (S.faults source.old) (S.faults source.new)) (Rose (K.faults sink.old) (K.faults sink.new)) result }
     ensures advised { Advised (Ok (Whole command)) result advice.new }
 {
     let mut text = Vec::new(alloc);

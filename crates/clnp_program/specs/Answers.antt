@@ -5,33 +5,42 @@ use Rattle.clnp_commands.specs.ClnpBase.Streams.{AppendsFront}
 use Rattle.clnp_commands.specs.CommandBase.declared.status.Status.{Status}
 use Rattle.clnp_commands.specs.CommandBase.declared.status.Status.TheVariants.{Done, WriteFault}
 use Rattle.clnp_commands.specs.CommandBase.Exit.{exit_number}
-use Rattle.clnp_commands.specs.Live.{RunsAs, Surroundings}
-use Rattle.clnp_commands.specs.Serves.{Serves, Stream}
+use Rattle.clnp_commands.specs.Live.{RunsAs}
+use Rattle.clnp_commands.specs.LinkBoard.Ports.{PortState}
+use Rattle.clnp_commands.specs.Serves.{Serves}
 use Rattle.clnp_commands.specs.Words.{command_of}
 use Rattle.clnp_program.specs.Texts.{behind_fault, information}
 use Rattle.clnp_program.specs.declared.fault.Fault.{Fault}
 use Rattle.clnp_program.specs.Faults.{fault_of}
 
 -- A text about the program: it was written and all is done, or the sink failed in this call and has a front of it.
-abbrev pub Informs : List ℕ → (sink : Stream) → Status → Type 0
-Informs text sink status =
-    ((status ≡ Done) × Appends sink.before sink.after text) ⊎ ((status ≡ WriteFault) × (sink.failed × AppendsFront sink.before sink.after text))
+abbrev pub Informs : List ℕ → Option (List ℕ) → Option (List ℕ) → Type 0 → Status → Type 0
+Informs text before after rose status =
+    ((status ≡ Done) × Appends before after text) ⊎ ((status ≡ WriteFault) × (rose × AppendsFront before after text))
 
 -- what the words come to: a text about the program, with the source as it was; or a command
-abbrev pub AnswersOn : Option (List ℕ) → (words : List (List ℕ)) → (source sink : Stream) → Status → Type 0
-AnswersOn (Some text) words source sink status = Informs text sink status × source.same
-AnswersOn None words source sink status = Serves words source sink status
+abbrev pub AnswersOn : Option (List ℕ) → (words : List (List ℕ)) → (left_before left_after before after : Option (List ℕ)) → (same_source same_sink read_rose write_rose : Type 0) → Status → Type 0
+AnswersOn (Some text) words left_before left_after before after same_source same_sink read_rose write_rose status =
+    Informs text before after write_rose status × same_source
+AnswersOn None words left_before left_after before after same_source same_sink read_rose write_rose status =
+    Serves words left_before left_after before after same_source same_sink read_rose write_rose status
 
-abbrev pub Answers : (words : List (List ℕ)) → (source sink : Stream) → Status → Type 0
-Answers words source sink status = AnswersOn (information words) words source sink status
+abbrev pub Answers : (words : List (List ℕ)) → (left_before left_after before after : Option (List ℕ)) → (same_source same_sink read_rose write_rose : Type 0) → Status → Type 0
+Answers words left_before left_after before after same_source same_sink read_rose write_rose status =
+    AnswersOn (information words) words left_before left_after before after same_source same_sink read_rose write_rose status
 
 -- what becomes of the board and the clock: a text about the program leaves them as they are
-abbrev pub RunsOn : Option (List ℕ) → (words : List (List ℕ)) → (source sink : Stream) → Surroundings → Status → Type 0
-RunsOn (Some text) words source sink around status = around.same
-RunsOn None words source sink around status = RunsAs (command_of words) source sink around status
+abbrev pub RunsOn : Option (List ℕ) → (words : List (List ℕ)) → (left_before left_after before after : Option (List ℕ)) → (ports_before ports_after : List PortState) → (moments_before moments_after : Option (List ℕ)) → (same_sink same_board same_clock read_rose write_rose : Type 0) → Status → Type 0
+RunsOn (Some text) words left_before left_after before after ports_before ports_after moments_before moments_after same_sink same_board same_clock read_rose write_rose status =
+    same_board × same_clock
+RunsOn None words left_before left_after before after ports_before ports_after moments_before moments_after same_sink same_board same_clock read_rose write_rose status =
+    RunsAs (command_of words) left_before left_after before after ports_before ports_after moments_before moments_after
+    same_sink same_board same_clock read_rose write_rose status
 
-abbrev pub Runs : (words : List (List ℕ)) → (source sink : Stream) → Surroundings → Status → Type 0
-Runs words source sink around status = RunsOn (information words) words source sink around status
+abbrev pub Runs : (words : List (List ℕ)) → (left_before left_after before after : Option (List ℕ)) → (ports_before ports_after : List PortState) → (moments_before moments_after : Option (List ℕ)) → (same_sink same_board same_clock read_rose write_rose : Type 0) → Status → Type 0
+Runs words left_before left_after before after ports_before ports_after moments_before moments_after same_sink same_board same_clock read_rose write_rose status =
+    RunsOn (information words) words left_before left_after before after ports_before ports_after moments_before moments_after
+    same_sink same_board same_clock read_rose write_rose status
 
 -- the line of a fault, with a text of its own, and behind that of bad words which words are commands
 abbrev pub line_of_fault : Fault → (text : List ℕ) → List ℕ

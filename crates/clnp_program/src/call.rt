@@ -2,8 +2,6 @@
 ghost use Rattle.std.specs.Prelude.{◌≡◌, ◌≤◌, ◌⊎◌, ℕ, false, List, [], map, string_bytes};
 ghost use Rattle.clnp_commands.specs.Advised.{Advised, is_bad_input};
 ghost use Rattle.clnp_commands.specs.ClnpBase.Streams.{Rose};
-ghost use Rattle.clnp_commands.specs.Live.{surroundings};
-ghost use Rattle.clnp_commands.specs.Serves.{stream};
 ghost use Rattle.clnp_commands.specs.Words.{command_of};
 ghost use Rattle.clnp_program.specs.declared.fault.Fault.{Fault};
 ghost use Rattle.clnp_program.specs.Answers.{Answers, Ends, Informs, Runs, WritesLine};
@@ -37,11 +35,13 @@ pub fn run<S: Source, K: Sink, B: Ports, C: Clock, E: Sink>(
     // number and what is said are theirs.
     ensures answers { (status : Status) × (advice : List ℕ) × Advised (command_of (map string_bytes words.now)) status advice
         × Ends status advice result (E.written errors.old) (E.written errors.new) (Rose (E.faults errors.old) (E.faults errors.new))
-        × Answers (map string_bytes words.now)
-        (stream S.left S.faults source.old source.new) (stream K.written K.faults sink.old sink.new) status
-        × Runs (map string_bytes words.now)
-        (stream S.left S.faults source.old source.new) (stream K.written K.faults sink.old sink.new)
-        (surroundings B.ports board.old board.new C.moments clock.old clock.new) status }
+        × Answers (map string_bytes words.now) (S.left source.old) (S.left source.new) (K.written sink.old) (K.written sink.new)
+        (source.new ≡ source.old) (sink.new ≡ sink.old)
+        (Rose (S.faults source.old) (S.faults source.new)) (Rose (K.faults sink.old) (K.faults sink.new)) status
+        × Runs (map string_bytes words.now) (S.left source.old) (S.left source.new) (K.written sink.old) (K.written sink.new)
+        (B.ports board.old) (B.ports board.new) (C.moments clock.old) (C.moments clock.new)
+        (sink.new ≡ sink.old) (board.new ≡ board.old) (clock.new ≡ clock.old)
+        (Rose (S.faults source.old) (S.faults source.new)) (Rose (K.faults sink.old) (K.faults sink.new)) status }
 {
     let mut advice = Advice::new();
     let status = answer(alloc, words, source, sink, board, clock, &mut advice);
@@ -91,11 +91,13 @@ fn answer<S: Source, K: Sink, B: Ports, C: Clock>(
 ) -> Status
     requires { advice.old ≡ [] }
     ensures later { (S.faults source.old ≤ S.faults source.new) × (K.faults sink.old ≤ K.faults sink.new) × (C.last clock.old ≤ C.last clock.new) }
-    ensures runs { Runs (map string_bytes words.now)
-        (stream S.left S.faults source.old source.new) (stream K.written K.faults sink.old sink.new)
-        (surroundings B.ports board.old board.new C.moments clock.old clock.new) result }
-    ensures answers { Answers (map string_bytes words.now)
-        (stream S.left S.faults source.old source.new) (stream K.written K.faults sink.old sink.new) result }
+    ensures runs { Runs (map string_bytes words.now) (S.left source.old) (S.left source.new) (K.written sink.old) (K.written sink.new)
+        (B.ports board.old) (B.ports board.new) (C.moments clock.old) (C.moments clock.new)
+        (sink.new ≡ sink.old) (board.new ≡ board.old) (clock.new ≡ clock.old)
+        (Rose (S.faults source.old) (S.faults source.new)) (Rose (K.faults sink.old) (K.faults sink.new)) result }
+    ensures answers { Answers (map string_bytes words.now) (S.left source.old) (S.left source.new) (K.written sink.old) (K.written sink.new)
+        (source.new ≡ source.old) (sink.new ≡ sink.old)
+        (Rose (S.faults source.old) (S.faults source.new)) (Rose (K.faults sink.old) (K.faults sink.new)) result }
     ensures advised { Advised (command_of (map string_bytes words.now)) result advice.new }
 {
     match information(words) {
@@ -107,7 +109,7 @@ fn answer<S: Source, K: Sink, B: Ports, C: Clock>(
 /// Writes a text about the program.
 fn inform<K: Sink>(text: &str, sink: &mut K) -> Status
     ensures later { K.faults sink.old ≤ K.faults sink.new }
-    ensures informs { Informs text.now (stream K.written K.faults sink.old sink.new) result }
+    ensures informs { Informs text.now (K.written sink.old) (K.written sink.new) (Rose (K.faults sink.old) (K.faults sink.new)) result }
     ensures no_input { is_bad_input result ≡ false }
 {
     match write_all(sink, text.as_bytes()) {

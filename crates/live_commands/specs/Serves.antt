@@ -24,14 +24,71 @@ AnswersWithin false links text status = AnswersPlan (run_plan_of links text) sta
 abbrev pub AnswersText : (links : ℕ) → (text : List ℕ) → Status → Type 0
 AnswersText links text status = AnswersWithin (nat_lt most_input (length text)) links text status
 
--- The text is a scenario for the board, and its system was run.
+-- All of the input was read, it is a scenario for the board, and its system was run.
+pub record RunsText (turns : ℕ) (left_before left_after before after : Option (List ℕ)) (ports_before ports_after : List PortState) (moments_before moments_after : Option (List ℕ)) (result : Result (Unit {0}) RunStop) : Type 0 where
+  pub text : List ℕ
+  pub reads : ReadsWhole left_before left_after text
+  pub plan : Plan
+  pub accepted : run_plan_of (length ports_before) text ≡ Ok plan
+  pub ran : RanOf plan turns moments_before moments_after ports_before ports_after before after result
+
+-- All of the input was read, and this is its first bad line.
+pub record RefusesText (links line code : ℕ) (left_before left_after : Option (List ℕ)) : Type 0 where
+  pub text : List ℕ
+  pub reads : ReadsWhole left_before left_after text
+  pub bad : run_plan_of links text ≡ Err (record { line = line; code = code })
+
+-- What a call comes to, by its answer: `left` is what the source has left, `before` and `after` what stands in the sink, where
+-- they tell it; `untouched` says that sink, board and clock are as they were, `read_rose` and `write_rose` that source and sink
+-- failed in this call.
+abbrev pub ComesToRun : Status → (turns : ℕ) → (left_before left_after before after : Option (List ℕ)) → (ports_before ports_after : List PortState) → (moments_before moments_after : Option (List ℕ)) → (untouched read_rose write_rose : Type 0) → Type 0
+ComesToRun Done turns left_before left_after before after ports_before ports_after moments_before moments_after untouched read_rose write_rose =
+    RunsText turns left_before left_after before after ports_before ports_after moments_before moments_after (Ok tt)
+ComesToRun (LinksGone links) turns left_before left_after before after ports_before ports_after moments_before moments_after untouched read_rose write_rose =
+    RunsText turns left_before left_after before after ports_before ports_after moments_before moments_after (Err (stop.LinksGone links))
+ComesToRun WriteFault turns left_before left_after before after ports_before ports_after moments_before moments_after untouched read_rose write_rose =
+    write_rose × RunsText turns left_before left_after before after ports_before ports_after moments_before moments_after (Err stop.WriteFault)
+ComesToRun NoMemory turns left_before left_after before after ports_before ports_after moments_before moments_after untouched read_rose write_rose =
+    (TakesWithin left_before left_after × untouched)
+    ⊎ RunsText turns left_before left_after before after ports_before ports_after moments_before moments_after (Err stop.NoMemory)
+ComesToRun (BadInput line code) turns left_before left_after before after ports_before ports_after moments_before moments_after untouched read_rose write_rose =
+    RefusesText (length ports_before) line code left_before left_after × untouched
+ComesToRun TooLong turns left_before left_after before after ports_before ports_after moments_before moments_after untouched read_rose write_rose =
+    TakesTooMany left_before left_after × untouched
+ComesToRun ReadFault turns left_before left_after before after ports_before ports_after moments_before moments_after untouched read_rose write_rose =
+    read_rose × (TakesWithin left_before left_after × untouched)
+ComesToRun (BadWords at) turns left_before left_after before after ports_before ports_after moments_before moments_after untouched read_rose write_rose = ⊥
+ComesToRun (WorldFull octets) turns left_before left_after before after ports_before ports_after moments_before moments_after untouched read_rose write_rose = ⊥
+
+-- What a call comes to with this answer.
+pub record ServesRun (turns : ℕ) (left_before left_after before after : Option (List ℕ)) (ports_before ports_after : List PortState) (moments_before moments_after : Option (List ℕ)) (untouched read_rose write_rose : Type 0) (status : Status) : Type 0 where
+  -- Where the source tells its octets, the answer is one that they call for on a board of so many links, but for want of memory
+  -- and for faults that came in this call.
+  pub answer : IfSome left_before (λ text. AnswersText (length ports_before) text status ⊎ Excuses read_rose write_rose status)
+  -- What was taken, what was written, and what the links and the clock went through.
+  pub comes_to : ComesToRun status turns left_before left_after before after ports_before ports_after moments_before moments_after untouched read_rose write_rose
+
+-- ---- the parts of a call
+
+-- a status that the run of a node comes to, and what is so of the run's result then
+abbrev pub RunEndsAs : Status → (Result (Unit {0}) RunStop → Type 0) → Type 0
+RunEndsAs Done Ran = Ran (Ok tt)
+RunEndsAs (LinksGone links) Ran = Ran (Err (stop.LinksGone links))
+RunEndsAs WriteFault Ran = Ran (Err stop.WriteFault)
+RunEndsAs NoMemory Ran = Ran (Err stop.NoMemory)
+RunEndsAs (BadInput line code) Ran = ⊥
+RunEndsAs TooLong Ran = ⊥
+RunEndsAs ReadFault Ran = ⊥
+RunEndsAs (BadWords at) Ran = ⊥
+RunEndsAs (WorldFull octets) Ran = ⊥
+
+-- the text is a scenario for the board, and its system was run
 pub record RunsPlan (text : List ℕ) (turns : ℕ) (before after : Option (List ℕ)) (ports_before ports_after : List PortState) (moments_before moments_after : Option (List ℕ)) (result : Result (Unit {0}) RunStop) : Type 0 where
   pub plan : Plan
   pub accepted : run_plan_of (length ports_before) text ≡ Ok plan
   pub ran : RanOf plan turns moments_before moments_after ports_before ports_after before after result
 
--- What a text comes to, by the answer: `before` and `after` is what stands in the sink, where it tells that; `untouched` says that
--- sink, board and clock are as they were.
+-- what a text comes to, by the answer
 abbrev pub TextComesTo : Status → (text : List ℕ) → (turns : ℕ) → (before after : Option (List ℕ)) → (ports_before ports_after : List PortState) → (moments_before moments_after : Option (List ℕ)) → (untouched : Type 0) → Type 0
 TextComesTo Done text turns before after ports_before ports_after moments_before moments_after untouched =
     RunsPlan text turns before after ports_before ports_after moments_before moments_after (Ok tt)
@@ -47,45 +104,3 @@ TextComesTo TooLong text turns before after ports_before ports_after moments_bef
 TextComesTo ReadFault text turns before after ports_before ports_after moments_before moments_after untouched = ⊥
 TextComesTo (BadWords at) text turns before after ports_before ports_after moments_before moments_after untouched = ⊥
 TextComesTo (WorldFull octets) text turns before after ports_before ports_after moments_before moments_after untouched = ⊥
-
--- All of the input was read, and its text came to this.
-pub record ReadsTo (left_before left_after : Option (List ℕ)) (Comes : List ℕ → Type 0) : Type 0 where
-  pub text : List ℕ
-  pub reads : ReadsWhole left_before left_after text
-  pub comes : Comes text
-
--- What a call comes to, by its answer, where a text comes to `OfText`: `left` is what the source has left, where it tells that;
--- `read_rose` and `write_rose` say that source and sink failed in this call.
-abbrev pub ComesToRun : Status → (left_before left_after : Option (List ℕ)) → (OfText : Status → List ℕ → Type 0) → (untouched read_rose write_rose : Type 0) → Type 0
-ComesToRun Done left_before left_after OfText untouched read_rose write_rose = ReadsTo left_before left_after (OfText Done)
-ComesToRun (LinksGone links) left_before left_after OfText untouched read_rose write_rose = ReadsTo left_before left_after (OfText (LinksGone links))
-ComesToRun WriteFault left_before left_after OfText untouched read_rose write_rose = write_rose × ReadsTo left_before left_after (OfText WriteFault)
-ComesToRun NoMemory left_before left_after OfText untouched read_rose write_rose =
-    (TakesWithin left_before left_after × untouched) ⊎ ReadsTo left_before left_after (OfText NoMemory)
-ComesToRun (BadInput line code) left_before left_after OfText untouched read_rose write_rose = ReadsTo left_before left_after (OfText (BadInput line code))
-ComesToRun TooLong left_before left_after OfText untouched read_rose write_rose = TakesTooMany left_before left_after × untouched
-ComesToRun ReadFault left_before left_after OfText untouched read_rose write_rose = read_rose × (TakesWithin left_before left_after × untouched)
-ComesToRun (BadWords at) left_before left_after OfText untouched read_rose write_rose = ⊥
-ComesToRun (WorldFull octets) left_before left_after OfText untouched read_rose write_rose = ⊥
-
--- What a call comes to with this answer.
-pub record ServesRun (turns : ℕ) (left_before left_after before after : Option (List ℕ)) (ports_before ports_after : List PortState) (moments_before moments_after : Option (List ℕ)) (untouched read_rose write_rose : Type 0) (status : Status) : Type 0 where
-  -- Where the source tells its octets, the answer is one that they call for on a board of so many links, but for want of memory
-  -- and for faults that came in this call.
-  pub answer : IfSome left_before (λ text. AnswersText (length ports_before) text status ⊎ Excuses read_rose write_rose status)
-  -- What was taken, what was written, and what the links and the clock went through.
-  pub comes_to : ComesToRun status left_before left_after
-      (λ answered text. TextComesTo answered text turns before after ports_before ports_after moments_before moments_after untouched)
-      untouched read_rose write_rose
-
--- a status that the run of a node comes to, and what is so of the run's result then
-abbrev pub RunEndsAs : Status → (Result (Unit {0}) RunStop → Type 0) → Type 0
-RunEndsAs Done Ran = Ran (Ok tt)
-RunEndsAs (LinksGone links) Ran = Ran (Err (stop.LinksGone links))
-RunEndsAs WriteFault Ran = Ran (Err stop.WriteFault)
-RunEndsAs NoMemory Ran = Ran (Err stop.NoMemory)
-RunEndsAs (BadInput line code) Ran = ⊥
-RunEndsAs TooLong Ran = ⊥
-RunEndsAs ReadFault Ran = ⊥
-RunEndsAs (BadWords at) Ran = ⊥
-RunEndsAs (WorldFull octets) Ran = ⊥

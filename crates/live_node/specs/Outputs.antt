@@ -1,6 +1,5 @@
 -- The outputs of a system of the code, as a live node puts them out, and those of the model.
-use Rattle.std.specs.Prelude.{◌≡◌, ℕ, List}
-use Rattle.std.specs.List.{AllZip}
+use Rattle.std.specs.Prelude.{◌≡◌, ℕ, List, [], ◌∷◌}
 use Rattle.clnp_systems.specs.Stands as systems
 use Rattle.live_model.specs.Node.{Node}
 use Rattle.clnp_machine.specs.ClnpPlan.declared.output.Output.{Output}
@@ -28,4 +27,7 @@ PutsOut (Note note) (machine.SendsEsis port target value) = ⊥
 PutsOut (Transmit sending) (machine.Notes told) = ⊥
 
 abbrev pub PutAllOut : List Output → List machine.Output → Type 0
-PutAllOut outputs others = AllZip PutsOut outputs others
+PutAllOut [] [] = Unit {0}
+PutAllOut (output ∷ outputs) (other ∷ others) = PutsOut output other × PutAllOut outputs others
+PutAllOut [] (other ∷ others) = ⊥
+PutAllOut (output ∷ outputs) [] = ⊥

@@ -22,28 +22,30 @@ pub record Stands (live : LiveNode) (ports : List PortState) (node : Node) : Typ
   pub polled : live.polled ≡ node.polled
   pub attached : node.attached ≡ attached_of ports
 
--- A part was played from a node of the model on, by some outcomes, whatever come behind them, in such a way that it goes on to a
--- node with some lines; the ports went through just these outcomes, and the lines' text was written.
-pub record PlaysOn (GoesOn : List Outcome → Node → List NodeLine → Type 0) (model : Node) (live : LiveNode) (before after : List PortState) (old new : Option (List ℕ)) : Type 0 where
+-- A part was played from a node of the model on, by some outcomes, whatever come behind them; the ports went through just
+-- these, and the lines' text was written.
+pub record Plays (play : List Outcome → Played) (model : Node) (live : LiveNode) (before after : List PortState) (old new : Option (List ℕ)) : Type 0 where
   pub used : List Outcome
   pub node : Node
   pub lines : List NodeLine
   pub taken : List Sending
-  pub goes : GoesOn used node lines
+  pub goes : (later : List Outcome) → play (used ++ later) ≡ Goes node later lines
   pub stands : Stands live after node
   pub takes : node.taken ≡ model.taken ++ taken
   pub ports : PortsWent 0 before after used taken
   pub written : Appends old new (lines_text lines)
 
--- all of it was played
-abbrev pub Plays : (List Outcome → Played) → (model : Node) → LiveNode → (before after : List PortState) → (old new : Option (List ℕ)) → Type 0
-Plays play model live before after old new =
-    PlaysOn (λ used node lines. (later : List Outcome) → play (used ++ later) ≡ Goes node later lines) model live before after old new
-
--- it was played up to where the rest of it begins
-abbrev pub PlaysTo : (List Outcome → Played) → (rest : Node → List Outcome → Played) → (model : Node) → LiveNode → (before after : List PortState) → (old new : Option (List ℕ)) → Type 0
-PlaysTo play rest model live before after old new =
-    PlaysOn (λ used node lines. (later : List Outcome) → play (used ++ later) ≡ behind lines (rest node later)) model live before after old new
+-- A part was played up to where the rest of it begins.
+pub record PlaysTo (play : List Outcome → Played) (rest : Node → List Outcome → Played) (model : Node) (live : LiveNode) (before after : List PortState) (old new : Option (List ℕ)) : Type 0 where
+  pub used : List Outcome
+  pub node : Node
+  pub lines : List NodeLine
+  pub taken : List Sending
+  pub goes : (later : List Outcome) → play (used ++ later) ≡ behind lines (rest node later)
+  pub stands : Stands live after node
+  pub takes : node.taken ≡ model.taken ++ taken
+  pub ports : PortsWent 0 before after used taken
+  pub written : Appends old new (lines_text lines)
 
 -- what was written by where the outcomes end
 abbrev pub lines_by : Played → List NodeLine

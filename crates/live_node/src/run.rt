@@ -63,6 +63,8 @@ pub fn run_node<K: Sink, C: Clock, B: Ports>(
         (K.written sink.old) (K.written sink.new) result }
     ensures failed { result ≡ Err RunStop.WriteFault → Rose (K.faults sink.old) (K.faults sink.new) }
 {
+    // Its clause: what a scenario that was read says is fit to be run.
+    scenario.is_fit();
     let start = clock.now();
     match open(alloc, scenario, start) {
         Ok((mut live, mut room)) => {
