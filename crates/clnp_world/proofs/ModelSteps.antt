@@ -1,7 +1,8 @@
 -- One more output, addressee, tick or system at the end of a list, and what the parts of a move leave as it was.
-use Rattle.std.proofs.Common.{◌≡◌, ℕ, suc, ◌+◌, List, [], ◌∷◌, ◌++◌, length, take, map, cond, Bool, true, false, Option, None, Some, refl, sym, ap, ◌∙◌, subst, arith, append-nil, append_assoc, add-zero, zero-add}
+use Rattle.std.proofs.Common.{◌≡◌, ℕ, suc, ◌+◌, List, [], ◌∷◌, ◌++◌, length, take, map, cond, Bool, true, false, Option, None, Some, refl, sym, ap, ◌∙◌, subst, arith, inl, inr, append-nil, append_assoc, add-zero, zero-add}
 use Rattle.std.specs.Prelude.{nat_lt, slice_get}
 use Rattle.std.specs.List.{AllByRecursion, list_any, position, position_or_len, range_with_len}
+use Rattle.std.proofs.lemmas.Bool.{cases_Bool, ltb-true, ltb-false, lt-ltb, le-ltb}
 use Rattle.std.proofs.lemmas.List.Recursion.{is_position_or_len}
 use Rattle.std.proofs.lemmas.List.Concat.{flat_map-append}
 use Rattle.clnp_machine.specs.ClnpPlan.Configuration.{SystemConfiguration}
@@ -289,6 +290,12 @@ first_port_is copy role ports =
     is_position_or_len (network.first_port copy role) (network.enters copy role) refl
     (λ port others. ap (λ (n : ℕ). cond (network.enters copy role port) 0 n) (omega arith)) ports
 
+shifted : (n m : ℕ) → nat_lt n m ≡ nat_lt (1 + n) (suc m)
+shifted n m = elim (cases_Bool (nat_lt n m)) [
+  | inl t ↦ let within = ltb-true n m t in t ∙ sym (lt-ltb (1 + n) (suc m) (omega (arith, within)))
+  | inr f ↦ let past = ltb-false n m f in f ∙ sym (le-ltb (1 + n) (suc m) (omega (arith, past)))
+]
+
 -- one of some elements passes a test exactly where the first that does stands before their end
 any_before : {X : Type 0} (p : X → Bool) (xs : List X) → list_any p xs ≡ nat_lt (position_or_len p xs) (length xs)
 any_before p [] = refl
@@ -296,8 +303,8 @@ any_before p (x ∷ xs) = by_test (any_before p xs) (p x) refl
   where
     by_test : list_any p xs ≡ nat_lt (position_or_len p xs) (length xs) → (b : Bool) → p x ≡ b
         → list_any p (x ∷ xs) ≡ nat_lt (position_or_len p (x ∷ xs)) (length (x ∷ xs))
-    by_test rest true is = rw is refl
-    by_test rest false is = rw is rest
+    by_test rest true is = rw is (sym (lt-ltb 0 (suc (length xs)) (omega arith)))
+    by_test rest false is = rw is (rest ∙ shifted (position_or_len p xs) (length xs))
 
 -- what the code finds is the first port by which a copy comes in, or that the copy isn't for the system
 pub port_found : (copy : network.Copy) (system : SystemConfiguration) → IsPortFor copy system (position (network.enters copy system.role) system.ports)
