@@ -4,12 +4,12 @@
 Half of the texts are scenarios, the others have a few words or lines changed. In a third of them frames come from outside. For
 each one the program must write the models' journal, or with --trace their trace, or refuse the models' line and code.
 
-usage: tests/by_hand/networks.py [--program PATH | --try] [--trace] [--version-2 [--together]] [SEED [TEXTS]]
+usage: tests/by_hand/networks.py [--program PATH | --try] [--trace] [--version-2] [--clocks-apart] [SEED [TEXTS]]
 
 PATH is another program to run than the built one. With --try the program is compiled and run by `rt try`, which takes
-less than a minute and proves nothing. With --version-2 most texts are of version 2 with all of its events: ports that move,
-routes that are set and taken away, other MTUs, clocks that stand apart. It is for a program that has these events. With
---together besides clocks tick together: S is 0, and no clock ticks alone.
+less than a minute and proves nothing. A third of the texts are of version 2, with its events: ports that move, routes that are
+set and taken away, other MTUs; with --version-2 nine of ten. With --clocks-apart besides systems have clocks of their own, as far
+apart as S says, and one may tick alone: for a program that has that.
 """
 import argparse
 import collections
@@ -25,7 +25,7 @@ sys.path.append(os.path.join(ROOT, "tests", "models"))
 
 from frames import Outside
 from network_model import Network
-from scenario_model import CODE_NAMES, Text, TextOfToday, TextTogether, read
+from scenario_model import CODE_NAMES, Text, TextOfToday, read
 
 PROGRAM = os.path.join(ROOT, "crates", "clnp_tool", "out", "clnp_tool")
 
@@ -185,7 +185,7 @@ class Changes:
         return lines + random.choice([[], [], [], ["tick 1", "settle 8"], [f"settle {random.choice([1, 4])}"], ["settle 30"]])
 
 
-def random_scenario(kind=TextOfToday):
+def random_scenario(kind=TextOfToday, mostly_version_2=False):
     subnets, hosts, there = random_network()
     systems = [(name, "host" if name in hosts else "router") for name in there]
     random.shuffle(systems)
@@ -203,10 +203,11 @@ def random_scenario(kind=TextOfToday):
             snpas[name, subnet] = random.randbytes(random.choice([1, 6])).hex()
             transit = random.choice(["", "", " 1", " 2", f" {random.randint(1, 20)}", " 255"])
             attached.append(f"port {name} {at} {subnet} {snpas[name, subnet]}{transit}")
-    version = 2 if kind.has_changes and random.random() < 0.9 else random.choice([1, 1, 2])
+    version = 2 if random.random() < (0.9 if mostly_version_2 else 0.34) else 1
     skew = random.choice([0, 1, 2, 3, 9, 60]) if version == 2 and kind.most_skew > 0 else 0
     if version == 2 or random.random() < 0.5:
-        age, hold = random.randint(1, 9), random.randint(1, 9)
+        is_usual = version == 2 and random.random() < 0.5
+        age, hold = (256, 60) if is_usual else (random.randint(1, 9), random.randint(1, 9))
         rest = age + hold + 2 * skew + random.randint(0, 3)
         attached.append(f"limits {age} {hold} {rest}{'' if version == 1 else f' {skew}'}")
     random.shuffle(attached)
@@ -218,7 +219,7 @@ def random_scenario(kind=TextOfToday):
     events = random.choice([[], ["tick 1", "settle 40"], ["tick 1", "settle 40"]])
     outside = Outside(there, snpas, known, everyone, lambda: random_options(routers[:1], routers or names, known, everyone))
     is_open = bool(there) and random.random() < 0.35
-    changes = Changes(subnets, there, snpas, known, skew) if version == 2 and kind.has_changes else None
+    changes = Changes(subnets, there, snpas, known, skew) if version == 2 else None
     for _ in range(random.randint(0, 40)):
         events += changes.lines() if changes and random.random() < 0.4 else []
         events += outside.lines() if is_open and random.random() < 0.4 else []
@@ -375,16 +376,13 @@ def random_event(hosts, names, known, everyone):
 WORDS = """pat:3 pat:70001:0 pat:3:256 pat:x:1 opt= opt=c1020000 opt=cd opt=c5 slots=0 budget=511 tick suggest=1
 suggest=32768 suggest= hello=1 hello=601 hello= hello x 0 1 2 8 256 65536 511 70 end events host router r0 r1 life=0
 life=300 whole congest on off zz a.b 4 . * ** 4700* 47.0 route echo hex:1 hex -1 007 99999999999999999999999
-checksum=maybe h0 s0 H0 inject es is ES eses 81 8
+checksum=maybe h0 s0 H0 inject es is ES eses 81 8 mtu unroute port h1 s1 r2 4096 4097 513
 abcdefghijklmnopq 012345678901234567890123456789012345678 01234567890123456789012345678901234567890""".split()
 MORE = "x whole life=3 noreport hello=0 hello=2 suggest=3 checksum=on opt=cd0101 slots=2 7".split()
-WORDS_OF_VERSION_2 = WORDS + "mtu unroute port tick r0 h1 s1 4096 4097 65536 513".split()
 
 
 def changed(lines, kind_of_text=TextOfToday):
-    all_words, first_words = WORDS, ("route",)
-    if kind_of_text.has_changes:
-        all_words, first_words = WORDS_OF_VERSION_2, ("route", "mtu", "unroute", "port", "tick")
+    first_words = ("route", "mtu", "unroute", "port", *(["tick"] if kind_of_text.most_skew > 0 else []))
     favoured = [at for at, line in enumerate(lines) if line.startswith(first_words)]
     for _ in range(random.randint(1, 2)):
         at, kind = random.randrange(len(lines)), random.randrange(10)
@@ -396,7 +394,7 @@ def changed(lines, kind_of_text=TextOfToday):
         elif kind == 1:
             lines.insert(at, random.choice(lines))
         elif kind == 2:
-            words[random.randrange(len(words))] = random.choice(all_words)
+            words[random.randrange(len(words))] = random.choice(WORDS)
             lines[at] = " ".join(words)
         elif kind == 3:
             del words[random.randrange(len(words))]
@@ -475,8 +473,9 @@ def wanted_of(text, command, kinds, kind=TextOfToday):
     return (0, journal, "") if full is None else (4, journal, f"clnp: world full at {full} octets\n"), True
 
 
-def random_text(kind=TextOfToday):
-    lines = random_scenario(kind) if random.random() < 0.5 else changed(random_scenario(kind), kind)
+def random_text(kind=TextOfToday, mostly_version_2=False):
+    lines = random_scenario(kind, mostly_version_2)
+    lines = lines if random.random() < 0.5 else changed(lines, kind)
     end = random.choice(["\n", "\r\n"]) if random.random() < 0.2 else "\n"
     return (end.join(lines) + ("\n" if random.random() < 0.9 else "")).encode()
 
@@ -488,14 +487,12 @@ def main():
     words.add_argument("--program", help="another program to run than the built one")
     words.add_argument("--try", dest="tries", action="store_true", help="run what `rt try` compiles")
     words.add_argument("--trace", dest="command", action="store_const", const="trace", default="sim", help="compare traces")
-    words.add_argument("--version-2", dest="version_2", action="store_true", help="with all events of version 2")
-    words.add_argument("--together", action="store_true", help="with those events, but clocks tick together")
+    words.add_argument("--version-2", dest="version_2", action="store_true", help="nine of ten texts of version 2")
+    words.add_argument("--clocks-apart", dest="apart", action="store_true", help="such texts, with clocks that stand apart")
     asked = words.parse_args()
-    if asked.together and not asked.version_2:
-        words.error("--together is for --version-2")
-    kind = (TextTogether if asked.together else Text) if asked.version_2 else TextOfToday
+    kind = Text if asked.apart else TextOfToday
     random.seed(asked.seed)
-    texts = [random_text(kind) for _ in range(asked.texts)]
+    texts = [random_text(kind, asked.version_2 or asked.apart) for _ in range(asked.texts)]
     if asked.program is None and not asked.tries:
         subprocess.run([os.path.join(ROOT, "clnp"), "--version"], check=True, stdout=subprocess.DEVNULL)
     accepted, kinds = 0, collections.Counter()

@@ -621,6 +621,37 @@ def reports_in_a_loop(size):
     return scenario(ring(), round_and_round(pdu(b"\x47", b"\x48", life=255, report=True), size, 600))
 
 
+# ---- networks that change
+
+
+def changing(events, routes=()):
+    """A text of version 2 with 64 routers that have a port on each of eight subnetworks."""
+    lines = [f"subnet lan{at} 1500" for at in range(8)]
+    for at in range(64):
+        lines += [f"system s{at} router hello=0", f"address s{at} 470026{at:02x}"]
+        lines += [f"port s{at} {port} lan{port} 00{at:02x}" for port in range(8)]
+    return scenario([*lines, *routes], events).replace(b"clnp-sim 1\n", b"clnp-sim 2\nlimits 256 60 320 0\n", 1)
+
+
+@family("sim", 20_000)
+def ports_that_move(size):
+    """the last port of the last of 64 routers with eight ports gets another address and back"""
+    return changing(["port s63 7 lan7 ffff", "port s63 7 lan7 003f"] * size)
+
+
+@family("sim", 20_000)
+def mtus_that_change(size):
+    """the MTU of a subnetwork on which 64 routers are, with seven other ports each, gets smaller and greater"""
+    return changing(["mtu lan7 512", "mtu lan7 1500"] * size)
+
+
+@family("sim", 15_000)
+def routes_set_again(size):
+    """a router with 256 routes of 40 digits is given one of them again, and one of no digits is set and removed"""
+    routes = [f"route s63 {'47' * 19}{at:02x} 7 0000 47002600" for at in range(255)]
+    return changing([f"route s63 {'47' * 19}fe 7 0001 47002601", "route s63 * 7 0001 47002601", "unroute s63 *"] * size, routes)
+
+
 # ---- texts of scenarios
 
 

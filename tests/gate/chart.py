@@ -30,7 +30,7 @@ from scenario_model import read
 
 CHART = os.path.join(ROOT, "tools", "chart")
 SVG = "{http://www.w3.org/2000/svg}"
-PICTURES = ["lost-hello", "redirect", "routers"]
+PICTURES = ["lost-hello", "moving", "redirect", "routers"]
 # the width of a letter, as part of its height
 LETTER = 0.609
 
@@ -132,12 +132,12 @@ def titles_of(picture):
 
 
 def columns_of(lines):
-    """The columns that lines call for: one for each system, one for what comes from outside, and one for what was lost or for
-    nobody of what was sent before the first line."""
+    """The columns that lines call for: one for each system, one for what comes from outside or changes a subnetwork, and one for
+    what was lost or for nobody of what was sent before the first line."""
     words = [line.split(" ") for line in lines]
     sent = {line[3] for line in words if line[2] in ("tx", "inject")}
     before = any(line[2] in ("lost", "nobody") and line[3] not in sent for line in words)
-    return len({line[1] for line in words} - {"-"}) + any(line[2] == "inject" for line in words) + before
+    return len({line[1] for line in words} - {"-"}) + any(line[2] in ("inject", "mtu") for line in words) + before
 
 
 def of_class(picture, name):
@@ -283,6 +283,10 @@ BAD_TRACES = [
     (TX + "0 - lost\n", "wanted: T - lost COPY"),
     (TX + "0 - nobody 1 2\n", "wanted: T - nobody COPY"),
     ("0 - inject 1 lan 01\n", "wanted: T - inject COPY SUBNET FROM TO"),
+    (TX + "0 - mtu lan\n", "line 2: 'mtu lan' has another form; wanted: T - mtu SUBNET MTU"),
+    (TX + "0 - mtu lan 512 1\n", "wanted: T - mtu SUBNET MTU"),
+    (TX + "0 a mtu lan 512\n", "line 2: 'mtu' doesn't stand behind 'a'; wanted: T - mtu SUBNET MTU"),
+    (TX + "0 - port 0 lan 01\n", "line 2: 'port' doesn't stand behind '-'; wanted: T NAME port"),
     (TX + "0 b lost 1\n", "line 2: 'lost' doesn't stand behind 'b'; wanted: T - lost COPY"),
     (TX + "0 - rx 1 0\n", "line 2: 'rx' doesn't stand behind '-'; wanted: T NAME rx COPY PORT"),
     (TX + TX, "line 2: the copy 1 was sent before"),

@@ -33,6 +33,8 @@ FOLDERS = ("crates/", "docs/", "tests/", "edits/", "examples/", "bench/", "tools
 # what stands in a crate's own folder is named without it
 IN_A_CRATE = ("src/", "specs/", "proofs/", "must-fail/", "data/")
 NAMES = r"`([^`\n]+)`"
+# the modules that stand before the names of their laws
+MODULES_OF_LAWS = ("laws", "attaching")
 
 wrong = []
 
@@ -65,7 +67,8 @@ class Crate:
             self.add_definitions(path)
 
     def add_code(self, path):
-        module = "laws::" if os.path.basename(path) == "laws.rt" else ""
+        stem = os.path.splitext(os.path.basename(path))[0]
+        module = f"{stem}::" if stem in MODULES_OF_LAWS else ""
         owner, call = "", None
         for line in text_of(path).splitlines():
             if begun := re.match(r"impl(?:<[^>]*>)? (?:\w+(?:<.*>)? for )?(?:&\w* ?)?(\w+)|(?:pub )?trait (\w+)", line):

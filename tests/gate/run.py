@@ -180,6 +180,9 @@ def bad_inputs(ends):
     for event in ["settle 1", "lose 1", "deliver 1 a", "restart a", "congest a on", "inject lan 02 es 83", "tick a 1", "mtu lan 512",
                   f"route a {B} 0 02 {B}", "run", "send", "echo", "tick"]:
         ends.bad_input("an event that no run takes", host("tick 1", event), 8, "syntax")
+    for event in ["mtu one 512", f"route r {B} 0 02 {B}", f"unroute r {B}", "port r 0 one 0c", "tick r 1"]:
+        text = router(event).replace("clnp-sim 1\nlimits 256 60 320", "clnp-sim 2\nlimits 256 60 320 0")
+        ends.bad_input("an event of version 2, which no run takes", text, 12, "syntax", 2)
 
 
 def too_long(ends):

@@ -134,9 +134,8 @@ class Text:
     """What the lines so far declare, in a text of a version, and their events. Event lines are read over what the events before
     them leave: where each port is, which prefixes a router has, and where each clock stands."""
 
-    # whether version 2 has the events that change a network, and how far apart its clocks may stand; where they tick together,
-    # no clock ticks alone
-    has_changes, most_skew = True, 4096
+    # how far apart the clocks of version 2 may stand; where they tick together, no clock ticks alone
+    most_skew = 4096
     # whether limits are refused in which an identifier rests for too short a time
     judges_rest = True
 
@@ -250,7 +249,7 @@ class Text:
             b"send": self.send, b"echo": self.echo, b"deliver": self.deliver, b"settle": self.settle, b"lose": self.lose,
             b"tick": self.tick, b"restart": self.restart, b"congest": self.congest, b"inject": self.inject,
         }
-        if self.version > 1 and self.has_changes:
+        if self.version > 1:
             kinds.update({b"mtu": self.resize, b"route": self.set_route, b"unroute": self.remove_route, b"port": self.move_port})
         want(keyword in kinds, SYNTAX)
         event = kinds[keyword](words)
@@ -366,16 +365,10 @@ class Text:
         return ("port", system, port_number, subnet, snpa)
 
 
-class TextTogether(Text):
-    """The same where the clocks of version 2 tick together too."""
+class TextOfToday(Text):
+    """The same as far as the program reads it today: the clocks of version 2 tick together too."""
 
     most_skew = 0
-
-
-class TextOfToday(TextTogether):
-    """The same as far as the program reads it today: version 2 has no event of its own."""
-
-    has_changes = False
 
 
 class Data(bytes):

@@ -1,21 +1,11 @@
 #!/usr/bin/env python3
-"""Worked examples of scenario texts of version 2, beside the plain models: networks that change (ports that move, routes that are
-set and taken away, other MTUs) and clocks that stand apart. What such texts say is in tests/models/version_2_texts.py.
+"""Worked examples of clocks that stand apart, which the program doesn't have yet, beside the plain models; and texts of version 1,
+which run in version 2 as they did. What such texts say is in tests/models/version_2_texts.py.
 
-The rules of version 2, beside those of docs/BEHAVIOUR.md and docs/FORMATS.md:
+The rules of clocks, beside those of docs/BEHAVIOUR.md and docs/FORMATS.md:
 
-- `limits L R Q S` stands exactly once among the declarations. S, 0 to 4,096, is how far apart clocks may stand, and Q is at least
-  L, R and twice S together (else code limits). Where it is missing the line `events` has the code syntax, before code count.
-- `mtu SUBNET MTU`: the subnetwork and all ports on it have that MTU from now on. Line `T - mtu SUBNET MTU`.
-- `route NAME PREFIX PORT SNPA TITLE` sets the route of this prefix, in the place of the one that is there. Line
-  `T NAME route PREFIX`, where PREFIX is its digits, or `*`.
-- `unroute NAME PREFIX` takes it away. Line `T NAME unroute PREFIX yes`, or `no` where there is none.
-- `port NAME NUMBER SUBNET SNPA`: the port is on that subnetwork with that SNPA, and its transit stays. The system's next hello is
-  due at its next tick. Line `T NAME port NUMBER SUBNET SNPA`.
-- The codes of these lines are those of the declarations, over what the events before them leave: dup-name for a second port of
-  the system on a subnetwork, dup-address for an SNPA that another port has there, mtu, count for a 257th route of a router.
-- Who a copy is for is told by the ports at the moment of the delivery. What a system heard, its buffers and copies that were cut
-  stay as they are. A restart keeps ports and routes as they are then.
+- `limits L R Q S`: S, 0 to 4,096, is how far apart clocks may stand, and Q is at least L, R and twice S together (else code
+  limits).
 - Each system has a clock of its own, from 0. `tick N` makes N moves; in each of them the clock of each system, in order, goes on
   by one, and the system does what is due. `tick NAME N`, N 1 to 65,535, does so with one system. It has the code limits where
   that system's clock would stand more than S above that of another one. N counts in the sum of ticks (code count, behind that).
@@ -24,25 +14,26 @@ The rules of version 2, beside those of docs/BEHAVIOUR.md and docs/FORMATS.md:
 - What a system does goes by its own clock. A copy is late where more than L passed since its birth by the clock of its maker: the
   system that made the unit of which it is, however often it was sent on, or that made the hello or redirect. By the network's
   clock where it came from outside, or is what was sent on of such a frame.
-- In version 1 all clocks tick together, which is as if there was one.
+- In version 1, and where S is 0, all clocks tick together, which is as if there was one.
 
 Each wanted journal was written from the rules, and the remark above it says which of them decides. Most systems make no
-checksums. Where they do, that of a PDU whose lifetime falls by Z follows from the rules: octet 8 grows by 5 Z and octet 9 falls
-by 4 Z, modulo 255.
+checksums.
 
 usage: tests/models/version_2_rows.py [--cases]
 
 It compares the models with the examples of both files. With --cases it writes those that are texts in the form of the files of
-crates/worked_examples/data, without the second line that is told of a refused text.
+crates/worked_examples/data, without the second line that is told of a refused text. The examples of the other events of version 2
+stand there (`changes`, `change-texts`), and tests/models/worked_examples.py compares the models with them.
 """
 import sys
 
 from network_model import Network
 from scenario_model import CODE_NAMES, Text, migrate, read
 from version_2_texts import (
-    APART, LEADING, OLD_PAIR, PAIR, PAIR_APART, PLAIN_ROUTER, REDIRECTING, REFUSED, ROUTER, ROUTER_APART, SECOND_SUBNET,
-    SEND_LONG, SMALL_APART, WIDE_PAIR, changed, check_all_texts, compared, expect, text_of,
+    APART, OLD_PAIR, PAIR, PAIR_APART, REDIRECTING, REFUSED, ROUTER_APART, SEND_LONG, SMALL_APART, changed, check_all_texts,
+    compared, expect, text_of,
 )
+from worked_examples import chosen
 
 
 def pattern(length, start):
@@ -62,7 +53,6 @@ UNIT, ONE_HOP_ON = "8113010a3c0015ce58044700270104470027026869", "811301093c0015
 PLAIN_HEADER = "8113010a3c0015000004470027010447002702"
 PLAIN_UNIT, PLAIN_HOP_ON = f"{PLAIN_HEADER}6869", "811301093c00150000044700270104470027026869"
 GOT = "b got 47002702 47002701 6869"
-GREETING = [f"1 r tx 1 0 es {ISH}", f"1 r tx 2 1 es {ISH}", "1 a hear is 470027ff new", "1 b hear is 470027ff new"]
 TELLING = [f"inject one 0a es {ISH}", "settle 1"]
 TOLD = ["0 - inject 1 one 0a es", "0 a hear is 470027ff new"]
 ALL_TELLING = [f"inject lan 0a es {ISH}", f"inject lan 01 is {ESH_OF_A}", f"inject lan 02 is {ESH_OF_B}", "settle 3"]
@@ -72,220 +62,6 @@ ALL_TOLD = [
 ]
 
 # ---- runs: a name, the command, a network, events, which lines are compared (all, or those of no such kind), and these lines
-
-CHANGES = [
-    # The host that is looked for comes to the subnetwork of the one that looks for it. The router sends there by the route that
-    # it has then; it tells nobody, since it doesn't know the source as an end system.
-    ("host-that-moved-and-route-that-follows", "sim", ROUTER, [
-        "tick 1", "settle 2", "port b 0 one 02", "route r 47002701 0 02 47002701", SEND, "settle 2",
-    ], "", [
-        *GREETING, "1 b port 0 one 02", "1 r route 47002701", f"1 {SENT}", f"1 a tx 3 0 0a {UNIT}", f"1 r tx 4 0 02 {ONE_HOP_ON}",
-        f"1 {GOT}", "end 1 4",
-    ]),
-    # An MTU counts for what is cut behind its line.
-    ("smaller-mtu", "sim", PAIR, ["mtu lan 512", "send a 47002702 47002701 pat:1000:0"], "without tx", [
-        "0 - mtu lan 512", "0 a sent dt 1 0000 47002702 47002701 1000", "end 0 3",
-    ]),
-    # A prefix that a router doesn't have is no fault.
-    ("no-route-to-take-away", "sim", ROUTER, ["tick 1", "settle 2", "unroute r 48"], "", [
-        *GREETING, "1 r unroute 48 no", "end 1 2",
-    ]),
-
-    # Pieces of 480 octets, the greatest multiple of 8 not above 512 - 25, and of the 40 that are left.
-    ("pieces-for-a-smaller-mtu", "sim", changed(PAIR, ("a host hello=0", "a host hello=0 checksum=off")), [
-        "mtu lan 512", SEND_LONG,
-    ], "", [
-        "0 - mtu lan 512", "0 a sent dt 1 0000 47002702 47002701 1000",
-        f"0 a tx 1 0 es 8119010afc01f9000004470027010447002702000000000401{pattern(1000, 0)[:960]}",
-        f"0 a tx 2 0 es 8119010afc01f9000004470027010447002702000001e00401{pattern(1000, 0)[960:1920]}",
-        f"0 a tx 3 0 es 8119010abc0041000004470027010447002702000003c00401{pattern(1000, 0)[1920:]}",
-        "end 0 3",
-    ]),
-    # A copy that waits stays as it was cut, and is given however small its subnetwork's MTU is then.
-    ("copy-that-is-longer-than-the-mtu-by-now", "sim", PAIR, [
-        SEND_LONG, "mtu lan 512", SEND_LONG, "settle 1", "mtu lan 65535", SEND_LONG,
-    ], "without tx", [
-        "0 a sent dt 1 0000 47002702 47002701 1000", "0 - mtu lan 512", "0 a sent dt 2 0001 47002702 47002701 1000",
-        f"0 b got 47002702 47002701 {pattern(1000, 0)}", "0 - mtu lan 65535", "0 a sent dt 3 0002 47002702 47002701 1000",
-        "end 0 5",
-    ]),
-    # A router cuts for the MTU that the subnetwork behind it has when the unit comes; what may not be cut is dropped and
-    # reported.
-    ("mtu-behind-a-router-below-what-waits-before-it", "sim", PLAIN_ROUTER, [
-        *TELLING, SEND_LONG, "send a 47002702 47002701 pat:600:0 life=10 whole", "mtu two 512", "settle 2", "settle 4",
-    ], "without tx", [
-        *TOLD, "0 a sent dt 1 0000 47002702 47002701 1000", "0 a sent dt 2 - 47002702 47002701 600", "0 - mtu two 512",
-        "0 r drop 05 00", "0 r sent er 1 - 470027ff 47002702 19",
-        "0 b held 0000 0 505", "0 b held 0000 480 1010", f"0 b got 47002702 47002701 {pattern(1000, 0)}",
-        "0 a report 470027ff 47002702 05 00 8113010a3c026b000004470027010447002702", "end 0 7",
-    ]),
-    # An MTU is that of exactly the ports on its subnetwork: b is on another one, then on this one, then a leaves it.
-    ("mtu-of-another-subnetwork", "sim", changed(WIDE_PAIR, ("port b 0 lan", "port b 0 two")), [
-        "mtu lan 512", "send b 47002701 47002702 pat:1000:0",
-    ], "without tx", ["0 - mtu lan 512", "0 b sent dt 1 0000 47002701 47002702 1000", "end 0 1"]),
-    ("port-that-comes-to-a-smaller-mtu", "sim", changed(WIDE_PAIR, ("port b 0 lan", "port b 0 two")), [
-        "mtu lan 512", "port b 0 lan 02", "send b 47002701 47002702 pat:1000:0",
-    ], "without tx", ["0 - mtu lan 512", "0 b port 0 lan 02", "0 b sent dt 1 0000 47002701 47002702 1000", "end 0 3"]),
-    ("port-that-leaves-a-smaller-mtu", "sim", WIDE_PAIR, [
-        "mtu lan 512", "port a 0 two 01", SEND_LONG,
-    ], "without tx", ["0 - mtu lan 512", "0 a port 0 two 01", "0 a sent dt 1 0000 47002702 47002701 1000", "end 0 1"]),
-
-    # Addressees are those of the moment of the delivery: while b is elsewhere the segments are for nobody. Its buffer stays.
-    ("port-that-moves-between-segments", "trace", changed(WIDE_PAIR, ("lan 1500", "lan 512")), [
-        SEND_LONG, "deliver 1 b", "port b 0 two 02", "deliver 2 b", "settle 1", "port b 0 lan 07", "settle 2", "deliver 1 b",
-    ], "without tx", [
-        "0 a sent dt 1 0000 47002702 47002701 1000", "0 b rx 1 0", "0 b held 0000 0 505", "0 b port 0 two 02", "0 b void 2",
-        "0 - nobody 1", "0 b port 0 lan 07", "0 b rx 2 0", "0 b held 0000 480 1010", "0 b rx 3 0",
-        f"0 b got 47002702 47002701 {pattern(1000, 0)}", "0 b rx 1 0", "0 b held 0000 0 505", "end 0 3",
-    ]),
-    # A copy is for the address on its subnetwork, whoever has that when it is delivered: c, and no more b.
-    ("port-at-an-address-that-another-left", "sim", changed(
-        WIDE_PAIR, ("address a", "system c host hello=0\naddress c 47002703\naddress a"),
-        ("port a", "port c 0 two 03\nport a")), [
-        f"inject lan 02 es {ESH_OF_B}", "settle 1", SEND, "port b 0 two 02", "port c 0 lan 02", "settle 1", "deliver 2 b",
-    ], "", [
-        "0 - inject 1 lan 02 es", "0 a hear es 47002701 new", f"0 {SENT}", f"0 a tx 2 0 02 {UNIT}", "0 b port 0 two 02",
-        "0 c port 0 lan 02", "0 c notmine 47002701", "0 b void 2", "end 0 2",
-    ]),
-    # A group's copy is for each host there but at the address from which it was sent; a has another one by now. The hello that b
-    # answers with goes to that old address, where nobody is.
-    ("group-copy-that-comes-to-its-sender", "trace", changed(PAIR, ("b host hello=0", "b host checksum=off")), [
-        SEND, "port a 0 lan 05", "settle 2",
-    ], "", [
-        f"0 {SENT}", f"0 a tx 1 0 es {UNIT}", "0 a port 0 lan 05", "0 a rx 1 0", "0 a notmine 47002701", "0 b rx 1 0", f"0 {GOT}",
-        "0 b tx 2 0 01 820f01000200780000010447002701", "0 - nobody 2", "end 0 2",
-    ]),
-    # What was heard stays when a port moves: a sends to the router's address on a subnetwork where nobody has that.
-    ("router-that-is-known-on-another-subnetwork", "trace", ROUTER, [
-        "tick 1", "settle 2", "port a 0 two 01", SEND, "settle 1",
-    ], "without tx", [
-        "1 a rx 1 0", "1 a hear is 470027ff new", "1 b rx 2 0", "1 b hear is 470027ff new", "1 a port 0 two 01", f"1 {SENT}",
-        "1 - nobody 3", "end 1 3",
-    ]),
-    # A copy stays on the subnetwork on which it was put, wherever the port is that sent it.
-    ("copy-of-a-port-that-left", "sim", WIDE_PAIR, [SEND, "port a 0 two 01", "settle 1"], "", [
-        f"0 {SENT}", f"0 a tx 1 0 es {UNIT}", "0 a port 0 two 01", f"0 {GOT}", "end 0 1",
-    ]),
-    # A hello is due at the next tick behind a move, here at 3 in place of 7, and again a period of 6 ticks behind that one. Two
-    # moves before a tick make one hello, and a system with hello=0 says none.
-    ("hello-of-a-port-that-moved", "sim", changed(WIDE_PAIR, ("b host hello=0", "b host hello=3 checksum=off")), [
-        "tick 2", "port b 0 two 02", "port a 0 two 01", "port b 0 two 03", "tick 1", "tick 6",
-    ], "", [
-        "1 b tx 1 0 is 820f01000200060000010447002701", "2 b port 0 two 02", "2 a port 0 two 01", "2 b port 0 two 03",
-        "3 b tx 2 0 is 820f01000200060000010447002701", "9 b tx 3 0 is 820f01000200060000010447002701", "end 9 3",
-    ]),
-    # The hello of a router is said on each of its ports, also where one of them moved.
-    ("hello-of-a-router-of-which-one-port-moved", "sim", changed(ROUTER, ("r router", "r router checksum=off")), [
-        "tick 1", "port r 1 three 0c", "tick 1",
-    ], "", [
-        f"1 r tx 1 0 es {PLAIN_ISH}", f"1 r tx 2 1 es {PLAIN_ISH}", "1 r port 1 three 0c",
-        f"2 r tx 3 0 es {PLAIN_ISH}", f"2 r tx 4 1 es {PLAIN_ISH}", "end 2 4",
-    ]),
-    # The period of a suggestion stays where a port moves: 1 second in place of 60. So the hello of the move, at 2, has a holding
-    # time of 2 seconds, and the next one follows 2 ticks behind it.
-    ("suggested-period-of-a-port-that-moves", "sim", changed(WIDE_PAIR, ("b host hello=0", "b host checksum=off")), [
-        "tick 1", "inject lan 0a es 82120100040078000004470027ffc6020001", "settle 2", "port b 0 two 02", "tick 3",
-    ], "", [
-        "1 b tx 1 0 is 820f01000200780000010447002701", "1 - inject 2 lan 0a es", "1 a hear is 470027ff new",
-        "1 b hear is 470027ff new", "1 b tx 3 0 0a 820f01000200780000010447002701", "1 b port 0 two 02",
-        "2 b tx 4 0 is 820f01000200020000010447002701", "4 b tx 5 0 is 820f01000200020000010447002701", "end 4 5",
-    ]),
-    # The transit of a port is its own: 5 ticks also where it moved. So Z is 5: octet 8 is ce + 19, and octet 9 is 58 - 14.
-    ("transit-of-a-port-that-moved", "sim", changed(ROUTER, ("port r 1 two 0b", "port r 1 two 0b 5")), [
-        "tick 1", "settle 2", "port r 1 three 0b", "port b 0 three 02", SEND, "settle 2",
-    ], "", [
-        *GREETING, "1 r port 1 three 0b", "1 b port 0 three 02", f"1 {SENT}", f"1 a tx 3 0 0a {UNIT}",
-        "1 r tx 4 1 02 811301053c0015e744044700270104470027026869", f"1 {GOT}", "end 1 4",
-    ]),
-    # Ports may go round where none of them comes to a subnetwork on which the system has another one at that moment.
-    ("ports-that-change-their-places", "sim", changed(PLAIN_ROUTER, ("port b 0 two", "port b 0 one")), [
-        *TELLING, "port r 0 three 0a", "port r 1 one 0a", "port r 0 two 0b", SEND, "settle 1",
-    ], "", [
-        "0 - inject 1 one 0a es", "0 a hear is 470027ff new", "0 b hear is 470027ff new", "0 r port 0 three 0a",
-        "0 r port 1 one 0a", "0 r port 0 two 0b", f"0 {SENT}", f"0 a tx 2 0 0a {PLAIN_UNIT}", f"0 r tx 3 1 02 {PLAIN_HOP_ON}",
-        "end 0 3",
-    ]),
-    # A restart forgets what was heard, and keeps ports and routes as they are then.
-    ("restart-behind-changes", "sim", PLAIN_ROUTER, [
-        *TELLING, "port b 0 one 02", "route r 47002701 0 02 47002701", "unroute r 47002702", "mtu one 512", "restart r",
-        "restart b", SEND, "settle 2", "unroute r 47002702", "send a 47002702 47002701 pat:1000:0",
-    ], "without tx", [
-        *TOLD, "0 b port 0 one 02", "0 r route 47002701", "0 r unroute 47002702 yes", "0 - mtu one 512", "0 r restart",
-        "0 b restart", f"0 {SENT}", f"0 {GOT}", "0 r unroute 47002702 no", "0 a sent dt 2 0000 47002702 47002701 1000", "end 0 6",
-    ]),
-
-    # A route that is set takes the place of that of its prefix, so the next unit goes to its address and the redirect names its
-    # title. What a was told of another destination doesn't matter.
-    ("route-set-again-to-another-system", "sim", LEADING, [
-        f"inject lan 0a es {ISH}", f"inject lan 01 is {ESH_OF_A}", "settle 2",
-        "send a 47002702 48000001 hex: life=10 whole", "settle 1", "route r 4800 0 04 470027fd",
-        "send a 47002702 48000002 hex: life=10 whole", "settle 3",
-    ], "", [
-        "0 - inject 1 lan 0a es", "0 - inject 2 lan 01 is", "0 a hear is 470027ff new", "0 r hear es 47002702 new",
-        "0 a sent dt 1 - 47002702 48000001 0", "0 a tx 3 0 0a 8113010a3c0013000004480000010447002702",
-        "0 r tx 4 0 03 811301093c0013000004480000010447002702", "0 r tx 5 0 01 8215010006007800000448000001010304470027fe",
-        "0 r route 4800", "0 a sent dt 2 - 47002702 48000002 0", "0 a tx 6 0 0a 8113010a3c0013000004480000020447002702",
-        "0 a hear rd 48000001 new", "0 r tx 7 0 04 811301093c0013000004480000020447002702",
-        "0 r tx 8 0 01 8215010006007800000448000002010404470027fd", "end 0 8",
-    ]),
-    # With a complete source route the next hop must be the target itself, by the title that the route has then: the first unit is
-    # led on, and for the second one the title isn't the target any more (path not acceptable).
-    ("route-set-again-with-another-title", "sim", PLAIN_ROUTER, [
-        *TELLING, "route r 470027aa 1 02 470027aa",
-        "send a 47002702 47002701 hex: life=10 whole opt=c80c010304470027ff04470027aa", "settle 1",
-        "route r 470027AA 1 02 470027ab",
-        "send a 47002702 47002701 hex: life=10 whole opt=c80c010304470027ff04470027aa", "settle 2",
-    ], "without tx", [
-        *TOLD, "0 r route 470027aa", "0 a sent dt 1 - 47002702 47002701 0", "0 r route 470027aa",
-        "0 a sent dt 2 - 47002702 47002701 0", "0 b got 47002702 47002701 -", "0 r drop 93 00",
-        "0 r sent er 1 - 470027ff 47002702 33", "end 0 5",
-    ]),
-    # Without its route the destination is unknown. A route that is gone can't be taken away again.
-    ("route-taken-away-and-the-report-that-follows", "sim", PLAIN_ROUTER, [
-        *TELLING, "unroute r 47002701", "unroute r 47002701", SEND, "settle 2",
-    ], "", [
-        *TOLD, "0 r unroute 47002701 yes", "0 r unroute 47002701 no", f"0 {SENT}", f"0 a tx 2 0 0a {PLAIN_UNIT}",
-        "0 r drop 81 00", "0 r sent er 1 - 470027ff 47002702 19",
-        f"0 r tx 3 0 01 8117014001002a0000044700270204470027ffc1028100{PLAIN_HEADER}",
-        f"0 a report 470027ff 47002702 81 00 {PLAIN_HEADER}", "end 0 3",
-    ]),
-    # The longest of the prefixes that cover an address leads, of those that are there: 47002701 first, then the one of no digits,
-    # which leads to the wrong system.
-    ("shorter-prefix-behind-a-longer-one", "sim", PLAIN_ROUTER, [
-        *TELLING, "route r * 0 01 47002702", SEND, "settle 2", "unroute r 47002701", SEND, "settle 2",
-    ], "without tx", [
-        *TOLD, "0 r route *", f"0 {SENT}", f"0 {GOT}", "0 r unroute 47002701 yes", "0 a sent dt 2 - 47002702 47002701 2",
-        "0 a notmine 47002701", "end 0 5",
-    ]),
-    # A prefix is read as an address is, but for `*`, and written in lower case without dots.
-    ("forms-of-prefixes", "sim", ROUTER, [
-        "unroute r 4.70027.01", "route r . 1 02 47002701", "route r 47AB 1 02 47002701", "route r 4 1 02 47002701", "unroute r *",
-        "unroute r *",
-    ], "", [
-        "0 r unroute 47002701 yes", "0 r route *", "0 r route 47ab", "0 r route 4", "0 r unroute * yes", "0 r unroute * no",
-        "end 0 0",
-    ]),
-    # The source of a unit is told of a better way only where it is known at just the address from which the frame came.
-    ("source-that-moved-is-not-redirected", "sim", REDIRECTING, [*ALL_TELLING, "port a 0 lan 05", SEND, "settle 2"], "", [
-        *ALL_TOLD, "0 a port 0 lan 05", f"0 {SENT}", f"0 a tx 4 0 0a {UNIT}", f"0 r tx 5 0 02 {ONE_HOP_ON}", f"0 {GOT}",
-        "end 0 5",
-    ]),
-    # A redirect holds where its host moves, and is followed there.
-    ("redirect-that-is-followed-elsewhere", "trace", changed(REDIRECTING, SECOND_SUBNET), [
-        *ALL_TELLING, SEND, "settle 3", "port a 0 two 01", SEND, "port b 0 two 02", "settle 1",
-    ], "without rx", [
-        *ALL_TOLD, f"0 {SENT}", f"0 a tx 4 0 0a {UNIT}", f"0 r tx 5 0 02 {ONE_HOP_ON}",
-        "0 r tx 6 0 01 82110100060078adc80447002701010200", f"0 {GOT}", "0 a hear rd 47002701 new", "0 a port 0 two 01",
-        "0 a sent dt 2 - 47002702 47002701 2", f"0 a tx 7 0 02 {UNIT}", "0 b port 0 two 02", f"0 {GOT}", "end 0 7",
-    ]),
-    # The port's own subnetwork and address may be named again: the hello is due all the same.
-    ("port-that-stays", "sim", changed(PAIR, ("b host hello=0", "b host checksum=off")), [
-        "tick 2", "port b 0 lan 02", "tick 1",
-    ], "", [
-        "1 b tx 1 0 is 820f01000200780000010447002701", "2 b port 0 lan 02", "3 b tx 2 0 is 820f01000200780000010447002701",
-        "end 3 2",
-    ]),
-]
 
 CLOCKS = [
     # A copy is as old as its maker's clock says: a's is 4 at the first delivery and 5 at the second, though b's is 3. The
@@ -497,13 +273,6 @@ class UnjudgedText(Text):
     judges_rest = False
 
 
-def chosen(lines, selection):
-    """Those lines of a journal that are compared."""
-    which, *kinds = selection.split(" ")
-    kind_of = [(line.split(" ")[0] if line.startswith("end ") else line.split(" ")[2], line) for line in lines]
-    return [line for kind, line in kind_of if which == "" or (kind in kinds) == (which == "kinds")]
-
-
 def lines_of(text, command, kind=Text):
     """The lines that a model writes of a text, or where and why it refuses it."""
     found = read(text.encode(), kind=kind)
@@ -514,7 +283,7 @@ def lines_of(text, command, kind=Text):
 
 
 def check_runs():
-    for name, command, network, events, selection, wanted in CHANGES + CLOCKS + AS_BEFORE:
+    for name, command, network, events, selection, wanted in CLOCKS + AS_BEFORE:
         expect(name, chosen(lines_of(text_of(network, events), command), selection), wanted)
     for name, command, network, events, selection, wanted in AS_BEFORE:
         became = migrate(text_of(network, events).encode())
@@ -531,7 +300,7 @@ def case_of(name, command, text, wanted, selection=""):
 
 def cases():
     """The examples that are texts, in the form of the files of worked examples."""
-    for name, command, network, events, selection, wanted in CHANGES + CLOCKS:
+    for name, command, network, events, selection, wanted in CLOCKS:
         yield case_of(name, command, text_of(network, events), [f"> {line}" for line in wanted], selection)
     for at, (network, events, code) in enumerate(REFUSED):
         bad = len(network.splitlines()) + len(events)

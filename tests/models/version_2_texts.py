@@ -3,8 +3,8 @@ canonical text; what a text of version 1 becomes. Networks of which tests/models
 import sys
 
 from scenario_model import (
-    ADDRESS, COUNT, DUP_ADDRESS, DUP_NAME, HEADER, LIMITS, MTU, NUMBER, SYNTAX, UNKNOWN_NAME, Refused, Text, TextOfToday,
-    TextTogether, migrate, read, write,
+    COUNT, DUP_ADDRESS, DUP_NAME, HEADER, LIMITS, MTU, NUMBER, SYNTAX, UNKNOWN_NAME, Refused, Text, TextOfToday,
+    migrate, read, write,
 )
 
 
@@ -44,9 +44,6 @@ events
 """
 PAIR = changed(OLD_PAIR, ("clnp-sim 1\n", "clnp-sim 2\nlimits 256 60 320 0\n"))
 SMALL_PAIR = changed(PAIR, ("lan 1500", "lan 512"))
-# with a second subnetwork, on which nobody is
-SECOND_SUBNET = ("subnet lan 1500\n", "subnet lan 1500\nsubnet two 1500\n")
-WIDE_PAIR = changed(PAIR, SECOND_SUBNET)
 
 # two hosts with a router between them, which says the only hellos
 ROUTER = """clnp-sim 2
@@ -75,20 +72,6 @@ PLAIN_ROUTER = changed(ROUTER, ("a host hello=0", "a host hello=0 checksum=off")
 REDIRECTING = changed(
     PAIR, ("address a", "system r router hello=0\naddress a"), ("port a", "address r 470027ff\nport a"),
     ("events", "port r 0 lan 0a\nevents"))
-
-# a host and a router that knows a route by the port by which its units come; no checksums
-LEADING = """clnp-sim 2
-limits 256 60 320 0
-subnet lan 1500
-system a host hello=0 checksum=off
-system r router hello=0 checksum=off
-address a 47002702
-address r 470027ff
-port a 0 lan 01
-port r 0 lan 0a
-route r 4800 0 03 470027fe
-events
-"""
 
 # clocks that may stand 2 ticks apart
 APART = ("limits 256 60 320 0", "limits 4 2 10 2")
@@ -129,51 +112,13 @@ FORMS = [
 
 # ---- texts that are refused: a network, events of which the last one is bad, and its code
 
-FAR = "0" * 41
-BAD_MTUS = [
-    ("mtu one", SYNTAX), ("mtu one 512 1", SYNTAX), ("mtu 1ne 512", SYNTAX), ("mtu four 512", UNKNOWN_NAME),
-    ("mtu a 512", UNKNOWN_NAME), ("mtu one x", NUMBER), ("mtu one -1", NUMBER), ("mtu one 511", MTU), ("mtu one 65536", MTU),
-    ("mtu one 99999999999999999999", MTU),
-    # from left to right: the name before the number
-    ("mtu four x", UNKNOWN_NAME),
-]
-BAD_ROUTES = [
-    ("route r 48 1 02", SYNTAX), ("route r 48 1 02 470027 1", SYNTAX), ("route R 48 1 02 470027", SYNTAX),
-    ("route x 48 1 02 470027", UNKNOWN_NAME), ("route a 48 0 02 470027", UNKNOWN_NAME), ("route r 4g 1 02 470027", ADDRESS),
-    (f"route r {FAR} 1 02 470027", ADDRESS), ("route r ** 1 02 470027", ADDRESS), ("route r 48 x 02 470027", NUMBER),
-    ("route r 48 8 02 470027", NUMBER), ("route r 48 2 02 470027", UNKNOWN_NAME), ("route r 48 1 2 470027", ADDRESS),
-    ("route r 48 1 02 *", ADDRESS), ("route r 48 1 02 4", ADDRESS),
-    # from left to right: prefix, port, address
-    ("route r 4g 8 02 470027", ADDRESS), ("route r 48 2 2 470027", UNKNOWN_NAME),
-]
-BAD_UNROUTES = [
-    ("unroute r", SYNTAX), ("unroute r 48 1", SYNTAX), ("unroute 1 48", SYNTAX), ("unroute x 48", UNKNOWN_NAME),
-    ("unroute b 48", UNKNOWN_NAME), ("unroute r 4g", ADDRESS), (f"unroute r {FAR}", ADDRESS),
-]
-BAD_PORTS = [
-    ("port b 0 one", SYNTAX), ("port b 0 one 03 1", SYNTAX), ("port B 0 one 03", SYNTAX), ("port x 0 one 03", UNKNOWN_NAME),
-    ("port b x one 03", NUMBER), ("port b 8 one 03", NUMBER), ("port b 1 one 03", UNKNOWN_NAME), ("port b 0 1ne 03", SYNTAX),
-    ("port b 0 four 03", UNKNOWN_NAME), ("port b 0 one 3", ADDRESS), ("port b 0 one *", ADDRESS),
-    # a second port of the router on one subnetwork, before an address that another port has there
-    ("port r 0 two 0c", DUP_NAME), ("port r 0 two 02", DUP_NAME), ("port b 0 one 01", DUP_ADDRESS),
-    ("port b 0 one 0A", DUP_ADDRESS), ("port r 1 one 0b", DUP_NAME), ("port b 0 two 0b", DUP_ADDRESS),
-    # from left to right: the port's number before the subnetwork, that before the address
-    ("port b 1 four 3", UNKNOWN_NAME), ("port b 0 four 3", UNKNOWN_NAME),
-]
 BAD_TICKS = [
     ("tick b", NUMBER), ("tick b 0", NUMBER), ("tick b 65536", NUMBER), ("tick b x", NUMBER), ("tick x 1", UNKNOWN_NAME),
     ("tick B 1", SYNTAX), ("tick 1 b", SYNTAX), ("tick b 1 1", SYNTAX), ("tick", SYNTAX), ("tick b 1", LIMITS),
 ]
 OLD_ROUTER = changed(ROUTER, ("clnp-sim 2\nlimits 256 60 320 0\n", "clnp-sim 1\n"))
-REFUSED = [(ROUTER, [line], code) for line, code in BAD_MTUS + BAD_ROUTES + BAD_UNROUTES + BAD_PORTS + BAD_TICKS]
-# version 1 has none of them
-NEW_LINES = ["mtu one 512", "route r 48 1 02 470027", "unroute r 48", "port b 0 one 03", "tick b 1"]
-REFUSED += [(OLD_ROUTER, [line], SYNTAX) for line in NEW_LINES]
-REFUSED += [
-    # what events before the line leave: an address that was taken, or a subnetwork to which the system came
-    (ROUTER, ["port b 0 one 05", "port a 0 one 05"], DUP_ADDRESS),
-    (ROUTER, ["port r 1 three 0b", "port r 0 two 0a", "port r 1 two 0d"], DUP_NAME),
-    (ROUTER, ["port a 0 three 01", "port b 0 one 01", "port a 0 one 01"], DUP_ADDRESS),
+REFUSED = [(ROUTER, [line], code) for line, code in BAD_TICKS] + [
+    (OLD_ROUTER, ["tick b 1"], SYNTAX),
     # how far a clock may be ahead of another: 2 ticks, from wherever they stand
     (ROUTER_APART, ["tick a 3"], LIMITS), (ROUTER_APART, ["tick a 2", "tick 2", "tick a 1"], LIMITS),
     (ROUTER_APART, ["tick a 2", "tick b 2", "tick a 1"], LIMITS),
@@ -257,16 +202,13 @@ def check_refusals():
         expect(f"{len(events)} events", judged(text_of(ROUTER, events)), code and (len(ROUTER.splitlines()) + len(events), code))
 
 
-def check_lesser_grammars():
-    """The program of today has none of the new lines; where clocks tick together all but one of them are there."""
+def check_texts_of_today():
+    """In the program of today clocks tick together."""
     at = len(ROUTER.splitlines()) + 1
-    for line in NEW_LINES:
-        expect(f"{line}, today", judged(text_of(ROUTER, [line]), TextOfToday), (at, SYNTAX))
-        is_there = not line.startswith("tick")
-        expect(f"{line}, together", judged(text_of(ROUTER, [line]), TextTogether), None if is_there else (at, SYNTAX))
-    for kind in (TextOfToday, TextTogether):
-        expect("S above 0", judged(changed(ROUTER, ("60 320 0", "60 320 1")), kind), (2, NUMBER))
-        expect("clocks that tick together", judged(text_of(ROUTER, ["tick 1"]), kind), None)
+    expect("a clock that ticks alone, today", judged(text_of(ROUTER, ["tick b 1"]), TextOfToday), (at, SYNTAX))
+    expect("S above 0, today", judged(changed(ROUTER, ("60 320 0", "60 320 1")), TextOfToday), (2, NUMBER))
+    for line in ["tick 1", "mtu one 512", "route r 48 1 02 470027", "unroute r 48", "port b 0 one 03"]:
+        expect(f"{line}, today", judged(text_of(ROUTER, [line]), TextOfToday), None)
 
 
 def check_most_events():
@@ -283,5 +225,5 @@ def check_most_events():
 def check_all_texts():
     check_texts()
     check_refusals()
-    check_lesser_grammars()
+    check_texts_of_today()
     check_most_events()

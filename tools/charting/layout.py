@@ -34,7 +34,7 @@ MOST_LETTERS = 42
 def goes_on(before, column, line):
     """Whether a note belongs to the item before it: it is of the same system and moment, and not of what the scenario asks for,
     which no copy caused."""
-    is_asked_for = re.match(r"\d+ \w+ (sent (dt|erq)|restart|congest|void)\b", line.text)
+    is_asked_for = re.match(r"\d+ \S+ (sent (dt|erq)|restart|congest|void|mtu|route|unroute|port)\b", line.text)
     return (before.column, before.moment) == (column, line.moment) and before.word in ("rx", "note") and not is_asked_for
 
 

@@ -2,7 +2,8 @@
 import dataclasses
 import re
 
-# the name of nobody in a trace, which has the column of what comes from outside; and who sent copies before the first line
+# the name of nobody in a trace, which has the column of what comes from outside and of what changes a subnetwork; and who sent
+# copies before the first line
 NOBODY, BEFORE = "-", "?"
 # how many letters of a line are told
 MOST_TOLD = 400
@@ -40,7 +41,7 @@ class Line:
     text: str
 
 
-# the lines that tell of a copy: their form, and how they are said to an author of a bad one
+# the lines that tell of a copy, or of a subnetwork: their form, and how they are said to an author of a bad one
 NAME = r"[a-z][a-z0-9]{0,15}"
 TARGET = r"es|is|(?:[0-9a-f]{2}){1,20}"
 FORMS = {
@@ -50,8 +51,9 @@ FORMS = {
     "lost": (r"(?P<copy>\d+)", "T - lost COPY"),
     "nobody": (r"(?P<copy>\d+)", "T - nobody COPY"),
     "inject": (rf"(?P<copy>\d+) (?P<subnet>{NAME}) (?P<sender>\S+) (?P<to>{TARGET})", "T - inject COPY SUBNET FROM TO"),
+    "mtu": (rf"{NAME} \d+", "T - mtu SUBNET MTU"),
 }
-OF_NO_SYSTEM = ("lost", "nobody", "inject")
+OF_NO_SYSTEM = ("lost", "nobody", "inject", "mtu")
 FATES = {"rx": "came to {name}", "late": "too late for {name}", "lost": "lost", "nobody": "for nobody"}
 
 
@@ -82,11 +84,13 @@ class Trace:
         self.lines.append(Line(moment, name, word, copy, text))
 
     def copy_of(self, place, moment, name, word, rest):
-        """The copy of which a line tells."""
+        """The copy of which a line tells; none where it tells of a subnetwork."""
         form, wanted = FORMS[word]
         found = re.fullmatch(form, rest)
         if not found:
             raise Fault(1, f"line {place}: {clipped(word + ' ' + rest, 40)!r} has another form; wanted: {wanted}")
+        if "copy" not in found.groupdict():
+            return None
         number = int(found["copy"])
         if word in ("tx", "inject"):
             return self.sent(place, moment, name, number, found)

@@ -130,6 +130,58 @@ tick 1
 end
 ";
 
+/// A network that changes.
+const CHANGING: &[u8] = b"clnp-sim 2
+limits 4 2 6 0
+subnet one 1500
+subnet two 512
+subnet three 600
+system a host hello=0
+system r router hello=0
+address a 4701
+address r 47ff
+port a 0 one 01
+port r 0 one 0a
+port r 1 two 0b
+route r 48 1 0c 48ff
+events
+mtu one 65535
+route r 4.8A 0 01 4701
+route r * 1 0D 48fe
+port r 1 two 0B
+port r 0 three 0a
+port a 0 three 02
+unroute r 48
+unroute r 48
+end
+";
+
+/// What `write` makes of it.
+const CHANGING_WRITTEN: &[u8] = b"clnp-sim 2
+limits 4 2 6 0
+subnet one 1500
+subnet two 512
+subnet three 600
+system a host hello=0 suggest=0 rhold=120 slots=16 segments=1024 budget=262144 neighbours=64 routers=8 redirects=64 life=64 checksum=on
+system r router hello=0 suggest=0 rhold=120 slots=16 segments=1024 budget=262144 neighbours=64 routers=8 redirects=64 life=64 checksum=on
+address a 4701
+port a 0 one 01 1
+address r 47ff
+port r 0 one 0a 1
+port r 1 two 0b 1
+route r 48 1 0c 48ff
+events
+mtu one 65535
+route r 48a 0 01 4701
+route r * 1 0d 48fe
+port r 1 two 0b
+port r 0 three 0a
+port a 0 three 02
+unroute r 48
+unroute r 48
+end
+";
+
 /// The answer to a text, which is short.
 fn answer(rt: &impl Abort, alloc: Global, text: &[u8]) -> Result<Scenario, ScenarioRefusal> {
     let _lines = lines(text);
@@ -157,6 +209,8 @@ fn writes_what_was_read(rt: HostRuntime) {
         (ROUTER, ROUTER_WRITTEN),
         (TWO_HOSTS, TWO_HOSTS_WRITTEN),
         (TWO_HOSTS_MIGRATED, TWO_HOSTS_MIGRATED),
+        (CHANGING, CHANGING_WRITTEN),
+        (CHANGING_WRITTEN, CHANGING_WRITTEN),
     ] {
         let found = written(&rt, rt.alloc(), text);
         assert!(rt; found.as_slice() == wanted);

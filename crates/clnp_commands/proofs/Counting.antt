@@ -4,7 +4,7 @@ use Rattle.std.specs.List.{AllByRecursion, flat_map}
 use Rattle.std.proofs.lemmas.List.Concat.{flat_map-cons}
 use Rattle.clnp_machine.specs.ClnpBase.Text.{lines_of, onto_first, begins_with}
 use Rattle.clnp_machine.specs.Nsap.Text.{hex_text}
-use Rattle.clnp_machine.specs.ClnpPlan.Journal.{Line, Noted, Transmitted, Void, Late, Injected, Received, Lost, ForNobody, line_of, line_text, behind_space, note_words, target_text, octets_word}
+use Rattle.clnp_machine.specs.ClnpPlan.Journal.{Line, Noted, Transmitted, Void, Late, Injected, Resized, Received, Lost, ForNobody, line_of, line_text, behind_space, note_words, target_text, octets_word}
 use Rattle.std.specs.Fmt.{decimal}
 use Rattle.clnp_world.specs.Scenario.Scenario.{Plan}
 use Rattle.clnp_world.specs.Scenario.declared.event.Move.{Move}
@@ -83,6 +83,7 @@ line_text-ends (Void now name copy) = line_of-ends (decimal now) (name ∷ codes
 line_text-ends (Late now name copy) = line_of-ends (decimal now) (name ∷ codes "late" ∷ decimal copy ∷ [])
 line_text-ends (Injected now copy subnet sender target) =
     line_of-ends (decimal now) (codes "-" ∷ codes "inject" ∷ decimal copy ∷ subnet ∷ hex_text sender ∷ target_text target ∷ [])
+line_text-ends (Resized now subnet mtu) = line_of-ends (decimal now) (codes "-" ∷ codes "mtu" ∷ subnet ∷ decimal mtu ∷ [])
 line_text-ends (Received now name copy port) = ends-none
 line_text-ends (Lost now copy) = ends-none
 line_text-ends (ForNobody now copy) = ends-none

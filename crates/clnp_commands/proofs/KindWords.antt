@@ -1,11 +1,12 @@
 -- The third word of a journal's line says of what kind it is.
-use Rattle.std.proofs.Common.{◌≡◌, ℕ, ◌/◌, ◌%◌, ◌≤◌, Bool, true, false, inl, inr, List, [], ◌∷◌, codes, length, slice_index, cond, Option, None, Some, refl, sym, ap, subst, ◌∙◌, arith}
+use Rattle.std.proofs.Common.{◌≡◌, ℕ, ◌/◌, ◌%◌, ◌≤◌, Bool, true, false, inl, inr, List, [], ◌∷◌, codes, length, map, slice_index, cond, Option, None, Some, refl, sym, ap, subst, ◌∙◌, arith}
 use Rattle.std.specs.List.{AllByRecursion, filter, flat_map}
 use Rattle.std.specs.Str.{bytes_eq}
 use Rattle.std.specs.Fmt.{decimal}
 use Rattle.std.proofs.Math.ListN.{get_or-eq_default}
 use Rattle.std.proofs.lemmas.Bool.{cases_lt, ne_eqb}
 use Rattle.hex.specs.Hex.{encode_with, lower_digits}
+use Rattle.clnp_machine.specs.Nsap.Prefix.{prefix_text}
 use Rattle.clnp_machine.specs.Nsap.Text.{hex_text}
 use Rattle.clnp_machine.specs.Nsap.declared.target.Target.{Target}
 use Rattle.clnp_machine.specs.Nsap.declared.target.Target.TheVariants.{System, EndSystems, Routers}
@@ -17,9 +18,9 @@ use Rattle.clnp_machine.specs.EsisTables.declared.fact.Heard.TheVariants as hear
 use Rattle.clnp_machine.specs.EsisTables.declared.fact.TableKind.{TableKind}
 use Rattle.clnp_machine.specs.EsisTables.declared.fact.TableKind.TheVariants as table
 use Rattle.clnp_machine.specs.ClnpBase.Text.{lines_of, words_of}
-use Rattle.clnp_machine.specs.ClnpPlan.Journal.{Line, Noted, Transmitted, Void, Late, Injected, Received, Lost, ForNobody, behind_space, heard_words, identifier_word, ignored_word, kind_word, line_of, line_text, note_words, octet_word, octets_word, on_or_off, rule_word, table_word, target_text, why_word}
+use Rattle.clnp_machine.specs.ClnpPlan.Journal.{Line, Noted, Transmitted, Void, Late, Injected, Resized, Received, Lost, ForNobody, behind_space, heard_words, identifier_word, ignored_word, kind_word, line_of, line_text, note_words, octet_word, octets_word, on_or_off, rule_word, table_word, target_text, why_word, yes_or_no}
 use Rattle.clnp_machine.specs.ClnpPlan.declared.note.Note.{Note}
-use Rattle.clnp_machine.specs.ClnpPlan.declared.note.Note.TheVariants.{Sent, Refused, Got, Report, Echoed, Stray, Discard, Held, Repeat, Crowded, Many, NoSlot, Interference, Expired, NotMine, Alien, BadEsis, Hear, Gone, Ignored, Restart, Congest}
+use Rattle.clnp_machine.specs.ClnpPlan.declared.note.Note.TheVariants.{Sent, Refused, Got, Report, Echoed, Stray, Discard, Held, Repeat, Crowded, Many, NoSlot, Interference, Expired, NotMine, Alien, BadEsis, Hear, Gone, Ignored, Restart, Congest, Route, Unroute, Port}
 use Rattle.clnp_machine.specs.ClnpPlan.declared.note.Why.{Why}
 use Rattle.clnp_machine.specs.ClnpPlan.declared.note.Why.TheVariants as why
 use Rattle.clnp_world.proofs.Scenario.Written.{IsWord, digit_plain, spelled, ends_behind, IsInLine, plain_within, word_in_line, text_of_line, line_cut, first_word, decimal_is_word, IsDigit, decimal_all}
@@ -62,6 +63,14 @@ unfolding encode_with
 hex_in_line [] = tt
 hex_in_line (octet ∷ octets) = (hex_digit_within (octet / 16), (hex_digit_within (octet % 16), hex_in_line octets))
 
+digits_in_line : (digits : List ℕ) → IsInLine (map (λ d. slice_index lower_digits d) digits)
+digits_in_line [] = tt
+digits_in_line (digit ∷ digits) = (hex_digit_within digit, digits_in_line digits)
+
+prefix_in_line : (digits : List ℕ) → IsInLine (prefix_text digits)
+prefix_in_line [] = ((refl, refl), tt)
+prefix_in_line (digit ∷ digits) = digits_in_line (digit ∷ digits)
+
 -- ---- the words of a note
 
 octets_in_line : (octets : List ℕ) → IsInLine (octets_word octets)
@@ -103,6 +112,10 @@ on_in_line : (on : Bool) → IsInLine (on_or_off on)
 on_in_line true = word_in_line (codes "on") (spelled (codes "on") refl)
 on_in_line false = word_in_line (codes "off") (spelled (codes "off") refl)
 
+yes_in_line : (there : Bool) → IsInLine (yes_or_no there)
+yes_in_line true = word_in_line (codes "yes") (spelled (codes "yes") refl)
+yes_in_line false = word_in_line (codes "no") (spelled (codes "no") refl)
+
 pub target_in_line : (target : Target) → IsInLine (target_text target)
 target_in_line (System snpa) = hex_in_line snpa
 target_in_line EndSystems = word_in_line (codes "es") (spelled (codes "es") refl)
@@ -115,139 +128,163 @@ record Words (words : List (List ℕ)) (kind : List ℕ) : Type 0 where
   pub is_word : IsWord kind
   pub in_line : AllByRecursion IsInLine others
 
-note_is : (note : Note) → Words (note_words note) (first_of (note_words note))
-note_is (Sent kind unit id from to len) = record {
+-- the name of a subnetwork that a note has is within the line
+abbrev pub IsNoteInLine : Note → Type 0
+IsNoteInLine (Port port subnet snpa) = IsInLine subnet
+IsNoteInLine _ = Unit {0}
+
+note_is : (note : Note) → IsNoteInLine note → Words (note_words note) (first_of (note_words note))
+note_is (Sent kind unit id from to len) named = record {
   others = kind_word kind ∷ decimal unit ∷ identifier_word id ∷ hex_text from ∷ hex_text to ∷ decimal len ∷ [];
   split = refl;
   is_word = spelled (codes "sent") refl;
   in_line = (kind_in_line kind, (decimal_in_line unit, (identifier_in_line id, (hex_in_line from, (hex_in_line to, (decimal_in_line len, tt))))));
 }
-note_is (Refused reason value) = record {
+note_is (Refused reason value) named = record {
   others = why_word reason ∷ decimal value ∷ [];
   split = refl;
   is_word = spelled (codes "refused") refl;
   in_line = (why_in_line reason, (decimal_in_line value, tt));
 }
-note_is (Got from to octets) = record {
+note_is (Got from to octets) named = record {
   others = hex_text from ∷ hex_text to ∷ octets_word octets ∷ [];
   split = refl;
   is_word = spelled (codes "got") refl;
   in_line = (hex_in_line from, (hex_in_line to, (octets_in_line octets, tt)));
 }
-note_is (Report from to reason place octets) = record {
+note_is (Report from to reason place octets) named = record {
   others = hex_text from ∷ hex_text to ∷ octet_word reason ∷ octet_word place ∷ octets_word octets ∷ [];
   split = refl;
   is_word = spelled (codes "report") refl;
   in_line = (hex_in_line from, (hex_in_line to, (hex_in_line (reason ∷ []), (hex_in_line (place ∷ []), (octets_in_line octets, tt)))));
 }
-note_is (Echoed from to unit) = record {
+note_is (Echoed from to unit) named = record {
   others = hex_text from ∷ hex_text to ∷ decimal unit ∷ [];
   split = refl;
   is_word = spelled (codes "echoed") refl;
   in_line = (hex_in_line from, (hex_in_line to, (decimal_in_line unit, tt)));
 }
-note_is (Stray from to) = record {
+note_is (Stray from to) named = record {
   others = hex_text from ∷ hex_text to ∷ [];
   split = refl;
   is_word = spelled (codes "stray") refl;
   in_line = (hex_in_line from, (hex_in_line to, tt));
 }
-note_is (Discard reason place) = record {
+note_is (Discard reason place) named = record {
   others = octet_word reason ∷ octet_word place ∷ [];
   split = refl;
   is_word = spelled (codes "drop") refl;
   in_line = (hex_in_line (reason ∷ []), (hex_in_line (place ∷ []), tt));
 }
-note_is (Held id offset held) = record {
+note_is (Held id offset held) named = record {
   others = hex_text (pair_of id) ∷ decimal offset ∷ decimal held ∷ [];
   split = refl;
   is_word = spelled (codes "held") refl;
   in_line = (hex_in_line (pair_of id), (decimal_in_line offset, (decimal_in_line held, tt)));
 }
-note_is (Repeat id offset) = record {
+note_is (Repeat id offset) named = record {
   others = hex_text (pair_of id) ∷ decimal offset ∷ [];
   split = refl;
   is_word = spelled (codes "repeat") refl;
   in_line = (hex_in_line (pair_of id), (decimal_in_line offset, tt));
 }
-note_is (Crowded held size) = record {
+note_is (Crowded held size) named = record {
   others = decimal held ∷ decimal size ∷ [];
   split = refl;
   is_word = spelled (codes "crowded") refl;
   in_line = (decimal_in_line held, (decimal_in_line size, tt));
 }
-note_is (Many kept) = record {
+note_is (Many kept) named = record {
   others = decimal kept ∷ [];
   split = refl;
   is_word = spelled (codes "many") refl;
   in_line = (decimal_in_line kept, tt);
 }
-note_is (NoSlot live) = record {
+note_is (NoSlot live) named = record {
   others = decimal live ∷ [];
   split = refl;
   is_word = spelled (codes "noslot") refl;
   in_line = (decimal_in_line live, tt);
 }
-note_is (Interference id) = record {
+note_is (Interference id) named = record {
   others = hex_text (pair_of id) ∷ [];
   split = refl;
   is_word = spelled (codes "interference") refl;
   in_line = (hex_in_line (pair_of id), tt);
 }
-note_is (Expired id held) = record {
+note_is (Expired id held) named = record {
   others = hex_text (pair_of id) ∷ decimal held ∷ [];
   split = refl;
   is_word = spelled (codes "expired") refl;
   in_line = (hex_in_line (pair_of id), (decimal_in_line held, tt));
 }
-note_is (NotMine to) = record {
+note_is (NotMine to) named = record {
   others = hex_text to ∷ [];
   split = refl;
   is_word = spelled (codes "notmine") refl;
   in_line = (hex_in_line to, tt);
 }
-note_is Alien = record { others = []; split = refl; is_word = spelled (codes "alien") refl; in_line = tt }
-note_is (BadEsis rule place) = record {
+note_is Alien named = record { others = []; split = refl; is_word = spelled (codes "alien") refl; in_line = tt }
+note_is (BadEsis rule place) named = record {
   others = rule_word rule ∷ octet_word place ∷ [];
   split = refl;
   is_word = spelled (codes "badesis") refl;
   in_line = (((refl, refl), decimal_in_line rule), (hex_in_line (place ∷ []), tt));
 }
-note_is (Hear kind key came) = record {
+note_is (Hear kind key came) named = record {
   others = table_word kind ∷ hex_text key ∷ heard_words came;
   split = refl;
   is_word = spelled (codes "hear") refl;
   in_line = (table_in_line kind, (hex_in_line key, heard_in_line came));
 }
-note_is (Gone kind key) = record {
+note_is (Gone kind key) named = record {
   others = table_word kind ∷ hex_text key ∷ [];
   split = refl;
   is_word = spelled (codes "gone") refl;
   in_line = (table_in_line kind, (hex_in_line key, tt));
 }
-note_is (Ignored rd) = record {
+note_is (Ignored rd) named = record {
   others = ignored_word rd ∷ [];
   split = refl;
   is_word = spelled (codes "ignored") refl;
   in_line = (ignored_in_line rd, tt);
 }
-note_is Restart = record { others = []; split = refl; is_word = spelled (codes "restart") refl; in_line = tt }
-note_is (Congest on) = record {
+note_is Restart named = record { others = []; split = refl; is_word = spelled (codes "restart") refl; in_line = tt }
+note_is (Congest on) named = record {
   others = on_or_off on ∷ [];
   split = refl;
   is_word = spelled (codes "congest") refl;
   in_line = (on_in_line on, tt);
+}
+note_is (Route prefix) named = record {
+  others = prefix_text prefix ∷ [];
+  split = refl;
+  is_word = spelled (codes "route") refl;
+  in_line = (prefix_in_line prefix, tt);
+}
+note_is (Unroute prefix there) named = record {
+  others = prefix_text prefix ∷ yes_or_no there ∷ [];
+  split = refl;
+  is_word = spelled (codes "unroute") refl;
+  in_line = (prefix_in_line prefix, (yes_in_line there, tt));
+}
+note_is (Port port subnet snpa) named = record {
+  others = decimal port ∷ subnet ∷ hex_text snpa ∷ [];
+  split = refl;
+  is_word = spelled (codes "port") refl;
+  in_line = (decimal_in_line port, (named, (hex_in_line snpa, tt)));
 }
 
 -- ---- what is counted of a line
 
 -- the system that a line names has a word for its name, and the subnetwork's name is within the line
 abbrev pub IsNamed : Line → Type 0
-IsNamed (Noted now name note) = IsWord name
+IsNamed (Noted now name note) = IsWord name × IsNoteInLine note
 IsNamed (Transmitted now name copy port target frame) = IsWord name
 IsNamed (Void now name copy) = IsWord name
 IsNamed (Late now name copy) = IsWord name
 IsNamed (Injected now copy subnet sender target) = IsInLine subnet
+IsNamed (Resized now subnet mtu) = IsInLine subnet
 IsNamed (Received now name copy port) = IsWord name
 IsNamed (Lost now copy) = Unit {0}
 IsNamed (ForNobody now copy) = Unit {0}
@@ -290,10 +327,10 @@ counts_of_line line is =
 -- so it is of each line; what a journal doesn't tell isn't counted
 pub line_counts : (line : Line) → IsNamed line → counts_of (line_text line) ≡ tally (line ∷ [])
 line_counts (Noted now name note) named =
-    let words = note_is note in
+    let words = note_is note named.1 in
     counts_of_line (Noted now name note)
     (is_line (Noted now name note) (decimal now) name (first_of (note_words note)) words.others
-    (ap (λ (ws : List (List ℕ)). line_of (decimal now) (name ∷ ws)) words.split) refl (decimal_is_word now) named words.is_word words.in_line)
+    (ap (λ (ws : List (List ℕ)). line_of (decimal now) (name ∷ ws)) words.split) refl (decimal_is_word now) named.0 words.is_word words.in_line)
 line_counts (Transmitted now name copy port target frame) named =
     counts_of_line (Transmitted now name copy port target frame)
     (is_line (Transmitted now name copy port target frame) (decimal now) name (codes "tx")
@@ -312,6 +349,10 @@ line_counts (Injected now copy subnet sender target) named =
     (is_line (Injected now copy subnet sender target) (decimal now) (codes "-") (codes "inject")
     (decimal copy ∷ subnet ∷ hex_text sender ∷ target_text target ∷ []) refl refl (decimal_is_word now) (spelled (codes "-") refl) (spelled (codes "inject") refl)
     (decimal_in_line copy, (named, (hex_in_line sender, (target_in_line target, tt)))))
+line_counts (Resized now subnet mtu) named =
+    counts_of_line (Resized now subnet mtu)
+    (is_line (Resized now subnet mtu) (decimal now) (codes "-") (codes "mtu") (subnet ∷ decimal mtu ∷ []) refl refl
+    (decimal_is_word now) (spelled (codes "-") refl) (spelled (codes "mtu") refl) (named, (decimal_in_line mtu, tt)))
 line_counts (Received now name copy port) named = refl
 line_counts (Lost now copy) named = refl
 line_counts (ForNobody now copy) named = refl

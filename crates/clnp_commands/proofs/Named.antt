@@ -1,28 +1,37 @@
 -- The lines of a run name systems and subnetworks of its scenario, whose names are words.
 use Rattle.std.proofs.Common.{◌≡◌, ℕ, ◌+◌, ◌-◌, Bool, true, false, List, [], ◌∷◌, Option, None, Some, refl, sym, subst, cond}
-use Rattle.std.specs.Prelude.{slice_get, length}
-use Rattle.std.specs.List.{AllByRecursion, range_with_len}
+use Rattle.std.specs.Prelude.{◌==◌, nat_lt, slice_get, slice_set, length}
+use Rattle.std.specs.List.{AllByRecursion, list_any, range_with_len}
 use Rattle.clnp_machine.proofs.ClnpBase.Lists.{AllByRecursion-append, AllByRecursion-implies, AllByRecursion-slice_get}
 use Rattle.clnp_machine.specs.Nsap.declared.target.Target.{Target}
 use Rattle.clnp_machine.specs.ClnpPlan.Configuration.{SystemConfiguration}
-use Rattle.clnp_machine.specs.ClnpPlan.Journal.{Late}
+use Rattle.clnp_machine.specs.ClnpPlan.Journal.{Late, Resized}
 use Rattle.clnp_machine.specs.ClnpPlan.declared.config.Limits.{Limits}
 use Rattle.clnp_machine.specs.ClnpPlan.declared.config.Role.{Role}
 use Rattle.clnp_machine.specs.ClnpPlan.declared.config.Role.TheVariants.{Host, Router}
+use Rattle.clnp_machine.specs.ClnpPlan.declared.config.PortConfig.{PortConfig}
+use Rattle.clnp_machine.specs.ClnpPlan.declared.note.Note.{Note}
+use Rattle.clnp_machine.specs.ClnpPlan.declared.note.Note.TheVariants as note
+use Rattle.clnp_machine.specs.Forwarding.Distinct.{has_prefix}
+use Rattle.clnp_machine.specs.Forwarding.declared.route.Route.{Route}
 use Rattle.clnp_world.proofs.Scenario.Written.{IsWord, name_is_word, IsInLine, word_in_line}
 use Rattle.clnp_world.specs.Scenario.Scenario.{IsFit, Plan, Subnetwork, octets_of}
 use Rattle.clnp_world.specs.Scenario.Words.{is_name}
 use Rattle.clnp_world.specs.Scenario.declared.event.Event.{Event}
 use Rattle.clnp_world.specs.Scenario.declared.event.Event.TheVariants.{Send, Echo, Deliver, Settle, Lose, Tick, Restart, Congest, Inject}
+use Rattle.clnp_world.specs.Scenario.declared.event.Event.TheVariants as event
 use Rattle.clnp_world.specs.Scenario.declared.event.Move.{Move}
 use Rattle.clnp_world.specs.Scenario.declared.event.Move.TheVariants.{One, SettleOne, LoseOne, TickOne}
+use Rattle.clnp_machine.specs.Change.{Change, PortIsAt, PortTakes, RouteIsGone, RouteIsSet}
 use Rattle.clnp_machine.specs.Step.{step}
-use Rattle.clnp_machine.specs.System.{SystemState, AsksToSend, AsksForEcho, Input, IsCongested, IsRestarted, MomentComes, Output, Transmits, SendsEsis, Notes}
+use Rattle.clnp_machine.specs.Steps.{IsNoChange, NotesOnly}
+use Rattle.clnp_machine.specs.System.{SystemState, AsksToSend, AsksForEcho, Input, IsChanged, IsCongested, IsRestarted, MomentComes, Output, Transmits, SendsEsis, Notes}
 use Rattle.clnp_machine.proofs.Deeds.{step_itself}
+use Rattle.clnp_machine.proofs.Noted.{output_notes, step_changes_not}
 use Rattle.clnp_world.specs.ClnpNetwork.World as network
 use Rattle.clnp_world.specs.ClnpNetwork.World.{World, Step, after, first_world}
 use Rattle.clnp_machine.proofs.ClnpBase.ListSteps.{all_set}
-use Rattle.clnp_commands.proofs.KindWords.{IsNamed}
+use Rattle.clnp_commands.proofs.KindWords.{IsNamed, IsNoteInLine}
 
 abbrev IsNamedSystem : SystemState → Type 0
 IsNamedSystem s = IsWord s.configuration.name
@@ -45,17 +54,29 @@ names_then : (part : Step) (next : World → Step) → Names part → Names (nex
 names_then part next h k =
     record { world = k.world; lines = AllByRecursion-append IsNamed part.lines (next part.world).lines h.lines k.lines }
 
-names_put_out : (s : SystemState) (w : World) (out : Output) → IsNamedSystem s → AreNamed w → Names (network.put_out s w out)
-names_put_out s w (Notes note) is h = record { world = h; lines = (is, tt) }
-names_put_out s w (Transmits port target packet) is h = record { world = h; lines = (is, tt) }
-names_put_out s w (SendsEsis port target value) is h = record { world = h; lines = (is, tt) }
+names_put_out : (s : SystemState) (w : World) (out : Output) → IsNamedSystem s → NotesOnly IsNoteInLine out → AreNamed w
+    → Names (network.put_out s w out)
+names_put_out s w (Notes told) is words h = record { world = h; lines = ((is, words), tt) }
+names_put_out s w (Transmits port target packet) is words h = record { world = h; lines = (is, tt) }
+names_put_out s w (SendsEsis port target value) is words h = record { world = h; lines = (is, tt) }
 
-names_put_all_out : (s : SystemState) (w : World) (outs : List Output) → IsNamedSystem s → AreNamed w → Names (network.put_all_out s w outs)
-names_put_all_out s w [] is h = names_nothing w h
-names_put_all_out s w (out ∷ outs) is h =
-    let first = names_put_out s w out is h in
+names_put_all_out : (s : SystemState) (w : World) (outs : List Output) → IsNamedSystem s → AllByRecursion (NotesOnly IsNoteInLine) outs → AreNamed w
+    → Names (network.put_all_out s w outs)
+names_put_all_out s w [] is words h = names_nothing w h
+names_put_all_out s w (out ∷ outs) is words h =
+    let first = names_put_out s w out is words.0 h in
     names_then (network.put_out s w out) (λ v. network.put_all_out s v outs) first
-    (names_put_all_out s (network.put_out s w out).world outs is first.world)
+    (names_put_all_out s (network.put_out s w out).world outs is words.1 first.world)
+
+-- no step notes a name
+no_change_in_line : (told : Note) → IsNoChange told → IsNoteInLine told
+no_change_in_line (note.Port port subnet snpa) h = absurd h
+no_change_in_line _ h = tt
+
+step_in_line : (s : SystemState) (input : Input) → AllByRecursion (NotesOnly IsNoteInLine) (step s input).outputs
+step_in_line s input =
+    AllByRecursion-implies (NotesOnly IsNoChange) (NotesOnly IsNoteInLine) (output_notes IsNoChange IsNoteInLine no_change_in_line)
+    (step s input).outputs (step_changes_not s input)
 
 -- a system keeps its name
 names_step : (w : World) (place : ℕ) (s : SystemState) (input : Input) → IsNamedSystem s → AreNamed w
@@ -64,7 +85,7 @@ names_step w place s input is h =
     let effect = step s input in
     let still : IsNamedSystem effect.after
     = subst (λ (c : SystemConfiguration). IsWord c.name) (sym (step_itself s input).configuration) is in
-    names_put_all_out effect.after (network.with_effect w place effect) effect.outputs still
+    names_put_all_out effect.after (network.with_effect w place effect) effect.outputs still (step_in_line s input)
     (all_set IsNamedSystem w.systems place effect.after h still)
 
 there : (w : World) (place : ℕ) (s : SystemState) → slice_get w.systems place ≡ Some s → AreNamed w → IsNamedSystem s
@@ -130,7 +151,7 @@ names_deliver_to : (limits : Limits) (w : World) (number place : ℕ) (copy : Op
     → Names (network.deliver_to limits w number place copy s)
 names_deliver_to limits w number place None s is h = record { world = h; lines = (is, tt) }
 names_deliver_to limits w number place (Some copy) s is h =
-    names_addressed limits w number place copy s (network.is_addressee copy s.configuration) is h
+    names_addressed limits w number place copy s (network.is_addressee copy s) is h
 
 names_deliver_at : (limits : Limits) (w : World) (number place : ℕ) (s : Option SystemState) → slice_get w.systems place ≡ s → AreNamed w
     → Names (network.deliver_at limits w number place s)
@@ -163,6 +184,104 @@ names_injects subnets w subnet None sender target octets e named h = names_nothi
 names_injects subnets w subnet (Some declared) sender target octets e named h =
     record { world = h; lines = (AllByRecursion-slice_get (λ (s : Subnetwork). IsInLine s.name) subnets subnet declared e named, tt) }
 
+-- ---- the network changes
+
+names_told : (s : SystemState) (told : Note) (w : World) → IsNamedSystem s → IsNoteInLine told → AreNamed w → Names (network.tells_of s told w)
+names_told s told w is words h = record { world = h; lines = ((is, words), tt) }
+
+names_changes : (w : World) (place : ℕ) (change : Change) (s : SystemState) (told : Note) → IsNamedSystem s → IsNoteInLine told → AreNamed w
+    → Names (network.followed_by (network.comes w place (IsChanged change)) (network.tells_of s told))
+names_changes w place change s told is words h =
+    let first = names_comes w place (IsChanged change) h in
+    names_then (network.comes w place (IsChanged change)) (network.tells_of s told) first
+    (names_told s told (network.comes w place (IsChanged change)).world is words first.world)
+
+names_moves_to : (w : World) (place number subnet : ℕ) (snpa : List ℕ) (mtu : ℕ) (declared : Subnetwork) (s : SystemState) (port : Option PortConfig)
+    → IsInLine declared.name → IsNamedSystem s → AreNamed w → Names (network.moves_port_to w place number subnet snpa mtu declared s port)
+names_moves_to w place number subnet snpa mtu declared s None named is h = names_nothing w h
+names_moves_to w place number subnet snpa mtu declared s (Some port) named is h =
+    names_changes w place (PortIsAt number (network.moved port subnet mtu snpa)) s (note.Port number declared.name snpa) is named h
+
+names_moves_of : (w : World) (place number subnet : ℕ) (snpa : List ℕ) (mtu : ℕ) (declared : Subnetwork) (s : Option SystemState)
+    → slice_get w.systems place ≡ s → IsInLine declared.name → AreNamed w
+    → Names (network.moves_port_of w place number subnet snpa mtu declared s)
+names_moves_of w place number subnet snpa mtu declared None e named h = names_nothing w h
+names_moves_of w place number subnet snpa mtu declared (Some s) e named h =
+    names_moves_to w place number subnet snpa mtu declared s (slice_get s.attached.ports number) named (there w place s e h) h
+
+names_moves : (subnets : List Subnetwork) (w : World) (place number subnet : ℕ) (snpa : List ℕ) (found : Option Subnetwork) (mtu : Option ℕ)
+    → slice_get subnets subnet ≡ found → AreNamedSubnets subnets → AreNamed w
+    → Names (network.moves_port_on w place number subnet snpa found mtu)
+names_moves subnets w place number subnet snpa None mtu e named h = names_nothing w h
+names_moves subnets w place number subnet snpa (Some declared) None e named h = names_nothing w h
+names_moves subnets w place number subnet snpa (Some declared) (Some mtu) e named h =
+    names_moves_of w place number subnet snpa mtu declared (slice_get w.systems place) refl
+    (AllByRecursion-slice_get (λ (s : Subnetwork). IsInLine s.name) subnets subnet declared e named) h
+
+names_if : (test : Bool) (w : World) (part : Step) → Names part → AreNamed w → Names (cond test part (network.nothing w))
+names_if true w part k h = k
+names_if false w part k h = names_nothing w h
+
+names_sets_as : (role : Role) (w : World) (place : ℕ) (s : SystemState) (route : Route) → IsNamedSystem s → AreNamed w
+    → Names (network.sets_route_as role w place s route)
+names_sets_as Host w place s route is h = names_nothing w h
+names_sets_as Router w place s route is h =
+    names_if (nat_lt route.port (length s.attached.ports)) w
+    (network.followed_by (network.comes w place (IsChanged (RouteIsSet route))) (network.tells_of s (note.Route route.prefix)))
+    (names_changes w place (RouteIsSet route) s (note.Route route.prefix) is tt h) h
+
+names_sets : (w : World) (place : ℕ) (route : Route) (s : Option SystemState) → slice_get w.systems place ≡ s → AreNamed w
+    → Names (network.sets_route_of w place route s)
+names_sets w place route None e h = names_nothing w h
+names_sets w place route (Some s) e h = names_sets_as s.configuration.role w place s route (there w place s e h) h
+
+names_removes_as : (role : Role) (w : World) (place : ℕ) (s : SystemState) (prefix : List ℕ) → IsNamedSystem s → AreNamed w
+    → Names (network.removes_route_as role w place s prefix)
+names_removes_as Host w place s prefix is h = names_nothing w h
+names_removes_as Router w place s prefix is h =
+    names_changes w place (RouteIsGone prefix) s (note.Unroute prefix (list_any (has_prefix prefix) s.attached.routes)) is tt h
+
+names_removes : (w : World) (place : ℕ) (prefix : List ℕ) (s : Option SystemState) → slice_get w.systems place ≡ s → AreNamed w
+    → Names (network.removes_route_of w place prefix s)
+names_removes w place prefix None e h = names_nothing w h
+names_removes w place prefix (Some s) e h = names_removes_as s.configuration.role w place s prefix (there w place s e h) h
+
+names_resizes_port : (w : World) (place number subnet mtu : ℕ) (port : Option PortConfig) → AreNamed w
+    → Names (network.resizes_port_of w place number subnet mtu port)
+names_resizes_port w place number subnet mtu None h = names_nothing w h
+names_resizes_port w place number subnet mtu (Some port) h =
+    names_if (port.subnet == subnet) w (network.comes w place (IsChanged (PortTakes number mtu)))
+    (names_comes w place (IsChanged (PortTakes number mtu)) h) h
+
+names_resizes_ports : (w : World) (place subnet mtu : ℕ) (numbers : List ℕ) → AreNamed w → Names (network.resizes_ports w place subnet mtu numbers)
+names_resizes_ports w place subnet mtu [] h = names_nothing w h
+names_resizes_ports w place subnet mtu (number ∷ numbers) h =
+    let part = network.resizes_port w place number subnet mtu in
+    let first : Names part
+    = names_resizes_port w place number subnet mtu (slice_get (network.ports_of (slice_get w.systems place)) number) h in
+    names_then part (λ v. network.resizes_ports v place subnet mtu numbers) first
+    (names_resizes_ports part.world place subnet mtu numbers first.world)
+
+names_resizes_each : (w : World) (subnet mtu : ℕ) (places : List ℕ) → AreNamed w → Names (network.resizes_each w subnet mtu places)
+names_resizes_each w subnet mtu [] h = names_nothing w h
+names_resizes_each w subnet mtu (place ∷ places) h =
+    let part = network.resizes_at w place subnet mtu in
+    let first : Names part
+    = names_resizes_ports w place subnet mtu (range_with_len 0 (length (network.ports_of (slice_get w.systems place)))) h in
+    names_then part (λ v. network.resizes_each v subnet mtu places) first (names_resizes_each part.world subnet mtu places first.world)
+
+names_resizes : (subnets : List Subnetwork) (w : World) (subnet mtu : ℕ) (found : Option Subnetwork) → slice_get subnets subnet ≡ found
+    → AreNamedSubnets subnets → AreNamed w → Names (network.resizes_on w subnet mtu found)
+names_resizes subnets w subnet mtu None e named h = names_nothing w h
+names_resizes subnets w subnet mtu (Some declared) e named h =
+    let part = network.resizes_each (record w { mtus = slice_set w.mtus subnet mtu }) subnet mtu (range_with_len 0 (length w.systems)) in
+    let first : Names part
+    = names_resizes_each (record w { mtus = slice_set w.mtus subnet mtu }) subnet mtu (range_with_len 0 (length w.systems)) h in
+    names_then part (λ v. network.writes v (Resized v.clock declared.name mtu)) first record {
+      world = first.world;
+      lines = (AllByRecursion-slice_get (λ (s : Subnetwork). IsInLine s.name) subnets subnet declared e named, tt);
+    }
+
 names_event : (subnets : List Subnetwork) (limits : Limits) (w : World) (event : Option Event) → AreNamedSubnets subnets → AreNamed w
     → Names (network.event_happens subnets limits w event)
 names_event subnets limits w None named h = names_nothing w h
@@ -177,6 +296,11 @@ names_event subnets limits w (Some (Send system from to body ask)) named h =
 names_event subnets limits w (Some (Echo system from to body)) named h = names_comes w system (AsksForEcho from to (octets_of body)) h
 names_event subnets limits w (Some (Inject subnet from to octets)) named h =
     names_injects subnets w subnet (slice_get subnets subnet) from to octets refl named h
+names_event subnets limits w (Some (event.Mtu subnet mtu)) named h = names_resizes subnets w subnet mtu (slice_get subnets subnet) refl named h
+names_event subnets limits w (Some (event.Route system route)) named h = names_sets w system route (slice_get w.systems system) refl h
+names_event subnets limits w (Some (event.Unroute system prefix)) named h = names_removes w system prefix (slice_get w.systems system) refl h
+names_event subnets limits w (Some (event.Port system number subnet snpa)) named h =
+    names_moves subnets w system number subnet snpa (slice_get subnets subnet) (slice_get w.mtus subnet) refl named h
 
 -- one move
 pub names_after : (plan : Plan) (w : World) (move : Move) → AreNamedSubnets plan.subnets → AreNamed w → Names (after plan w move)

@@ -158,7 +158,7 @@ sent_silent hop (Some port) u = transmissions_silent hop (cut (whole_packet u) p
 
 first_silent : (s : SystemState) (u : unit.Unit) (hop : Option Hop) → NonePasses sends_esis (first_sent s u hop)
 first_silent s u None = (refl, tt)
-first_silent s u (Some hop) = sent_silent hop (slice_get s.configuration.ports hop.port) u
+first_silent s u (Some hop) = sent_silent hop (slice_get s.attached.ports hop.port) u
 
 pub deeds_silent : (s : SystemState) (actions : List Action) → NonePasses sends_esis (flat_map (outputs_of s) actions)
 deeds_silent s [] = tt

@@ -5,7 +5,7 @@ use Rattle.std.specs.List.{AllByRecursion}
 use Rattle.clnp_plan.specs.PduHeader.Rules.{is_reportable}
 use Rattle.clnp_machine.specs.Local.{discard, made_in, makes, report_unit, reports, reports_from, rests}
 use Rattle.clnp_machine.specs.Content.{Content, Labelled, Esis, Unlabelled, frame_of}
-use Rattle.clnp_machine.specs.System.{SystemState, Input, AsksToSend, AsksForEcho, FrameComes, MomentComes, IsRestarted, IsCongested}
+use Rattle.clnp_machine.specs.System.{SystemState, Input, AsksToSend, AsksForEcho, FrameComes, MomentComes, IsRestarted, IsCongested, IsChanged}
 use Rattle.clnp_machine.specs.Step.{step}
 use Rattle.clnp_machine.specs.Steps.{IsAtMostReportOf, IsMadeFor}
 use Rattle.clnp_machine.proofs.Deeds.{AllSuch, leads_step}
@@ -22,6 +22,7 @@ all_asked s (FrameComes port sender to_group (Unlabelled octets)) = λ reason pl
 all_asked s (MomentComes now) = λ p there t at own first reportable. inl refl
 all_asked s IsRestarted = tt
 all_asked s (IsCongested on) = tt
+all_asked s (IsChanged change) = tt
 
 pub step_asked : (s : SystemState) (input : Input) → AllByRecursion (IsMadeFor input) (step s input).units
 step_asked s input = (leads_step (IsMadeFor input) s input (all_asked s input)).makes.such

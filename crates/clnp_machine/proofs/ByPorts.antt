@@ -13,14 +13,14 @@ use Rattle.esis_pdus.specs.Value.{suggested}
 use Rattle.clnp_plan.specs.EsisTables.declared.fact.Place.{Place}
 use Rattle.clnp_plan.specs.EsisTables.declared.fact.TableKind.TheVariants.{Is}
 use Rattle.clnp_plan.specs.EsisTables.Gone.{gone}
-use Rattle.clnp_plan.specs.Configuration.{SystemConfiguration}
 use Rattle.clnp_plan.specs.declared.config.PortConfig.{PortConfig}
 use Rattle.clnp_plan.specs.declared.config.Role.{Role}
 use Rattle.clnp_plan.specs.declared.config.Role.TheVariants.{Host, Router}
+use Rattle.clnp_machine.specs.Attachment.{Attachment}
 use Rattle.clnp_machine.specs.Unit as unit
 use Rattle.clnp_machine.specs.Unit.{Packet, cut, whole_packet}
 use Rattle.clnp_machine.specs.Content.{Content, Esis, Labelled, Unlabelled}
-use Rattle.clnp_machine.specs.System.{SystemState, Input, AsksToSend, AsksForEcho, FrameComes, MomentComes, IsRestarted, IsCongested, Output, Transmits, SendsEsis, Notes, Effect, idles, then_does}
+use Rattle.clnp_machine.specs.System.{SystemState, Input, AsksToSend, AsksForEcho, FrameComes, MomentComes, IsRestarted, IsCongested, IsChanged, Output, Transmits, SendsEsis, Notes, Effect, idles, then_does}
 use Rattle.clnp_machine.specs.Esis.{answers_new, end_system_heard, esis_heard, forgets, gone_note, hearers, hears, hears_each, intermediate_system_heard, is_silent, own_hello, redirect_heard, says_hello, tells_new, tells_of_itself}
 use Rattle.clnp_machine.specs.Local.{Action, Sends, Tells, discard, echo_ask, make, receive, requests_echo, tick}
 use Rattle.clnp_machine.specs.Ports.{ComesByPort, GoesByPort, HasPort}
@@ -46,17 +46,17 @@ module _ (s : SystemState) where
   transmitted_by hop (Some pieces) there =
       AllByRecursion-map_any (GoesByPort s) (λ piece. Transmits hop.port hop.target piece) pieces (λ piece. there)
 
-  sent_by : (hop : Hop) (found : Option PortConfig) (u : unit.Unit) → slice_get s.configuration.ports hop.port ≡ found → ByPorts (sent_on hop found u)
+  sent_by : (hop : Hop) (found : Option PortConfig) (u : unit.Unit) → slice_get s.attached.ports hop.port ≡ found → ByPorts (sent_on hop found u)
   sent_by hop None u e = (tt, tt)
   sent_by hop (Some port) u e =
-      transmitted_by hop (cut (whole_packet u) port.mtu) (slice_get_within s.configuration.ports hop.port port e)
+      transmitted_by hop (cut (whole_packet u) port.mtu) (slice_get_within s.attached.ports hop.port port e)
 
-  first_by : (t : SystemState) → t.configuration ≡ s.configuration → (u : unit.Unit) (hop : Option Hop) → ByPorts (first_sent t u hop)
+  first_by : (t : SystemState) → t.attached ≡ s.attached → (u : unit.Unit) (hop : Option Hop) → ByPorts (first_sent t u hop)
   first_by t same u None = (tt, tt)
   first_by t same u (Some hop) =
-      sent_by hop (slice_get t.configuration.ports hop.port) u (ap (λ (c : SystemConfiguration). slice_get c.ports hop.port) (sym same))
+      sent_by hop (slice_get t.attached.ports hop.port) u (ap (λ (a : Attachment). slice_get a.ports hop.port) (sym same))
 
-  deeds_by : (t : SystemState) → t.configuration ≡ s.configuration → (actions : List Action) → ByPorts (flat_map (outputs_of t) actions)
+  deeds_by : (t : SystemState) → t.attached ≡ s.attached → (actions : List Action) → ByPorts (flat_map (outputs_of t) actions)
   deeds_by t same [] = tt
   deeds_by t same (Tells told ∷ actions) = (tt, deeds_by t same actions)
   deeds_by t same (Sends u ∷ actions) =
@@ -68,13 +68,13 @@ module _ (s : SystemState) where
       packet_does (λ effect. ByPorts effect.outputs) s came p following
       (λ reason of_none.
       let deed = discard s (Labelled p following) reason 0 in
-      deeds_by deed.after (discard_is s (Labelled p following) reason 0).itself.configuration deed.actions)
+      deeds_by deed.after (discard_is s (Labelled p following) reason 0).heard.attached deed.actions)
       (λ router way port pieces there alive gives known.
       let options = options_behind s p.options in
       AllByRecursion-append (GoesByPort s) (transmissions (hop_by way) (Some pieces)) (redirects s came p options way)
-      (transmitted_by (hop_by way) (Some pieces) (slice_get_within s.configuration.ports way.place.port port there))
+      (transmitted_by (hop_by way) (Some pieces) (slice_get_within s.attached.ports way.place.port port there))
       (redirects_are (GoesByPort s) s came p options way (λ none. here)))
-      (tt, tt) (λ mine. deeds_by (receive s p following).after (receive_is s p following).itself.configuration (receive s p following).actions)
+      (tt, tt) (λ mine. deeds_by (receive s p following).after (receive_is s p following).heard.attached (receive s p following).actions)
 
   -- What is said and heard.
 
@@ -94,13 +94,13 @@ module _ (s : SystemState) where
   told_by : (t : SystemState) (place : Place) → HasPort s place.port → ByPorts (tells_of_itself t place.port place.snpa).outputs
   told_by t place here = one_by (is_silent t) (idles t) _ tt (here, tt)
 
-  says_by : (t : SystemState) → t.configuration ≡ s.configuration → ByPorts (says_hello t).outputs
+  says_by : (t : SystemState) → t.attached ≡ s.attached → ByPorts (says_hello t).outputs
   says_by t same =
-      let count : length t.configuration.ports ≡ length s.configuration.ports = ap (λ (c : SystemConfiguration). length c.ports) same in
+      let count : length t.attached.ports ≡ length s.attached.ports = ap (λ (a : Attachment). length a.ports) same in
       one_by (not (is_silent t) && nat_le t.next_hello t.moment) _ (idles t)
-      (AllByRecursion-mapped (λ (port : ℕ). port < length s.configuration.ports) (GoesByPort s)
-      (λ port. SendsEsis port (hearers t.configuration.role) (own_hello t)) (range_with_len 0 (length t.configuration.ports)) (λ port there. there)
-      (each_below 0 (length t.configuration.ports) (length s.configuration.ports) (omega arith)))
+      (AllByRecursion-mapped (λ (port : ℕ). port < length s.attached.ports) (GoesByPort s)
+      (λ port. SendsEsis port (hearers t.configuration.role) (own_hello t)) (range_with_len 0 (length t.attached.ports)) (λ port there. there)
+      (each_below 0 (length t.attached.ports) (length s.attached.ports) (omega arith)))
       tt
 
   answers_by : (heard : Effect) (place : Place) → HasPort s place.port → ByPorts heard.outputs → ByPorts (answers_new heard place).outputs
@@ -140,22 +140,23 @@ module _ (s : SystemState) where
   content_by place to_group (Esis value following) here =
       heard_by s.configuration.role place value.holding value.body (suggested value.body value.options) here
   content_by place to_group (Unlabelled octets) here =
-      deeds_by (octets_come s octets).after (octets_are s octets).itself.configuration (octets_come s octets).actions
+      deeds_by (octets_come s octets).after (octets_are s octets).heard.attached (octets_come s octets).actions
 
   pub step_by : (input : Input) → ComesByPort s input → ByPorts (step s input).outputs
   step_by (AsksToSend from to octets ask) here =
-      deeds_by (make s Dt from to octets ask).after (make_is s Dt from to octets ask).itself.configuration (make s Dt from to octets ask).actions
+      deeds_by (make s Dt from to octets ask).after (make_is s Dt from to octets ask).heard.attached (make s Dt from to octets ask).actions
   step_by (AsksForEcho from to octets) here =
       let deed = requests_echo s from to octets in
-      deeds_by deed.after (make_is s Erq from to octets (echo_ask s from to (length octets) true)).itself.configuration deed.actions
+      deeds_by deed.after (make_is s Erq from to octets (echo_ask s from to (length octets) true)).heard.attached deed.actions
   step_by (FrameComes port sender to_group content) here = content_by (record { port = port; snpa = sender }) to_group content here
   step_by (MomentComes now) here =
       let deed = tick s now in
       let t = deed.after in
       let u = (forgets s.moment t).after in
       AllByRecursion-append (GoesByPort s) (flat_map (outputs_of t) deed.actions) (then_does (forgets s.moment t) says_hello).outputs
-      (deeds_by t (tick_is s now).itself.configuration deed.actions)
+      (deeds_by t (tick_is s now).heard.attached deed.actions)
       (AllByRecursion-append (GoesByPort s) (forgets s.moment t).outputs (says_hello u).outputs
-      (AllByRecursion-map_any (GoesByPort s) gone_note (gone s.moment t.moment t.facts) (λ key. tt)) (says_by u (tick_is s now).itself.configuration))
+      (AllByRecursion-map_any (GoesByPort s) gone_note (gone s.moment t.moment t.facts) (λ key. tt)) (says_by u (tick_is s now).heard.attached))
   step_by IsRestarted here = (tt, tt)
   step_by (IsCongested on) here = (tt, tt)
+  step_by (IsChanged change) here = tt

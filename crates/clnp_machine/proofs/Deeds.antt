@@ -23,15 +23,16 @@ use Rattle.clnp_plan.specs.Configuration.{SystemConfiguration}
 use Rattle.clnp_plan.specs.declared.ask.Ask.{Ask}
 use Rattle.clnp_plan.specs.declared.note.Note.{Note}
 use Rattle.clnp_plan.specs.declared.note.Note.TheVariants as note
+use Rattle.clnp_machine.specs.Change.{Change}
 use Rattle.clnp_machine.specs.Identifiers.{Identifiers}
 use Rattle.clnp_machine.specs.Unit as unit
 use Rattle.clnp_machine.specs.Unit.{DeclaredAt, Packet, value_of, wire}
 use Rattle.clnp_machine.specs.Content.{Content, Labelled, Esis, Unlabelled, frame_of}
-use Rattle.clnp_machine.specs.System.{SystemState, Input, AsksToSend, AsksForEcho, FrameComes, MomentComes, IsRestarted, IsCongested, Effect, next_number, then_does, table_limits}
+use Rattle.clnp_machine.specs.System.{SystemState, Input, AsksToSend, AsksForEcho, FrameComes, MomentComes, IsRestarted, IsCongested, IsChanged, Effect, idles, next_number, then_does, table_limits}
 use Rattle.clnp_machine.specs.Local.{Action, Sends, Tells, Deed, and_then, at_moment, data_in, discard, discard_first, echo_ask, expire, give_up_due, gives_up, hand_up, has_address, is_all, is_answer, made_in, make, makes, offer, offered, receive, refusal, report_unit, reports, reports_from, restarted, rests, takes_in, takes_reply, tells, tick, unit_of, unless_refused, with_use}
 use Rattle.clnp_machine.specs.Esis.{esis_comes, forgets, says_hello}
-use Rattle.clnp_machine.specs.Step.{packet_comes, discard_refused, octets_come, effect_of, responds, content_comes, moment_comes, restart, congest, step, unheard_note}
-use Rattle.clnp_machine.specs.Steps.{AreNumbered, IsDeed, IsEffect, StaysItself, HearsNothing, LeavesTheRest, OnlyHellos, WasPendingOrMade, moment_after, segments_in, IsFresh, IsWithinBudget}
+use Rattle.clnp_machine.specs.Step.{packet_comes, discard_refused, octets_come, effect_of, responds, content_comes, moment_comes, restart, congest, as_changed, step, unheard_note}
+use Rattle.clnp_machine.specs.Steps.{AreNumbered, IsDeed, IsEffect, StaysItself, HearsNothing, LeavesTheRest, OnlyHellos, WasPendingOrMade, attached_after, moment_after, segments_in, IsFresh, IsWithinBudget}
 use Rattle.clnp_machine.specs.Told.{IsOfNoRule}
 use Rattle.clnp_machine.proofs.Gained.{KeepsOnly, each_kept, keeps_give_up}
 use Rattle.clnp_machine.proofs.Hellos.{only_comes, only_forgets, only_responds, only_says_hello, only_then}
@@ -41,14 +42,15 @@ use Rattle.clnp_machine.proofs.Making.{allowed, total_is, total_with}
 use Rattle.clnp_machine.proofs.Passing.{packet_does}
 use Rattle.clnp_machine.proofs.Reasons.{congestion, interference}
 
--- the same system, at the same moment, within its budget where it was
+-- the same system, at the same moment, attached as it was, within its budget where it was
 pub record Goes (s t : SystemState) : Type 0 where
   pub itself : StaysItself s t
   pub moment : t.moment ≡ s.moment
+  pub attached : t.attached ≡ s.attached
   pub budget : IsWithinBudget s → IsWithinBudget t
 
 pub goes-nowhere : (s : SystemState) → Goes s s
-goes-nowhere s = record { itself = record { place = refl; configuration = refl; hold = refl; reuse = refl }; moment = refl; budget = λ h. h }
+goes-nowhere s = record { itself = record { place = refl; configuration = refl; hold = refl; reuse = refl }; moment = refl; attached = refl; budget = λ h. h }
 
 pub goes-on : (s t u : SystemState) → Goes s t → Goes t u → Goes s u
 goes-on s t u h k = record {
@@ -59,12 +61,13 @@ goes-on s t u h k = record {
     reuse = k.itself.reuse ∙ h.itself.reuse;
   };
   moment = k.moment ∙ h.moment;
+  attached = k.attached ∙ h.attached;
   budget = λ within. k.budget (h.budget within);
 }
 
 -- it hears nothing
 pub hears-nothing : (s : SystemState) → HearsNothing s s
-hears-nothing s = record { facts = refl; hello = refl; next_hello = refl; congested = refl }
+hears-nothing s = record { facts = refl; hello = refl; next_hello = refl; congested = refl; attached = refl }
 
 hears-on : (s t u : SystemState) → HearsNothing s t → HearsNothing t u → HearsNothing s u
 hears-on s t u h k = record {
@@ -72,6 +75,7 @@ hears-on s t u h k = record {
   hello = k.hello ∙ h.hello;
   next_hello = k.next_hello ∙ h.next_hello;
   congested = k.congested ∙ h.congested;
+  attached = k.attached ∙ h.attached;
 }
 
 -- what a deed leaves, and the units that it makes, where W says of each what it is
@@ -91,7 +95,7 @@ reuse_kept s (Some identifier) = refl
 
 with_buffers : (s : SystemState) (buffers : List (Buffer Packet)) → (IsWithinBudget s → held buffers ≤ s.configuration.settings.budget)
     → Goes s (record s { buffers = buffers })
-with_buffers s buffers within = record { itself = record { place = refl; configuration = refl; hold = refl; reuse = refl }; moment = refl; budget = within }
+with_buffers s buffers within = record { itself = record { place = refl; configuration = refl; hold = refl; reuse = refl }; moment = refl; attached = refl; budget = within }
 
 -- the reply that a system makes to a request
 abbrev pub reply_unit : SystemState → (source destination octets : List ℕ) → unit.Unit
@@ -137,8 +141,8 @@ module _ (W : unit.Unit → Type 0) where
 
   does_make_unit : (s : SystemState) (u : unit.Unit) → u.number ≡ next_number s → W u → Does W s (makes s u)
   does_make_unit s u number is = record {
-    goes = record { itself = record { place = refl; configuration = refl; hold = refl; reuse = reuse_kept s u.identifier }; moment = refl; budget = λ h. h };
-    heard = record { facts = refl; hello = refl; next_hello = refl; congested = refl };
+    goes = record { itself = record { place = refl; configuration = refl; hold = refl; reuse = reuse_kept s u.identifier }; moment = refl; attached = refl; budget = λ h. h };
+    heard = record { facts = refl; hello = refl; next_hello = refl; congested = refl; attached = refl };
     makes = makes_one W s u number is;
   }
 
@@ -182,8 +186,8 @@ module _ (W : unit.Unit → Type 0) where
     does_take_reply : (t : SystemState) (source destination octets : List ℕ) (found : Option unit.Unit) → Does W t (takes_reply t source destination octets found)
     does_take_reply t source destination octets None = does_tell t _
     does_take_reply t source destination octets (Some request) = record {
-      goes = record { itself = record { place = refl; configuration = refl; hold = refl; reuse = refl }; moment = refl; budget = λ h. h };
-      heard = record { facts = refl; hello = refl; next_hello = refl; congested = refl };
+      goes = record { itself = record { place = refl; configuration = refl; hold = refl; reuse = refl }; moment = refl; attached = refl; budget = λ h. h };
+      heard = record { facts = refl; hello = refl; next_hello = refl; congested = refl; attached = refl };
       makes = makes_answered W t (is_answer source destination octets);
     }
 
@@ -214,7 +218,7 @@ module _ (W : unit.Unit → Type 0) where
           → (IsWithinBudget t → held kept ≤ t.configuration.settings.budget) → Does W t (takes_in t (Labelled p following) (offered p following) kept answer)
       does_take_in t at kept buffer.Held within =
           does_from t (record t { buffers = kept }) (tells (record t { buffers = kept }) _) (with_buffers t kept within)
-          (record { facts = refl; hello = refl; next_hello = refl; congested = refl }) refl refl (does_tell (record t { buffers = kept }) _)
+          (record { facts = refl; hello = refl; next_hello = refl; congested = refl; attached = refl }) refl refl (does_tell (record t { buffers = kept }) _)
       does_take_in t at kept buffer.Whole within =
           let arrival = offered p following in
           let rest : List (Buffer Packet) = buffer.without arrival.key kept in
@@ -226,7 +230,7 @@ module _ (W : unit.Unit → Type 0) where
           let most = within h in
           omega arith) in
           does_from t v (hand_up v p.unit.kind p.unit.source p.unit.destination octets p.options) goes
-          (record { facts = refl; hello = refl; next_hello = refl; congested = refl }) refl refl
+          (record { facts = refl; hello = refl; next_hello = refl; congested = refl; attached = refl }) refl refl
           (does_hand_up v (goes-on o t v at goes) p.unit.kind p.unit.source p.unit.destination octets p.options (such.replied octets))
       does_take_in t at kept (buffer.Interference there other) within = does_drop t at _ _ interference
       does_take_in t at kept buffer.Repeat within = does_tell t _
@@ -288,7 +292,7 @@ module _ (W : unit.Unit → Type 0) where
         (λ h.
         let less = sum_filter size_of (λ (b : Buffer Packet). not (same_key b.key ended.key)) t.buffers in
         omega arith) in
-        does_from t v (gives_up t ended) goes (record { facts = refl; hello = refl; next_hello = refl; congested = refl }) refl refl
+        does_from t v (gives_up t ended) goes (record { facts = refl; hello = refl; next_hello = refl; congested = refl; attached = refl }) refl refl
         (does_tell_and v (note.Expired ended.key.id (held rest)) (λ x. discard_first x (buffer.first_carried ended))
         (does_discard_first v (goes-on o t v at goes) ended.kept each))
 
@@ -324,9 +328,9 @@ pub record Takes (W : unit.Unit → Type 0) (s : SystemState) (effect : Effect) 
 within_budget : (s t : SystemState) → LeavesTheRest s t → IsWithinBudget s → IsWithinBudget t
 within_budget s t rest within = rw (rest.buffers, rest.configuration) within
 
--- the state in which a step is taken: a moment that comes has come
+-- the state in which a step is taken: a moment that comes has come, and a change has come about
 abbrev pub begun : SystemState → Input → SystemState
-begun s input = at_moment (moment_after s input) s
+begun s input = record s { moment = moment_after s input; attached = attached_after s input }
 
 -- the packets of which segments are kept
 abbrev pub carried_in : List (Buffer Packet) → List Packet
@@ -361,6 +365,7 @@ module _ (W : unit.Unit → Type 0) where
         reuse = ap (λ (ids : Identifiers). ids.reuse) h.rest.identifiers;
       };
       moment = h.rest.moment;
+      attached = h.rest.attached;
       budget = within_budget s effect.after h.rest;
     };
     makes = subst (Makes W s effect.after) (sym h.units) (makes_none W s effect.after h.rest.count h.rest.pending);
@@ -384,6 +389,7 @@ module _ (W : unit.Unit → Type 0) where
   AllSuch s (MomentComes now) = (p : Packet) → Contains (carried_in s.buffers) p → ReportsSuch W (at_moment now s) p
   AllSuch s IsRestarted = Unit {0}
   AllSuch s (IsCongested on) = Unit {0}
+  AllSuch s (IsChanged change) = Unit {0}
 
   leads_content : (s : SystemState) (port : ℕ) (sender : List ℕ) (to_group : Bool) (content : Content)
       → AllSuch s (FrameComes port sender to_group content) → Leads W s (content_comes s (record { port = port; snpa = sender }) to_group content)
@@ -415,15 +421,23 @@ module _ (W : unit.Unit → Type 0) where
 
   leads_restarted : (s : SystemState) → Leads W s (effect_of (restart s))
   leads_restarted s = record {
-    goes = record { itself = record { place = refl; configuration = refl; hold = refl; reuse = refl }; moment = refl; budget = λ h. omega arith };
+    goes = record { itself = record { place = refl; configuration = refl; hold = refl; reuse = refl }; moment = refl; attached = refl; budget = λ h. omega arith };
     makes = makes_forgotten W s (restarted s) refl refl;
   }
 
   leads_congested : (s : SystemState) (on : Bool) → Leads W s (effect_of (congest s on))
   leads_congested s on = record {
-    goes = record { itself = record { place = refl; configuration = refl; hold = refl; reuse = refl }; moment = refl; budget = λ h. h };
+    goes = record { itself = record { place = refl; configuration = refl; hold = refl; reuse = refl }; moment = refl; attached = refl; budget = λ h. h };
     makes = makes_none W s (record s { congested = on }) refl refl;
   }
+
+  leads_changed : (s : SystemState) (change : Change) → Leads W (begun s (IsChanged change)) (idles (as_changed change s))
+  leads_changed s change =
+      let t : SystemState = begun s (IsChanged change) in
+      record {
+        goes = record { itself = record { place = refl; configuration = refl; hold = refl; reuse = refl }; moment = refl; attached = refl; budget = λ h. h };
+        makes = makes_none W t (as_changed change s) refl refl;
+      }
 
   pub leads_step : (s : SystemState) (input : Input) → AllSuch s input → Leads W (begun s input) (step s input)
   leads_step s (AsksToSend from to octets ask) such = by_deed s (make s Dt from to octets ask) (does_make W s Dt from to octets ask such)
@@ -433,6 +447,7 @@ module _ (W : unit.Unit → Type 0) where
   leads_step s (MomentComes now) such = leads_moment s now such
   leads_step s IsRestarted such = leads_restarted s
   leads_step s (IsCongested on) such = leads_congested s on
+  leads_step s (IsChanged change) such = leads_changed s change
 
 -- Each unit that is made is made now by the system, of a source that is its own.
 
@@ -481,6 +496,7 @@ all_fresh s (FrameComes port sender to_group (Unlabelled octets)) = report_fresh
 all_fresh s (MomentComes now) = λ p there. report_fresh (at_moment now s) (wire p ++ []) (reason_code LifetimeExpiredInReassembly) 0
 all_fresh s IsRestarted = tt
 all_fresh s (IsCongested on) = tt
+all_fresh s (IsChanged change) = tt
 
 leads_fresh : (s : SystemState) (input : Input) → Leads (IsFresh (begun s input) (moment_after s input)) (begun s input) (step s input)
 leads_fresh s input = leads_step (IsFresh (begun s input) (moment_after s input)) s input (all_fresh s input)
@@ -493,13 +509,16 @@ step_itself s input =
 pub step_moment : (s : SystemState) (input : Input) → (step s input).after.moment ≡ moment_after s input
 step_moment s input = (leads_fresh s input).goes.moment
 
-fresh_before : (s : SystemState) (now moment : ℕ) (u : unit.Unit) → IsFresh (at_moment now s) moment u → IsFresh s moment u
-fresh_before s now moment u h = record { maker = h.maker; made = h.made; source = h.source; first_position = h.first_position; total = h.total }
+pub step_attached : (s : SystemState) (input : Input) → (step s input).after.attached ≡ attached_after s input
+step_attached s input = (leads_fresh s input).goes.attached
+
+fresh_before : (s : SystemState) (input : Input) (u : unit.Unit) → IsFresh (begun s input) (moment_after s input) u → IsFresh s (moment_after s input) u
+fresh_before s input u h = record { maker = h.maker; made = h.made; source = h.source; first_position = h.first_position; total = h.total }
 
 pub step_fresh : (s : SystemState) (input : Input) → AllByRecursion (IsFresh s (moment_after s input)) (step s input).units
 step_fresh s input =
     AllByRecursion-implies (IsFresh (begun s input) (moment_after s input)) (IsFresh s (moment_after s input))
-    (fresh_before s (moment_after s input) (moment_after s input)) (step s input).units (leads_fresh s input).makes.such
+    (fresh_before s input) (step s input).units (leads_fresh s input).makes.such
 
 pub step_numbered : (s : SystemState) (input : Input) → AreNumbered s.count (step s input).units
 step_numbered s input = are_numbered s.count (step s input).after.count (step s input).units (leads_fresh s input).makes.numbered

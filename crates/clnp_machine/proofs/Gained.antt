@@ -18,7 +18,7 @@ use Rattle.clnp_plan.specs.declared.note.Note.{Note}
 use Rattle.clnp_machine.specs.Unit as unit
 use Rattle.clnp_machine.specs.Unit.{Packet, value_of}
 use Rattle.clnp_machine.specs.Content.{Content, Labelled, Esis, Unlabelled, frame_of}
-use Rattle.clnp_machine.specs.System.{SystemState, Input, AsksToSend, AsksForEcho, FrameComes, MomentComes, IsRestarted, IsCongested, Effect, then_does, table_limits}
+use Rattle.clnp_machine.specs.System.{SystemState, Input, AsksToSend, AsksForEcho, FrameComes, MomentComes, IsRestarted, IsCongested, IsChanged, Effect, then_does, table_limits}
 use Rattle.clnp_machine.specs.Esis.{esis_comes, forgets, says_hello}
 use Rattle.clnp_machine.specs.Local.{Deed, data_in, discard, echo_ask, hand_up, is_all, is_answer, make, makes, offered, report_unit, reports_from, rests, takes_in, takes_reply, offer, refusal, unit_of, unless_refused, discard_first, gives_up, give_up_due, expire, at_moment, tick}
 use Rattle.clnp_machine.specs.Step.{packet_comes, discard_refused, octets_come, responds, content_comes, step}
@@ -159,6 +159,7 @@ module _ (P : Arrival Packet → Type 0) where
       (keeps_expire (length s.buffers) (at_moment now s) h)
   keeps_step s IsRestarted h comes = tt
   keeps_step s (IsCongested on) h comes = h
+  keeps_step s (IsChanged change) h comes = h
 
   -- what holds of all segments holds of those of each buffer
 

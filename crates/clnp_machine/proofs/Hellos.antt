@@ -26,7 +26,7 @@ use Rattle.clnp_plan.proofs.ClnpBase.Choices.{one_of}
 -- nothing is left but the rest
 
 pub rest-itself : (s : SystemState) → LeavesTheRest s s
-rest-itself s = record { place = refl; configuration = refl; hold = refl; moment = refl; count = refl; identifiers = refl; buffers = refl; pending = refl; congested = refl }
+rest-itself s = record { place = refl; configuration = refl; hold = refl; moment = refl; count = refl; identifiers = refl; buffers = refl; pending = refl; congested = refl; attached = refl }
 
 pub rest-on : (s t u : SystemState) → LeavesTheRest s t → LeavesTheRest t u → LeavesTheRest s u
 rest-on s t u h k = record {
@@ -39,6 +39,7 @@ rest-on s t u h k = record {
   buffers = k.buffers ∙ h.buffers;
   pending = k.pending ∙ h.pending;
   congested = k.congested ∙ h.congested;
+  attached = k.attached ∙ h.attached;
 }
 
 pub only_idles : (s : SystemState) → OnlyHellos s (idles s)
@@ -67,8 +68,8 @@ pub only_says_hello : (s : SystemState) → OnlyHellos s (says_hello s)
 only_says_hello s =
     only_one_of s (not (is_silent s) && nat_le s.next_hello s.moment) _ _
     (only_gives s (record s { next_hello = s.moment + 2 * s.hello }) (hello_everywhere s)
-    (record { place = refl; configuration = refl; hold = refl; moment = refl; count = refl; identifiers = refl; buffers = refl; pending = refl; congested = refl })
-    (AllByRecursion-map_any IsOfHellos (λ port. SendsEsis port (hearers s.configuration.role) (own_hello s)) (range_with_len 0 (length s.configuration.ports))
+    (record { place = refl; configuration = refl; hold = refl; moment = refl; count = refl; identifiers = refl; buffers = refl; pending = refl; congested = refl; attached = refl })
+    (AllByRecursion-map_any IsOfHellos (λ port. SendsEsis port (hearers s.configuration.role) (own_hello s)) (range_with_len 0 (length s.attached.ports))
     (λ port. tt)))
     (only_idles s)
 
@@ -76,7 +77,7 @@ only_says_hello s =
 
 pub only_hears : (s : SystemState) (table : TableKind) (key : List ℕ) (place : Place) (holding : ℕ) → OnlyHellos s (hears s table key place holding)
 only_hears s table key place holding = record {
-  rest = record { place = refl; configuration = refl; hold = refl; moment = refl; count = refl; identifiers = refl; buffers = refl; pending = refl; congested = refl };
+  rest = record { place = refl; configuration = refl; hold = refl; moment = refl; count = refl; identifiers = refl; buffers = refl; pending = refl; congested = refl; attached = refl };
   outputs = (tt, tt);
   units = refl;
 }
@@ -100,7 +101,7 @@ pub rest_follows : (s : SystemState) (timer : Option ℕ) → LeavesTheRest s (f
 rest_follows s None = rest-itself s
 rest_follows s (Some seconds) =
     rest_followed s (record s { hello = seconds; next_hello = min s.next_hello (s.moment + 2 * seconds) }) (seconds == 0 || is_silent s)
-    (record { place = refl; configuration = refl; hold = refl; moment = refl; count = refl; identifiers = refl; buffers = refl; pending = refl; congested = refl })
+    (record { place = refl; configuration = refl; hold = refl; moment = refl; count = refl; identifiers = refl; buffers = refl; pending = refl; congested = refl; attached = refl })
 
 only_end_system : (role : Role) (s : SystemState) (place : Place) (holding : ℕ) (addresses : List (List ℕ))
     → OnlyHellos s (end_system_heard role s place holding addresses)

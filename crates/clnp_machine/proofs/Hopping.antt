@@ -1,24 +1,25 @@
 -- A packet that is sent wasn't forwarded yet, or goes on from the one that came.
-use Rattle.std.proofs.Common.{◌≡◌, refl, ℕ, inl, inr, Bool, List, [], ◌∷◌, Option, None, Some}
+use Rattle.std.proofs.Common.{◌≡◌, refl, ℕ, ◌+◌, inl, inr, Bool, List, [], ◌∷◌, Option, None, Some, arith}
 use Rattle.std.specs.Prelude.{slice_get}
 use Rattle.std.specs.List.{AllByRecursion, flat_map}
-use Rattle.clnp_plan.proofs.ClnpBase.Lists.{AllByRecursion-append, AllByRecursion-implies, AllByRecursion-mapped}
+use Rattle.clnp_plan.proofs.ClnpBase.Lists.{AllByRecursion-append, AllByRecursion-contains, AllByRecursion-implies, AllByRecursion-mapped}
 use Rattle.clnp_plan.specs.PduHeader.declared.kind.Kind.TheVariants.{Dt}
 use Rattle.clnp_plan.specs.EsisTables.declared.fact.Place.{Place}
 use Rattle.clnp_plan.specs.declared.config.PortConfig.{PortConfig}
 use Rattle.clnp_machine.specs.Unit as unit
 use Rattle.clnp_machine.specs.Unit.{Packet, cut, whole_packet}
 use Rattle.clnp_machine.specs.Content.{Labelled, Esis, Unlabelled}
-use Rattle.clnp_machine.specs.System.{SystemState, Input, AsksToSend, AsksForEcho, FrameComes, MomentComes, IsRestarted, IsCongested, Output, Transmits, SendsEsis, Notes, Effect, then_does}
+use Rattle.clnp_machine.specs.System.{SystemState, Input, AsksToSend, AsksForEcho, FrameComes, MomentComes, IsRestarted, IsCongested, IsChanged, Output, Transmits, SendsEsis, Notes, Effect, then_does}
 use Rattle.clnp_machine.specs.EditLaws.{EditLaws}
 use Rattle.clnp_machine.specs.Esis.{esis_comes, forgets, says_hello}
 use Rattle.clnp_machine.specs.Local.{Action, Deed, Sends, Tells, discard, make, receive, requests_echo, tick}
 use Rattle.clnp_machine.specs.Step.{Hop, effect_of, first_sent, octets_come, options_behind, outputs_of, packet_comes, responds, sent_on, step, transmissions, unit_hop}
-use Rattle.clnp_machine.specs.Steps.{IsOfHellos, OnlyHellos, SendsOn}
-use Rattle.clnp_machine.specs.Ways.{IsFirstOrGoesOn}
+use Rattle.clnp_machine.specs.Steps.{GoesOnOf, IsFresh, IsOfHellos, OnlyHellos, SendsOn, SendsRangesOrGoesOn, moment_after}
+use Rattle.clnp_machine.specs.Ways.{IsFirstOrGoesOn, IsOwnWhereFirst}
+use Rattle.clnp_machine.proofs.Deeds.{step_fresh}
 use Rattle.clnp_machine.proofs.Hellos.{only_comes, only_forgets, only_responds, only_says_hello, only_then}
 use Rattle.clnp_machine.proofs.Passing.{going, packet_does}
-use Rattle.clnp_machine.proofs.Sent.{IsPartOf, cut_is_parts, onward}
+use Rattle.clnp_machine.proofs.Sent.{IsPartOf, cut_is_parts, onward, step_sends}
 
 -- Units that are made are sent in packets without hops.
 
@@ -40,7 +41,7 @@ sent_first hop (Some port) u =
 
 first_first : (s : SystemState) (u : unit.Unit) (hop : Option Hop) → AllByRecursion SendsFirst (first_sent s u hop)
 first_first s u None = (tt, tt)
-first_first s u (Some hop) = sent_first hop (slice_get s.configuration.ports hop.port) u
+first_first s u (Some hop) = sent_first hop (slice_get s.attached.ports hop.port) u
 
 deeds_first : (s : SystemState) (actions : List Action) → AllByRecursion SendsFirst (flat_map (outputs_of s) actions)
 deeds_first s [] = tt
@@ -112,3 +113,31 @@ step_such laws s (MomentComes now) =
     (only_then ticked (forgets s.moment ticked) says_hello (only_forgets s.moment ticked) (only_says_hello ticked))
 step_such laws s IsRestarted = (tt, tt)
 step_such laws s (IsCongested on) = (tt, tt)
+step_such laws s (IsChanged change) = tt
+
+-- What goes on has hops, so what has none is of a unit that was made.
+
+on_hops : (s : SystemState) (port : ℕ) (input : Input) (p : Packet) → GoesOnOf s port input p → p.hops ≡ 0 → ⊥
+on_hops s port (FrameComes at sender to_group (Labelled came following)) p on none =
+    let hops : p.hops ≡ came.hops + 1 = on.hops in
+    omega arith
+on_hops s port (FrameComes at sender to_group (Esis value following)) p on none = on
+on_hops s port (FrameComes at sender to_group (Unlabelled octets)) p on none = on
+on_hops s port (AsksToSend from to octets ask) p on none = on
+on_hops s port (AsksForEcho from to octets) p on none = on
+on_hops s port (MomentComes now) p on none = on
+on_hops s port IsRestarted p on none = on
+on_hops s port (IsCongested congested) p on none = on
+on_hops s port (IsChanged change) p on none = on
+
+own_first : (s : SystemState) (input : Input) (output : Output) → SendsRangesOrGoesOn s input (step s input).units output → IsOwnWhereFirst s output
+own_first s input (Transmits port target packet) (inl range) = λ first.
+    (AllByRecursion-contains (IsFresh s (moment_after s input)) (step s input).units packet.unit range.unit (step_fresh s input)).maker
+own_first s input (Transmits port target packet) (inr on) = λ first. absurd (on_hops s port input packet on first)
+own_first s input (SendsEsis port target value) h = tt
+own_first s input (Notes note) h = tt
+
+pub step_own_first : EditLaws → (s : SystemState) (input : Input) → AllByRecursion (IsOwnWhereFirst s) (step s input).outputs
+step_own_first laws s input =
+    AllByRecursion-implies (SendsRangesOrGoesOn s input (step s input).units) (IsOwnWhereFirst s) (own_first s input) (step s input).outputs
+    (step_sends laws s input)

@@ -52,14 +52,14 @@ module _ (s : SystemState) (to : List ℕ) where
   pub by_neighbour : (place : Place) → s.configuration.role ≡ Router → end_system ≡ Some place → next_hop s to ≡ Some (hop_to place)
   by_neighbour place is e =
       router_by (Some (to_neighbour place)) is
-      (option_or-some (option_map to_neighbour end_system) (option_map by_route (longest to s.configuration.routes)) (to_neighbour place)
+      (option_or-some (option_map to_neighbour end_system) (option_map by_route (longest to s.attached.routes)) (to_neighbour place)
       (ap (option_map to_neighbour) e))
 
-  pub by_longest : (found : Option Route) → s.configuration.role ≡ Router → end_system ≡ None → longest to s.configuration.routes ≡ found
+  pub by_longest : (found : Option Route) → s.configuration.role ≡ Router → end_system ≡ None → longest to s.attached.routes ≡ found
       → next_hop s to ≡ option_map hop_by (option_map by_route found)
   by_longest found is none e =
       router_by (option_map by_route found) is
-      (option_or-none (option_map to_neighbour end_system) (option_map by_route (longest to s.configuration.routes)) (option_map by_route found)
+      (option_or-none (option_map to_neighbour end_system) (option_map by_route (longest to s.attached.routes)) (option_map by_route found)
       (ap (option_map to_neighbour) none) (ap (option_map by_route) e))
 
 -- All of a unit.

@@ -50,7 +50,7 @@ module _ (law : OnRedirects) (s : SystemState) (place : Place) (holding : ℕ) (
         hop = by_role (hears s Rd destination better holding).after role
             (law.others (esis_limits s) fact s.facts s.moment address refl (λ same. other (sym same)));
         way = ap (λ (found : Option Fact).
-            option_or (option_map to_neighbour (option_map heard.place_of found)) (option_map by_route (longest address s.configuration.routes)))
+            option_or (option_map to_neighbour (option_map heard.place_of found)) (option_map by_route (longest address s.attached.routes)))
             (law.systems (esis_limits s) fact s.facts s.moment address refl);
       }
       go false = record { hop = refl; way = refl }

@@ -20,17 +20,17 @@ use Rattle.clnp_plan.specs.EsisTables.declared.fact.Place.{Place}
 use Rattle.clnp_plan.specs.declared.ask.Ask.{Ask}
 use Rattle.clnp_plan.specs.declared.config.PortConfig.{PortConfig}
 use Rattle.clnp_plan.specs.declared.note.Note.{Note}
-use Rattle.clnp_plan.specs.declared.note.Note.TheVariants.{BadEsis, Discard, Echoed, Expired, Gone, Got, Hear, Ignored, Refused, Report, Restart, Sent, Stray}
+use Rattle.clnp_plan.specs.declared.note.Note.TheVariants.{BadEsis, Discard, Echoed, Expired, Gone, Got, Hear, Ignored, Port, Refused, Report, Restart, Route, Sent, Stray, Unroute}
 use Rattle.clnp_plan.specs.declared.note.Why.TheVariants as why
 use Rattle.clnp_machine.specs.Identifiers.{NotDrawn, IsQuiet, IsBusy, not_drawn}
 use Rattle.clnp_machine.specs.Unit as unit
 use Rattle.clnp_machine.specs.Unit.{Packet, value_of, whole_packet, cut}
 use Rattle.clnp_machine.specs.Content.{Content, Labelled, Esis, Unlabelled, frame_of}
-use Rattle.clnp_machine.specs.System.{SystemState, Input, AsksToSend, AsksForEcho, FrameComes, MomentComes, IsRestarted, IsCongested, Output, Transmits, SendsEsis, Notes, Effect, then_does, table_limits}
+use Rattle.clnp_machine.specs.System.{SystemState, Input, AsksToSend, AsksForEcho, FrameComes, MomentComes, IsRestarted, IsCongested, IsChanged, Output, Transmits, SendsEsis, Notes, Effect, then_does, table_limits}
 use Rattle.clnp_machine.specs.Local.{Action, Sends, Tells, Deed, at_moment, data_in, discard, discard_first, echo_ask, expire, give_up_due, gives_up, hand_up, header_size, identifier_refusal, is_all, is_answer, is_own, make, makes, most_octets, not_drawn_note, offer, offered, receive, refusal, report_unit, reports_from, requests_echo, rests, sent_note, takes_in, takes_reply, tick, unit_of, unless_refused}
 use Rattle.clnp_machine.specs.Esis.{esis_comes, forgets, says_hello}
 use Rattle.clnp_machine.specs.Step.{Hop, unit_hop, transmissions, sent_on, first_sent, outputs_of, effect_of, packet_comes, discard_refused, unheard_note, octets_come, responds, content_comes, step, hop_by, options_behind, redirects}
-use Rattle.clnp_machine.specs.Steps.{IsForOwn, IsNoRestart, IsOfHellos, NotesOnly, OnlyHellos, RestartsNothing}
+use Rattle.clnp_machine.specs.Steps.{IsForOwn, IsNoChange, IsNoRestart, IsOfHellos, NotesOnly, OnlyHellos, RestartsNothing}
 use Rattle.clnp_machine.specs.Told.{IsOfNoRule, IsRefusal, IsToldBy, NoteIsQuiet, NotesNoRule, SpellsPdus, TellsOnly}
 use Rattle.clnp_machine.proofs.Hellos.{only_comes, only_forgets, only_responds, only_says_hello, only_then}
 use Rattle.clnp_machine.proofs.Kept.{all_contained}
@@ -81,7 +81,7 @@ sent_ends hop (Some port) u = transmissions_end hop (cut (whole_packet u) port.m
 
 first_sent_ends : (s : SystemState) (u : unit.Unit) (hop : Option Hop) → AllByRecursion (NotesOnly IsOfEnd) (first_sent s u hop)
 first_sent_ends s u None = (unknown, tt)
-first_sent_ends s u (Some hop) = sent_ends hop (slice_get s.configuration.ports hop.port) u
+first_sent_ends s u (Some hop) = sent_ends hop (slice_get s.attached.ports hop.port) u
 
 pub output_notes : (P Q : Note → Type 0) → ((note : Note) → P note → Q note) → (output : Output) → NotesOnly P output → NotesOnly Q output
 output_notes P Q f (Transmits port target packet) h = tt
@@ -181,7 +181,7 @@ Restarts IsRestarted = Unit {0}
 Restarts _ = ⊥
 
 -- What a note says is handed up for an address of the system; a discard is for no rule, and no ES-IS rule is broken, but where
--- octets come that spell no PDU; and the system was restarted only where it is.
+-- octets come that spell no PDU; the system was restarted only where it is; and no note is of a change.
 abbrev pub IsNoted : SystemState → Input → Note → Type 0
 IsNoted s input (Got from to octets) = is_own s to ≡ true
 IsNoted s input (Report from to reason place octets) = is_own s to ≡ true
@@ -190,6 +190,9 @@ IsNoted s input (Stray from to) = is_own s to ≡ true
 IsNoted s input (Discard reason place) = IsOfNoRule reason ⊎ IsUnspelled input
 IsNoted s input (BadEsis rule place) = IsUnspelled input
 IsNoted s input Restart = Restarts input
+IsNoted s input (Route prefix) = ⊥
+IsNoted s input (Unroute prefix there) = ⊥
+IsNoted s input (Port port subnet snpa) = ⊥
 IsNoted s input _ = Unit {0}
 
 module _ (s : SystemState) (input : Input) where
@@ -329,6 +332,7 @@ step_notes s (MomentComes now) =
     (only_then ticked (forgets s.moment ticked) says_hello (only_forgets s.moment ticked) (only_says_hello ticked))
 step_notes s IsRestarted = (tt, tt)
 step_notes s (IsCongested on) = (tt, tt)
+step_notes s (IsChanged change) = tt
 
 -- What that says.
 
@@ -353,6 +357,7 @@ all_spelled (AsksForEcho from to octets) h un = un
 all_spelled (MomentComes now) h un = un
 all_spelled IsRestarted h un = un
 all_spelled (IsCongested on) h un = un
+all_spelled (IsChanged change) h un = un
 
 noted_ruleless : (s : SystemState) (input : Input) → SpellsPdus input → (note : Note) → IsNoted s input note → NotesNoRule note
 noted_ruleless s input spells (Discard reason place) (inl of_none) = of_none
@@ -372,6 +377,7 @@ not_restarted (AsksForEcho from to octets) h is = is
 not_restarted (FrameComes port sender to_group content) h is = is
 not_restarted (MomentComes now) h is = is
 not_restarted (IsCongested on) h is = is
+not_restarted (IsChanged change) h is = is
 
 noted_restart : (s : SystemState) (input : Input) → RestartsNothing input → (note : Note) → IsNoted s input note → IsNoRestart note
 noted_restart s input none Restart h = not_restarted input none h
@@ -380,4 +386,15 @@ noted_restart s input none _ h = tt
 pub step_restarts_not : (s : SystemState) (input : Input) → RestartsNothing input → AllByRecursion (NotesOnly IsNoRestart) (step s input).outputs
 step_restarts_not s input none =
     AllByRecursion-implies (NotesOnly (IsNoted s input)) (NotesOnly IsNoRestart) (output_notes (IsNoted s input) IsNoRestart (noted_restart s input none))
+    (step s input).outputs (step_notes s input)
+
+noted_no_change : (s : SystemState) (input : Input) (note : Note) → IsNoted s input note → IsNoChange note
+noted_no_change s input (Route prefix) h = h
+noted_no_change s input (Unroute prefix there) h = h
+noted_no_change s input (Port port subnet snpa) h = h
+noted_no_change s input _ h = tt
+
+pub step_changes_not : (s : SystemState) (input : Input) → AllByRecursion (NotesOnly IsNoChange) (step s input).outputs
+step_changes_not s input =
+    AllByRecursion-implies (NotesOnly (IsNoted s input)) (NotesOnly IsNoChange) (output_notes (IsNoted s input) IsNoChange (noted_no_change s input))
     (step s input).outputs (step_notes s input)

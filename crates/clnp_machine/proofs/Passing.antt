@@ -40,7 +40,7 @@ pub record IsItsWay (s : SystemState) (p : Packet) (way : Way) : Type 0 where
 abbrev pub Onward : (Effect → Type 0) → SystemState → Place → Packet → Type 0
 Onward P s came p =
     let options = options_behind s p.options in
-    (way : Way) (port : PortConfig) (pieces : List Packet) → slice_get s.configuration.ports way.place.port ≡ Some port → loss_at port < p.lifetime
+    (way : Way) (port : PortConfig) (pieces : List Packet) → slice_get s.attached.ports way.place.port ≡ Some port → loss_at port < p.lifetime
     → cut (forwarded p (loss_at port) options) port.mtu ≡ Some pieces → IsItsWay s p way
     → P (gives s (going s came p options way pieces))
 
@@ -72,13 +72,13 @@ module _ (P : Effect → Type 0) where
       abbrev options : List Parameter
       options = options_behind s p.options
 
-      pieces_do : (way : Way) (port : PortConfig) (found : Option (List Packet)) → slice_get s.configuration.ports way.place.port ≡ Some port
+      pieces_do : (way : Way) (port : PortConfig) (found : Option (List Packet)) → slice_get s.attached.ports way.place.port ≡ Some port
           → loss_at port < p.lifetime → cut (forwarded p (loss_at port) options) port.mtu ≡ found → IsItsWay s p way
           → P (pieces_go_on s came p following options way found)
       pieces_do way port None there alive e known = dropped _ segmentation
       pieces_do way port (Some pieces) there alive e known = onward way port pieces there alive e known
 
-      by_port_does : (way : Way) (found : Option PortConfig) → slice_get s.configuration.ports way.place.port ≡ found → IsItsWay s p way
+      by_port_does : (way : Way) (found : Option PortConfig) → slice_get s.attached.ports way.place.port ≡ found → IsItsWay s p way
           → P (goes_on_by s came p following options way found)
       by_port_does way None e known = dropped _ unknown
       by_port_does way (Some port) e known =
@@ -95,9 +95,9 @@ module _ (P : Effect → Type 0) where
       on_its_way_does on_route None known = no_way_does (target_of options)
       on_its_way_does on_route (Some way) known =
           one_does (is_complete options && not (ends_at (towards p.unit.destination (target_of options)) way.title)) _
-          (goes_on_by s came p following options way (slice_get s.configuration.ports way.place.port)) (λ off. dropped _ path)
+          (goes_on_by s came p following options way (slice_get s.attached.ports way.place.port)) (λ off. dropped _ path)
           (λ on.
-          by_port_does way (slice_get s.configuration.ports way.place.port) refl (record { known = known; on_route = on_route; ends = on }))
+          by_port_does way (slice_get s.attached.ports way.place.port) refl (record { known = known; on_route = on_route; ends = on }))
 
       -- a packet that a router is to send on
       pub goes_on_does : P (goes_on s came p following)

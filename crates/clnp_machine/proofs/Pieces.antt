@@ -76,6 +76,7 @@ pub record IsThis (p : Packet) (piece : Piece) (packet : Packet) : Type 0 where
   pub body : piece.value.body ≡ take piece.range.len (drop piece.range.from (value_of p).body)
   pub carriable : IsCarriable packet
   pub unit_is : packet.unit ≡ p.unit
+  pub hops_is : packet.hops ≡ p.hops
 
 abbrev pub AreThese : Packet → List Piece → List Packet → Type 0
 AreThese p [] [] = Unit {0}
@@ -97,6 +98,7 @@ whole_is p h =
       body = sym (take_all (length (value_of p).body) (value_of p).body (omega arith));
       carriable = h;
       unit_is = refl;
+      hops_is = refl;
     }
 
 piece_is : (p : Packet) (identifier : ℕ) (range : Range) → p.unit.identifier ≡ Some identifier → IsCarriable p
@@ -118,6 +120,7 @@ piece_is p identifier range has h within =
         to = omega arith;
       };
       unit_is = refl;
+      hops_is = refl;
     }
 
 pieces_are : (p : Packet) (identifier : ℕ) (parts : List Range) → p.unit.identifier ≡ Some identifier → IsCarriable p

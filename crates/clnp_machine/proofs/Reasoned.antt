@@ -68,10 +68,10 @@ module _ (s : SystemState) (came : Place) (p : Packet) (following : List ℕ) wh
           let elsewhere : ends_at (aim_of s p) way.title ≡ false =
           ap (ends_at (aim_of s p)) titled ∙ false_from_ne_true (bytes_eq title (aim_of s p)) (λ e. other (same_from title (aim_of s p) e)) in
           by_way (Some way) known
-          ∙ cond-true (is_complete options && not (ends_at (aim_of s p) way.title)) (dropped 0x93) (on_port (slice_get s.configuration.ports way.place.port))
+          ∙ cond-true (is_complete options && not (ends_at (aim_of s p) way.title)) (dropped 0x93) (on_port (slice_get s.attached.ports way.place.port))
           (and_from (is_complete options) (not (ends_at (aim_of s p) way.title)) complete (not_from_false (ends_at (aim_of s p) way.title) elsewhere))
 
-      module _ (allowed : IsAllowedWay s p way) (port : PortConfig) (there : slice_get s.configuration.ports way.place.port ≡ Some port) where
+      module _ (allowed : IsAllowedWay s p way) (port : PortConfig) (there : slice_get s.attached.ports way.place.port ≡ Some port) where
         ends : (title : Option (List ℕ)) → ((named : List ℕ) → title ≡ Some named → named ≡ aim_of s p) → ends_at (aim_of s p) title ≡ true
         ends None h = refl
         ends (Some title) h = same_from_equal title (aim_of s p) (h title refl)
@@ -79,7 +79,7 @@ module _ (s : SystemState) (came : Place) (p : Packet) (following : List ℕ) wh
         goes_by : passes_by Router s came p following ≡ on_port (Some port)
         goes_by =
             by_way (Some way) known
-            ∙ cond-false (is_complete options && not (ends_at (aim_of s p) way.title)) (dropped 0x93) (on_port (slice_get s.configuration.ports way.place.port))
+            ∙ cond-false (is_complete options && not (ends_at (aim_of s p) way.title)) (dropped 0x93) (on_port (slice_get s.attached.ports way.place.port))
             (not_off (is_complete options) (ends_at (aim_of s p) way.title) (λ complete. ends way.title (allowed complete)))
             ∙ ap on_port there
 

@@ -20,7 +20,7 @@ use Rattle.reassembly.specs.Arrival.{Arrival}
 use Rattle.clnp_machine.specs.Unit as unit
 use Rattle.clnp_machine.specs.Unit.{IsCarriable, Packet, more_follows, segmentation_of, value_of, whole_packet, wire}
 use Rattle.clnp_machine.specs.Content.{Labelled, Esis, Unlabelled}
-use Rattle.clnp_machine.specs.System.{SystemState, Input, AsksToSend, AsksForEcho, FrameComes, MomentComes, IsRestarted, IsCongested}
+use Rattle.clnp_machine.specs.System.{SystemState, Input, AsksToSend, AsksForEcho, FrameComes, MomentComes, IsRestarted, IsCongested, IsChanged}
 use Rattle.clnp_machine.specs.Local.{IsAsOffered, echo_ask, header_size}
 use Rattle.clnp_machine.specs.Step.{step}
 use Rattle.clnp_machine.specs.Steps.{IsFair, IsReportOf, KeepsAsOffered, ReportsOn, segments_in}
@@ -96,6 +96,7 @@ all_of_packets s (MomentComes now) fair spells keeps = λ p there t at own first
     )
 all_of_packets s IsRestarted fair spells keeps = tt
 all_of_packets s (IsCongested on) fair spells keeps = tt
+all_of_packets s (IsChanged change) fair spells keeps = tt
 
 pub step_reports : (s : SystemState) (input : Input) → IsFair input → SpellsPdus input → KeepsAsOffered s
     → AllByRecursion (ReportsOn s input) (step s input).units

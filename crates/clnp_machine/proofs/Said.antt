@@ -24,13 +24,13 @@ use Rattle.clnp_plan.specs.EsisTables.Gone.{gone}
 use Rattle.clnp_plan.specs.EsisTables.NextHop.{current_place, is_router, place_of}
 use Rattle.clnp_plan.specs.Nsap.declared.target.Target.TheVariants.{System}
 use Rattle.clnp_plan.specs.PduHeader.declared.kind.Kind.TheVariants.{Dt, Erq}
-use Rattle.clnp_plan.specs.Configuration.{HasItsAddresses, IsAddressed, IsAddressedRoute, IsSystem, SystemConfiguration}
+use Rattle.clnp_plan.specs.Configuration.{HasItsAddresses, IsAddressedRoute, IsSystem, SystemConfiguration}
 use Rattle.clnp_plan.specs.declared.note.Note.TheVariants.{Ignored}
 use Rattle.clnp_plan.specs.declared.config.Role.{Role}
 use Rattle.clnp_plan.specs.declared.config.Role.TheVariants.{Host, Router}
 use Rattle.clnp_machine.specs.Unit.{Packet}
 use Rattle.clnp_machine.specs.Content.{Content, Esis, IsCarried, Labelled, Unlabelled}
-use Rattle.clnp_machine.specs.System.{SystemState, Input, AsksToSend, AsksForEcho, FrameComes, MomentComes, IsRestarted, IsCongested, Output, Transmits, SendsEsis, Notes, Effect, gives, idles, then_does}
+use Rattle.clnp_machine.specs.System.{SystemState, Input, AsksToSend, AsksForEcho, FrameComes, MomentComes, IsRestarted, IsCongested, IsChanged, Output, Transmits, SendsEsis, Notes, Effect, gives, idles, then_does}
 use Rattle.clnp_machine.specs.Esis.{answers_new, end_system_heard, esis_heard, esis_limits, first_of, follows, forgets, gone_note, heard_now, hearers, hears, hears_each, hello_everywhere, holding_time, intermediate_system_heard, is_silent, own_hello, redirect, redirect_heard, says_hello, tells_new, tells_of_itself, wish}
 use Rattle.clnp_machine.specs.Local.{Action, discard, echo_ask, make, receive, requests_echo, tick}
 use Rattle.clnp_machine.specs.Step.{Way, by_route, content_comes, hop_by, is_asked_for, octets_come, options_behind, outputs_of, packet_comes, redirects, responds, step, to_neighbour, towards, transmissions, way_of}
@@ -99,7 +99,7 @@ module _ (Q : EsisValue → Type 0) (s : SystemState) (own : (seconds : ℕ) →
   says_its t same =
       one_its (not (is_silent t) && nat_le t.next_hello t.moment) _ (idles t)
       (AllByRecursion-map_any (SendsSuch Q) (λ port. SendsEsis port (hearers t.configuration.role) (own_hello t))
-      (range_with_len 0 (length t.configuration.ports)) (λ port. its_hello t same))
+      (range_with_len 0 (length t.attached.ports)) (λ port. its_hello t same))
       tt
 
   answers_its : (heard : Effect) (place : Place) → heard.after.configuration ≡ s.configuration → SendsIts heard.outputs → SendsIts (answers_new heard place).outputs
@@ -163,6 +163,7 @@ module _ (Q : EsisValue → Type 0) (s : SystemState) (own : (seconds : ℕ) →
       (says_its u (tick_is s now).itself.configuration))
   step_its IsRestarted such = (tt, tt)
   step_its (IsCongested on) such = (tt, tt)
+  step_its (IsChanged change) such = tt
 
 -- Its own hello is one that a PDU can carry.
 
@@ -206,6 +207,7 @@ comes_its s (FrameComes port sender to_group content) = redirects_its s content
 comes_its s (MomentComes now) = tt
 comes_its s IsRestarted = tt
 comes_its s (IsCongested on) = tt
+comes_its s (IsChanged change) = tt
 
 sends_own : (s : SystemState) (output : Output) → SendsSuch (IsItsOwn s) output → SendsItsOwn s output
 sends_own s (Transmits port target packet) h = tt
@@ -244,20 +246,20 @@ current_is P now (Some fact) each place e = go (is_held now fact) e
     go true h = (fact, each fact refl, cc)
     go false h = absurd (cc)
 
-module _ (s : SystemState) (is : IsAddressed s.configuration) (knows : KnowsAddresses s) (law : LongestIsThere) where
+module _ (s : SystemState) (next : AllByRecursion IsAddressedRoute s.attached.routes) (knows : KnowsAddresses s) (law : LongestIsThere) where
   neighbour_addressed : (to : List ℕ) (place : Place) → current_place s.moment Es to s.facts ≡ Some place → IsAddress place.snpa
   neighbour_addressed to place e =
       let found = current_is (λ (fact : Fact). IsAddress fact.place.snpa) s.moment (last_of Es to s.facts)
       (λ fact there. last_is (λ (fact : Fact). IsAddress fact.place.snpa) Es to s.facts knows fact there) place e in
       subst (λ (p : Place). IsAddress p.snpa) found.2 found.1
 
-  route_addressed : (to : List ℕ) (route : Route) → longest to s.configuration.routes ≡ Some route → IsAddressedRoute route
-  route_addressed to route e = AllByRecursion-contains IsAddressedRoute s.configuration.routes route (law to s.configuration.routes route e).within is.routes
+  route_addressed : (to : List ℕ) (route : Route) → longest to s.attached.routes ≡ Some route → IsAddressedRoute route
+  route_addressed to route e = AllByRecursion-contains IsAddressedRoute s.attached.routes route (law to s.attached.routes route e).within next
 
   pub way_addressed : (to : List ℕ) (way : Way) → way_of s to ≡ Some way → IsAddress way.place.snpa × IsTitleOrNone way.title
-  way_addressed to way e = go (current_place s.moment Es to s.facts) refl (longest to s.configuration.routes) refl e
+  way_addressed to way e = go (current_place s.moment Es to s.facts) refl (longest to s.attached.routes) refl e
     where
-      go : (near : Option Place) → current_place s.moment Es to s.facts ≡ near → (far : Option Route) → longest to s.configuration.routes ≡ far
+      go : (near : Option Place) → current_place s.moment Es to s.facts ≡ near → (far : Option Route) → longest to s.attached.routes ≡ far
           → option_or (option_map to_neighbour near) (option_map by_route far) ≡ Some way → IsAddress way.place.snpa × IsTitleOrNone way.title
       go (Some place) there far found h =
           let same : to_neighbour place ≡ way = cc in
@@ -268,7 +270,7 @@ module _ (s : SystemState) (is : IsAddressed s.configuration) (knows : KnowsAddr
           subst (λ (w : Way). IsAddress w.place.snpa × IsTitleOrNone w.title) same (both.snpa, both.title)
       go None there None found h = absurd (cc)
 
-  module _ (system : IsSystem s.configuration) where
+  module _ (system : IsSystem s.configuration) (each : All IsAddress s.configuration.addresses) where
     redirect_is_pdu : (to : List ℕ) (way : Way) → IsAddress to → way_of s to ≡ Some way → IsPdu (redirect s to way.place.snpa way.title)
     redirect_is_pdu to way address known =
         let both = way_addressed to way known in
@@ -287,6 +289,7 @@ module _ (s : SystemState) (is : IsAddressed s.configuration) (knows : KnowsAddr
     comes_pdus (MomentComes now) fair = tt
     comes_pdus IsRestarted fair = tt
     comes_pdus (IsCongested on) fair = tt
+    comes_pdus (IsChanged change) fair = tt
 
     such_pdus : (output : Output) → SendsSuch IsPdu output → SendsEsisPdus output
     such_pdus (Transmits port target packet) h = tt
@@ -296,7 +299,7 @@ module _ (s : SystemState) (is : IsAddressed s.configuration) (knows : KnowsAddr
     pub step_pdus : (input : Input) → IsFair input → AllByRecursion SendsEsisPdus (step s input).outputs
     step_pdus input fair =
         AllByRecursion-implies (SendsSuch IsPdu) SendsEsisPdus such_pdus (step s input).outputs
-        (step_its IsPdu s (λ seconds. hello_pdu (record s { hello = seconds }) system is.own) input (comes_pdus input fair))
+        (step_its IsPdu s (λ seconds. hello_pdu (record s { hello = seconds }) system each) input (comes_pdus input fair))
 
 -- What a system heard of stays at addresses.
 
@@ -393,3 +396,4 @@ step_known s (MomentComes now) fair knows =
     says_known (forgets s.moment t).after (subst AtAddresses (sym (tick_is s now).heard.facts) knows)
 step_known s IsRestarted fair knows = tt
 step_known s (IsCongested on) fair knows = knows
+step_known s (IsChanged change) fair knows = knows

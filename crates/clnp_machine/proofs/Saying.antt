@@ -11,6 +11,7 @@ use Rattle.clnp_plan.specs.EsisTables.declared.fact.Place.{Place}
 use Rattle.clnp_plan.specs.Configuration.{SystemConfiguration}
 use Rattle.clnp_plan.specs.declared.config.Role.{Role}
 use Rattle.clnp_plan.specs.declared.config.Role.TheVariants.{Host, Router}
+use Rattle.clnp_machine.specs.Attachment.{Attachment}
 use Rattle.clnp_machine.specs.System.{SystemState, MomentComes, Output, SendsEsis, Effect, gives, idles, then_does}
 use Rattle.clnp_machine.specs.Due.{IsAskedByGroup, IsHelloDue}
 use Rattle.clnp_machine.specs.Unit.{Packet}
@@ -27,9 +28,9 @@ all_left : (passes : Output → Bool) (outputs : List Output) → AllByRecursion
 all_left passes [] all = refl
 all_left passes (output ∷ outputs) all = rw all.0 (ap (λ (more : List Output). output ∷ more) (all_left passes outputs all.1))
 
--- a hello on each port of a configuration
-abbrev everywhere : SystemConfiguration → EsisValue → List Output
-everywhere c value = map (λ port. SendsEsis port (hearers c.role) value) (range_with_len 0 (length c.ports))
+-- a hello on each port
+abbrev everywhere : Role → Attachment → EsisValue → List Output
+everywhere role a value = map (λ port. SendsEsis port (hearers role) value) (range_with_len 0 (length a.ports))
 
 -- whether a hello is due
 abbrev is_due : SystemState → Bool
@@ -91,8 +92,9 @@ module _ (s : SystemState) (now : ℕ) where
   same_everywhere : hello_everywhere ticked ≡ hello_everywhere s
   same_everywhere =
       let same : ticked.configuration ≡ s.configuration = (tick_is s now).itself.configuration in
-      ap (λ (c : SystemConfiguration). everywhere c (own_hello ticked)) same
-      ∙ ap (λ (value : EsisValue). everywhere s.configuration value) (same_hello s ticked same often)
+      ap (λ (c : SystemConfiguration). everywhere c.role ticked.attached (own_hello ticked)) same
+      ∙ ap (λ (a : Attachment). everywhere s.configuration.role a (own_hello ticked)) (tick_is s now).heard.attached
+      ∙ ap (λ (value : EsisValue). everywhere s.configuration.role s.attached value) (same_hello s ticked same often)
 
   pub hello_said : IsHelloDue s now → filter sends_esis (step s (MomentComes now)).outputs ≡ hello_everywhere s
   hello_said is =
@@ -100,7 +102,7 @@ module _ (s : SystemState) (now : ℕ) where
       ∙ ap (λ (effect : Effect). filter sends_esis effect.outputs) (says_it is)
       ∙ all_left sends_esis (hello_everywhere ticked)
       (AllByRecursion-map_any (λ output. sends_esis output ≡ true) (λ port. SendsEsis port (hearers ticked.configuration.role) (own_hello ticked))
-      (range_with_len 0 (length ticked.configuration.ports)) (λ port. refl))
+      (range_with_len 0 (length ticked.attached.ports)) (λ port. refl))
       ∙ same_everywhere
 
   pub next_later : IsHelloDue s now → (step s (MomentComes now)).after.next_hello ≡ now + 2 * s.hello

@@ -29,10 +29,11 @@ use Rattle.clnp_plan.specs.Configuration.{HasItsAddresses, IsPort, IsSystem, Sys
 use Rattle.clnp_plan.specs.declared.config.Role.{Role}
 use Rattle.clnp_plan.specs.declared.ask.Ask.{Ask}
 use Rattle.clnp_plan.specs.declared.config.PortConfig.{PortConfig}
+use Rattle.clnp_machine.specs.Attachment.{Attachment}
 use Rattle.clnp_machine.specs.Unit as unit
 use Rattle.clnp_machine.specs.Unit.{Packet, IsCarriable, cut, more_follows, segmentation_of, value_of, value_with, whole_packet, wire}
 use Rattle.clnp_machine.specs.Content.{Content, Esis, IsCarried, Labelled, Unlabelled}
-use Rattle.clnp_machine.specs.System.{SystemState, Input, AsksToSend, AsksForEcho, FrameComes, MomentComes, IsRestarted, IsCongested, Output, Transmits, SendsEsis, Notes, Effect, then_does}
+use Rattle.clnp_machine.specs.System.{SystemState, Input, AsksToSend, AsksForEcho, FrameComes, MomentComes, IsRestarted, IsCongested, IsChanged, Output, Transmits, SendsEsis, Notes, Effect, then_does}
 use Rattle.clnp_machine.specs.Esis.{esis_comes, forgets, says_hello, title_of}
 use Rattle.clnp_machine.specs.Local.{Action, Deed, IsAsOffered, Sends, Tells, at_moment, discard, echo_ask, header_size, identifier_for, made_in, make, most_octets, receive, refusal, report_unit, tick, unit_of}
 use Rattle.clnp_machine.specs.Step.{Hop, content_comes, effect_of, first_sent, forwarded, loss_at, moment_comes, octets_come, outputs_of, packet_comes, responds, sent_on, step, transmissions, unit_hop, hop_by, options_behind, redirects}
@@ -124,11 +125,11 @@ module _ (u : unit.Unit) (h : IsSendable u) where
   sent_on_is_carriable hop None wide = (tt, tt)
   sent_on_is_carriable hop (Some port) wide = pieces_sent hop (cut whole port.mtu) (cut_carriable whole port.mtu whole_carriable (wide port refl))
 
-  first_is_carriable : (s : SystemState) (hop : Option Hop) → AllByRecursion IsPort s.configuration.ports → AllByRecursion SendsCarriable (first_sent s u hop)
+  first_is_carriable : (s : SystemState) (hop : Option Hop) → AllByRecursion IsPort s.attached.ports → AllByRecursion SendsCarriable (first_sent s u hop)
   first_is_carriable s None each = (tt, tt)
   first_is_carriable s (Some hop) each =
-      sent_on_is_carriable hop (slice_get s.configuration.ports hop.port)
-      (λ port there. (AllByRecursion-slice_get IsPort s.configuration.ports hop.port port there each).mtu.least)
+      sent_on_is_carriable hop (slice_get s.attached.ports hop.port)
+      (λ port there. (AllByRecursion-slice_get IsPort s.attached.ports hop.port port there each).mtu.least)
 
 small_identifier : (s : SystemState) (segment : Bool) → IsSmall (identifier_for s segment)
 small_identifier s true = omega arith
@@ -258,10 +259,11 @@ all_sendable s (MomentComes now) system fair each keeps =
     (λ is. readable_packet p [] (kept_carriable s keeps p there))
 all_sendable s IsRestarted system fair each keeps = tt
 all_sendable s (IsCongested on) system fair each keeps = tt
+all_sendable s (IsChanged change) system fair each keeps = tt
 
 -- What is sent of what a system does at its addresses.
 
-deeds_carriable : (t : SystemState) (actions : List Action) → AllByRecursion IsPort t.configuration.ports → AllByRecursion IsSendable (made_in actions)
+deeds_carriable : (t : SystemState) (actions : List Action) → AllByRecursion IsPort t.attached.ports → AllByRecursion IsSendable (made_in actions)
     → AllByRecursion SendsCarriable (flat_map (outputs_of t) actions)
 deeds_carriable t [] each h = tt
 deeds_carriable t (Tells told ∷ actions) each h = (tt, deeds_carriable t actions each h)
@@ -269,22 +271,22 @@ deeds_carriable t (Sends u ∷ actions) each h =
     AllByRecursion-append SendsCarriable (first_sent t u (unit_hop t u)) (flat_map (outputs_of t) actions)
     (first_is_carriable u h.0 t (unit_hop t u) each) (deeds_carriable t actions each h.1)
 
-deed_carriable : (s : SystemState) (deed : Deed) → IsSystem s.configuration → Does IsSendable s deed
+deed_carriable : (s : SystemState) (deed : Deed) → AllByRecursion IsPort s.attached.ports → Does IsSendable s deed
     → AllByRecursion SendsCarriable (effect_of deed).outputs
-deed_carriable s deed system h =
+deed_carriable s deed wide h =
     deeds_carriable deed.after deed.actions
-    (subst (λ (c : SystemConfiguration). AllByRecursion IsPort c.ports) (sym h.goes.itself.configuration) system.each_port) h.makes.such
+    (subst (λ (a : Attachment). AllByRecursion IsPort a.ports) (sym h.goes.attached) wide) h.makes.such
 
 -- What goes on.
 
 found_carriable : (found : Option (List Packet)) (given : List Packet) → found ≡ Some given → AreCarriable found → AllByRecursion IsCarriable given
 found_carriable found given same h = subst AreCarriable same h
 
-onward_carriable : EditLaws → (s : SystemState) (came : Place) (p : Packet) → AllByRecursion IsPort s.configuration.ports → IsAddress (title_of s)
+onward_carriable : EditLaws → (s : SystemState) (came : Place) (p : Packet) → AllByRecursion IsPort s.attached.ports → IsAddress (title_of s)
     → IsCarriable p → Onward (λ effect. AllByRecursion SendsCarriable effect.outputs) s came p
 onward_carriable laws s came p each title h way port given there alive gives known =
     let options = options_behind s p.options in
-    let wide : 512 ≤ port.mtu = (AllByRecursion-slice_get IsPort s.configuration.ports way.place.port port there each).mtu.least in
+    let wide : 512 ≤ port.mtu = (AllByRecursion-slice_get IsPort s.attached.ports way.place.port port there each).mtu.least in
     AllByRecursion-append SendsCarriable (transmissions (hop_by way) (Some given)) (redirects s came p options way)
     (each_sent (hop_by way) given
     (found_carriable (cut (forwarded p (loss_at port) options) port.mtu) given gives
@@ -299,57 +301,62 @@ hello_carriable (Notes note) h = tt
 hellos_carriable : (s : SystemState) (effect : Effect) → OnlyHellos s effect → AllByRecursion SendsCarriable effect.outputs
 hellos_carriable s effect h = AllByRecursion-implies IsOfHellos SendsCarriable hello_carriable effect.outputs h.outputs
 
-packet_carriable : EditLaws → (s : SystemState) (came : Place) (p : Packet) (following : List ℕ) → All IsAddress s.configuration.addresses → IsSystem s.configuration → IsCarriable p → CausesSuch IsSendable s p following
+packet_carriable : EditLaws → (s : SystemState) (came : Place) (p : Packet) (following : List ℕ) → All IsAddress s.configuration.addresses
+    → IsSystem s.configuration → AllByRecursion IsPort s.attached.ports → IsCarriable p → CausesSuch IsSendable s p following
     → AllByRecursion SendsCarriable (packet_comes s came p following).outputs
-packet_carriable laws s came p following each system h such =
+packet_carriable laws s came p following each system wide h such =
     packet_does (λ effect. AllByRecursion SendsCarriable effect.outputs) s came p following
-    (λ reason of_none. deed_carriable s (discard s (Labelled p following) reason 0) system
+    (λ reason of_none. deed_carriable s (discard s (Labelled p following) reason 0) wide
     (does_discard IsSendable s s (goes-nowhere s) (Labelled p following) reason 0 (such.reported reason of_none)))
-    (λ router. onward_carriable laws s came p system.each_port
+    (λ router. onward_carriable laws s came p wide
     (first_is s.configuration.addresses (subst (λ (role : Role). HasItsAddresses role s.configuration.addresses) router system.addresses) each) h)
     (tt, tt)
-    (λ own. deed_carriable s (receive s p following) system (does_receive IsSendable s p following such s (goes-nowhere s)))
+    (λ own. deed_carriable s (receive s p following) wide (does_receive IsSendable s p following such s (goes-nowhere s)))
 
 content_carriable : EditLaws → (s : SystemState) (port : ℕ) (sender : List ℕ) (to_group : Bool) (content : Content)
-    → All IsAddress s.configuration.addresses → IsSystem s.configuration → IsCarried content
+    → All IsAddress s.configuration.addresses → IsSystem s.configuration → AllByRecursion IsPort s.attached.ports → IsCarried content
     → AllSuch IsSendable s (FrameComes port sender to_group content)
     → AllByRecursion SendsCarriable (content_comes s (record { port = port; snpa = sender }) to_group content).outputs
-content_carriable laws s port sender to_group (Labelled p following) each system h such =
+content_carriable laws s port sender to_group (Labelled p following) each system wide h such =
     let place : Place = record { port = port; snpa = sender } in
     let come = packet_comes s place p following in
-    AllByRecursion-append SendsCarriable come.outputs (responds come.after place to_group p).outputs (packet_carriable laws s place p following each system h such)
+    AllByRecursion-append SendsCarriable come.outputs (responds come.after place to_group p).outputs
+    (packet_carriable laws s place p following each system wide h such)
     (hellos_carriable come.after (responds come.after place to_group p) (only_responds come.after place to_group p))
-content_carriable laws s port sender to_group (Esis value following) each system h such =
+content_carriable laws s port sender to_group (Esis value following) each system wide h such =
     let place : Place = record { port = port; snpa = sender } in hellos_carriable s (esis_comes s place value) (only_comes s place value)
-content_carriable laws s port sender to_group (Unlabelled octets) each system h such =
-    deed_carriable s (octets_come s octets) system (does_with_octets IsSendable s s (goes-nowhere s) octets such)
+content_carriable laws s port sender to_group (Unlabelled octets) each system wide h such =
+    deed_carriable s (octets_come s octets) wide (does_with_octets IsSendable s s (goes-nowhere s) octets such)
 
-moment_carriable : (s : SystemState) (now : ℕ) → IsSystem s.configuration → AllSuch IsSendable s (MomentComes now)
+moment_carriable : (s : SystemState) (now : ℕ) → AllByRecursion IsPort s.attached.ports → AllSuch IsSendable s (MomentComes now)
     → AllByRecursion SendsCarriable (moment_comes s now).outputs
-moment_carriable s now system such =
+moment_carriable s now wide such =
     let ticked = (tick s now).after in
     let hellos = then_does (forgets s.moment ticked) says_hello in
     AllByRecursion-append SendsCarriable (effect_of (tick s now)).outputs hellos.outputs
-    (deed_carriable (at_moment now s) (tick s now) system (does_tick IsSendable s now such))
+    (deed_carriable (at_moment now s) (tick s now) wide (does_tick IsSendable s now such))
     (hellos_carriable ticked hellos
     (only_then ticked (forgets s.moment ticked) says_hello (only_forgets s.moment ticked) (only_says_hello ticked)))
 
-carriable_where : EditLaws → (s : SystemState) (input : Input) → IsSystem s.configuration → IsFair input → All IsAddress s.configuration.addresses
-    → AllSuch IsSendable s input
+carriable_where : EditLaws → (s : SystemState) (input : Input) → IsSystem s.configuration → AllByRecursion IsPort s.attached.ports → IsFair input
+    → All IsAddress s.configuration.addresses → AllSuch IsSendable s input
     → AllByRecursion SendsCarriable (step s input).outputs
-carriable_where laws s (AsksToSend from to octets ask) system fair each such =
-    deed_carriable s (make s Dt from to octets ask) system (does_make IsSendable s Dt from to octets ask such)
-carriable_where laws s (AsksForEcho from to octets) system fair each such =
+carriable_where laws s (AsksToSend from to octets ask) system wide fair each such =
+    deed_carriable s (make s Dt from to octets ask) wide (does_make IsSendable s Dt from to octets ask such)
+carriable_where laws s (AsksForEcho from to octets) system wide fair each such =
     let ask = echo_ask s from to (length octets) true in
-    deed_carriable s (make s Erq from to octets ask) system (does_make IsSendable s Erq from to octets ask such)
-carriable_where laws s (FrameComes port sender to_group content) system fair each such = content_carriable laws s port sender to_group content each system fair.1 such
-carriable_where laws s (MomentComes now) system fair each such = moment_carriable s now system such
-carriable_where laws s IsRestarted system fair each such = (tt, tt)
-carriable_where laws s (IsCongested on) system fair each such = (tt, tt)
+    deed_carriable s (make s Erq from to octets ask) wide (does_make IsSendable s Erq from to octets ask such)
+carriable_where laws s (FrameComes port sender to_group content) system wide fair each such =
+    content_carriable laws s port sender to_group content each system wide fair.1 such
+carriable_where laws s (MomentComes now) system wide fair each such = moment_carriable s now wide such
+carriable_where laws s IsRestarted system wide fair each such = (tt, tt)
+carriable_where laws s (IsCongested on) system wide fair each such = (tt, tt)
+carriable_where laws s (IsChanged change) system wide fair each such = tt
 
-pub step_carriable : EditLaws → (s : SystemState) (input : Input) → IsSystem s.configuration → IsFair input → All IsAddress s.configuration.addresses
-    → KeepsAsOffered s → AllByRecursion SendsCarriable (step s input).outputs
-step_carriable laws s input system fair each keeps = carriable_where laws s input system fair each (all_sendable s input system fair each keeps)
+pub step_carriable : EditLaws → (s : SystemState) (input : Input) → IsSystem s.configuration → AllByRecursion IsPort s.attached.ports → IsFair input
+    → All IsAddress s.configuration.addresses → KeepsAsOffered s → AllByRecursion SendsCarriable (step s input).outputs
+step_carriable laws s input system wide fair each keeps =
+    carriable_where laws s input system wide fair each (all_sendable s input system fair each keeps)
 
 -- Segments that are kept are as they were offered.
 
@@ -363,6 +370,7 @@ comes_offered (AsksForEcho from to octets) fair arrival comes = absurd comes
 comes_offered (MomentComes now) fair arrival comes = absurd comes
 comes_offered IsRestarted fair arrival comes = absurd comes
 comes_offered (IsCongested on) fair arrival comes = absurd comes
+comes_offered (IsChanged change) fair arrival comes = absurd comes
 
 pub step_keeps : (s : SystemState) (input : Input) → IsFair input → KeepsAsOffered s → KeepsAsOffered (step s input).after
 step_keeps s input fair keeps =

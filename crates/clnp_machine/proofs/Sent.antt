@@ -15,7 +15,7 @@ use Rattle.clnp_plan.specs.ClnpOptions.Parameter.{Parameter}
 use Rattle.clnp_machine.specs.Unit as unit
 use Rattle.clnp_machine.specs.Unit.{Packet, value_of, wire, whole_packet, piece_of, pieces, cut}
 use Rattle.clnp_machine.specs.Content.{Labelled, Esis, Unlabelled}
-use Rattle.clnp_machine.specs.System.{SystemState, Input, AsksToSend, AsksForEcho, FrameComes, MomentComes, IsRestarted, IsCongested, Output, Transmits, SendsEsis, Notes, Effect, then_does}
+use Rattle.clnp_machine.specs.System.{SystemState, Input, AsksToSend, AsksForEcho, FrameComes, MomentComes, IsRestarted, IsCongested, IsChanged, Output, Transmits, SendsEsis, Notes, Effect, then_does}
 use Rattle.clnp_machine.specs.Esis.{esis_comes, forgets, says_hello}
 use Rattle.clnp_machine.specs.Local.{Action, Sends, Tells, Deed, discard, made_in, make, receive, requests_echo, tick}
 use Rattle.clnp_machine.specs.Step.{Hop, effect_of, first_sent, forwarded, loss_at, octets_come, outputs_of, packet_comes, passes_by, responds, sent_on, step, transmissions, unit_hop, Way, hop_by, redirects, options_behind}
@@ -127,7 +127,7 @@ module _ (laws : EditLaws) (units : List unit.Unit) (u : unit.Unit) (made : Cont
 
   first_sent_is_ranges : (s : SystemState) (hop : Option Hop) → AllByRecursion (SendsRangesOf units) (first_sent s u hop)
   first_sent_is_ranges s None = (tt, tt)
-  first_sent_is_ranges s (Some hop) = sent_is_ranges hop (slice_get s.configuration.ports hop.port)
+  first_sent_is_ranges s (Some hop) = sent_is_ranges hop (slice_get s.attached.ports hop.port)
 
 pub range_later : (units more : List unit.Unit) (p : Packet) → IsRangeOf more p → IsRangeOf (units ++ more) p
 range_later units more p h = record {
@@ -167,7 +167,7 @@ range_sooner units more p h = record {
 -- Packets that go on.
 
 module _ (laws : EditLaws) (s : SystemState) (p : Packet) where
-  part_goes_on : (number : ℕ) (port : PortConfig) → slice_get s.configuration.ports number ≡ Some port → loss_at port < p.lifetime → (q : Packet)
+  part_goes_on : (number : ℕ) (port : PortConfig) → slice_get s.attached.ports number ≡ Some port → loss_at port < p.lifetime → (q : Packet)
       → IsPartOf (forwarded p (loss_at port) (options_behind s p.options)) q → GoesOnFrom s number p q
   part_goes_on number port there alive q h =
       let same : q.unit ≡ p.unit = h.unit in
@@ -186,7 +186,7 @@ module _ (laws : EditLaws) (s : SystemState) (p : Packet) where
         whole = λ none. h.whole (ap (λ (u : unit.Unit). u.identifier) (sym same) ∙ none);
       }
 
-  pub onward : (came : Place) (way : Way) (port : PortConfig) (given : List Packet) → slice_get s.configuration.ports way.place.port ≡ Some port
+  pub onward : (came : Place) (way : Way) (port : PortConfig) (given : List Packet) → slice_get s.attached.ports way.place.port ≡ Some port
       → loss_at port < p.lifetime → cut (forwarded p (loss_at port) (options_behind s p.options)) port.mtu ≡ Some given
       → AllByRecursion (SendsOn s p) (going s came p (options_behind s p.options) way given)
   onward came way port given there alive gives =
@@ -284,3 +284,4 @@ step_sends laws s (MomentComes now) =
     (only_then ticked (forgets s.moment ticked) says_hello (only_forgets s.moment ticked) (only_says_hello ticked))
 step_sends laws s IsRestarted = (tt, tt)
 step_sends laws s (IsCongested on) = (tt, tt)
+step_sends laws s (IsChanged change) = tt

@@ -14,7 +14,7 @@ use Rattle.clnp_plan.specs.declared.note.Note.{Note}
 use Rattle.clnp_machine.specs.Unit as unit
 use Rattle.clnp_machine.specs.Unit.{Packet, value_of}
 use Rattle.clnp_machine.specs.Content.{Content, Esis, Labelled, Unlabelled, frame_of}
-use Rattle.clnp_machine.specs.System.{SystemState, Input, AsksToSend, AsksForEcho, FrameComes, MomentComes, IsRestarted, IsCongested, Effect, table_limits}
+use Rattle.clnp_machine.specs.System.{SystemState, Input, AsksToSend, AsksForEcho, FrameComes, MomentComes, IsRestarted, IsCongested, IsChanged, Effect, table_limits}
 use Rattle.clnp_machine.specs.Esis.{forgets, says_hello}
 use Rattle.clnp_machine.specs.Local.{Deed, at_moment, data_in, discard, echo_ask, expire, give_up_due, gives_up, hand_up, is_all, is_answer, is_replied, makes, offer, offered, receive, refusal, report_unit, reports_from, rests, takes_in, tick, unit_of, unless_refused}
 use Rattle.clnp_machine.specs.Requests.{AnswersNothing, StayUnlessAnswered}
@@ -160,3 +160,4 @@ stay_elsewhere s (MomentComes now) nothing =
     ∙ expire_leaves (length s.buffers) (at_moment now s)
 stay_elsewhere s IsRestarted nothing = absurd nothing
 stay_elsewhere s (IsCongested on) nothing = refl
+stay_elsewhere s (IsChanged change) nothing = refl

@@ -55,7 +55,9 @@ pub record IsAskedByGroup (s : SystemState) (to_group : Bool) (p : Packet) : Typ
   pub own : is_own s p.unit.destination ≡ true
   pub speaks : s.hello ≢ 0
 
--- a system as at its start, at its moment, and quiet as long as an identifier rests; but the count of its units goes on
+-- a system as at its start, at its moment, and quiet as long as an identifier rests; but the count of its units goes on, and it is
+-- attached to what it was attached to
 abbrev pub begun_anew : SystemState → Limits → SystemState
 begun_anew s limits =
-    let first : SystemState = first_state s.place s.configuration limits s.moment (s.moment + limits.reuse) in record first { count = s.count }
+    let first : SystemState = first_state s.place s.configuration limits s.moment (s.moment + limits.reuse) in
+    record first { attached = s.attached; count = s.count }

@@ -77,7 +77,7 @@ tells_of_itself s port snpa =
 -- the system's hello on each of its ports, in order
 abbrev pub hello_everywhere : SystemState → List Output
 hello_everywhere s =
-    map (λ port. SendsEsis port (hearers s.configuration.role) (own_hello s)) (range_with_len 0 (length s.configuration.ports))
+    map (λ port. SendsEsis port (hearers s.configuration.role) (own_hello s)) (range_with_len 0 (length s.attached.ports))
 
 -- The hello is said where it is due, and the next one is due a period later, from this moment on (section 6.1.1).
 abbrev pub says_hello : SystemState → Effect

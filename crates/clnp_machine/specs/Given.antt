@@ -23,7 +23,7 @@ abbrev pub frame_in : Sending → List ℕ
 frame_in sending = sending.head ++ body_of sending.body
 
 -- A frame goes out for a packet: its octets are those of the packet's PDU, and it is the first transmission of a unit
--- that was made at this moment.
+-- that was made at this moment, which nobody forwarded yet.
 pub record IsSentFor (moment : ℕ) (sending : Sending) (port : ℕ) (target : Target) (packet : Packet) : Type 0 where
   pub port_is : sending.port ≡ port
   pub target_is : sending.to ≡ target
@@ -31,6 +31,7 @@ pub record IsSentFor (moment : ℕ) (sending : Sending) (port : ℕ) (target : T
   pub first : sending.forwarded ≡ false
   pub carriable : IsCarriable packet
   pub made : packet.unit.made ≡ moment
+  pub hops : packet.hops ≡ 0
 
 -- a frame goes out for an ES-IS PDU: its octets are those of the PDU
 pub record IsSentForEsis (sending : Sending) (port : ℕ) (target : Target) (value : EsisValue) : Type 0 where

@@ -15,6 +15,8 @@ pub use Rattle.clnp_plan.specs as ClnpPlan
 pub mod Unit
 pub mod Identifiers
 pub mod Content
+pub mod Attachment
+pub mod Change
 pub mod System
 pub mod Local
 pub mod Esis

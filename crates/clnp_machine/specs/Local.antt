@@ -330,7 +330,7 @@ abbrev pub tick : SystemState → ℕ → Deed
 tick s now = expire (length s.buffers) (at_moment now s)
 
 -- All that it keeps and heard is forgotten, and it is quiet as long as an identifier rests; its hello is due, and it isn't
--- congested. The count of its units goes on.
+-- congested. The count of its units goes on, and it stays attached as it is.
 abbrev pub restarted : SystemState → SystemState
 restarted s =
     record s {

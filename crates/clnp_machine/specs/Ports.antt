@@ -4,7 +4,7 @@ use Rattle.clnp_machine.specs.System.{SystemState, Input, FrameComes, Output, Tr
 
 -- a system has a port of this number
 abbrev pub HasPort : SystemState → ℕ → Type 0
-HasPort s port = port < length s.configuration.ports
+HasPort s port = port < length s.attached.ports
 
 -- where something comes in a frame, it comes by a port that is there
 abbrev pub ComesByPort : SystemState → Input → Type 0

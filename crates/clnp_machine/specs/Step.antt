@@ -27,9 +27,10 @@ use Rattle.clnp_plan.specs.declared.config.Role.TheVariants.{Host, Router}
 use Rattle.clnp_plan.specs.declared.note.Note.{Note}
 use Rattle.clnp_plan.specs.declared.note.Note.TheVariants.{BadEsis, Discard, NotMine, Alien, Restart, Congest}
 use Rattle.clnp_plan.specs.PduHeader.Value.{SegmentationPart}
+use Rattle.clnp_machine.specs.Change.{Change, PortIsAt, changed}
 use Rattle.clnp_machine.specs.Unit.{Unit, Packet, segmentation_of, whole_packet, cut}
 use Rattle.clnp_machine.specs.Content.{Content, Labelled, Esis, Unlabelled}
-use Rattle.clnp_machine.specs.System.{SystemState, Input, AsksToSend, AsksForEcho, FrameComes, MomentComes, IsRestarted, IsCongested, Output, Transmits, SendsEsis, Notes, Effect, idles, gives, then_does}
+use Rattle.clnp_machine.specs.System.{SystemState, Input, AsksToSend, AsksForEcho, FrameComes, MomentComes, IsRestarted, IsCongested, IsChanged, Output, Transmits, SendsEsis, Notes, Effect, idles, gives, then_does}
 use Rattle.clnp_machine.specs.Esis.{esis_comes, forgets, redirect, says_hello, tells_of_itself, title_of}
 use Rattle.clnp_machine.specs.Local.{Action, Sends, Tells, Deed, tells, made_in, is_own, make, discard, receive, requests_echo, tick, restarted}
 
@@ -65,7 +66,7 @@ by_route route = record { place = record { port = route.port; snpa = route.snpa 
 abbrev pub way_of : SystemState → List ℕ → Option Way
 way_of s to =
     option_or (option_map to_neighbour (heard.current_place s.moment Es to s.facts))
-    (option_map by_route (longest to s.configuration.routes))
+    (option_map by_route (longest to s.attached.routes))
 
 abbrev pub hop_by : Way → Hop
 hop_by way = hop_to way.place
@@ -96,7 +97,7 @@ sent_on hop (Some port) u = transmissions hop (cut (whole_packet u) port.mtu)
 -- the first transmission of a unit
 abbrev pub first_sent : SystemState → Unit → Option Hop → List Output
 first_sent s u None = no_way
-first_sent s u (Some hop) = sent_on hop (slice_get s.configuration.ports hop.port) u
+first_sent s u (Some hop) = sent_on hop (slice_get s.attached.ports hop.port) u
 
 -- A router sends nothing to itself, so there is no way for such a unit.
 abbrev pub is_to_itself : Role → SystemState → Unit → Bool
@@ -222,7 +223,7 @@ goes_on_way s came p following options None = discards s p following (no_way_to 
 goes_on_way s came p following options (Some way) =
     if is_complete options && not (ends_at (towards p.unit.destination (target_of options)) way.title)
     then discards s p following (reason_code PathNotAcceptable)
-    else goes_on_by s came p following options way (slice_get s.configuration.ports way.place.port)
+    else goes_on_by s came p following options way (slice_get s.attached.ports way.place.port)
 
 abbrev pub goes_on_with : SystemState → (came : Place) → Packet → (following : List ℕ) → (options : List Parameter) → Effect
 goes_on_with s came p following options =
@@ -293,6 +294,15 @@ restart s = tells (restarted s) Restart
 abbrev pub congest : SystemState → (on : Bool) → Deed
 congest s on = tells (record s { congested = on }) (Congest on)
 
+-- when the next hello is due of a system that is attached elsewhere: at its next tick, where a port of it moved
+abbrev pub hello_after : Change → SystemState → ℕ
+hello_after (PortIsAt number port) s = s.moment
+hello_after _ s = s.next_hello
+
+-- it is attached elsewhere; what it heard and keeps stays
+abbrev pub as_changed : Change → SystemState → SystemState
+as_changed change s = record s { attached = changed change s.attached; next_hello = hello_after change s }
+
 -- One step, whatever comes.
 abbrev pub step : SystemState → Input → Effect
 step s (AsksToSend from to octets ask) = effect_of (make s Dt from to octets ask)
@@ -301,3 +311,4 @@ step s (FrameComes port sender to_group content) = content_comes s (record { por
 step s (MomentComes now) = moment_comes s now
 step s IsRestarted = effect_of (restart s)
 step s (IsCongested on) = effect_of (congest s on)
+step s (IsChanged change) = idles (as_changed change s)

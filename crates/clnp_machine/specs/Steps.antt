@@ -25,11 +25,13 @@ use Rattle.reassembly.specs.Buffer.{Buffer, held}
 use Rattle.clnp_plan.specs.Asking.{IsFormedAsk}
 use Rattle.clnp_plan.specs.declared.config.PortConfig.{PortConfig}
 use Rattle.clnp_plan.specs.declared.note.Note.{Note}
-use Rattle.clnp_plan.specs.declared.note.Note.TheVariants.{Echoed, Gone, Got, Hear, Ignored, Report, Restart, Stray}
+use Rattle.clnp_plan.specs.declared.note.Note.TheVariants.{Echoed, Gone, Got, Hear, Ignored, Port, Report, Restart, Route, Stray, Unroute}
+use Rattle.clnp_machine.specs.Attachment.{Attachment}
+use Rattle.clnp_machine.specs.Change.{ChangesFairly, changed}
 use Rattle.clnp_machine.specs.Unit as unit
 use Rattle.clnp_machine.specs.Unit.{DeclaredAt, Packet, IsCarriable, value_of, wire}
 use Rattle.clnp_machine.specs.Content.{Content, IsCarried, Labelled, Esis, Unlabelled}
-use Rattle.clnp_machine.specs.System.{SystemState, number_behind, Input, AsksToSend, AsksForEcho, FrameComes, MomentComes, IsRestarted, IsCongested, Output, Transmits, SendsEsis, Notes, Effect}
+use Rattle.clnp_machine.specs.System.{SystemState, number_behind, Input, AsksToSend, AsksForEcho, FrameComes, MomentComes, IsRestarted, IsCongested, IsChanged, Output, Transmits, SendsEsis, Notes, Effect}
 use Rattle.clnp_machine.specs.Edited.{AreEdited}
 use Rattle.clnp_machine.specs.Esis.{own_hello, redirect}
 use Rattle.clnp_machine.specs.Local.{Deed, IsAsOffered, made_in, is_own, header_size, offered}
@@ -50,6 +52,12 @@ moment_after s (FrameComes port sender to_group content) = s.moment
 moment_after s (MomentComes now) = now
 moment_after s IsRestarted = s.moment
 moment_after s (IsCongested on) = s.moment
+moment_after s (IsChanged change) = s.moment
+
+-- a system's ports and routes are as they were, but for what comes to change them
+abbrev pub attached_after : SystemState → Input → Attachment
+attached_after s (IsChanged change) = changed change s.attached
+attached_after s _ = s.attached
 
 -- What comes to a system is fair: a unit that is asked for is formed as it should be, with options that a data unit may have;
 -- an echo is asked for between addresses; and a frame comes from an address, and carries what one may carry.
@@ -58,6 +66,11 @@ IsFair (AsksToSend from to octets ask) = IsFormedAsk from to ask × FitsKind fal
 IsFair (AsksForEcho from to octets) = IsAddress from × IsAddress to
 IsFair (FrameComes port sender to_group content) = IsAddress sender × IsCarried content
 IsFair _ = Unit {0}
+
+-- a change that comes to a system brings with it what it has to
+abbrev pub IsFairChange : SystemState → Input → Type 0
+IsFairChange s (IsChanged change) = ChangesFairly s.attached change
+IsFairChange s _ = Unit {0}
 
 -- a unit that a system makes at a moment: of a source that is its own, and all that its initial PDU carries
 pub record IsFresh (s : SystemState) (now : ℕ) (u : unit.Unit) : Type 0 where
@@ -79,12 +92,13 @@ IsMadeFor (AsksToSend from to octets ask) u = (u.kind ≡ Dt) × (u.source ≡ f
 IsMadeFor (AsksForEcho from to octets) u = (u.kind ≡ Erq) × (u.source ≡ from) × (u.destination ≡ to) × (u.octets ≡ octets)
 IsMadeFor _ u = (u.kind ≡ Er) ⊎ (u.kind ≡ Erp)
 
--- what it heard, when it says hello, and whether it is congested is as before
+-- what it heard, when it says hello, whether it is congested, and what it is attached to is as before
 pub record HearsNothing (before after : SystemState) : Type 0 where
   pub facts : after.facts ≡ before.facts
   pub hello : after.hello ≡ before.hello
   pub next_hello : after.next_hello ≡ before.next_hello
   pub congested : after.congested ≡ before.congested
+  pub attached : after.attached ≡ before.attached
 
 -- all else is as before
 pub record LeavesTheRest (before after : SystemState) : Type 0 where
@@ -97,6 +111,7 @@ pub record LeavesTheRest (before after : SystemState) : Type 0 where
   pub buffers : after.buffers ≡ before.buffers
   pub pending : after.pending ≡ before.pending
   pub congested : after.congested ≡ before.congested
+  pub attached : after.attached ≡ before.attached
 
 -- an ES-IS PDU, or a note of what is heard or gone
 abbrev pub IsOfHellos : Output → Type 0
@@ -143,7 +158,7 @@ pub record IsRangeOf (units : List unit.Unit) (p : Packet) : Type 0 where
 -- options are those of that one but for what routers make of them, and have their form, where a PDU can carry that one.
 pub record GoesOnFrom (s : SystemState) (number : ℕ) (came p : Packet) : Type 0 where
   pub port : PortConfig
-  pub there : slice_get s.configuration.ports number ≡ Some port
+  pub there : slice_get s.attached.ports number ≡ Some port
   pub unit : p.unit ≡ came.unit
   pub options : IsCarriable came → HaveOneForm p.options came.options
   pub edits : AreEdited came.options p.options
@@ -309,6 +324,13 @@ WasPendingOrMade s effect request = Contains s.pending request ⊎ (Contains eff
 abbrev pub IsNoRestart : Note → Type 0
 IsNoRestart Restart = ⊥
 IsNoRestart _ = Unit {0}
+
+-- a note doesn't say that a route was set or is gone, or that a port is elsewhere
+abbrev pub IsNoChange : Note → Type 0
+IsNoChange (Route prefix) = ⊥
+IsNoChange (Unroute prefix there) = ⊥
+IsNoChange (Port port subnet snpa) = ⊥
+IsNoChange _ = Unit {0}
 
 -- nobody restarts the system
 abbrev pub RestartsNothing : Input → Type 0

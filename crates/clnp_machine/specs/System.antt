@@ -9,6 +9,8 @@ use Rattle.clnp_plan.specs.Configuration.{SystemConfiguration}
 use Rattle.clnp_plan.specs.declared.config.Limits.{Limits}
 use Rattle.clnp_plan.specs.declared.ask.Ask.{Ask}
 use Rattle.clnp_plan.specs.declared.note.Note.{Note}
+use Rattle.clnp_machine.specs.Attachment.{Attachment, as_declared}
+use Rattle.clnp_machine.specs.Change.{Change}
 use Rattle.clnp_machine.specs.Unit.{Unit, Packet}
 use Rattle.clnp_machine.specs.Content.{Content}
 use Rattle.clnp_machine.specs.Identifiers.{Identifiers, opening}
@@ -17,6 +19,8 @@ pub record SystemState : Type 0 where
   -- its place among the declarations, from 0
   pub place : ℕ
   pub configuration : SystemConfiguration
+  -- its ports and its routes, as they are now
+  pub attached : Attachment
   -- the longest time that a reassembly buffer is kept
   pub hold : ℕ
   pub moment : ℕ
@@ -42,6 +46,7 @@ first_state place configuration limits now quiet =
     record {
       place = place;
       configuration = configuration;
+      attached = as_declared configuration;
       hold = limits.hold;
       moment = now;
       count = 0;
@@ -65,7 +70,8 @@ table_limits s =
     }
 
 -- What comes to a system: it is asked to send octets, or an echo request with them; a frame comes in at a port, from an address
--- there, to a group of systems or to it alone; a moment comes; it is restarted; it is congested from now on, or no more.
+-- there, to a group of systems or to it alone; a moment comes; it is restarted; it is congested from now on, or no more; what it
+-- is attached to changes.
 pub data Input : Type 0 where
   AsksToSend : (from to octets : List ℕ) (ask : Ask) → Input
   AsksForEcho : (from to octets : List ℕ) → Input
@@ -73,6 +79,7 @@ pub data Input : Type 0 where
   MomentComes : (now : ℕ) → Input
   IsRestarted : Input
   IsCongested : (on : Bool) → Input
+  IsChanged : (change : Change) → Input
 
 -- what a system gives out: it sends a packet or an ES-IS PDU on a port, or notes something
 pub data Output : Type 0 where

@@ -8,7 +8,7 @@ use Rattle.clnp_plan.specs.declared.note.Note.TheVariants.{Discard}
 use Rattle.clnp_plan.specs.EsisTables.declared.fact.Place.{Place}
 use Rattle.clnp_plan.specs.EsisTables.declared.fact.TableKind.TheVariants.{Es}
 use Rattle.clnp_plan.specs.EsisTables.NextHop.{current_place}
-use Rattle.clnp_machine.specs.Unit.{Packet, value_of}
+use Rattle.clnp_machine.specs.Unit.{DeclaredAt, Packet, value_of}
 use Rattle.clnp_machine.specs.System.{SystemState, Input, Output, Transmits, Notes, Effect}
 use Rattle.clnp_machine.specs.Content.{Labelled}
 use Rattle.clnp_machine.specs.Esis.{title_of}
@@ -74,3 +74,8 @@ IsAllOfItsUnit p =
 abbrev pub IsFirstOrGoesOn : SystemState → Input → Output → Type 0
 IsFirstOrGoesOn s input (Transmits port target packet) = (packet.hops ≡ 0) ⊎ GoesOnOf s port input packet
 IsFirstOrGoesOn s input _ = Unit {0}
+
+-- a packet that is sent and that nobody forwarded yet is of a unit of the system's own
+abbrev pub IsOwnWhereFirst : SystemState → Output → Type 0
+IsOwnWhereFirst s (Transmits port target packet) = packet.hops ≡ 0 → packet.unit.maker ≡ DeclaredAt s.place
+IsOwnWhereFirst s _ = Unit {0}

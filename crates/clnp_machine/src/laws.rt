@@ -25,7 +25,7 @@ ghost use Rattle.reassembly.specs.declared.table.TableLimits.{TableLimits};
 ghost use Rattle.reassembly.specs.Arrival.{Arrival};
 ghost use Rattle.reassembly.specs.Buffer as buffer;
 ghost use Rattle.reassembly.specs.Buffer.{Buffer, buffer_of, clashes, due, first_carried, held, without};
-ghost use Rattle.clnp_plan.specs.Configuration.{IsAddressed, IsSystem};
+ghost use Rattle.clnp_plan.specs.Configuration.{IsAddressedRoute, IsPort, IsSystem};
 ghost use Rattle.clnp_plan.specs.EsisTables.declared.fact.Place.{Place};
 ghost use Rattle.clnp_plan.specs.EsisTables.declared.fact.TableKind.TheVariants.{Es, Rd};
 ghost use Rattle.clnp_plan.specs.EsisTables.NextHop.{current_place, last_router};
@@ -35,12 +35,14 @@ ghost use Rattle.clnp_plan.specs.declared.config.Limits.{Limits};
 ghost use Rattle.clnp_plan.specs.declared.config.PortConfig.{PortConfig};
 ghost use Rattle.clnp_plan.specs.declared.config.Role.TheVariants.{Host, Router};
 ghost use Rattle.clnp_plan.specs.declared.note.Note.TheVariants.{Crowded, Discard, Echoed, Expired, Interference, Many, NoSlot, Restart, Stray};
+ghost use Rattle.clnp_machine.specs.Attachment.{IsAttached};
+ghost use Rattle.clnp_machine.specs.Change.{Change, PortIsAt, changed};
 ghost use Rattle.clnp_machine.specs.Identifiers.{Identifiers, not_drawn};
 ghost use Rattle.clnp_machine.specs.Unit.{Unit, Packet, IsCarriable, cut, value_of, whole_packet, wire};
 ghost use Rattle.clnp_machine.specs.Content.{Content, Esis, IsCarried, Labelled, Unlabelled, content_of, frame_of};
 ghost use Rattle.clnp_machine.specs.Esis.{esis_comes, forgets, gone_note, hello_everywhere, own_hello, redirect, says_hello, tells_new, tells_of_itself, title_of};
 ghost use Rattle.clnp_machine.specs.Local.{Action, Tells, and_then, at_moment, discard, discard_first, echo_ask, gives_up, header_size, is_all, is_replied, made_in, make, makes, receive, refusal, report_unit, takes_in, tells, tick, unit_of};
-ghost use Rattle.clnp_machine.specs.System.{SystemState, Input, AsksForEcho, AsksToSend, FrameComes, IsRestarted, MomentComes, Notes, SendsEsis};
+ghost use Rattle.clnp_machine.specs.System.{SystemState, Input, AsksForEcho, AsksToSend, FrameComes, IsChanged, IsRestarted, MomentComes, Notes, SendsEsis};
 ghost use Rattle.clnp_plan.specs.PduHeader.Headers.{with_lifetime, with_options};
 ghost use Rattle.clnp_machine.specs.EditLaws.{EditLaws};
 ghost use Rattle.clnp_machine.specs.Edited.{AreEdited, Edit, with_edits};
@@ -48,14 +50,34 @@ ghost use Rattle.clnp_machine.specs.Step.{Hop, Way, first_sent, forwarded, hop_t
 ghost use Rattle.clnp_machine.specs.Due.{FollowsTimer, IsAskedByGroup, IsHelloDue, IsSuggested, KeepsHello, StaysUnlessEnded, begun_anew};
 ghost use Rattle.clnp_machine.specs.Ports.{ComesByPort, GoesByPort};
 ghost use Rattle.clnp_machine.specs.Requests.{AnswersNone, AnswersNothing, AnswersOldest, StayUnlessAnswered, newest};
-ghost use Rattle.clnp_machine.specs.Ways.{BeginsWithDiscard, CallsForRedirect, IsAllOfItsUnit, IsAllowedWay, IsDiscardedFor, IsFirstOrGoesOn, IsOnRoute, SendsItsWay, aim_of};
-ghost use Rattle.clnp_machine.specs.Steps.{AreCarriable, AreNumbered, IsAtMostReportOf, IsMadeFor, IsNoRestart, IsRedirectFor, KeepsAsOffered, KeepsNextHops, KnowsAddresses, ReportsOn, RestartsNothing, WasPendingOrMade, BreaksNoEsisRule, BreaksNoRule, CarriesOneEsisValue, CarriesOnePacket, IsAtMostItsHello, IsAtMostOneTo, IsDeed, IsEffect, IsFair, IsForOwn, GoesOnOrIsReported, IsFresh, IsRangeOf, IsWithinBudget, NotesOnly, OnlyHellos, SendsCarriable, SendsEsisPdus, SendsItsOwn, SendsRangesOrGoesOn, StaysItself, WasKeptOrComes, moment_after, segments_in, sends_esis, sends_frame};
+ghost use Rattle.clnp_machine.specs.Ways.{BeginsWithDiscard, CallsForRedirect, IsAllOfItsUnit, IsAllowedWay, IsDiscardedFor, IsFirstOrGoesOn, IsOnRoute, IsOwnWhereFirst, SendsItsWay, aim_of};
+ghost use Rattle.clnp_machine.specs.Steps.{AreCarriable, AreNumbered, IsAtMostReportOf, IsFairChange, IsMadeFor, IsNoChange, IsNoRestart, IsRedirectFor, KeepsAsOffered, KeepsNextHops, KnowsAddresses, ReportsOn, RestartsNothing, WasPendingOrMade, BreaksNoEsisRule, BreaksNoRule, CarriesOneEsisValue, CarriesOnePacket, IsAtMostItsHello, IsAtMostOneTo, IsDeed, IsEffect, IsFair, IsForOwn, GoesOnOrIsReported, IsFresh, IsRangeOf, IsWithinBudget, NotesOnly, OnlyHellos, SendsCarriable, SendsEsisPdus, SendsItsOwn, SendsRangesOrGoesOn, StaysItself, WasKeptOrComes, attached_after, moment_after, segments_in, sends_esis, sends_frame};
 ghost use Rattle.clnp_machine.specs.Told.{IsAllowed, IsRefusal, IsToldBy, LeavesRefused, MayBeDrawn, NoteIsQuiet, NotesNoRule, SpellsPdus, TellsNoInterference, TellsOnly, WasThereOrTakes};
 
-/// A step leaves a system at its place with its configuration, at the moment that came last.
+use crate::attaching;
+
+/// A step leaves a system at its place with its configuration, at the moment that came last, and attached as it was but where that is
+/// changed; no port comes or goes, and a fair change leaves it attached as it should be.
 pub fn a_system_stays_itself()
     ensures itself { (s : SystemState) (input : Input) → StaysItself s (step s input).after }
     ensures moment { (s : SystemState) (input : Input) → (step s input).after.moment ≡ moment_after s input }
+    ensures attached { (s : SystemState) (input : Input) → (step s input).after.attached ≡ attached_after s input }
+    ensures ports { (s : SystemState) (input : Input) → length (step s input).after.attached.ports ≡ length s.attached.ports }
+    ensures soundly { (s : SystemState) (input : Input) → IsFairChange s input → IsAttached s.attached → IsAttached (step s input).after.attached }
+{
+    attaching::attachments_stay_sound();
+}
+
+/// A change of what a system is attached to leaves all else of it as it was, but that its next hello is due at once where a port is
+/// elsewhere from then on; nothing is given out, and no unit is made.
+pub fn changes_leave_the_rest()
+    ensures rest { (s : SystemState) (change : Change) → let after = (step s (IsChanged change)).after in
+        after ≡ record s { attached = changed change s.attached; next_hello = after.next_hello } }
+    ensures moved { (s : SystemState) (number : ℕ) (port : PortConfig) → (step s (IsChanged (PortIsAt number port))).after.next_hello ≡ s.moment }
+    ensures unmoved { (s : SystemState) (change : Change) → ((number : ℕ) (port : PortConfig) → change ≢ PortIsAt number port)
+        → (step s (IsChanged change)).after.next_hello ≡ s.next_hello }
+    ensures outputs { (s : SystemState) (change : Change) → (step s (IsChanged change)).outputs ≡ [] }
+    ensures units { (s : SystemState) (change : Change) → (step s (IsChanged change)).units ≡ [] }
 {}
 
 /// Whatever a system does at its addresses, it stays the system that it is, at its moment and with what
@@ -114,6 +136,13 @@ pub fn hops_count_routers()
     laws_of_edits();
 }
 
+/// A packet that is sent in a step and that nobody forwarded yet is of a unit of the system's own.
+pub fn first_transmissions_are_its_own()
+    ensures { (s : SystemState) (input : Input) → AllByRecursion (IsOwnWhereFirst s) (step s input).outputs }
+{
+    laws_of_edits();
+}
+
 /// The header of a packet is as long as that of its unit's initial PDU, however often it was forwarded: a
 /// router changes the values of options, and never their lengths.
 pub fn headers_keep_their_length()
@@ -141,10 +170,10 @@ pub fn what_goes_on_has_its_value()
     laws_of_edits();
 }
 
-/// PDUs can carry each packet that is sent in a step of a system of sound configuration with addresses,
-/// where what comes to it is fair, and the segments that it keeps can be carried.
+/// PDUs can carry each packet that is sent in a step of a system of sound configuration with addresses, whose ports take frames that
+/// are long enough, where what comes to it is fair, and the segments that it keeps can be carried.
 pub fn what_is_sent_is_carriable()
-    ensures sent { (s : SystemState) (input : Input) → IsSystem s.configuration → IsFair input
+    ensures sent { (s : SystemState) (input : Input) → IsSystem s.configuration → AllByRecursion IsPort s.attached.ports → IsFair input
         → All IsAddress s.configuration.addresses → KeepsAsOffered s → AllByRecursion SendsCarriable (step s input).outputs }
     ensures kept { (s : SystemState) (input : Input) → IsFair input → KeepsAsOffered s → KeepsAsOffered (step s input).after }
 {
@@ -193,11 +222,11 @@ pub fn discards_have_their_reasons()
         → title ≢ aim_of s p → IsDiscardedFor 0x93 s p following (passes_by Router s came p following) }
     ensures transit { (s : SystemState) (came : Place) (p : Packet) (following : List ℕ) → IsOnRoute s p → (way : Way)
         → way_of s (aim_of s p) ≡ Some way → IsAllowedWay s p way → (port : PortConfig)
-        → slice_get s.configuration.ports way.place.port ≡ Some port → p.lifetime ≤ loss_at port
+        → slice_get s.attached.ports way.place.port ≡ Some port → p.lifetime ≤ loss_at port
         → IsDiscardedFor 0xa0 s p following (passes_by Router s came p following) }
     ensures uncut { (s : SystemState) (came : Place) (p : Packet) (following : List ℕ) → IsOnRoute s p → (way : Way)
         → way_of s (aim_of s p) ≡ Some way → IsAllowedWay s p way → (port : PortConfig)
-        → slice_get s.configuration.ports way.place.port ≡ Some port → loss_at port < p.lifetime
+        → slice_get s.attached.ports way.place.port ≡ Some port → loss_at port < p.lifetime
         → cut (forwarded p (loss_at port) (options_behind s p.options)) port.mtu ≡ None
         → IsDiscardedFor 0x05 s p following (passes_by Router s came p following) }
 {}
@@ -236,20 +265,22 @@ pub fn next_hops_are_what_is_known()
     ensures neighbour { (s : SystemState) (to : List ℕ) (place : Place) → s.configuration.role ≡ Router
         → current_place s.moment Es to s.facts ≡ Some place → next_hop s to ≡ Some (hop_to place) }
     ensures by_route { (s : SystemState) (to : List ℕ) (route : Route) → s.configuration.role ≡ Router
-        → current_place s.moment Es to s.facts ≡ None → longest to s.configuration.routes ≡ Some route
+        → current_place s.moment Es to s.facts ≡ None → longest to s.attached.routes ≡ Some route
         → next_hop s to ≡ Some (record { port = route.port; target = System route.snpa }) }
     ensures nowhere { (s : SystemState) (to : List ℕ) → s.configuration.role ≡ Router → current_place s.moment Es to s.facts ≡ None
-        → longest to s.configuration.routes ≡ None → next_hop s to ≡ None }
+        → longest to s.attached.routes ≡ None → next_hop s to ≡ None }
 {}
 
 /// A system sends no ES-IS PDU but its own hello and, as a router, redirects. Where it is configured as
-/// a system with addresses, what comes is fair, and what it heard of is at addresses, each is one that
-/// a PDU can carry; and what it heard of then is at addresses again.
+/// a system with addresses, its routes lead to systems with addresses, what comes is fair, and what it
+/// heard of is at addresses, each is one that a PDU can carry; and what it heard of then is at addresses
+/// again.
 pub fn hellos_are_pdus()
     ensures own { (s : SystemState) (input : Input) → AllByRecursion (SendsItsOwn s) (step s input).outputs }
     ensures hello { (s : SystemState) → IsSystem s.configuration → All IsAddress s.configuration.addresses → IsPdu (own_hello s) }
-    ensures pdus { (s : SystemState) (input : Input) → IsSystem s.configuration → IsAddressed s.configuration → IsFair input
-        → KnowsAddresses s → AllByRecursion SendsEsisPdus (step s input).outputs }
+    ensures pdus { (s : SystemState) (input : Input) → IsSystem s.configuration → All IsAddress s.configuration.addresses
+        → AllByRecursion IsAddressedRoute s.attached.routes → IsFair input → KnowsAddresses s
+        → AllByRecursion SendsEsisPdus (step s input).outputs }
     ensures known { (s : SystemState) (input : Input) → IsFair input → KnowsAddresses s → KnowsAddresses (step s input).after }
 {
     clnp_plan::forwarding::laws::what_is_longest_covers();
@@ -394,8 +425,8 @@ pub fn each_ended_buffer_is_taken_out()
     ensures stays { (s : SystemState) (now : ℕ) → AllByRecursion (StaysUnlessEnded now s.buffers (step s (MomentComes now)).after.buffers) s.buffers }
 {}
 
-/// A restart leaves a system as at its start, quiet for as long as an identifier rests, but for its place, its moment and the
-/// count of its units. It is noted, nothing else is given out, and no unit is made.
+/// A restart leaves a system as at its start, quiet for as long as an identifier rests, but for its place, its moment, the count of
+/// its units, and what it is attached to. It is noted, nothing else is given out, and no unit is made.
 pub fn a_restart_begins_anew()
     ensures after { (s : SystemState) (limits : Limits) → limits.hold ≡ s.hold → limits.reuse ≡ s.identifiers.reuse
         → (step s IsRestarted).after ≡ begun_anew s limits }
@@ -476,6 +507,11 @@ pub fn requests_are_the_last_and_answered_in_order()
 pub fn only_restarts_are_noted_as_such()
     ensures { (s : SystemState) (input : Input) → RestartsNothing input
         → AllByRecursion (NotesOnly IsNoRestart) (step s input).outputs }
+{}
+
+/// No step notes that a route was set or is gone, or that a port is elsewhere.
+pub fn no_step_notes_a_change()
+    ensures { (s : SystemState) (input : Input) → AllByRecursion (NotesOnly IsNoChange) (step s input).outputs }
 {}
 
 /// A segment that is offered leaves each buffer as it was, or opens one, or is kept in that of its key;

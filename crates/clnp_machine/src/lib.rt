@@ -2,6 +2,7 @@
 //! the laws of one step, which hold for hosts and routers alike.
 #![tactic(auto)]
 
+pub mod attaching;
 pub mod laws;
 
 pub use clnp_plan;

@@ -1,5 +1,5 @@
 -- A scenario runs in version 2 as it does in version 1.
-use Rattle.std.proofs.Common.{◌≡◌, ℕ, if◌then◌else◌, List, [], ◌∷◌, ◌++◌, Option, None, Some, Result, Ok, Err, IfOk, refl, ap, ◌∙◌}
+use Rattle.std.proofs.Common.{◌≡◌, ℕ, if◌then◌else◌, List, [], ◌∷◌, ◌++◌, Option, Some, Result, Ok, Err, IfOk, refl, ap, ◌∙◌}
 use Rattle.scenario.specs.Canonical as canonical
 use Rattle.scenario.specs.Grammar.{BadLine, plan_of_version_1}
 use Rattle.scenario.specs.Migration.{migrated, migration_of}

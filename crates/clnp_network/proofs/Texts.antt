@@ -1,7 +1,7 @@
 -- What moves write is the text of their entries, and a trace without its own lines is a journal.
 use Rattle.std.proofs.Common.{◌≡◌, refl, ap, ◌∙◌, ℕ, List, [], ◌∷◌, ◌++◌}
 use Rattle.std.specs.List.{flat_map}
-use Rattle.clnp_machine.specs.ClnpPlan.Journal.{Line, Noted, Transmitted, Void, Late, Injected, Received, Lost, ForNobody, line_text}
+use Rattle.clnp_machine.specs.ClnpPlan.Journal.{Line, Noted, Transmitted, Void, Late, Injected, Resized, Received, Lost, ForNobody, line_text}
 use Rattle.clnp_machine.specs.ClnpPlan.declared.journal.Telling.{Telling}
 use Rattle.clnp_machine.specs.ClnpPlan.declared.journal.Telling.TheVariants as telling
 use Rattle.scenario.specs.Scenario.{Plan}
@@ -43,6 +43,7 @@ without (Void now name copy ∷ lines) = ap (λ (more : List ℕ). line_text (Vo
 without (Late now name copy ∷ lines) = ap (λ (more : List ℕ). line_text (Late now name copy) ++ more) (without lines)
 without (Injected now copy subnet sender target ∷ lines) =
     ap (λ (more : List ℕ). line_text (Injected now copy subnet sender target) ++ more) (without lines)
+without (Resized now subnet mtu ∷ lines) = ap (λ (more : List ℕ). line_text (Resized now subnet mtu) ++ more) (without lines)
 
 entries_without : (plan : Plan) (w : World) (moves : List Move) → flat_map entry_without (entries_of plan w moves) ≡ text_of plan w moves
 entries_without plan w [] = refl

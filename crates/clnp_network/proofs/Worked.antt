@@ -1,5 +1,6 @@
 -- Worked examples of systems on one subnetwork or two, computed with the definitions: with a checksum and without one, copies that
--- come again, a host that is restarted, an echo, hellos that are said, heard and answered, and packets that a router forwards or reports.
+-- come again, a host that is restarted, an echo, hellos that are said, heard and answered, packets that a router forwards or reports, and
+-- a network that changes.
 use Rattle.std.proofs.Common.{◌≡◌, ℕ, true, false, List, [], ◌∷◌, refl, Result, Ok, Err, codes}
 use Rattle.hex.specs.Hex.{encode_with, decode_pairs}
 use Rattle.clnp_machine.specs.Fletcher.Checksum.{sealed, checksum_x, checksum_y}
@@ -17,10 +18,10 @@ use Rattle.clnp_machine.specs.ClnpPlan.declared.config.Settings.{Settings}
 use Rattle.scenario.specs.Scenario.{Plan}
 use Rattle.scenario.specs.declared.event.Event.{Event}
 use Rattle.scenario.specs.declared.event.Body.TheVariants.{Hex}
-use Rattle.scenario.specs.declared.event.Event.TheVariants.{Send, Settle, Tick, Inject}
+use Rattle.scenario.specs.declared.event.Event.TheVariants.{Send, Settle, Tick, Inject, Mtu, Route as SetRoute, Unroute, Port}
 use Rattle.scenario.specs.Grammar.{BadLine, plan_of, plan_at, events_from, counted_event}
 use Rattle.scenario.specs.Declarations.{limits_line, subnet_line, room_word, setting_word, system_line, address_line, port_line, declaration_line}
-use Rattle.scenario.specs.Events.{wish_word, send_line, deliver_line, tick_line, restart_line, echo_line, count_line, inject_line, event_line}
+use Rattle.scenario.specs.Events.{wish_word, send_line, deliver_line, tick_line, restart_line, echo_line, count_line, inject_line, change_line, mtu_line, port_line as moved_line, event_line}
 use Rattle.clnp_machine.specs.Nsap.declared.target.Target.TheVariants.{System}
 use Rattle.clnp_machine.specs.Nsap.Prefix.{digits_of}
 use Rattle.clnp_machine.specs.Nsap.Text.{octets_of}
@@ -48,6 +49,10 @@ alien = codes "clnp-sim 1\nsubnet lan 1500\nsystem a host hello=0\nsystem b host
 -- copies that come to hosts, that is for nobody, that is lost, and that is late
 abbrev becoming : List ℕ
 becoming = codes "clnp-sim 1\nlimits 4 2 6\nsubnet lan 1500\nsystem a host hello=0\nsystem b host hello=0\nsystem c host hello=0\naddress a 47002702\naddress b 47002701\naddress c 47002703\nport a 0 lan 01\nport b 0 lan 02\nport c 0 lan 03\nevents\nsend a 47002702 47002701 hex:6869 life=10 whole\nsettle 1\ninject lan 09 44 00\nsettle 1\ninject lan 09 02 00\nlose 1\ntick 5\ndeliver 1 b\nend\n"
+
+-- a host that is put on another subnetwork before a copy for it is settled
+abbrev leaving : List ℕ
+leaving = codes "clnp-sim 2\nlimits 256 60 320 0\nsubnet lan 1500\nsubnet far 1500\nsystem a host hello=0\nsystem b host hello=0\naddress a 47002702\naddress b 47002701\nport a 0 lan 01\nport b 0 lan 02\nevents\nsend a 47002702 47002701 hex:6869 life=10 whole\nport b 0 far 05\nmtu lan 512\nsettle 1\nend\n"
 
 abbrev written : Result Plan BadLine → List ℕ
 written (Ok plan) = journal plan
@@ -87,6 +92,11 @@ journal-alien = refl
 trace-becoming : traced (plan_of becoming) ≡ codes "0 a sent dt 1 - 47002702 47002701 2\n0 a tx 1 0 es 8113010a3c0015ce58044700270104470027026869\n0 b rx 1 0\n0 b got 47002702 47002701 6869\n0 c rx 1 0\n0 c notmine 47002701\n0 - inject 2 lan 09 44\n0 - nobody 2\n0 - inject 3 lan 09 02\n0 - lost 3\n5 b late 1\nend 5 3\n"
 unfolding parameters_after encode_with decode_pairs sealed checksum_x checksum_y spelled octets_of digits plan_at events_from counted_event limits_line subnet_line room_word setting_word system_line address_line port_line declaration_line wish_word send_line deliver_line tick_line restart_line count_line inject_line event_line
 trace-becoming = refl
+
+-- whom a copy is for is seen when it is settled
+trace-leaving : traced (plan_of leaving) ≡ codes "0 a sent dt 1 - 47002702 47002701 2\n0 a tx 1 0 es 8113010a3c0015ce58044700270104470027026869\n0 b port 0 far 05\n0 - mtu lan 512\n0 - nobody 1\nend 0 1\n"
+unfolding parameters_after encode_with decode_pairs sealed checksum_x checksum_y spelled octets_of digits plan_at events_from counted_event limits_line subnet_line room_word setting_word system_line address_line port_line declaration_line wish_word send_line deliver_line tick_line restart_line count_line inject_line change_line mtu_line moved_line event_line
+trace-leaving = refl
 
 -- Two hosts and a router that say hello.
 
@@ -185,6 +195,21 @@ journal-across_a_router = refl
 journal-reported : journal (sent_across (0x47 ∷ 0 ∷ 0x27 ∷ 3 ∷ [])) ≡ codes "1 r tx 1 0 es 820e0100040078b1cd04470027ff\n1 r tx 2 1 es 820e0100040078b1cd04470027ff\n1 a hear is 470027ff new\n1 b hear is 470027ff new\n1 a sent dt 1 - 47002702 47002703 2\n1 a tx 3 0 0a 8113010a3c0015d84c044700270304470027026869\n1 r drop 81 00\n1 r sent er 1 - 470027ff 47002702 19\n1 r tx 4 0 01 8117014001002a5678044700270204470027ffc10281008113010a3c0015d84c04470027030447002702\n1 a report 470027ff 47002702 81 00 8113010a3c0015d84c04470027030447002702\nend 1 4\n"
 unfolding extent_refusal target_of value_of edited parameters_after encode_with sealed checksum_x checksum_y spelled joined digits seconds_of
 journal-reported = refl
+
+-- the host and the router's route to it come to the first subnetwork, so that what is sent to it goes on there; what the events change
+-- is told, and so is whether a route was there
+abbrev moved_across : Plan
+moved_across = record (sent_across of_b) {
+  version = 2;
+  events =
+      Tick 1 ∷ Settle 2 ∷ Port 2 0 0 (2 ∷ []) ∷ SetRoute 1 (to_host of_b 0 (2 ∷ []))
+      ∷ Send 0 of_a of_b (Hex (0x68 ∷ 0x69 ∷ [])) (record { life = 10; report = true; segment = false; options = [] })
+      ∷ Settle 2 ∷ Unroute 1 (4 ∷ 8 ∷ []) ∷ Unroute 1 (digits_of of_b) ∷ Mtu 1 512 ∷ [];
+}
+
+journal-moved : journal moved_across ≡ codes "1 r tx 1 0 es 820e0100040078b1cd04470027ff\n1 r tx 2 1 es 820e0100040078b1cd04470027ff\n1 a hear is 470027ff new\n1 b hear is 470027ff new\n1 b port 0 one 02\n1 r route 47002701\n1 a sent dt 1 - 47002702 47002701 2\n1 a tx 3 0 0a 8113010a3c0015ce58044700270104470027026869\n1 r tx 4 0 02 811301093c0015d354044700270104470027026869\n1 b got 47002702 47002701 6869\n1 r unroute 48 no\n1 r unroute 47002701 yes\n1 - mtu two 512\nend 1 4\n"
+unfolding target_of value_of edited parameters_after encode_with sealed checksum_x checksum_y spelled joined digits seconds_of
+journal-moved = refl
 
 abbrev from_outside : List ℕ → Plan
 from_outside octets = record {

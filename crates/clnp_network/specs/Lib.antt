@@ -3,3 +3,4 @@ pub mod World
 pub mod Run
 pub mod Safe
 pub mod Migrated
+pub mod Changed

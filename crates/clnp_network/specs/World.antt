@@ -5,19 +5,25 @@ use Rattle.std.specs.Str.{bytes_eq}
 use Rattle.clnp_machine.specs.Nsap.declared.target.Target.{Target}
 use Rattle.clnp_machine.specs.Nsap.declared.target.Target.TheVariants.{System, EndSystems, Routers}
 use Rattle.clnp_machine.specs.ClnpPlan.Configuration.{SystemConfiguration}
-use Rattle.clnp_machine.specs.ClnpPlan.Journal.{Line, Noted, Transmitted, Void, Late, Injected, Received, Lost, ForNobody}
+use Rattle.clnp_machine.specs.ClnpPlan.Journal.{Line, Noted, Transmitted, Void, Late, Injected, Resized, Received, Lost, ForNobody}
 use Rattle.clnp_machine.specs.ClnpPlan.declared.config.Limits.{Limits}
 use Rattle.clnp_machine.specs.ClnpPlan.declared.config.Role.{Role}
 use Rattle.clnp_machine.specs.ClnpPlan.declared.config.Role.TheVariants.{Host, Router}
 use Rattle.clnp_machine.specs.ClnpPlan.declared.config.PortConfig.{PortConfig}
+use Rattle.clnp_machine.specs.ClnpPlan.declared.note.Note.{Note}
+use Rattle.clnp_machine.specs.ClnpPlan.declared.note.Note.TheVariants as note
+use Rattle.clnp_machine.specs.Forwarding.declared.route.Route.{Route}
+use Rattle.clnp_machine.specs.Forwarding.Distinct.{has_prefix}
 use Rattle.scenario.specs.Scenario.{Plan, Subnetwork, octets_of}
 use Rattle.scenario.specs.declared.event.Event.{Event}
 use Rattle.scenario.specs.declared.event.Event.TheVariants.{Send, Echo, Deliver, Settle, Lose, Tick, Restart, Congest, Inject}
+use Rattle.scenario.specs.declared.event.Event.TheVariants as event
 use Rattle.scenario.specs.declared.event.Move.{Move}
 use Rattle.scenario.specs.declared.event.Move.TheVariants.{One, SettleOne, LoseOne, TickOne}
 use Rattle.clnp_machine.specs.Unit.{Maker, DeclaredAt, Outside, Unit}
+use Rattle.clnp_machine.specs.Change.{PortIsAt, PortTakes, RouteIsGone, RouteIsSet}
 use Rattle.clnp_machine.specs.Content.{Content, Labelled, Esis, content_of, frame_of}
-use Rattle.clnp_machine.specs.System.{SystemState, first_state, Input, AsksToSend, AsksForEcho, FrameComes, MomentComes, IsRestarted, IsCongested, Output, Transmits, SendsEsis, Notes, Effect}
+use Rattle.clnp_machine.specs.System.{SystemState, first_state, Input, AsksToSend, AsksForEcho, FrameComes, MomentComes, IsRestarted, IsCongested, IsChanged, Output, Transmits, SendsEsis, Notes, Effect}
 use Rattle.clnp_machine.specs.Step.{step}
 
 -- a frame on a subnetwork, for good
@@ -34,6 +40,8 @@ pub record Copy : Type 0 where
 pub record World : Type 0 where
   pub clock : ℕ
   pub systems : List SystemState
+  -- the most octets that a frame may have on each subnetwork
+  pub mtus : List ℕ
   -- all units that were made, in the order of their making
   pub units : List Unit
   -- in the order of their numbers, which count from 1
@@ -74,7 +82,7 @@ copy_from (Some port) target maker birth content =
 abbrev pub sends_frame : SystemState → World → (port : ℕ) → Target → Maker → (birth : ℕ) → Content → Step
 sends_frame system w port target maker birth content =
     record {
-      world = record w { copies = w.copies ++ copy_from (slice_get system.configuration.ports port) target maker birth content };
+      world = record w { copies = w.copies ++ copy_from (slice_get system.attached.ports port) target maker birth content };
       lines = Transmitted w.clock system.configuration.name (length w.copies + 1) port target (frame_of content) ∷ [];
     }
 
@@ -118,9 +126,9 @@ reaches Router Routers sender own = not (bytes_eq own sender)
 abbrev pub enters : Copy → Role → PortConfig → Bool
 enters copy role port = (port.subnet == copy.subnet) && reaches role copy.target copy.sender port.snpa
 
--- whether a copy is for a system: one of its ports is one that it is for
-abbrev pub is_addressee : Copy → SystemConfiguration → Bool
-is_addressee copy system = list_any (enters copy system.role) system.ports
+-- whether a copy is for a system: one of the ports that it has now is one that it is for
+abbrev pub is_addressee : Copy → SystemState → Bool
+is_addressee copy system = list_any (enters copy system.configuration.role) system.attached.ports
 
 -- the least of a system's ports by which a copy comes in
 abbrev pub first_port : Copy → Role → List PortConfig → ℕ
@@ -136,13 +144,13 @@ is_group Routers = true
 -- what a copy is to a system that it is for
 abbrev pub frame_to : SystemState → Copy → Input
 frame_to system copy =
-    FrameComes (first_port copy system.configuration.role system.configuration.ports) copy.sender (is_group copy.target) copy.content
+    FrameComes (first_port copy system.configuration.role system.attached.ports) copy.sender (is_group copy.target) copy.content
 
 -- the places of the systems that a copy is for, counted from a number on
 abbrev pub addressees_from : ℕ → Copy → List SystemState → List ℕ
 addressees_from place copy [] = []
 addressees_from place copy (system ∷ systems) =
-    if is_addressee copy system.configuration then place ∷ addressees_from (place + 1) copy systems
+    if is_addressee copy system then place ∷ addressees_from (place + 1) copy systems
     else addressees_from (place + 1) copy systems
 
 -- a copy with its number
@@ -158,7 +166,7 @@ is_late limits w copy = nat_lt (copy.birth + limits.age) w.clock
 abbrev pub hand_to : Numbered → World → ℕ → SystemState → Step
 hand_to given w place system =
     followed_by
-    (writes w (Received w.clock system.configuration.name given.number (first_port given.copy system.configuration.role system.configuration.ports)))
+    (writes w (Received w.clock system.configuration.name given.number (first_port given.copy system.configuration.role system.attached.ports)))
     (λ v. takes_effect v place (step system (frame_to system given.copy)))
 
 -- the copy is given to a system at its place, unless it is late
@@ -210,7 +218,7 @@ is_void w system number = writes w (Void w.clock system.configuration.name numbe
 abbrev pub deliver_to : Limits → World → ℕ → ℕ → Option Copy → SystemState → Step
 deliver_to limits w number place None system = is_void w system number
 deliver_to limits w number place (Some copy) system =
-    if is_addressee copy system.configuration then give limits (record { number = number; copy = copy }) w place
+    if is_addressee copy system then give limits (record { number = number; copy = copy }) w place
     else is_void w system number
 
 abbrev pub deliver_at : Limits → World → ℕ → ℕ → Option SystemState → Step
@@ -266,6 +274,104 @@ injects_on w subnet (Some declared) sender target octets =
 abbrev pub injects : List Subnetwork → World → (subnet : ℕ) (sender : List ℕ) → Target → (octets : List ℕ) → Step
 injects subnets w subnet sender target octets = injects_on w subnet (slice_get subnets subnet) sender target octets
 
+-- Networks that change. An event does nothing where what it names isn't there.
+
+-- a system's line of what an event changed of it
+abbrev pub tells_of : SystemState → Note → World → Step
+tells_of system told w = writes w (Noted w.clock system.configuration.name told)
+
+-- the ports that a system has now
+abbrev pub ports_of : Option SystemState → List PortConfig
+ports_of None = []
+ports_of (Some system) = system.attached.ports
+
+-- a port on another subnetwork, at an address there, which takes frames as long as that does; its transit stays
+abbrev pub moved : PortConfig → (subnet mtu : ℕ) → (snpa : List ℕ) → PortConfig
+moved port subnet mtu snpa = record port { subnet = subnet; snpa = snpa; mtu = mtu }
+
+abbrev pub moves_port_to : World → (place number subnet : ℕ) → (snpa : List ℕ) → (mtu : ℕ) → Subnetwork → SystemState → Option PortConfig → Step
+moves_port_to w place number subnet snpa mtu declared system None = nothing w
+moves_port_to w place number subnet snpa mtu declared system (Some port) =
+    followed_by (comes w place (IsChanged (PortIsAt number (moved port subnet mtu snpa)))) (tells_of system (note.Port number declared.name snpa))
+
+abbrev pub moves_port_of : World → (place number subnet : ℕ) → (snpa : List ℕ) → (mtu : ℕ) → Subnetwork → Option SystemState → Step
+moves_port_of w place number subnet snpa mtu declared None = nothing w
+moves_port_of w place number subnet snpa mtu declared (Some system) =
+    moves_port_to w place number subnet snpa mtu declared system (slice_get system.attached.ports number)
+
+abbrev pub moves_port_on : World → (place number subnet : ℕ) → (snpa : List ℕ) → Option Subnetwork → Option ℕ → Step
+moves_port_on w place number subnet snpa None mtu = nothing w
+moves_port_on w place number subnet snpa (Some declared) None = nothing w
+moves_port_on w place number subnet snpa (Some declared) (Some mtu) =
+    moves_port_of w place number subnet snpa mtu declared (slice_get w.systems place)
+
+-- the port of a system is put on a subnetwork, and takes frames as long as that does now
+abbrev pub moves_port : List Subnetwork → World → (place number subnet : ℕ) → (snpa : List ℕ) → Step
+moves_port subnets w place number subnet snpa =
+    moves_port_on w place number subnet snpa (slice_get subnets subnet) (slice_get w.mtus subnet)
+
+-- Routes are those of routers; one leads out of a port that is there.
+abbrev pub sets_route_as : Role → World → (place : ℕ) → SystemState → Route → Step
+sets_route_as Host w place system route = nothing w
+sets_route_as Router w place system route =
+    if nat_lt route.port (length system.attached.ports)
+    then followed_by (comes w place (IsChanged (RouteIsSet route))) (tells_of system (note.Route route.prefix))
+    else nothing w
+
+abbrev pub sets_route_of : World → (place : ℕ) → Route → Option SystemState → Step
+sets_route_of w place route None = nothing w
+sets_route_of w place route (Some system) = sets_route_as system.configuration.role w place system route
+
+abbrev pub sets_route : World → (place : ℕ) → Route → Step
+sets_route w place route = sets_route_of w place route (slice_get w.systems place)
+
+abbrev pub removes_route_as : Role → World → (place : ℕ) → SystemState → (prefix : List ℕ) → Step
+removes_route_as Host w place system prefix = nothing w
+removes_route_as Router w place system prefix =
+    followed_by (comes w place (IsChanged (RouteIsGone prefix)))
+    (tells_of system (note.Unroute prefix (list_any (has_prefix prefix) system.attached.routes)))
+
+abbrev pub removes_route_of : World → (place : ℕ) → (prefix : List ℕ) → Option SystemState → Step
+removes_route_of w place prefix None = nothing w
+removes_route_of w place prefix (Some system) = removes_route_as system.configuration.role w place system prefix
+
+abbrev pub removes_route : World → (place : ℕ) → (prefix : List ℕ) → Step
+removes_route w place prefix = removes_route_of w place prefix (slice_get w.systems place)
+
+-- a port takes frames of so many octets where it is on the subnetwork
+abbrev pub resizes_port_of : World → (place number subnet mtu : ℕ) → Option PortConfig → Step
+resizes_port_of w place number subnet mtu None = nothing w
+resizes_port_of w place number subnet mtu (Some port) =
+    if port.subnet == subnet then comes w place (IsChanged (PortTakes number mtu)) else nothing w
+
+abbrev pub resizes_port : World → (place number subnet mtu : ℕ) → Step
+resizes_port w place number subnet mtu =
+    resizes_port_of w place number subnet mtu (slice_get (ports_of (slice_get w.systems place)) number)
+
+abbrev pub resizes_ports : World → (place subnet mtu : ℕ) → (numbers : List ℕ) → Step
+resizes_ports w place subnet mtu [] = nothing w
+resizes_ports w place subnet mtu (number ∷ numbers) =
+    followed_by (resizes_port w place number subnet mtu) (λ v. resizes_ports v place subnet mtu numbers)
+
+-- each port of a system does
+abbrev pub resizes_at : World → (place subnet mtu : ℕ) → Step
+resizes_at w place subnet mtu = resizes_ports w place subnet mtu (range_with_len 0 (length (ports_of (slice_get w.systems place))))
+
+abbrev pub resizes_each : World → (subnet mtu : ℕ) → (places : List ℕ) → Step
+resizes_each w subnet mtu [] = nothing w
+resizes_each w subnet mtu (place ∷ places) = followed_by (resizes_at w place subnet mtu) (λ v. resizes_each v subnet mtu places)
+
+abbrev pub resizes_on : World → (subnet mtu : ℕ) → Option Subnetwork → Step
+resizes_on w subnet mtu None = nothing w
+resizes_on w subnet mtu (Some declared) =
+    followed_by
+    (resizes_each (record w { mtus = slice_set w.mtus subnet mtu }) subnet mtu (range_with_len 0 (length w.systems)))
+    (λ v. writes v (Resized v.clock declared.name mtu))
+
+-- a subnetwork takes frames of so many octets from now on, and so do all ports on it
+abbrev pub resizes : List Subnetwork → World → (subnet mtu : ℕ) → Step
+resizes subnets w subnet mtu = resizes_on w subnet mtu (slice_get subnets subnet)
+
 -- what an event of one move does
 abbrev pub event_happens : List Subnetwork → Limits → World → Option Event → Step
 event_happens subnets limits w None = nothing w
@@ -278,6 +384,10 @@ event_happens subnets limits w (Some (Congest system on)) = comes w system (IsCo
 event_happens subnets limits w (Some (Send system from to body ask)) = asks w system (AsksToSend from to (octets_of body) ask)
 event_happens subnets limits w (Some (Echo system from to body)) = comes w system (AsksForEcho from to (octets_of body))
 event_happens subnets limits w (Some (Inject subnet from to octets)) = injects subnets w subnet from to octets
+event_happens subnets limits w (Some (event.Mtu subnet mtu)) = resizes subnets w subnet mtu
+event_happens subnets limits w (Some (event.Route system route)) = sets_route w system route
+event_happens subnets limits w (Some (event.Unroute system prefix)) = removes_route w system prefix
+event_happens subnets limits w (Some (event.Port system number subnet snpa)) = moves_port subnets w system number subnet snpa
 
 -- one move of the network
 abbrev pub after : Plan → World → Move → Step
@@ -294,7 +404,15 @@ states_from limits place (system ∷ systems) =
 
 -- the world of a scenario's declarations
 abbrev pub first_world : Plan → World
-first_world plan = record { clock = 0; systems = states_from plan.limits 0 plan.systems; units = []; copies = []; cursor = 0 }
+first_world plan =
+    record {
+      clock = 0;
+      systems = states_from plan.limits 0 plan.systems;
+      mtus = map (λ (subnet : Subnetwork). subnet.mtu) plan.subnets;
+      units = [];
+      copies = [];
+      cursor = 0;
+    }
 
 -- what a copy weighs: its octets, and 64
 abbrev pub copy_weight : Copy → ℕ

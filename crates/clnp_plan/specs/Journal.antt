@@ -2,6 +2,7 @@
 use Rattle.std.specs.Prelude.{ℕ, Bool, true, false, List, [], ◌∷◌, ◌++◌, codes, Option, None, Some}
 use Rattle.std.specs.List.{flat_map}
 use Rattle.std.specs.Fmt.{decimal}
+use Rattle.pdu_header.specs.Nsap.Prefix.{prefix_text}
 use Rattle.pdu_header.specs.Nsap.Text.{hex_text}
 use Rattle.pdu_header.specs.Nsap.declared.target.Target.{Target}
 use Rattle.pdu_header.specs.Nsap.declared.target.Target.TheVariants.{System, EndSystems, Routers}
@@ -15,7 +16,7 @@ use Rattle.esis_tables.specs.declared.fact.TableKind.TheVariants as table
 use Rattle.clnp_plan.specs.declared.journal.Telling.{Telling}
 use Rattle.clnp_plan.specs.declared.journal.Telling.TheVariants as telling
 use Rattle.clnp_plan.specs.declared.note.Note.{Note}
-use Rattle.clnp_plan.specs.declared.note.Note.TheVariants.{Sent, Refused, Got, Report, Echoed, Stray, Discard, Held, Repeat, Crowded, Many, NoSlot, Interference, Expired, NotMine, Alien, BadEsis, Hear, Gone, Ignored, Restart, Congest}
+use Rattle.clnp_plan.specs.declared.note.Note.TheVariants.{Sent, Refused, Got, Report, Echoed, Stray, Discard, Held, Repeat, Crowded, Many, NoSlot, Interference, Expired, NotMine, Alien, BadEsis, Hear, Gone, Ignored, Restart, Congest, Route, Unroute, Port}
 use Rattle.clnp_plan.specs.declared.note.Why.{Why}
 use Rattle.clnp_plan.specs.declared.note.Why.TheVariants as why
 
@@ -72,6 +73,11 @@ abbrev pub on_or_off : Bool → List ℕ
 on_or_off true = codes "on"
 on_or_off false = codes "off"
 
+-- whether a route was there
+abbrev pub yes_or_no : Bool → List ℕ
+yes_or_no true = codes "yes"
+yes_or_no false = codes "no"
+
 -- where a frame goes: to one system, or to a group
 abbrev pub target_text : Target → List ℕ
 target_text (System snpa) = hex_text snpa
@@ -112,17 +118,21 @@ note_words (Gone table key) = codes "gone" ∷ table_word table ∷ hex_text key
 note_words (Ignored rd) = codes "ignored" ∷ ignored_word rd ∷ []
 note_words Restart = codes "restart" ∷ []
 note_words (Congest on) = codes "congest" ∷ on_or_off on ∷ []
+note_words (Route prefix) = codes "route" ∷ prefix_text prefix ∷ []
+note_words (Unroute prefix there) = codes "unroute" ∷ prefix_text prefix ∷ yes_or_no there ∷ []
+note_words (Port port subnet snpa) = codes "port" ∷ decimal port ∷ subnet ∷ hex_text snpa ∷ []
 
 -- A line: what a system notes, a frame that it transmits as a copy with a number on a port, a copy that isn't there
--- for it to be given, or one that is too old to be given; or a frame from outside that became a copy on a subnetwork. And
--- what becomes of copies, which a trace tells and a journal doesn't: one comes to a system on a port, one is lost, or one is
--- settled that is for nobody.
+-- for it to be given, or one that is too old to be given; a frame from outside that became a copy on a subnetwork; or a
+-- subnetwork that takes frames of so many octets from now on. And what becomes of copies, which a trace tells and a journal
+-- doesn't: one comes to a system on a port, one is lost, or one is settled that is for nobody.
 pub data Line : Type 0 where
   Noted : (now : ℕ) (name : List ℕ) (note : Note) → Line
   Transmitted : (now : ℕ) (name : List ℕ) (copy : ℕ) (port : ℕ) (target : Target) (frame : List ℕ) → Line
   Void : (now : ℕ) (name : List ℕ) (copy : ℕ) → Line
   Late : (now : ℕ) (name : List ℕ) (copy : ℕ) → Line
   Injected : (now : ℕ) (copy : ℕ) (subnet sender : List ℕ) (target : Target) → Line
+  Resized : (now : ℕ) (subnet : List ℕ) (mtu : ℕ) → Line
   Received : (now : ℕ) (name : List ℕ) (copy : ℕ) (port : ℕ) → Line
   Lost : (now : ℕ) (copy : ℕ) → Line
   ForNobody : (now : ℕ) (copy : ℕ) → Line
@@ -149,6 +159,7 @@ told_text form (Void now name copy) = line_of (decimal now) (name ∷ codes "voi
 told_text form (Late now name copy) = line_of (decimal now) (name ∷ codes "late" ∷ decimal copy ∷ [])
 told_text form (Injected now copy subnet sender target) =
     line_of (decimal now) (codes "-" ∷ codes "inject" ∷ decimal copy ∷ subnet ∷ hex_text sender ∷ target_text target ∷ [])
+told_text form (Resized now subnet mtu) = line_of (decimal now) (codes "-" ∷ codes "mtu" ∷ subnet ∷ decimal mtu ∷ [])
 told_text form (Received now name copy port) =
     traced form (line_of (decimal now) (name ∷ codes "rx" ∷ decimal copy ∷ decimal port ∷ []))
 told_text form (Lost now copy) = traced form (line_of (decimal now) (codes "-" ∷ codes "lost" ∷ decimal copy ∷ []))

@@ -1,9 +1,10 @@
 //! The text of the lines of journals and traces.
 ghost use Rattle.std.specs.Prelude.{◌≡◌, [], ◌∷◌, ◌++◌, codes, OnOk, OnErr};
 ghost use Rattle.std.specs.Fmt.{decimal};
+ghost use Rattle.pdu_header.specs.Nsap.Prefix.{prefix_text};
 ghost use Rattle.pdu_header.specs.Nsap.Text.{hex_text};
 ghost use Rattle.pdu_header.specs.Spelling.{pair_of};
-ghost use Rattle.clnp_plan.specs.Journal.{ForNobody, Injected, Late, Lost, Noted, Received, Transmitted, Void, line_of, line_text, trace_text, end_text, heard_words, ignored_word, kind_word, table_word, why_word, octet_word, octets_word, identifier_word, rule_word};
+ghost use Rattle.clnp_plan.specs.Journal.{ForNobody, Injected, Late, Lost, Noted, Received, Resized, Transmitted, Void, line_of, line_text, trace_text, end_text, heard_words, ignored_word, kind_word, table_word, why_word, octet_word, octets_word, identifier_word, rule_word, yes_or_no};
 ghost use Rattle.clnp_plan.specs.Words.{line_from, word_text};
 
 use crate::line::{Word, on_or_off, push_line, target_text};
@@ -95,6 +96,21 @@ pub fn journal_text<'a>(
         Note::Ignored { rd } => push_one(start, b"ignored", ignored_word(rd), out),
         Note::Restart => push_label(start, b"restart", out),
         Note::Congest { on } => push_one(start, b"congest", on_or_off(on), out),
+        Note::Route { ref prefix } => push_one(start, b"route", Word::Prefix(prefix), out),
+        Note::Unroute { ref prefix, there } => {
+            push_two(
+                start,
+                b"unroute",
+                Word::Prefix(prefix),
+                yes_or_no(there),
+                out,
+            )
+        }
+        Note::Port {
+            port,
+            ref subnet,
+            ref snpa,
+        } => push_port(start, port, subnet, snpa, out),
     }
 }
 
@@ -302,6 +318,24 @@ fn push_hearing<'a>(
     }
 }
 
+/// Appends the line of a port that was put on a subnetwork.
+fn push_port<'a>(
+    start: Start<'a>,
+    port: u8,
+    subnet: &'a Octets,
+    snpa: &'a Snpa,
+    out: &mut Vec<u8>,
+) -> Result<(), NoMemory>
+    ensures written { OnOk result (out.new.items ≡ out.old.items
+        ++ line_from start.entry (codes "port" ∷ decimal port ∷ subnet.now ∷ hex_text snpa.now ∷ [])) }
+    ensures same { OnErr result (out.new.items ≡ out.old.items) }
+{
+    let port = Word::Number(u64::from(port));
+    let subnet = Word::Text(subnet.as_bytes());
+    let snpa = Word::Octets(snpa.as_bytes());
+    push_three(start, b"port", port, subnet, snpa, out)
+}
+
 /// Appends the line of a label alone.
 fn push_label<'a>(start: Start<'a>, label: &'a [u8], out: &mut Vec<u8>) -> Result<(), NoMemory>
     ensures written { OnOk result (out.new.items ≡ out.old.items ++ line_from start.entry (label.now ∷ [])) }
@@ -461,6 +495,30 @@ pub fn injection_text<'a>(
     push_line(Word::Number(now), &words, out)
 }
 
+/// Appends the line of a subnetwork that takes frames of so many octets from now on.
+///
+/// # Errors
+///
+/// `NoMemory`; `out` is then as it was.
+pub fn resize_text<'a>(
+    _alloc: Global,
+    now: u64,
+    subnet: &'a [u8],
+    mtu: u16,
+    out: &mut Vec<u8>,
+) -> Result<(), NoMemory>
+    ensures written { OnOk result (out.new.items ≡ out.old.items ++ line_text (Resized now subnet.now mtu)) }
+    ensures same { OnErr result (out.new.items ≡ out.old.items) }
+{
+    let words = [
+        Word::Text(b"-"),
+        Word::Text(b"mtu"),
+        Word::Text(subnet),
+        Word::Number(u64::from(mtu)),
+    ];
+    push_line(Word::Number(now), &words, out)
+}
+
 /// Appends the line of a trace that tells of a copy that is given to a system on a port.
 ///
 /// # Errors
@@ -548,6 +606,17 @@ fn table_word(table: TableKind) -> Word<'static>
         TableKind::Es => Word::Text(b"es"),
         TableKind::Is => Word::Text(b"is"),
         TableKind::Rd => Word::Text(b"rd"),
+    }
+}
+
+/// Whether a route was there.
+fn yes_or_no(there: bool) -> Word<'static>
+    ensures { word_text result ≡ yes_or_no there }
+{
+    if there {
+        Word::Text(b"yes")
+    } else {
+        Word::Text(b"no")
     }
 }
 

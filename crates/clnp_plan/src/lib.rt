@@ -15,7 +15,7 @@ pub use esis_tables;
 pub use forwarding;
 pub use journal::{
     Telling, injection_text, journal_text, late_text, loss_text, nobody_text, push_end,
-    receipt_text, transmission_text, void_text,
+    receipt_text, resize_text, transmission_text, void_text,
 };
 pub use line::{Word, on_or_off, push_line, push_words, target_text};
 pub use note::{Note, Why};

@@ -1,7 +1,7 @@
 use esis_tables::{Heard, TableKind};
 use pdu_header::Kind;
 use pdu_header::clnp_base::Octets;
-use pdu_header::nsap::Address;
+use pdu_header::nsap::{Address, Prefix, Snpa};
 
 /// Why a unit wasn't made.
 #[derive(Clone, Copy, PartialEq, Eq)]
@@ -128,5 +128,20 @@ pub enum Note {
     /// The router was said to be congested, or else to be so no longer.
     Congest {
         on: bool,
+    },
+    /// The router's route of this prefix was set.
+    Route {
+        prefix: Prefix,
+    },
+    /// The router's route of this prefix was removed, if it was there.
+    Unroute {
+        prefix: Prefix,
+        there: bool,
+    },
+    /// The system's port was put on the subnetwork of this name, at an address there.
+    Port {
+        port: u8,
+        subnet: Octets,
+        snpa: Snpa,
     },
 }

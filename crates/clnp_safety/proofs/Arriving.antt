@@ -118,7 +118,7 @@ module _ (laws : StepLaws) (plan : Plan) (fit : IsFit plan) (past : List Entry) 
           tells_soundly plan past w s.configuration.name units place taken.after (note.Echoed p.unit.source p.unit.destination request.number)
           (record {
             sound = like_is_sound plan units place then taken.after
-                (record { place = refl; configuration = refl; hold = refl; moment = refl; identifiers = refl; buffers = refl; known = λ known. known }) left;
+                (record { place = refl; configuration = refl; attached = refl; hold = refl; moment = refl; identifiers = refl; buffers = refl; known = λ known. known }) left;
             rest = made.rest;
           })
           (reply_is_founded laws plan fit past w h stood p.unit range.unit place s sound.declared request it.0 erp it.1)
@@ -271,7 +271,7 @@ module _ (laws : StepLaws) (plan : Plan) (fit : IsFit plan) (past : List Entry) 
       goes_on_way_soundly (Some way) =
           elim (cases_Bool (is_complete options && not (ends_at (towards p.unit.destination (target_of options)) way.title))) [
             | inl off ↦ rw off (is_discarded _)
-            | inr there ↦ rw there (goes_on_by_soundly way (slice_get s.configuration.ports way.place.port))
+            | inr there ↦ rw there (goes_on_by_soundly way (slice_get s.attached.ports way.place.port))
           ]
 
     goes_on_soundly : (came : Place) → Gives (goes_on s came p [])

@@ -35,7 +35,7 @@ use Rattle.clnp_safety.proofs.Lines.{LineIs, lines_are, lines_say_no_restart, qu
 use Rattle.clnp_safety.proofs.Outputs.{takes_effect_notes, takes_effect_stands}
 use Rattle.clnp_safety.proofs.Told.{outputs_note}
 use Rattle.clnp_safety.proofs.Units.{units_with}
-use Rattle.clnp_safety.proofs.Effects.{IsCurrent, StandsWith, fresh_is_sound, notes_are_steady, others_stand, ports_after, step_gives_soundly}
+use Rattle.clnp_safety.proofs.Effects.{IsCurrent, StandsWith, fresh_is_sound, notes_are_steady, others_stand, step_gives_soundly}
 use Rattle.clnp_safety.proofs.Moves.{MoveIsSound, nothing_is_sound, sound_since_itself, stands_soundly, stay_pending}
 use Rattle.clnp_safety.proofs.Honest.{ComesSoundly, NoteIsSound, NoteIsSteady}
 
@@ -163,7 +163,7 @@ module _ (laws : StepLaws) (plan : Plan) (fit : IsFit plan) (past : List Entry) 
           let kept = takes_effect_stands (length plan.systems) (NoteIsSteady plan past w) w.units (StandsWith plan past w.units IsCurrent w.units)
           (StandsWith plan then later IsCurrent later) w place effect others
           (record { stands = record { sound = done.after; pending = pending }; also = laws.steps.moment s input ∙ at ∙ h.current place s there })
-          (ports_after laws plan fit past w.units place s it.sound input comes)
+          done.after.attached.addressed
           (step_gives_soundly laws plan fit past w.units place s it.sound input comes (NoteIsSteady plan past w effect.after.configuration.name) fair notes)
           (sound_since_itself plan past w h).stands in
           record {

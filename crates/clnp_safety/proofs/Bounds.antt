@@ -22,9 +22,9 @@ use Rattle.clnp_network.specs.World.{World, Copy, copy_from, copy_from_outside, 
 use Rattle.clnp_network.specs.Run.{world_after}
 use Rattle.clnp_network.specs.Safe.{IsWithinBudgets, IsWithinLifetimes, MeetsLifetime}
 use Rattle.clnp_safety.specs.StepLaws.{StepLaws}
-use Rattle.clnp_safety.proofs.Lines.{AnyLine, any_line_is_fine}
+use Rattle.clnp_safety.proofs.Lines.{AnyLine, any_line_changes, any_line_is_fine}
 use Rattle.clnp_safety.proofs.Steps.{Keeps, keeps-put_all_out, with_outside}
-use Rattle.clnp_safety.proofs.EveryMove.{AnyFrame, AnyInput, Follows, IsOfClock, any_events, asked_by_all, keeps-moves}
+use Rattle.clnp_safety.proofs.EveryMove.{AnyFrame, AnyInput, Follows, IsOfNow, any_events, asked_by_all, keeps-moves}
 use Rattle.clnp_safety.proofs.Units.{lives_within}
 use Rattle.clnp_machine.proofs.ClnpBase.ListSteps.{all_set}
 
@@ -56,8 +56,8 @@ copy_meets (Some port) target maker birth content h = (h, tt)
 frame_meets : (system : SystemState) (v : World) (port : ℕ) (target : Target) (maker : Maker) (birth : ℕ) (content : Content) → MeetsLifetime content
     → IsWithinLifetimes v → Keeps IsWithinLifetimes AnyLine (sends_frame system v port target maker birth content)
 frame_meets system v port target maker birth content h k = record {
-  world = AllByRecursion-append Bounded v.copies (copy_from (slice_get system.configuration.ports port) target maker birth content) k
-      (copy_meets (slice_get system.configuration.ports port) target maker birth content h);
+  world = AllByRecursion-append Bounded v.copies (copy_from (slice_get system.attached.ports port) target maker birth content) k
+      (copy_meets (slice_get system.attached.ports port) target maker birth content h);
   lines = (tt, tt);
 }
 
@@ -74,7 +74,7 @@ module _ (s : SystemState) (input : Input) (comes : ComesWithin input) (units : 
       frame_meets system v port target (DeclaredAt system.place) v.clock (Esis value []) tt k
 
 step_meets : StepLaws → (w : World) (place : ℕ) (s : SystemState) (input : Input) → slice_get w.systems place ≡ Some s → ComesWithin input
-    → IsOfClock w input → IsWithinLifetimes w → Keeps IsWithinLifetimes AnyLine (takes_effect w place (step s input))
+    → IsOfNow w s input → IsWithinLifetimes w → Keeps IsWithinLifetimes AnyLine (takes_effect w place (step s input))
 step_meets laws w place s input there comes at k =
     let effect : Effect = step s input in
     keeps-put_all_out IsWithinLifetimes AnyLine effect.after effect.outputs
@@ -100,8 +100,21 @@ outside_meets w subnet sender target octets any k =
 pub lifetimes_hold : StepLaws → (plan : Plan) (moves : List Move) → IsWithinLifetimes (world_after plan (first_world plan) moves)
 lifetimes_hold laws plan moves =
     keeps-moves (λ w. ComesWithin) AnyFrame IsWithinLifetimes AnyLine
-    (record { steps = step_meets laws; frames = frame_comes_within; moments = λ w now. tt; restarts = λ w. tt; congestion = λ w on. tt; cursor = λ w next k. k; clock = λ w k. k; outside = outside_meets; injected = λ now copy subnet sender target. tt; fine = any_line_is_fine })
-    plan (λ w. asked_by_all ComesWithin (λ from to octets ask. tt) (λ from to octets. tt) plan.events) moves (first_world plan) tt
+    (record {
+      steps = step_meets laws;
+      frames = frame_comes_within;
+      moments = λ w now. tt;
+      restarts = λ w. tt;
+      congestion = λ w on. tt;
+      cursor = λ w next k. k;
+      clock = λ w k. k;
+      outside = outside_meets;
+      sizes = λ w subnet mtu takes k. k;
+      injected = λ now copy subnet sender target. tt;
+      fine = any_line_is_fine;
+      changing = any_line_changes;
+    })
+    plan (λ w. asked_by_all ComesWithin (λ from to octets ask. tt) (λ from to octets. tt) (λ change. tt) plan.events) moves (first_world plan) tt
 
 -- Budgets.
 
@@ -110,7 +123,7 @@ put_out_within system (Notes note) v k = record { world = k; lines = (tt, tt) }
 put_out_within system (Transmits port target packet) v k = record { world = k; lines = (tt, tt) }
 put_out_within system (SendsEsis port target value) v k = record { world = k; lines = (tt, tt) }
 
-step_within : StepLaws → (w : World) (place : ℕ) (s : SystemState) (input : Input) → slice_get w.systems place ≡ Some s → AnyInput input → IsOfClock w input
+step_within : StepLaws → (w : World) (place : ℕ) (s : SystemState) (input : Input) → slice_get w.systems place ≡ Some s → AnyInput input → IsOfNow w s input
     → IsWithinBudgets w → Keeps IsWithinBudgets AnyLine (takes_effect w place (step s input))
 step_within laws w place s input there any at k =
     let effect : Effect = step s input in
@@ -127,6 +140,19 @@ opened_within limits place (system ∷ systems) = (omega arith, opened_within li
 pub budgets_hold : StepLaws → (plan : Plan) (moves : List Move) → IsWithinBudgets (world_after plan (first_world plan) moves)
 budgets_hold laws plan moves =
     keeps-moves (λ w. AnyInput) AnyFrame IsWithinBudgets AnyLine
-    (record { steps = step_within laws; frames = λ w at copy e k v follows s. tt; moments = λ w now. tt; restarts = λ w. tt; congestion = λ w on. tt; cursor = λ w next k. k; clock = λ w k. k; outside = λ w subnet sender target octets any k. k; injected = λ now copy subnet sender target. tt; fine = any_line_is_fine })
+    (record {
+      steps = step_within laws;
+      frames = λ w at copy e k v follows s. tt;
+      moments = λ w now. tt;
+      restarts = λ w. tt;
+      congestion = λ w on. tt;
+      cursor = λ w next k. k;
+      clock = λ w k. k;
+      outside = λ w subnet sender target octets any k. k;
+      sizes = λ w subnet mtu takes k. k;
+      injected = λ now copy subnet sender target. tt;
+      fine = any_line_is_fine;
+      changing = any_line_changes;
+    })
     plan (λ w. any_events plan.events) moves (first_world plan)
     (opened_within plan.limits 0 plan.systems)

@@ -1,9 +1,11 @@
 -- Whatever comes from outside, each frame carries what one may carry, the options of a packet have the form of its unit's, and a
 -- packet that isn't from outside is a range of a unit that was made.
-use Rattle.clnp_machine.proofs.ClnpBase.Lists.{AllByRecursion-append, AllByRecursion-both, AllByRecursion-implies, AllByRecursion-slice_get, set_each}
-use Rattle.std.proofs.Common.{◌≡◌, ◌∙◌, refl, sym, ap, subst, ℕ, ◌+◌, ◌⊎◌, inl, inr, Bool, true, false, List, [], ◌∷◌, ◌++◌, length, Option, None, Some, arith}
-use Rattle.std.specs.Prelude.{if◌then◌else◌, is_none, slice_get}
+use Rattle.clnp_machine.proofs.ClnpBase.ListSteps.{all_set}
+use Rattle.clnp_machine.proofs.ClnpBase.Lists.{AllByRecursion-append, AllByRecursion-both, AllByRecursion-from_places, AllByRecursion-implies, AllByRecursion-slice_get, set_each}
+use Rattle.std.proofs.Common.{◌≡◌, ◌∙◌, refl, sym, ap, subst, ℕ, ◌+◌, ◌⊎◌, inl, inr, Bool, true, false, List, [], ◌∷◌, ◌++◌, length, length-set, Option, None, Some, arith}
+use Rattle.std.specs.Prelude.{if◌then◌else◌, is_none, slice_get, slice_set}
 use Rattle.std.specs.List.{AllByRecursion}
+use Rattle.std.proofs.lemmas.List.{length-map}
 use Rattle.hex.specs.Hex.{IsBytes}
 use Rattle.clnp_machine.specs.Nsap.Address.{IsAddress}
 use Rattle.clnp_machine.specs.Nsap.declared.target.Target.{Target}
@@ -12,27 +14,30 @@ use Rattle.clnp_machine.specs.PduHeader.Reading.{rest_of}
 use Rattle.clnp_machine.specs.EsisPdus.Grammar.{IsPdu}
 use Rattle.clnp_machine.specs.EsisPdus.Reading as esis_reading
 use Rattle.clnp_machine.specs.EsisPdus.Rules.{why_refused}
-use Rattle.clnp_machine.specs.ClnpPlan.Configuration.{SystemConfiguration}
+use Rattle.clnp_machine.specs.ClnpPlan.Configuration.{IsWithin, SystemConfiguration}
 use Rattle.clnp_machine.specs.ClnpPlan.declared.config.PortConfig.{PortConfig}
-use Rattle.clnp_network.specs.Scenario.Scenario.{AsksFairly, AsksInForm, InjectsInForm, IsFit, Plan}
+use Rattle.clnp_network.specs.Scenario.Scenario.{IsFit, Plan, Subnetwork}
 use Rattle.clnp_network.specs.Scenario.declared.event.Event.{Event}
-use Rattle.clnp_network.specs.Scenario.declared.event.Event.TheVariants.{Send, Echo, Inject}
+use Rattle.clnp_network.specs.Scenario.declared.event.Event.TheVariants.{Send, Echo, Inject, Mtu, Route, Unroute, Port}
 use Rattle.clnp_network.specs.Scenario.declared.event.Move.{Move}
 use Rattle.clnp_machine.specs.Unit as unit
 use Rattle.clnp_machine.specs.Unit.{Maker, DeclaredAt, Outside, IsCarriable, Packet}
 use Rattle.clnp_machine.specs.Content.{Content, IsCarried, Labelled, Esis, Unlabelled, esis_value_in, is_accepted, packet_from_outside, value_in}
-use Rattle.clnp_machine.specs.System.{SystemState, Input, FrameComes, Output, Transmits, SendsEsis, Notes, Effect}
+use Rattle.clnp_machine.specs.Change.{PortTakes}
+use Rattle.clnp_machine.specs.System.{SystemState, Input, FrameComes, IsChanged, Output, Transmits, SendsEsis, Notes, Effect}
 use Rattle.clnp_machine.specs.Step.{step}
 use Rattle.clnp_machine.specs.Steps.{GoesOnOf, IsFair, IsRangeOf, KeepsAsOffered, KnowsAddresses, SendsCarriable, SendsEsisPdus, SendsRangesOrGoesOn}
 use Rattle.clnp_network.specs.World.{World, Copy, copy_from, copy_from_outside, frame_to, sends_frame, put_out, takes_effect, with_effect, first_world}
 use Rattle.clnp_network.specs.Run.{world_after}
 use Rattle.clnp_network.specs.Safe.{KeepsHeader, KeepsHeaders, RangeIn}
 use Rattle.clnp_safety.specs.Outside.{CarriesRangesOrOutside, IsMadeBy, OutsideOrRange, PduIsUnbroken, PdusAreUnbroken}
+use Rattle.clnp_safety.specs.Attached.{AreItsMtus, HasItsPorts, IsAttachedThroughout}
 use Rattle.clnp_safety.specs.StepLaws.{StepLaws}
-use Rattle.clnp_safety.proofs.Effects.{configured}
-use Rattle.clnp_safety.proofs.EveryMove.{Follows, GivesOnly, IsOfClock, keeps-moves}
-use Rattle.clnp_safety.proofs.Lines.{AnyLine, any_line_is_fine}
-use Rattle.clnp_safety.proofs.Opens.{opened}
+use Rattle.clnp_safety.proofs.Attaching.{is_fair_change}
+use Rattle.clnp_safety.proofs.EveryMove.{Follows, GivesOnly, IsOfNow, keeps-moves}
+use Rattle.clnp_safety.proofs.Events.{ChangesFormed, IsFitEvent, fit_events}
+use Rattle.clnp_safety.proofs.Lines.{AnyLine, any_line_changes, any_line_is_fine}
+use Rattle.clnp_safety.proofs.Opens.{configured, first_mtus, opened}
 use Rattle.clnp_safety.proofs.Outputs.{PortsAreAddressed}
 use Rattle.clnp_safety.proofs.Traced.{outside_makes}
 use Rattle.clnp_safety.proofs.Units.{packet_goes_on, range_sooner, range_later}
@@ -56,17 +61,20 @@ pub record IsCarriedInForm (units : List unit.Unit) (copy : Copy) : Type 0 where
   made_by : IsMadeBy copy.maker copy.content
   origin : OutsideOrRange units copy
 
--- the system at a place is that of the plan, keeps segments as they were offered, and heard of systems at addresses
+-- the system at a place is that of the plan, keeps segments as they were offered, heard of systems at addresses, and is attached as it
+-- should be
 pub record IsOfPlan (plan : Plan) (place : ℕ) (s : SystemState) : Type 0 where
   pub declared : slice_get plan.systems place ≡ Some s.configuration
   pub kept : KeepsAsOffered s
   pub known : KnowsAddresses s
+  pub ports : HasItsPorts s
 
--- these units were made, each frame is such, and each system is that of the plan
+-- these units were made, each frame is such, each system is that of the plan, and subnetworks take frames that are long enough
 pub record AllIsCarriedBeside (plan : Plan) (units : List unit.Unit) (w : World) : Type 0 where
   pub made : w.units ≡ units
   pub copies : AllByRecursion (IsCarriedInForm units) w.copies
   pub each : (place : ℕ) (s : SystemState) → slice_get w.systems place ≡ Some s → IsOfPlan plan place s
+  pub mtus : AreItsMtus plan w.mtus
 
 abbrev pub AllIsCarried : Plan → World → Type 0
 AllIsCarried plan w = AllIsCarriedBeside plan w.units w
@@ -101,7 +109,7 @@ FrameInForm units (FrameComes port sender to_group content) = IsInForm content �
 FrameInForm units _ = Unit {0}
 
 abbrev pub ComesFairly : List unit.Unit → Input → Type 0
-ComesFairly units input = IsFair input × FrameInForm units input
+ComesFairly units input = IsFair input × FrameInForm units input × ChangesFormed input
 
 packet_is_known : (units : List unit.Unit) (maker : Maker) (birth : ℕ) (content : Content) → IsMadeBy maker content → (maker ≡ Outside) ⊎ RangeIn units birth content
     → PacketIsKnown units content
@@ -117,20 +125,19 @@ known_later units more (Unlabelled octets) known = tt
 abbrev IsBroughtFairly : List ℕ → List ℕ → Type 0
 IsBroughtFairly sender octets = IsAddress sender × IsBytes octets
 
-event_gives : (units : List unit.Unit) (subnets : ℕ) (event : Event) → AsksFairly event → AsksInForm event × InjectsInForm subnets event
-    → GivesOnly (ComesFairly units) IsBroughtFairly event
-event_gives units subnets (Send system from to body ask) fair formed = ((formed.0, fair), tt)
-event_gives units subnets (Echo system from to body) fair formed = ((formed.0.0, formed.0.1), tt)
-event_gives units subnets (Inject subnet from to octets) fair formed = (formed.1.sender, formed.1.bytes)
-event_gives units subnets _ fair formed = tt
+event_gives : (plan : Plan) (units : List unit.Unit) (event : Event) → IsFitEvent plan event → GivesOnly (ComesFairly units) IsBroughtFairly event
+event_gives plan units (Send system from to body ask) is = ((is.formed, is.fair), tt, tt)
+event_gives plan units (Echo system from to body) is = ((is.formed.0, is.formed.1), tt, tt)
+event_gives plan units (Inject subnet from to octets) is = (is.injected.sender, is.injected.bytes)
+event_gives plan units (Mtu subnet mtu) is = λ number. (tt, tt, is.said)
+event_gives plan units (Route system route) is = (tt, tt, is.changes.next)
+event_gives plan units (Unroute system prefix) is = (tt, tt, tt)
+event_gives plan units (Port system number subnet snpa) is = λ port mtu. (tt, tt, is.changes.address)
+event_gives plan units _ is = tt
 
 events_give : (plan : Plan) → IsFit plan → (units : List unit.Unit) → AllByRecursion (GivesOnly (ComesFairly units) IsBroughtFairly) plan.events
 events_give plan fit units =
-    let subnets = length plan.subnets in
-    AllByRecursion-both AsksFairly (λ event. AsksInForm event × InjectsInForm subnets event) (GivesOnly (ComesFairly units) IsBroughtFairly) (event_gives units subnets) plan.events
-    fit.asks
-    (AllByRecursion-both AsksInForm (InjectsInForm subnets) (λ event. AsksInForm event × InjectsInForm subnets event) (λ event formed injected. (formed, injected))
-    plan.events fit.formed fit.injected)
+    AllByRecursion-implies (IsFitEvent plan) (GivesOnly (ComesFairly units) IsBroughtFairly) (event_gives plan units) plan.events (fit_events plan fit)
 
 -- What a step sends.
 
@@ -163,10 +170,11 @@ module _ (plan : Plan) (units : List unit.Unit) where
   frame_is_carried system addressed v port target maker birth content sent k = record {
     world = record {
       made = k.made;
-      copies = AllByRecursion-append (IsCarriedInForm units) v.copies (copy_from (slice_get system.configuration.ports port) target maker birth content) k.copies
-          (copy_in_form units (slice_get system.configuration.ports port) target maker birth content
-          (λ config there. AllByRecursion-slice_get (λ (port : PortConfig). IsAddress port.snpa) system.configuration.ports port config there addressed) sent);
+      copies = AllByRecursion-append (IsCarriedInForm units) v.copies (copy_from (slice_get system.attached.ports port) target maker birth content) k.copies
+          (copy_in_form units (slice_get system.attached.ports port) target maker birth content
+          (λ config there. AllByRecursion-slice_get (λ (port : PortConfig). IsAddress port.snpa) system.attached.ports port config there addressed) sent);
       each = k.each;
+      mtus = k.mtus;
     };
     lines = (tt, tt);
   }
@@ -215,24 +223,25 @@ module _ (laws : StepLaws) (s : SystemState) (units : List unit.Unit) where
   sends_in_form input comes made (SendsEsis port target value) ranges sends = sends.1
 
 module _ (laws : StepLaws) (plan : Plan) (fit : IsFit plan) where
-  pub step_is_carried : (w : World) (place : ℕ) (s : SystemState) (input : Input) → slice_get w.systems place ≡ Some s → ComesFairly w.units input → IsOfClock w input
+  pub step_is_carried : (w : World) (place : ℕ) (s : SystemState) (input : Input) → slice_get w.systems place ≡ Some s → ComesFairly w.units input → IsOfNow w s input
       → AllIsCarried plan w → Keeps (AllIsCarried plan) AnyLine (takes_effect w place (step s input))
   step_is_carried w place s input there comes at k =
       let effect : Effect = step s input in
       let it = k.each place s there in
-      let is = configured laws plan fit [] place s.configuration it.declared in
+      let is = configured plan fit place s.configuration it.declared in
       let same = (laws.steps.itself s input).configuration in
-      let addressed = subst (λ (c : SystemConfiguration). AllByRecursion (λ (port : PortConfig). IsAddress port.snpa) c.ports) (sym same) is.1.ports in
+      let attached = laws.steps.soundly s input (is_fair_change w s k.mtus.each it.ports.attached input comes.2 at) it.ports.attached in
       let units : List unit.Unit = w.units ++ effect.units in
       let sends = AllByRecursion-both (SendsRangesOrGoesOn s input effect.units) (λ output. SendsCarriable output × SendsEsisPdus output) (SendsInForm units)
       (sends_in_form laws s w.units input comes effect.units) effect.outputs (laws.steps.ranges s input)
       (AllByRecursion-both SendsCarriable SendsEsisPdus (λ output. SendsCarriable output × SendsEsisPdus output) (λ output a b. (a, b)) effect.outputs
-      (laws.steps.carriable s input is.0 comes.0 is.1.own it.kept) (laws.steps.esis_pdus s input is.0 is.1 comes.0 it.known)) in
+      (laws.steps.carriable s input is.0 it.ports.attached.ports comes.0 is.1.own it.kept)
+      (laws.steps.esis_pdus s input is.0 is.1.own it.ports.attached.next comes.0 it.known)) in
       let beside : World → Type 0 = AllIsCarriedBeside plan units in
       keeps-map beside (AllIsCarried plan) AnyLine (takes_effect w place effect) (all_beside plan units)
       (keeps-put_all_out beside AnyLine effect.after effect.outputs
       (AllByRecursion-implies (SendsInForm units) (λ output. (v : World) → beside v → Keeps beside AnyLine (put_out effect.after v output))
-      (output_is_carried plan units effect.after addressed) effect.outputs sends)
+      (output_is_carried plan units effect.after attached.addressed) effect.outputs sends)
       (with_effect w place effect)
       (record {
         made = refl;
@@ -242,15 +251,23 @@ module _ (laws : StepLaws) (plan : Plan) (fit : IsFit plan) where
               declared = it.declared ∙ ap Some (sym same);
               kept = laws.steps.kept s input comes.0 it.kept;
               known = laws.steps.known s input comes.0 it.known;
+              ports = record {
+                attached = attached;
+                number = laws.steps.ports s input ∙ it.ports.number ∙ ap (λ (c : SystemConfiguration). length c.ports) (sym same);
+              };
             });
+        mtus = k.mtus;
       }))
 
   pub frame_comes_fairly : (w : World) (at : ℕ) (copy : Copy) → slice_get w.copies at ≡ Some copy → AllIsCarried plan w
       → (v : World) → Follows w v → (s : SystemState) → ComesFairly v.units (frame_to s copy)
   frame_comes_fairly w at copy there k v follows s =
       let it = AllByRecursion-slice_get (IsCarriedInForm w.units) w.copies at copy there k.copies in
-      let known = packet_is_known w.units copy.maker copy.birth copy.content it.made_by it.origin in
-      ((it.sender, it.carried), (it.form, subst (λ us. PacketIsKnown us copy.content) (sym follows.units.1) (known_later w.units follows.units.0 copy.content known)))
+      let known = packet_is_known w.units copy.maker copy.birth copy.content it.made_by it.origin in (
+        (it.sender, it.carried),
+        (it.form, subst (λ us. PacketIsKnown us copy.content) (sym follows.units.1) (known_later w.units follows.units.0 copy.content known)),
+        tt,
+      )
 
   -- a packet from outside is all of what is known of its unit
   outside_in_form : (number moment : ℕ) (octets : List ℕ) (accepted unrefused : Bool)
@@ -275,6 +292,19 @@ module _ (laws : StepLaws) (plan : Plan) (fit : IsFit plan) where
       tt,
     );
     each = k.each;
+    mtus = k.mtus;
+  }
+
+  pub sizes_are_carried : (w : World) (subnet mtu : ℕ) → ((number : ℕ) → ComesFairly w.units (IsChanged (PortTakes number mtu))) → AllIsCarried plan w
+      → AllIsCarried plan (record w { mtus = slice_set w.mtus subnet mtu })
+  sizes_are_carried w subnet mtu takes k = record {
+    made = refl;
+    copies = k.copies;
+    each = k.each;
+    mtus = record {
+      number = length-set w.mtus subnet mtu ∙ k.mtus.number;
+      each = all_set (IsWithin 512 65535) w.mtus subnet mtu k.mtus.each (takes 0).2;
+    };
   }
 
   pub first_is_carried : AllIsCarried plan (first_world plan)
@@ -283,23 +313,33 @@ module _ (laws : StepLaws) (plan : Plan) (fit : IsFit plan) where
     copies = tt;
     each = λ place s there.
         let here = opened plan.limits 0 plan.systems place place s (omega arith) there in
-        subst (IsOfPlan plan place) here.state (record { declared = here.declared; kept = tt; known = tt });
+        let is = configured plan fit place here.configuration here.declared in
+        subst (IsOfPlan plan place) here.state
+        (record {
+          declared = here.declared;
+          kept = tt;
+          known = tt;
+          ports = record { attached = laws.declared here.configuration is.0 is.1; number = refl };
+        });
+    mtus = record { number = length-map plan.subnets (λ (subnet : Subnetwork). subnet.mtu); each = first_mtus plan fit };
   }
 
-  all_is_carried : (moves : List Move) → AllIsCarried plan (world_after plan (first_world plan) moves)
+  pub all_is_carried : (moves : List Move) → AllIsCarried plan (world_after plan (first_world plan) moves)
   all_is_carried moves =
       keeps-moves (λ v. ComesFairly v.units) IsBroughtFairly (AllIsCarried plan) AnyLine
       (record {
         steps = step_is_carried;
         frames = frame_comes_fairly;
-        moments = λ v now. (tt, tt);
-        restarts = λ v. (tt, tt);
-        congestion = λ v on. (tt, tt);
-        cursor = λ w next k. record { made = refl; copies = k.copies; each = k.each };
-        clock = λ w k. record { made = refl; copies = k.copies; each = k.each };
+        moments = λ v now. (tt, tt, tt);
+        restarts = λ v. (tt, tt, tt);
+        congestion = λ v on. (tt, tt, tt);
+        cursor = λ w next k. record { made = refl; copies = k.copies; each = k.each; mtus = k.mtus };
+        clock = λ w k. record { made = refl; copies = k.copies; each = k.each; mtus = k.mtus };
         outside = outside_is_carried;
+        sizes = sizes_are_carried;
         injected = λ now copy subnet sender target. tt;
         fine = any_line_is_fine;
+        changing = any_line_changes;
       })
       plan (λ v. events_give plan fit v.units) moves (first_world plan) first_is_carried
 
@@ -331,3 +371,12 @@ pub ranges_or_outside : StepLaws → (plan : Plan) → IsFit plan → (moves : L
 ranges_or_outside laws plan fit moves =
     let w = world_after plan (first_world plan) moves in
     AllByRecursion-implies (IsCarriedInForm w.units) (OutsideOrRange w.units) (λ copy h. h.origin) w.copies (all_is_carried laws plan fit moves).copies
+
+pub attached_throughout : StepLaws → (plan : Plan) → IsFit plan → (moves : List Move) → IsAttachedThroughout plan (world_after plan (first_world plan) moves)
+attached_throughout laws plan fit moves =
+    let w = world_after plan (first_world plan) moves in
+    let k = all_is_carried laws plan fit moves in
+    record {
+      mtus = k.mtus;
+      systems = AllByRecursion-from_places HasItsPorts w.systems (λ place s there. (k.each place s there).ports);
+    }

@@ -37,7 +37,7 @@ module _ (laws : StepLaws) (plan : Plan) (fit : IsFit plan) (past : List Entry) 
         (tells_soundly plan past w s.configuration.name w.units place later (Congest on)
         (record {
           sound = like_is_sound plan w.units place s later
-              (record { place = refl; configuration = refl; hold = refl; moment = refl; identifiers = refl; buffers = refl; known = λ known. known }) it.sound;
+              (record { place = refl; configuration = refl; attached = refl; hold = refl; moment = refl; identifiers = refl; buffers = refl; known = λ known. known }) it.sound;
           rest = h.made.rest;
         })
         tt)

@@ -1,6 +1,6 @@
 -- What deeds of a system leave, the units counted in that are made in them: reports, which have no identifier, and what is asked for.
 use Rattle.clnp_machine.proofs.ClnpBase.Lists.{AllByRecursion-contains, AllByRecursion-implies}
-use Rattle.std.proofs.Common.{◌≡◌, ◌∙◌, ◌<◌, ◌≤◌, refl, sym, ap, subst, ℕ, inl, inr, false, List, ◌++◌, slice_get, Option, None, Some, arith}
+use Rattle.std.proofs.Common.{◌≡◌, ◌∙◌, ◌<◌, ◌≤◌, refl, sym, ap, subst, ℕ, inl, inr, false, List, ◌++◌, length, slice_get, Option, None, Some, arith}
 use Rattle.std.specs.List.{AllByRecursion}
 use Rattle.std.proofs.lemmas.Bool.{cases_Bool}
 use Rattle.std.proofs.lemmas.List.{append-nil}
@@ -16,6 +16,7 @@ use Rattle.clnp_machine.specs.ClnpPlan.declared.note.Note.{Note}
 use Rattle.clnp_machine.specs.ClnpPlan.declared.note.Note.TheVariants.{Refused}
 use Rattle.clnp_machine.specs.Reassembly.Buffer.{Buffer, held, is_whole}
 use Rattle.clnp_network.specs.Scenario.Scenario.{Plan}
+use Rattle.clnp_machine.specs.Attachment.{Attachment, IsAttached}
 use Rattle.clnp_machine.specs.Identifiers.{Identifiers}
 use Rattle.clnp_machine.specs.Unit as unit
 use Rattle.clnp_machine.specs.Unit.{Packet}
@@ -39,6 +40,7 @@ use Rattle.clnp_safety.proofs.Honest.{NoteIsHonest}
 pub record IsLike (s t : SystemState) : Type 0 where
   pub place : t.place ≡ s.place
   pub configuration : t.configuration ≡ s.configuration
+  pub attached : t.attached ≡ s.attached
   pub hold : t.hold ≡ s.hold
   pub moment : t.moment ≡ s.moment
   pub identifiers : t.identifiers ≡ s.identifiers
@@ -49,6 +51,7 @@ pub like_rest : (s t : SystemState) → LeavesTheRest s t → (KnowsAddresses s 
 like_rest s t rest known = record {
   place = rest.place;
   configuration = rest.configuration;
+  attached = rest.attached;
   hold = rest.hold;
   moment = rest.moment;
   identifiers = rest.identifiers;
@@ -75,6 +78,9 @@ like_is_sound plan units place s t like sound = record {
   budget = subst (λ (buffers : List (Buffer Packet)). held buffers ≤ t.configuration.settings.budget) (sym like.buffers)
       (subst (λ (c : SystemConfiguration). held s.buffers ≤ c.settings.budget) (sym like.configuration) sound.budget);
   known = like.known sound.known;
+  attached = subst IsAttached (sym like.attached) sound.attached;
+  ports = ap (λ (a : Attachment). length a.ports) like.attached ∙ sound.ports
+      ∙ ap (λ (c : SystemConfiguration). length c.ports) (sym like.configuration);
 }
 
 -- with other buffers that are as they should be a system is as sound, however many units it counts
@@ -94,6 +100,8 @@ with_buffers plan units place s buffers count sound each not_due not_whole withi
   not_whole = not_whole;
   budget = within;
   known = sound.known;
+  attached = sound.attached;
+  ports = sound.ports;
 }
 
 -- Reports are whole units that are made at a moment, and no replies.
@@ -133,6 +141,8 @@ reports_are_sound plan units made now place s at are h = record {
   not_whole = h.not_whole;
   budget = h.budget;
   known = h.known;
+  attached = h.attached;
+  ports = h.ports;
 }
 
 pub all_whole : (now : ℕ) (made : List unit.Unit) → AllByRecursion (IsReport now) made → AllByRecursion IsWhole made
@@ -149,19 +159,19 @@ record Reports (s : SystemState) (deed : Deed) : Type 0 where
 
 reports_quietly : (s : SystemState) (frame : List ℕ) (reason place : ℕ) (own : Option (List ℕ)) → Reports s (reports_from own s frame reason place)
 reports_quietly s frame reason place None = record {
-  like = record { place = refl; configuration = refl; hold = refl; moment = refl; identifiers = refl; buffers = refl; known = λ known. known };
+  like = record { place = refl; configuration = refl; attached = refl; hold = refl; moment = refl; identifiers = refl; buffers = refl; known = λ known. known };
   made = tt;
   tells = tt;
 }
 reports_quietly s frame reason place (Some own) =
     elim (cases_Bool (is_reportable frame)) [
       | inl wanted ↦ rw wanted (record {
-        like = record { place = refl; configuration = refl; hold = refl; moment = refl; identifiers = refl; buffers = refl; known = λ known. known };
+        like = record { place = refl; configuration = refl; attached = refl; hold = refl; moment = refl; identifiers = refl; buffers = refl; known = λ known. known };
         made = (record { kind = refl; whole = refl; made = refl }, tt);
         tells = (tt, (tt, tt));
       })
       | inr unwanted ↦ rw unwanted (record {
-        like = record { place = refl; configuration = refl; hold = refl; moment = refl; identifiers = refl; buffers = refl; known = λ known. known };
+        like = record { place = refl; configuration = refl; attached = refl; hold = refl; moment = refl; identifiers = refl; buffers = refl; known = λ known. known };
         made = tt;
         tells = tt;
       })

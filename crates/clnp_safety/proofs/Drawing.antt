@@ -21,7 +21,7 @@ use Rattle.clnp_machine.specs.Identifiers.{Identifiers}
 use Rattle.clnp_machine.specs.Unit as unit
 use Rattle.clnp_machine.specs.Unit.{Packet, value_of}
 use Rattle.clnp_machine.specs.Content.{Content, Labelled, Esis, Unlabelled}
-use Rattle.clnp_machine.specs.System.{SystemState, Input, AsksToSend, AsksForEcho, FrameComes, MomentComes, IsRestarted, IsCongested, Effect, table_limits, then_does}
+use Rattle.clnp_machine.specs.System.{SystemState, Input, AsksToSend, AsksForEcho, FrameComes, MomentComes, IsRestarted, IsCongested, IsChanged, Effect, table_limits, then_does}
 use Rattle.clnp_machine.specs.Local.{Deed, at_moment, discard, echo_ask, expire, give_up_due, gives_up, hand_up, is_all, is_answer, made_in, make, offer, offered, receive, refusal, takes_in, takes_reply, tells, tick, unit_of, unless_refused}
 use Rattle.clnp_machine.specs.Esis.{esis_comes, forgets, says_hello}
 use Rattle.clnp_machine.specs.Step.{content_comes, discard_refused, moment_comes, octets_come, packet_comes, responds, step, unheard_note}
@@ -171,3 +171,4 @@ module _ (laws : StepLaws) where
   step_draws s (MomentComes now) steady = moment_draws s now
   step_draws s IsRestarted steady = absurd steady
   step_draws s (IsCongested on) steady = draws_nothing s.moment s.identifiers
+  step_draws s (IsChanged change) steady = draws_nothing s.moment s.identifiers

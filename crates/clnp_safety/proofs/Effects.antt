@@ -1,15 +1,13 @@
 -- A step of a system that is asked nothing keeps a world sound: what it makes is founded on what came, and what it sends and notes
 -- is as it should be.
-use Rattle.clnp_machine.proofs.ClnpBase.Lists.{AllByRecursion-append, AllByRecursion-both, AllByRecursion-contains, AllByRecursion-implies, AllByRecursion-mapped, AllByRecursion-slice_get}
-use Rattle.std.proofs.Common.{◌≡◌, ◌≢◌, ◌⊎◌, ◌∙◌, sym, ap, subst, ℕ, inl, inr, List, [], ◌∷◌, ◌++◌, length, map, slice_get, Some}
+use Rattle.clnp_machine.proofs.ClnpBase.Lists.{AllByRecursion-append, AllByRecursion-both, AllByRecursion-contains, AllByRecursion-implies, AllByRecursion-mapped}
+use Rattle.std.proofs.Common.{◌≡◌, ◌≢◌, ◌⊎◌, ◌∙◌, sym, ap, subst, ℕ, inl, inr, List, [], ◌∷◌, ◌++◌, length, map}
 use Rattle.std.specs.List.{AllByRecursion}
 use Rattle.std.proofs.lemmas.List.Elements.{Contains-append_cases}
-use Rattle.clnp_machine.specs.Nsap.Address.{IsAddress}
 use Rattle.clnp_machine.specs.PduHeader.declared.kind.Kind.{Kind}
 use Rattle.clnp_machine.specs.PduHeader.declared.kind.Kind.TheVariants.{Er, Erq, Erp}
 use Rattle.clnp_network.specs.Scenario.Scenario.{IsFit, Plan}
-use Rattle.clnp_machine.specs.ClnpPlan.Configuration.{IsAddressed, IsSystem, SystemConfiguration}
-use Rattle.clnp_machine.specs.ClnpPlan.declared.config.PortConfig.{PortConfig}
+use Rattle.clnp_machine.specs.ClnpPlan.Configuration.{SystemConfiguration}
 use Rattle.clnp_machine.specs.ClnpPlan.declared.note.Note.{Note}
 use Rattle.clnp_machine.specs.Reassembly.Arrival.{Arrival}
 use Rattle.clnp_machine.specs.Reassembly.Buffer.{Buffer}
@@ -30,7 +28,8 @@ use Rattle.clnp_safety.proofs.Deeds.{RepliesInOctets}
 use Rattle.clnp_safety.proofs.Grows.{front-more}
 use Rattle.clnp_safety.proofs.Hellos.{EffectIsSound}
 use Rattle.clnp_safety.proofs.Lines.{LineIs}
-use Rattle.clnp_safety.proofs.Outputs.{PortsAreAddressed, Stands, takes_effect_stands}
+use Rattle.clnp_safety.proofs.Opens.{configured}
+use Rattle.clnp_safety.proofs.Outputs.{Stands, takes_effect_stands}
 use Rattle.clnp_safety.proofs.SendAsked.{own_address}
 use Rattle.clnp_safety.proofs.Steps.{Keeps}
 use Rattle.clnp_safety.proofs.Units.{buffer_later, packet_goes_on, range_sooner, range_later, units_with}
@@ -158,29 +157,15 @@ module _ (plan : Plan) (past : List Entry) (base : World) where
   }
 
 module _ (laws : StepLaws) (plan : Plan) (fit : IsFit plan) (past : List Entry) where
-  -- a system of the plan is configured as it must be
-  pub configured : (place : ℕ) (configuration : SystemConfiguration) → slice_get plan.systems place ≡ Some configuration
-      → IsSystem configuration × IsAddressed configuration
-  configured place configuration declared = (
-    AllByRecursion-slice_get IsSystem plan.systems place configuration declared fit.systems,
-    AllByRecursion-slice_get IsAddressed plan.systems place configuration declared fit.each_address,
-  )
-
   module _ (units : List unit.Unit) (place : ℕ) (s : SystemState) (sound : SystemIsSound plan units place s) (input : Input)
       (comes : ComesSoundly units input) where
     pub step_gives_soundly : (Q : Note → Type 0) → IsFair input → AllByRecursion (NotesOnly Q) (step s input).outputs
         → AllByRecursion (OutputIsSound Q (units ++ (step s input).units)) (step s input).outputs
     step_gives_soundly Q fair notes =
-        let is = configured place s.configuration sound.declared in
+        let is = configured plan fit place s.configuration sound.declared in
         outputs_are_sound laws Q units (step s input).units s input comes (step s input).outputs (laws.steps.ranges s input)
-        (laws.steps.carriable s input is.0 fair is.1.own (kept_as_offered plan units s sound.buffers))
-        (laws.steps.esis_pdus s input is.0 is.1 fair sound.known) notes
-
-    -- its ports are still at addresses
-    pub ports_after : PortsAreAddressed (step s input).after
-    ports_after =
-        subst (λ (c : SystemConfiguration). AllByRecursion (λ (port : PortConfig). IsAddress port.snpa) c.ports) (sym (laws.steps.itself s input).configuration)
-        (configured place s.configuration sound.declared).1.ports
+        (laws.steps.carriable s input is.0 sound.attached.ports fair is.1.own (kept_as_offered plan units s sound.buffers))
+        (laws.steps.esis_pdus s input is.0 is.1.own sound.attached.next fair sound.known) notes
 
     -- other systems stay as they are where the system makes units
     pub others_stand : (before_move : List unit.Unit) (other : ℕ) (t : SystemState) → other ≢ place
@@ -207,6 +192,8 @@ module _ (laws : StepLaws) (plan : Plan) (fit : IsFit plan) (past : List Entry) 
             not_whole = h.sound.not_whole;
             budget = h.sound.budget;
             known = h.sound.known;
+            attached = h.sound.attached;
+            ports = h.sound.ports;
           };
           pending = h.pending;
         }
@@ -303,7 +290,7 @@ module _ (laws : StepLaws) (plan : Plan) (fit : IsFit plan) (past : List Entry) 
           stands = record { sound = done.after; pending = pending_after w.units place s it.sound input comes nothing base.units it.pending };
           also = here;
         })
-        (ports_after w.units place s it.sound input comes) outputs k.stands in
+        done.after.attached.addressed outputs k.stands in
         record {
           world = sound_with plan past base Y later (takes_effect w place effect).world
               (units_after w.units place s it.sound input comes nothing k.made done.rest done.replies)

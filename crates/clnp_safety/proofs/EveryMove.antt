@@ -1,33 +1,42 @@
 -- What each step of a system keeps, whatever comes to it, or whatever comes that a plan's events allow, each move keeps.
 use Rattle.clnp_machine.proofs.ClnpBase.Lists.{AllByRecursion-any, AllByRecursion-slice_get}
-use Rattle.std.proofs.Common.{◌≡◌, ℕ, refl, sym, subst, List, [], ◌∷◌, ◌++◌, ◌+◌, length, ◌-◌, Bool}
-use Rattle.std.specs.Prelude.{slice_get, Option, None, Some}
+use Rattle.std.proofs.Common.{◌≡◌, ℕ, refl, sym, subst, ◌∙◌, List, [], ◌∷◌, ◌++◌, ◌+◌, ◌<◌, length, ◌-◌, Bool}
+use Rattle.std.specs.Prelude.{slice_get, slice_set, Option, None, Some}
 use Rattle.std.specs.List.{AllByRecursion, range_with_len}
 use Rattle.clnp_machine.specs.Nsap.declared.target.Target.{Target}
 use Rattle.clnp_machine.specs.ClnpPlan.Journal.{Line}
 use Rattle.clnp_machine.specs.ClnpPlan.declared.ask.Ask.{Ask}
 use Rattle.clnp_machine.specs.ClnpPlan.declared.config.Limits.{Limits}
+use Rattle.clnp_machine.specs.ClnpPlan.declared.config.PortConfig.{PortConfig}
 use Rattle.clnp_network.specs.Scenario.Scenario.{Plan, Subnetwork, octets_of}
 use Rattle.clnp_network.specs.Scenario.declared.event.Event.{Event}
-use Rattle.clnp_network.specs.Scenario.declared.event.Event.TheVariants.{Send, Echo, Deliver, Settle, Lose, Tick, Restart, Congest, Inject}
+use Rattle.clnp_network.specs.Scenario.declared.event.Event.TheVariants.{Send, Echo, Deliver, Settle, Lose, Tick, Restart, Congest, Inject, Mtu, Route, Unroute, Port}
 use Rattle.clnp_network.specs.Scenario.declared.event.Move.{Move}
 use Rattle.clnp_network.specs.Scenario.declared.event.Move.TheVariants.{One, SettleOne, LoseOne, TickOne}
+use Rattle.clnp_machine.specs.Change.{Change, PortIsAt, PortTakes, RouteIsGone, RouteIsSet}
 use Rattle.clnp_machine.specs.Unit as unit
-use Rattle.clnp_machine.specs.System.{SystemState, Input, AsksToSend, AsksForEcho, MomentComes, IsRestarted, IsCongested, Output, Transmits, SendsEsis, Notes, Effect}
+use Rattle.clnp_machine.specs.System.{SystemState, Input, AsksToSend, AsksForEcho, MomentComes, IsRestarted, IsCongested, IsChanged, Output, Transmits, SendsEsis, Notes, Effect}
 use Rattle.clnp_machine.specs.Step.{step}
-use Rattle.clnp_network.specs.World.{World, Copy, Numbered, give_each, put_out, with_effect, takes_effect, comes, frame_to, addressees_from, settle_copy, lose_copy, tick_each, event_happens, after}
+use Rattle.clnp_network.specs.World.{World, Copy, Numbered, give_each, put_out, with_effect, takes_effect, comes, frame_to, addressees_from, settle_copy, lose_copy, tick_each, moved, event_happens, after}
 use Rattle.clnp_network.specs.Run.{world_after}
 use Rattle.std.proofs.lemmas.List.{append-nil}
+use Rattle.std.proofs.lemmas.Option.{same_Some}
 use Rattle.clnp_safety.specs.Growth.{IsFront}
 use Rattle.clnp_safety.proofs.Grows.{effect_copies, front-more}
 use Rattle.clnp_safety.proofs.Lines.{AnyLine}
-use Rattle.clnp_safety.proofs.Steps.{keeps-map, keeps-put_all_out, InjectedIsFine, Keeps, GivingIsFine, keeps-nothing, keeps-followed_by, keeps-comes_to, keeps-asks, keeps-give_each, keeps-settle_for, keeps-deliver, keeps-injects, with_outside}
+use Rattle.clnp_safety.proofs.Steps.{ChangingIsFine, keeps-map, keeps-put_all_out, InjectedIsFine, Keeps, GivingIsFine, keeps-nothing, keeps-followed_by, keeps-comes_to, keeps-asks, keeps-give_each, keeps-settle_for, keeps-deliver, keeps-injects, keeps-moves_port, keeps-removes_route, keeps-resizes, keeps-sets_route, with_outside}
 
--- what an event asks of a system is such as Comes says, and a frame from outside such as Brings says of its sender and octets
+-- what an event asks of a system, or changes of it, is such as Comes says, and a frame from outside such as Brings says of its sender
+-- and octets
 abbrev pub GivesOnly : (Comes : Input → Type 0) (Brings : List ℕ → List ℕ → Type 0) → Event → Type 0
 GivesOnly Comes Brings (Send system from to body ask) = Comes (AsksToSend from to (octets_of body) ask)
 GivesOnly Comes Brings (Echo system from to body) = Comes (AsksForEcho from to (octets_of body))
 GivesOnly Comes Brings (Inject subnet from to octets) = Brings from octets
+GivesOnly Comes Brings (Mtu subnet mtu) = (number : ℕ) → Comes (IsChanged (PortTakes number mtu))
+GivesOnly Comes Brings (Route system route) = Comes (IsChanged (RouteIsSet route))
+GivesOnly Comes Brings (Unroute system prefix) = Comes (IsChanged (RouteIsGone prefix))
+GivesOnly Comes Brings (Port system number subnet snpa) =
+    (port : PortConfig) (mtu : ℕ) → Comes (IsChanged (PortIsAt number (moved port subnet mtu snpa)))
 GivesOnly Comes Brings _ = Unit {0}
 
 -- whatever comes to a system
@@ -38,16 +47,30 @@ AnyInput input = Unit {0}
 abbrev pub AnyFrame : List ℕ → List ℕ → Type 0
 AnyFrame sender octets = Unit {0}
 
--- the moment that comes is that of the clock
-abbrev pub IsOfClock : World → Input → Type 0
-IsOfClock w (MomentComes now) = now ≡ w.clock
-IsOfClock w _ = Unit {0}
+-- a port that moves is one that a system has, with its transit, and takes frames as long as its subnetwork does now
+pub record IsMovedIn (w : World) (s : SystemState) (number : ℕ) (port : PortConfig) : Type 0 where
+  pub was : PortConfig
+  pub there : slice_get s.attached.ports number ≡ Some was
+  pub transit : port.transit ≡ was.transit
+  pub mtu : slice_get w.mtus port.subnet ≡ Some port.mtu
+
+-- What comes to a system goes by the network as it is: the moment is that of the clock; a port that moves is there, and a route
+-- leads out of one that is.
+abbrev pub IsOfNow : World → SystemState → Input → Type 0
+IsOfNow w s (MomentComes now) = now ≡ w.clock
+IsOfNow w s (IsChanged (PortIsAt number port)) = IsMovedIn w s number port
+IsOfNow w s (IsChanged (RouteIsSet route)) = route.port < length s.attached.ports
+IsOfNow w s _ = Unit {0}
 
 module _ (Comes : Input → Type 0) (asked : (from to octets : List ℕ) (ask : Ask) → Comes (AsksToSend from to octets ask))
-    (echo : (from to octets : List ℕ) → Comes (AsksForEcho from to octets)) where
+    (echo : (from to octets : List ℕ) → Comes (AsksForEcho from to octets)) (changes : (change : Change) → Comes (IsChanged change)) where
   asked_by : (event : Event) → GivesOnly Comes AnyFrame event
   asked_by (Send system from to body ask) = asked from to (octets_of body) ask
   asked_by (Echo system from to body) = echo from to (octets_of body)
+  asked_by (Mtu subnet mtu) = λ number. changes (PortTakes number mtu)
+  asked_by (Route system route) = changes (RouteIsSet route)
+  asked_by (Unroute system prefix) = changes (RouteIsGone prefix)
+  asked_by (Port system number subnet snpa) = λ port mtu. changes (PortIsAt number (moved port subnet mtu snpa))
   asked_by _ = tt
 
   -- whatever is asked is such as Comes says, and so all events ask only that
@@ -55,7 +78,7 @@ module _ (Comes : Input → Type 0) (asked : (from to octets : List ℕ) (ask : 
   asked_by_all events = AllByRecursion-any (GivesOnly Comes AnyFrame) asked_by events
 
 pub any_events : (events : List Event) → AllByRecursion (GivesOnly AnyInput AnyFrame) events
-any_events events = asked_by_all AnyInput (λ from to octets ask. tt) (λ from to octets. tt) events
+any_events events = asked_by_all AnyInput (λ from to octets ask. tt) (λ from to octets. tt) (λ change. tt) events
 
 -- a world has the units and the copies of another one, and maybe more
 pub record Follows (before w : World) : Type 0 where
@@ -67,10 +90,10 @@ abbrev GrowsFrom : World → (World → Type 0) → World → Type 0
 GrowsFrom before K w = K w × Follows before w
 
 -- K holds of the world after each step of a system of one of which it holds, and Q of the lines, where what comes is such
--- as Comes says, as all is that asks nothing where K holds; K doesn't go by the cursor, and the clock may go
--- on, and frames come from outside
+-- as Comes says, as all is that asks nothing and changes no port or route where K holds; K doesn't go by the cursor, and the clock may
+-- go on, frames come from outside, and a subnetwork take frames of other lengths
 pub record EachStepKeeps (Comes : World → Input → Type 0) (Brings : List ℕ → List ℕ → Type 0) (K : World → Type 0) (Q : Line → Type 0) : Type 0 where
-  pub steps : (w : World) (place : ℕ) (s : SystemState) (input : Input) → slice_get w.systems place ≡ Some s → Comes w input → IsOfClock w input
+  pub steps : (w : World) (place : ℕ) (s : SystemState) (input : Input) → slice_get w.systems place ≡ Some s → Comes w input → IsOfNow w s input
       → K w → Keeps K Q (takes_effect w place (step s input))
   pub frames : (w : World) (at : ℕ) (copy : Copy) → slice_get w.copies at ≡ Some copy → K w → (v : World) → Follows w v
       → (s : SystemState) → Comes v (frame_to s copy)
@@ -81,8 +104,11 @@ pub record EachStepKeeps (Comes : World → Input → Type 0) (Brings : List ℕ
   pub clock : (w : World) → K w → K (record w { clock = w.clock + 1 })
   pub outside : (w : World) (subnet : ℕ) (sender : List ℕ) (target : Target) (octets : List ℕ) → Brings sender octets → K w
       → K (with_outside w subnet sender target octets)
+  pub sizes : (w : World) (subnet mtu : ℕ) → ((number : ℕ) → Comes w (IsChanged (PortTakes number mtu))) → K w
+      → K (record w { mtus = slice_set w.mtus subnet mtu })
   pub injected : InjectedIsFine Q
   pub fine : GivingIsFine Q
+  pub changing : ChangingIsFine Q
 
 -- a system that takes a step adds the units that it makes
 put_out_makes : (units : List unit.Unit) (system : SystemState) (output : Output) (v : World) → v.units ≡ units
@@ -111,30 +137,53 @@ follows_effect before w place effect h = record {
 }
 
 module _ (Comes : World → Input → Type 0) (Brings : List ℕ → List ℕ → Type 0) (K : World → Type 0) (Q : Line → Type 0) (each : EachStepKeeps Comes Brings K Q) where
-  keeps-comes : (w : World) (place : ℕ) (input : Input) → Comes w input → IsOfClock w input → K w → Keeps K Q (comes w place input)
+  keeps-comes : (w : World) (place : ℕ) (input : Input) → Comes w input → ((s : SystemState) → slice_get w.systems place ≡ Some s → IsOfNow w s input)
+      → K w → Keeps K Q (comes w place input)
   keeps-comes w place input may at k =
-      keeps-comes_to K Q w place input (slice_get w.systems place) (λ none. k) (λ s there. each.steps w place s input there may at k)
+      keeps-comes_to K Q w place input (slice_get w.systems place) (λ none. k) (λ s there. each.steps w place s input there may (at s there) k)
+
+  -- the same where it is known which system is there
+  keeps-comes_at : (w : World) (place : ℕ) (s : SystemState) (input : Input) → slice_get w.systems place ≡ Some s → Comes w input → IsOfNow w s input
+      → K w → Keeps K Q (comes w place input)
+  keeps-comes_at w place s input there may at k =
+      keeps-comes w place input may (λ t here. subst (λ (u : SystemState). IsOfNow w u input) (same_Some s t (sym there ∙ here)) at) k
 
   keeps-tick_each : (places : List ℕ) (w : World) → K w → Keeps K Q (tick_each w places)
   keeps-tick_each [] w k = keeps-nothing K Q w k
   keeps-tick_each (place ∷ places) w k =
       keeps-followed_by K Q K (comes w place (MomentComes w.clock)) (λ v. tick_each v places)
-      (keeps-comes w place (MomentComes w.clock) (each.moments w w.clock) refl k) (keeps-tick_each places)
+      (keeps-comes w place (MomentComes w.clock) (each.moments w w.clock) (λ s there. refl) k) (keeps-tick_each places)
 
-  keeps-event : (subnets : List Subnetwork) (limits : Limits) (w : World) (asked : Option Event) → ((event : Event) → asked ≡ Some event → GivesOnly (Comes w) Brings event) → K w
+  keeps-event : (subnets : List Subnetwork) (limits : Limits) (w : World) (asked : Option Event)
+      → ((v : World) (event : Event) → asked ≡ Some event → GivesOnly (Comes v) Brings event) → K w
       → Keeps K Q (event_happens subnets limits w asked)
   keeps-event subnets limits w (Some (Deliver number system)) may k =
       keeps-deliver K Q each.fine limits w number system k
       (λ copy e s there soon. each.steps w system s (frame_to s copy) there (each.frames w (number - 1) copy e k w (follows-itself w) s) tt k)
-  keeps-event subnets limits w (Some (Restart system)) may k = keeps-comes w system IsRestarted (each.restarts w) tt k
-  keeps-event subnets limits w (Some (Congest system on)) may k = keeps-comes w system (IsCongested on) (each.congestion w on) tt k
+  keeps-event subnets limits w (Some (Restart system)) may k = keeps-comes w system IsRestarted (each.restarts w) (λ s there. tt) k
+  keeps-event subnets limits w (Some (Congest system on)) may k = keeps-comes w system (IsCongested on) (each.congestion w on) (λ s there. tt) k
   keeps-event subnets limits w (Some (Send system from to body ask)) may k =
       keeps-asks K Q w system (AsksToSend from to (octets_of body) ask) k
-      (keeps-comes w system (AsksToSend from to (octets_of body) ask) (may (Send system from to body ask) refl) tt k)
+      (keeps-comes w system (AsksToSend from to (octets_of body) ask) (may w (Send system from to body ask) refl) (λ s there. tt) k)
   keeps-event subnets limits w (Some (Echo system from to body)) may k =
-      keeps-comes w system (AsksForEcho from to (octets_of body)) (may (Echo system from to body) refl) tt k
+      keeps-comes w system (AsksForEcho from to (octets_of body)) (may w (Echo system from to body) refl) (λ s there. tt) k
   keeps-event subnets limits w (Some (Inject subnet from to octets)) may k =
-      keeps-injects K Q w subnet from to octets k (each.outside w subnet from to octets (may (Inject subnet from to octets) refl) k) each.injected subnets
+      keeps-injects K Q w subnet from to octets k (each.outside w subnet from to octets (may w (Inject subnet from to octets) refl) k) each.injected subnets
+  keeps-event subnets limits w (Some (Mtu subnet mtu)) may k =
+      keeps-resizes K Q each.changing subnet mtu
+      (λ v place number h. keeps-comes v place (IsChanged (PortTakes number mtu)) (may v (Mtu subnet mtu) refl number) (λ s there. tt) h) subnets w k
+      (each.sizes w subnet mtu (may w (Mtu subnet mtu) refl) k)
+  keeps-event subnets limits w (Some (Route system route)) may k =
+      keeps-sets_route K Q each.changing w system k route
+      (λ s there leads. keeps-comes_at w system s (IsChanged (RouteIsSet route)) there (may w (Route system route) refl) leads k)
+  keeps-event subnets limits w (Some (Unroute system prefix)) may k =
+      keeps-removes_route K Q each.changing w system k prefix
+      (keeps-comes w system (IsChanged (RouteIsGone prefix)) (may w (Unroute system prefix) refl) (λ s there. tt) k)
+  keeps-event subnets limits w (Some (Port system number subnet snpa)) may k =
+      keeps-moves_port K Q each.changing w system k number subnet snpa subnets
+      (λ s port mtu there has takes.
+      keeps-comes_at w system s (IsChanged (PortIsAt number (moved port subnet mtu snpa))) there (may w (Port system number subnet snpa) refl port mtu)
+      (record { was = port; there = has; transit = refl; mtu = takes }) k)
   keeps-event subnets limits w (Some (Settle count)) may k = keeps-nothing K Q w k
   keeps-event subnets limits w (Some (Lose count)) may k = keeps-nothing K Q w k
   keeps-event subnets limits w (Some (Tick count)) may k = keeps-nothing K Q w k
@@ -162,7 +211,7 @@ module _ (Comes : World → Input → Type 0) (Brings : List ℕ → List ℕ �
   module _ (plan : Plan) (may : (w : World) → AllByRecursion (GivesOnly (Comes w) Brings) plan.events) where
     pub keeps-move : (w : World) (move : Move) → K w → Keeps K Q (after plan w move)
     keeps-move w (One place) k =
-        keeps-event plan.subnets plan.limits w (slice_get plan.events place) (λ event there. AllByRecursion-slice_get (GivesOnly (Comes w) Brings) plan.events place event there (may w)) k
+        keeps-event plan.subnets plan.limits w (slice_get plan.events place) (λ v event there. AllByRecursion-slice_get (GivesOnly (Comes v) Brings) plan.events place event there (may v)) k
     keeps-move w SettleOne k = keeps-settle plan.limits w (slice_get w.copies w.cursor) refl k
     keeps-move w LoseOne k = keeps-lose w (slice_get w.copies w.cursor) k
     keeps-move w TickOne k = keeps-tick_each (range_with_len 0 (length w.systems)) (record w { clock = w.clock + 1 }) (each.clock w k)

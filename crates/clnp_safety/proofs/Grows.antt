@@ -9,18 +9,19 @@ use Rattle.clnp_machine.specs.Nsap.declared.target.Target.{Target}
 use Rattle.clnp_machine.specs.ClnpPlan.declared.config.Limits.{Limits}
 use Rattle.clnp_network.specs.Scenario.Scenario.{Plan, Subnetwork, octets_of}
 use Rattle.clnp_network.specs.Scenario.declared.event.Event.{Event}
-use Rattle.clnp_network.specs.Scenario.declared.event.Event.TheVariants.{Send, Echo, Deliver, Settle, Lose, Tick, Restart, Congest, Inject}
+use Rattle.clnp_network.specs.Scenario.declared.event.Event.TheVariants.{Send, Echo, Deliver, Settle, Lose, Tick, Restart, Congest, Inject, Mtu, Route, Unroute, Port}
 use Rattle.clnp_network.specs.Scenario.declared.event.Move.{Move}
 use Rattle.clnp_network.specs.Scenario.declared.event.Move.TheVariants.{One, SettleOne, LoseOne, TickOne}
 use Rattle.clnp_machine.specs.Unit.{Maker, DeclaredAt}
 use Rattle.clnp_machine.specs.Content.{Content, Labelled, Esis}
-use Rattle.clnp_machine.specs.System.{SystemState, Input, AsksToSend, AsksForEcho, MomentComes, IsRestarted, IsCongested, Output, Transmits, SendsEsis, Notes, Effect}
+use Rattle.clnp_machine.specs.Change.{PortIsAt, PortTakes, RouteIsGone, RouteIsSet}
+use Rattle.clnp_machine.specs.System.{SystemState, Input, AsksToSend, AsksForEcho, MomentComes, IsRestarted, IsCongested, IsChanged, Output, Transmits, SendsEsis, Notes, Effect}
 use Rattle.clnp_machine.specs.Step.{step}
-use Rattle.clnp_network.specs.World.{World, Copy, copy_from, copy_from_outside, sends_frame, put_out, with_effect, takes_effect, comes, asks, frame_to, addressees_from, settle_copy, deliver, lose_copy, tick_each, tick_one, injects, event_happens, after, first_world}
+use Rattle.clnp_network.specs.World.{World, Copy, copy_from, copy_from_outside, sends_frame, put_out, with_effect, takes_effect, comes, asks, frame_to, addressees_from, settle_copy, deliver, lose_copy, tick_each, tick_one, injects, moved, moves_port, removes_route, resizes, sets_route, event_happens, after, first_world}
 use Rattle.clnp_network.specs.Run.{world_after}
 use Rattle.clnp_safety.specs.Growth.{IsFront, IsWithinCopies}
-use Rattle.clnp_safety.proofs.Lines.{AnyLine, any_line_is_fine}
-use Rattle.clnp_safety.proofs.Steps.{Keeps, keeps-nothing, keeps-followed_by, keeps-put_all_out, keeps-comes_to, keeps-asks, keeps-give_each, keeps-deliver, keeps-injects}
+use Rattle.clnp_safety.proofs.Lines.{AnyLine, any_line_changes, any_line_is_fine}
+use Rattle.clnp_safety.proofs.Steps.{Keeps, keeps-nothing, keeps-followed_by, keeps-put_all_out, keeps-comes_to, keeps-asks, keeps-give_each, keeps-deliver, keeps-injects, keeps-moves_port, keeps-removes_route, keeps-resizes, keeps-sets_route}
 
 -- a world with more copies behind these, and this cursor
 record Grown (copies : List Copy) (cursor : ℕ) (w : World) : Type 0 where
@@ -35,7 +36,7 @@ module _ (copies : List Copy) (cursor : ℕ) where
       → Keeps (Grown copies cursor) AnyLine (sends_frame system v port target maker birth content)
   frame_grows system v port target maker birth content k = record {
     world = record {
-      front = front-more copies v.copies (copy_from (slice_get system.configuration.ports port) target maker birth content) k.front;
+      front = front-more copies v.copies (copy_from (slice_get system.attached.ports port) target maker birth content) k.front;
       at = k.at;
     };
     lines = (tt, tt);
@@ -115,6 +116,24 @@ event_grows subnets limits w (Some (Inject subnet from to octets)) =
     (keeps-injects (Grown w.copies w.cursor) AnyLine w subnet from to octets (stays w)
     (record { front = (copy_from_outside (length w.copies + 1) w.clock subnet from to octets ∷ [], refl); at = refl })
     (λ now copy name sender target. tt) subnets).world
+event_grows subnets limits w (Some (Mtu subnet mtu)) =
+    grows_to w (resizes subnets w subnet mtu).world w.cursor (λ k. k)
+    (keeps-resizes (Grown w.copies w.cursor) AnyLine any_line_changes subnet mtu
+    (λ v place number k. comes_grows w.copies w.cursor v place (IsChanged (PortTakes number mtu)) k) subnets w (stays w)
+    (record { front = ([], sym (append-nil w.copies)); at = refl })).world
+event_grows subnets limits w (Some (Route system route)) =
+    grows_to w (sets_route w system route).world w.cursor (λ k. k)
+    (keeps-sets_route (Grown w.copies w.cursor) AnyLine any_line_changes w system (stays w) route
+    (λ s there leads. comes_grows w.copies w.cursor w system (IsChanged (RouteIsSet route)) (stays w))).world
+event_grows subnets limits w (Some (Unroute system prefix)) =
+    grows_to w (removes_route w system prefix).world w.cursor (λ k. k)
+    (keeps-removes_route (Grown w.copies w.cursor) AnyLine any_line_changes w system (stays w) prefix
+    (comes_grows w.copies w.cursor w system (IsChanged (RouteIsGone prefix)) (stays w))).world
+event_grows subnets limits w (Some (Port system number subnet snpa)) =
+    grows_to w (moves_port subnets w system number subnet snpa).world w.cursor (λ k. k)
+    (keeps-moves_port (Grown w.copies w.cursor) AnyLine any_line_changes w system (stays w) number subnet snpa subnets
+    (λ s port mtu there has takes.
+    comes_grows w.copies w.cursor w system (IsChanged (PortIsAt number (moved port subnet mtu snpa))) (stays w))).world
 
 settle_copy_grows : (limits : Limits) (w : World) (found : Option Copy) → ((copy : Copy) → found ≡ Some copy → w.cursor + 1 ≤ length w.copies)
     → GrowsFrom w (settle_copy limits w found).world

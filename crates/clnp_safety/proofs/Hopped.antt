@@ -20,9 +20,9 @@ use Rattle.clnp_network.specs.World.{World, Copy, copy_from, copy_from_outside, 
 use Rattle.clnp_network.specs.Run.{world_after}
 use Rattle.clnp_network.specs.Safe.{HasItsHops, HopsCountCopies, WentOn}
 use Rattle.clnp_safety.specs.StepLaws.{StepLaws}
-use Rattle.clnp_safety.proofs.EveryMove.{AnyFrame, IsOfClock, asked_by_all, keeps-moves}
+use Rattle.clnp_safety.proofs.EveryMove.{AnyFrame, IsOfNow, asked_by_all, keeps-moves}
 use Rattle.clnp_safety.proofs.Grows.{effect_copies}
-use Rattle.clnp_safety.proofs.Lines.{AnyLine, any_line_is_fine}
+use Rattle.clnp_safety.proofs.Lines.{AnyLine, any_line_changes, any_line_is_fine}
 use Rattle.clnp_safety.proofs.Standing.{ComesStanding, frame_stands, stands_later}
 use Rattle.clnp_safety.proofs.Steps.{Keeps, keeps-put_all_out, with_outside}
 
@@ -75,8 +75,8 @@ module _ (base : List Copy) where
   frame_hops : (system : SystemState) (v : World) (port : ℕ) (target : Target) (maker : Maker) (birth : ℕ) (content : Content) → HasItsHops base content → Has v
       → Keeps Has AnyLine (sends_frame system v port target maker birth content)
   frame_hops system v port target maker birth content h k = record {
-    world = AllByRecursion-append (Hops base) v.copies (copy_from (slice_get system.configuration.ports port) target maker birth content) k
-        (copy_hops (slice_get system.configuration.ports port) target maker birth content h);
+    world = AllByRecursion-append (Hops base) v.copies (copy_from (slice_get system.attached.ports port) target maker birth content) k
+        (copy_hops (slice_get system.attached.ports port) target maker birth content h);
     lines = (tt, tt);
   }
 
@@ -90,7 +90,7 @@ output_hops w s system input stands (SendsEsis port target value) h v k =
     frame_hops w.copies system v port target (DeclaredAt system.place) v.clock (Esis value []) tt k
 
 step_hops : StepLaws → (w : World) (place : ℕ) (s : SystemState) (input : Input) → slice_get w.systems place ≡ Some s → ComesStanding w input
-    → IsOfClock w input → HopsCountCopies w → Keeps HopsCountCopies AnyLine (takes_effect w place (step s input))
+    → IsOfNow w s input → HopsCountCopies w → Keeps HopsCountCopies AnyLine (takes_effect w place (step s input))
 step_hops laws w place s input there stands at k =
     let effect : Effect = step s input in
     let later : World = (takes_effect w place effect).world in
@@ -133,7 +133,9 @@ hops_are_counted laws plan moves =
       cursor = λ w next k. k;
       clock = λ w k. k;
       outside = outside_hops;
+      sizes = λ w subnet mtu takes k. k;
       injected = λ now copy subnet sender target. tt;
       fine = any_line_is_fine;
+      changing = any_line_changes;
     })
-    plan (λ w. asked_by_all (ComesStanding w) (λ from to octets ask. tt) (λ from to octets. tt) plan.events) moves (first_world plan) tt
+    plan (λ w. asked_by_all (ComesStanding w) (λ from to octets ask. tt) (λ from to octets. tt) (λ change. tt) plan.events) moves (first_world plan) tt

@@ -14,9 +14,12 @@ pub mod Arriving
 pub mod Ticking
 pub mod Restarting
 pub mod Congesting
+pub mod Changing
 pub mod Lines
 pub mod Steps
 pub mod EveryMove
+pub mod Events
+pub mod Attaching
 pub mod Bounds
 pub mod Outputs
 pub mod Past

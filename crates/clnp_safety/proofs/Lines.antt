@@ -11,7 +11,7 @@ use Rattle.clnp_network.specs.Safe.{HandsUp, IsFounded, NoRefusal, NoInterferenc
 use Rattle.std.specs.List.{AllByRecursion}
 use Rattle.clnp_machine.specs.Steps.{IsNoRestart}
 use Rattle.clnp_machine.specs.Told.{NoteIsQuiet}
-use Rattle.clnp_safety.proofs.Steps.{GivingIsFine}
+use Rattle.clnp_safety.proofs.Steps.{ChangingIsFine, GivingIsFine}
 use Rattle.clnp_safety.proofs.Honest.{NoteIsHonest, NoteIsSound}
 
 -- a line notes only what Q holds of, beside the name of the system that notes it
@@ -30,6 +30,14 @@ any_line_is_fine = record {
   received = λ now name copy port. tt;
   lost = λ now copy. tt;
   nobody = λ now copy. tt;
+}
+
+pub any_line_changes : ChangingIsFine AnyLine
+any_line_changes = record {
+  port = λ now name number subnet snpa. tt;
+  route = λ now name prefix. tt;
+  unroute = λ now name prefix there. tt;
+  resized = λ now subnet mtu. tt;
 }
 
 line_is : (P Q : List ℕ → Note → Type 0) → ((name : List ℕ) (note : Note) → P name note → Q name note) → (line : Line) → LineIs P line → LineIs Q line

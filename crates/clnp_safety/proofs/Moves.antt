@@ -33,6 +33,7 @@ sound_since_itself plan past w h = record {
     copies = h.copies;
     number = h.systems.number;
     each = λ place s there. record { stands = h.systems.each place s there; also = h.current place s there };
+    mtus = h.mtus;
   };
 }
 
@@ -52,6 +53,7 @@ stands_soundly plan past units w made h =
       systems = subst (λ us. SystemsAreSound plan past us w.systems) same
           (record { number = h.number; each = λ place s there. (h.each place s there).stands });
       current = λ place s there. (h.each place s there).also;
+      mtus = h.mtus;
     }
 
 -- requests stay pending with an entry that says nothing of a restart
@@ -96,6 +98,7 @@ module _ (plan : Plan) (past : List Entry) (move : Move) (base : World) (taken :
             each = λ place s there. system_after taken.world.units k.front.0 k.front.1 place s (k.stands.each place s there).stands (still place s there);
           };
           current = λ place s there. (k.stands.each place s there).also;
+          mtus = k.stands.mtus;
         };
         lines = kept.lines;
       }

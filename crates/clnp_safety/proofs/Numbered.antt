@@ -1,30 +1,37 @@
 -- Each transmission that a line tells of is the copy with its number, since all that is sent goes by a port that is there.
 use Rattle.clnp_machine.proofs.ClnpBase.Lists.{AllByRecursion-append, AllByRecursion-implies, set_each, slice_get-push, slice_get_some}
 use Rattle.std.proofs.Common.{◌≡◌, ◌∙◌, refl, sym, ap, subst, ℕ, zero, suc, ◌+◌, ◌-◌, ◌<◌, inl, inr, true, List, [], ◌∷◌, ◌++◌, append-nil, length, Option, None, Some, arith}
-use Rattle.std.specs.Prelude.{slice_get}
+use Rattle.std.specs.Prelude.{◌==◌, nat_lt, slice_get, slice_set}
 use Rattle.std.specs.List.{AllByRecursion, list_any, range_with_len}
 use Rattle.std.proofs.lemmas.Bool.{cases_Bool}
 use Rattle.std.proofs.lemmas.Option.{same_Some}
 use Rattle.clnp_machine.specs.Nsap.declared.target.Target.{Target}
 use Rattle.clnp_machine.specs.ClnpPlan.Configuration.{SystemConfiguration}
-use Rattle.clnp_machine.specs.ClnpPlan.Journal.{Line, Transmitted, Void, Late}
+use Rattle.clnp_machine.specs.ClnpPlan.Journal.{Line, Noted, Transmitted, Void, Late, Resized}
 use Rattle.clnp_machine.specs.ClnpPlan.declared.config.Limits.{Limits}
 use Rattle.clnp_machine.specs.ClnpPlan.declared.config.PortConfig.{PortConfig}
+use Rattle.clnp_machine.specs.ClnpPlan.declared.note.Note.{Note}
+use Rattle.clnp_machine.specs.ClnpPlan.declared.note.Note.TheVariants as note
+use Rattle.clnp_machine.specs.Forwarding.Distinct.{has_prefix}
+use Rattle.clnp_machine.specs.Forwarding.declared.route.Route as forwarding
 use Rattle.clnp_machine.specs.ClnpPlan.declared.config.Role.{Role}
 use Rattle.clnp_machine.specs.ClnpPlan.declared.config.Role.TheVariants.{Host, Router}
 use Rattle.clnp_network.specs.Scenario.Scenario.{Plan, Subnetwork, octets_of}
 use Rattle.clnp_network.specs.Scenario.declared.event.Event.{Event}
-use Rattle.clnp_network.specs.Scenario.declared.event.Event.TheVariants.{Send, Echo, Deliver, Settle, Lose, Tick, Restart, Congest, Inject}
+use Rattle.clnp_network.specs.Scenario.declared.event.Event.TheVariants.{Send, Echo, Deliver, Settle, Lose, Tick, Restart, Congest, Inject, Mtu, Route, Unroute, Port}
 use Rattle.clnp_network.specs.Scenario.declared.event.Move.{Move}
 use Rattle.clnp_network.specs.Scenario.declared.event.Move.TheVariants.{One, SettleOne, LoseOne, TickOne}
 use Rattle.clnp_machine.specs.Unit.{Maker, DeclaredAt}
 use Rattle.clnp_machine.specs.Content.{Content, Labelled, Esis, frame_of}
-use Rattle.clnp_machine.specs.System.{SystemState, Input, AsksToSend, AsksForEcho, MomentComes, IsRestarted, IsCongested, Output, Transmits, SendsEsis, Notes, Effect}
+use Rattle.clnp_machine.specs.Attachment.{Attachment}
+use Rattle.clnp_machine.specs.Change.{Change, PortIsAt, PortTakes, RouteIsGone, RouteIsSet}
+use Rattle.clnp_machine.specs.System.{SystemState, Input, AsksToSend, AsksForEcho, MomentComes, IsRestarted, IsCongested, IsChanged, Output, Transmits, SendsEsis, Notes, Effect}
 use Rattle.clnp_machine.specs.Ports.{ComesByPort, GoesByPort}
 use Rattle.clnp_machine.specs.Step.{step}
-use Rattle.clnp_network.specs.World.{World, Copy, Numbered, Step, addressees_from, after, asks_role, asks_system, comes, comes_to, copy_from, deliver_at, deliver_to, enters, event_happens, first_port, followed_by, for_nobody, frame_to, give, give_each, give_to, injects_on, is_addressee, is_late, lose_copy, nothing, put_all_out, put_out, sends_frame, settle_copy, takes_effect, tick_each, with_effect, writes}
+use Rattle.clnp_network.specs.World.{World, Copy, Numbered, Step, addressees_from, after, asks_role, asks_system, comes, comes_to, copy_from, deliver_at, deliver_to, enters, event_happens, first_port, followed_by, for_nobody, frame_to, give, give_each, give_to, injects_on, is_addressee, is_late, lose_copy, nothing, put_all_out, put_out, sends_frame, settle_copy, takes_effect, tick_each, with_effect, writes, tells_of, ports_of, moved, moves_port_to, moves_port_of, moves_port_on, sets_route_as, sets_route_of, removes_route_as, removes_route_of, resizes_port_of, resizes_port, resizes_ports, resizes_at, resizes_each, resizes_on}
 use Rattle.clnp_safety.specs.Growth.{IsCopyAt, IsFront, TellsItsCopy}
 use Rattle.clnp_safety.specs.StepLaws.{StepLaws}
+use Rattle.clnp_machine.proofs.ClnpBase.Choices.{one_of}
 use Rattle.clnp_safety.proofs.Grows.{front-more}
 use Rattle.clnp_safety.proofs.Redirects.{systems_after}
 
@@ -71,13 +78,13 @@ tells_line w line h = record { front = ([], sym (append-nil w.copies)); lines = 
 -- What a system gives out.
 
 frame_tells : (system : SystemState) (w : World) (port : ℕ) (target : Target) (maker : Maker) (birth : ℕ) (content : Content)
-    → port < length system.configuration.ports → Tells w (sends_frame system w port target maker birth content)
+    → port < length system.attached.ports → Tells w (sends_frame system w port target maker birth content)
 frame_tells system w port target maker birth content within =
-    let found = slice_get_some system.configuration.ports port within in
+    let found = slice_get_some system.attached.ports port within in
     let at : length w.copies ≡ length w.copies + 1 - 1 = omega arith in
     let copy : Copy = record { subnet = found.0.subnet; sender = found.0.snpa; target = target; maker = maker; birth = birth; content = content } in
     record {
-      front = (copy_from (slice_get system.configuration.ports port) target maker birth content, refl);
+      front = (copy_from (slice_get system.attached.ports port) target maker birth content, refl);
       lines = (
         subst (λ (config : Option PortConfig).
             IsCopyAt (w.copies ++ copy_from config target maker birth content) (length w.copies + 1) target (frame_of content)) (sym found.1)
@@ -98,9 +105,9 @@ outputs_tell system (output ∷ outputs) all w =
     tells_both w (put_out system w output) (λ v. put_all_out system v outputs) (output_tells system output all.0 w)
     (outputs_tell system outputs all.1 (put_out system w output).world)
 
-goes_after : (s t : SystemState) → t.configuration ≡ s.configuration → (output : Output) → GoesByPort s output → GoesByPort t output
-goes_after s t same (Transmits port target packet) h = subst (λ (c : SystemConfiguration). port < length c.ports) (sym same) h
-goes_after s t same (SendsEsis port target value) h = subst (λ (c : SystemConfiguration). port < length c.ports) (sym same) h
+goes_after : (s t : SystemState) → length t.attached.ports ≡ length s.attached.ports → (output : Output) → GoesByPort s output → GoesByPort t output
+goes_after s t same (Transmits port target packet) h = subst (λ (number : ℕ). port < number) (sym same) h
+goes_after s t same (SendsEsis port target value) h = subst (λ (number : ℕ). port < number) (sym same) h
 goes_after s t same (Notes note) h = tt
 
 -- the machine's law on ports
@@ -116,14 +123,26 @@ first_is_there copy role (port ∷ ports) any =
       | inr other ↦ let rest = first_is_there copy role ports (rw other at any) in rw other (omega arith)
     ]
 
--- the systems of a world were configured as some others are at their places
-abbrev AreConfigured : List SystemState → World → Type 0
-AreConfigured base w =
-    (place : ℕ) (s : SystemState) → slice_get w.systems place ≡ Some s → (first : SystemState) × (slice_get base place ≡ Some first) × (s.configuration ≡ first.configuration)
+-- the system at a place is configured and attached as one of some others there
+record IsAsBefore (base : List SystemState) (place : ℕ) (s : SystemState) : Type 0 where
+  before : SystemState
+  there : slice_get base place ≡ Some before
+  configuration : s.configuration ≡ before.configuration
+  attached : s.attached ≡ before.attached
+
+-- so are the systems of a world
+abbrev AreAsBefore : List SystemState → World → Type 0
+AreAsBefore base w = (place : ℕ) (s : SystemState) → slice_get w.systems place ≡ Some s → IsAsBefore base place s
 
 -- a copy is for the system at a place
 abbrev IsFor : List SystemState → Copy → ℕ → Type 0
-IsFor base copy place = (s : SystemState) → slice_get base place ≡ Some s → is_addressee copy s.configuration ≡ true
+IsFor base copy place = (s : SystemState) → slice_get base place ≡ Some s → is_addressee copy s ≡ true
+
+-- and so it is for one that is as that was
+still_for : (base : List SystemState) (copy : Copy) (place : ℕ) (s : SystemState) → IsAsBefore base place s → IsFor base copy place → is_addressee copy s ≡ true
+still_for base copy place s was for =
+    subst (λ (c : SystemConfiguration). list_any (enters copy c.role) s.attached.ports ≡ true) (sym was.configuration)
+    (subst (λ (a : Attachment). list_any (enters copy was.before.configuration.role) a.ports ≡ true) (sym was.attached) (for was.before was.there))
 
 each_is_for : (base : List SystemState) (copy : Copy) (from : ℕ) (systems : List SystemState) → ((k : ℕ) → slice_get systems k ≡ slice_get base (from + k))
     → AllByRecursion (IsFor base copy) (addressees_from from copy systems)
@@ -133,8 +152,8 @@ each_is_for base copy from (system ∷ systems) same =
     ap (slice_get base) (let none : from ≡ from + 0 = omega arith in none) ∙ sym (same 0) in
     let rest = each_is_for base copy (from + 1) systems
     (λ k. same (suc k) ∙ ap (slice_get base) (let next : from + suc k ≡ from + 1 + k = omega arith in next)) in
-    elim (cases_Bool (is_addressee copy system.configuration)) [
-      | inl is ↦ rw is ((λ s e. subst (λ (t : SystemState). is_addressee copy t.configuration ≡ true) (same_Some system s (sym first ∙ e)) is), rest)
+    elim (cases_Bool (is_addressee copy system)) [
+      | inl is ↦ rw is ((λ s e. subst (λ (t : SystemState). is_addressee copy t ≡ true) (same_Some system s (sym first ∙ e)) is), rest)
       | inr isnt ↦ rw isnt rest
     ]
 
@@ -147,7 +166,7 @@ module _ (laws : StepLaws) (ports : GoByPorts) where
   effect_tells w place s input comes =
       let effect : Effect = step s input in
       let told = outputs_tell effect.after effect.outputs
-      (AllByRecursion-implies (GoesByPort s) (GoesByPort effect.after) (goes_after s effect.after (laws.steps.itself s input).configuration) effect.outputs
+      (AllByRecursion-implies (GoesByPort s) (GoesByPort effect.after) (goes_after s effect.after (laws.steps.ports s input)) effect.outputs
       (ports s input comes)) (with_effect w place effect) in
       record { front = told.front; lines = told.lines }
 
@@ -175,7 +194,7 @@ module _ (laws : StepLaws) (ports : GoByPorts) where
   -- Copies that are given.
 
   module _ (limits : Limits) (given : Numbered) where
-    give_to_tells : (w : World) (place : ℕ) (found : Option SystemState) → ((s : SystemState) → found ≡ Some s → is_addressee given.copy s.configuration ≡ true)
+    give_to_tells : (w : World) (place : ℕ) (found : Option SystemState) → ((s : SystemState) → found ≡ Some s → is_addressee given.copy s ≡ true)
         → Tells w (give_to limits given w place found)
     give_to_tells w place None for = tells_nothing w
     give_to_tells w place (Some s) for =
@@ -184,15 +203,15 @@ module _ (laws : StepLaws) (ports : GoByPorts) where
           | inr soon ↦
               rw soon
               (let told = effect_tells w place s (frame_to s given.copy)
-              (first_is_there given.copy s.configuration.role s.configuration.ports (for s refl)) in
+              (first_is_there given.copy s.configuration.role s.attached.ports (for s refl)) in
               record { front = told.front; lines = (tt, told.lines) })
         ]
 
     module _ (base : List SystemState) where
-      given_configured : (w : World) (place : ℕ) (found : Option SystemState) → slice_get w.systems place ≡ found → AreConfigured base w
-          → AreConfigured base (give_to limits given w place found).world
-      given_configured w place None e k = k
-      given_configured w place (Some s) e k =
+      given_as_before : (w : World) (place : ℕ) (found : Option SystemState) → slice_get w.systems place ≡ found → AreAsBefore base w
+          → AreAsBefore base (give_to limits given w place found).world
+      given_as_before w place None e k = k
+      given_as_before w place (Some s) e k =
           let input = frame_to s given.copy in
           let effect : Effect = step s input in
           let was = k place s e in
@@ -200,21 +219,24 @@ module _ (laws : StepLaws) (ports : GoByPorts) where
             | inl late ↦ rw late k
             | inr soon ↦
                 rw soon
-                (subst (λ (systems : List SystemState). (at : ℕ) (t : SystemState) → slice_get systems at ≡ Some t
-                → (first : SystemState) × (slice_get base at ≡ Some first) × (t.configuration ≡ first.configuration))
+                (subst (λ (systems : List SystemState). (at : ℕ) (t : SystemState) → slice_get systems at ≡ Some t → IsAsBefore base at t)
                 (sym (systems_after w place effect))
-                (set_each (λ at t. (first : SystemState) × (slice_get base at ≡ Some first) × (t.configuration ≡ first.configuration))
-                (λ at t. (first : SystemState) × (slice_get base at ≡ Some first) × (t.configuration ≡ first.configuration)) w.systems place effect.after k
-                (λ other t apart h. h) (was.0, was.1, (laws.steps.itself s input).configuration ∙ was.2)))
+                (set_each (IsAsBefore base) (IsAsBefore base) w.systems place effect.after k (λ other t apart h. h)
+                (record {
+                  before = was.before;
+                  there = was.there;
+                  configuration = (laws.steps.itself s input).configuration ∙ was.configuration;
+                  attached = laws.steps.attached s input ∙ was.attached;
+                })))
           ]
 
-      give_each_tells : (places : List ℕ) → AllByRecursion (IsFor base given.copy) places → (w : World) → AreConfigured base w → Tells w (give_each limits given w places)
+      give_each_tells : (places : List ℕ) → AllByRecursion (IsFor base given.copy) places → (w : World) → AreAsBefore base w → Tells w (give_each limits given w places)
       give_each_tells [] for w k = tells_nothing w
       give_each_tells (place ∷ places) for w k =
           tells_both w (give limits given w place) (λ v. give_each limits given v places)
           (give_to_tells w place (slice_get w.systems place)
-          (λ s e. let was = k place s e in subst (λ (c : SystemConfiguration). is_addressee given.copy c ≡ true) (sym was.2) (for.0 was.0 was.1)))
-          (give_each_tells places for.1 (give limits given w place).world (given_configured w place (slice_get w.systems place) refl k))
+          (λ s e. still_for base given.copy place s (k place s e) for.0))
+          (give_each_tells places for.1 (give limits given w place).world (given_as_before w place (slice_get w.systems place) refl k))
 
   settle_tells : (limits : Limits) (w : World) (found : Option Copy) → Tells w (settle_copy limits w found)
   settle_tells limits w None = tells_nothing w
@@ -222,7 +244,7 @@ module _ (laws : StepLaws) (ports : GoByPorts) where
       let given : Numbered = record { number = w.cursor + 1; copy = copy } in
       let told = give_each_tells limits given w.systems (addressees_from 0 copy w.systems)
       (each_is_for w.systems copy 0 w.systems (λ k. ap (slice_get w.systems) (let same : k ≡ 0 + k = omega arith in same)))
-      (record w { cursor = w.cursor + 1 }) (λ place s e. (s, e, refl)) in
+      (record w { cursor = w.cursor + 1 }) (λ place s e. record { before = s; there = e; configuration = refl; attached = refl }) in
       let next : World = record w { cursor = w.cursor + 1 } in
       record {
         front = told.front;
@@ -241,11 +263,11 @@ module _ (laws : StepLaws) (ports : GoByPorts) where
       → Tells w (deliver_to limits w number place found system)
   deliver_to_tells limits w number place None system e = tells_line w (Void w.clock system.configuration.name number) tt
   deliver_to_tells limits w number place (Some copy) system e =
-      elim (cases_Bool (is_addressee copy system.configuration)) [
+      elim (cases_Bool (is_addressee copy system)) [
         | inl is ↦
             rw is
             (give_to_tells limits (record { number = number; copy = copy }) w place (slice_get w.systems place)
-            (λ s there. subst (λ (t : SystemState). is_addressee copy t.configuration ≡ true) (same_Some system s (sym e ∙ there)) is))
+            (λ s there. subst (λ (t : SystemState). is_addressee copy t ≡ true) (same_Some system s (sym e ∙ there)) is))
         | inr isnt ↦ rw isnt (tells_line w (Void w.clock system.configuration.name number) tt)
       ]
 
@@ -259,6 +281,84 @@ module _ (laws : StepLaws) (ports : GoByPorts) where
   injects_tells w subnet None sender target octets = tells_nothing w
   injects_tells w subnet (Some declared) sender target octets = record { front = (_, refl); lines = (tt, tt) }
 
+  -- Changes.
+
+  told_tells : (w : World) (place : ℕ) (system : SystemState) (change : Change) (told : Note)
+      → Tells w (followed_by (comes w place (IsChanged change)) (tells_of system told))
+  told_tells w place system change told =
+      let changed = comes w place (IsChanged change) in
+      tells_both w changed (tells_of system told) (comes_tells w place (IsChanged change) (λ s. tt))
+      (tells_line changed.world (Noted changed.world.clock system.configuration.name told) tt)
+
+  port_to_tells : (w : World) (place number subnet : ℕ) (snpa : List ℕ) (mtu : ℕ) (declared : Subnetwork) (system : SystemState) (found : Option PortConfig)
+      → Tells w (moves_port_to w place number subnet snpa mtu declared system found)
+  port_to_tells w place number subnet snpa mtu declared system None = tells_nothing w
+  port_to_tells w place number subnet snpa mtu declared system (Some port) =
+      told_tells w place system (PortIsAt number (moved port subnet mtu snpa)) (note.Port number declared.name snpa)
+
+  port_of_tells : (w : World) (place number subnet : ℕ) (snpa : List ℕ) (mtu : ℕ) (declared : Subnetwork) (found : Option SystemState)
+      → Tells w (moves_port_of w place number subnet snpa mtu declared found)
+  port_of_tells w place number subnet snpa mtu declared None = tells_nothing w
+  port_of_tells w place number subnet snpa mtu declared (Some system) =
+      port_to_tells w place number subnet snpa mtu declared system (slice_get system.attached.ports number)
+
+  port_tells : (w : World) (place number subnet : ℕ) (snpa : List ℕ) (declared : Option Subnetwork) (mtu : Option ℕ)
+      → Tells w (moves_port_on w place number subnet snpa declared mtu)
+  port_tells w place number subnet snpa None mtu = tells_nothing w
+  port_tells w place number subnet snpa (Some declared) None = tells_nothing w
+  port_tells w place number subnet snpa (Some declared) (Some mtu) =
+      port_of_tells w place number subnet snpa mtu declared (slice_get w.systems place)
+
+  route_as_tells : (role : Role) (w : World) (place : ℕ) (system : SystemState) (route : forwarding.Route) → Tells w (sets_route_as role w place system route)
+  route_as_tells Host w place system route = tells_nothing w
+  route_as_tells Router w place system route =
+      one_of (Tells w) (nat_lt route.port (length system.attached.ports))
+      (followed_by (comes w place (IsChanged (RouteIsSet route))) (tells_of system (note.Route route.prefix))) (nothing w)
+      (told_tells w place system (RouteIsSet route) (note.Route route.prefix)) (tells_nothing w)
+
+  route_tells : (w : World) (place : ℕ) (route : forwarding.Route) (found : Option SystemState) → Tells w (sets_route_of w place route found)
+  route_tells w place route None = tells_nothing w
+  route_tells w place route (Some system) = route_as_tells system.configuration.role w place system route
+
+  unroute_as_tells : (role : Role) (w : World) (place : ℕ) (system : SystemState) (prefix : List ℕ) → Tells w (removes_route_as role w place system prefix)
+  unroute_as_tells Host w place system prefix = tells_nothing w
+  unroute_as_tells Router w place system prefix =
+      told_tells w place system (RouteIsGone prefix) (note.Unroute prefix (list_any (has_prefix prefix) system.attached.routes))
+
+  unroute_tells : (w : World) (place : ℕ) (prefix : List ℕ) (found : Option SystemState) → Tells w (removes_route_of w place prefix found)
+  unroute_tells w place prefix None = tells_nothing w
+  unroute_tells w place prefix (Some system) = unroute_as_tells system.configuration.role w place system prefix
+
+  module _ (subnet mtu : ℕ) where
+    resize_port_tells : (w : World) (place number : ℕ) (found : Option PortConfig) → Tells w (resizes_port_of w place number subnet mtu found)
+    resize_port_tells w place number None = tells_nothing w
+    resize_port_tells w place number (Some port) =
+        one_of (Tells w) (port.subnet == subnet) (comes w place (IsChanged (PortTakes number mtu))) (nothing w)
+        (comes_tells w place (IsChanged (PortTakes number mtu)) (λ s. tt)) (tells_nothing w)
+
+    resize_ports_tell : (place : ℕ) (numbers : List ℕ) (w : World) → Tells w (resizes_ports w place subnet mtu numbers)
+    resize_ports_tell place [] w = tells_nothing w
+    resize_ports_tell place (number ∷ numbers) w =
+        tells_both w (resizes_port w place number subnet mtu) (λ v. resizes_ports v place subnet mtu numbers)
+        (resize_port_tells w place number (slice_get (ports_of (slice_get w.systems place)) number))
+        (resize_ports_tell place numbers (resizes_port w place number subnet mtu).world)
+
+    resize_each_tells : (places : List ℕ) (w : World) → Tells w (resizes_each w subnet mtu places)
+    resize_each_tells [] w = tells_nothing w
+    resize_each_tells (place ∷ places) w =
+        tells_both w (resizes_at w place subnet mtu) (λ v. resizes_each v subnet mtu places)
+        (resize_ports_tell place (range_with_len 0 (length (ports_of (slice_get w.systems place)))) w)
+        (resize_each_tells places (resizes_at w place subnet mtu).world)
+
+    resize_tells : (w : World) (found : Option Subnetwork) → Tells w (resizes_on w subnet mtu found)
+    resize_tells w None = tells_nothing w
+    resize_tells w (Some declared) =
+        let first : World = record w { mtus = slice_set w.mtus subnet mtu } in
+        let each = resizes_each first subnet mtu (range_with_len 0 (length w.systems)) in
+        let told = tells_both first each (λ v. writes v (Resized v.clock declared.name mtu)) (resize_each_tells (range_with_len 0 (length w.systems)) first)
+        (tells_line each.world (Resized each.world.clock declared.name mtu) tt) in
+        record { front = told.front; lines = told.lines }
+
   event_tells : (subnets : List Subnetwork) (limits : Limits) (w : World) (asked : Option Event) → Tells w (event_happens subnets limits w asked)
   event_tells subnets limits w None = tells_nothing w
   event_tells subnets limits w (Some (Settle count)) = tells_nothing w
@@ -271,6 +371,11 @@ module _ (laws : StepLaws) (ports : GoByPorts) where
       asks_tells w system (AsksToSend from to (octets_of body) ask) (λ s. tt) (slice_get w.systems system)
   event_tells subnets limits w (Some (Echo system from to body)) = comes_tells w system (AsksForEcho from to (octets_of body)) (λ s. tt)
   event_tells subnets limits w (Some (Inject subnet from to octets)) = injects_tells w subnet (slice_get subnets subnet) from to octets
+  event_tells subnets limits w (Some (Mtu subnet mtu)) = resize_tells subnet mtu w (slice_get subnets subnet)
+  event_tells subnets limits w (Some (Route system route)) = route_tells w system route (slice_get w.systems system)
+  event_tells subnets limits w (Some (Unroute system prefix)) = unroute_tells w system prefix (slice_get w.systems system)
+  event_tells subnets limits w (Some (Port system number subnet snpa)) =
+      port_tells w system number subnet snpa (slice_get subnets subnet) (slice_get w.mtus subnet)
 
   move_tells : (plan : Plan) (w : World) (move : Move) → Tells w (after plan w move)
   move_tells plan w (One place) = event_tells plan.subnets plan.limits w (slice_get plan.events place)

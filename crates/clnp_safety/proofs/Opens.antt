@@ -1,12 +1,23 @@
 -- The world of a scenario's declarations is sound: nothing is sent yet, and nothing is on its way.
+use Rattle.clnp_machine.proofs.ClnpBase.Lists.{AllByRecursion-mapped, AllByRecursion-slice_get}
 use Rattle.std.proofs.Common.{◌≡◌, ℕ, zero, suc, ◌+◌, List, [], ◌∷◌, length, refl, sym, ap, subst, arith}
 use Rattle.std.specs.Prelude.{slice_get, Some}
-use Rattle.clnp_machine.specs.ClnpPlan.Configuration.{SystemConfiguration}
+use Rattle.std.specs.List.{AllByRecursion}
+use Rattle.clnp_machine.specs.ClnpPlan.Configuration.{IsAddressed, IsSystem, IsWithin, SystemConfiguration}
 use Rattle.clnp_machine.specs.ClnpPlan.declared.config.Limits.{Limits}
-use Rattle.clnp_network.specs.Scenario.Scenario.{Plan}
+use Rattle.clnp_network.specs.Scenario.Scenario.{IsFit, Plan, Subnetwork}
 use Rattle.clnp_machine.specs.System.{SystemState, first_state}
 use Rattle.clnp_network.specs.World.{states_from, first_world}
 use Rattle.clnp_safety.specs.Invariant.{SystemStands, WorldIsSound}
+use Rattle.clnp_safety.specs.StepLaws.{StepLaws}
+
+-- a system of a plan is configured as it must be
+pub configured : (plan : Plan) → IsFit plan → (place : ℕ) (configuration : SystemConfiguration) → slice_get plan.systems place ≡ Some configuration
+    → IsSystem configuration × IsAddressed configuration
+configured plan fit place configuration declared = (
+  AllByRecursion-slice_get IsSystem plan.systems place configuration declared fit.systems,
+  AllByRecursion-slice_get IsAddressed plan.systems place configuration declared fit.each_address,
+)
 
 length-states_from : (limits : Limits) (from : ℕ) (systems : List SystemConfiguration) → length (states_from limits from systems) ≡ length systems
 length-states_from limits from [] = refl
@@ -29,9 +40,15 @@ opened limits from (system ∷ systems) (suc place) at s e there =
     let rest = opened limits (from + 1) systems place at s (omega arith) there in
     record { configuration = rest.configuration; declared = rest.declared; state = rest.state }
 
-first_is_sound : (plan : Plan) (place : ℕ) (configuration : SystemConfiguration) → slice_get plan.systems place ≡ Some configuration
+-- the subnetworks take frames that are long enough
+pub first_mtus : (plan : Plan) → IsFit plan → AllByRecursion (IsWithin 512 65535) (first_world plan).mtus
+first_mtus plan fit =
+    AllByRecursion-mapped (λ (subnet : Subnetwork). IsWithin 512 65535 subnet.mtu) (IsWithin 512 65535) (λ (subnet : Subnetwork). subnet.mtu) plan.subnets
+    (λ subnet within. within) fit.mtus
+
+first_is_sound : StepLaws → (plan : Plan) → IsFit plan → (place : ℕ) (configuration : SystemConfiguration) → slice_get plan.systems place ≡ Some configuration
     → SystemStands plan [] [] [] place (first_state place configuration plan.limits 0 0)
-first_is_sound plan place configuration declared = record {
+first_is_sound laws plan fit place configuration declared = record {
   sound = record {
     stands_at = refl;
     declared = declared;
@@ -44,19 +61,22 @@ first_is_sound plan place configuration declared = record {
     not_whole = tt;
     budget = omega arith;
     known = tt;
+    attached = let is = configured plan fit place configuration declared in laws.declared configuration is.0 is.1;
+    ports = refl;
   };
   pending = tt;
 }
 
-pub first_world_is_sound : (plan : Plan) → WorldIsSound plan [] (first_world plan)
-first_world_is_sound plan = record {
+pub first_world_is_sound : StepLaws → (plan : Plan) → IsFit plan → WorldIsSound plan [] (first_world plan)
+first_world_is_sound laws plan fit = record {
   made = record { each = tt; rest = λ i j d below within. absurd (omega arith) };
   copies = tt;
   systems = record {
     number = length-states_from plan.limits 0 plan.systems;
     each = λ place s there.
         let here = opened plan.limits 0 plan.systems place place s (omega arith) there in
-        subst (SystemStands plan [] [] [] place) here.state (first_is_sound plan place here.configuration here.declared);
+        subst (SystemStands plan [] [] [] place) here.state (first_is_sound laws plan fit place here.configuration here.declared);
   };
   current = λ place s there. ap (λ (t : SystemState). t.moment) (sym (opened plan.limits 0 plan.systems place place s (omega arith) there).state);
+  mtus = first_mtus plan fit;
 }

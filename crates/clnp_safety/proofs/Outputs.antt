@@ -4,6 +4,7 @@ use Rattle.std.proofs.Common.{◌≡◌, ◌≢◌, ℕ, List, [], ◌++◌, len
 use Rattle.std.specs.Prelude.{slice_get, Option, None, Some}
 use Rattle.clnp_machine.specs.Nsap.Address.{IsAddress}
 use Rattle.clnp_machine.specs.Nsap.declared.target.Target.{Target}
+use Rattle.clnp_machine.specs.ClnpPlan.Configuration.{IsWithin}
 use Rattle.clnp_machine.specs.ClnpPlan.declared.config.PortConfig.{PortConfig}
 use Rattle.clnp_machine.specs.ClnpPlan.declared.note.Note.{Note}
 use Rattle.clnp_machine.specs.Unit as unit
@@ -20,16 +21,18 @@ use Rattle.clnp_safety.proofs.Lines.{LineIs}
 use Rattle.clnp_safety.proofs.Steps.{Keeps, keeps-put_all_out}
 use Rattle.clnp_safety.proofs.Honest.{OutputIsSound}
 
--- these units were made, P holds of the clock and the system at each place, and the copies are sound
+-- these units were made, P holds of the clock and the system at each place, the copies are sound, and subnetworks take frames that are
+-- long enough
 pub record Stands (units : List unit.Unit) (count : ℕ) (P : (clock place : ℕ) → SystemState → Type 0) (w : World) : Type 0 where
   pub made : w.units ≡ units
   pub copies : AllByRecursion (CopyIsSound units) w.copies
   pub number : length w.systems ≡ count
   pub each : (place : ℕ) (s : SystemState) → slice_get w.systems place ≡ Some s → P w.clock place s
+  pub mtus : AllByRecursion (IsWithin 512 65535) w.mtus
 
 -- each port of a system is at an address
 abbrev pub PortsAreAddressed : SystemState → Type 0
-PortsAreAddressed system = AllByRecursion (λ (port : PortConfig). IsAddress port.snpa) system.configuration.ports
+PortsAreAddressed system = AllByRecursion (λ (port : PortConfig). IsAddress port.snpa) system.attached.ports
 
 copy_from_is_sound : (units : List unit.Unit) (found : Option PortConfig) (target : Target) (maker : Maker) (birth : ℕ) (content : Content)
     → ((port : PortConfig) → found ≡ Some port → IsAddress port.snpa) → Carries (IsRangeOf units) content → IsCarried content → IsBornWithUnit birth content
@@ -46,12 +49,13 @@ module _ (count : ℕ) (N : List ℕ → Note → Type 0) where
   frame_stands units P system v port target maker birth content addressed carries carried born by k = record {
     world = record {
       made = k.made;
-      copies = AllByRecursion-append (CopyIsSound units) v.copies (copy_from (slice_get system.configuration.ports port) target maker birth content) k.copies
-          (copy_from_is_sound units (slice_get system.configuration.ports port) target maker birth content
-          (λ config there. AllByRecursion-slice_get (λ (port : PortConfig). IsAddress port.snpa) system.configuration.ports port config there addressed)
+      copies = AllByRecursion-append (CopyIsSound units) v.copies (copy_from (slice_get system.attached.ports port) target maker birth content) k.copies
+          (copy_from_is_sound units (slice_get system.attached.ports port) target maker birth content
+          (λ config there. AllByRecursion-slice_get (λ (port : PortConfig). IsAddress port.snpa) system.attached.ports port config there addressed)
           carries carried born by);
       number = k.number;
       each = k.each;
+      mtus = k.mtus;
     };
     lines = (tt, tt);
   }
@@ -81,6 +85,7 @@ module _ (count : ℕ) (N : List ℕ → Note → Type 0) where
         copies = copies_later units effect.units w.copies k.copies;
         number = length-set w.systems place effect.after ∙ k.number;
         each = set_each (P w.clock) (Q w.clock) w.systems place effect.after k.each others here;
+        mtus = k.mtus;
       })
 
 -- any world will do

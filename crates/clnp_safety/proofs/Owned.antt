@@ -16,8 +16,8 @@ use Rattle.clnp_machine.specs.Steps.{IsForOwn, NotesOnly}
 use Rattle.clnp_network.specs.World.{World, put_out, with_effect, takes_effect, after}
 use Rattle.clnp_safety.specs.Owners.{IsByOwner}
 use Rattle.clnp_safety.specs.StepLaws.{StepLaws}
-use Rattle.clnp_safety.proofs.EveryMove.{AnyFrame, AnyInput, EachStepKeeps, IsOfClock, any_events, keeps-move}
-use Rattle.clnp_safety.proofs.Steps.{Keeps, GivingIsFine, keeps-put_all_out}
+use Rattle.clnp_safety.proofs.EveryMove.{AnyFrame, AnyInput, EachStepKeeps, IsOfNow, any_events, keeps-move}
+use Rattle.clnp_safety.proofs.Steps.{ChangingIsFine, Keeps, GivingIsFine, keeps-put_all_out}
 
 module _ (laws : StepLaws) (systems : List SystemState) where
   -- the system was configured so at a place before
@@ -40,6 +40,14 @@ module _ (laws : StepLaws) (systems : List SystemState) where
     received = λ now name copy port. tt;
     lost = λ now copy. tt;
     nobody = λ now copy. tt;
+  }
+
+  changing : ChangingIsFine ByOwner
+  changing = record {
+    port = λ now name number subnet snpa. tt;
+    route = λ now name prefix. tt;
+    unroute = λ now name prefix there. tt;
+    resized = λ now subnet mtu. tt;
   }
 
   -- a note of a system with this configuration
@@ -65,7 +73,7 @@ module _ (laws : StepLaws) (systems : List SystemState) where
   put_out_by_owner place s later (SendsEsis port target value) was e own v k = record { world = k; lines = (tt, tt) }
 
   takes_effect_by_owner : (w : World) (place : ℕ) (s : SystemState) (input : Input) → slice_get w.systems place ≡ Some s
-      → AnyInput input → IsOfClock w input → AreConfigured w → Keeps AreConfigured ByOwner (takes_effect w place (step s input))
+      → AnyInput input → IsOfNow w s input → AreConfigured w → Keeps AreConfigured ByOwner (takes_effect w place (step s input))
   takes_effect_by_owner w place s input there any at k =
       let was = k place s there in
       let effect : Effect = step s input in
@@ -78,7 +86,20 @@ module _ (laws : StepLaws) (systems : List SystemState) where
       (record { before = was.before; there = was.there; same = same ∙ was.same }))
 
   each_by_owner : EachStepKeeps (λ w. AnyInput) AnyFrame AreConfigured ByOwner
-  each_by_owner = record { steps = takes_effect_by_owner; frames = λ w at copy e k v follows s. tt; moments = λ w now. tt; restarts = λ w. tt; congestion = λ w on. tt; cursor = λ w next k. k; clock = λ w k. k; outside = λ w subnet sender target octets any k. k; injected = λ now copy subnet sender target. tt; fine = fine }
+  each_by_owner = record {
+    steps = takes_effect_by_owner;
+    frames = λ w at copy e k v follows s. tt;
+    moments = λ w now. tt;
+    restarts = λ w. tt;
+    congestion = λ w on. tt;
+    cursor = λ w next k. k;
+    clock = λ w k. k;
+    outside = λ w subnet sender target octets any k. k;
+    sizes = λ w subnet mtu takes k. k;
+    injected = λ now copy subnet sender target. tt;
+    fine = fine;
+    changing = changing;
+  }
 
 unchanged : (laws : StepLaws) (w : World) → AreConfigured laws w.systems w
 unchanged laws w place s there = record { before = s; there = there; same = refl }

@@ -45,6 +45,8 @@ restart_is_sound plan units place s sound = record {
   not_whole = tt;
   budget = omega arith;
   known = tt;
+  attached = sound.attached;
+  ports = sound.ports;
 }
 
 -- A name belongs to one system.
@@ -121,6 +123,7 @@ module _ (laws : StepLaws) (plan : Plan) (fit : IsFit plan) (past : List Entry) 
               copies = k.stands.copies;
               number = k.stands.number;
               each = λ other t at. let is = k.stands.each other t at in record { stands = is.stands; also = is.also.current };
+              mtus = k.stands.mtus;
             };
           };
           lines = lines_are IsNoteOf (NoteIsSound plan past w) (λ name note is. is.sound) taken.lines kept.lines;

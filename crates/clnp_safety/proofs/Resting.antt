@@ -20,8 +20,8 @@ use Rattle.clnp_safety.specs.Invariant.{EachRests}
 use Rattle.clnp_safety.specs.StepLaws.{StepLaws}
 use Rattle.clnp_safety.proofs.Drawing.{step_draws}
 use Rattle.clnp_safety.proofs.Draws.{AreSound, IsMadeNow, rest_after, sound_after}
-use Rattle.clnp_safety.proofs.EveryMove.{AnyFrame, AnyInput, IsOfClock, any_events, keeps-moves}
-use Rattle.clnp_safety.proofs.Lines.{AnyLine, any_line_is_fine}
+use Rattle.clnp_safety.proofs.EveryMove.{AnyFrame, AnyInput, IsOfNow, any_events, keeps-moves}
+use Rattle.clnp_safety.proofs.Lines.{AnyLine, any_line_changes, any_line_is_fine}
 use Rattle.clnp_safety.proofs.Opens.{opened}
 use Rattle.clnp_safety.proofs.Restarting.{no_uses}
 use Rattle.clnp_safety.proofs.Steps.{Keeps, keeps-put_all_out}
@@ -73,7 +73,7 @@ steady_or_restarted IsRestarted = inr refl
 steady_or_restarted _ = inl tt
 
 -- the moment that comes to a system is the clock's, and else it keeps its own
-moment_comes : (w : World) (s : SystemState) (input : Input) → IsOfClock w input → s.moment ≤ w.clock
+moment_comes : (w : World) (s : SystemState) (input : Input) → IsOfNow w s input → s.moment ≤ w.clock
     → (s.moment ≤ moment_after s input) × (moment_after s input ≤ w.clock)
 moment_comes w s (MomentComes now) at come = (omega arith, omega arith)
 moment_comes w s _ at come = (omega arith, come)
@@ -89,7 +89,7 @@ record EffectRests (reuse place : ℕ) (units : List unit.Unit) (now : ℕ) (eff
   rest : EachRests reuse (units ++ effect.units)
 
 module _ (laws : StepLaws) (reuse : ℕ) (w : World) (place : ℕ) (s : SystemState) (input : Input) (there : slice_get w.systems place ≡ Some s)
-    (at : IsOfClock w input) (k : UnitsRest reuse w) where
+    (at : IsOfNow w s input) (k : UnitsRest reuse w) where
   abbrev effect : Effect
   effect = step s input
 
@@ -176,7 +176,9 @@ identifiers_rest laws plan moves =
       cursor = λ w next k. record { rest = k.rest; each = k.each };
       clock = clock_goes_on reuse;
       outside = λ w subnet sender target octets any k. record { rest = k.rest; each = k.each };
+      sizes = λ w subnet mtu takes k. record { rest = k.rest; each = k.each };
       injected = λ now copy subnet sender target. tt;
       fine = any_line_is_fine;
+      changing = any_line_changes;
     })
     plan (λ w. any_events plan.events) moves (first_world plan) (first_rests plan)).rest

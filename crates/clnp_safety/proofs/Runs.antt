@@ -1,12 +1,12 @@
 -- Each move keeps the world sound, and so does each series of moves.
 use Rattle.clnp_machine.proofs.ClnpBase.Lists.{AllByRecursion-both, AllByRecursion-contains, AllByRecursion-from_places, AllByRecursion-implies, AllByRecursion-slice_get}
-use Rattle.std.proofs.Common.{◌≡◌, ℕ, List, [], ◌∷◌, ◌++◌, ◌+◌, append-nil, append_assoc, refl, subst, sym}
+use Rattle.std.proofs.Common.{◌≡◌, ℕ, List, [], ◌∷◌, ◌++◌, append-nil, append_assoc, refl, subst, sym}
 use Rattle.std.specs.Prelude.{slice_get, Option, None, Some}
 use Rattle.std.specs.List.{AllByRecursion}
 use Rattle.clnp_machine.specs.ClnpPlan.Journal.{Line}
-use Rattle.clnp_network.specs.Scenario.Scenario.{AsksFairly, AsksInForm, InjectsNothing, Plan, IsClosed, IsFit, octets_of}
+use Rattle.clnp_network.specs.Scenario.Scenario.{InjectsNothing, Plan, IsClosed, IsFit, octets_of}
 use Rattle.clnp_network.specs.Scenario.declared.event.Event.{Event}
-use Rattle.clnp_network.specs.Scenario.declared.event.Event.TheVariants.{Send, Echo, Deliver, Settle, Lose, Tick, Restart, Congest, Inject}
+use Rattle.clnp_network.specs.Scenario.declared.event.Event.TheVariants.{Send, Echo, Deliver, Settle, Lose, Tick, Restart, Congest, Inject, Mtu, Route, Unroute, Port}
 use Rattle.clnp_network.specs.Scenario.declared.event.Move.{Move}
 use Rattle.clnp_network.specs.Scenario.declared.event.Move.TheVariants.{One, SettleOne, LoseOne, TickOne}
 use Rattle.clnp_machine.specs.Unit as unit
@@ -26,21 +26,22 @@ use Rattle.clnp_safety.proofs.Lines.{LinesAreSound, lines_are_apart, lines_are_f
 use Rattle.clnp_safety.proofs.Moves.{MoveIsSound, kept_is_sound, nothing_is_sound}
 use Rattle.clnp_safety.proofs.Settles.{settle_one_is_sound, deliver_is_sound, lose_one_is_sound}
 use Rattle.clnp_safety.proofs.Restarting.{restarted_is_sound}
+use Rattle.clnp_safety.proofs.Changing.{port_moves_soundly, route_goes_soundly, route_is_set_soundly, subnetwork_takes_soundly}
 use Rattle.clnp_safety.proofs.Congesting.{congested_is_sound}
+use Rattle.clnp_safety.proofs.Events.{IsFitEvent, fit_event}
 use Rattle.clnp_safety.proofs.Ticks.{tick_one_is_sound}
 use Rattle.clnp_safety.proofs.Asked.{echo_is_asked, system_is_asked}
 use Rattle.clnp_safety.proofs.Opens.{first_world_is_sound}
 use Rattle.clnp_safety.proofs.Standing.{AllStands, all_stands, first_stands, move_stands}
 
--- what a fair event asks in a plan without frames from outside
-record IsOfFitPlan (event : Event) : Type 0 where
-  fair : AsksFairly event
-  formed : AsksInForm event
+-- an event of a fit plan without frames from outside
+record IsOfFitPlan (plan : Plan) (event : Event) : Type 0 where
+  is : IsFitEvent plan event
   closed : InjectsNothing event
 
 module _ (laws : StepLaws) (plan : Plan) (fit : IsFit plan) (closed : IsClosed plan) where
   module _ (past : List Entry) (w : World) (h : WorldIsSound plan past w) (stood : ReportsStand w) where
-    event_is_sound : (move : Move) (asked : Option Event) → ((event : Event) → asked ≡ Some event → IsOfFitPlan event)
+    event_is_sound : (move : Move) (asked : Option Event) → ((event : Event) → asked ≡ Some event → IsOfFitPlan plan event)
         → ((from to octets : List ℕ) → AsksFor asked from to octets → IsSend plan move from to octets)
         → MoveIsSound plan past move w (event_happens plan.subnets plan.limits w asked)
     event_is_sound move None fair asks = nothing_is_sound plan past move w h
@@ -52,17 +53,23 @@ module _ (laws : StepLaws) (plan : Plan) (fit : IsFit plan) (closed : IsClosed p
     event_is_sound move (Some (Restart system)) fair asks = restarted_is_sound laws plan fit past move w h system
     event_is_sound move (Some (Congest system on)) fair asks = congested_is_sound laws plan fit past move w h system on
     event_is_sound move (Some (Send system from to body ask)) fair asks =
-        let is = fair (Send system from to body ask) refl in
+        let is = (fair (Send system from to body ask) refl).is in
         system_is_asked laws plan fit past move w h system from to (octets_of body) ask (is.formed, is.fair) (asks from to (octets_of body) (refl, refl, refl))
     event_is_sound move (Some (Echo system from to body)) fair asks =
-        let is = (fair (Echo system from to body) refl).formed in
+        let is = (fair (Echo system from to body) refl).is.formed in
         echo_is_asked laws plan fit past move w h system from to (octets_of body) (is.0, is.1) is.2
     event_is_sound move (Some (Inject subnet from to octets)) fair asks = absurd (fair (Inject subnet from to octets) refl).closed
+    event_is_sound move (Some (Mtu subnet mtu)) fair asks =
+        subnetwork_takes_soundly laws plan fit past move w h subnet mtu (fair (Mtu subnet mtu) refl).is.said
+    event_is_sound move (Some (Route system route)) fair asks =
+        route_is_set_soundly laws plan fit past move w h system route (fair (Route system route) refl).is.changes.next
+    event_is_sound move (Some (Unroute system prefix)) fair asks = route_goes_soundly laws plan fit past move w h system prefix
+    event_is_sound move (Some (Port system number subnet snpa)) fair asks =
+        port_moves_soundly laws plan fit past move w h system number subnet snpa (fair (Port system number subnet snpa) refl).is.changes.address
 
-    event_is_fair : (place : ℕ) (event : Event) → slice_get plan.events place ≡ Some event → IsOfFitPlan event
+    event_is_fair : (place : ℕ) (event : Event) → slice_get plan.events place ≡ Some event → IsOfFitPlan plan event
     event_is_fair place event there = record {
-      fair = AllByRecursion-slice_get AsksFairly plan.events place event there fit.asks;
-      formed = AllByRecursion-slice_get AsksInForm plan.events place event there fit.formed;
+      is = fit_event plan fit place event there;
       closed = AllByRecursion-slice_get InjectsNothing plan.events place event there closed;
     }
 
@@ -116,36 +123,36 @@ module _ (laws : StepLaws) (plan : Plan) (fit : IsFit plan) (closed : IsClosed p
       (moves_are_sound moves (with_entry past w h k.reports move) next (move_is_sound past w h k.reports move).world (move_stands laws plan fit closed w move k))
 
 pub each_was_sent : StepLaws → (plan : Plan) → IsFit plan → IsClosed plan → (moves : List Move) → EachWasSent plan [] (entries_of plan (first_world plan) moves)
-each_was_sent laws plan fit closed moves = moves_are_honest laws plan fit closed moves [] (first_world plan) (first_world_is_sound plan) (first_stands laws plan fit closed)
+each_was_sent laws plan fit closed moves = moves_are_honest laws plan fit closed moves [] (first_world plan) (first_world_is_sound laws plan fit) (first_stands laws plan fit closed)
 
 pub run_is_honest : StepLaws → (plan : Plan) → IsFit plan → IsClosed plan → IsHonest plan (run plan)
 run_is_honest laws plan fit closed = each_was_sent laws plan fit closed (moves_made plan)
 
 pub each_is_founded : StepLaws → (plan : Plan) → IsFit plan → IsClosed plan → (moves : List Move) → EachIsFounded plan (first_world plan) [] moves
-each_is_founded laws plan fit closed moves = moves_are_founded laws plan fit closed moves [] (first_world plan) (first_world_is_sound plan) (first_stands laws plan fit closed)
+each_is_founded laws plan fit closed moves = moves_are_founded laws plan fit closed moves [] (first_world plan) (first_world_is_sound laws plan fit) (first_stands laws plan fit closed)
 
 pub none_interferes : StepLaws → (plan : Plan) → IsFit plan → IsClosed plan → (moves : List Move)
     → AllByRecursion (λ (entry : Entry). NoInterference entry.lines) (entries_of plan (first_world plan) moves)
 none_interferes laws plan fit closed moves =
-    moves_are laws plan fit closed NoInterference (λ past w lines is. lines_are_apart plan past w lines is) moves [] (first_world plan) (first_world_is_sound plan) (first_stands laws plan fit closed)
+    moves_are laws plan fit closed NoInterference (λ past w lines is. lines_are_apart plan past w lines is) moves [] (first_world plan) (first_world_is_sound laws plan fit) (first_stands laws plan fit closed)
 
 pub none_is_alien : StepLaws → (plan : Plan) → IsFit plan → IsClosed plan → (moves : List Move)
     → AllByRecursion (λ (entry : Entry). NoneIsAlien entry.lines) (entries_of plan (first_world plan) moves)
 none_is_alien laws plan fit closed moves =
-    moves_are laws plan fit closed NoneIsAlien (λ past w lines is. lines_are_known plan past w lines is) moves [] (first_world plan) (first_world_is_sound plan) (first_stands laws plan fit closed)
+    moves_are laws plan fit closed NoneIsAlien (λ past w lines is. lines_are_known plan past w lines is) moves [] (first_world plan) (first_world_is_sound laws plan fit) (first_stands laws plan fit closed)
 
 pub none_is_refused : StepLaws → (plan : Plan) → IsFit plan → IsClosed plan → (moves : List Move)
     → AllByRecursion (λ (entry : Entry). AllByRecursion TellsNoRule entry.lines) (entries_of plan (first_world plan) moves)
 none_is_refused laws plan fit closed moves =
     moves_are laws plan fit closed (AllByRecursion TellsNoRule) (λ past w lines is. lines_tell_no_rule plan past w lines is) moves [] (first_world plan)
-    (first_world_is_sound plan) (first_stands laws plan fit closed)
+    (first_world_is_sound laws plan fit) (first_stands laws plan fit closed)
 
 -- What is so of each world of a run.
 
 pub last_is_sound : StepLaws → (plan : Plan) → IsFit plan → IsClosed plan → (moves : List Move)
     → WorldIsSound plan (entries_of plan (first_world plan) moves) (world_after plan (first_world plan) moves)
 last_is_sound laws plan fit closed moves =
-    moves_are_sound laws plan fit closed moves [] (first_world plan) (first_world_is_sound plan) (first_stands laws plan fit closed)
+    moves_are_sound laws plan fit closed moves [] (first_world plan) (first_world_is_sound laws plan fit) (first_stands laws plan fit closed)
 
 pub network_is_sound : StepLaws → (plan : Plan) → IsFit plan → IsClosed plan → (moves : List Move)
     → NetworkIsSound plan (entries_of plan (first_world plan) moves) (world_after plan (first_world plan) moves)

@@ -39,4 +39,6 @@ module _ (plan : Plan) (units : List unit.Unit) (place : ℕ) (s : SystemState) 
         not_whole = h.not_whole;
         budget = h.budget;
         known = h.known;
+        attached = h.attached;
+        ports = h.ports;
       }

@@ -63,7 +63,7 @@ module _ (laws : StepLaws) (plan : Plan) (fit : IsFit plan) (past : List Entry) 
       → Keeps Sound Told (takes_effect v place (step s (frame_to s copy)))
   taken_is_sound copy carries v place k s there soon =
       let it = k.stands.each place s there in
-      let from : Place = record { port = first_port copy s.configuration.role s.configuration.ports; snpa = copy.sender } in
+      let from : Place = record { port = first_port copy s.configuration.role s.attached.ports; snpa = copy.sender } in
       let input : Input = frame_to s copy in
       let now : CopyIsSound v.units copy = subst (λ us. CopyIsSound us copy) (sym k.front.1) (copy_later w.units k.front.0 copy carries) in
       let comes : ComesSoundly v.units input = (now.sender, now.carries, now.carried) in
@@ -80,7 +80,7 @@ module _ (laws : StepLaws) (plan : Plan) (fit : IsFit plan) (past : List Entry) 
       record {
         made = k.made;
         front = k.front;
-        stands = record { made = refl; copies = k.stands.copies; number = k.stands.number; each = k.stands.each };
+        stands = record { made = refl; copies = k.stands.copies; number = k.stands.number; each = k.stands.each; mtus = k.stands.mtus };
       }
 
   settle_copy_is_sound : (found : Option Copy) → ((copy : Copy) → found ≡ Some copy → CopyIsSound w.units copy)

@@ -13,9 +13,9 @@ use Rattle.clnp_machine.specs.Reassembly.Arrival.{Arrival}
 use Rattle.clnp_machine.specs.ClnpPlan.Configuration.{SystemConfiguration}
 use Rattle.clnp_machine.specs.ClnpPlan.declared.config.Limits.{Limits}
 use Rattle.clnp_machine.specs.ClnpPlan.declared.config.PortConfig.{PortConfig}
-use Rattle.clnp_network.specs.Scenario.Scenario.{AsksFairly, AsksInForm, InjectsNothing, IsClosed, IsFit, Plan}
+use Rattle.clnp_network.specs.Scenario.Scenario.{InjectsNothing, IsClosed, IsFit, Plan}
 use Rattle.clnp_network.specs.Scenario.declared.event.Event.{Event}
-use Rattle.clnp_network.specs.Scenario.declared.event.Event.TheVariants.{Send, Echo, Inject}
+use Rattle.clnp_network.specs.Scenario.declared.event.Event.TheVariants.{Send, Echo, Inject, Mtu, Route, Unroute, Port}
 use Rattle.clnp_network.specs.Scenario.declared.event.Move.{Move}
 use Rattle.clnp_machine.specs.Unit as unit
 use Rattle.clnp_machine.specs.Unit.{Maker, DeclaredAt, Packet}
@@ -28,10 +28,11 @@ use Rattle.clnp_network.specs.World.{World, Copy, after, copy_from, copy_from_ou
 use Rattle.clnp_network.specs.Run.{world_after}
 use Rattle.clnp_network.specs.Safe.{CameInCopy, KeepsWhatCame, ReportsOnCopy, ReportsStand, StandsInCopy}
 use Rattle.clnp_safety.specs.StepLaws.{StepLaws}
-use Rattle.clnp_safety.proofs.Carried.{AllIsCarried, ComesFairly, first_is_carried, frame_comes_fairly, step_is_carried}
-use Rattle.clnp_safety.proofs.EveryMove.{AnyFrame, EachStepKeeps, Follows, GivesOnly, IsOfClock, asked_by_all, effect_makes, keeps-move, keeps-moves}
+use Rattle.clnp_safety.proofs.Carried.{AllIsCarried, ComesFairly, first_is_carried, frame_comes_fairly, sizes_are_carried, step_is_carried}
+use Rattle.clnp_safety.proofs.EveryMove.{AnyFrame, EachStepKeeps, Follows, GivesOnly, IsOfNow, asked_by_all, effect_makes, keeps-move, keeps-moves}
+use Rattle.clnp_safety.proofs.Events.{IsFitEvent, fit_events}
 use Rattle.clnp_safety.proofs.Grows.{effect_copies}
-use Rattle.clnp_safety.proofs.Lines.{AnyLine, any_line_is_fine}
+use Rattle.clnp_safety.proofs.Lines.{AnyLine, any_line_changes, any_line_is_fine}
 use Rattle.clnp_safety.proofs.Redirects.{systems_after}
 use Rattle.clnp_safety.proofs.Steps.{Keeps, keeps-put_all_out, with_outside}
 
@@ -75,7 +76,7 @@ content_stands w port sender to_group (Unlabelled octets) copy is there = tt
 pub frame_stands : (w : World) (at : ℕ) (copy : Copy) → slice_get w.copies at ≡ Some copy → (v : World) → Follows w v → (s : SystemState)
     → ComesStanding v (frame_to s copy)
 frame_stands w at copy e v follows s =
-    content_stands v (first_port copy s.configuration.role s.configuration.ports) copy.sender (is_group copy.target) copy.content copy refl
+    content_stands v (first_port copy s.configuration.role s.attached.ports) copy.sender (is_group copy.target) copy.content copy refl
     (subst (λ (copies : List Copy). Contains copies copy) (sym follows.copies.1) (Contains-append_left w.copies follows.copies.0 copy (contained w.copies at copy e)))
 
 came_with : (w : World) (input : Input) (arrival : Arrival Packet) → ComesStanding w input → ComesWith input arrival → CameInCopy w.copies arrival
@@ -88,7 +89,7 @@ came_with w _ arrival stands is = absurd is
 -- What is kept.
 
 step_came : StepLaws → (w : World) (place : ℕ) (s : SystemState) (input : Input) → slice_get w.systems place ≡ Some s → ComesStanding w input
-    → IsOfClock w input → KeepsWhatCame w → Keeps KeepsWhatCame AnyLine (takes_effect w place (step s input))
+    → IsOfNow w s input → KeepsWhatCame w → Keeps KeepsWhatCame AnyLine (takes_effect w place (step s input))
 step_came laws w place s input there comes at k =
     let effect : Effect = step s input in
     let later : World = (takes_effect w place effect).world in
@@ -130,10 +131,12 @@ keeps_what_came laws plan moves =
       cursor = λ w next k. k;
       clock = λ w k. k;
       outside = λ w subnet sender target octets any k. outside_came w subnet sender target octets k;
+      sizes = λ w subnet mtu takes k. k;
       injected = λ now copy subnet sender target. tt;
       fine = any_line_is_fine;
+      changing = any_line_changes;
     })
-    plan (λ w. asked_by_all (ComesStanding w) (λ from to octets ask. tt) (λ from to octets. tt) plan.events) moves (first_world plan)
+    plan (λ w. asked_by_all (ComesStanding w) (λ from to octets ask. tt) (λ from to octets. tt) (λ change. tt) plan.events) moves (first_world plan)
     (first_came plan.limits 0 plan.systems)
 
 -- Error reports.
@@ -156,8 +159,8 @@ frame_spelled : (system : SystemState) (v : World) (port : ℕ) (target : Target
     → Keeps AreSpelled AnyLine (sends_frame system v port target maker birth content)
 frame_spelled system v port target maker birth content is k = record {
   world = AllByRecursion-append (λ (copy : Copy). IsSpelled copy.content) v.copies
-      (copy_from (slice_get system.configuration.ports port) target maker birth content) k
-      (copy_spelled (slice_get system.configuration.ports port) target maker birth content is);
+      (copy_from (slice_get system.attached.ports port) target maker birth content) k
+      (copy_spelled (slice_get system.attached.ports port) target maker birth content is);
   lines = (tt, tt);
 }
 
@@ -248,7 +251,7 @@ abbrev NoFrame : List ℕ → List ℕ → Type 0
 NoFrame sender octets = ⊥
 
 module _ (laws : StepLaws) (plan : Plan) (fit : IsFit plan) where
-  step_stands : (w : World) (place : ℕ) (s : SystemState) (input : Input) → slice_get w.systems place ≡ Some s → ComesSoundly w input → IsOfClock w input
+  step_stands : (w : World) (place : ℕ) (s : SystemState) (input : Input) → slice_get w.systems place ≡ Some s → ComesSoundly w input → IsOfNow w s input
       → AllStands plan w → Keeps (AllStands plan) AnyLine (takes_effect w place (step s input))
   step_stands w place s input there comes at k =
       let effect : Effect = step s input in
@@ -280,7 +283,7 @@ module _ (laws : StepLaws) (plan : Plan) (fit : IsFit plan) where
   frame_comes_soundly w at copy e k v follows s = record {
     fairly = frame_comes_fairly laws plan fit w at copy e k.carried v follows s;
     standing = frame_stands w at copy e v follows s;
-    spells = content_spells (first_port copy s.configuration.role s.configuration.ports) copy.sender (is_group copy.target) copy.content
+    spells = content_spells (first_port copy s.configuration.role s.attached.ports) copy.sender (is_group copy.target) copy.content
         (AllByRecursion-slice_get (λ (c : Copy). IsSpelled c.content) w.copies at copy e k.spelled);
   }
 
@@ -288,28 +291,47 @@ module _ (laws : StepLaws) (plan : Plan) (fit : IsFit plan) where
   each_stands = record {
     steps = step_stands;
     frames = frame_comes_soundly;
-    moments = λ w now. record { fairly = (tt, tt); standing = tt; spells = tt };
-    restarts = λ w. record { fairly = (tt, tt); standing = tt; spells = tt };
-    congestion = λ w on. record { fairly = (tt, tt); standing = tt; spells = tt };
-    cursor = λ w next k. record { carried = record { made = refl; copies = k.carried.copies; each = k.carried.each }; came = k.came; spelled = k.spelled; reports = k.reports };
-    clock = λ w k. record { carried = record { made = refl; copies = k.carried.copies; each = k.carried.each }; came = k.came; spelled = k.spelled; reports = k.reports };
+    moments = λ w now. record { fairly = (tt, tt, tt); standing = tt; spells = tt };
+    restarts = λ w. record { fairly = (tt, tt, tt); standing = tt; spells = tt };
+    congestion = λ w on. record { fairly = (tt, tt, tt); standing = tt; spells = tt };
+    cursor = λ w next k. record {
+      carried = record { made = refl; copies = k.carried.copies; each = k.carried.each; mtus = k.carried.mtus };
+      came = k.came;
+      spelled = k.spelled;
+      reports = k.reports;
+    };
+    clock = λ w k. record {
+      carried = record { made = refl; copies = k.carried.copies; each = k.carried.each; mtus = k.carried.mtus };
+      came = k.came;
+      spelled = k.spelled;
+      reports = k.reports;
+    };
     outside = λ w subnet sender target octets brought k. absurd brought;
+    sizes = λ w subnet mtu takes k. record {
+      carried = sizes_are_carried laws plan fit w subnet mtu (λ number. (takes number).fairly) k.carried;
+      came = k.came;
+      spelled = k.spelled;
+      reports = k.reports;
+    };
     injected = λ now copy subnet sender target. tt;
     fine = any_line_is_fine;
+    changing = any_line_changes;
   }
 
-  event_gives : (w : World) (event : Event) → AsksFairly event → AsksInForm event × InjectsNothing event → GivesOnly (ComesSoundly w) NoFrame event
-  event_gives w (Send system from to body ask) fair formed = record { fairly = ((formed.0, fair), tt); standing = tt; spells = tt }
-  event_gives w (Echo system from to body) fair formed = record { fairly = ((formed.0.0, formed.0.1), tt); standing = tt; spells = tt }
-  event_gives w (Inject subnet from to octets) fair formed = absurd formed.1
-  event_gives w _ fair formed = tt
+  event_gives : (w : World) (event : Event) → IsFitEvent plan event → InjectsNothing event → GivesOnly (ComesSoundly w) NoFrame event
+  event_gives w (Send system from to body ask) is closed = record { fairly = ((is.formed, is.fair), tt, tt); standing = tt; spells = tt }
+  event_gives w (Echo system from to body) is closed = record { fairly = ((is.formed.0, is.formed.1), tt, tt); standing = tt; spells = tt }
+  event_gives w (Inject subnet from to octets) is closed = absurd closed
+  event_gives w (Mtu subnet mtu) is closed = λ number. record { fairly = (tt, tt, is.said); standing = tt; spells = tt }
+  event_gives w (Route system route) is closed = record { fairly = (tt, tt, is.changes.next); standing = tt; spells = tt }
+  event_gives w (Unroute system prefix) is closed = record { fairly = (tt, tt, tt); standing = tt; spells = tt }
+  event_gives w (Port system number subnet snpa) is closed = λ port mtu. record { fairly = (tt, tt, is.changes.address); standing = tt; spells = tt }
+  event_gives w _ is closed = tt
 
   module _ (closed : IsClosed plan) where
     events_give : (w : World) → AllByRecursion (GivesOnly (ComesSoundly w) NoFrame) plan.events
     events_give w =
-        AllByRecursion-both AsksFairly (λ event. AsksInForm event × InjectsNothing event) (GivesOnly (ComesSoundly w) NoFrame) (event_gives w) plan.events fit.asks
-        (AllByRecursion-both AsksInForm InjectsNothing (λ event. AsksInForm event × InjectsNothing event) (λ event formed none. (formed, none)) plan.events
-        fit.formed closed)
+        AllByRecursion-both (IsFitEvent plan) InjectsNothing (GivesOnly (ComesSoundly w) NoFrame) (event_gives w) plan.events (fit_events plan fit) closed
 
     pub move_stands : (w : World) (move : Move) → AllStands plan w → AllStands plan (after plan w move).world
     move_stands w move k = (keeps-move ComesSoundly NoFrame (AllStands plan) AnyLine each_stands plan events_give w move k).world

@@ -1,17 +1,24 @@
 -- What the parts of a step keep of the worlds, and what their lines are.
 use Rattle.clnp_machine.proofs.ClnpBase.Lists.{AllByRecursion-append}
-use Rattle.std.proofs.Common.{◌≡◌, ℕ, ◌+◌, ◌-◌, List, [], ◌∷◌, ◌++◌, length, refl, Bool, true, false}
-use Rattle.std.specs.Prelude.{if◌then◌else◌, Option, None, Some, slice_get}
+use Rattle.std.proofs.Common.{◌≡◌, ℕ, ◌+◌, ◌-◌, ◌<◌, List, [], ◌∷◌, ◌++◌, length, refl, inl, inr, Bool, true, false, arith}
+use Rattle.std.specs.Prelude.{◌==◌, if◌then◌else◌, nat_lt, Option, None, Some, slice_get, slice_set}
+use Rattle.std.proofs.lemmas.Bool.{cases_Bool}
 use Rattle.clnp_machine.specs.Nsap.declared.target.Target.{Target}
-use Rattle.clnp_machine.specs.ClnpPlan.Journal.{Line, Void, Late, Injected, Received, Lost, ForNobody}
+use Rattle.clnp_machine.specs.ClnpPlan.Journal.{Line, Noted, Void, Late, Injected, Resized, Received, Lost, ForNobody}
 use Rattle.clnp_machine.specs.ClnpPlan.declared.config.Limits.{Limits}
 use Rattle.clnp_machine.specs.ClnpPlan.declared.config.Role.{Role}
 use Rattle.clnp_machine.specs.ClnpPlan.declared.config.Role.TheVariants.{Host, Router}
+use Rattle.clnp_machine.specs.ClnpPlan.declared.config.PortConfig.{PortConfig}
+use Rattle.clnp_machine.specs.ClnpPlan.declared.note.Note.{Note}
+use Rattle.clnp_machine.specs.ClnpPlan.declared.note.Note.TheVariants as note
+use Rattle.clnp_machine.specs.Forwarding.declared.route.Route.{Route}
+use Rattle.clnp_machine.specs.Forwarding.Distinct.{has_prefix}
 use Rattle.clnp_network.specs.Scenario.Scenario.{Subnetwork}
-use Rattle.clnp_machine.specs.System.{SystemState, Input, Output}
+use Rattle.clnp_machine.specs.Change.{Change, PortIsAt, PortTakes, RouteIsGone, RouteIsSet}
+use Rattle.clnp_machine.specs.System.{SystemState, Input, IsChanged, Output}
 use Rattle.clnp_machine.specs.Step.{step}
-use Rattle.clnp_network.specs.World.{World, Copy, Numbered, Step, nothing, writes, followed_by, put_out, put_all_out, takes_effect, comes, comes_to, asks_role, asks_system, asks, first_port, frame_to, hand_to, is_late, give_to, give, give_each, for_nobody, settle_for, is_void, is_addressee, deliver_to, deliver_at, deliver, copy_from_outside, injects_on, injects}
-use Rattle.std.specs.List.{AllByRecursion}
+use Rattle.clnp_network.specs.World.{World, Copy, Numbered, Step, nothing, writes, followed_by, put_out, put_all_out, takes_effect, comes, comes_to, asks_role, asks_system, asks, first_port, frame_to, hand_to, is_late, give_to, give, give_each, for_nobody, settle_for, is_void, is_addressee, deliver_to, deliver_at, deliver, copy_from_outside, injects_on, injects, tells_of, ports_of, moved, moves_port_to, moves_port_of, moves_port_on, moves_port, sets_route_as, sets_route_of, sets_route, removes_route_as, removes_route_of, removes_route, resizes_port_of, resizes_port, resizes_ports, resizes_at, resizes_each, resizes_on, resizes}
+use Rattle.std.specs.List.{AllByRecursion, list_any, range_with_len}
 use Rattle.clnp_machine.proofs.ClnpBase.Choices.{one_of}
 
 -- K holds of the world after a step, and Q of each of its lines
@@ -29,6 +36,13 @@ pub record GivingIsFine (Q : Line → Type 0) : Type 0 where
   pub received : (now : ℕ) (name : List ℕ) (copy port : ℕ) → Q (Received now name copy port)
   pub lost : (now copy : ℕ) → Q (Lost now copy)
   pub nobody : (now copy : ℕ) → Q (ForNobody now copy)
+
+-- the lines of changes are fine
+pub record ChangingIsFine (Q : Line → Type 0) : Type 0 where
+  pub port : (now : ℕ) (name : List ℕ) (number : ℕ) (subnet snpa : List ℕ) → Q (Noted now name (note.Port number subnet snpa))
+  pub route : (now : ℕ) (name prefix : List ℕ) → Q (Noted now name (note.Route prefix))
+  pub unroute : (now : ℕ) (name prefix : List ℕ) (there : Bool) → Q (Noted now name (note.Unroute prefix there))
+  pub resized : (now : ℕ) (subnet : List ℕ) (mtu : ℕ) → Q (Resized now subnet mtu)
 
 -- a world with one more copy, of octets from outside
 abbrev pub with_outside : World → (subnet : ℕ) (sender : List ℕ) → Target → (octets : List ℕ) → World
@@ -96,7 +110,7 @@ module _ (K : World → Type 0) (Q : Line → Type 0) where
         → Keeps K Q (if late then writes w (Late w.clock s.configuration.name given.number) else hand_to given w place s)
     keeps-late w place s true h k = record { world = h; lines = (fine.late w.clock s.configuration.name given.number, tt) }
     keeps-late w place s false h k =
-        let port = first_port given.copy s.configuration.role s.configuration.ports in
+        let port = first_port given.copy s.configuration.role s.attached.ports in
         record { world = (k refl).world; lines = (fine.received w.clock s.configuration.name given.number port, (k refl).lines) }
 
     keeps-give_to : (w : World) (place : ℕ) (found : Option SystemState) → slice_get w.systems place ≡ found → K w → Takes w place
@@ -140,7 +154,7 @@ module _ (K : World → Type 0) (Q : Line → Type 0) where
         → Keeps K Q (deliver_to limits w number place found system)
     keeps-deliver_to w number place None system h k = keeps-is_void w number system h
     keeps-deliver_to w number place (Some copy) system h k =
-        keeps-one_of (give limits (record { number = number; copy = copy }) w place) (is_void w system number) (is_addressee copy system.configuration)
+        keeps-one_of (give limits (record { number = number; copy = copy }) w place) (is_void w system number) (is_addressee copy system)
         (keeps-give fine limits (record { number = number; copy = copy }) w place h (k copy refl)) (keeps-is_void w number system h)
 
     keeps-deliver_at : (w : World) (number place : ℕ) (found : Option SystemState) → K w → TakesNumbered w number place
@@ -150,3 +164,114 @@ module _ (K : World → Type 0) (Q : Line → Type 0) where
 
     pub keeps-deliver : (w : World) (number place : ℕ) → K w → TakesNumbered w number place → Keeps K Q (deliver limits w number place)
     keeps-deliver w number place h k = keeps-deliver_at w number place (slice_get w.systems place) h k
+
+  module _ (fine : ChangingIsFine Q) where
+    -- a change of a system comes to it, and a line tells of it
+    keeps-told : (w : World) (place : ℕ) (system : SystemState) (change : Change) (told : Note)
+        → ((now : ℕ) → Q (Noted now system.configuration.name told)) → Keeps K Q (comes w place (IsChanged change))
+        → Keeps K Q (followed_by (comes w place (IsChanged change)) (tells_of system told))
+    keeps-told w place system change told tells h =
+        keeps-followed_by K (comes w place (IsChanged change)) (tells_of system told) h (λ v k. record { world = k; lines = (tells v.clock, tt) })
+
+    module _ (w : World) (place : ℕ) (k : K w) where
+      module _ (number subnet : ℕ) (snpa : List ℕ) where
+        -- the port that moves is one that is there, and takes frames as long as the subnetwork does
+        abbrev Moves : Type 0
+        Moves =
+            (s : SystemState) (port : PortConfig) (mtu : ℕ) → slice_get w.systems place ≡ Some s → slice_get s.attached.ports number ≡ Some port
+            → slice_get w.mtus subnet ≡ Some mtu → Keeps K Q (comes w place (IsChanged (PortIsAt number (moved port subnet mtu snpa))))
+
+        keeps-moves_port_to : (mtu : ℕ) (declared : Subnetwork) (system : SystemState) (found : Option PortConfig)
+            → ((port : PortConfig) → found ≡ Some port → Keeps K Q (comes w place (IsChanged (PortIsAt number (moved port subnet mtu snpa)))))
+            → Keeps K Q (moves_port_to w place number subnet snpa mtu declared system found)
+        keeps-moves_port_to mtu declared system None h = keeps-nothing w k
+        keeps-moves_port_to mtu declared system (Some port) h =
+            keeps-told w place system (PortIsAt number (moved port subnet mtu snpa)) (note.Port number declared.name snpa)
+            (λ now. fine.port now system.configuration.name number declared.name snpa) (h port refl)
+
+        keeps-moves_port_of : (mtu : ℕ) (declared : Subnetwork) (found : Option SystemState) → slice_get w.mtus subnet ≡ Some mtu
+            → slice_get w.systems place ≡ found → Moves → Keeps K Q (moves_port_of w place number subnet snpa mtu declared found)
+        keeps-moves_port_of mtu declared None at e h = keeps-nothing w k
+        keeps-moves_port_of mtu declared (Some system) at e h =
+            keeps-moves_port_to mtu declared system (slice_get system.attached.ports number) (λ port there. h system port mtu e there at)
+
+        keeps-moves_port_on : (declared : Option Subnetwork) (mtu : Option ℕ) → slice_get w.mtus subnet ≡ mtu → Moves
+            → Keeps K Q (moves_port_on w place number subnet snpa declared mtu)
+        keeps-moves_port_on None mtu at h = keeps-nothing w k
+        keeps-moves_port_on (Some declared) None at h = keeps-nothing w k
+        keeps-moves_port_on (Some declared) (Some mtu) at h = keeps-moves_port_of mtu declared (slice_get w.systems place) at refl h
+
+        pub keeps-moves_port : (subnets : List Subnetwork) → Moves → Keeps K Q (moves_port subnets w place number subnet snpa)
+        keeps-moves_port subnets h = keeps-moves_port_on (slice_get subnets subnet) (slice_get w.mtus subnet) refl h
+
+      module _ (route : Route) where
+        -- the route leads out of a port that is there
+        abbrev Sets : Type 0
+        Sets = (s : SystemState) → slice_get w.systems place ≡ Some s → route.port < length s.attached.ports → Keeps K Q (comes w place (IsChanged (RouteIsSet route)))
+
+        keeps-sets_route_as : (role : Role) (system : SystemState)
+            → (route.port < length system.attached.ports → Keeps K Q (comes w place (IsChanged (RouteIsSet route))))
+            → Keeps K Q (sets_route_as role w place system route)
+        keeps-sets_route_as Host system h = keeps-nothing w k
+        keeps-sets_route_as Router system h =
+            elim (cases_Bool (nat_lt route.port (length system.attached.ports))) [
+              | inl leads ↦
+                  rw leads
+                  (keeps-told w place system (RouteIsSet route) (note.Route route.prefix) (λ now. fine.route now system.configuration.name route.prefix)
+                  (h (let within : route.port < length system.attached.ports = grind arith in within)))
+              | inr astray ↦ rw astray (keeps-nothing w k)
+            ]
+
+        keeps-sets_route_of : (found : Option SystemState) → slice_get w.systems place ≡ found → Sets → Keeps K Q (sets_route_of w place route found)
+        keeps-sets_route_of None e h = keeps-nothing w k
+        keeps-sets_route_of (Some system) e h = keeps-sets_route_as system.configuration.role system (h system e)
+
+        pub keeps-sets_route : Sets → Keeps K Q (sets_route w place route)
+        keeps-sets_route h = keeps-sets_route_of (slice_get w.systems place) refl h
+
+      module _ (prefix : List ℕ) (h : Keeps K Q (comes w place (IsChanged (RouteIsGone prefix)))) where
+        keeps-removes_route_as : (role : Role) (system : SystemState) → Keeps K Q (removes_route_as role w place system prefix)
+        keeps-removes_route_as Host system = keeps-nothing w k
+        keeps-removes_route_as Router system =
+            let there : Bool = list_any (has_prefix prefix) system.attached.routes in
+            keeps-told w place system (RouteIsGone prefix) (note.Unroute prefix there)
+            (λ now. fine.unroute now system.configuration.name prefix there) h
+
+        keeps-removes_route_of : (found : Option SystemState) → Keeps K Q (removes_route_of w place prefix found)
+        keeps-removes_route_of None = keeps-nothing w k
+        keeps-removes_route_of (Some system) = keeps-removes_route_as system.configuration.role system
+
+        pub keeps-removes_route : Keeps K Q (removes_route w place prefix)
+        keeps-removes_route = keeps-removes_route_of (slice_get w.systems place)
+
+    module _ (subnet mtu : ℕ) (takes : (v : World) (place number : ℕ) → K v → Keeps K Q (comes v place (IsChanged (PortTakes number mtu)))) where
+      keeps-resizes_port_of : (w : World) (place number : ℕ) (found : Option PortConfig) → K w → Keeps K Q (resizes_port_of w place number subnet mtu found)
+      keeps-resizes_port_of w place number None k = keeps-nothing w k
+      keeps-resizes_port_of w place number (Some port) k =
+          one_of (Keeps K Q) (port.subnet == subnet) (comes w place (IsChanged (PortTakes number mtu))) (nothing w) (takes w place number k) (keeps-nothing w k)
+
+      keeps-resizes_ports : (place : ℕ) (numbers : List ℕ) (w : World) → K w → Keeps K Q (resizes_ports w place subnet mtu numbers)
+      keeps-resizes_ports place [] w k = keeps-nothing w k
+      keeps-resizes_ports place (number ∷ numbers) w k =
+          keeps-followed_by K (resizes_port w place number subnet mtu) (λ v. resizes_ports v place subnet mtu numbers)
+          (keeps-resizes_port_of w place number (slice_get (ports_of (slice_get w.systems place)) number) k) (keeps-resizes_ports place numbers)
+
+      keeps-resizes_each : (places : List ℕ) (w : World) → K w → Keeps K Q (resizes_each w subnet mtu places)
+      keeps-resizes_each [] w k = keeps-nothing w k
+      keeps-resizes_each (place ∷ places) w k =
+          keeps-followed_by K (resizes_at w place subnet mtu) (λ v. resizes_each v subnet mtu places)
+          (keeps-resizes_ports place (range_with_len 0 (length (ports_of (slice_get w.systems place)))) w k) (keeps-resizes_each places)
+
+      keeps-resizes_on : (w : World) (found : Option Subnetwork) → K w → K (record w { mtus = slice_set w.mtus subnet mtu })
+          → Keeps K Q (resizes_on w subnet mtu found)
+      keeps-resizes_on w None k later = keeps-nothing w k
+      keeps-resizes_on w (Some declared) k later =
+          keeps-followed_by K (resizes_each (record w { mtus = slice_set w.mtus subnet mtu }) subnet mtu (range_with_len 0 (length w.systems)))
+          (λ v. writes v (Resized v.clock declared.name mtu))
+          (keeps-resizes_each (range_with_len 0 (length w.systems)) (record w { mtus = slice_set w.mtus subnet mtu }) later)
+          (λ v k. record { world = k; lines = (fine.resized v.clock declared.name mtu, tt) })
+
+      -- each port on the subnetwork takes it, of one system after another
+      pub keeps-resizes : (subnets : List Subnetwork) (w : World) → K w → K (record w { mtus = slice_set w.mtus subnet mtu })
+          → Keeps K Q (resizes subnets w subnet mtu)
+      keeps-resizes subnets w k later = keeps-resizes_on w (slice_get subnets subnet) k later

@@ -41,6 +41,8 @@ module _ (laws : StepLaws) (plan : Plan) (units : List unit.Unit) (before place 
     not_whole = was.not_whole;
     budget = was.budget;
     known = was.known;
+    attached = was.attached;
+    ports = was.ports;
   }
 
   taken_out : (s : SystemState) (key : Key) (count : ℕ) → WasSound s → WasSound (record s { buffers = without key s.buffers; count = count })

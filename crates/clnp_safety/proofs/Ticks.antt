@@ -92,6 +92,7 @@ module _ (laws : StepLaws) (plan : Plan) (fit : IsFit plan) (past : List Entry) 
               let number = k.stands.number in
               let it = k.stands.each other s there in
               record { stands = it.stands; also = it.also.come (omega arith) };
+          mtus = k.stands.mtus;
         };
       })
   each_ticks (suc count) place all v k =
@@ -113,5 +114,6 @@ tick_one_is_sound laws plan fit past w h =
         each = λ place s there.
             let current = h.current place s there in
             record { stands = h.systems.each place s there; also = record { come = λ l. absurd (omega arith); yet = λ l. omega arith } };
+        mtus = k.stands.mtus;
       };
     })

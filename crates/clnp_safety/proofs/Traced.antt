@@ -11,7 +11,7 @@ use Rattle.clnp_machine.specs.EsisPdus.Rules.{why_refused}
 use Rattle.clnp_machine.specs.ClnpPlan.declared.config.PortConfig.{PortConfig}
 use Rattle.clnp_network.specs.Scenario.Scenario.{Plan}
 use Rattle.clnp_network.specs.Scenario.declared.event.Event.{Event}
-use Rattle.clnp_network.specs.Scenario.declared.event.Event.TheVariants.{Send, Echo, Inject}
+use Rattle.clnp_network.specs.Scenario.declared.event.Event.TheVariants.{Send, Echo, Inject, Mtu, Port}
 use Rattle.clnp_network.specs.Scenario.declared.event.Move.{Move}
 use Rattle.clnp_machine.specs.Unit as unit
 use Rattle.clnp_machine.specs.Unit.{Maker, DeclaredAt, Outside, Packet}
@@ -24,9 +24,9 @@ use Rattle.clnp_network.specs.World.{World, Copy, copy_from, copy_from_outside, 
 use Rattle.clnp_network.specs.Run.{world_after}
 use Rattle.clnp_safety.specs.Outside.{CarriesOf, EachHasItsMaker, HasItsMaker, IsBrought, IsMadeBy, IsTraced}
 use Rattle.clnp_safety.specs.StepLaws.{StepLaws}
-use Rattle.clnp_safety.proofs.EveryMove.{Follows, GivesOnly, IsOfClock, keeps-moves}
+use Rattle.clnp_safety.proofs.EveryMove.{Follows, GivesOnly, IsOfNow, keeps-moves}
 use Rattle.clnp_safety.proofs.Grows.{effect_copies}
-use Rattle.clnp_safety.proofs.Lines.{AnyLine, any_line_is_fine}
+use Rattle.clnp_safety.proofs.Lines.{AnyLine, any_line_changes, any_line_is_fine}
 use Rattle.clnp_safety.proofs.Steps.{Keeps, keeps-put_all_out, with_outside}
 
 -- what comes from outside was made outside
@@ -73,7 +73,7 @@ module _ (plan : Plan) where
   frame_traced w at copy e k v follows s =
       let it = AllByRecursion-slice_get (HasItsMaker plan w.copies) w.copies at copy e k in
       let now = maker_later w.copies follows.copies.0 copy it in
-      content_traced v (first_port copy s.configuration.role s.configuration.ports) copy.sender (is_group copy.target) copy.maker copy.content it.maker
+      content_traced v (first_port copy s.configuration.role s.attached.ports) copy.sender (is_group copy.target) copy.maker copy.content it.maker
       (λ outside. subst (λ (copies : List Copy). IsTraced plan copies copy.content) (sym follows.copies.1) (now.outside outside))
 
   -- What a step sends.
@@ -118,8 +118,8 @@ module _ (plan : Plan) where
     frame_has : (system : SystemState) (v : World) (port : ℕ) (target : Target) (maker : Maker) (birth : ℕ) (content : Content) → IsMadeBy maker content
         → (maker ≡ Outside → IsTraced plan base content) → Has v → Keeps Has AnyLine (sends_frame system v port target maker birth content)
     frame_has system v port target maker birth content by traced k = record {
-      world = AllByRecursion-append (HasItsMaker plan base) v.copies (copy_from (slice_get system.configuration.ports port) target maker birth content) k
-          (made_copy (slice_get system.configuration.ports port) target maker birth content by traced);
+      world = AllByRecursion-append (HasItsMaker plan base) v.copies (copy_from (slice_get system.attached.ports port) target maker birth content) k
+          (made_copy (slice_get system.attached.ports port) target maker birth content by traced);
       lines = (tt, tt);
     }
 
@@ -132,7 +132,7 @@ module _ (plan : Plan) where
         (λ outside. let own : DeclaredAt system.place ≡ Outside = outside in absurd (cc)) k
 
   step_traced : StepLaws → (w : World) (place : ℕ) (s : SystemState) (input : Input) → slice_get w.systems place ≡ Some s → ComesTraced w input
-      → IsOfClock w input → EachHasItsMaker plan w → Keeps (EachHasItsMaker plan) AnyLine (takes_effect w place (step s input))
+      → IsOfNow w s input → EachHasItsMaker plan w → Keeps (EachHasItsMaker plan) AnyLine (takes_effect w place (step s input))
   step_traced laws w place s input there comes at k =
       let effect : Effect = step s input in
       let later : World = (takes_effect w place effect).world in
@@ -177,6 +177,8 @@ module _ (plan : Plan) where
   event_gives w (Send system from to body ask) there = tt
   event_gives w (Echo system from to body) there = tt
   event_gives w (Inject subnet from to octets) there = record { subnet = subnet; target = to; there = there }
+  event_gives w (Mtu subnet mtu) there = λ number. tt
+  event_gives w (Port system number subnet snpa) there = λ port mtu. tt
   event_gives w _ there = tt
 
 pub makers_are_known : StepLaws → (plan : Plan) (moves : List Move) → EachHasItsMaker plan (world_after plan (first_world plan) moves)
@@ -191,8 +193,10 @@ makers_are_known laws plan moves =
       cursor = λ w next k. k;
       clock = λ w k. k;
       outside = outside_traced plan;
+      sizes = λ w subnet mtu takes k. k;
       injected = λ now copy subnet sender target. tt;
       fine = any_line_is_fine;
+      changing = any_line_changes;
     })
     plan
     (λ w.

@@ -2,7 +2,7 @@
 use Rattle.std.specs.Prelude.{◌≡◌, ℕ, ◌+◌, ◌≤◌, ◌<◌, ◌⊎◌, false, List, [], length, slice_get, None, Some, AllPairs}
 use Rattle.std.specs.List.{AllByRecursion, Contains}
 use Rattle.clnp_network.specs.Scenario.Scenario.{Plan}
-use Rattle.clnp_machine.specs.ClnpPlan.Configuration.{SystemConfiguration}
+use Rattle.clnp_machine.specs.ClnpPlan.Configuration.{IsWithin, SystemConfiguration}
 use Rattle.hex.specs.Hex.{IsBytes}
 use Rattle.clnp_machine.specs.Nsap.Address.{IsAddress}
 use Rattle.clnp_machine.specs.PduHeader.declared.kind.Kind.{Kind}
@@ -11,6 +11,7 @@ use Rattle.clnp_machine.specs.PduHeader.Rules.{header_of}
 use Rattle.clnp_machine.specs.PduHeader.Spelling.{type_code}
 use Rattle.clnp_machine.specs.Reassembly.Arrival.{Arrival}
 use Rattle.clnp_machine.specs.Reassembly.Buffer.{Buffer, held, is_whole}
+use Rattle.clnp_machine.specs.Attachment.{IsAttached}
 use Rattle.clnp_machine.specs.Identifiers.{Identifiers, Use}
 use Rattle.clnp_machine.specs.Unit as unit
 use Rattle.clnp_machine.specs.Unit.{DeclaredAt, Packet, IsCarriable, wire}
@@ -128,6 +129,9 @@ pub record SystemIsSound (plan : Plan) (units : List unit.Unit) (place : ℕ) (s
   pub not_whole : AllByRecursion (λ (buffer : Buffer Packet). is_whole buffer ≡ false) s.buffers
   pub budget : held s.buffers ≤ s.configuration.settings.budget
   pub known : KnowsAddresses s
+  -- its ports and routes are as they should be, and no port came or went
+  pub attached : IsAttached s.attached
+  pub ports : length s.attached.ports ≡ length s.configuration.ports
 
 -- What holds of a request that the system at a place still waits to be answered: it made it, and was not restarted since.
 pub record IsPending (past : List Entry) (units : List unit.Unit) (place : ℕ) (name : List ℕ) (request : unit.Unit) : Type 0 where
@@ -158,6 +162,7 @@ pub record WorldIsSound (plan : Plan) (past : List Entry) (w : World) : Type 0 w
   pub copies : AllByRecursion (CopyIsSound w.units) w.copies
   pub systems : SystemsAreSound plan past w.units w.systems
   pub current : (place : ℕ) (s : SystemState) → slice_get w.systems place ≡ Some s → s.moment ≡ w.clock
+  pub mtus : AllByRecursion (IsWithin 512 65535) w.mtus
 
 -- So it is, each segment that a system keeps stands in a copy, and each error report is of a packet that does.
 pub record NetworkIsSound (plan : Plan) (past : List Entry) (w : World) : Type 0 where

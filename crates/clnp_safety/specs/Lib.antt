@@ -4,4 +4,5 @@ pub mod Refusal
 pub mod Owners
 pub mod StepLaws
 pub mod Outside
+pub mod Attached
 pub mod Runs

@@ -6,6 +6,7 @@ use Rattle.clnp_network.specs.Scenario.declared.event.Move.{Move}
 use Rattle.clnp_network.specs.World.{World, after, first_world}
 use Rattle.clnp_network.specs.Run.{Entry, ending, entries_of, entry_text, journal, last_world, run, stopped_at, world_after}
 use Rattle.clnp_network.specs.Safe.{CarriesRanges, EachIsFounded, FramesAreUnbroken, HoldsUnitsApart, HopsCountCopies, IdentifiersRest, IsHonest, IsWithinBudgets, IsWithinLifetimes, KeepsHeaders, KeepsWhatCame, NoInterference, NoneIsAlien, RedirectsChangeOneNextHop, TellsNoRule}
+use Rattle.clnp_safety.specs.Attached.{IsAttachedThroughout}
 use Rattle.clnp_safety.specs.Growth.{TellsItsCopy}
 use Rattle.clnp_safety.specs.Invariant.{NetworkIsSound}
 use Rattle.clnp_safety.specs.Outside.{CarriesRangesOrOutside, EachHasItsMaker, PdusAreUnbroken}
@@ -50,5 +51,7 @@ pub record RunsAreSafe (plan : Plan) : Type 0 where
   pub headers : (moves : List Move) → KeepsHeaders (world_after plan (first_world plan) moves)
   -- each transmission that a line tells of is the copy with its number
   pub told : (w : World) (move : Move) → AllByRecursion (TellsItsCopy (after plan w move).world.copies) (after plan w move).lines
+  -- subnetworks take frames that are long enough, and ports and routes are as they should be, whatever was changed
+  pub attached : (moves : List Move) → IsAttachedThroughout plan (world_after plan (first_world plan) moves)
   -- a redirect changes its destination's next hop alone
   pub redirects : (w : World) → RedirectsChangeOneNextHop plan.limits w

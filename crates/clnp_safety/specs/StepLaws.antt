@@ -1,5 +1,5 @@
 -- What is so of each step of a system, as the machine's laws say.
-use Rattle.std.specs.Prelude.{◌≡◌, ◌↔◌, ℕ, ◌≤◌, Bool, false, IsTrue, List, [], ◌++◌, None, All}
+use Rattle.std.specs.Prelude.{◌≡◌, ◌↔◌, ℕ, ◌≤◌, Bool, false, IsTrue, List, [], ◌++◌, length, None, All}
 use Rattle.std.specs.List.{AllByRecursion, Contains, flat_map}
 use Rattle.hex.specs.Hex.{IsBytes}
 use Rattle.clnp_machine.specs.Nsap.Address.{IsAddress}
@@ -15,7 +15,8 @@ use Rattle.clnp_machine.specs.Reassembly.declared.table.TableLimits.{TableLimits
 use Rattle.clnp_machine.specs.Reassembly.Arrival.{Arrival}
 use Rattle.clnp_machine.specs.Reassembly.Buffer as buffer
 use Rattle.clnp_machine.specs.Reassembly.Buffer.{Buffer, buffer_of, clashes, held, without}
-use Rattle.clnp_machine.specs.ClnpPlan.Configuration.{IsAddressed, IsSystem}
+use Rattle.clnp_machine.specs.ClnpPlan.Configuration.{IsAddressed, IsAddressedRoute, IsPort, IsSystem, SystemConfiguration}
+use Rattle.clnp_machine.specs.Attachment.{IsAttached, as_declared}
 use Rattle.clnp_machine.specs.Unit as unit
 use Rattle.clnp_machine.specs.Unit.{IsCarriable, Packet, value_of, wire}
 use Rattle.clnp_machine.specs.Content.{IsCarried, content_of}
@@ -23,7 +24,7 @@ use Rattle.clnp_machine.specs.System.{SystemState, Input, IsRestarted}
 use Rattle.clnp_machine.specs.Local.{Action, gives_up, header_size, refusal, tick}
 use Rattle.clnp_machine.specs.Esis.{esis_comes, forgets, says_hello}
 use Rattle.clnp_machine.specs.Step.{outputs_of, responds, step}
-use Rattle.clnp_machine.specs.Steps.{BreaksNoEsisRule, BreaksNoRule, IsFair, IsForOwn, IsFresh, IsMadeFor, IsNoRestart, IsWithinBudget, KeepsAsOffered, KnowsAddresses, NotesOnly, OnlyHellos, ReportsOn, RestartsNothing, SendsCarriable, SendsEsisPdus, SendsRangesOrGoesOn, StaysItself, WasKeptOrComes, WasPendingOrMade, moment_after, segments_in}
+use Rattle.clnp_machine.specs.Steps.{BreaksNoEsisRule, BreaksNoRule, IsFair, IsFairChange, IsForOwn, IsFresh, IsMadeFor, IsNoRestart, IsWithinBudget, KeepsAsOffered, KnowsAddresses, NotesOnly, OnlyHellos, ReportsOn, RestartsNothing, SendsCarriable, SendsEsisPdus, SendsRangesOrGoesOn, StaysItself, WasKeptOrComes, WasPendingOrMade, attached_after, moment_after, segments_in}
 use Rattle.clnp_machine.specs.Ways.{IsFirstOrGoesOn}
 use Rattle.clnp_machine.specs.Told.{IsAllowed, IsRefusal, IsToldBy, NoteIsQuiet, NotesNoRule, SpellsPdus, TellsNoInterference, TellsOnly, WasThereOrTakes}
 
@@ -31,6 +32,9 @@ use Rattle.clnp_machine.specs.Told.{IsAllowed, IsRefusal, IsToldBy, NoteIsQuiet,
 pub record OfSteps : Type 0 where
   pub itself : (s : SystemState) (input : Input) → StaysItself s (step s input).after
   pub moment : (s : SystemState) (input : Input) → (step s input).after.moment ≡ moment_after s input
+  pub attached : (s : SystemState) (input : Input) → (step s input).after.attached ≡ attached_after s input
+  pub ports : (s : SystemState) (input : Input) → length (step s input).after.attached.ports ≡ length s.attached.ports
+  pub soundly : (s : SystemState) (input : Input) → IsFairChange s input → IsAttached s.attached → IsAttached (step s input).after.attached
   pub fresh : (s : SystemState) (input : Input) → AllByRecursion (IsFresh s (moment_after s input)) (step s input).units
   pub made_for : (s : SystemState) (input : Input) → AllByRecursion (IsMadeFor input) (step s input).units
   pub reports : (s : SystemState) (input : Input) → IsFair input → SpellsPdus input → KeepsAsOffered s
@@ -40,11 +44,11 @@ pub record OfSteps : Type 0 where
   pub no_restart : (s : SystemState) (input : Input) → RestartsNothing input → AllByRecursion (NotesOnly IsNoRestart) (step s input).outputs
   pub ranges : (s : SystemState) (input : Input) → AllByRecursion (SendsRangesOrGoesOn s input (step s input).units) (step s input).outputs
   pub hops : (s : SystemState) (input : Input) → AllByRecursion (IsFirstOrGoesOn s input) (step s input).outputs
-  pub carriable : (s : SystemState) (input : Input) → IsSystem s.configuration → IsFair input → All IsAddress s.configuration.addresses
-      → KeepsAsOffered s → AllByRecursion SendsCarriable (step s input).outputs
+  pub carriable : (s : SystemState) (input : Input) → IsSystem s.configuration → AllByRecursion IsPort s.attached.ports → IsFair input
+      → All IsAddress s.configuration.addresses → KeepsAsOffered s → AllByRecursion SendsCarriable (step s input).outputs
   pub kept : (s : SystemState) (input : Input) → IsFair input → KeepsAsOffered s → KeepsAsOffered (step s input).after
-  pub esis_pdus : (s : SystemState) (input : Input) → IsSystem s.configuration → IsAddressed s.configuration → IsFair input
-      → KnowsAddresses s → AllByRecursion SendsEsisPdus (step s input).outputs
+  pub esis_pdus : (s : SystemState) (input : Input) → IsSystem s.configuration → All IsAddress s.configuration.addresses
+      → AllByRecursion IsAddressedRoute s.attached.routes → IsFair input → KnowsAddresses s → AllByRecursion SendsEsisPdus (step s input).outputs
   pub known : (s : SystemState) (input : Input) → IsFair input → KnowsAddresses s → KnowsAddresses (step s input).after
   pub no_rule : (s : SystemState) (input : Input) → SpellsPdus input → AllByRecursion (NotesOnly NotesNoRule) (step s input).outputs
   pub own : (s : SystemState) (input : Input) → AllByRecursion (NotesOnly (IsForOwn s)) (step s input).outputs
@@ -90,6 +94,7 @@ pub record StepLaws : Type 0 where
   pub hellos : OfHellos
   pub segments : OfSegments
   pub headers : OfHeaders
+  pub declared : (system : SystemConfiguration) → IsSystem system → IsAddressed system → IsAttached (as_declared system)
   pub outside : (number moment : ℕ) (octets : List ℕ) → IsBytes octets → IsCarried (content_of number moment octets)
   pub frames : (p : Packet) (following : List ℕ) → IsCarriable p → BreaksNoRule (wire p ++ following)
   pub answers : (request_data reply_data : List ℕ) → IsBytes reply_data → IsTrue (echoes request_data reply_data) ↔ Echoes request_data reply_data

@@ -8,6 +8,7 @@ ghost use Rattle.clnp_network.specs.Scenario.declared.event.Move.{Move};
 ghost use Rattle.clnp_network.specs.World.{World, after, first_world};
 ghost use Rattle.clnp_network.specs.Run.{Entry, entries_of, full_weight, run, text_of, until_full, world_after};
 ghost use Rattle.clnp_network.specs.Safe.{CarriesRanges, EachIsFounded, EachWasSent, FramesAreUnbroken, HoldsUnitsApart, HopsCountCopies, IdentifiersRest, IsHonest, IsSend, NoRefusal, IsWithinBudgets, IsWithinLifetimes, KeepsHeaders, KeepsWhatCame, NoInterference, NoneIsAlien, RedirectsChangeOneNextHop, TellsNoRule};
+ghost use Rattle.clnp_safety.specs.Attached.{IsAttachedThroughout};
 ghost use Rattle.clnp_safety.specs.Invariant.{NetworkIsSound};
 ghost use Rattle.clnp_safety.specs.Growth.{IsFront, IsFullAt, IsWithinCopies, TellsItsCopy};
 ghost use Rattle.clnp_safety.specs.Outside.{CarriesRangesOrOutside, EachHasItsMaker, PdusAreUnbroken};
@@ -120,8 +121,8 @@ pub fn units_are_held_apart()
 /// each unit is founded on them, and rests behind those before it; each copy carries a range of one, or an ES-IS value that a PDU
 /// can carry; each system is that of its declaration, at the clock's moment, with the uses of its identifiers in order, each of its
 /// units since its last restart among them, with buffers that hold segments of one unit each, that are neither due nor whole, and
-/// end before another unit can come to them, and with requests that it made since its last restart. What it keeps stands in
-/// copies, and so does the packet of which an error report is.
+/// end before another unit can come to them, with requests that it made since its last restart, and with ports and routes that are
+/// as they should be. What it keeps stands in copies, and so does the packet of which an error report is.
 pub fn networks_of_runs_are_sound()
     ensures { (plan : Plan) → IsFit plan → IsClosed plan → (moves : List Move)
         → NetworkIsSound plan (entries_of plan (first_world plan) moves) (world_after plan (first_world plan) moves) }
@@ -259,7 +260,17 @@ pub fn runs_are_safe()
     headers_keep_their_length();
     transmissions_are_copies();
     a_redirect_changes_one_next_hop();
+    attachments_of_runs_are_sound();
     clnp_network::laws::the_journal_is_the_text_of_the_run();
+}
+
+/// Whatever frames come from outside, and however the network was changed, each subnetwork of a run has an MTU of at least 512, and
+/// each system as many ports as at its declaration, each with a transit of at least 1 and an MTU of at least 512, at an address; each
+/// of its routes leads out of one of its ports, to a system at addresses, and no two of them have one prefix.
+pub fn attachments_of_runs_are_sound()
+    ensures { (plan : Plan) → IsFit plan → (moves : List Move) → IsAttachedThroughout plan (world_after plan (first_world plan) moves) }
+{
+    laws_of_steps();
 }
 
 /// What the machine's laws say of each step of a system.
@@ -287,6 +298,7 @@ fn laws_of_steps()
     machine::carriable_packets_break_no_rule();
     machine::esis_pdus_break_no_rule();
     machine::octets_have_a_content();
+    clnp_machine::attaching::attachments_stay_sound();
     clnp_machine::clnp_options::laws::edits_keep_the_form();
     clnp_machine::clnp_options::laws::edits_keep_options_formed();
     clnp_machine::pdu_header::laws::edited_pdus_are_pdus();

@@ -1,5 +1,5 @@
 -- What a network of the code stands for where a copy is given.
-use Rattle.std.proofs.Common.{◌≡◌, ℕ, zero, suc, ◌+◌, ◌-◌, ◌<◌, ◌≤◌, List, [], ◌∷◌, ◌++◌, length, take, get_or, map, cond, Bool, true, false, Option, Some, None, refl, sym, ap, ◌∙◌, subst, append-nil, arith}
+use Rattle.std.proofs.Common.{◌≡◌, ℕ, ◌+◌, ◌-◌, ◌<◌, ◌≤◌, List, [], ◌∷◌, ◌++◌, length, take, get_or, map, cond, Bool, true, false, Option, Some, None, refl, sym, ap, ◌∙◌, subst, append-nil, arith}
 use Rattle.std.specs.Prelude.{slice_get}
 use Rattle.std.specs.List.{AllByRecursion}
 use Rattle.std.proofs.lemmas.Bool.{true≢false}
@@ -21,7 +21,7 @@ use Rattle.clnp_world.specs.declared.copy.FrameCopy.{FrameCopy}
 use Rattle.clnp_machine.proofs.ClnpBase.Lists.{AllByRecursion-slice_get, slice_get_some}
 use Rattle.clnp_machine.proofs.ClnpBase.ListSteps.{slice_get_map}
 use Rattle.clnp_world.proofs.EachSteps.{each_length}
-use Rattle.clnp_world.proofs.ModelSteps.{configuration_of, configurations-give_each, copy-give_each, give_each-push, addressees_from-take}
+use Rattle.clnp_world.proofs.ModelSteps.{seats-give_each, same_seat, same_addressee, copy-give_each, give_each-push, addressees_from-take}
 use Rattle.clnp_world.proofs.LineSteps.{gains_more}
 use Rattle.clnp_world.proofs.PutSteps.{Born, puts_nothing, puts_line, puts_then, counted}
 
@@ -44,15 +44,15 @@ born_at copies at copy h e = AllByRecursion-slice_get Born copies at copy e h
 
 -- the code's copy comes to a system as the model's does
 pub came : (copy : network.Copy) (system : SystemState) (seen : FrameCopy) (port : ℕ) (group : Bool)
-    → port ≡ network.first_port copy system.configuration.role system.configuration.ports → seen ≡ frame_copy copy
+    → port ≡ network.first_port copy system.configuration.role system.attached.ports → seen ≡ frame_copy copy
     → group ≡ network.is_group seen.target → FrameComes port seen.sender group copy.content ≡ network.frame_to system copy
 came copy system seen port group port_is same group_is =
-    let first = network.first_port copy system.configuration.role system.configuration.ports in
+    let first = network.first_port copy system.configuration.role system.attached.ports in
     ap (λ (n : ℕ). FrameComes n seen.sender group copy.content) port_is
     ∙ ap (λ (b : Bool). FrameComes first seen.sender b copy.content) (group_is ∙ ap (λ (f : FrameCopy). network.is_group f.target) same)
     ∙ ap (λ (f : FrameCopy). FrameComes first f.sender (network.is_group copy.target) copy.content) same
 
-system_there : (code : Network) (model : network.World) (place : ℕ) → Shows code model → place < length code.systems.items
+pub system_there : (code : Network) (model : network.World) (place : ℕ) → Shows code model → place < length code.systems.items
     → (system : SystemState) × (slice_get model.systems place ≡ Some system)
 system_there code model place h within =
     let same = each_length code.systems.items model.systems h.systems in
@@ -68,7 +68,7 @@ pub follows_nothing : (code : Network) (lines : Lines) (model : network.World) �
 follows_nothing code lines model h =
     let part = puts_nothing code model lines h.shows in record { holds = h; lines = part.lines }
 
-follows_then : (code : Network) (before between after : Lines) (part : network.Step) (next : network.World → network.Step)
+pub follows_then : (code : Network) (before between after : Lines) (part : network.Step) (next : network.World → network.Step)
     → Gains before between part.lines → Follows code between after (next part.world)
     → Follows code before after (network.followed_by part next)
 follows_then code before between after part next e h =
@@ -83,11 +83,11 @@ numbered number copy = record { number = number; copy = copy }
 -- a line tells by which port the copy comes to the system, and then it takes the copy in
 pub hands_over : (code : Network) (before between after : Lines) (number place : ℕ) (model : network.World) (copy : network.Copy) (system : SystemState)
     → Gains before between
-    (Received model.clock system.configuration.name number (network.first_port copy system.configuration.role system.configuration.ports) ∷ [])
+    (Received model.clock system.configuration.name number (network.first_port copy system.configuration.role system.attached.ports) ∷ [])
     → Follows code between after (network.takes_effect model place (step system (network.frame_to system copy)))
     → Follows code before after (network.hand_to (numbered number copy) model place system)
 hands_over code before between after number place model copy system line taken =
-    let port = network.first_port copy system.configuration.role system.configuration.ports in
+    let port = network.first_port copy system.configuration.role system.attached.ports in
     follows_then code before between after (network.writes model (Received model.clock system.configuration.name number port))
     (λ v. network.takes_effect v place (step system (network.frame_to system copy))) line taken
 
@@ -125,14 +125,14 @@ gives_now old code before after limits number at place tells model copy system h
 abbrev pub TellsPort : Network → ℕ → ℕ → Option ℕ → Type 0
 TellsPort code at place found =
     (model : network.World) (copy : network.Copy) (system : SystemState) → Shows code model → slice_get model.copies at ≡ Some copy
-    → slice_get model.systems place ≡ Some system → IsPortFor copy system.configuration found
+    → slice_get model.systems place ≡ Some system → IsPortFor copy system found
 
 -- what was done to give the copy by a port
 abbrev pub GivesBy : Network → Network → Lines → Lines → Limits → (number at place port : ℕ) → Type 0
 GivesBy old code before after limits number at place port =
     (model : network.World) (copy : network.Copy) (system : SystemState) → Holds old model → slice_get model.copies at ≡ Some copy
     → slice_get model.systems place ≡ Some system
-    → port ≡ network.first_port copy system.configuration.role system.configuration.ports
+    → port ≡ network.first_port copy system.configuration.role system.attached.ports
     → Follows code before after (network.give limits (numbered number copy) model place)
 
 pub gives_by : (old code : Network) (before after : Lines) (limits : Limits) (number at place port : ℕ) → place < length old.systems.items
@@ -155,7 +155,7 @@ Gives start code before after limits at place =
 abbrev pub TellsAddressee : Network → ℕ → ℕ → Bool → Type 0
 TellsAddressee code at place answer =
     (model : network.World) (copy : network.Copy) (system : SystemState) → Shows code model → slice_get model.copies at ≡ Some copy
-    → slice_get model.systems place ≡ Some system → answer ≡ network.is_addressee copy system.configuration
+    → slice_get model.systems place ≡ Some system → answer ≡ network.is_addressee copy system
 
 pub tells_some : (code : Network) (at place port : ℕ) → TellsPort code at place (Some port) → TellsAddressee code at place true
 tells_some code at place port tells model copy system h there here = (tells model copy system h there here).0
@@ -175,32 +175,19 @@ still_running start code before after limits at place running within so_far =
     let part = so_far model copy.0 running.1 copy.1 in
     ((network.give_each limits (numbered (at + 1) copy.0) model (network.addressees_from 0 copy.0 (take place model.systems))).world, part.holds)
 
--- what the scenario says of the system at a place, where it says the same of all
-pub same_configuration : (xs ys : List SystemState) (i : ℕ) (y : SystemState) → map configuration_of xs ≡ map configuration_of ys → slice_get ys i ≡ Some y
-    → (x : SystemState) × (slice_get xs i ≡ Some x) × (x.configuration ≡ y.configuration)
-same_configuration xs [] i y e at = absurd (cc)
-same_configuration [] (z ∷ ys) i y e at = absurd (cc)
-same_configuration (x ∷ xs) (z ∷ ys) zero y e at =
-    let head : x.configuration ≡ z.configuration = cc in
-    let one : z ≡ y = cc in
-    (x, refl, head ∙ ap configuration_of one)
-same_configuration (x ∷ xs) (z ∷ ys) (suc i) y e at =
-    let tail : map configuration_of xs ≡ map configuration_of ys = cc in
-    same_configuration xs ys i y tail at
-
 -- whether the copy is for the system at the place, when those before it have it
 tells_then : (start mid : Network) (before between : Lines) (limits : Limits) (at place : ℕ) (answer : Bool) (model : network.World) (copy : network.Copy) (system : SystemState)
     → Gives start mid before between limits at place → TellsAddressee mid at place answer
     → Holds start model → slice_get model.copies at ≡ Some copy → slice_get model.systems place ≡ Some system
-    → answer ≡ network.is_addressee copy system.configuration
+    → answer ≡ network.is_addressee copy system
 tells_then start mid before between limits at place answer model copy system so_far tells h there here =
     let given = numbered (at + 1) copy in
     let ps = network.addressees_from 0 copy (take place model.systems) in
     let w = network.give_each limits given model ps in
     let part = so_far model copy h there in
-    let now = same_configuration w.world.systems model.systems place system (configurations-give_each limits given model ps) here in
+    let now = same_seat w.world.systems model.systems place system (seats-give_each limits given model ps) here in
     tells w.world copy now.0 part.holds.shows (copy-give_each limits given model ps at copy there) now.1
-    ∙ ap (λ c. network.is_addressee copy c) now.2
+    ∙ same_addressee copy now.0 system now.2
 
 -- one more system is looked at, whether the copy is for it
 addressees_next : (start mid : Network) (before between : Lines) (limits : Limits) (at place : ℕ) (answer : Bool)
@@ -357,6 +344,8 @@ moves_on code model h = record {
   shows = record {
     clock = h.shows.clock;
     systems = h.shows.systems;
+    mtus = h.shows.mtus;
+    wide = h.shows.wide;
     copies = h.shows.copies;
     cursor = ap (λ (n : ℕ). n + 1) h.shows.cursor;
     carried = h.shows.carried;
@@ -452,7 +441,7 @@ pub delivers_other : (code : Network) (before after : Lines) (limits : Limits) (
 delivers_other code before after limits number at place at_is within within' tells writes model h =
     let system = system_there code model place h.shows within in
     let copy = copy_there code model at h.shows within' in
-    let no : false ≡ network.is_addressee copy.0 (system.0).configuration = tells model copy.0 system.0 h.shows copy.1 system.1 in
+    let no : false ≡ network.is_addressee copy.0 system.0 = tells model copy.0 system.0 h.shows copy.1 system.1 in
     subst (λ (s : network.Step). Follows code before after s) (sym (delivered limits model number at place system.0 (Some copy.0) at_is system.1 copy.1))
     (subst (λ (b : Bool). Follows code before after (cond b (network.give limits (numbered number copy.0) model place) (network.is_void model system.0 number))) no
     (void_follows code before after number place model system.0 writes h system.1))
@@ -466,7 +455,7 @@ pub delivers : (old code : Network) (before after : Lines) (limits : Limits) (nu
 delivers old code before after limits number at place at_is within within' tells gives model h =
     let system = system_there old model place h.shows within in
     let copy = copy_there old model at h.shows within' in
-    let yes : true ≡ network.is_addressee copy.0 (system.0).configuration = tells model copy.0 system.0 h.shows copy.1 system.1 in
+    let yes : true ≡ network.is_addressee copy.0 system.0 = tells model copy.0 system.0 h.shows copy.1 system.1 in
     subst (λ (s : network.Step). Follows code before after s) (sym (delivered limits model number at place system.0 (Some copy.0) at_is system.1 copy.1))
     (subst (λ (b : Bool). Follows code before after (cond b (network.give limits (numbered number copy.0) model place) (network.is_void model system.0 number))) yes
     (gives model copy.0 h copy.1))

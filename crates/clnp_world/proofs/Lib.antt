@@ -9,4 +9,6 @@ pub mod TellSteps
 pub mod SendSteps
 pub mod InjectSteps
 pub mod TickSteps
+pub mod ChangeSteps
+pub mod ResizeSteps
 pub mod WorldSteps

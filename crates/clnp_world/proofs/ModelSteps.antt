@@ -1,10 +1,11 @@
 -- One more output, addressee, tick or system at the end of a list, and what the parts of a move leave as it was.
-use Rattle.std.proofs.Common.{◌≡◌, ℕ, suc, ◌+◌, List, [], ◌∷◌, ◌++◌, length, take, map, cond, Bool, true, false, Option, None, Some, refl, sym, ap, ◌∙◌, subst, arith, inl, inr, append-nil, append_assoc, add-zero, zero-add}
+use Rattle.std.proofs.Common.{◌≡◌, ℕ, zero, suc, ◌+◌, List, [], ◌∷◌, ◌++◌, length, take, map, cond, Bool, true, false, Option, None, Some, refl, sym, ap, ◌∙◌, subst, arith, inl, inr, append-nil, append_assoc, add-zero, zero-add}
 use Rattle.std.specs.Prelude.{nat_lt, slice_get}
 use Rattle.std.specs.List.{AllByRecursion, list_any, position, position_or_len, range_with_len}
 use Rattle.std.proofs.lemmas.Bool.{cases_Bool, ltb-true, ltb-false, lt-ltb, le-ltb}
 use Rattle.std.proofs.lemmas.List.Recursion.{is_position_or_len}
 use Rattle.std.proofs.lemmas.List.Concat.{flat_map-append}
+use Rattle.clnp_machine.specs.Attachment.{Attachment}
 use Rattle.clnp_machine.specs.ClnpPlan.Configuration.{SystemConfiguration}
 use Rattle.clnp_machine.specs.ClnpPlan.Journal.{Line, Late, told_text}
 use Rattle.clnp_machine.specs.ClnpPlan.declared.journal.Telling.{Telling}
@@ -21,7 +22,7 @@ use Rattle.clnp_network.specs.Run.{told_lines}
 use Rattle.clnp_world.specs.Seen.{IsPortFor}
 use Rattle.clnp_world.specs.Stands.{IsCurrent}
 use Rattle.clnp_machine.proofs.ClnpBase.ListSteps.{slice_get_front, take_push, map_set, all_set, range_push}
-pub use Rattle.clnp_machine.proofs.Deeds.{step_itself, step_moment}
+pub use Rattle.clnp_machine.proofs.Deeds.{step_attached, step_itself, step_moment}
 
 pub told_lines-append : (telling : Telling) (xs ys : List Line) → told_lines telling (xs ++ ys) ≡ told_lines telling xs ++ told_lines telling ys
 told_lines-append telling xs ys = flat_map-append (told_text telling) xs ys
@@ -72,7 +73,7 @@ clock-put_all_out system w (first ∷ outs) = clock-put_all_out system (network.
 
 -- the copy that a frame of a system makes on a port's subnetwork, where it has that port
 abbrev pub made_by : SystemState → (port : ℕ) → Target → Maker → (birth : ℕ) → Content → List network.Copy
-made_by system port target maker birth content = network.copy_from (slice_get system.configuration.ports port) target maker birth content
+made_by system port target maker birth content = network.copy_from (slice_get system.attached.ports port) target maker birth content
 
 copy-put_out : (system : SystemState) (w : network.World) (out : Output) (i : ℕ) (copy : network.Copy)
     → slice_get w.copies i ≡ Some copy → slice_get (network.put_out system w out).world.copies i ≡ Some copy
@@ -105,39 +106,77 @@ current-takes_effect w place effect h now =
     (subst (λ (ss : List SystemState). AllByRecursion (λ (s : SystemState). s.moment ≡ w.clock) ss)
     (sym (systems-put_all_out effect.after v effect.outputs)) set)
 
--- What the scenario says of the systems isn't changed where a copy is given.
+-- Where a copy is given, what the scenario says of the systems isn't changed, nor what they are attached to: so whom it is for is
+-- the same before the first is given it and behind that.
 
-abbrev pub configuration_of : SystemState → SystemConfiguration
-configuration_of s = s.configuration
+pub record Seat : Type 0 where
+  pub configuration : SystemConfiguration
+  pub attached : Attachment
 
-configurations-takes_effect : (w : network.World) (place : ℕ) (system : SystemState) (effect : Effect) → slice_get w.systems place ≡ Some system
-    → effect.after.configuration ≡ system.configuration
-    → map configuration_of (network.takes_effect w place effect).world.systems ≡ map configuration_of w.systems
-configurations-takes_effect w place system effect e same =
-    ap (λ (ss : List SystemState). map configuration_of ss)
+abbrev pub seat : SystemConfiguration → Attachment → Seat
+seat configuration attached = record { configuration = configuration; attached = attached }
+
+abbrev pub seat_of : SystemState → Seat
+seat_of s = seat s.configuration s.attached
+
+-- a frame that comes to a system leaves it where it is
+frame_leaves : (s : SystemState) (copy : network.Copy) → seat_of (step s (network.frame_to s copy)).after ≡ seat_of s
+frame_leaves s copy =
+    let comes = network.frame_to s copy in
+    ap (λ (c : SystemConfiguration). seat c (step s comes).after.attached) (step_itself s comes).configuration
+    ∙ ap (λ (a : Attachment). seat s.configuration a) (step_attached s comes)
+
+seats-takes_effect : (w : network.World) (place : ℕ) (system : SystemState) (effect : Effect) → slice_get w.systems place ≡ Some system
+    → seat_of effect.after ≡ seat_of system
+    → map seat_of (network.takes_effect w place effect).world.systems ≡ map seat_of w.systems
+seats-takes_effect w place system effect e same =
+    ap (λ (ss : List SystemState). map seat_of ss)
     (systems-put_all_out effect.after (network.with_effect w place effect) effect.outputs)
-    ∙ map_set configuration_of w.systems place system effect.after e same
+    ∙ map_set seat_of w.systems place system effect.after e same
 
 abbrev given_to : Limits → network.Numbered → network.World → ℕ → SystemState → Bool → network.Step
 given_to limits given w place system late =
     cond late (network.writes w (Late w.clock system.configuration.name given.number)) (network.hand_to given w place system)
 
-configurations-given : (limits : Limits) (given : network.Numbered) (w : network.World) (place : ℕ) (system : SystemState) (late : Bool)
+seats-given : (limits : Limits) (given : network.Numbered) (w : network.World) (place : ℕ) (system : SystemState) (late : Bool)
     → slice_get w.systems place ≡ Some system
-    → map configuration_of (given_to limits given w place system late).world.systems ≡ map configuration_of w.systems
-configurations-given limits given w place system true e = refl
-configurations-given limits given w place system false e =
-    configurations-takes_effect w place system (step system (network.frame_to system given.copy)) e (step_itself system (network.frame_to system given.copy)).configuration
+    → map seat_of (given_to limits given w place system late).world.systems ≡ map seat_of w.systems
+seats-given limits given w place system true e = refl
+seats-given limits given w place system false e =
+    seats-takes_effect w place system (step system (network.frame_to system given.copy)) e (frame_leaves system given.copy)
 
-configurations-give_to : (limits : Limits) (given : network.Numbered) (w : network.World) (place : ℕ) (s : Option SystemState) → slice_get w.systems place ≡ s
-    → map configuration_of (network.give_to limits given w place s).world.systems ≡ map configuration_of w.systems
-configurations-give_to limits given w place None e = refl
-configurations-give_to limits given w place (Some system) e =
-    configurations-given limits given w place system (network.is_late limits w given.copy) e
+seats-give_to : (limits : Limits) (given : network.Numbered) (w : network.World) (place : ℕ) (s : Option SystemState) → slice_get w.systems place ≡ s
+    → map seat_of (network.give_to limits given w place s).world.systems ≡ map seat_of w.systems
+seats-give_to limits given w place None e = refl
+seats-give_to limits given w place (Some system) e = seats-given limits given w place system (network.is_late limits w given.copy) e
 
-pub configurations-give : (limits : Limits) (given : network.Numbered) (w : network.World) (place : ℕ)
-    → map configuration_of (network.give limits given w place).world.systems ≡ map configuration_of w.systems
-configurations-give limits given w place = configurations-give_to limits given w place (slice_get w.systems place) refl
+pub seats-give : (limits : Limits) (given : network.Numbered) (w : network.World) (place : ℕ)
+    → map seat_of (network.give limits given w place).world.systems ≡ map seat_of w.systems
+seats-give limits given w place = seats-give_to limits given w place (slice_get w.systems place) refl
+
+pub seats-give_each : (limits : Limits) (given : network.Numbered) (w : network.World) (places : List ℕ)
+    → map seat_of (network.give_each limits given w places).world.systems ≡ map seat_of w.systems
+seats-give_each limits given w [] = refl
+seats-give_each limits given w (place ∷ places) =
+    seats-give_each limits given (network.give limits given w place).world places ∙ seats-give limits given w place
+
+-- a copy is for a system wherever it is for one of the same configuration that is attached alike
+pub same_addressee : (copy : network.Copy) (x y : SystemState) → seat_of x ≡ seat_of y
+    → network.is_addressee copy x ≡ network.is_addressee copy y
+same_addressee copy x y e = ap (λ (s : Seat). list_any (network.enters copy s.configuration.role) s.attached.ports) e
+
+-- what is attached where at a place, where it is the same of all
+pub same_seat : (xs ys : List SystemState) (i : ℕ) (y : SystemState) → map seat_of xs ≡ map seat_of ys → slice_get ys i ≡ Some y
+    → (x : SystemState) × (slice_get xs i ≡ Some x) × (seat_of x ≡ seat_of y)
+same_seat xs [] i y e at = absurd (cc)
+same_seat [] (z ∷ ys) i y e at = absurd (cc)
+same_seat (x ∷ xs) (z ∷ ys) zero y e at =
+    let head : seat_of x ≡ seat_of z = cc in
+    let one : z ≡ y = cc in
+    (x, refl, head ∙ ap seat_of one)
+same_seat (x ∷ xs) (z ∷ ys) (suc i) y e at =
+    let tail : map seat_of xs ≡ map seat_of ys = cc in
+    same_seat xs ys i y tail at
 
 -- nor is the clock, nor how many copies were passed.
 
@@ -182,12 +221,6 @@ cursor-give_each limits given w [] = refl
 cursor-give_each limits given w (place ∷ places) =
     cursor-give_each limits given (network.give limits given w place).world places ∙ cursor-give_to limits given w place (slice_get w.systems place)
 
-pub configurations-give_each : (limits : Limits) (given : network.Numbered) (w : network.World) (places : List ℕ)
-    → map configuration_of (network.give_each limits given w places).world.systems ≡ map configuration_of w.systems
-configurations-give_each limits given w [] = refl
-configurations-give_each limits given w (place ∷ places) =
-    configurations-give_each limits given (network.give limits given w place).world places ∙ configurations-give limits given w place
-
 copy-given : (limits : Limits) (given : network.Numbered) (w : network.World) (place : ℕ) (system : SystemState) (late : Bool) (i : ℕ) (copy : network.Copy)
     → slice_get w.copies i ≡ Some copy → slice_get (given_to limits given w place system late).world.copies i ≡ Some copy
 copy-given limits given w place system true i copy e = e
@@ -206,25 +239,33 @@ copy-give_each limits given w (place ∷ places) i copy e =
     copy-give_each limits given (network.give limits given w place).world places i copy
     (copy-give_to limits given w place (slice_get w.systems place) i copy e)
 
+-- one more place at the end of those at which something is done, one after another
+pub each-push : (one : network.World → ℕ → network.Step) (each : network.World → List ℕ → network.Step)
+    → ((w : network.World) → each w [] ≡ network.nothing w)
+    → ((w : network.World) (place : ℕ) (places : List ℕ) → each w (place ∷ places) ≡ network.followed_by (one w place) (λ v. each v places))
+    → (w : network.World) (places : List ℕ) (place : ℕ)
+    → each w (places ++ place ∷ []) ≡ network.followed_by (each w places) (λ v. one v place)
+each-push one each none more w [] place =
+    more w place []
+    ∙ ap (λ (s : network.Step). (let r : network.Step = record { world = s.world; lines = (one w place).lines ++ s.lines } in r))
+    (none (one w place).world)
+    ∙ followed_by-nothing (one w place)
+    ∙ ap (λ (s : network.Step). network.followed_by s (λ v. one v place)) (sym (none w))
+each-push one each none more w (first ∷ places) place =
+    more w first (places ++ place ∷ [])
+    ∙ ap (λ (s : network.Step). (let r : network.Step = record { world = s.world; lines = (one w first).lines ++ s.lines } in r))
+    (each-push one each none more (one w first).world places place)
+    ∙ sym (followed_by-followed_by (one w first) (λ v. each v places) (λ v. one v place))
+    ∙ ap (λ (s : network.Step). network.followed_by s (λ v. one v place)) (sym (more w first places))
+
 pub give_each-push : (limits : Limits) (given : network.Numbered) (w : network.World) (places : List ℕ) (place : ℕ)
     → network.give_each limits given w (places ++ place ∷ [])
     ≡ network.followed_by (network.give_each limits given w places) (λ v. network.give limits given v place)
-give_each-push limits given w [] place = followed_by-nothing (network.give limits given w place)
-give_each-push limits given w (first ∷ places) place =
-    ap (λ (s : network.Step). (let r : network.Step = record { world = s.world; lines = (network.give limits given w first).lines ++ s.lines } in r))
-    (give_each-push limits given (network.give limits given w first).world places place)
-    ∙ sym (followed_by-followed_by (network.give limits given w first) (λ v. network.give_each limits given v places) (λ v. network.give limits given v place))
+give_each-push limits given w places place =
+    each-push (network.give limits given) (network.give_each limits given) (λ v. refl) (λ v first others. refl) w places place
 
 abbrev pub tick_at : network.World → ℕ → network.Step
 tick_at w place = network.comes w place (MomentComes w.clock)
-
-tick_each-push : (w : network.World) (places : List ℕ) (place : ℕ)
-    → network.tick_each w (places ++ place ∷ []) ≡ network.followed_by (network.tick_each w places) (λ v. tick_at v place)
-tick_each-push w [] place = followed_by-nothing (tick_at w place)
-tick_each-push w (first ∷ places) place =
-    ap (λ (s : network.Step). (let r : network.Step = record { world = s.world; lines = (tick_at w first).lines ++ s.lines } in r))
-    (tick_each-push (tick_at w first).world places place)
-    ∙ sym (followed_by-followed_by (tick_at w first) (λ v. network.tick_each v places) (λ v. tick_at v place))
 
 -- one more system has its tick
 pub tick_each-more : (w : network.World) (n : ℕ)
@@ -232,30 +273,30 @@ pub tick_each-more : (w : network.World) (n : ℕ)
 tick_each-more w n =
     ap (λ (places : List ℕ). network.tick_each w places)
     (range_push 0 n ∙ ap (λ (i : ℕ). range_with_len 0 n ++ i ∷ []) (zero-add n))
-    ∙ tick_each-push w (range_with_len 0 n) n
+    ∙ each-push tick_at network.tick_each (λ v. refl) (λ v first others. refl) w (range_with_len 0 n) n
 
 -- the place of one more system, where the copy is for it
 addressees_from-push : (k : ℕ) (copy : network.Copy) (systems : List SystemState) (system : SystemState)
     → network.addressees_from k copy (systems ++ system ∷ [])
-    ≡ network.addressees_from k copy systems ++ cond (network.is_addressee copy system.configuration) ((k + length systems) ∷ []) []
+    ≡ network.addressees_from k copy systems ++ cond (network.is_addressee copy system) ((k + length systems) ∷ []) []
 addressees_from-push k copy [] system = rw add-zero refl
 addressees_from-push k copy (first ∷ systems) system =
     let e : (k + 1) + length systems ≡ k + suc (length systems) = omega arith in
     let h : network.addressees_from (k + 1) copy (systems ++ system ∷ [])
-    ≡ network.addressees_from (k + 1) copy systems ++ cond (network.is_addressee copy system.configuration) ((k + suc (length systems)) ∷ []) []
+    ≡ network.addressees_from (k + 1) copy systems ++ cond (network.is_addressee copy system) ((k + suc (length systems)) ∷ []) []
     = rw e at (addressees_from-push (k + 1) copy systems system) in
-    elim (network.is_addressee copy first.configuration) as (λ b. cond b (k ∷ network.addressees_from (k + 1) copy (systems ++ system ∷ [])) (network.addressees_from (k + 1) copy (systems ++ system ∷ []))
-    ≡ cond b (k ∷ network.addressees_from (k + 1) copy systems) (network.addressees_from (k + 1) copy systems) ++ cond (network.is_addressee copy system.configuration) ((k + suc (length systems)) ∷ []) [])
+    elim (network.is_addressee copy first) as (λ b. cond b (k ∷ network.addressees_from (k + 1) copy (systems ++ system ∷ [])) (network.addressees_from (k + 1) copy (systems ++ system ∷ []))
+    ≡ cond b (k ∷ network.addressees_from (k + 1) copy systems) (network.addressees_from (k + 1) copy systems) ++ cond (network.is_addressee copy system) ((k + suc (length systems)) ∷ []) [])
     [ true ↦ ap (λ (ps : List ℕ). k ∷ ps) h | false ↦ h ]
 
 -- one more system is looked at
 pub addressees_from-take : (copy : network.Copy) (systems : List SystemState) (i : ℕ) (system : SystemState) → slice_get systems i ≡ Some system
     → network.addressees_from 0 copy (take (i + 1) systems)
-    ≡ network.addressees_from 0 copy (take i systems) ++ cond (network.is_addressee copy system.configuration) (i ∷ []) []
+    ≡ network.addressees_from 0 copy (take i systems) ++ cond (network.is_addressee copy system) (i ∷ []) []
 addressees_from-take copy systems i system e =
     let r = take_push systems i system e in
     ap (λ (ss : List SystemState). network.addressees_from 0 copy ss) r.0 ∙ addressees_from-push 0 copy (take i systems) system
-    ∙ ap (λ (n : ℕ). network.addressees_from 0 copy (take i systems) ++ cond (network.is_addressee copy system.configuration) (n ∷ []) [])
+    ∙ ap (λ (n : ℕ). network.addressees_from 0 copy (take i systems) ++ cond (network.is_addressee copy system) (n ∷ []) [])
     (zero-add (length (take i systems)) ∙ r.1)
 
 states_from-push : (limits : Limits) (k : ℕ) (systems : List SystemConfiguration) (system : SystemConfiguration)
@@ -307,12 +348,13 @@ any_before p (x ∷ xs) = by_test (any_before p xs) (p x) refl
     by_test rest false is = rw is (rest ∙ shifted (position_or_len p xs) (length xs))
 
 -- what the code finds is the first port by which a copy comes in, or that the copy isn't for the system
-pub port_found : (copy : network.Copy) (system : SystemConfiguration) → IsPortFor copy system (position (network.enters copy system.role) system.ports)
+pub port_found : (copy : network.Copy) (system : SystemState)
+    → IsPortFor copy system (position (network.enters copy system.configuration.role) system.attached.ports)
 port_found copy system =
-    by_test (nat_lt (position_or_len (network.enters copy system.role) system.ports) (length system.ports))
-    (any_before (network.enters copy system.role) system.ports)
+    by_test (nat_lt (position_or_len (network.enters copy system.configuration.role) system.attached.ports) (length system.attached.ports))
+    (any_before (network.enters copy system.configuration.role) system.attached.ports)
   where
     by_test : (b : Bool) → network.is_addressee copy system ≡ b
-        → IsPortFor copy system (cond b (Some (position_or_len (network.enters copy system.role) system.ports)) None)
-    by_test true is = (sym is, sym (first_port_is copy system.role system.ports))
+        → IsPortFor copy system (cond b (Some (position_or_len (network.enters copy system.configuration.role) system.attached.ports)) None)
+    by_test true is = (sym is, sym (first_port_is copy system.configuration.role system.attached.ports))
     by_test false is = sym is

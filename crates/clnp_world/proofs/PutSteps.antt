@@ -122,6 +122,8 @@ pub shows_more : (old code : Network) (made : List network.Copy) (frames : List 
 shows_more old code made frames seen good born short put others model h = record {
   clock = ap (λ (w : Network). w.clock) others ∙ h.clock;
   systems = subst (λ (nodes : List System). StandEach nodes model.systems) (ap (λ (w : Network). w.systems.items) (sym others)) h.systems;
+  mtus = ap (λ (w : Network). w.mtus.items) others ∙ h.mtus;
+  wide = h.wide;
   copies = put.copies ∙ ap (λ (cs : List FrameCopy). cs ++ frames) h.copies
       ∙ ap (λ (cs : List FrameCopy). map frame_copy model.copies ++ cs) seen
       ∙ sym (map-append frame_copy model.copies made);
@@ -140,11 +142,11 @@ shows_more old code made frames seen good born short put others model h = record
 puts_frame : (old code : Network) (before after : Lines) (port : ℕ) (target : Target) (maker : Maker) (birth : ℕ) (content : Content) (system : SystemState)
     → (model : network.World) → Shows old model → IsCarried content → IsBornWithUnit birth content → length (frame_of content) ≤ 70000
     → Gains before after (Transmitted model.clock system.configuration.name (length model.copies + 1) port target (frame_of content) ∷ [])
-    → PutsCopies old code (frame_copies (slice_get system.configuration.ports port) target birth (frame_of content))
+    → PutsCopies old code (frame_copies (slice_get system.attached.ports port) target birth (frame_of content))
     → code ≡ record old { copies = code.copies; weight = code.weight }
     → Puts code before after (network.sends_frame system model port target maker birth content)
 puts_frame old code before after port target maker birth content system model h good born few line put others =
-    let at = slice_get system.configuration.ports port in
+    let at = slice_get system.attached.ports port in
     record {
       shows = shows_more old code (network.copy_from at target maker birth content) (frame_copies at target birth (frame_of content))
           (copy_seen at target maker birth content) (copy_carried at target maker birth content good)
@@ -167,7 +169,7 @@ sends_packet : (old code : Network) (before after : Lines) (sending : Sending) (
     → frame ≡ frame_in sending
     → (model : network.World) (system : SystemState) → Shows old model
     → Gains before after (Transmitted model.clock system.configuration.name (length model.copies + 1) sending.port sending.to frame ∷ [])
-    → PutsCopies old code (frame_copies (slice_get system.configuration.ports sending.port) sending.to birth frame)
+    → PutsCopies old code (frame_copies (slice_get system.attached.ports sending.port) sending.to birth frame)
     → code ≡ record old { copies = code.copies; weight = code.weight }
     → sending.port ≡ port → sending.to ≡ target → frame_in sending ≡ wire packet → IsCarriable packet → birth ≡ packet.unit.made
     → Puts code before after (network.put_out system model (Transmits port target packet))
@@ -175,7 +177,7 @@ sends_packet old code before after sending frame birth port target packet frame_
     let octets : frame ≡ wire packet ++ [] = frame_is ∙ spelled ∙ sym (append-nil (wire packet)) in
     let few : length (wire packet ++ []) ≤ 70000 = omega (arith, wire_short packet carriable, ap length (append-nil (wire packet))) in
     let line' = rw (port_is, target_is, octets) at line in
-    let put' = subst (λ (moment : ℕ). PutsCopies old code (frame_copies (slice_get system.configuration.ports port) target moment (wire packet ++ []))) made
+    let put' = subst (λ (moment : ℕ). PutsCopies old code (frame_copies (slice_get system.attached.ports port) target moment (wire packet ++ []))) made
     (rw (port_is, target_is, octets) at put) in
     puts_frame old code before after port target packet.unit.maker packet.unit.made (Labelled packet []) system model h carriable refl few line' put' others
 
@@ -184,7 +186,7 @@ sends : (old code : Network) (before after : Lines) (came birth : ℕ) (content 
     → frame ≡ frame_in sending → birth ≡ birth_of sending came old.clock
     → (model : network.World) (system : SystemState) → Shows old model
     → Gains before after (Transmitted model.clock system.configuration.name (length model.copies + 1) sending.port sending.to frame ∷ [])
-    → PutsCopies old code (frame_copies (slice_get system.configuration.ports sending.port) sending.to birth frame)
+    → PutsCopies old code (frame_copies (slice_get system.attached.ports sending.port) sending.to birth frame)
     → code ≡ record old { copies = code.copies; weight = code.weight } → IsBornWithUnit came content
     → GivesFor old.clock content (Transmit sending) other → Puts code before after (network.put_out system model other)
 sends old code before after came birth content sending frame (Notes note) frame_is birth_is model system h line put others born gives = absurd gives
@@ -203,7 +205,7 @@ sends old code before after came birth content sending frame (SendsEsis port tar
     let now : birth ≡ model.clock = birth_is ∙ ap (λ (b : Bool). cond b came old.clock) gives.first ∙ h.clock in
     let few : length (spelling value ++ []) ≤ 70000 = omega (arith, esis_short value gives.pdu, ap length (append-nil (spelling value))) in
     let line' = rw (port_is, target_is, octets) at line in
-    let put' = subst (λ (moment : ℕ). PutsCopies old code (frame_copies (slice_get system.configuration.ports port) target moment (spelling value ++ []))) now
+    let put' = subst (λ (moment : ℕ). PutsCopies old code (frame_copies (slice_get system.attached.ports port) target moment (spelling value ++ []))) now
     (rw (port_is, target_is, octets) at put) in
     puts_frame old code before after port target (DeclaredAt system.place) model.clock (Esis value []) system model h gives.pdu tt few line' put' others
 
@@ -213,7 +215,7 @@ pub puts_transmission : (old code : Network) (before after : Lines) (place came 
     → ((model : network.World) (system : SystemState) → Shows old model → slice_get model.systems place ≡ Some system
     → Gains before after (Transmitted model.clock system.configuration.name (length model.copies + 1) sending.port sending.to frame ∷ []))
     → ((model : network.World) (system : SystemState) → Shows old model → slice_get model.systems place ≡ Some system
-    → PutsCopies old code (frame_copies (slice_get system.configuration.ports sending.port) sending.to birth frame))
+    → PutsCopies old code (frame_copies (slice_get system.attached.ports sending.port) sending.to birth frame))
     → code ≡ record old { copies = code.copies; weight = code.weight }
     → (model : network.World) (system : SystemState) (content : Content) (other : Output) → Shows old model
     → slice_get model.systems place ≡ Some system → IsBornWithUnit came content

@@ -38,6 +38,8 @@ pub shows_with : (code : Network) (place : ℕ) (node : System) (model : network
 shows_with code place node model effect h stands = record {
   clock = h.clock;
   systems = each_set code.systems.items model.systems place node effect.after h.systems stands;
+  mtus = h.mtus;
+  wide = h.wide;
   copies = h.copies;
   cursor = h.cursor;
   carried = h.carried;
@@ -130,6 +132,7 @@ moments_agree s (machine.FrameComes port sender to_group content) = refl
 moments_agree s (machine.MomentComes now) = refl
 moments_agree s machine.IsRestarted = refl
 moments_agree s (machine.IsCongested on) = refl
+moments_agree s (machine.IsChanged change) = refl
 
 stays_current : (model : network.World) (place : ℕ) (input : machine.Input) (there : Option SystemState) → IsCurrent model
     → ((s : SystemState) → there ≡ Some s → (step s input).after.moment ≡ model.clock) → IsCurrent (network.comes_to model place input there).world

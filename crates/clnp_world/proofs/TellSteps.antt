@@ -1,19 +1,17 @@
 -- What a trace tells of a copy that is given, settled or lost.
-use Rattle.std.proofs.Common.{◌≡◌, ℕ, zero, suc, ◌+◌, Bool, true, false, inl, inr, List, [], ◌∷◌, ◌++◌, map, cond, Option, None, Some, refl, sym, ap, ◌∙◌, subst, arith}
-use Rattle.std.specs.Prelude.{slice_get}
+use Rattle.std.proofs.Common.{◌≡◌, ℕ, suc, ◌+◌, inl, inr, List, [], ◌∷◌, ◌++◌, map, cond, Option, Some, refl, sym, ap, ◌∙◌, arith}
+use Rattle.std.specs.Prelude.{nat_lt, slice_get}
 use Rattle.std.specs.List.{filter}
 use Rattle.std.proofs.lemmas.Bool.{cases_Bool, true≢false}
 use Rattle.std.proofs.lemmas.List.Elements.{filter-append}
-use Rattle.clnp_machine.specs.ClnpPlan.Journal.{Line, Late, Received, ForNobody}
-use Rattle.clnp_machine.specs.ClnpPlan.Configuration.{SystemConfiguration}
+use Rattle.clnp_machine.specs.ClnpPlan.Journal.{Line, Late, Received}
 use Rattle.clnp_machine.specs.ClnpPlan.declared.config.Limits.{Limits}
 use Rattle.clnp_machine.specs.System.{SystemState, Output, Transmits, SendsEsis, Notes, Effect}
 use Rattle.clnp_machine.specs.Step.{step}
 use Rattle.clnp_network.specs.World as network
 use Rattle.clnp_network.specs.World.{World, Copy, Numbered, addressees_from, first_port, for_nobody, frame_to, give, give_each, give_to, hand_to, is_addressee, is_late, put_all_out, put_out, settle_copy, lose_copy, takes_effect, with_effect}
 use Rattle.clnp_world.specs.Becoming.{GivesAsTold, TellsOnce, addressees_of, or_nobody, tells_of_copy, told_of_settled, told_to, told_to_each}
-use Rattle.clnp_world.proofs.GiveSteps.{same_configuration}
-use Rattle.clnp_world.proofs.ModelSteps.{clock-give, configuration_of, configurations-give, cursor-give_each}
+use Rattle.clnp_world.proofs.ModelSteps.{Seat, seat_of, same_seat, seats-give, clock-give, cursor-give_each}
 
 -- nothing that a system gives out tells of a copy
 quiet_outputs : (system : SystemState) (w : World) (outputs : List Output) → filter tells_of_copy (put_all_out system w outputs).lines ≡ []
@@ -53,7 +51,7 @@ module _ (limits : Limits) (given : Numbered) where
 
   -- what is told of the copy where it is given to one system
   told_once : (w : World) (place : ℕ) (system : SystemState) → slice_get w.systems place ≡ Some system
-      → filter tells_of_copy (give limits given w place).lines ≡ told_to limits w.clock given system.configuration ∷ []
+      → filter tells_of_copy (give limits given w place).lines ≡ told_to limits w.clock given system ∷ []
   told_once w place system there =
       let told = gives_as_told w place system there in
       elim (cases_Bool (is_late limits w given.copy)) [
@@ -61,34 +59,40 @@ module _ (limits : Limits) (given : Numbered) where
         | inr soon ↦
             ap (filter tells_of_copy) told.lines
             ∙ rw soon (ap (λ (ls : List Line).
-            Received w.clock system.configuration.name given.number (first_port given.copy system.configuration.role system.configuration.ports) ∷ ls) told.quiet)
+            Received w.clock system.configuration.name given.number (first_port given.copy system.configuration.role system.attached.ports) ∷ ls) told.quiet)
       ]
+
+  -- it is the same of systems of the same configuration that are attached alike
+  told_alike : (now : ℕ) (x y : SystemState) → seat_of x ≡ seat_of y → told_to limits now given x ≡ told_to limits now given y
+  told_alike now x y e =
+      ap (λ (s : Seat). cond (nat_lt (given.copy.birth + limits.age) now) (Late now s.configuration.name given.number)
+      (Received now s.configuration.name given.number (first_port given.copy s.configuration.role s.attached.ports))) e
 
   -- and where it is given to each that it is for of some systems, from a place on
   told_each : (w : World) (from : ℕ) (systems : List SystemState) → ((i : ℕ) → slice_get systems i ≡ slice_get w.systems (from + i))
-      → (v : World) → map configuration_of v.systems ≡ map configuration_of w.systems → v.clock ≡ w.clock
+      → (v : World) → map seat_of v.systems ≡ map seat_of w.systems → v.clock ≡ w.clock
       → filter tells_of_copy (give_each limits given v (addressees_from from given.copy systems)).lines
       ≡ told_to_each limits w.clock given (addressees_of given.copy systems)
-  told_each w from [] same v configured now = refl
-  told_each w from (system ∷ systems) same v configured now =
+  told_each w from [] same v seated now = refl
+  told_each w from (system ∷ systems) same v seated now =
       let first : slice_get w.systems from ≡ Some system =
       ap (slice_get w.systems) (let none : from ≡ from + 0 = omega arith in none) ∙ sym (same 0) in
       let rest : (i : ℕ) → slice_get systems i ≡ slice_get w.systems (from + 1 + i) =
       λ i. same (suc i) ∙ ap (slice_get w.systems) (let next : from + suc i ≡ from + 1 + i = omega arith in next) in
-      let there = same_configuration v.systems w.systems from system configured first in
+      let there = same_seat v.systems w.systems from system seated first in
       let one = give limits given v from in
       let others = addressees_from (from + 1) given.copy systems in
       let told = told_once v from there.0 there.1
-      ∙ (ap (λ (moment : ℕ). told_to limits moment given (there.0).configuration ∷ []) now
-      ∙ ap (λ (c : SystemConfiguration). told_to limits w.clock given c ∷ []) there.2) in
-      let more = told_each w (from + 1) systems rest one.world (configurations-give limits given v from ∙ configured) (clock-give limits given v from ∙ now) in
-      elim (cases_Bool (is_addressee given.copy system.configuration)) [
+      ∙ (ap (λ (moment : ℕ). told_to limits moment given there.0 ∷ []) now
+      ∙ ap (λ (line : Line). line ∷ []) (told_alike w.clock there.0 system there.2)) in
+      let more = told_each w (from + 1) systems rest one.world (seats-give limits given v from ∙ seated) (clock-give limits given v from ∙ now) in
+      elim (cases_Bool (is_addressee given.copy system)) [
         | inl is ↦
             rw is
             (filter-append tells_of_copy one.lines (give_each limits given one.world others).lines
             ∙ (ap (λ (ls : List Line). ls ++ filter tells_of_copy (give_each limits given one.world others).lines) told
-            ∙ ap (λ (ls : List Line). told_to limits w.clock given system.configuration ∷ ls) more))
-        | inr isnt ↦ rw isnt (told_each w (from + 1) systems rest v configured now)
+            ∙ ap (λ (ls : List Line). told_to limits w.clock given system ∷ ls) more))
+        | inr isnt ↦ rw isnt (told_each w (from + 1) systems rest v seated now)
       ]
 
 nobody_alone : (now number : ℕ) (places : List ℕ) → filter tells_of_copy (for_nobody now number places) ≡ for_nobody now number places
@@ -101,7 +105,7 @@ or_nobody_is : (now number : ℕ) (copy : Copy) (tell : SystemState → Line) (f
     ≡ or_nobody now number (map tell (addressees_of copy systems))
 or_nobody_is now number copy tell from [] = refl
 or_nobody_is now number copy tell from (system ∷ systems) =
-    elim (cases_Bool (is_addressee copy system.configuration)) [
+    elim (cases_Bool (is_addressee copy system)) [
       | inl is ↦ rw is refl
       | inr isnt ↦ rw isnt (or_nobody_is now number copy tell (from + 1) systems)
     ]
@@ -117,7 +121,7 @@ module _ (limits : Limits) (w : World) (copy : Copy) where
       filter-append tells_of_copy (for_nobody w.clock given.number places) (give_each limits given next places).lines
       ∙ (ap (λ (ls : List Line). ls ++ filter tells_of_copy (give_each limits given next places).lines) (nobody_alone w.clock given.number places)
       ∙ (ap (λ (ls : List Line). for_nobody w.clock given.number places ++ ls) each
-      ∙ or_nobody_is w.clock given.number copy (λ (system : SystemState). told_to limits w.clock given system.configuration) 0 w.systems))
+      ∙ or_nobody_is w.clock given.number copy (told_to limits w.clock given) 0 w.systems))
 
   pub tells_once : slice_get w.copies w.cursor ≡ Some copy → TellsOnce limits w copy
   tells_once there =

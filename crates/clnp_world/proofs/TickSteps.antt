@@ -25,6 +25,8 @@ pub clock_goes_on : (code : Network) (model : network.World) → Holds code mode
 clock_goes_on code model h = record {
   clock = ap (λ (n : ℕ). n + 1) h.shows.clock;
   systems = h.shows.systems;
+  mtus = h.shows.mtus;
+  wide = h.shows.wide;
   copies = h.shows.copies;
   cursor = h.shows.cursor;
   carried = h.shows.carried;

@@ -5,4 +5,6 @@ pub mod Seen
 pub mod State
 pub mod Stands
 pub mod Parts
+pub mod Changing
 pub mod Becoming
+pub mod Changed

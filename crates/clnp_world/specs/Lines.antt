@@ -2,7 +2,7 @@
 use Rattle.std.specs.Prelude.{◌≡◌, ◌≤◌, ℕ, ◌+◌, ◌^◌, ◌⊎◌, List, [], ◌∷◌, ◌++◌, codes, length}
 use Rattle.std.specs.List.{filter}
 use Rattle.std.specs.Str.{bytes_eq}
-use Rattle.clnp_machine.specs.ClnpPlan.Journal.{Line, Noted, Transmitted, Void, Late, Injected, Received, Lost, ForNobody, note_words}
+use Rattle.clnp_machine.specs.ClnpPlan.Journal.{Line, Noted, Transmitted, Void, Late, Injected, Resized, Received, Lost, ForNobody, note_words}
 use Rattle.clnp_network.specs.Run.{told_lines}
 use Rattle.clnp_world.specs.declared.lines.Counts.{Counts}
 use Rattle.clnp_world.specs.declared.lines.Form.{Form}
@@ -21,6 +21,7 @@ kind_of (Transmitted now name copy port target frame) = codes "tx"
 kind_of (Void now name copy) = codes "void"
 kind_of (Late now name copy) = codes "late"
 kind_of (Injected now copy subnet sender target) = codes "inject"
+kind_of (Resized now subnet mtu) = codes "mtu"
 kind_of (Received now name copy port) = codes "rx"
 kind_of (Lost now copy) = codes "lost"
 kind_of (ForNobody now copy) = codes "nobody"

@@ -19,6 +19,7 @@ abbrev pub state_of : Network → NetworkState
 state_of code = record {
   clock = code.clock;
   systems = code.systems.items;
+  mtus = code.mtus.items;
   copies = code.copies.items;
   cursor = code.cursor;
   weight = code.weight;
@@ -58,6 +59,11 @@ pub record Follows (code : Network) (before after : Lines) (part : network.Step)
 pub record FollowsIn (telling : Telling) (code : Network) (before after : List ℕ) (part : network.Step) : Type 0 where
   pub holds : Holds code part.world
   pub text : after ≡ before ++ told_lines telling part.lines
+
+-- a part of a move that writes no lines was done
+abbrev pub Changes : Network → Network → (network.World → network.Step) → Type 0
+Changes before after part =
+    (model : network.World) (lines : Lines) → Holds before model → Follows after lines lines (part model)
 
 -- some copies were put behind the others, and weighed
 pub record PutsCopies (before after : Network) (made : List FrameCopy) : Type 0 where

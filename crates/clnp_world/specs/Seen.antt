@@ -1,10 +1,10 @@
 -- What the code's copies are in the model.
 use Rattle.std.specs.Prelude.{◌≡◌, ℕ, ◌+◌, ◌==◌, ◌&&◌, Bool, true, false, List, [], ◌∷◌, length, map, sum, Option, None, Some}
 use Rattle.clnp_machine.specs.Nsap.declared.target.Target.{Target}
-use Rattle.clnp_machine.specs.ClnpPlan.Configuration.{SystemConfiguration}
 use Rattle.clnp_machine.specs.ClnpPlan.declared.config.PortConfig.{PortConfig}
 use Rattle.clnp_machine.specs.ClnpPlan.declared.config.Role.{Role}
 use Rattle.clnp_machine.specs.Content.{frame_of}
+use Rattle.clnp_machine.specs.System.{SystemState}
 use Rattle.clnp_network.specs.World.{Copy, first_port, is_addressee, reaches}
 use Rattle.clnp_world.specs.declared.copy.FrameCopy.{FrameCopy}
 
@@ -24,9 +24,10 @@ abbrev pub enters : FrameCopy → Role → PortConfig → Bool
 enters copy role port = (port.subnet == copy.subnet) && reaches role copy.target copy.sender port.snpa
 
 -- the least of a system's ports by which a copy of the model comes in, where the copy is for the system
-abbrev pub IsPortFor : Copy → SystemConfiguration → Option ℕ → Type 0
+abbrev pub IsPortFor : Copy → SystemState → Option ℕ → Type 0
 IsPortFor copy system None = false ≡ is_addressee copy system
-IsPortFor copy system (Some port) = (true ≡ is_addressee copy system) × (port ≡ first_port copy system.role system.ports)
+IsPortFor copy system (Some port) =
+    (true ≡ is_addressee copy system) × (port ≡ first_port copy system.configuration.role system.attached.ports)
 
 -- what copies weigh: the octets of their frames, and 64 for each
 abbrev pub frames_weight : List FrameCopy → ℕ

@@ -1,8 +1,9 @@
 -- What a simulated network of the code stands for.
-use Rattle.std.specs.Prelude.{◌≡◌, ◌≤◌, ℕ, List, [], ◌∷◌, true, false, length, map, slice_get, Some, Result, Ok, Err}
+use Rattle.std.specs.Prelude.{◌≡◌, ◌≤◌, ℕ, List, true, false, length, map, slice_get, Some, Result, Ok, Err}
 use Rattle.std.specs.List.{AllByRecursion, AllZip}
 use Rattle.clnp_machine.specs.Content.{Content, Labelled, Esis, Unlabelled, IsCarried}
 use Rattle.clnp_machine.specs.System.{SystemState}
+use Rattle.clnp_machine.specs.ClnpPlan.Configuration.{IsWithin}
 use Rattle.clnp_machine.specs.ClnpPlan.declared.config.Role.{Role}
 use Rattle.clnp_systems.specs.declared.system.System.{System}
 use Rattle.clnp_systems.specs.Stands as clnp_systems
@@ -33,6 +34,9 @@ IsBornWithUnit birth (Unlabelled octets) = Unit {0}
 pub record Shows (code : NetworkState) (model : network.World) : Type 0 where
   pub clock : code.clock ≡ model.clock
   pub systems : StandEach code.systems model.systems
+  pub mtus : code.mtus ≡ model.mtus
+  -- each subnetwork takes frames of at least 512 octets, however often that changed
+  pub wide : AllByRecursion (IsWithin 512 65535) model.mtus
   pub copies : code.copies ≡ map frame_copy model.copies
   pub cursor : code.cursor ≡ model.cursor
   pub carried : AllByRecursion (λ copy. IsCarried copy.content) model.copies

@@ -7,6 +7,8 @@ pub record NetworkState : Type 0 where
   pub clock : ℕ
   -- in the order of the declarations
   pub systems : List System
+  -- of each subnetwork, the most octets that a frame on it may have
+  pub mtus : List ℕ
   -- in the order of their numbers, which count from 1
   pub copies : List FrameCopy
   -- how many of the copies were settled or lost

@@ -1,10 +1,10 @@
 //! Copies of frames on a subnetwork.
-ghost use Rattle.std.specs.Prelude.{◌≡◌, ◌<◌, IfSome, length};
+ghost use Rattle.std.specs.Prelude.{◌≡◌, ◌<◌, ◌≤◌, IfSome, length};
 ghost use Rattle.std.specs.List.{position};
 ghost use Rattle.clnp_network.specs.World as network;
 ghost use Rattle.clnp_world.specs.Seen.{enters};
 
-use clnp_machine::clnp_plan::{PortConfig, Role, SystemConfig};
+use clnp_machine::clnp_plan::{PortConfig, Role};
 use clnp_machine::clnp_views::Frame;
 use clnp_machine::nsap::{Snpa, Target};
 
@@ -27,28 +27,24 @@ pub(crate) fn is_to_group(copy: &FrameCopy) -> bool
     !matches!(copy.target, Target::System(_))
 }
 
-/// The least of a system's ports by which a copy comes in, if it is for the system.
-pub(crate) fn first_port(copy: &FrameCopy, config: &SystemConfig) -> Option<u8>
-    ensures { result ≡ position (enters copy.now config.now.role) config.now.ports }
+/// The least of the ports of a system of a role by which a copy comes in, if it is for the system. An octet numbers each
+/// port.
+pub(crate) fn first_port(copy: &FrameCopy, role: Role, ports: &[PortConfig]) -> Option<u8>
+    requires { length ports.now ≤ 8 }
+    ensures { result ≡ position (enters copy.now role) ports.now }
 {
-    // Its clause: a system has at most 8 ports, so that an octet numbers each.
-    config.is_system();
-    match entrance(copy, config) {
+    match entrance(copy, role, ports) {
         Some(first) => Some(first as u8),
         None => None,
     }
 }
 
 /// The same, as a place among the ports.
-fn entrance(copy: &FrameCopy, config: &SystemConfig) -> Option<usize>
-    ensures place { result ≡ position (enters copy.now config.now.role) config.now.ports }
-    ensures within { IfSome result (λ place. place < length config.now.ports) }
+fn entrance(copy: &FrameCopy, role: Role, ports: &[PortConfig]) -> Option<usize>
+    ensures place { result ≡ position (enters copy.now role) ports.now }
+    ensures within { IfSome result (λ place. place < length ports.now) }
 {
-    let role = config.role();
-    config
-        .ports()
-        .iter()
-        .position(|port| enters(copy, role, port))
+    ports.iter().position(|port| enters(copy, role, port))
 }
 
 /// Whether a copy comes in by a port of a system of a role.

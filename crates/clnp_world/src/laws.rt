@@ -1,9 +1,12 @@
-//! Laws of what a trace tells of copies. Each is the clause of a function that does nothing.
-ghost use Rattle.std.specs.Prelude.{◌≡◌, ℕ, Some, slice_get};
+//! Laws of what a trace tells of copies, and of networks that change. Each is the clause of a function that does
+//! nothing.
+ghost use Rattle.std.specs.Prelude.{◌≡◌, ℕ, List, Some, slice_get};
 ghost use Rattle.clnp_machine.specs.ClnpPlan.declared.config.Limits.{Limits};
 ghost use Rattle.clnp_machine.specs.System.{SystemState};
+ghost use Rattle.clnp_network.specs.Scenario.Scenario.{Subnetwork};
 ghost use Rattle.clnp_network.specs.World.{Copy, Numbered, World};
 ghost use Rattle.clnp_world.specs.Becoming.{GivesAsTold, TellsOnce};
+ghost use Rattle.clnp_world.specs.Changed.{FitsEachPort};
 
 /// Of a copy that is passed it is told to each of its addressees once that it comes, and by which port, or that it is too old, in
 /// the order of the declarations; or that it is for nobody, or lost. No copy is passed twice.
@@ -16,4 +19,11 @@ pub fn what_becomes_of_a_copy_is_told_once()
 pub fn a_giving_is_told_before_what_it_causes()
     ensures { (limits : Limits) (given : Numbered) (w : World) (place : ℕ) (system : SystemState)
         → slice_get w.systems place ≡ Some system → GivesAsTold limits given w place system }
+{}
+
+/// Where the frames of a subnetwork may be of another length, each port on it takes such frames from then on, of whatever
+/// system, and every other port is as it was.
+pub fn each_port_takes_what_its_subnetwork_takes()
+    ensures { (subnets : List Subnetwork) (w : World) (subnet mtu : ℕ) (declared : Subnetwork) → slice_get subnets subnet ≡ Some declared
+        → FitsEachPort subnets w subnet mtu }
 {}

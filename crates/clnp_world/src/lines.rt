@@ -1,12 +1,12 @@
 //! Where the lines of a move go.
 ghost use Rattle.std.specs.Prelude.{◌≡◌, ◌+◌, ◌∷◌, ℕ, List, [], IfNone, IfSome, OnOk};
-ghost use Rattle.clnp_machine.specs.ClnpPlan.Journal.{ForNobody, Injected, Late, Lost, Noted, Received, Transmitted, Void};
+ghost use Rattle.clnp_machine.specs.ClnpPlan.Journal.{ForNobody, Injected, Late, Lost, Noted, Received, Resized, Transmitted, Void};
 ghost use Rattle.clnp_world.specs.Lines.{Gains, IsTooGreat, both, no_lines, tally};
 
 use clnp_machine::clnp_base::NoMemory;
 use clnp_machine::clnp_plan::{
     Note, Telling, injection_text, journal_text, late_text, loss_text, nobody_text, receipt_text,
-    transmission_text, void_text,
+    resize_text, transmission_text, void_text,
 };
 use clnp_machine::nsap::{Snpa, Target};
 use std::alloc::Global;
@@ -183,6 +183,22 @@ impl Lines {
             Form::Written(_) => {
                 injection_text(alloc, now, copy, subnet, sender, target, &mut self.text)
             }
+            Form::Counted => Ok(()),
+        }
+    }
+
+    /// A subnetwork that takes frames of so many octets from now on.
+    pub(crate) fn resizing(
+        &mut self,
+        alloc: Global,
+        now: u64,
+        subnet: &[u8],
+        mtu: u16,
+    ) -> Result<(), NoMemory>
+        ensures { OnOk result (Gains self.old self.new (Resized now subnet.now mtu ∷ [])) }
+    {
+        match self.form {
+            Form::Written(_) => resize_text(alloc, now, subnet, mtu, &mut self.text),
             Form::Counted => Ok(()),
         }
     }

@@ -1,15 +1,17 @@
 //! The network between its moves: systems, and the copies of frames on the subnetworks.
-ghost use Rattle.std.specs.Prelude.{IfOk};
+ghost use Rattle.std.specs.Prelude.{◌≡◌, IfOk, map};
+ghost use Rattle.clnp_network.specs.Scenario.Scenario.{Subnetwork};
 ghost use Rattle.clnp_network.specs.World as network;
 ghost use Rattle.clnp_world.specs.Parts.{Holds};
 ghost use Rattle.clnp_world.specs.Stands.{StandEach};
 
 use crate::copy::FrameCopy;
 use clnp_machine::clnp_base::NoMemory;
-use clnp_network::scenario::Scenario;
+use clnp_network::scenario::{Scenario, Subnet};
 use clnp_systems::System;
 use std::alloc::Global;
 
+mod changing;
 mod coming;
 mod giving;
 mod injecting;
@@ -24,6 +26,8 @@ pub(crate) struct Network {
     /// In ticks of 500 ms.
     pub(crate) clock: u64,
     pub(crate) systems: Vec<System>,
+    /// The most octets that a frame on each subnetwork may have, as it now is.
+    pub(crate) mtus: Vec<u16>,
     pub(crate) copies: Vec<FrameCopy>,
     /// How many of the copies were settled or lost.
     pub(crate) cursor: usize,
@@ -36,10 +40,14 @@ impl Network {
     pub(crate) fn new(alloc: Global, scenario: &Scenario) -> Result<Network, NoMemory>
         ensures { IfOk result (λ code. Holds code (network.first_world scenario.now)) }
     {
+        // Its clause: each subnetwork takes at least 512 octets.
+        scenario.is_fit();
         let systems = systems_of(alloc, scenario)?;
+        let mtus = mtus_of(alloc, scenario.subnets())?;
         Ok(Network {
             clock: 0,
             systems,
+            mtus,
             copies: Vec::new(alloc),
             cursor: 0,
             weight: 0,
@@ -61,4 +69,15 @@ fn systems_of(alloc: Global, scenario: &Scenario) -> Result<Vec<System>, NoMemor
         systems.push(system)?;
     }
     Ok(systems)
+}
+
+/// The most octets that a frame on each subnetwork may have, as it is declared.
+fn mtus_of(alloc: Global, subnets: &[Subnet]) -> Result<Vec<u16>, NoMemory>
+    ensures { IfOk result (λ mtus. mtus.items ≡ map (λ (subnet : Subnetwork). subnet.mtu) subnets.now) }
+{
+    let mut mtus = Vec::new(alloc);
+    for subnet in subnets {
+        mtus.push(subnet.mtu)?;
+    }
+    Ok(mtus)
 }

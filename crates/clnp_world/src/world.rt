@@ -48,8 +48,12 @@ pub struct World {
 
 impl Model for World {
     ghost use Rattle.clnp_world.specs.State.{WorldState};
+    ghost use Rattle.std.specs.Coded.{codes};
+    ghost use Rattle.clnp_systems.specs.contracts.system.System.{the_row as row_of_systems};
 
     ghost Value = { WorldState };
+
+    ghost coded = { Prim.hlevel (codes, row_of_systems.coded) };
 
     ghost use Rattle.clnp_world.specs.Stands.{IsSound};
     ghost use Rattle.clnp_world.specs.Parts.{state_of};

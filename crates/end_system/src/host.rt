@@ -1,22 +1,25 @@
 //! The steps of a host.
-ghost use Rattle.std.specs.Prelude.{◌≡◌, ◌≤◌, ◌<◌, ◌+◌, ◌^◌, ℕ, IfErr, IfOk, OnOk, OnErr, IsErr, MatchResult, None, Some, Err, true, false, length};
+ghost use Rattle.std.specs.Prelude.{◌≡◌, ◌≤◌, ◌<◌, ◌+◌, ◌^◌, ℕ, IfErr, IfOk, OnOk, OnErr, IsErr, MatchResult, None, Some, Err, true, false, length, slice_get, slice_set};
+ghost use Rattle.std.specs.List.{AllByRecursion};
 ghost use Rattle.clnp_machine.specs.ClnpOptions.Grammar.{FitsKind};
 ghost use Rattle.clnp_machine.specs.ClnpOptions.Parameter.{parameters};
 ghost use Rattle.clnp_machine.specs.PduHeader.declared.kind.Kind.TheVariants.{Dt};
 ghost use Rattle.clnp_machine.specs.Reassembly.Buffer.{held};
+ghost use Rattle.clnp_machine.specs.Change.{PortIsAt, PortTakes, ports_taking};
+ghost use Rattle.clnp_machine.specs.ClnpPlan.Configuration.{IsPort};
 ghost use Rattle.clnp_machine.specs.ClnpPlan.declared.ask.SendRefusal.TheVariants.{NoMemory as WantsMemory};
 ghost use Rattle.clnp_machine.specs.ClnpPlan.declared.config.Role.TheVariants.{Host};
 ghost use Rattle.clnp_machine.specs.Content.{Content, IsCarried, frame_of};
 ghost use Rattle.clnp_machine.specs.Given.{Appends};
 ghost use Rattle.clnp_machine.specs.Local.{refusal, request_unit, unit_of};
 ghost use Rattle.clnp_machine.specs.Step.{Hop, next_hop, step};
-ghost use Rattle.clnp_machine.specs.System.{SystemState, AsksForEcho, AsksToSend, FrameComes, IsRestarted, IsCongested, MomentComes, first_state, next_number};
+ghost use Rattle.clnp_machine.specs.System.{SystemState, AsksForEcho, AsksToSend, FrameComes, IsChanged, IsRestarted, IsCongested, MomentComes, first_state, next_number};
 ghost use Rattle.system_entity.specs.LocalEntity.Local.{IsWhy};
 ghost use Rattle.system_entity.specs.Steps.{Carries, IsSpentIn, MayCome, TakesStep, input_with};
 ghost use Rattle.end_system.specs.Stands.{IsLeftBy, Stands};
 
 use clnp_machine::clnp_base::NoMemory;
-use clnp_machine::clnp_plan::{Ask, Limits, Note, Output, SendRefusal, SystemConfig};
+use clnp_machine::clnp_plan::{Ask, Limits, Note, Output, PortConfig, SendRefusal, SystemConfig};
 use clnp_machine::clnp_views::Frame;
 use clnp_machine::esis_tables::Place;
 use clnp_machine::nsap::{Address, Snpa, Target};
@@ -38,9 +41,13 @@ pub struct EndSystem {
 impl Model for EndSystem {
     ghost use Rattle.std.specs.Prelude.{◌≡◌};
     ghost use Rattle.clnp_machine.specs.ClnpPlan.declared.config.Role.TheVariants.{Host};
+    ghost use Rattle.std.specs.Coded.{codes};
+    ghost use Rattle.system_entity.specs.contracts.entity.SystemEntity.{the_row as row_of_entities};
     ghost use Rattle.end_system.specs.State.{HostState};
 
     ghost Value = { HostState };
+
+    ghost coded = { Prim.hlevel (codes, row_of_entities.coded) };
 
     ghost view = { λ h. record { entity = h.entity } };
 
@@ -219,7 +226,7 @@ impl EndSystem {
     }
 
     /// Forgets all that it keeps and heard, and is quiet as long as an identifier rests; the count of its units goes
-    /// on.
+    /// on, and its port stays as it is.
     pub fn restart(&mut self)
         ensures stands { (s : SystemState) → Stands self.old s → Stands self.new (step s IsRestarted).after }
         ensures spent { self.new.entity.spent ≡ self.old.entity.spent }
@@ -238,6 +245,64 @@ impl EndSystem {
         ensures config { self.new.entity.local.configuration ≡ self.old.entity.local.configuration }
     {
         self.entity.congest(on);
+    }
+
+    /// Its one port, which has the number 0.
+    pub fn ports(&self) -> &[PortConfig]
+        ensures ports { result.now ≡ self.now.entity.ports }
+        ensures stands { (s : SystemState) → Stands self.now s → result.now ≡ s.attached.ports }
+        ensures each { AllByRecursion IsPort result.now }
+        ensures one { length result.now ≡ 1 }
+        ensures number { length result.now ≡ length self.now.entity.local.configuration.ports }
+    {
+        // Its clause: a host has one port.
+        self.entity.config().is_system();
+        self.entity.ports()
+    }
+
+    /// Its port is on the subnetwork of this configuration from now on, at its address and with its transit and MTU; the next hello
+    /// is due.
+    pub fn set_port(&mut self, config: PortConfig)
+        requires transit { 1 ≤ config.transit }
+        requires mtu { 512 ≤ config.mtu }
+        ensures stands { (s : SystemState) → Stands self.old s → Stands self.new (step s (IsChanged (PortIsAt 0 config))).after }
+        ensures set { self.new.entity ≡ record self.old.entity {
+          ports = slice_set self.old.entity.ports 0 config;
+          esis = record self.old.entity.esis { next_hello = self.old.entity.moment };
+        } }
+        ensures spent { self.new.entity.spent ≡ self.old.entity.spent }
+        ensures moment { self.new.entity.moment ≡ self.old.entity.moment }
+        ensures congested { self.new.entity.congested ≡ self.old.entity.congested }
+        ensures config { self.new.entity.local.configuration ≡ self.old.entity.local.configuration }
+    {
+        // Its clause: a host has one port.
+        let _ports = self.ports();
+        self.entity.set_port(0, config);
+    }
+
+    /// Its port takes frames of so many octets from now on.
+    pub fn set_mtu(&mut self, mtu: u16)
+        requires { 512 ≤ mtu }
+        ensures stands { (s : SystemState) → Stands self.old s → Stands self.new (step s (IsChanged (PortTakes 0 mtu))).after }
+        ensures set { self.new.entity ≡ record self.old.entity {
+          ports = ports_taking 0 mtu (slice_get self.old.entity.ports 0) self.old.entity.ports;
+        } }
+        ensures spent { self.new.entity.spent ≡ self.old.entity.spent }
+        ensures moment { self.new.entity.moment ≡ self.old.entity.moment }
+        ensures congested { self.new.entity.congested ≡ self.old.entity.congested }
+        ensures config { self.new.entity.local.configuration ≡ self.old.entity.local.configuration }
+    {
+        // Its clause: a host has one port.
+        let _ports = self.ports();
+        self.entity.set_mtu(0, mtu);
+    }
+
+    /// Its moment, in ticks of 500 ms.
+    pub fn moment(&self) -> u64
+        ensures moment { result ≡ self.now.entity.moment }
+        ensures within { result < 2 ^ 62 }
+    {
+        self.entity.moment()
     }
 
     /// How many octets are held for reassembly: of the whole frames in which kept segments came.

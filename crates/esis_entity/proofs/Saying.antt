@@ -22,7 +22,7 @@ one_said moment before mid after s port to h k is =
     subst (λ (list : List machine.Output). Appends moment before after list) (sym (map-range_with_len_more (says s) 0 port port (omega arith)))
     (appends_both moment before mid after (map (says s) (range_with_len 0 port)) (says s port ∷ []) h said)
 
-pub all_said : (moment : ℕ) (before after : List Output) (s : SystemState) (port : ℕ) → port ≡ length s.configuration.ports
+pub all_said : (moment : ℕ) (before after : List Output) (s : SystemState) (port : ℕ) → port ≡ length s.attached.ports
     → Appends moment before after (map (λ port. SendsEsis port (hearers s.configuration.role) (own_hello s)) (range_with_len 0 port))
     → Appends moment before after (hello_everywhere s)
 all_said moment before after s port all h = subst (λ (n : ℕ). Appends moment before after (map (says s) (range_with_len 0 n))) all h

@@ -1,5 +1,5 @@
 //! The configuration entity of a system.
-ghost use Rattle.std.specs.Prelude.{◌≡◌, ◌≤◌, ◌<◌, ◌^◌, ℕ, IfOk, OnOk, OnErr};
+ghost use Rattle.std.specs.Prelude.{◌≡◌, ◌≤◌, ◌<◌, ◌^◌, ℕ, IfOk, OnOk, OnErr, length};
 ghost use Rattle.clnp_machine.specs.ClnpOptions.Parameter.{parameters};
 ghost use Rattle.clnp_machine.specs.EsisPdus.Value.{suggested};
 ghost use Rattle.clnp_machine.specs.EsisPdus.View.{pdu_value};
@@ -127,7 +127,7 @@ impl EsisEntity {
     }
 
     /// A moment has come: what has ended since the last one is forgotten, and the hello that is due is said (sections
-    /// 6.1, 6.2, 6.4 and 6.11).
+    /// 6.1, 6.2, 6.4 and 6.11), on each of so many ports.
     ///
     /// # Errors
     ///
@@ -135,20 +135,21 @@ impl EsisEntity {
     pub fn tick(
         &mut self,
         config: &SystemConfig,
+        ports: u8,
         now: u64,
         out: &mut Vec<Output>,
     ) -> Result<(), NoMemory>
         requires moment { now < 2 ^ 62 }
         ensures stands { OnOk result ((s : SystemState) (before : ℕ) → StandsSince before self.old s
-            → s.configuration ≡ config.now → s.moment ≡ now → before ≤ now
+            → s.configuration ≡ config.now → length s.attached.ports ≡ ports → s.moment ≡ now → before ≤ now
             → Stands self.new (then_does (forgets before s) says_hello).after) }
         ensures outputs { OnOk result ((s : SystemState) (before : ℕ) → StandsSince before self.old s
-            → s.configuration ≡ config.now → s.moment ≡ now → before ≤ now
+            → s.configuration ≡ config.now → length s.attached.ports ≡ ports → s.moment ≡ now → before ≤ now
             → Appends now out.old.items out.new.items (then_does (forgets before s) says_hello).outputs) }
         ensures none { OnErr result (out.new.items ≡ out.old.items) }
     {
         let before = out.len();
-        if let Err(refused) = self.forget_and_say(config, now, out) {
+        if let Err(refused) = self.forget_and_say(config, ports, now, out) {
             out.truncate(before);
             return Err(refused);
         }
@@ -163,6 +164,13 @@ impl EsisEntity {
         self.tables.clear();
         self.period = config.settings().hello;
         self.next_hello = now;
+    }
+
+    /// Its next hello is due from this moment on.
+    pub fn greets_again(&mut self, moment: u64)
+        ensures { self.new ≡ record self.old { next_hello = moment } }
+    {
+        self.next_hello = moment;
     }
 
     /// Where an end system sends what is for an address: the better hop of a redirect, the end system of this address,

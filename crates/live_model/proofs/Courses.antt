@@ -10,7 +10,7 @@ use Rattle.clnp_machine.specs.Step.{step}
 use Rattle.clnp_machine.specs.System.{SystemState, Input, AsksToSend, AsksForEcho, MomentComes}
 use Rattle.scenario.specs.Scenario.{octets_of}
 use Rattle.scenario.specs.declared.event.Event.{Event}
-use Rattle.scenario.specs.declared.event.Event.TheVariants.{Send, Deliver, Settle, Lose, Tick, Restart, Echo, Congest, Inject}
+use Rattle.scenario.specs.declared.event.Event.TheVariants.{Send, Deliver, Settle, Lose, Tick, Restart, Echo, Congest, Inject, Mtu, Route, Unroute, Port}
 use Rattle.live_model.specs.Lines.{NodeLine}
 use Rattle.live_model.specs.Node.{Node, Outcome, Played, Goes, Ends, Strays}
 use Rattle.live_model.specs.Turn.{Due, asked_by, comes_at, due_behind, due_by, takes_turn}
@@ -76,6 +76,10 @@ asked_keeps role (Tick count) s = refl
 asked_keeps role (Restart system) s = refl
 asked_keeps role (Congest system on) s = refl
 asked_keeps role (Inject subnet from to octets) s = refl
+asked_keeps role (Mtu subnet mtu) s = refl
+asked_keeps role (Route system route) s = refl
+asked_keeps role (Unroute system prefix) s = refl
+asked_keeps role (Port system number subnet snpa) s = refl
 
 all_asked_keep : (role : Role) (dues : List Due) (s : SystemState)
     → (state_behind s (flat_map (λ (due : Due). asked_by role due.event) dues)).moment ≡ s.moment
@@ -143,7 +147,7 @@ course_taken (turn ∷ turns) dues node =
     (whole_goes_on (has_any_link other) other turns (due_behind turn.moment dues) (Taken (due_behind turn.moment dues) other turns) (course_taken turns (due_behind turn.moment dues) other))
     (taken_joins turn turns dues node h.used other ls (all_used turn.outcomes h.used left h.whole none) h.holds)))
 
-whole_map : (c : Course) (P Q : Node → List NodeLine → Type 0) → IfWhole c P → ((n : Node) (ms : List NodeLine) → P n ms → Q n ms) → IfWhole c Q
+pub whole_map : (c : Course) (P Q : Node → List NodeLine → Type 0) → IfWhole c P → ((n : Node) (ms : List NodeLine) → P n ms → Q n ms) → IfWhole c Q
 whole_map (Runs n ms) P Q h f = f n ms h
 whole_map (IsOver n ms) P Q h f = f n ms h
 whole_map (Breaks n ms) P Q h f = tt

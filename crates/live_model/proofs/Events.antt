@@ -7,7 +7,7 @@ use Rattle.std.proofs.lemmas.Bool.Decides.{nat_tests}
 use Rattle.clnp_machine.proofs.ClnpBase.Filters.{AllByRecursion-filter}
 use Rattle.clnp_machine.proofs.ClnpBase.Lists.{AllByRecursion-any, AllByRecursion-both, AllByRecursion-implies}
 use Rattle.scenario.specs.declared.event.Event.{Event}
-use Rattle.scenario.specs.declared.event.Event.TheVariants.{Send, Deliver, Settle, Lose, Tick, Restart, Echo, Congest, Inject}
+use Rattle.scenario.specs.declared.event.Event.TheVariants.{Send, Deliver, Settle, Lose, Tick, Restart, Echo, Congest, Inject, Mtu, Route, Unroute, Port}
 use Rattle.live_model.specs.Turn.{Due, due_behind, due_by, dues_from, is_due}
 use Rattle.live_model.specs.Events.{IsFirstDue, IsLaterThan, done_in, waiting_behind}
 
@@ -85,6 +85,13 @@ dues_are (Restart system ∷ events) moment = one_more moment (Restart system) (
 dues_are (Congest system on ∷ events) moment = one_more moment (Congest system on) (dues_from (moment + 0) events) (dues_are events (moment + 0))
 dues_are (Inject subnet from to octets ∷ events) moment =
     one_more moment (Inject subnet from to octets) (dues_from (moment + 0) events) (dues_are events (moment + 0))
+dues_are (Mtu subnet mtu ∷ events) moment = one_more moment (Mtu subnet mtu) (dues_from (moment + 0) events) (dues_are events (moment + 0))
+dues_are (Route system route ∷ events) moment =
+    one_more moment (Route system route) (dues_from (moment + 0) events) (dues_are events (moment + 0))
+dues_are (Unroute system prefix ∷ events) moment =
+    one_more moment (Unroute system prefix) (dues_from (moment + 0) events) (dues_are events (moment + 0))
+dues_are (Port system number subnet snpa ∷ events) moment =
+    one_more moment (Port system number subnet snpa) (dues_from (moment + 0) events) (dues_are events (moment + 0))
 
 -- behind one that isn't due none is
 none_due : (now moment : ℕ) (dues : List Due) → now < moment → IsFrom moment dues → due_by now dues ≡ []

@@ -4,5 +4,6 @@ pub mod Calls
 pub mod Reached
 pub mod Stepping
 pub mod Courses
+pub mod Attachments
 pub mod Events
 mod Worked

@@ -1,7 +1,7 @@
 -- What outcomes say of ports: which are looked at, which are detached, and what their links took.
 use Rattle.std.specs.Prelude.{◌≡◌, ℕ, ◌==◌, Bool, true, false, List, [], ◌∷◌, ◌++◌, filter, map, slice_get, slice_set, ◌⊎◌}
 use Rattle.std.specs.List.{AllByRecursion, flat_map}
-use Rattle.clnp_machine.specs.ClnpPlan.Journal.{Line, Noted, Transmitted, Void, Late, Injected, Received, Lost, ForNobody}
+use Rattle.clnp_machine.specs.ClnpPlan.Journal.{Line, Noted, Transmitted, Void, Late, Injected, Resized, Received, Lost, ForNobody}
 use Rattle.live_model.specs.Lines.{NodeLine, Says, LinkGone}
 use Rattle.live_model.specs.Node.{Outcome, Saw, LookFailed, Took, SendFailed, Sending, is_on, ports_of}
 use Rattle.live_model.specs.Course.{Turn}
@@ -145,6 +145,7 @@ sent_of (Transmitted now name copy port target frame) = record { port = port; fr
 sent_of (Void now name copy) = []
 sent_of (Late now name copy) = []
 sent_of (Injected now copy subnet sender target) = []
+sent_of (Resized now subnet mtu) = []
 sent_of (Received now name copy port) = []
 sent_of (Lost now copy) = []
 sent_of (ForNobody now copy) = []

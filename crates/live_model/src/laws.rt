@@ -1,6 +1,7 @@
 //! Laws of a live node's runs: each holds for every transcript, and its function does nothing.
 ghost use Rattle.std.specs.Prelude.{◌≡◌, ◌++◌, ◌∷◌, ◌+◌, ◌<◌, ◌≤◌, ℕ, Bool, List, [], None, Some, false};
 ghost use Rattle.std.specs.List.{AllByRecursion};
+ghost use Rattle.clnp_machine.specs.Attachment.{as_declared};
 ghost use Rattle.clnp_machine.specs.ClnpPlan.Configuration.{SystemConfiguration};
 ghost use Rattle.clnp_machine.specs.ClnpPlan.declared.config.Limits.{Limits};
 ghost use Rattle.clnp_machine.specs.Identifiers.{IsQuiet, not_drawn};
@@ -101,6 +102,14 @@ pub fn what_is_written_is_the_machines()
         (λ last lines. TakesSteps node last (inputs_of node.system.configuration.role dues node.polled turns) lines) }
     ensures moment { (dues : List Due) (node : Node) (turns : List Turn) → IfWhole (course dues node turns)
         (λ last lines. last.system.moment ≡ last_moment node.system.moment (moments_of turns)) }
+{}
+
+/// Whatever comes to a node's system, its ports and routes are for ever those that the scenario declares.
+pub fn a_node_is_attached_as_declared()
+    ensures first { (limits : Limits) (system : SystemConfiguration) (start : ℕ) (attached : List Bool)
+        → (first_node limits system start attached).system.attached ≡ as_declared system }
+    ensures stays { (dues : List Due) (node : Node) (turns : List Turn) → IfWhole (course dues node turns)
+        (λ last lines. last.system.attached ≡ node.system.attached) }
 {}
 
 /// Events are done in the order in which they stand, each once: those that were done in turns at some moments, and then those

@@ -7,7 +7,7 @@ use Rattle.clnp_machine.specs.ClnpPlan.declared.config.Role.{Role}
 use Rattle.clnp_machine.specs.System.{Input}
 use Rattle.scenario.specs.Scenario.{ticks_of}
 use Rattle.scenario.specs.declared.event.Event.{Event}
-use Rattle.scenario.specs.declared.event.Event.TheVariants.{Send, Deliver, Settle, Lose, Tick, Restart, Echo, Congest, Inject}
+use Rattle.scenario.specs.declared.event.Event.TheVariants.{Send, Deliver, Settle, Lose, Tick, Restart, Echo, Congest, Inject, Mtu, Route, Unroute, Port}
 use Rattle.live_model.specs.Turn.{Due, asked_by, due_behind, due_by, due_of, dues_from, is_due}
 use Rattle.live_node.specs.Agenda.{asks_by, dues_of}
 use Rattle.live_node.specs.declared.agenda.Agenda.{Agenda}
@@ -31,6 +31,10 @@ waited_or_due moment (Restart system) = inr refl
 waited_or_due moment (Echo system from to body) = inr refl
 waited_or_due moment (Congest system on) = inr refl
 waited_or_due moment (Inject subnet from to octets) = inr refl
+waited_or_due moment (Mtu subnet mtu) = inr refl
+waited_or_due moment (Route system route) = inr refl
+waited_or_due moment (Unroute system prefix) = inr refl
+waited_or_due moment (Port system number subnet snpa) = inr refl
 
 passes : {X : Type 0} (test : X → Bool) (x : X) → test x ≡ true → filter test (x ∷ []) ≡ x ∷ []
 passes test x e = rw e refl

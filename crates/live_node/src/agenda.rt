@@ -48,6 +48,10 @@ fn ticks_of(event: &Event) -> u32
         | Event::Restart { .. }
         | Event::Echo { .. }
         | Event::Congest { .. }
-        | Event::Inject { .. } => 0,
+        | Event::Inject { .. }
+        | Event::Mtu { .. }
+        | Event::Route { .. }
+        | Event::Unroute { .. }
+        | Event::Port { .. } => 0,
     }
 }

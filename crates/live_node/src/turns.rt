@@ -170,6 +170,10 @@ impl LiveNode {
             Event::Restart { .. } => Ok(()),
             Event::Congest { .. } => Ok(()),
             Event::Inject { .. } => Ok(()),
+            Event::Mtu { .. } => Ok(()),
+            Event::Route { .. } => Ok(()),
+            Event::Unroute { .. } => Ok(()),
+            Event::Port { .. } => Ok(()),
         }
     }
 

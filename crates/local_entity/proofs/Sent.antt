@@ -15,7 +15,6 @@ use Rattle.clnp_machine.specs.Segmenter.declared.cuts.NotPermitted.{NotPermitted
 use Rattle.clnp_machine.specs.Segmenter.Cut as segmenter
 use Rattle.clnp_machine.specs.Segmenter.Cut.{Piece, given}
 use Rattle.clnp_machine.proofs.ClnpBase.Lists.{part_of_part}
-use Rattle.clnp_machine.specs.ClnpPlan.Configuration.{SystemConfiguration}
 use Rattle.clnp_machine.specs.ClnpPlan.declared.config.PortConfig.{PortConfig}
 use Rattle.clnp_machine.specs.ClnpPlan.declared.note.Note.TheVariants.{Discard}
 use Rattle.clnp_machine.specs.ClnpPlan.declared.output.Output.{Output}
@@ -45,9 +44,9 @@ piece_octets p piece packet body forwarded hop this shown whole =
     ap (λ (b : List ℕ). header piece.value ++ b) octets ∙ ap (λ (v : PduValue). spelling v) (sym this.value)
 
 piece_is_sent : (p : Packet) (piece : Piece) (packet : Packet) (body : Extent) (moment : ℕ) (hop : Hop) → IsThis p piece packet
-    → seen body ≡ (value_of p).body → length (seen body) ≡ body.len → p.unit.made ≡ moment
+    → seen body ≡ (value_of p).body → length (seen body) ≡ body.len → p.unit.made ≡ moment → p.hops ≡ 0
     → IsSentFor moment (piece_frame false hop body (given piece)) hop.port hop.target packet
-piece_is_sent p piece packet body moment hop this shown whole made =
+piece_is_sent p piece packet body moment hop this shown whole made none =
     record {
       port_is = refl;
       target_is = refl;
@@ -55,16 +54,19 @@ piece_is_sent p piece packet body moment hop this shown whole made =
       first = refl;
       carriable = this.carriable;
       made = ap (λ (u : DataUnit). u.made) this.unit_is ∙ made;
+      hops = this.hops_is ∙ none;
     }
 
 pieces_are_sent : (p : Packet) (pieces : List Piece) (packets : List Packet) (body : Extent) (moment : ℕ) (hop : Hop) → AreThese p pieces packets
-    → seen body ≡ (value_of p).body → length (seen body) ≡ body.len → p.unit.made ≡ moment
+    → seen body ≡ (value_of p).body → length (seen body) ≡ body.len → p.unit.made ≡ moment → p.hops ≡ 0
     → GiveAll moment (map (transmission false hop body) (map given pieces)) (map (λ packet. Transmits hop.port hop.target packet) packets)
-pieces_are_sent p [] [] body moment hop these shown whole made = tt
-pieces_are_sent p (piece ∷ others) (packet ∷ packets) body moment hop these shown whole made =
-    (piece_is_sent p piece packet body moment hop these.0 shown whole made, pieces_are_sent p others packets body moment hop these.1 shown whole made)
-pieces_are_sent p [] (packet ∷ packets) body moment hop these shown whole made = absurd these
-pieces_are_sent p (piece ∷ others) [] body moment hop these shown whole made = absurd these
+pieces_are_sent p [] [] body moment hop these shown whole made none = tt
+pieces_are_sent p (piece ∷ others) (packet ∷ packets) body moment hop these shown whole made none = (
+  piece_is_sent p piece packet body moment hop these.0 shown whole made none,
+  pieces_are_sent p others packets body moment hop these.1 shown whole made none,
+)
+pieces_are_sent p [] (packet ∷ packets) body moment hop these shown whole made none = absurd these
+pieces_are_sent p (piece ∷ others) [] body moment hop these shown whole made none = absurd these
 
 -- what the code's cutting answers, where these are the pieces of the PDU
 abbrev pub IsAnswer : ℕ → Option (List Piece) → Result (List Cut) NotPermitted → Type 0
@@ -72,15 +74,15 @@ IsAnswer octets pieces result = MatchOption pieces (result ≡ Err (record { oct
 
 cuts_are_sent : (p : Packet) (pieces : Option (List Piece)) (packets : Option (List Packet)) (body : Extent) (moment : ℕ) (hop : Hop) (octets : ℕ)
     (result : Result (List Cut) NotPermitted) (cuts : List Cut) → AreBoth p pieces packets → IsAnswer octets pieces result → result ≡ Ok cuts
-    → seen body ≡ (value_of p).body → length (seen body) ≡ body.len → p.unit.made ≡ moment
+    → seen body ≡ (value_of p).body → length (seen body) ≡ body.len → p.unit.made ≡ moment → p.hops ≡ 0
     → GiveAll moment (map (transmission false hop body) cuts) (transmissions (machine_hop hop) packets)
-cuts_are_sent p None None body moment hop octets result cuts both answer ok shown whole made = absurd (cc)
-cuts_are_sent p (Some pieces) (Some packets) body moment hop octets result cuts both answer ok shown whole made =
+cuts_are_sent p None None body moment hop octets result cuts both answer ok shown whole made none = absurd (cc)
+cuts_are_sent p (Some pieces) (Some packets) body moment hop octets result cuts both answer ok shown whole made none =
     let same : map given pieces ≡ cuts = cc in
     subst (λ (cs : List Cut). GiveAll moment (map (transmission false hop body) cs) (transmissions (machine_hop hop) (Some packets))) same
-    (pieces_are_sent p pieces packets body moment hop both shown whole made)
-cuts_are_sent p None (Some packets) body moment hop octets result cuts both answer ok shown whole made = absurd both
-cuts_are_sent p (Some pieces) None body moment hop octets result cuts both answer ok shown whole made = absurd both
+    (pieces_are_sent p pieces packets body moment hop both shown whole made none)
+cuts_are_sent p None (Some packets) body moment hop octets result cuts both answer ok shown whole made none = absurd both
+cuts_are_sent p (Some pieces) None body moment hop octets result cuts both answer ok shown whole made none = absurd both
 
 none_is_sent : (p : Packet) (pieces : Option (List Piece)) (packets : Option (List Packet)) (moment : ℕ) (hop : Hop) (octets : ℕ)
     (result : Result (List Cut) NotPermitted) (refused : NotPermitted) → AreBoth p pieces packets → IsAnswer octets pieces result → result ≡ Err refused
@@ -126,7 +128,7 @@ unit_is_sent u hop port head body len result cuts before after made e say ok lea
       appended = written;
       give_all = cuts_are_sent p (segmenter.cut (value_of p) port.mtu) (cut p port.mtu) body u.made hop (segment_length (value_of p)) result cuts
           (cut_both p port.mtu h least) (say (value_of p) made.spells (unit_length u body made.shown len e)) ok
-          (made.shown ∙ sym (whole_body u)) made.whole refl;
+          (made.shown ∙ sym (whole_body u)) made.whole refl refl;
     }
 
 -- a unit that may not be cut is discarded
@@ -162,19 +164,19 @@ port_missing ports i j same beyond =
     ])
 
 -- by a port that is there
-pub sent_by : (s : SystemState) (u : DataUnit) (hop : Hop) (way : Option Hop) (configuration : SystemConfiguration) (port : PortConfig)
-    → configuration ≡ s.configuration → way ≡ Some hop → slice_get configuration.ports hop.port ≡ Some port
+pub sent_by : (s : SystemState) (u : DataUnit) (hop : Hop) (way : Option Hop) (ports : List PortConfig) (port : PortConfig)
+    → ports ≡ s.attached.ports → way ≡ Some hop → slice_get ports hop.port ≡ Some port
     → sent_on (machine_hop hop) (Some port) u ≡ first_sent s u (hop_option way)
-sent_by s u hop way configuration port same is at =
+sent_by s u hop way ports port same is at =
     ap (λ (o : Option PortConfig). sent_on (machine_hop hop) o u) (sym at)
-    ∙ ap (λ (c : SystemConfiguration). sent_on (machine_hop hop) (slice_get c.ports hop.port) u) same
+    ∙ ap (λ (ps : List PortConfig). sent_on (machine_hop hop) (slice_get ps hop.port) u) same
     ∙ ap (λ (o : Option Hop). first_sent s u (hop_option o)) (sym is)
 
 -- by one that isn't
-pub sent_by_none : (s : SystemState) (u : DataUnit) (hop : Hop) (way : Option Hop) (configuration : SystemConfiguration)
-    → configuration ≡ s.configuration → way ≡ Some hop → slice_get configuration.ports hop.port ≡ None
+pub sent_by_none : (s : SystemState) (u : DataUnit) (hop : Hop) (way : Option Hop) (ports : List PortConfig)
+    → ports ≡ s.attached.ports → way ≡ Some hop → slice_get ports hop.port ≡ None
     → no_way ≡ first_sent s u (hop_option way)
-sent_by_none s u hop way configuration same is at =
+sent_by_none s u hop way ports same is at =
     ap (λ (o : Option PortConfig). sent_on (machine_hop hop) o u) (sym at)
-    ∙ ap (λ (c : SystemConfiguration). sent_on (machine_hop hop) (slice_get c.ports hop.port) u) same
+    ∙ ap (λ (ps : List PortConfig). sent_on (machine_hop hop) (slice_get ps hop.port) u) same
     ∙ ap (λ (o : Option Hop). first_sent s u (hop_option o)) (sym is)

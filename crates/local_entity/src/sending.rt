@@ -8,6 +8,7 @@ ghost use Rattle.clnp_machine.specs.Step.{first_sent, sent_on};
 ghost use Rattle.clnp_machine.specs.System.{SystemState};
 ghost use Rattle.clnp_machine.specs.Unit.{Unit};
 ghost use Rattle.clnp_machine.specs.ClnpOptions.Reasons.{reason_code};
+ghost use Rattle.clnp_machine.specs.ClnpPlan.Configuration.{IsPort};
 ghost use Rattle.clnp_machine.specs.ClnpPlan.declared.note.Note.TheVariants.{Discard};
 ghost use Rattle.clnp_machine.specs.ClnpPlan.declared.output.Output.TheVariants.{Transmit, Note as Noted};
 ghost use Rattle.clnp_machine.specs.Segmenter.Left.{IsCutOf};
@@ -18,7 +19,7 @@ ghost use Rattle.local_entity.specs.Sending.{hop_option, machine_hop, transmissi
 use crate::action::Made;
 use clnp_machine::clnp_base::NoMemory;
 use clnp_machine::clnp_options::Reason;
-use clnp_machine::clnp_plan::{Note, Output, PortConfig, Sending, SystemConfig};
+use clnp_machine::clnp_plan::{Note, Output, PortConfig, Sending};
 use clnp_machine::clnp_views::View;
 use clnp_machine::nsap::Target;
 use clnp_machine::segmenter::{Cut, Cuts, NotPermitted};
@@ -30,7 +31,8 @@ pub struct Hop {
     pub target: Target,
 }
 
-/// Sends a unit in pieces to where it goes next, or notes that it may not be cut, or that there is no way for it.
+/// Sends a unit in pieces to where it goes next, by one of these ports, or notes that it may not be cut, or that there is no way
+/// for it.
 ///
 /// # Errors
 ///
@@ -38,20 +40,19 @@ pub struct Hop {
 pub fn send_unit(
     made: &Made,
     hop: Option<Hop>,
-    config: &SystemConfig,
+    ports: &[PortConfig],
     out: &mut Vec<Output>,
 ) -> Result<(), NoMemory>
-    requires { (u : Unit) × Does (Send made.now) (Sends u) }
-    ensures sent { OnOk result ((s : SystemState) (u : Unit) → config.now ≡ s.configuration → Does (Send made.now) (Sends u)
+    requires made { (u : Unit) × Does (Send made.now) (Sends u) }
+    requires ports { AllByRecursion IsPort ports.now }
+    ensures sent { OnOk result ((s : SystemState) (u : Unit) → ports.now ≡ s.attached.ports → Does (Send made.now) (Sends u)
         → u.first_position ≡ 0 → Appends u.made out.old.items out.new.items (first_sent s u (hop_option hop))) }
     ensures none { OnErr result (out.new.items ≡ out.old.items) }
 {
     let Some(hop) = hop else {
         return note(Reason::DestinationUnknown, out);
     };
-    // Its clause: each port takes 512 octets at least.
-    config.is_system();
-    let Some(port) = config.ports().get(usize::from(hop.port)) else {
+    let Some(port) = ports.get(usize::from(hop.port)) else {
         return note(Reason::DestinationUnknown, out);
     };
     send_on(made, hop, port, out)

@@ -15,7 +15,7 @@ use Rattle.clnp_machine.specs.Segmenter.declared.cuts.Cut.{Cut}
 use Rattle.clnp_machine.specs.Segmenter.declared.cuts.NotPermitted.{NotPermitted}
 use Rattle.clnp_machine.specs.Segmenter.Cut as segmenter
 use Rattle.clnp_machine.specs.Segmenter.Cut.{Piece, given}
-use Rattle.clnp_machine.specs.ClnpPlan.Configuration.{IsPort, SystemConfiguration}
+use Rattle.clnp_machine.specs.ClnpPlan.Configuration.{IsPort}
 use Rattle.clnp_machine.specs.ClnpPlan.declared.config.PortConfig.{PortConfig}
 use Rattle.clnp_machine.specs.Content.{Labelled}
 use Rattle.clnp_machine.specs.Given.{GiveAllFor, IsSentOnFor}
@@ -80,7 +80,7 @@ module _ (s : SystemState) (came : Place) (p : Packet) (following : List ℕ) (o
     abbrev by_test : Bool → Effect
     by_test off =
         if off then discards s p following (reason_code PathNotAcceptable)
-        else goes_on_by s came p following options (machine_way way) (slice_get s.configuration.ports way.port)
+        else goes_on_by s came p following options (machine_way way) (slice_get s.attached.ports way.port)
 
     by_way : by_test (is_complete options && not (ends_at whither way.title)) ≡ goes_on_with s came p following options
     by_way = ap (λ (o : Option Way). on_its_way (way_option o)) (sym some) ∙ way_is found is
@@ -94,12 +94,12 @@ module _ (s : SystemState) (came : Place) (p : Packet) (following : List ℕ) (o
       by_another off = sym by_way ∙ ap by_test (sym tested ∙ off)
 
       -- it is by this port, if it is there
-      pub by_its_port : (configuration : SystemConfiguration) (port : Option PortConfig) → barred ≡ false → configuration ≡ s.configuration
-          → slice_get configuration.ports way.port ≡ port
+      pub by_its_port : (ports : List PortConfig) (port : Option PortConfig) → barred ≡ false → ports ≡ s.attached.ports
+          → slice_get ports way.port ≡ port
           → goes_on_by s came p following options (machine_way way) port ≡ goes_on_with s came p following options
-      by_its_port configuration port on same at =
+      by_its_port ports port on same at =
           ap (λ (o : Option PortConfig). goes_on_by s came p following options (machine_way way) o) (sym at)
-          ∙ ap (λ (c : SystemConfiguration). goes_on_by s came p following options (machine_way way) (slice_get c.ports way.port)) same
+          ∙ ap (λ (ps : List PortConfig). goes_on_by s came p following options (machine_way way) (slice_get ps way.port)) same
           ∙ ap by_test (sym on ∙ tested) ∙ by_way
 
 -- the hop of the code is that of the way

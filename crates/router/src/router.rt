@@ -1,18 +1,21 @@
 //! The steps of a router.
-ghost use Rattle.std.specs.Prelude.{◌≡◌, ◌≤◌, ◌<◌, ◌+◌, ◌++◌, ◌^◌, ℕ, IfErr, IfOk, List, OnOk, OnErr, IsErr, MatchResult, None, Some, Err, true, is_none, is_some, length};
-ghost use Rattle.std.specs.List.{AllByRecursion};
+ghost use Rattle.std.specs.Prelude.{◌≡◌, ◌≤◌, ◌<◌, ◌+◌, ◌++◌, ◌^◌, ℕ, IfErr, IfOk, List, OnOk, OnErr, IsErr, MatchResult, None, Some, Err, true, is_none, is_some, length, slice_get, slice_set};
+ghost use Rattle.std.specs.List.{AllByRecursion, list_any};
 ghost use Rattle.clnp_machine.specs.Reassembly.Buffer.{held};
+ghost use Rattle.clnp_machine.specs.Change.{PortIsAt, PortTakes, RouteIsGone, RouteIsSet, ports_taking};
+ghost use Rattle.clnp_machine.specs.ClnpPlan.Configuration.{IsPort, IsWithin};
 ghost use Rattle.clnp_machine.specs.ClnpPlan.declared.ask.SendRefusal.TheVariants.{NoMemory as WantsMemory};
 ghost use Rattle.clnp_machine.specs.ClnpPlan.declared.config.Role.TheVariants.{Router as IsRouter};
 ghost use Rattle.clnp_machine.specs.Content.{Content, IsCarried, Labelled, frame_of};
 ghost use Rattle.clnp_machine.specs.Given.{Appends, AppendsFor};
+ghost use Rattle.clnp_machine.specs.Forwarding.Distinct.{has_prefix};
 ghost use Rattle.clnp_machine.specs.Local.{refusal, request_unit};
 ghost use Rattle.clnp_machine.specs.Esis.{title_of};
 ghost use Rattle.clnp_machine.specs.Step.{goes_on, goes_on_with, is_redirected, options_behind, redirects, step, way_of};
 ghost use Rattle.clnp_machine.specs.ClnpOptions.Edits.{target_of};
 ghost use Rattle.clnp_machine.specs.ClnpOptions.Parameter.{Parameter};
 ghost use Rattle.clnp_machine.specs.PduHeader.Headers.{SpellsHeader, with_options};
-ghost use Rattle.clnp_machine.specs.System.{SystemState, AsksForEcho, FrameComes, IsRestarted, IsCongested, MomentComes, first_state, next_number};
+ghost use Rattle.clnp_machine.specs.System.{SystemState, AsksForEcho, FrameComes, IsChanged, IsRestarted, IsCongested, MomentComes, first_state, next_number};
 ghost use Rattle.clnp_machine.specs.Unit.{IsCarriable, Packet, value_of, wire};
 ghost use Rattle.clnp_machine.specs.PduHeader.Value.{PduValue};
 ghost use Rattle.clnp_machine.specs.Segmenter.Left.{IsCutOf};
@@ -28,11 +31,12 @@ use crate::passage::{behind, is_barred, is_off_route, no_way, towards};
 use crate::redirecting::{is_at, may_be_redirected};
 use clnp_machine::clnp_base::NoMemory;
 use clnp_machine::clnp_options::Reason;
-use clnp_machine::clnp_plan::{Limits, Output, SendRefusal, SystemConfig};
+use clnp_machine::clnp_plan::{Limits, Output, PortConfig, SendRefusal, SystemConfig};
 use clnp_machine::clnp_views::Frame;
 use clnp_machine::esis_tables::Place;
+use clnp_machine::forwarding::Route;
 use clnp_machine::laws;
-use clnp_machine::nsap::{Address, Snpa};
+use clnp_machine::nsap::{Address, Prefix, Snpa};
 use clnp_machine::pdu_header::Header;
 use std::alloc::Global;
 use std::marker::Model;
@@ -51,9 +55,13 @@ pub struct Router {
 impl Model for Router {
     ghost use Rattle.std.specs.Prelude.{◌≡◌};
     ghost use Rattle.clnp_machine.specs.ClnpPlan.declared.config.Role.TheVariants.{Router as IsRouter};
+    ghost use Rattle.std.specs.Coded.{codes};
+    ghost use Rattle.system_entity.specs.contracts.entity.SystemEntity.{the_row as row_of_entities};
     ghost use Rattle.router.specs.State.{RouterState};
 
     ghost Value = { RouterState };
+
+    ghost coded = { Prim.hlevel (codes, row_of_entities.coded) };
 
     ghost view = { λ h. record { entity = h.entity } };
 
@@ -279,10 +287,7 @@ impl Router {
         if is_barred(&head, &way, &to) {
             return Err(Reason::PathNotAcceptable);
         }
-        let config = self.entity.config();
-        // Its clause: each port takes 512 octets at least.
-        config.is_system();
-        let Some(port) = config.ports().get(usize::from(way.port)) else {
+        let Some(port) = self.entity.ports().get(usize::from(way.port)) else {
             return Err(Reason::DestinationUnknown);
         };
         by_port(passing, head, way, port)
@@ -341,7 +346,7 @@ impl Router {
     }
 
     /// Forgets all that it keeps and heard, and is quiet as long as an identifier rests; the count of its units goes
-    /// on.
+    /// on, and its ports and its routes stay.
     pub fn restart(&mut self)
         ensures stands { (s : SystemState) → Stands self.old s → Stands self.new (step s IsRestarted).after }
         ensures spent { self.new.entity.spent ≡ self.old.entity.spent }
@@ -360,6 +365,91 @@ impl Router {
         ensures config { self.new.entity.local.configuration ≡ self.old.entity.local.configuration }
     {
         self.entity.congest(on);
+    }
+
+    /// Its ports, by their numbers from 0: as many as were declared.
+    pub fn ports(&self) -> &[PortConfig]
+        ensures ports { result.now ≡ self.now.entity.ports }
+        ensures stands { (s : SystemState) → Stands self.now s → result.now ≡ s.attached.ports }
+        ensures each { AllByRecursion IsPort result.now }
+        ensures few { IsWithin 1 8 (length result.now) }
+        ensures number { length result.now ≡ length self.now.entity.local.configuration.ports }
+    {
+        self.entity.ports()
+    }
+
+    /// A port is on the subnetwork of this configuration from now on, at its address and with its transit and MTU; the next hello is
+    /// due.
+    pub fn set_port(&mut self, port: u8, config: PortConfig)
+        requires there { port < length self.old.entity.ports }
+        requires transit { 1 ≤ config.transit }
+        requires mtu { 512 ≤ config.mtu }
+        ensures stands { (s : SystemState) → Stands self.old s → Stands self.new (step s (IsChanged (PortIsAt port config))).after }
+        ensures set { self.new.entity ≡ record self.old.entity {
+          ports = slice_set self.old.entity.ports port config;
+          esis = record self.old.entity.esis { next_hello = self.old.entity.moment };
+        } }
+        ensures spent { self.new.entity.spent ≡ self.old.entity.spent }
+        ensures moment { self.new.entity.moment ≡ self.old.entity.moment }
+        ensures congested { self.new.entity.congested ≡ self.old.entity.congested }
+        ensures config { self.new.entity.local.configuration ≡ self.old.entity.local.configuration }
+    {
+        self.entity.set_port(port, config);
+    }
+
+    /// A port takes frames of so many octets from now on.
+    pub fn set_mtu(&mut self, port: u8, mtu: u16)
+        requires there { port < length self.old.entity.ports }
+        requires mtu { 512 ≤ mtu }
+        ensures stands { (s : SystemState) → Stands self.old s → Stands self.new (step s (IsChanged (PortTakes port mtu))).after }
+        ensures set { self.new.entity ≡ record self.old.entity {
+          ports = ports_taking port mtu (slice_get self.old.entity.ports port) self.old.entity.ports;
+        } }
+        ensures spent { self.new.entity.spent ≡ self.old.entity.spent }
+        ensures moment { self.new.entity.moment ≡ self.old.entity.moment }
+        ensures congested { self.new.entity.congested ≡ self.old.entity.congested }
+        ensures config { self.new.entity.local.configuration ≡ self.old.entity.local.configuration }
+    {
+        self.entity.set_mtu(port, mtu);
+    }
+
+    /// The route of a prefix is this one from now on, in the place of the one that there was, if any.
+    ///
+    /// # Errors
+    ///
+    /// `NoMemory`: it stands for what it stood for, and isn't spent by it.
+    pub fn set_route(&mut self, alloc: Global, route: Route) -> Result<(), NoMemory>
+        requires there { route.port < length self.old.entity.ports }
+        ensures stands { OnOk result ((s : SystemState) → Stands self.old s → Stands self.new (step s (IsChanged (RouteIsSet route))).after) }
+        ensures same { OnErr result ((s : SystemState) → Stands self.old s → Stands self.new s) }
+        ensures rest { self.new.entity ≡ record self.old.entity { routes = self.new.entity.routes } }
+        ensures spent { self.new.entity.spent ≡ self.old.entity.spent }
+        ensures moment { self.new.entity.moment ≡ self.old.entity.moment }
+        ensures congested { self.new.entity.congested ≡ self.old.entity.congested }
+        ensures config { self.new.entity.local.configuration ≡ self.old.entity.local.configuration }
+    {
+        self.entity.set_route(alloc, route)
+    }
+
+    /// The route of a prefix is gone from now on. Tells whether there was one.
+    pub fn remove_route(&mut self, prefix: &Prefix) -> bool
+        ensures there { (s : SystemState) → Stands self.old s → result ≡ list_any (has_prefix prefix.now) s.attached.routes }
+        ensures stands { (s : SystemState) → Stands self.old s → Stands self.new (step s (IsChanged (RouteIsGone prefix.now))).after }
+        ensures rest { self.new.entity ≡ record self.old.entity { routes = self.new.entity.routes } }
+        ensures spent { self.new.entity.spent ≡ self.old.entity.spent }
+        ensures moment { self.new.entity.moment ≡ self.old.entity.moment }
+        ensures congested { self.new.entity.congested ≡ self.old.entity.congested }
+        ensures config { self.new.entity.local.configuration ≡ self.old.entity.local.configuration }
+    {
+        self.entity.remove_route(prefix)
+    }
+
+    /// Its moment, in ticks of 500 ms.
+    pub fn moment(&self) -> u64
+        ensures moment { result ≡ self.now.entity.moment }
+        ensures within { result < 2 ^ 62 }
+    {
+        self.entity.moment()
     }
 
     /// How many octets are held for reassembly: of the whole frames in which kept segments came.

@@ -10,10 +10,11 @@ use Rattle.clnp_plan.specs.ClnpBase.Text.{lines_of, words_of}
 use Rattle.clnp_plan.proofs.ClnpBase.Lists.{AllByRecursion-implies}
 use Rattle.clnp_plan.specs.Configuration.{SystemConfiguration, IsSystem, IsWithin}
 use Rattle.clnp_plan.specs.declared.config.Limits.{Limits}
-use Rattle.scenario.specs.Scenario.{Plan, Subnetwork, IsFit, AsksFairly, AsksInForm, InjectsInForm, IsPlaced, IsFromHost, IsOfRouter, IsSaid, passed_by, ticks_of}
+use Rattle.scenario.specs.Scenario.{Plan, Subnetwork, IsFit, AsksFairly, AsksInForm, ChangesInForm, InjectsInForm, IsOfVersion1, IsPlaced, IsFromHost, IsOfRouter, IsSaid, passed_by, ticks_of}
+use Rattle.scenario.specs.Standing.{EachMayCome}
 use Rattle.scenario.specs.Words.{found, is_skipped}
 use Rattle.scenario.specs.Declarations.{Declarations, DeclaredSystem, nothing_declared, limits_of, snpas_on, configuration_of}
-use Rattle.scenario.specs.Events.{Scene, scene_of, event_line, counted, are_few, nothing_counted}
+use Rattle.scenario.specs.Events.{Scene, first_scene, scene_after, event_line, counted, are_few, nothing_counted}
 use Rattle.scenario.specs.Grammar.{ReadTo, is_line_of, version_of, header_from, declarations_from, nothing_after, counted_event, event_for, events_from, fit_for, plan_at}
 use Rattle.scenario.specs.declared.counts.Counts.{Counts}
 use Rattle.scenario.specs.declared.event.Event.{Event}
@@ -22,6 +23,7 @@ use Rattle.scenario.specs.declared.code.Code.TheVariants as bad
 use Rattle.scenario.proofs.Behind.{behind_result, behind_wanted, behind_such, behind_line_such, either_way, is_within}
 use Rattle.scenario.proofs.Apart.{addresses_of, distinct_of, configuration_addresses}
 use Rattle.scenario.proofs.Asks.{event_fair}
+use Rattle.scenario.proofs.Changes.{IsChange, event_changes}
 use Rattle.scenario.proofs.Forms.{Laws, event_formed}
 use Rattle.scenario.proofs.Addresses.{ReadAddressed, configured_addresses, configured_prefixes, declared_addresses}
 use Rattle.scenario.proofs.Outside.{event_injected, words_stand}
@@ -51,6 +53,7 @@ record IsCounted (scene : Scene) (counts : Counts) (event : Event) : Type 0 wher
   pub placed : AreAmong scene.names event
   pub injected : InjectsInForm (length scene.subnets) event
   pub said : IsSaid event
+  pub change : IsChange scene event
 
 both : {A E : Type 0} (r : Result A E) (P Q : A → Type 0) → IfOk r P → IfOk r Q → IfOk r (λ x. P x × Q x)
 both (Ok x) P Q p q = (p, q)
@@ -61,14 +64,18 @@ event_fit : Laws → (scene : Scene) → AllByRecursion IsSystem scene.systems �
 unfolding counted_event
 event_fit laws scene are counts line =
     let words : List (List ℕ) = words_of line in
-    behind_such (event_line scene words) _ (λ event. IsSaid event × (AsksFairly event × (AsksInForm event × (AreAmong scene.names event × InjectsInForm (length scene.subnets) event)))) (IsCounted scene counts)
+    behind_such (event_line scene words) _
+    (λ event. IsChange scene event × (IsSaid event × (AsksFairly event × (AsksInForm event × (AreAmong scene.names event × InjectsInForm (length scene.subnets) event)))))
+    (IsCounted scene counts)
+    (both (event_line scene words) (IsChange scene)
+    (λ event. IsSaid event × (AsksFairly event × (AsksInForm event × (AreAmong scene.names event × InjectsInForm (length scene.subnets) event)))) (event_changes laws scene words)
     (both (event_line scene words) IsSaid (λ event. AsksFairly event × (AsksInForm event × (AreAmong scene.names event × InjectsInForm (length scene.subnets) event))) (event_said scene words are)
     (both (event_line scene words) AsksFairly (λ event. AsksInForm event × (AreAmong scene.names event × InjectsInForm (length scene.subnets) event)) (event_fair laws.options scene words)
     (both (event_line scene words) AsksInForm (λ event. AreAmong scene.names event × InjectsInForm (length scene.subnets) event) (event_formed laws scene words are)
     (both (event_line scene words) (AreAmong scene.names) (InjectsInForm (length scene.subnets)) (event_placed scene words)
-    (event_injected laws scene words (words_stand line)))))) (λ event is.
+    (event_injected laws scene words (words_stand line))))))) (λ event is.
     behind_wanted (are_few (counted counts event)) _ _ (IsCounted scene counts)
-    (λ few. record { few = few; said = is.0; fair = is.1.0; formed = is.1.1.0; placed = is.1.1.1.0; injected = is.1.1.1.1 }))
+    (λ few. record { few = few; change = is.0; said = is.1.0; fair = is.1.1.0; formed = is.1.1.1.0; placed = is.1.1.1.1.0; injected = is.1.1.1.1.1 }))
 
 -- events behind those that were counted
 record AreCounted (scene : Scene) (before : Counts) (events : List Event) : Type 0 where
@@ -80,6 +87,9 @@ record AreCounted (scene : Scene) (before : Counts) (events : List Event) : Type
   pub placed : AllByRecursion (AreAmong scene.names) events
   pub injected : AllByRecursion (InjectsInForm (length scene.subnets)) events
   pub said : AllByRecursion IsSaid events
+  pub of_version : scene.version ≡ 1 → AllByRecursion IsOfVersion1 events
+  pub changes : AllByRecursion (ChangesInForm (length scene.subnets) scene.systems) events
+  pub stand : EachMayCome scene.standing events
 
 events_fit : Laws → (scene : Scene) → AllByRecursion IsSystem scene.systems → (n : ℕ) (counts : Counts) (lines : List (List ℕ))
     → AreFew counts → IfOk (events_from counted_event scene n counts lines) (AreCounted scene counts)
@@ -88,11 +98,11 @@ events_fit laws scene are n counts [] h = tt
 events_fit laws scene are n counts (line ∷ lines) h =
     either_way (is_skipped line) _ _ (AreCounted scene counts) (events_fit laws scene are (n + 1) counts lines h)
     (either_way (is_line_of (codes "end") (words_of line)) _ _ (AreCounted scene counts)
-    (behind_result (nothing_after (n + 1) lines) _ (AreCounted scene counts) (λ _ _. record { many = omega (arith, h.events); passed = omega (arith, h.passed); ticks = omega (arith, h.ticks); fair = tt; formed = tt; placed = tt; injected = tt; said = tt }))
+    (behind_result (nothing_after (n + 1) lines) _ (AreCounted scene counts) (λ _ _. record { many = omega (arith, h.events); passed = omega (arith, h.passed); ticks = omega (arith, h.ticks); fair = tt; formed = tt; placed = tt; injected = tt; said = tt; of_version = λ _. tt; changes = tt; stand = tt }))
     (behind_line_such n (counted_event scene counts (words_of line)) _ (IsCounted scene counts) (AreCounted scene counts)
     (event_fit laws scene are counts line) (λ event first.
-    behind_such (events_from counted_event scene (n + 1) (counted counts event) lines) _ (AreCounted scene (counted counts event)) (AreCounted scene counts)
-    (events_fit laws scene are (n + 1) (counted counts event) lines (few (counted counts event) first.few)) (λ others rest.
+    behind_such (events_from counted_event (scene_after scene event) (n + 1) (counted counts event) lines) _ (AreCounted (scene_after scene event) (counted counts event)) (AreCounted scene counts)
+    (events_fit laws (scene_after scene event) are (n + 1) (counted counts event) lines (few (counted counts event) first.few)) (λ others rest.
     record {
       many = omega (arith, rest.many);
       passed = rw (sum_by-cons (λ x. x) (passed_by event) (map passed_by others)) (omega (arith, rest.passed));
@@ -102,6 +112,9 @@ events_fit laws scene are n counts (line ∷ lines) h =
       placed = (first.placed, rest.placed);
       injected = (first.injected, rest.injected);
       said = (first.said, rest.said);
+      of_version = λ one. (first.change.of_version one, rest.of_version one);
+      changes = (first.change.changes, rest.changes);
+      stand = (first.change.may, rest.stand);
     }))))
 
 none_counted : AreFew nothing_counted
@@ -133,7 +146,7 @@ plan_fit laws newest lines =
     (declarations_fit header.number (nothing_declared header.value) header.lines (nothing_fit header.value)) (declared_addresses laws header.value header.number header.lines)) (λ declared are_declared.
     let fits : AreDeclared declared = are_declared.0 in
     let systems : List SystemConfiguration = map configuration_of declared.value.systems in
-    let scene : Scene = scene_of declared.value.subnets systems in
+    let scene : Scene = first_scene header.value declared.value.subnets systems in
     behind_such (events_from counted_event scene declared.number nothing_counted declared.lines) _ (λ events. AreCounted scene nothing_counted events × AllByRecursion (HasItsRole systems) events) IsFit
     (both (events_from counted_event scene declared.number nothing_counted declared.lines) (AreCounted scene nothing_counted) (AllByRecursion (HasItsRole systems))
     (events_fit laws scene (configurations_fit declared fits) declared.number nothing_counted declared.lines none_counted)
@@ -159,6 +172,9 @@ plan_fit laws newest lines =
       asks = counted.fair;
       formed = counted.formed;
       injected = subst (λ n. AllByRecursion (InjectsInForm n) events) (length-map declared.value.subnets (λ (subnet : Subnetwork). subnet.name)) counted.injected;
+      of_version = counted.of_version;
+      changes = subst (λ n. AllByRecursion (ChangesInForm n systems) events) (length-map declared.value.subnets (λ (subnet : Subnetwork). subnet.name)) counted.changes;
+      stand = counted.stand;
       subnet_names = distinct_of (map (λ (subnet : Subnetwork). subnet.name) declared.value.subnets) fits.fit.subnet_names;
       system_names = rw (configuration_names declared.value.systems) (distinct_of (map (λ (system : DeclaredSystem). system.name) declared.value.systems) fits.fit.system_names);
       few_subnets = fits.fit.few_subnets;
@@ -186,9 +202,9 @@ pub plan_is : (links : Option ℕ) (newest : ℕ) (text : List ℕ) (version n m
     → declarations_from n (nothing_declared version) left ≡ Ok (record { value = d; number = m; lines = rest })
     → fit_for links (m - 1) d ≡ Ok tt
     → limits ≡ limits_of d.limits → subnets ≡ d.subnets → systems ≡ map configuration_of d.systems
-    → events_from (event_for links) (scene_of subnets systems) m nothing_counted rest ≡ Ok events
+    → events_from (event_for links) (first_scene version subnets systems) m nothing_counted rest ≡ Ok events
     → plan_at links newest (lines_of text) ≡ Ok (record { version = version; limits = limits; subnets = subnets; systems = systems; events = events })
 unfolding plan_at
 plan_is links newest text version n m left rest d limits subnets systems events header declared fits limits_is subnets_is systems_is happens =
-    let named : events_from (event_for links) (scene_of d.subnets (map configuration_of d.systems)) m nothing_counted rest ≡ Ok events = rw (subnets_is, systems_is) at happens in
+    let named : events_from (event_for links) (first_scene version d.subnets (map configuration_of d.systems)) m nothing_counted rest ≡ Ok events = rw (subnets_is, systems_is) at happens in
     rw (header, declared, fits, named, limits_is, subnets_is, systems_is) refl

@@ -16,6 +16,7 @@ use Rattle.scenario.specs.declared.wish.Wish.{Wish}
 use Rattle.scenario.specs.declared.wish.Wish.TheVariants.{Lasting, Whole, Options}
 use Rattle.scenario.proofs.Behind.{behind_result, behind_found, behind_wanted, behind_such, either_way, wishes_such, options_such}
 use Rattle.scenario.proofs.Injected.{inject_such}
+use Rattle.scenario.proofs.Changed.{change_such}
 
 -- what the crate of options says of each part of a header
 abbrev pub SpellsWhatItAccepts : Type 0
@@ -108,4 +109,5 @@ event_fair law scene (keyword ∷ words) =
     (either_way (bytes_eq keyword (codes "restart")) _ _ AsksFairly (restart_fair scene.names words)
     (either_way (bytes_eq keyword (codes "echo")) _ _ AsksFairly (echo_fair scene.names words)
     (either_way (bytes_eq keyword (codes "congest")) _ _ AsksFairly (congest_fair scene.names scene.systems words)
-    (either_way (bytes_eq keyword (codes "inject")) _ _ AsksFairly (inject_such scene.subnets words AsksFairly (λ subnet from to octets. tt)) tt))))))))
+    (either_way (bytes_eq keyword (codes "inject")) _ _ AsksFairly (inject_such scene.subnets words AsksFairly (λ subnet from to octets. tt))
+    (change_such scene keyword words AsksFairly (λ subnet mtu _. tt) (λ system route _. tt) (λ system prefix _. tt) (λ system number subnet snpa _. tt))))))))))

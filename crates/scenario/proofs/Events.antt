@@ -10,7 +10,7 @@ use Rattle.scenario.specs.declared.code.Code.{Code}
 use Rattle.scenario.specs.declared.code.Code.TheVariants as bad
 use Rattle.scenario.specs.Codes.{number_of}
 use Rattle.scenario.specs.Words.{is_skipped}
-use Rattle.scenario.specs.Events.{Scene, counted}
+use Rattle.scenario.specs.Events.{Scene, scene_after, counted}
 use Rattle.scenario.specs.Grammar.{BadLine, at_line, is_line_of, nothing_after, events_from}
 use Rattle.scenario.specs.Refusal.{Refuses}
 use Rattle.scenario.proofs.Readings.{with_front, regroup}
@@ -30,11 +30,11 @@ module _ (read : Scene → Counts → List (List ℕ) → Result Event Code) whe
       → is_skipped line ≡ false → is_line_of (codes "end") (words_of line) ≡ false
       → at_line n (read scene counts (words_of line)) ≡ Ok event
       → with_front front (events_from read scene n counts (line ∷ lines)) ≡ total
-      → with_front (front ++ event ∷ []) (events_from read scene (n + 1) (counted counts event) lines) ≡ total
+      → with_front (front ++ event ∷ []) (events_from read (scene_after scene event) (n + 1) (counted counts event) lines) ≡ total
   unfolding events_from
   goes_on front scene n counts line lines event total kept other h so_far =
-      let one : with_front front (events_from read scene n counts (line ∷ lines)) ≡ with_front (front ++ event ∷ []) (events_from read scene (n + 1) (counted counts event) lines)
-      = rw (kept, other, h) (regroup front event (events_from read scene (n + 1) (counted counts event) lines)) in
+      let one : with_front front (events_from read scene n counts (line ∷ lines)) ≡ with_front (front ++ event ∷ []) (events_from read (scene_after scene event) (n + 1) (counted counts event) lines)
+      = rw (kept, other, h) (regroup front event (events_from read (scene_after scene event) (n + 1) (counted counts event) lines)) in
       sym one ∙ so_far
 
   pub stops : (r : ScenarioRefusal) (front : List Event) (scene : Scene) (n : ℕ) (counts : Counts) (line : List ℕ) (lines : List (List ℕ)) (total : Result (List Event) BadLine)

@@ -10,7 +10,7 @@ use Rattle.clnp_plan.specs.Configuration.{SystemConfiguration}
 use Rattle.scenario.specs.Scenario.{IsForBoard, IsLive, Plan}
 use Rattle.scenario.specs.Words.{◌>>=◌, wanted, is_skipped}
 use Rattle.scenario.specs.Declarations.{Declarations, DeclaredSystem, NumberedPort, nothing_declared, fits_board, configuration_of}
-use Rattle.scenario.specs.Events.{Scene, scene_of, is_live_line, counted, nothing_counted}
+use Rattle.scenario.specs.Events.{Scene, first_scene, scene_after, is_live_line, counted, nothing_counted}
 use Rattle.scenario.specs.Grammar.{BadLine, ReadTo, at_line, newest_version, is_line_of, header_from, declarations_from, nothing_after, counted_event, live_event, events_from, fit_for, plan_behind, plan_at, plan_of, run_plan_of}
 use Rattle.scenario.specs.Refusal.{Refuses}
 use Rattle.scenario.specs.declared.code.Code.{Code}
@@ -89,8 +89,9 @@ module _ (read other : Scene → Counts → List (List ℕ) → Result Event Cod
               | inl last ↦ rw (stands, last) (at_end (nothing_after (n + 1) lines))
               | inr goes_on ↦
                   rw (stands, goes_on)
-                  (at_event n scene counts (words_of line) (λ event. events_from read scene (n + 1) (counted counts event) lines)
-                  (λ event. events_from other scene (n + 1) (counted counts event) lines) (λ event. alike scene (n + 1) (counted counts event) lines))
+                  (at_event n scene counts (words_of line) (λ event. events_from read (scene_after scene event) (n + 1) (counted counts event) lines)
+                  (λ event. events_from other (scene_after scene event) (n + 1) (counted counts event) lines)
+                  (λ event. alike (scene_after scene event) (n + 1) (counted counts event) lines))
             ]
       ]
 
@@ -103,8 +104,8 @@ live_events scene n counts (line ∷ lines) =
     (behind_result (nothing_after (n + 1) lines) _ (AllByRecursion IsLive) (λ _ _. tt))
     (behind_line_such n (live_event scene counts (words_of line)) _ (IsTaken scene counts (words_of line)) (AllByRecursion IsLive)
     (live_taken scene counts (words_of line)) (λ event first.
-    behind_such (events_from live_event scene (n + 1) (counted counts event) lines) _ (AllByRecursion IsLive) (AllByRecursion IsLive)
-    (live_events scene (n + 1) (counted counts event) lines) (λ others rest. (first.1, rest)))))
+    behind_such (events_from live_event (scene_after scene event) (n + 1) (counted counts event) lines) _ (AllByRecursion IsLive) (AllByRecursion IsLive)
+    (live_events (scene_after scene event) (n + 1) (counted counts event) lines) (λ others rest. (first.1, rest)))))
 
 live_too : (scene : Scene) (n : ℕ) (lines : List (List ℕ)) (events : List Event) → events_from live_event scene n nothing_counted lines ≡ Ok events
     → (events_from counted_event scene n nothing_counted lines ≡ Ok events) × AllByRecursion IsLive events
@@ -159,9 +160,9 @@ fits_of : (links n : ℕ) (d : Declarations) → length (map configuration_of d.
 fits_of links n d one ports =
     rw (eq-eqb (length d.systems) 1 (sym (length-map d.systems configuration_of) ∙ one), ports_declared links d.systems ports) refl
 
--- what the lines behind a header declare, and their events
-abbrev scene_behind : ReadTo Declarations → Scene
-scene_behind declared = scene_of declared.value.subnets (map configuration_of declared.value.systems)
+-- what the event lines are read over, in a text of a version that declares this
+abbrev scene_behind : (version : ℕ) → ReadTo Declarations → Scene
+scene_behind version declared = first_scene version declared.value.subnets (map configuration_of declared.value.systems)
 
 module _ (header : ReadTo ℕ) where
   abbrev IsReadFor : ℕ → Plan → Type 0
@@ -172,8 +173,8 @@ module _ (header : ReadTo ℕ) where
       behind_result (declarations_from header.number (nothing_declared header.value) header.lines) _ (IsReadFor links) (λ declared declared_is.
       behind_line_such (declared.number - 1) (wanted (fits_board links declared.value.systems) bad.Count) _ (λ _. fits_board links declared.value.systems ≡ true)
       (IsReadFor links) (if_wanted (fits_board links declared.value.systems) bad.Count (fits_board links declared.value.systems ≡ true) (λ is. is)) (λ _ fits.
-      behind_result (events_from live_event (scene_behind declared) declared.number nothing_counted declared.lines) _ (IsReadFor links) (λ events events_are.
-      let both = live_too (scene_behind declared) declared.number declared.lines events events_are in
+      behind_result (events_from live_event (scene_behind header.value declared) declared.number nothing_counted declared.lines) _ (IsReadFor links) (λ events events_are.
+      let both = live_too (scene_behind header.value declared) declared.number declared.lines events events_are in
       (rw (declared_is, both.0) refl, board_of links declared.value _ fits refl both.1))))
 
   abbrev IsReadOn : ℕ → Plan → Type 0
@@ -182,9 +183,9 @@ module _ (header : ReadTo ℕ) where
   behind_on_board : (links : ℕ) → IfOk (plan_behind None header) (IsReadOn links)
   behind_on_board links =
       behind_result (declarations_from header.number (nothing_declared header.value) header.lines) _ (IsReadOn links) (λ declared declared_is.
-      behind_result (events_from counted_event (scene_behind declared) declared.number nothing_counted declared.lines) _ (IsReadOn links) (λ events events_are fit.
+      behind_result (events_from counted_event (scene_behind header.value declared) declared.number nothing_counted declared.lines) _ (IsReadOn links) (λ events events_are fit.
       let fits = fits_of links (declared.number - 1) declared.value fit.one fit.ports in
-      rw (declared_is, fits, counted_too (scene_behind declared) declared.number declared.lines events events_are fit.events) refl))
+      rw (declared_is, fits, counted_too (scene_behind header.value declared) declared.number declared.lines events events_are fit.events) refl))
 
 -- what is read where links are given or not
 abbrev IsFor : Option ℕ → Plan → Type 0

@@ -25,6 +25,7 @@ use Rattle.scenario.specs.declared.wish.Wish.{Wish}
 use Rattle.scenario.specs.declared.wish.Wish.TheVariants.{Lasting, NoReport, Whole, Options}
 use Rattle.scenario.proofs.Asks.{SpellsWhatItAccepts}
 use Rattle.scenario.proofs.Injected.{inject_such}
+use Rattle.scenario.proofs.Changed.{change_such}
 use Rattle.scenario.proofs.Behind.{behind_result, behind_found, behind_wanted, behind_such, either_way, number_behind_is_within, wishes_such, options_such, life_such}
 
 -- what the crate of addresses says of each text
@@ -189,4 +190,5 @@ event_formed laws scene (keyword ∷ words) are =
     (either_way (bytes_eq keyword (codes "restart")) _ _ AsksInForm (restart_formed scene.names words)
     (either_way (bytes_eq keyword (codes "echo")) _ _ AsksInForm (echo_formed laws scene.names words)
     (either_way (bytes_eq keyword (codes "congest")) _ _ AsksInForm (congest_formed scene.names scene.systems words)
-    (either_way (bytes_eq keyword (codes "inject")) _ _ AsksInForm (inject_such scene.subnets words AsksInForm (λ subnet from to octets. tt)) tt))))))))
+    (either_way (bytes_eq keyword (codes "inject")) _ _ AsksInForm (inject_such scene.subnets words AsksInForm (λ subnet from to octets. tt))
+    (change_such scene keyword words AsksInForm (λ subnet mtu _. tt) (λ system route _. tt) (λ system prefix _. tt) (λ system number subnet snpa _. tt))))))))))

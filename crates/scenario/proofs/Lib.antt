@@ -8,6 +8,7 @@ pub mod Kept
 pub mod Prefixes
 pub mod Numbers
 pub mod Injected
+pub mod Changed
 pub mod Placed
 pub mod Roles
 pub mod Fit
@@ -16,6 +17,7 @@ pub mod Forms
 pub mod Addresses
 pub mod Outside
 pub mod Said
+pub mod Changes
 pub mod Accepted
 pub mod Seeded
 pub mod Written

@@ -1,12 +1,14 @@
 -- Names and addresses of what is declared, and an element that changes.
-use Rattle.std.proofs.Common.{◌≡◌, ℕ, zero, suc, ◌<◌, ◌==◌, ◌&&◌, List, [], ◌∷◌, map, length, get_or, set, nat_eq, Result, Ok, Err, MatchResult, refl, sym, ◌∙◌, ap, arith}
+use Rattle.std.proofs.Common.{◌≡◌, ℕ, zero, suc, ◌+◌, ◌<◌, ◌≤◌, ◌==◌, ◌&&◌, List, [], ◌∷◌, ◌++◌, map, length, take, get_or, set, nat_eq, Result, Ok, Err, MatchResult, OnOk, refl, sym, ◌∙◌, ap, arith}
+use Rattle.std.proofs.lemmas.List.{map-append, take_more}
 use Rattle.std.proofs.lemmas.List.Folds.{list_any-append}
 use Rattle.std.specs.List.{list_any, flat_map}
 use Rattle.std.specs.Cmp.Lexicographic.{pointwise}
 use Rattle.clnp_plan.proofs.ClnpBase.Maps.{list_any-map-filter}
 use Rattle.scenario.specs.declared.fault.LineFault.{LineFault}
 use Rattle.scenario.specs.declared.fault.LineFault.TheVariants.{NoMemory}
-use Rattle.scenario.specs.Declarations.{changed_at, is_among, snpas_on, DeclaredSystem, NumberedPort, configuration_of}
+use Rattle.scenario.specs.Declarations.{snpas_on, DeclaredSystem, NumberedPort, configuration_of}
+use Rattle.scenario.specs.Standing.{changed_at, is_among}
 
 pub configuration_names : (systems : List DeclaredSystem) → map (λ host. host.name) (map configuration_of systems) ≡ map (λ system. system.name) systems
 configuration_names [] = refl
@@ -36,3 +38,20 @@ pub changed_on_ok : {X : Type 0} (r : Result (Unit {0}) LineFault) (change : X �
 changed_on_ok (Ok done) change place xs x new lt h =
     ap (λ y. set xs place y) h ∙ sym (changed_is_set change place xs x lt)
 changed_on_ok (Err fault) change place xs x new lt h = h
+
+pub changed_beyond : {X : Type 0} (change : X → X) (place : ℕ) (xs : List X) → length xs ≤ place → changed_at change place xs ≡ xs
+changed_beyond change place [] h = refl
+changed_beyond change zero (x ∷ xs) h = absurd (omega (arith, h))
+changed_beyond change (suc place) (x ∷ xs) h = ap (λ ys. x ∷ ys) (changed_beyond change place xs (omega (arith, h)))
+
+pub changed_if_ok : {X E : Type 0} (r : Result (Unit {0}) E) (change : X → X) (place : ℕ) (xs : List X) (x new : X)
+    → place < length xs → OnOk r (new ≡ change (get_or xs place x)) → OnOk r (set xs place new ≡ changed_at change place xs)
+changed_if_ok (Ok done) change place xs x new lt h =
+    ap (λ y. set xs place y) h ∙ sym (changed_is_set change place xs x lt)
+changed_if_ok (Err e) change place xs x new lt h = tt
+
+-- a loop that appends f x for each element x
+pub mapped_more : {X Y : Type 0} (f : X → Y) (xs : List X) (ys : List Y) (i : ℕ) (d : X) (y : Y) → i < length xs
+    → ys ≡ map f (take i xs) → y ≡ f (get_or xs i d) → ys ++ y ∷ [] ≡ map f (take (i + 1) xs)
+mapped_more f xs ys i d y within so_far is =
+    rw (so_far, is, take_more xs i d within) (sym (map-append f (take i xs) (get_or xs i d ∷ [])))

@@ -1,6 +1,6 @@
 -- What holds of each event of a kind holds of the one that a line of that kind gives; and whether a live node takes an event is
 -- said by the first word of its line.
-use Rattle.std.proofs.Common.{◌≡◌, ◌↔◌, inl, inr, ℕ, Bool, true, false, if◌then◌else◌, List, [], ◌∷◌, slice_get, codes, Result, Ok, IfOk, refl, sym, subst}
+use Rattle.std.proofs.Common.{◌≡◌, ◌≢◌, ◌↔◌, inl, inr, ℕ, ◌==◌, Bool, true, false, if◌then◌else◌, List, [], ◌∷◌, slice_get, codes, Result, Ok, Err, IfOk, refl, sym, subst}
 use Rattle.std.specs.Str.{bytes_eq}
 use Rattle.std.proofs.lemmas.Bool.{cases_Bool, true≢false}
 use Rattle.clnp_plan.proofs.ClnpBase.SameOctets.{same_from}
@@ -8,17 +8,19 @@ use Rattle.clnp_plan.specs.Configuration.{SystemConfiguration}
 use Rattle.clnp_plan.specs.declared.ask.Ask.{Ask}
 use Rattle.scenario.specs.Scenario.{IsLive}
 use Rattle.scenario.specs.Words.{declared_word, address_word, data_word, number_word, one_word, two_words, four_words, first_four, each_once}
-use Rattle.scenario.specs.Events.{wish_words, wish_key, own_life, ask_of, host_word, router_word, on_word, send_line, deliver_line, count_line, tick_line, restart_line, echo_line, congest_line, Scene, event_line, is_live_line, counted, are_few}
+use Rattle.scenario.specs.Events.{wish_words, wish_key, own_life, ask_of, host_word, router_word, on_word, send_line, deliver_line, count_line, tick_line, restart_line, echo_line, congest_line, change_line, Scene, event_line, is_live_line, counted, are_few}
 use Rattle.scenario.specs.Grammar.{counted_event}
 use Rattle.scenario.specs.declared.code.Code.{Code}
+use Rattle.scenario.specs.declared.code.Code.TheVariants as bad
 use Rattle.scenario.specs.declared.counts.Counts.{Counts}
 use Rattle.scenario.specs.declared.event.Body.{Body}
 use Rattle.scenario.specs.declared.event.Event.{Event}
 use Rattle.scenario.specs.declared.event.Event.TheVariants.{Send, Deliver, Settle, Lose, Tick, Restart, Echo, Congest}
+use Rattle.scenario.proofs.Changed.{later_of, mtu_such, route_such, unroute_such, port_such}
 use Rattle.scenario.proofs.Injected.{inject_such}
 use Rattle.scenario.proofs.Behind.{behind_result, behind_found, behind_wanted, behind_such}
 
-send_such : (names : List (List ℕ)) (systems : List SystemConfiguration) (words : List (List ℕ)) (P : Event → Type 0)
+pub send_such : (names : List (List ℕ)) (systems : List SystemConfiguration) (words : List (List ℕ)) (P : Event → Type 0)
     → ((system : ℕ) (from to : List ℕ) (body : Body) (ask : Ask) → P (Send system from to body ask)) → IfOk (send_line names systems words) P
 unfolding send_line
 send_such names systems words P h =
@@ -30,20 +32,20 @@ send_such names systems words P h =
     behind_result (wish_words w.4) _ P (λ wishes _.
     behind_wanted (each_once wish_key wishes) _ _ P (λ _. h system from to body (ask_of (own_life (slice_get systems system)) wishes))))))))
 
-deliver_such : (names words : List (List ℕ)) (P : Event → Type 0) → ((copy system : ℕ) → P (Deliver copy system)) → IfOk (deliver_line names words) P
+pub deliver_such : (names words : List (List ℕ)) (P : Event → Type 0) → ((copy system : ℕ) → P (Deliver copy system)) → IfOk (deliver_line names words) P
 unfolding deliver_line
 deliver_such names words P h =
     behind_found (two_words words) _ _ P (λ w _.
     behind_result (number_word 1 1000000000 w.0) _ P (λ copy _.
     behind_result (declared_word names w.1) _ P (λ system _. h copy system)))
 
-restart_such : (names words : List (List ℕ)) (P : Event → Type 0) → ((system : ℕ) → P (Restart system)) → IfOk (restart_line names words) P
+pub restart_such : (names words : List (List ℕ)) (P : Event → Type 0) → ((system : ℕ) → P (Restart system)) → IfOk (restart_line names words) P
 unfolding restart_line
 restart_such names words P h =
     behind_found (one_word words) _ _ P (λ word _.
     behind_result (declared_word names word) _ P (λ system _. h system))
 
-echo_such : (names words : List (List ℕ)) (P : Event → Type 0)
+pub echo_such : (names words : List (List ℕ)) (P : Event → Type 0)
     → ((system : ℕ) (from to : List ℕ) (body : Body) → P (Echo system from to body)) → IfOk (echo_line names words) P
 unfolding echo_line
 echo_such names words P h =
@@ -53,7 +55,7 @@ echo_such names words P h =
     behind_result (address_word w.2) _ P (λ to _.
     behind_result (data_word w.3) _ P (λ body _. h system from to body)))))
 
-congest_such : (names : List (List ℕ)) (systems : List SystemConfiguration) (words : List (List ℕ)) (P : Event → Type 0)
+pub congest_such : (names : List (List ℕ)) (systems : List SystemConfiguration) (words : List (List ℕ)) (P : Event → Type 0)
     → ((system : ℕ) (on : Bool) → P (Congest system on)) → IfOk (congest_line names systems words) P
 unfolding congest_line
 congest_such names systems words P h =
@@ -81,6 +83,21 @@ at_keyword text keyword words r s here elsewhere =
       | inr other ↦ rw other elsewhere
     ]
 
+change_said_live : (scene : Scene) (keyword : List ℕ) (words : List (List ℕ))
+    → IfOk (if scene.version == 1 then Err bad.Syntax else change_line scene keyword words) (IsSaidLive (keyword ∷ words))
+unfolding change_line
+change_said_live scene keyword words =
+    elim (cases_Bool (scene.version == 1)) [
+      | inl first ↦ rw first tt
+      | inr other ↦
+          let later : scene.version ≢ 1 = later_of scene.version other in
+          rw other
+          (at_keyword (codes "mtu") keyword words _ _ (mtu_such scene words (IsSaidLive (codes "mtu" ∷ words)) later (λ subnet mtu _. not_taken))
+          (at_keyword (codes "route") keyword words _ _ (route_such scene words (IsSaidLive (codes "route" ∷ words)) later (λ system route _. not_taken))
+          (at_keyword (codes "unroute") keyword words _ _ (unroute_such scene words (IsSaidLive (codes "unroute" ∷ words)) later (λ system prefix _. not_taken))
+          (at_keyword (codes "port") keyword words _ _ (port_such scene words (IsSaidLive (codes "port" ∷ words)) later (λ system number subnet snpa _. not_taken)) tt))))
+    ]
+
 event_said_live : (scene : Scene) (words : List (List ℕ)) → IfOk (event_line scene words) (IsSaidLive words)
 unfolding event_line
 event_said_live scene [] = tt
@@ -93,7 +110,8 @@ event_said_live scene (keyword ∷ words) =
     (at_keyword (codes "restart") keyword words _ _ (restart_such scene.names words (IsSaidLive (codes "restart" ∷ words)) (λ system. not_taken))
     (at_keyword (codes "echo") keyword words _ _ (echo_such scene.names words (IsSaidLive (codes "echo" ∷ words)) (λ system from to body. taken))
     (at_keyword (codes "congest") keyword words _ _ (congest_such scene.names scene.systems words (IsSaidLive (codes "congest" ∷ words)) (λ system on. not_taken))
-    (at_keyword (codes "inject") keyword words _ _ (inject_such scene.subnets words (IsSaidLive (codes "inject" ∷ words)) (λ subnet from to octets. not_taken)) tt))))))))
+    (at_keyword (codes "inject") keyword words _ _ (inject_such scene.subnets words (IsSaidLive (codes "inject" ∷ words)) (λ subnet from to octets. not_taken))
+    (change_said_live scene keyword words)))))))))
 
 pub counted_said_live : (scene : Scene) (counts : Counts) (words : List (List ℕ)) → IfOk (counted_event scene counts words) (IsSaidLive words)
 unfolding counted_event

@@ -15,6 +15,7 @@ use Rattle.scenario.specs.Events.{wish_words, wish_key, host_word, router_word, 
 use Rattle.scenario.specs.declared.event.Event.TheVariants.{Settle, Lose, Tick}
 use Rattle.scenario.proofs.Behind.{behind_result, behind_found, behind_wanted, behind_such, either_way, declared_is_within}
 use Rattle.scenario.proofs.Forms.{Laws, address_formed}
+use Rattle.scenario.proofs.Changed.{change_such}
 use Rattle.clnp_plan.proofs.ClnpBase.Choices.{one_of}
 
 -- Words that aren't empty.
@@ -145,4 +146,5 @@ event_injected laws scene (keyword ∷ words) h =
     (either_way (bytes_eq keyword (codes "restart")) _ _ Formed (restart_inside scene.subnets scene.names words)
     (either_way (bytes_eq keyword (codes "echo")) _ _ Formed (echo_inside scene.subnets scene.names words)
     (either_way (bytes_eq keyword (codes "congest")) _ _ Formed (congest_inside scene.subnets scene.names scene.systems words)
-    (either_way (bytes_eq keyword (codes "inject")) _ _ Formed (inject_formed laws scene.subnets words h.1) tt))))))))
+    (either_way (bytes_eq keyword (codes "inject")) _ _ Formed (inject_formed laws scene.subnets words h.1)
+    (change_such scene keyword words Formed (λ subnet mtu _. tt) (λ system route _. tt) (λ system prefix _. tt) (λ system number subnet snpa _. tt))))))))))

@@ -10,6 +10,7 @@ use Rattle.scenario.specs.declared.event.Event.{Event}
 use Rattle.scenario.specs.declared.event.Event.TheVariants.{Settle, Lose, Tick}
 use Rattle.scenario.proofs.Behind.{behind_result, behind_found, behind_wanted, behind_such, either_way, declared_is_within}
 use Rattle.scenario.proofs.Injected.{inject_such}
+use Rattle.scenario.proofs.Changed.{change_such}
 
 abbrev pub AreAmong : List (List ℕ) → Event → Type 0
 AreAmong names event = IsPlaced (length names) event
@@ -76,4 +77,6 @@ event_placed scene (keyword ∷ words) =
     (either_way (bytes_eq keyword (codes "restart")) _ _ (AreAmong scene.names) (restart_placed scene.names words)
     (either_way (bytes_eq keyword (codes "echo")) _ _ (AreAmong scene.names) (echo_placed scene.names words)
     (either_way (bytes_eq keyword (codes "congest")) _ _ (AreAmong scene.names) (congest_placed scene.names scene.systems words)
-    (either_way (bytes_eq keyword (codes "inject")) _ _ (AreAmong scene.names) (inject_such scene.subnets words (AreAmong scene.names) (λ subnet from to octets. tt)) tt))))))))
+    (either_way (bytes_eq keyword (codes "inject")) _ _ (AreAmong scene.names) (inject_such scene.subnets words (AreAmong scene.names) (λ subnet from to octets. tt))
+    (change_such scene keyword words (AreAmong scene.names) (λ subnet mtu _. tt) (λ system route is. is.router.placed) (λ system prefix is. is.router.placed)
+    (λ system number subnet snpa is. is.placed))))))))))

@@ -8,7 +8,8 @@ use Rattle.clnp_plan.specs.Configuration.{IsWithin, SystemConfiguration}
 use Rattle.scenario.specs.Canonical.{header_text, declarations_text, event_text, text_of}
 use Rattle.scenario.specs.Events.{nothing_counted}
 use Rattle.scenario.specs.Grammar.{newest_version, header_from, plan_of}
-use Rattle.scenario.specs.Scenario.{Plan, Subnetwork, IsFit, AsksInForm, InjectsInForm, IsPlaced, IsFromHost, IsOfRouter, IsSaid}
+use Rattle.scenario.specs.Scenario.{Plan, Subnetwork, IsFit, AsksInForm, ChangesInForm, InjectsInForm, IsPlaced, IsFromHost, IsOfRouter, IsSaid}
+use Rattle.scenario.specs.Standing.{standing_of}
 use Rattle.scenario.specs.declared.event.Event.{Event}
 use Rattle.scenario.proofs.Accepted.{plan_is}
 use Rattle.scenario.proofs.Stages.{declared_of, configurations_again}
@@ -28,11 +29,12 @@ header_read (suc (suc (suc version))) more within = absurd (omega (arith, within
 told : (subnets : List Subnetwork) (systems : List SystemConfiguration) (events : List Event)
     → AllByRecursion AsksInForm events → AllByRecursion (IsPlaced (length systems)) events
     → AllByRecursion (IsFromHost systems) events → AllByRecursion (IsOfRouter systems) events
-    → AllByRecursion (InjectsInForm (length subnets)) events → AllByRecursion IsSaid events → AllByRecursion (IsTold subnets systems) events
-told subnets systems [] formed placed senders congested injected said = tt
-told subnets systems (event ∷ events) formed placed senders congested injected said = (
-  record { formed = formed.0; placed = placed.0; sender = senders.0; congested = congested.0; injected = injected.0; said = said.0 },
-  told subnets systems events formed.1 placed.1 senders.1 congested.1 injected.1 said.1,
+    → AllByRecursion (InjectsInForm (length subnets)) events → AllByRecursion IsSaid events → AllByRecursion (ChangesInForm (length subnets) systems) events
+    → AllByRecursion (IsTold subnets systems) events
+told subnets systems [] formed placed senders congested injected said changes = tt
+told subnets systems (event ∷ events) formed placed senders congested injected said changes = (
+  record { formed = formed.0; placed = placed.0; sender = senders.0; congested = congested.0; injected = injected.0; said = said.0; changes = changes.0 },
+  told subnets systems events formed.1 placed.1 senders.1 congested.1 injected.1 said.1 changes.1,
 )
 
 regrouped : (header declared events lines end : List ℕ) → (((header ++ declared) ++ events) ++ lines) ++ end ≡ header ++ (declared ++ (events ++ (lines ++ end)))
@@ -50,8 +52,9 @@ what_is_written law plan fit =
     ap (λ (text : List ℕ). plan_of text) (regrouped (header_text plan.version) (declarations_text plan) (codes "events\n") lines (codes "end\n"))
     ∙ plan_is None newest_version (header_text plan.version ++ behind) plan.version 2 declared.0 (lines_of behind) (lines_of rest) (declared_of plan) plan.limits plan.subnets plan.systems plan.events
     (header_read plan.version behind fit.version) declared.1 refl refl refl (sym (configurations_again plan.systems))
-    (events_read law plan.subnets plan.systems subnets systems declared.0 nothing_counted plan.events
-    (told plan.subnets plan.systems plan.events fit.formed fit.places fit.senders fit.congested fit.injected fit.said) few)
+    (events_read law plan.version plan.subnets plan.systems subnets systems (standing_of plan.systems) declared.0 nothing_counted plan.events
+    (told plan.subnets plan.systems plan.events fit.formed fit.places fit.senders fit.congested fit.injected fit.said fit.changes)
+    (record { of_version = fit.of_version; stand = fit.stand }) few)
 
 -- of a text that was read
 pub read_again : ((text : List ℕ) (plan : Plan) → plan_of text ≡ Ok plan → IsFit plan) → ((plan : Plan) → IsFit plan → plan_of (text_of plan) ≡ Ok plan)

@@ -8,16 +8,17 @@ use Rattle.clnp_plan.specs.ClnpBase.Text.{words_of}
 use Rattle.clnp_plan.specs.Configuration.{SystemConfiguration}
 use Rattle.clnp_plan.specs.declared.config.Role.{Role}
 use Rattle.clnp_plan.specs.declared.config.Role.TheVariants.{Host, Router}
-use Rattle.scenario.specs.Scenario.{IsFromHost, IsOfRouter}
+use Rattle.scenario.specs.Scenario.{IsFromHost, IsOfRouter, IsRouterAt}
 use Rattle.scenario.specs.Words.{declared_word, address_word, data_word, number_word, one_word, two_words, four_words, first_four, each_once, is_skipped}
 use Rattle.scenario.specs.Declarations.{is_router}
-use Rattle.scenario.specs.Events.{wish_words, wish_key, is_host, is_host_at, host_word, is_router_at, router_word, on_word, send_line, deliver_line, count_line, tick_line, restart_line, echo_line, congest_line, Scene, event_line, counted, are_few}
+use Rattle.scenario.specs.Events.{wish_words, wish_key, is_host, is_host_at, host_word, is_router_at, router_word, on_word, send_line, deliver_line, count_line, tick_line, restart_line, echo_line, congest_line, Scene, scene_after, event_line, counted, are_few}
 use Rattle.scenario.specs.Grammar.{is_line_of, nothing_after, counted_event, events_from}
 use Rattle.scenario.specs.declared.code.Code.TheVariants as bad
 use Rattle.scenario.specs.declared.counts.Counts.{Counts}
 use Rattle.scenario.specs.declared.event.Event.{Event}
 use Rattle.scenario.specs.declared.event.Event.TheVariants.{Settle, Lose, Tick}
 use Rattle.scenario.proofs.Injected.{inject_such}
+use Rattle.scenario.proofs.Changed.{change_such}
 use Rattle.scenario.proofs.Behind.{behind_result, behind_found, behind_wanted, behind_such, behind_line_such, either_way}
 
 abbrev pub HasItsRole : List SystemConfiguration → Event → Type 0
@@ -72,9 +73,6 @@ echo_in_role names systems words =
     behind_result (address_word w.2) _ (HasItsRole systems) (λ to _.
     behind_result (data_word w.3) _ (HasItsRole systems) (λ body _. (tt, tt))))))
 
-abbrev IsRouterOf : List SystemConfiguration → ℕ → Type 0
-IsRouterOf systems place = option_map (λ (router : SystemConfiguration). router.role) (slice_get systems place) ≡ Some Router
-
 router_role : (role : Role) → is_router role ≡ true → Some role ≡ Some Router
 router_role Router h = refl
 router_role Host h = absurd (true≢false (sym h))
@@ -83,16 +81,16 @@ router_at : (o : Option SystemConfiguration) → is_router_at o ≡ true → opt
 router_at None h = absurd (true≢false (sym h))
 router_at (Some system) h = router_role system.role h
 
-router_is_router : (names : List (List ℕ)) (systems : List SystemConfiguration) (word : List ℕ) → IfOk (router_word names systems word) (IsRouterOf systems)
+router_is_router : (names : List (List ℕ)) (systems : List SystemConfiguration) (word : List ℕ) → IfOk (router_word names systems word) (IsRouterAt systems)
 router_is_router names systems word =
-    behind_result (declared_word names word) _ (IsRouterOf systems) (λ place _.
-    behind_wanted (is_router_at (slice_get systems place)) bad.UnknownName (λ _. Ok place) (IsRouterOf systems) (λ is. router_at (slice_get systems place) is))
+    behind_result (declared_word names word) _ (IsRouterAt systems) (λ place _.
+    behind_wanted (is_router_at (slice_get systems place)) bad.UnknownName (λ _. Ok place) (IsRouterAt systems) (λ is. router_at (slice_get systems place) is))
 
 congest_in_role : (names : List (List ℕ)) (systems : List SystemConfiguration) (words : List (List ℕ)) → IfOk (congest_line names systems words) (HasItsRole systems)
 unfolding congest_line
 congest_in_role names systems words =
     behind_found (two_words words) _ _ (HasItsRole systems) (λ w _.
-    behind_such (router_word names systems w.0) _ (IsRouterOf systems) (HasItsRole systems) (router_is_router names systems w.0) (λ system is.
+    behind_such (router_word names systems w.0) _ (IsRouterAt systems) (HasItsRole systems) (router_is_router names systems w.0) (λ system is.
     behind_result (on_word w.1) _ (HasItsRole systems) (λ on _. (tt, is))))
 
 event_in_role : (scene : Scene) (words : List (List ℕ)) → IfOk (event_line scene words) (HasItsRole scene.systems)
@@ -107,7 +105,9 @@ event_in_role scene (keyword ∷ words) =
     (either_way (bytes_eq keyword (codes "restart")) _ _ (HasItsRole scene.systems) (restart_in_role scene.names scene.systems words)
     (either_way (bytes_eq keyword (codes "echo")) _ _ (HasItsRole scene.systems) (echo_in_role scene.names scene.systems words)
     (either_way (bytes_eq keyword (codes "congest")) _ _ (HasItsRole scene.systems) (congest_in_role scene.names scene.systems words)
-    (either_way (bytes_eq keyword (codes "inject")) _ _ (HasItsRole scene.systems) (inject_such scene.subnets words (HasItsRole scene.systems) (λ subnet from to octets. (tt, tt))) tt))))))))
+    (either_way (bytes_eq keyword (codes "inject")) _ _ (HasItsRole scene.systems) (inject_such scene.subnets words (HasItsRole scene.systems) (λ subnet from to octets. (tt, tt)))
+    (change_such scene keyword words (HasItsRole scene.systems) (λ subnet mtu _. (tt, tt)) (λ system route is. (tt, router_at (slice_get scene.systems system) is.router.is))
+    (λ system prefix is. (tt, router_at (slice_get scene.systems system) is.router.is)) (λ system number subnet snpa _. (tt, tt)))))))))))
 
 counted_in_role : (scene : Scene) (counts : Counts) (words : List (List ℕ))
     → IfOk (counted_event scene counts words) (HasItsRole scene.systems)
@@ -126,5 +126,5 @@ events_in_roles scene n counts (line ∷ lines) =
     (behind_result (nothing_after (n + 1) lines) _ (AllByRecursion (HasItsRole scene.systems)) (λ _ _. tt))
     (behind_line_such n (counted_event scene counts (words_of line)) _ (HasItsRole scene.systems) (AllByRecursion (HasItsRole scene.systems))
     (counted_in_role scene counts (words_of line)) (λ event first.
-    behind_such (events_from counted_event scene (n + 1) (counted counts event) lines) _ (AllByRecursion (HasItsRole scene.systems)) (AllByRecursion (HasItsRole scene.systems))
-    (events_in_roles scene (n + 1) (counted counts event) lines) (λ others rest. (first, rest)))))
+    behind_such (events_from counted_event (scene_after scene event) (n + 1) (counted counts event) lines) _ (AllByRecursion (HasItsRole scene.systems)) (AllByRecursion (HasItsRole scene.systems))
+    (events_in_roles (scene_after scene event) (n + 1) (counted counts event) lines) (λ others rest. (first, rest)))))

@@ -18,6 +18,7 @@ use Rattle.scenario.specs.declared.wish.Wish.{Wish}
 use Rattle.scenario.specs.declared.wish.Wish.TheVariants.{Lasting, NoReport, Whole, Options}
 use Rattle.scenario.proofs.Forms.{behind_octets}
 use Rattle.scenario.proofs.Injected.{inject_such}
+use Rattle.scenario.proofs.Changed.{change_such}
 use Rattle.scenario.proofs.Behind.{behind_result, behind_found, behind_wanted, behind_such, either_way, number_is_within, number_behind_is_within, wishes_such, options_such, life_such}
 
 -- Data.
@@ -157,4 +158,6 @@ event_said scene (keyword ∷ words) are =
     (either_way (bytes_eq keyword (codes "restart")) _ _ IsSaid (restart_said scene.names words)
     (either_way (bytes_eq keyword (codes "echo")) _ _ IsSaid (echo_said scene.names words)
     (either_way (bytes_eq keyword (codes "congest")) _ _ IsSaid (congest_said scene.names scene.systems words)
-    (either_way (bytes_eq keyword (codes "inject")) _ _ IsSaid (inject_such scene.subnets words IsSaid (λ subnet from to octets. tt)) tt))))))))
+    (either_way (bytes_eq keyword (codes "inject")) _ _ IsSaid (inject_such scene.subnets words IsSaid (λ subnet from to octets. tt))
+    (change_such scene keyword words IsSaid (λ subnet mtu is. is.within) (λ system route is. is.number.within) (λ system prefix _. tt)
+    (λ system number subnet snpa is. is.own.within))))))))))

@@ -12,14 +12,16 @@ use Rattle.clnp_plan.specs.Configuration.{IsWithin, SystemConfiguration}
 use Rattle.clnp_plan.specs.declared.config.Role.TheVariants.{Host}
 use Rattle.scenario.specs.Grammar.{BadLine as Bad, plan_of, plan_at, events_from}
 use Rattle.scenario.specs.Declarations.{limits_line, subnet_line, room_word, setting_word, system_line, address_line, port_line, route_line, declaration_line}
-use Rattle.scenario.specs.Scenario.{Plan, IsFit, AsksFairly, AsksInForm, InjectsInForm, IsPlaced, IsFromHost, IsOfRouter, IsSaid, passed_by, ticks_of, InjectsNothing, IsClosed}
+use Rattle.scenario.specs.Scenario.{Plan, IsFit, AsksFairly, AsksInForm, ChangesInForm, InjectsInForm, IsOfVersion1, IsPlaced, IsFromHost, IsOfRouter, IsSaid, passed_by, ticks_of, InjectsNothing, IsClosed}
 use Rattle.scenario.specs.Refusal.{Refuses}
+use Rattle.scenario.specs.Standing.{EachMayCome, MayCome, Standing, standing_after, standing_of}
 use Rattle.scenario.specs.declared.fault.ScenarioRefusal.{ScenarioRefusal}
 use Rattle.scenario.specs.declared.fault.ScenarioRefusal.TheVariants.{BadLine}
 use Rattle.scenario.specs.Seeds.{Drawn, next, only, pick, two_networks, address_in, address_of, place_of, usual_ask, a_send, an_echo, a_delivery, a_loss, some_ticks, restart_of_one, a_restart, event_of, one_or_two, round, rounds, storm_events, storm}
 use Rattle.scenario.specs.declared.event.Body.TheVariants.{Pattern}
 use Rattle.scenario.specs.declared.event.Event.{Event}
-use Rattle.scenario.specs.declared.event.Event.TheVariants.{Send, Deliver, Settle, Lose, Tick, Restart, Echo}
+use Rattle.scenario.specs.declared.event.Event.TheVariants as event
+use Rattle.scenario.specs.declared.event.Event.TheVariants.{Send, Deliver, Settle, Lose, Tick, Restart, Echo, Congest, Inject}
 use Rattle.scenario.proofs.Asks.{none_fair}
 use Rattle.scenario.proofs.Forms.{none_formed, pattern_octets}
 use Rattle.scenario.proofs.Said.{no_bytes, no_options_said}
@@ -67,6 +69,7 @@ record IsGood (event : Event) : Type 0 where
   pub injected : InjectsInForm 3 event
   pub closed : InjectsNothing event
   pub said : IsSaid event
+  pub first : IsOfVersion1 event
   pub ticks : ticks_of event ≤ 200
 
 one_more_byte : (octet : ℕ) (octets : List ℕ) → octet < 256 → IsBytes octets → IsBytes (octet ∷ octets)
@@ -111,6 +114,7 @@ send_good from to len start short small = record {
   congested = tt;
   injected = tt;
   closed = tt;
+  first = tt;
   said = ((short, small), record { life = is_within 1 255 32 (omega arith) (omega arith); options = no_options_said });
   ticks = omega arith;
 }
@@ -124,24 +128,61 @@ echo_good from to len start short small = record {
   congested = tt;
   injected = tt;
   closed = tt;
+  first = tt;
   said = (short, small);
   ticks = omega arith;
 }
 
 delivery_good : (copy system : ℕ) → IsWithin 1 1000000000 copy → system < 6 → IsGood (Deliver copy system)
-delivery_good copy system said h = record { fair = tt; formed = tt; placed = h; sender = tt; congested = tt; injected = tt; closed = tt; said = said; ticks = omega arith }
+delivery_good copy system said h = record { fair = tt; formed = tt; placed = h; sender = tt; congested = tt; injected = tt; closed = tt; first = tt; said = said; ticks = omega arith }
 
 restart_good : (system : ℕ) → system < 6 → IsGood (Restart system)
-restart_good system h = record { fair = tt; formed = tt; placed = h; sender = tt; congested = tt; injected = tt; closed = tt; said = tt; ticks = omega arith }
+restart_good system h = record { fair = tt; formed = tt; placed = h; sender = tt; congested = tt; injected = tt; closed = tt; first = tt; said = tt; ticks = omega arith }
 
 loss_good : (count : ℕ) → IsWithin 1 100000 count → IsGood (Lose count)
-loss_good count said = record { fair = tt; formed = tt; placed = tt; sender = tt; congested = tt; injected = tt; closed = tt; said = said; ticks = omega arith }
+loss_good count said = record { fair = tt; formed = tt; placed = tt; sender = tt; congested = tt; injected = tt; closed = tt; first = tt; said = said; ticks = omega arith }
 
 settle_good : (count : ℕ) → IsWithin 1 100000 count → IsGood (Settle count)
-settle_good count said = record { fair = tt; formed = tt; placed = tt; sender = tt; congested = tt; injected = tt; closed = tt; said = said; ticks = omega arith }
+settle_good count said = record { fair = tt; formed = tt; placed = tt; sender = tt; congested = tt; injected = tt; closed = tt; first = tt; said = said; ticks = omega arith }
 
 ticks_good : (count : ℕ) → 1 ≤ count → count ≤ 200 → IsGood (Tick count)
-ticks_good count l h = record { fair = tt; formed = tt; placed = tt; sender = tt; congested = tt; injected = tt; closed = tt; said = is_within 1 65535 count l (omega arith); ticks = h }
+ticks_good count l h = record { fair = tt; formed = tt; placed = tt; sender = tt; congested = tt; injected = tt; closed = tt; first = tt; said = is_within 1 65535 count l (omega arith); ticks = h }
+
+-- what is so of each event of version 1
+
+old_changes : (subnets : ℕ) (systems : List SystemConfiguration) (event : Event) → IsOfVersion1 event → ChangesInForm subnets systems event
+old_changes subnets systems (Send system from to body ask) first = tt
+old_changes subnets systems (Deliver copy system) first = tt
+old_changes subnets systems (Settle count) first = tt
+old_changes subnets systems (Lose count) first = tt
+old_changes subnets systems (Tick count) first = tt
+old_changes subnets systems (Restart system) first = tt
+old_changes subnets systems (Echo system from to body) first = tt
+old_changes subnets systems (Congest system on) first = tt
+old_changes subnets systems (Inject subnet from to octets) first = tt
+old_changes subnets systems (event.Mtu subnet mtu) first = absurd first
+old_changes subnets systems (event.Route system route) first = absurd first
+old_changes subnets systems (event.Unroute system prefix) first = absurd first
+old_changes subnets systems (event.Port system number subnet snpa) first = absurd first
+
+old_may_come : (standing : Standing) (event : Event) → IsOfVersion1 event → MayCome standing event
+old_may_come standing (Send system from to body ask) first = tt
+old_may_come standing (Deliver copy system) first = tt
+old_may_come standing (Settle count) first = tt
+old_may_come standing (Lose count) first = tt
+old_may_come standing (Tick count) first = tt
+old_may_come standing (Restart system) first = tt
+old_may_come standing (Echo system from to body) first = tt
+old_may_come standing (Congest system on) first = tt
+old_may_come standing (Inject subnet from to octets) first = tt
+old_may_come standing (event.Mtu subnet mtu) first = absurd first
+old_may_come standing (event.Route system route) first = absurd first
+old_may_come standing (event.Unroute system prefix) first = absurd first
+old_may_come standing (event.Port system number subnet snpa) first = absurd first
+
+old_stand : (standing : Standing) (events : List Event) → AllByRecursion IsOfVersion1 events → EachMayCome standing events
+old_stand standing [] first = tt
+old_stand standing (event ∷ events) first = (old_may_come standing event first.0, old_stand (standing_after event standing) events first.1)
 
 -- what is drawn at any state has this property
 abbrev Draws : {A : Type 0} → (A → Type 0) → Drawn A → Type 0
@@ -256,6 +297,9 @@ storm_fit seed fit =
       senders = AllByRecursion-implies IsGood (IsFromHost the_systems) (λ event is. is.sender) (storm_events seed) good.each;
       congested = AllByRecursion-implies IsGood (IsOfRouter the_systems) (λ event is. is.congested) (storm_events seed) good.each;
       injected = AllByRecursion-implies IsGood (InjectsInForm 3) (λ event is. is.injected) (storm_events seed) good.each;
+      of_version = λ _. AllByRecursion-implies IsGood IsOfVersion1 (λ event is. is.first) (storm_events seed) good.each;
+      changes = AllByRecursion-implies IsGood (ChangesInForm 3 the_systems) (λ event is. old_changes 3 the_systems event is.first) (storm_events seed) good.each;
+      stand = old_stand (standing_of the_systems) (storm_events seed) (AllByRecursion-implies IsGood IsOfVersion1 (λ event is. is.first) (storm_events seed) good.each);
       said = AllByRecursion-implies IsGood IsSaid (λ event is. is.said) (storm_events seed) good.each;
       few_events = omega (arith, good.few);
       passed = omega (arith, good.passed);

@@ -15,7 +15,8 @@ use Rattle.clnp_plan.specs.Configuration.{SystemConfiguration}
 use Rattle.clnp_plan.specs.declared.config.PortConfig.{PortConfig}
 use Rattle.scenario.specs.Scenario.{Plan}
 use Rattle.scenario.specs.Words.{is_taken}
-use Rattle.scenario.specs.Declarations.{Declarations, DeclaredSystem, NumberedPort, is_among, changed_at, count_below, has_number, have_no_gap, configuration_of}
+use Rattle.scenario.specs.Declarations.{Declarations, DeclaredSystem, NumberedPort, count_below, has_number, have_no_gap, configuration_of}
+use Rattle.scenario.specs.Standing.{is_among, changed_at}
 use Rattle.scenario.proofs.Apart.{AreApart, apart_of, before_is_other}
 
 -- ports by their numbers, the first of which is given

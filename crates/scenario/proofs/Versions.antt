@@ -8,7 +8,7 @@ use Rattle.scenario.specs.Canonical.{text_of}
 use Rattle.scenario.specs.Codes.{number_of}
 use Rattle.scenario.specs.Grammar.{BadLine, ReadTo, at_line, newest_version, version_of, header_from, declarations_from, plan_behind, plan_at, plan_of, plan_of_version_1, counted_event, events_from}
 use Rattle.scenario.specs.Declarations.{nothing_declared, configuration_of}
-use Rattle.scenario.specs.Events.{scene_of, nothing_counted}
+use Rattle.scenario.specs.Events.{first_scene, nothing_counted}
 use Rattle.scenario.specs.Migration.{IsReadAlike, migrated, migration_of}
 use Rattle.scenario.specs.Scenario.{IsFit, Plan}
 use Rattle.scenario.specs.Words.{◌>>=◌, found, is_skipped}
@@ -64,7 +64,7 @@ behind_has_version : (header : ReadTo ℕ) → IfOk (plan_behind None header) (�
 behind_has_version header =
     let Has : Plan → Type 0 = λ plan. plan.version ≡ header.value in
     behind_result (declarations_from header.number (nothing_declared header.value) header.lines) _ Has (λ declared _.
-    behind_result (events_from counted_event (scene_of declared.value.subnets (map configuration_of declared.value.systems)) declared.number nothing_counted declared.lines) _ Has (λ events _. refl))
+    behind_result (events_from counted_event (first_scene header.value declared.value.subnets (map configuration_of declared.value.systems)) declared.number nothing_counted declared.lines) _ Has (λ events _. refl))
 
 -- ---- what is read alike
 
@@ -156,6 +156,9 @@ migrated_fit plan fit =
       senders = fit.senders;
       congested = fit.congested;
       injected = fit.injected;
+      of_version = λ one. absurd (omega (arith, one));
+      changes = fit.changes;
+      stand = fit.stand;
       said = fit.said;
       few_events = fit.few_events;
       passed = fit.passed;

@@ -21,12 +21,12 @@ use Rattle.clnp_plan.specs.Nsap.declared.target.Target.TheVariants.{System, EndS
 use Rattle.clnp_plan.specs.ClnpBase.Text.{words_of, lines_of, onto_first, ends_word, is_digit, decimal_of}
 use Rattle.clnp_plan.proofs.ClnpBase.Decimals.{value_after}
 use Rattle.clnp_plan.proofs.ClnpBase.Lists.{AllByRecursion-append, AllByRecursion-implies}
-use Rattle.clnp_plan.specs.Configuration.{AreDistinct}
+use Rattle.clnp_plan.specs.Configuration.{AreDistinct, IsWithin}
 use Rattle.clnp_plan.specs.Journal as journal
 use Rattle.clnp_plan.specs.Journal.{behind_space, line_of}
 use Rattle.scenario.specs.Canonical.{keyed, spelled_behind}
 use Rattle.scenario.specs.Scenario.{IsTarget}
-use Rattle.scenario.specs.Words.{◌>>=◌, wanted, found, is_letter, is_letter_or_digit, is_name, declared_word, number_within, number_word, address_read, address_word, after_prefix, digits_read, has_prefix, target_word, frame_word, octets_behind, number_behind, is_skipped}
+use Rattle.scenario.specs.Words.{◌>>=◌, wanted, found, is_letter, is_letter_or_digit, is_name, declared_word, number_within, number_word, is_digits, address_read, address_word, after_prefix, digits_read, has_prefix, target_word, frame_word, octets_behind, number_behind, is_skipped}
 use Rattle.scenario.specs.declared.code.Code.{Code}
 use Rattle.scenario.specs.declared.code.Code.TheVariants as bad
 use Rattle.clnp_plan.proofs.ClnpBase.Reading.{words_of-next, IsWithinLine, lines_of-line}
@@ -209,6 +209,21 @@ decimal_is_word n = record {
 pub number_read : (low high n : ℕ) → low ≤ n → n ≤ high → n < 2 ^ 64 → number_word low high (decimal n) ≡ Ok n
 number_read low high n l m h =
     ap (λ (o : Option ℕ). found (number_within low high o) bad.Number) (decimal_read n h) ∙ rw (le-leb low n l, le-leb n high m) refl
+
+some_digits : (word : List ℕ) → 0 < length word → list_all is_digit word ≡ true → is_digits word ≡ true
+some_digits [] some digits = absurd (omega arith)
+some_digits (c ∷ cs) some digits = rw (ne_eqb (suc (length cs)) 0 (λ e. omega (arith, e))) digits
+
+pub mtu_digits : (mtu : ℕ) → IsWithin 512 65535 mtu → is_digits (decimal mtu) ≡ true
+mtu_digits mtu within =
+    let most = within.most in
+    let word = decimal_is_word mtu in
+    some_digits (decimal mtu) word.some (decimal_digits mtu (omega arith))
+
+pub mtu_read : (mtu : ℕ) → IsWithin 512 65535 mtu → number_within 512 65535 (decimal_of (decimal mtu)) ≡ Some mtu
+mtu_read mtu within =
+    let most = within.most in
+    ap (number_within 512 65535) (decimal_read mtu (omega arith)) ∙ rw (le-leb 512 mtu within.least, le-leb mtu 65535 within.most) refl
 
 -- ---- what stands behind a key
 

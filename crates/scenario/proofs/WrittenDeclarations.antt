@@ -1,12 +1,12 @@
 -- The declarations as they are written are read as what is declared.
-use Rattle.std.proofs.Common.{◌≡◌, ◌≢◌, inl, inr, ℕ, suc, ◌+◌, ◌<◌, ◌≤◌, ◌==◌, nat_lt, Bool, true, false, List, [], ◌∷◌, ◌++◌, map, filter, length, slice_get, codes, Option, None, Some, option_map, Result, Ok, refl, sym, ap, ◌∙◌, subst, arith, length-append, append_assoc}
+use Rattle.std.proofs.Common.{◌≡◌, ◌≢◌, inl, inr, ℕ, ◌+◌, ◌<◌, ◌≤◌, ◌==◌, nat_lt, Bool, true, false, List, [], ◌∷◌, ◌++◌, map, filter, length, slice_get, codes, Option, None, Some, option_map, Result, Ok, refl, sym, ap, ◌∙◌, subst, arith, length-append, append_assoc}
 use Rattle.std.specs.List.{AllByRecursion, flat_map, list_all}
 use Rattle.std.specs.Fmt.{decimal}
-use Rattle.std.proofs.lemmas.Bool.{cases_Bool, eq-eqb, ne_eqb, le-leb, lt-ltb}
+use Rattle.std.proofs.lemmas.Bool.{cases_Bool, eq-eqb, le-leb, lt-ltb}
 use Rattle.std.proofs.lemmas.List.{append-nil, length-map, map-append}
 use Rattle.std.proofs.lemmas.List.Elements.{filter-append, recursion_from_All}
 use Rattle.std.proofs.lemmas.Option.{slice_get_within}
-use Rattle.clnp_plan.specs.ClnpBase.Text.{lines_of, decimal_of, is_digit}
+use Rattle.clnp_plan.specs.ClnpBase.Text.{lines_of}
 use Rattle.clnp_plan.proofs.ClnpBase.Choices.{one_of}
 use Rattle.clnp_plan.proofs.ClnpBase.Maps.{map-map}
 use Rattle.clnp_plan.specs.Nsap.Address.{IsAddress}
@@ -21,33 +21,19 @@ use Rattle.clnp_plan.specs.declared.config.Role.{Role}
 use Rattle.clnp_plan.specs.declared.config.Role.TheVariants.{Host, Router}
 use Rattle.scenario.specs.Scenario.{AreOnDifferent, IsFit, IsOn, Plan, Subnetwork, snpas_of}
 use Rattle.scenario.specs.Canonical.{address_text, belongings_text, declarations_text, limits_text, port_text, port_texts, role_text, route_text, setting_texts, skew_words, subnet_name, subnet_text, system_text}
-use Rattle.scenario.specs.Words.{is_name, declared_word, number_within, is_digits}
-use Rattle.scenario.specs.Declarations.{Declarations, DeclaredSystem, NumberedPort, nothing_declared, system_names, changed_at, with_address, with_port, with_route, most_addresses, most_ports, snpas_on, mtu_at, role_word, is_router, is_complete, has_limits}
+use Rattle.scenario.specs.Words.{is_name, declared_word}
+use Rattle.scenario.specs.Declarations.{Declarations, DeclaredSystem, NumberedPort, nothing_declared, system_names, with_address, with_port, with_route, most_addresses, most_ports, snpas_on, mtu_at, role_word, is_router, is_complete, has_limits}
+use Rattle.scenario.specs.Standing.{changed_at}
 use Rattle.scenario.specs.Grammar.{declarations_from}
 use Rattle.scenario.specs.declared.code.Code.{Code}
 use Rattle.scenario.proofs.DeclaredLines.{GoesOn, stays, goes_through, line_goes, lines_go, limits_given, subnet_given, system_given, address_given, port_given, route_given}
 use Rattle.scenario.proofs.Stages.{numbered_from, declared_system, bare, declared_with, declared_of, changed_between, found_between, all_between, together, has_other, is_other, none_pass, not_among, not_taken, next_port, no_such_port, number_is_there, no_gap, length-numbered_from}
-use Rattle.scenario.proofs.Written.{IsWord, ReadsBack, address_is_word, address_word_read, decimal_is_word, decimal_digits, decimal_read, declared_word_read, name_is_word, spelled}
+use Rattle.scenario.proofs.Written.{IsWord, ReadsBack, address_is_word, address_word_read, decimal_is_word, declared_word_read, mtu_digits, mtu_read, name_is_word, spelled}
 use Rattle.scenario.proofs.WrittenEvents.{AreNamed, name_of_subnet, subnet_is_word, subnet_read}
 use Rattle.scenario.proofs.WrittenPrefixes.{prefix_is_word, prefix_read}
 use Rattle.scenario.proofs.WrittenSettings.{number_is_read, settings_in_order, settings_are_words, settings_once, settings_read}
 
 -- ---- words
-
-some_digits : (word : List ℕ) → 0 < length word → list_all is_digit word ≡ true → is_digits word ≡ true
-some_digits [] some digits = absurd (omega arith)
-some_digits (c ∷ cs) some digits = rw (ne_eqb (suc (length cs)) 0 (λ e. omega (arith, e))) digits
-
-mtu_digits : (mtu : ℕ) → IsWithin 512 65535 mtu → is_digits (decimal mtu) ≡ true
-mtu_digits mtu within =
-    let most = within.most in
-    let word = decimal_is_word mtu in
-    some_digits (decimal mtu) word.some (decimal_digits mtu (omega arith))
-
-mtu_read : (mtu : ℕ) → IsWithin 512 65535 mtu → number_within 512 65535 (decimal_of (decimal mtu)) ≡ Some mtu
-mtu_read mtu within =
-    let most = within.most in
-    ap (number_within 512 65535) (decimal_read mtu (omega arith)) ∙ rw (le-leb 512 mtu within.least, le-leb mtu 65535 within.most) refl
 
 role_is_word : (role : Role) → IsWord (role_text role)
 role_is_word Host = spelled (codes "host") refl

@@ -1,33 +1,38 @@
 -- Each event that is written is read as the same event.
-use Rattle.std.proofs.Common.{◌≡◌, ℕ, ◌+◌, ◌<◌, ◌≤◌, ◌&&◌, not, nat_le, Bool, true, false, List, [], ◌∷◌, ◌++◌, map, length, take, drop, slice_get, codes, option_map, Option, None, Some, Result, Ok, is_some, refl, sym, ap, subst, ◌∙◌, append_assoc, length-append, arith}
+use Rattle.std.proofs.Common.{◌≡◌, ℕ, ◌+◌, ◌<◌, ◌≤◌, ◌==◌, ◌&&◌, not, nat_le, if◌then◌else◌, Bool, true, false, List, [], ◌∷◌, ◌++◌, map, length, take, drop, slice_get, codes, option_map, Option, None, Some, Result, Ok, Err, is_some, refl, sym, ap, subst, ◌∙◌, append_assoc, length-append, arith}
 use Rattle.std.specs.List.{AllByRecursion, list_all, list_any, position, position_or_len}
 use Rattle.std.specs.Fmt.{decimal}
 use Rattle.std.proofs.Math.Seq.{take-append_seam, drop-append-add}
 use Rattle.std.proofs.lemmas.Bool.{and_parts, ne_eqb, le-leb, leb-true, lt-ltb}
 use Rattle.clnp_plan.proofs.ClnpBase.Lists.{AllByRecursion-slice_get, slice_get_some}
-use Rattle.clnp_plan.specs.ClnpBase.Text.{is_digit}
+use Rattle.clnp_plan.specs.ClnpBase.Text.{decimal_of, is_digit}
 use Rattle.hex.specs.Hex.{IsBytes}
+use Rattle.clnp_plan.specs.Nsap.Prefix.{prefix_text}
 use Rattle.clnp_plan.specs.Nsap.Text.{hex_text}
 use Rattle.clnp_plan.specs.Nsap.declared.target.Target.{Target}
 use Rattle.clnp_plan.specs.ClnpOptions.Rules.{refusal}
-use Rattle.clnp_plan.specs.Configuration.{AreDistinct, SystemConfiguration}
+use Rattle.clnp_plan.specs.Forwarding.declared.route.Route.{Route}
+use Rattle.clnp_plan.specs.Configuration.{AreDistinct, IsWithin, SystemConfiguration}
 use Rattle.clnp_plan.specs.Journal as journal
 use Rattle.clnp_plan.specs.Journal.{line_of}
 use Rattle.clnp_plan.specs.declared.ask.Ask.{Ask}
 use Rattle.clnp_plan.specs.declared.config.Role.TheVariants.{Host, Router}
 use Rattle.scenario.specs.Canonical.{keyed, spelled_behind, body_text, subnet_name, system_name, word_if, options_words, ask_words, event_text}
-use Rattle.scenario.specs.Scenario.{Subnetwork, AsksInForm, InjectsInForm, IsPlaced, IsFromHost, IsOfRouter, IsSaid, IsSaidBody, IsSaidAsk, AreSaidOptions}
-use Rattle.scenario.specs.Words.{◌>>=◌, wanted, found, is_name, declared_word, number_word, address_word, after_prefix, is_colon, fields_at, two_fields, pattern_word, data_word, life_word, options_read, options_word, octets_behind, each_once, frame_word, target_word}
-use Rattle.scenario.specs.Events.{wish_word, wish_words, wish_key, own_life, ask_of, is_host_at, host_word, is_router_at, router_word, on_word, send_line, deliver_line, tick_line, restart_line, echo_line, congest_line, inject_line, count_line, scene_of, event_line}
+use Rattle.scenario.specs.Scenario.{Subnetwork, AsksInForm, ChangesInForm, HasNumber, InjectsInForm, IsOfVersion1, IsPlaced, IsFromHost, IsOfRouter, IsSaid, IsSaidBody, IsSaidAsk, AreSaidOptions}
+use Rattle.scenario.specs.Standing.{MayCome, Standing, is_rival, is_second, takes_prefix}
+use Rattle.scenario.specs.Words.{◌>>=◌, wanted, found, is_name, declared_word, number_within, number_word, is_digits, address_word, prefix_word, after_prefix, is_colon, fields_at, two_fields, pattern_word, data_word, life_word, options_read, options_word, octets_behind, each_once, frame_word, target_word}
+use Rattle.scenario.specs.Events.{wish_word, wish_words, wish_key, own_life, ask_of, is_host_at, host_word, is_router_at, router_word, on_word, send_line, deliver_line, tick_line, restart_line, echo_line, congest_line, inject_line, count_line, has_number, port_word, mtu_line, route_line, unroute_line, port_line, change_line, Scene, scene_of, event_line}
 use Rattle.scenario.specs.declared.code.Code.{Code}
 use Rattle.scenario.specs.declared.code.Code.TheVariants as bad
 use Rattle.scenario.specs.declared.event.Body.{Body}
 use Rattle.scenario.specs.declared.event.Body.TheVariants.{Hex, Pattern}
 use Rattle.scenario.specs.declared.event.Event.{Event}
+use Rattle.scenario.specs.declared.event.Event.TheVariants as event
 use Rattle.scenario.specs.declared.event.Event.TheVariants.{Send, Deliver, Settle, Lose, Tick, Restart, Echo, Congest, Inject}
 use Rattle.scenario.specs.declared.wish.Wish.{Wish}
 use Rattle.scenario.specs.declared.wish.Wish.TheVariants.{Lasting, NoReport, Whole, Options}
-use Rattle.scenario.proofs.Written.{IsWord, spelled, decimal_is_word, decimal_digits, number_read, read_behind, number_read_behind, word_behind, keyed_is_word, address_is_word, ReadsBack, address_word_read, frame_word_read, spelled_is_word, octets_read_behind, target_is_word, target_word_read, name_is_word, declared_word_read, hex_is_word}
+use Rattle.scenario.proofs.Written.{IsWord, spelled, decimal_is_word, decimal_digits, number_read, read_behind, number_read_behind, word_behind, keyed_is_word, address_is_word, ReadsBack, address_word_read, frame_word_read, spelled_is_word, octets_read_behind, target_is_word, target_word_read, name_is_word, declared_word_read, hex_is_word, mtu_digits, mtu_read}
+use Rattle.scenario.proofs.WrittenPrefixes.{prefix_is_word, prefix_read}
 use Rattle.clnp_plan.proofs.ClnpBase.ListSteps.{slice_get_map}
 
 -- ---- steps of a reading
@@ -294,6 +299,7 @@ pub record IsTold (subnets : List Subnetwork) (systems : List SystemConfiguratio
   pub congested : IsOfRouter systems event
   pub injected : InjectsInForm (length subnets) event
   pub said : IsSaid event
+  pub changes : ChangesInForm (length subnets) systems event
 
 -- the first word of its line
 abbrev pub keyword_of : Event → List ℕ
@@ -306,6 +312,10 @@ keyword_of (Restart system) = codes "restart"
 keyword_of (Echo system from to body) = codes "echo"
 keyword_of (Congest system on) = codes "congest"
 keyword_of (Inject subnet from to octets) = codes "inject"
+keyword_of (event.Mtu subnet mtu) = codes "mtu"
+keyword_of (event.Route system route) = codes "route"
+keyword_of (event.Unroute system prefix) = codes "unroute"
+keyword_of (event.Port system number subnet snpa) = codes "port"
 
 -- and the others
 abbrev pub others_of : List Subnetwork → List SystemConfiguration → Event → List (List ℕ)
@@ -320,6 +330,12 @@ others_of subnets systems (Echo system from to body) = system_name (slice_get sy
 others_of subnets systems (Congest system on) = system_name (slice_get systems system) ∷ journal.on_or_off on ∷ []
 others_of subnets systems (Inject subnet from to octets) =
     subnet_name (slice_get subnets subnet) ∷ hex_text from ∷ journal.target_text to ∷ hex_text octets ∷ []
+others_of subnets systems (event.Mtu subnet mtu) = subnet_name (slice_get subnets subnet) ∷ decimal mtu ∷ []
+others_of subnets systems (event.Route system route) =
+    system_name (slice_get systems system) ∷ prefix_text route.prefix ∷ decimal route.port ∷ hex_text route.snpa ∷ hex_text route.title ∷ []
+others_of subnets systems (event.Unroute system prefix) = system_name (slice_get systems system) ∷ prefix_text prefix ∷ []
+others_of subnets systems (event.Port system number subnet snpa) =
+    system_name (slice_get systems system) ∷ decimal number ∷ subnet_name (slice_get subnets subnet) ∷ hex_text snpa ∷ []
 
 pub event_text_is : (subnets : List Subnetwork) (systems : List SystemConfiguration) (event : Event)
     → event_text subnets systems event ≡ line_of (keyword_of event) (others_of subnets systems event)
@@ -332,6 +348,10 @@ event_text_is subnets systems (Restart system) = refl
 event_text_is subnets systems (Echo system from to body) = refl
 event_text_is subnets systems (Congest system on) = refl
 event_text_is subnets systems (Inject subnet from to octets) = refl
+event_text_is subnets systems (event.Mtu subnet mtu) = refl
+event_text_is subnets systems (event.Route system route) = refl
+event_text_is subnets systems (event.Unroute system prefix) = refl
+event_text_is subnets systems (event.Port system number subnet snpa) = refl
 
 -- ---- each kind of line
 
@@ -407,12 +427,77 @@ inject_of names name source target frame subnet from to octets is_subnet is_from
     (step (frame_word frame) _ octets event is_frame
     (step_wanted (nat_le (length octets) 70000) bad.Count _ event (le-leb (length octets) 70000 few) refl))))
 
+module _ (scene : Scene) where
+  mtu_of : (name text : List ℕ) (subnet mtu : ℕ) → declared_word scene.subnets name ≡ Ok subnet → is_digits text ≡ true
+      → number_within 512 65535 (decimal_of text) ≡ Some mtu → change_line scene (codes "mtu") (name ∷ text ∷ []) ≡ Ok (event.Mtu subnet mtu)
+  unfolding change_line mtu_line
+  mtu_of name text subnet mtu is_subnet digits is_mtu =
+      let given : Result Event Code = Ok (event.Mtu subnet mtu) in
+      step (declared_word scene.subnets name) _ subnet given is_subnet
+      (step_wanted (is_digits text) bad.Number _ given digits
+      (step_found (number_within 512 65535 (decimal_of text)) bad.Mtu _ mtu given is_mtu refl))
+
+  route_of : (name prefix_word_is port_word_is snpa_word_is title_word_is : List ℕ) (system : ℕ) (route : Route)
+      → router_word scene.names scene.systems name ≡ Ok system → prefix_word prefix_word_is ≡ Ok route.prefix
+      → port_word (slice_get scene.systems system) port_word_is ≡ Ok route.port → address_word snpa_word_is ≡ Ok route.snpa
+      → address_word title_word_is ≡ Ok route.title → takes_prefix route.prefix (slice_get scene.standing.prefixes system) ≡ true
+      → change_line scene (codes "route") (name ∷ prefix_word_is ∷ port_word_is ∷ snpa_word_is ∷ title_word_is ∷ []) ≡ Ok (event.Route system route)
+  unfolding change_line route_line
+  route_of name first second third fourth system route is_system is_prefix is_port is_snpa is_title room =
+      let given : Result Event Code = Ok (event.Route system route) in
+      step (router_word scene.names scene.systems name) _ system given is_system
+      (step (prefix_word first) _ route.prefix given is_prefix
+      (step (port_word (slice_get scene.systems system) second) _ route.port given is_port
+      (step (address_word third) _ route.snpa given is_snpa
+      (step (address_word fourth) _ route.title given is_title
+      (step_wanted (takes_prefix route.prefix (slice_get scene.standing.prefixes system)) bad.Count _ given room refl)))))
+
+  unroute_of : (name text : List ℕ) (system : ℕ) (prefix : List ℕ) → router_word scene.names scene.systems name ≡ Ok system
+      → prefix_word text ≡ Ok prefix → change_line scene (codes "unroute") (name ∷ text ∷ []) ≡ Ok (event.Unroute system prefix)
+  unfolding change_line unroute_line
+  unroute_of name text system prefix is_system is_prefix =
+      let given : Result Event Code = Ok (event.Unroute system prefix) in
+      step (router_word scene.names scene.systems name) _ system given is_system (step (prefix_word text) _ prefix given is_prefix refl)
+
+  port_of : (name text on address : List ℕ) (system number subnet : ℕ) (snpa : List ℕ) → declared_word scene.names name ≡ Ok system
+      → port_word (slice_get scene.systems system) text ≡ Ok number → declared_word scene.subnets on ≡ Ok subnet → address_word address ≡ Ok snpa
+      → list_any (is_second system number subnet) scene.standing.spots ≡ false
+      → list_any (is_rival system number subnet snpa) scene.standing.spots ≡ false
+      → change_line scene (codes "port") (name ∷ text ∷ on ∷ address ∷ []) ≡ Ok (event.Port system number subnet snpa)
+  unfolding change_line port_line
+  port_of name text on address system number subnet snpa is_system is_number is_subnet is_snpa second rival =
+      let given : Result Event Code = Ok (event.Port system number subnet snpa) in
+      step (declared_word scene.names name) _ system given is_system
+      (step (port_word (slice_get scene.systems system) text) _ number given is_number
+      (step (declared_word scene.subnets on) _ subnet given is_subnet
+      (step (address_word address) _ snpa given is_snpa
+      (step_wanted (not (list_any (is_second system number subnet) scene.standing.spots)) bad.DupName _ given (rw second refl)
+      (step_wanted (not (list_any (is_rival system number subnet snpa) scene.standing.spots)) bad.DupAddress _ given (rw rival refl) refl)))))
+
+port_read : (systems : List SystemConfiguration) (place number : ℕ) → place < length systems → HasNumber systems place number → IsWithin 0 7 number
+    → port_word (slice_get systems place) (decimal number) ≡ Ok number
+port_read systems place number within has said =
+    let found = slice_get_some systems place within in
+    let there : has_number number (slice_get systems place) ≡ true = rw found.1 (lt-ltb number (length found.0.ports) (has found.0 found.1)) in
+    step (number_word 0 7 (decimal number)) _ number (Ok number) (number_read 0 7 number said.least said.most (omega (arith, said.most)))
+    (step_wanted (has_number number (slice_get systems place)) bad.UnknownName (λ _. Ok number) (Ok number) there refl)
+
+-- that an event is one of its version, and what those before it leave
+pub record IsInTurn (version : ℕ) (standing : Standing) (event : Event) : Type 0 where
+  pub of_version : version ≡ 1 → IsOfVersion1 event
+  pub may : MayCome standing event
+
+-- a line that is read as an event that changes the network, in a later version
+later_line : (scene : Scene) (keyword : List ℕ) (words : List (List ℕ)) (event : Event) → (scene.version ≡ 1 → ⊥)
+    → change_line scene keyword words ≡ Ok event → (if scene.version == 1 then Err bad.Syntax else change_line scene keyword words) ≡ Ok event
+later_line scene keyword words event later is = rw (ne_eqb scene.version 1 later) is
+
 -- the line of an event is read as the event
-pub event_read : ReadsBack → (subnets : List Subnetwork) (systems : List SystemConfiguration) → AreNamed name_of_subnet subnets → AreNamed name_of_system systems
-    → (event : Event) → IsTold subnets systems event
-    → event_line (scene_of subnets systems) (keyword_of event ∷ others_of subnets systems event) ≡ Ok event
+pub event_read : ReadsBack → (version : ℕ) (subnets : List Subnetwork) (systems : List SystemConfiguration) → AreNamed name_of_subnet subnets → AreNamed name_of_system systems
+    → (standing : Standing) (event : Event) → IsTold subnets systems event → IsInTurn version standing event
+    → event_line (scene_of version subnets systems standing) (keyword_of event ∷ others_of subnets systems event) ≡ Ok event
 unfolding event_line
-event_read law subnets systems named_subnets named_systems (Send system from to body ask) told =
+event_read law version subnets systems named_subnets named_systems standing (Send system from to body ask) told turn =
     send_of (map name_of_system systems) systems (system_name (slice_get systems system)) (hex_text from) (hex_text to) (body_text body) (ask_words ask)
     system from to body (wishes_of ask) ask
     (host_read systems system named_systems told.placed told.sender)
@@ -420,33 +505,56 @@ event_read law subnets systems named_subnets named_systems (Send system from to 
     (data_read body told.said.0) (wishes_read ask told.said.1)
     (once ask.life (not ask.report) (not ask.segment) ask.options)
     (asked (own_life (slice_get systems system)) ask.life ask.report ask.segment ask.options)
-event_read law subnets systems named_subnets named_systems (Deliver copy system) told =
+event_read law version subnets systems named_subnets named_systems standing (Deliver copy system) told turn =
     deliver_of (map name_of_system systems) (decimal copy) (system_name (slice_get systems system)) copy system
     (number_read 1 1000000000 copy told.said.least told.said.most (omega (arith, told.said.most)))
     (system_read systems system named_systems told.placed)
-event_read law subnets systems named_subnets named_systems (Settle count) told =
+event_read law version subnets systems named_subnets named_systems standing (Settle count) told turn =
     step (count_line (decimal count ∷ [])) (λ n. Ok (Settle n)) count (Ok (Settle count))
     (count_of (decimal count) count (number_read 1 100000 count told.said.least told.said.most (omega (arith, told.said.most)))) refl
-event_read law subnets systems named_subnets named_systems (Lose count) told =
+event_read law version subnets systems named_subnets named_systems standing (Lose count) told turn =
     step (count_line (decimal count ∷ [])) (λ n. Ok (Lose n)) count (Ok (Lose count))
     (count_of (decimal count) count (number_read 1 100000 count told.said.least told.said.most (omega (arith, told.said.most)))) refl
-event_read law subnets systems named_subnets named_systems (Tick count) told =
+event_read law version subnets systems named_subnets named_systems standing (Tick count) told turn =
     step (tick_line (decimal count ∷ [])) (λ n. Ok (Tick n)) count (Ok (Tick count))
     (tick_of (decimal count) count (number_read 1 65535 count told.said.least told.said.most (omega (arith, told.said.most)))) refl
-event_read law subnets systems named_subnets named_systems (Restart system) told =
+event_read law version subnets systems named_subnets named_systems standing (Restart system) told turn =
     restart_of (map name_of_system systems) (system_name (slice_get systems system)) system (system_read systems system named_systems told.placed)
-event_read law subnets systems named_subnets named_systems (Echo system from to body) told =
+event_read law version subnets systems named_subnets named_systems standing (Echo system from to body) told turn =
     echo_of (map name_of_system systems) (system_name (slice_get systems system)) (hex_text from) (hex_text to) (body_text body) system from to body
     (system_read systems system named_systems told.placed)
     (address_word_read law from told.formed.0) (address_word_read law to told.formed.1) (data_read body told.said)
-event_read law subnets systems named_subnets named_systems (Congest system on) told =
+event_read law version subnets systems named_subnets named_systems standing (Congest system on) told turn =
     congest_of (map name_of_system systems) systems (system_name (slice_get systems system)) (journal.on_or_off on) system on
     (router_read systems system named_systems told.placed told.congested) (on_read on)
-event_read law subnets systems named_subnets named_systems (Inject subnet from to octets) told =
+event_read law version subnets systems named_subnets named_systems standing (Inject subnet from to octets) told turn =
     inject_of (map name_of_subnet subnets) (subnet_name (slice_get subnets subnet)) (hex_text from) (journal.target_text to) (hex_text octets) subnet from to octets
     (subnet_read subnets subnet named_subnets told.injected.placed)
     (address_word_read law from told.injected.sender) (target_word_read law to told.injected.target)
     (frame_word_read octets told.injected.bytes) told.injected.many.most
+event_read law version subnets systems named_subnets named_systems standing (event.Mtu subnet mtu) told turn =
+    let scene : Scene = scene_of version subnets systems standing in
+    later_line scene (codes "mtu") (subnet_name (slice_get subnets subnet) ∷ decimal mtu ∷ []) (event.Mtu subnet mtu) turn.of_version
+    (mtu_of scene (subnet_name (slice_get subnets subnet)) (decimal mtu) subnet mtu
+    (subnet_read subnets subnet named_subnets told.changes) (mtu_digits mtu told.said) (mtu_read mtu told.said))
+event_read law version subnets systems named_subnets named_systems standing (event.Route system route) told turn =
+    let scene : Scene = scene_of version subnets systems standing in
+    later_line scene (codes "route") (others_of subnets systems (event.Route system route)) (event.Route system route) turn.of_version
+    (route_of scene (system_name (slice_get systems system)) (prefix_text route.prefix) (decimal route.port) (hex_text route.snpa) (hex_text route.title) system route
+    (router_read systems system named_systems told.placed told.congested) (prefix_read route.prefix told.changes.prefix)
+    (port_read systems system route.port told.placed told.changes.there told.said)
+    (address_word_read law route.snpa told.changes.next.snpa) (address_word_read law route.title told.changes.next.title) turn.may)
+event_read law version subnets systems named_subnets named_systems standing (event.Unroute system prefix) told turn =
+    let scene : Scene = scene_of version subnets systems standing in
+    later_line scene (codes "unroute") (others_of subnets systems (event.Unroute system prefix)) (event.Unroute system prefix) turn.of_version
+    (unroute_of scene (system_name (slice_get systems system)) (prefix_text prefix) system prefix
+    (router_read systems system named_systems told.placed told.congested) (prefix_read prefix told.changes))
+event_read law version subnets systems named_subnets named_systems standing (event.Port system number subnet snpa) told turn =
+    let scene : Scene = scene_of version subnets systems standing in
+    later_line scene (codes "port") (others_of subnets systems (event.Port system number subnet snpa)) (event.Port system number subnet snpa) turn.of_version
+    (port_of scene (system_name (slice_get systems system)) (decimal number) (subnet_name (slice_get subnets subnet)) (hex_text snpa) system number subnet snpa
+    (system_read systems system named_systems told.placed) (port_read systems system number told.placed told.changes.there told.said)
+    (subnet_read subnets subnet named_subnets told.changes.placed) (address_word_read law snpa told.changes.address) turn.may.0 turn.may.1)
 
 pub keyword_is_word : (event : Event) → IsWord (keyword_of event)
 keyword_is_word (Send system from to body ask) = spelled (codes "send") refl
@@ -458,6 +566,10 @@ keyword_is_word (Restart system) = spelled (codes "restart") refl
 keyword_is_word (Echo system from to body) = spelled (codes "echo") refl
 keyword_is_word (Congest system on) = spelled (codes "congest") refl
 keyword_is_word (Inject subnet from to octets) = spelled (codes "inject") refl
+keyword_is_word (event.Mtu subnet mtu) = spelled (codes "mtu") refl
+keyword_is_word (event.Route system route) = spelled (codes "route") refl
+keyword_is_word (event.Unroute system prefix) = spelled (codes "unroute") refl
+keyword_is_word (event.Port system number subnet snpa) = spelled (codes "port") refl
 
 pub others_are_words : (subnets : List Subnetwork) (systems : List SystemConfiguration) → AreNamed name_of_subnet subnets → AreNamed name_of_system systems
     → (event : Event) → IsTold subnets systems event → AllByRecursion IsWord (others_of subnets systems event)
@@ -488,5 +600,26 @@ others_are_words subnets systems named_subnets named_systems (Inject subnet from
       target_is_word to told.injected.target,
       (hex_is_word octets told.injected.bytes (omega (arith, told.injected.many.least)), tt),
     ),
+  ),
+)
+others_are_words subnets systems named_subnets named_systems (event.Mtu subnet mtu) told =
+    (subnet_is_word subnets subnet named_subnets told.changes, (decimal_is_word mtu, tt))
+others_are_words subnets systems named_subnets named_systems (event.Route system route) told = (
+  system_is_word systems system named_systems told.placed,
+  (
+    prefix_is_word route.prefix told.changes.prefix,
+    (
+      decimal_is_word route.port,
+      (address_is_word route.snpa told.changes.next.snpa, (address_is_word route.title told.changes.next.title, tt)),
+    ),
+  ),
+)
+others_are_words subnets systems named_subnets named_systems (event.Unroute system prefix) told =
+    (system_is_word systems system named_systems told.placed, (prefix_is_word prefix told.changes, tt))
+others_are_words subnets systems named_subnets named_systems (event.Port system number subnet snpa) told = (
+  system_is_word systems system named_systems told.placed,
+  (
+    decimal_is_word number,
+    (subnet_is_word subnets subnet named_subnets told.changes.placed, (address_is_word snpa told.changes.address, tt)),
   ),
 )

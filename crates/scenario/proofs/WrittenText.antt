@@ -6,14 +6,16 @@ use Rattle.std.proofs.lemmas.List.Sums.{sum_by-cons}
 use Rattle.clnp_plan.specs.ClnpBase.Text.{lines_of, words_of}
 use Rattle.clnp_plan.specs.Configuration.{SystemConfiguration}
 use Rattle.scenario.specs.Canonical.{event_text}
-use Rattle.scenario.specs.Events.{Scene, scene_of, event_line, counted, are_few}
+use Rattle.scenario.specs.Events.{Scene, scene_of, scene_after, event_line, counted, are_few}
 use Rattle.scenario.specs.Grammar.{at_line, is_line_of, counted_event, events_from}
-use Rattle.scenario.specs.Scenario.{Subnetwork, passed_by, ticks_of}
+use Rattle.scenario.specs.Scenario.{Subnetwork, IsOfVersion1, passed_by, ticks_of}
+use Rattle.scenario.specs.Standing.{EachMayCome, Standing, standing_after}
 use Rattle.scenario.specs.Words.{is_skipped}
 use Rattle.scenario.specs.declared.code.Code.{Code}
 use Rattle.scenario.specs.declared.code.Code.TheVariants as bad
 use Rattle.scenario.specs.declared.counts.Counts.{Counts}
 use Rattle.scenario.specs.declared.event.Event.{Event}
+use Rattle.scenario.specs.declared.event.Event.TheVariants as event
 use Rattle.scenario.specs.declared.event.Event.TheVariants.{Send, Deliver, Settle, Lose, Tick, Restart, Echo, Congest, Inject}
 use Rattle.scenario.proofs.Written.{ReadsBack, words_of-line, text_of_line, line_read, line_not_skipped}
 use Rattle.scenario.proofs.WrittenEvents.{step, step_wanted, AreNamed, name_of_subnet, name_of_system, IsTold, keyword_of, others_of, keyword_is_word, others_are_words, event_text_is, event_read}
@@ -51,13 +53,13 @@ events_with : (scene : Scene) (n : ℕ) (counts : Counts) (line : List ℕ) (lin
     (event : Event) (others : List Event)
     → is_skipped line ≡ false → is_line_of (codes "end") (words_of line) ≡ false
     → counted_event scene counts (words_of line) ≡ Ok event
-    → events_from counted_event scene (n + 1) (counted counts event) lines ≡ Ok others
+    → events_from counted_event (scene_after scene event) (n + 1) (counted counts event) lines ≡ Ok others
     → events_from counted_event scene n counts (line ∷ lines) ≡ Ok (event ∷ others)
 unfolding events_from
 events_with scene n counts line lines event others stands goes_on first rest =
     rw (stands, goes_on)
     (step (at_line n (counted_event scene counts (words_of line))) _ event (Ok (event ∷ others)) (ap (λ (r : Result Event Code). at_line n r) first)
-    (step (events_from counted_event scene (n + 1) (counted counts event) lines) _ others (Ok (event ∷ others)) rest refl))
+    (step (events_from counted_event (scene_after scene event) (n + 1) (counted counts event) lines) _ others (Ok (event ∷ others)) rest refl))
 
 at_end : (scene : Scene) (n : ℕ) (counts : Counts)
     → events_from counted_event scene n counts (lines_of (codes "end\n")) ≡ Ok []
@@ -75,6 +77,10 @@ no_end subnets systems (Restart system) = refl
 no_end subnets systems (Echo system from to body) = refl
 no_end subnets systems (Congest system on) = refl
 no_end subnets systems (Inject subnet from to octets) = refl
+no_end subnets systems (event.Mtu subnet mtu) = refl
+no_end subnets systems (event.Route system route) = refl
+no_end subnets systems (event.Unroute system prefix) = refl
+no_end subnets systems (event.Port system number subnet snpa) = refl
 
 keyword_stands : (event : Event) → is_skipped (keyword_of event) ≡ false
 keyword_stands (Send system from to body ask) = refl
@@ -86,6 +92,10 @@ keyword_stands (Restart system) = refl
 keyword_stands (Echo system from to body) = refl
 keyword_stands (Congest system on) = refl
 keyword_stands (Inject subnet from to octets) = refl
+keyword_stands (event.Mtu subnet mtu) = refl
+keyword_stands (event.Route system route) = refl
+keyword_stands (event.Unroute system prefix) = refl
+keyword_stands (event.Port system number subnet snpa) = refl
 
 -- the text of an event and what follows it, as lines
 event_line_first : (subnets : List Subnetwork) (systems : List SystemConfiguration) → AreNamed name_of_subnet subnets → AreNamed name_of_system systems
@@ -99,13 +109,18 @@ event_line_first subnets systems named_subnets named_systems event events more t
     ∙ line_read (keyword_of event) (others_of subnets systems event) (rest ++ more) (keyword_is_word event)
     (others_are_words subnets systems named_subnets named_systems event told)
 
-pub events_read : ReadsBack → (subnets : List Subnetwork) (systems : List SystemConfiguration) → AreNamed name_of_subnet subnets → AreNamed name_of_system systems
-    → (n : ℕ) (counts : Counts) (events : List Event) → AllByRecursion (IsTold subnets systems) events → AreFewMore counts events
-    → events_from counted_event (scene_of subnets systems) n counts (lines_of (flat_map (event_text subnets systems) events ++ codes "end\n")) ≡ Ok events
-events_read law subnets systems named_subnets named_systems n counts [] told few =
-    at_end (scene_of subnets systems) n counts
-events_read law subnets systems named_subnets named_systems n counts (event ∷ events) told few =
-    let scene : Scene = scene_of subnets systems in
+-- what is so of each event and of those before it
+pub record AreInTurn (version : ℕ) (standing : Standing) (events : List Event) : Type 0 where
+  pub of_version : version ≡ 1 → AllByRecursion IsOfVersion1 events
+  pub stand : EachMayCome standing events
+
+pub events_read : ReadsBack → (version : ℕ) (subnets : List Subnetwork) (systems : List SystemConfiguration) → AreNamed name_of_subnet subnets → AreNamed name_of_system systems
+    → (standing : Standing) (n : ℕ) (counts : Counts) (events : List Event) → AllByRecursion (IsTold subnets systems) events → AreInTurn version standing events → AreFewMore counts events
+    → events_from counted_event (scene_of version subnets systems standing) n counts (lines_of (flat_map (event_text subnets systems) events ++ codes "end\n")) ≡ Ok events
+events_read law version subnets systems named_subnets named_systems standing n counts [] told turns few =
+    at_end (scene_of version subnets systems standing) n counts
+events_read law version subnets systems named_subnets named_systems standing n counts (event ∷ events) told turns few =
+    let scene : Scene = scene_of version subnets systems standing in
     let others : List (List ℕ) = others_of subnets systems event in
     let line : List ℕ = text_of_line (keyword_of event) others in
     let words : words_of line ≡ keyword_of event ∷ others =
@@ -116,6 +131,8 @@ events_read law subnets systems named_subnets named_systems n counts (event ∷ 
     (line_not_skipped (keyword_of event) others (keyword_is_word event) (keyword_stands event))
     (ap (λ (found : List (List ℕ)). is_line_of (codes "end") found) words ∙ no_end subnets systems event)
     (counted_of scene counts (words_of line) event
-    (ap (λ (found : List (List ℕ)). event_line scene found) words ∙ event_read law subnets systems named_subnets named_systems event told.0)
+    (ap (λ (found : List (List ℕ)). event_line scene found) words
+    ∙ event_read law version subnets systems named_subnets named_systems standing event told.0 (record { of_version = λ one. (turns.of_version one).0; may = turns.stand.0 }))
     (few_with counts event events few))
-    (events_read law subnets systems named_subnets named_systems (n + 1) (counted counts event) events told.1 (fewer counts event events few))
+    (events_read law version subnets systems named_subnets named_systems (standing_after event standing) (n + 1) (counted counts event) events told.1
+    (record { of_version = λ one. (turns.of_version one).1; stand = turns.stand.1 }) (fewer counts event events few))

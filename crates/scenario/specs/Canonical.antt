@@ -17,6 +17,7 @@ use Rattle.scenario.specs.Scenario.{Plan, Subnetwork}
 use Rattle.scenario.specs.declared.event.Body.{Body}
 use Rattle.scenario.specs.declared.event.Body.TheVariants.{Hex, Pattern}
 use Rattle.scenario.specs.declared.event.Event.{Event}
+use Rattle.scenario.specs.declared.event.Event.TheVariants as event
 use Rattle.scenario.specs.declared.event.Event.TheVariants.{Send, Deliver, Settle, Lose, Tick, Restart, Echo, Congest, Inject}
 
 -- ---- words
@@ -139,6 +140,12 @@ event_text subnets systems (Echo system from to body) =
 event_text subnets systems (Congest system on) = line_of (codes "congest") (system_name (slice_get systems system) ∷ on_or_off on ∷ [])
 event_text subnets systems (Inject subnet from to octets) =
     line_of (codes "inject") (subnet_name (slice_get subnets subnet) ∷ hex_text from ∷ target_text to ∷ hex_text octets ∷ [])
+event_text subnets systems (event.Mtu subnet mtu) = line_of (codes "mtu") (subnet_name (slice_get subnets subnet) ∷ decimal mtu ∷ [])
+event_text subnets systems (event.Route system route) = route_text (system_name (slice_get systems system)) route
+event_text subnets systems (event.Unroute system prefix) =
+    line_of (codes "unroute") (system_name (slice_get systems system) ∷ prefix_text prefix ∷ [])
+event_text subnets systems (event.Port system number subnet snpa) =
+    line_of (codes "port") (system_name (slice_get systems system) ∷ decimal number ∷ subnet_name (slice_get subnets subnet) ∷ hex_text snpa ∷ [])
 
 -- ---- the whole
 

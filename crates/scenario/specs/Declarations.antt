@@ -1,8 +1,7 @@
 -- The declarations of a scenario text: limits, subnetworks, systems, their addresses, their ports and their routes.
-use Rattle.std.specs.Prelude.{ℕ, ◌+◌, ◌*◌, ◌==◌, ◌&&◌, ◌||◌, not, nat_le, nat_lt, nat_eq, Bool, true, false, if◌then◌else◌, List, [], ◌∷◌, ◌++◌, map, filter, length, slice_get, zero, suc, codes, Option, None, Some, is_some, option_map, Result, Ok, Err}
+use Rattle.std.specs.Prelude.{ℕ, ◌+◌, ◌*◌, ◌==◌, ◌&&◌, ◌||◌, not, nat_le, nat_lt, Bool, true, false, if◌then◌else◌, List, [], ◌∷◌, ◌++◌, map, filter, length, slice_get, codes, Option, None, Some, is_some, option_map, Result, Ok, Err}
 use Rattle.std.specs.List.{list_any, list_all, flat_map, insert, count_by, range_with_len}
 use Rattle.std.specs.Str.{bytes_eq}
-use Rattle.std.specs.Cmp.Lexicographic.{pointwise}
 use Rattle.clnp_plan.specs.ClnpBase.Text.{decimal_of}
 use Rattle.clnp_plan.specs.Configuration.{SystemConfiguration}
 use Rattle.clnp_plan.specs.declared.config.Limits.{Limits}
@@ -13,6 +12,7 @@ use Rattle.clnp_plan.specs.declared.config.Role.TheVariants.{Host, Router}
 use Rattle.clnp_plan.specs.Forwarding.Distinct as prefixes
 use Rattle.clnp_plan.specs.Forwarding.declared.route.Route.{Route}
 use Rattle.scenario.specs.Scenario.{Subnetwork}
+use Rattle.scenario.specs.Standing.{changed_at, is_among}
 use Rattle.scenario.specs.Words.{◌>>=◌, wanted, found, name_word, declared_word, number_within, number_word, number_behind, is_digits, address_word, prefix_word, life_word, has_prefix, two_words, three_words, four_words, five_words, first_two, first_four, is_one_at_most, is_taken, each_once}
 use Rattle.scenario.specs.declared.code.Code.{Code}
 use Rattle.scenario.specs.declared.code.Code.TheVariants as bad
@@ -50,16 +50,6 @@ subnet_names d = map (λ subnet. subnet.name) d.subnets
 
 abbrev pub system_names : Declarations → List (List ℕ)
 system_names d = map (λ system. system.name) d.systems
-
--- the list with its element at a place changed
-abbrev pub changed_at : {X : Type 0} → (X → X) → ℕ → List X → List X
-changed_at change place [] = []
-changed_at change zero (x ∷ xs) = change x ∷ xs
-changed_at change (suc place) (x ∷ xs) = x ∷ changed_at change place xs
-
--- whether an address is among some
-abbrev pub is_among : List ℕ → List (List ℕ) → Bool
-is_among address others = list_any (λ other. pointwise nat_eq other address) others
 
 -- `L R Q S`, behind `limits`; in version 1 `L R Q`, where S is 0
 abbrev pub limits_words : (version : ℕ) → List (List ℕ) → Option (List ℕ × List ℕ × List ℕ × List ℕ)

@@ -1,36 +1,52 @@
 -- The event lines of a scenario text.
-use Rattle.std.specs.Prelude.{ℕ, ◌+◌, ◌&&◌, ◌||◌, not, nat_le, length, Bool, true, false, if◌then◌else◌, List, [], ◌∷◌, map, slice_get, codes, Option, None, Some, Result, Ok, Err}
+use Rattle.std.specs.Prelude.{ℕ, ◌+◌, ◌==◌, ◌&&◌, ◌||◌, not, nat_le, nat_lt, length, Bool, true, false, if◌then◌else◌, List, [], ◌∷◌, map, slice_get, codes, Option, None, Some, Result, Ok, Err}
 use Rattle.std.specs.List.{list_any}
 use Rattle.std.specs.Str.{bytes_eq}
+use Rattle.clnp_plan.specs.ClnpBase.Text.{decimal_of}
 use Rattle.clnp_plan.specs.Configuration.{SystemConfiguration}
 use Rattle.clnp_plan.specs.declared.ask.Ask.{Ask}
 use Rattle.clnp_plan.specs.declared.config.Role.{Role}
 use Rattle.clnp_plan.specs.declared.config.Role.TheVariants.{Host, Router}
 use Rattle.scenario.specs.Declarations.{is_router}
 use Rattle.scenario.specs.Scenario.{Subnetwork, passed_by, ticks_of}
-use Rattle.scenario.specs.Words.{◌>>=◌, wanted, found, literal, declared_word, number_word, address_word, data_word, life_word, options_word, target_word, frame_word, has_prefix, one_word, two_words, four_words, first_four, each_once}
+use Rattle.scenario.specs.Standing.{Standing, is_second, is_rival, takes_prefix, standing_of, standing_after}
+use Rattle.scenario.specs.Words.{◌>>=◌, wanted, found, literal, declared_word, number_within, number_word, is_digits, address_word, prefix_word, data_word, life_word, options_word, target_word, frame_word, has_prefix, one_word, two_words, four_words, five_words, first_four, each_once}
 use Rattle.scenario.specs.declared.code.Code.{Code}
 use Rattle.scenario.specs.declared.code.Code.TheVariants as bad
 use Rattle.scenario.specs.declared.counts.Counts.{Counts}
 use Rattle.scenario.specs.declared.event.Event.{Event}
+use Rattle.scenario.specs.declared.event.Event.TheVariants as event
 use Rattle.scenario.specs.declared.event.Event.TheVariants.{Send, Deliver, Settle, Lose, Tick, Restart, Echo, Congest, Inject}
 use Rattle.scenario.specs.declared.wish.Wish.{Wish}
 use Rattle.scenario.specs.declared.wish.Wish.TheVariants.{Lasting, NoReport, Whole, Options}
 
--- What event lines are read over: the names of the subnetworks, and the systems with their names.
+-- What event lines are read over: the version of the text, the names of the subnetworks, the systems as they are declared with their
+-- names, and what the events before leave.
 pub record Scene : Type 0 where
+  pub version : ℕ
   pub subnets : List (List ℕ)
   pub names : List (List ℕ)
   pub systems : List SystemConfiguration
+  pub standing : Standing
 
--- as declarations leave it
-abbrev pub scene_of : List Subnetwork → List SystemConfiguration → Scene
-scene_of subnets systems =
+-- the one of what is declared in a text of a version
+abbrev pub scene_of : (version : ℕ) → List Subnetwork → List SystemConfiguration → Standing → Scene
+scene_of version subnets systems standing =
     record {
+      version = version;
       subnets = map (λ (subnet : Subnetwork). subnet.name) subnets;
       names = map (λ (system : SystemConfiguration). system.name) systems;
       systems = systems;
+      standing = standing;
     }
+
+-- before the first event
+abbrev pub first_scene : (version : ℕ) → List Subnetwork → List SystemConfiguration → Scene
+first_scene version subnets systems = scene_of version subnets systems (standing_of systems)
+
+-- behind an event
+abbrev pub scene_after : Scene → Event → Scene
+scene_after scene event = record scene { standing = standing_after event scene.standing }
 
 -- a word behind the data of a `send`
 unfoldable pub wish_word : List ℕ → Result Wish Code
@@ -188,7 +204,69 @@ inject_line subnets words = do
 unfoldable pub count_line : List (List ℕ) → Result ℕ Code
 count_line words = found (one_word words) bad.Syntax >>= number_word 1 100000
 
--- a line that says what happens
+-- whether a system has a port of this number
+abbrev pub has_number : (number : ℕ) → Option SystemConfiguration → Bool
+has_number number None = false
+has_number number (Some system) = nat_lt number (length system.ports)
+
+-- the number of a port that a system has
+abbrev pub port_word : Option SystemConfiguration → List ℕ → Result ℕ Code
+port_word system word = do
+  number ← number_word 0 7 word
+  _ ← wanted (has_number number system) bad.UnknownName
+  Ok number
+
+-- `SUBNET MTU`, behind `mtu`: an MTU that is decimal and out of its range has a code of its own
+unfoldable pub mtu_line : (subnets : List (List ℕ)) → List (List ℕ) → Result Event Code
+mtu_line subnets words = do
+  w ← found (two_words words) bad.Syntax
+  subnet ← declared_word subnets w.0
+  _ ← wanted (is_digits w.1) bad.Number
+  mtu ← found (number_within 512 65535 (decimal_of w.1)) bad.Mtu
+  Ok (event.Mtu subnet mtu)
+
+-- `NAME PREFIX PORT SNPA TITLE`, behind `route`: the route of the prefix is this one from now on
+unfoldable pub route_line : Scene → List (List ℕ) → Result Event Code
+route_line scene words = do
+  w ← found (five_words words) bad.Syntax
+  system ← router_word scene.names scene.systems w.0
+  prefix ← prefix_word w.1
+  port ← port_word (slice_get scene.systems system) w.2
+  snpa ← address_word w.3
+  title ← address_word w.4
+  _ ← wanted (takes_prefix prefix (slice_get scene.standing.prefixes system)) bad.Count
+  Ok (event.Route system (record { prefix = prefix; port = port; snpa = snpa; title = title }))
+
+-- `NAME PREFIX`, behind `unroute`: the prefix has no route from now on
+unfoldable pub unroute_line : Scene → List (List ℕ) → Result Event Code
+unroute_line scene words = do
+  w ← found (two_words words) bad.Syntax
+  system ← router_word scene.names scene.systems w.0
+  prefix ← prefix_word w.1
+  Ok (event.Unroute system prefix)
+
+-- `NAME NUMBER SUBNET SNPA`, behind `port`: the port is at that address on that subnetwork from now on
+unfoldable pub port_line : Scene → List (List ℕ) → Result Event Code
+port_line scene words = do
+  w ← found (four_words words) bad.Syntax
+  system ← declared_word scene.names w.0
+  number ← port_word (slice_get scene.systems system) w.1
+  subnet ← declared_word scene.subnets w.2
+  snpa ← address_word w.3
+  _ ← wanted (not (list_any (is_second system number subnet) scene.standing.spots)) bad.DupName
+  _ ← wanted (not (list_any (is_rival system number subnet snpa) scene.standing.spots)) bad.DupAddress
+  Ok (event.Port system number subnet snpa)
+
+-- a line that says how the network changes, by its keyword
+unfoldable pub change_line : Scene → List ℕ → List (List ℕ) → Result Event Code
+change_line scene keyword words =
+    if bytes_eq keyword (codes "mtu") then mtu_line scene.subnets words
+    else if bytes_eq keyword (codes "route") then route_line scene words
+    else if bytes_eq keyword (codes "unroute") then unroute_line scene words
+    else if bytes_eq keyword (codes "port") then port_line scene words
+    else Err bad.Syntax
+
+-- a line that says what happens; networks change in version 2 alone
 unfoldable pub event_line : Scene → List (List ℕ) → Result Event Code
 event_line scene [] = Err bad.Syntax
 event_line scene (keyword ∷ words) =
@@ -201,7 +279,8 @@ event_line scene (keyword ∷ words) =
     else if bytes_eq keyword (codes "echo") then echo_line scene.names words
     else if bytes_eq keyword (codes "congest") then congest_line scene.names scene.systems words
     else if bytes_eq keyword (codes "inject") then inject_line scene.subnets words
-    else Err bad.Syntax
+    else if scene.version == 1 then Err bad.Syntax
+    else change_line scene keyword words
 
 -- whether a line's first word is that of an event which a live node takes
 abbrev pub is_live_line : List (List ℕ) → Bool

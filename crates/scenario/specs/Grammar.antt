@@ -6,7 +6,7 @@ use Rattle.scenario.specs.Codes.{number_of}
 use Rattle.scenario.specs.Scenario.{Plan}
 use Rattle.scenario.specs.Words.{◌>>=◌, wanted, found, one_word, is_skipped}
 use Rattle.scenario.specs.Declarations.{Declarations, nothing_declared, declaration_line, limits_of, all_declared, fits_board, configuration_of}
-use Rattle.scenario.specs.Events.{Scene, scene_of, event_line, is_live_line, counted, are_few, nothing_counted}
+use Rattle.scenario.specs.Events.{Scene, first_scene, scene_after, event_line, is_live_line, counted, are_few, nothing_counted}
 use Rattle.scenario.specs.declared.counts.Counts.{Counts}
 use Rattle.scenario.specs.declared.event.Event.{Event}
 use Rattle.scenario.specs.declared.code.Code.{Code}
@@ -88,14 +88,15 @@ abbrev pub event_for : (links : Option ℕ) → Scene → Counts → List (List 
 event_for None = counted_event
 event_for (Some links) = live_event
 
--- The event lines from number n on, each of which is read like this, and `end`, where the events before them were counted.
+-- The event lines from number n on, each of which is read like this over what those before it leave, and `end`, where the events
+-- before them were counted.
 unfoldable pub events_from : (read : Scene → Counts → List (List ℕ) → Result Event Code) → Scene → ℕ → Counts → List (List ℕ) → Result (List Event) BadLine
 events_from read scene n counts [] = Err (record { line = n; code = number_of bad.Syntax })
 events_from read scene n counts (line ∷ lines) =
     if is_skipped line then events_from read scene (n + 1) counts lines
     else if is_line_of (codes "end") (words_of line) then (nothing_after (n + 1) lines >>= λ _. Ok [])
     else (at_line n (read scene counts (words_of line)) >>= λ event.
-    events_from read scene (n + 1) (counted counts event) lines >>= λ others.
+    events_from read (scene_after scene event) (n + 1) (counted counts event) lines >>= λ others.
     Ok (event ∷ others))
 
 -- The line `events` of this number is a bad one where what is declared is for a board of so many links and doesn't fit it.
@@ -108,7 +109,7 @@ abbrev pub plan_behind : (links : Option ℕ) → ReadTo ℕ → Result Plan Bad
 plan_behind links header = do
   declared ← declarations_from header.number (nothing_declared header.value) header.lines
   _ ← fit_for links (declared.number - 1) declared.value
-  events ← events_from (event_for links) (scene_of declared.value.subnets (map configuration_of declared.value.systems)) declared.number nothing_counted declared.lines
+  events ← events_from (event_for links) (first_scene header.value declared.value.subnets (map configuration_of declared.value.systems)) declared.number nothing_counted declared.lines
   Ok (record { version = header.value; limits = limits_of declared.value.limits; subnets = declared.value.subnets; systems = map configuration_of declared.value.systems; events = events })
 
 -- what the lines of a text say whose version is one of those up to the newest; for a live node, where links are given

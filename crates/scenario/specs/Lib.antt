@@ -3,6 +3,7 @@ pub use Rattle.clnp_plan.specs.Nsap
 pub use Rattle.clnp_plan.specs.ClnpOptions
 pub use Rattle.clnp_plan.specs.PduHeader
 pub use Rattle.clnp_plan.specs as ClnpPlan
+pub mod Standing
 pub mod Scenario
 pub mod Codes
 pub mod Grammar

@@ -11,15 +11,17 @@ use Rattle.clnp_plan.specs.ClnpOptions.Parameter.{parameters}
 use Rattle.clnp_plan.specs.ClnpOptions.Rules.{Accepts}
 use Rattle.clnp_plan.specs.Forwarding.declared.route.Route.{Route}
 use Rattle.clnp_plan.specs.Asking.{IsFormedAsk}
-use Rattle.clnp_plan.specs.Configuration.{AreDistinct, AreLimits, IsAddressed, IsSystem, IsWithin, SystemConfiguration}
+use Rattle.clnp_plan.specs.Configuration.{AreDistinct, AreLimits, IsAddressed, IsAddressedRoute, IsSystem, IsWithin, SystemConfiguration}
 use Rattle.clnp_plan.specs.declared.ask.Ask.{Ask}
 use Rattle.clnp_plan.specs.declared.config.Limits.{Limits}
 use Rattle.clnp_plan.specs.declared.config.PortConfig.{PortConfig}
 use Rattle.clnp_plan.specs.declared.config.Role.TheVariants.{Host, Router}
+use Rattle.scenario.specs.Standing.{EachMayCome, standing_of}
 use Rattle.scenario.specs.Words.{is_name}
 use Rattle.scenario.specs.declared.event.Body.{Body}
 use Rattle.scenario.specs.declared.event.Body.TheVariants.{Hex, Pattern}
 use Rattle.scenario.specs.declared.event.Event.{Event}
+use Rattle.scenario.specs.declared.event.Event.TheVariants as event
 use Rattle.scenario.specs.declared.event.Event.TheVariants.{Send, Deliver, Settle, Lose, Tick, Restart, Echo, Congest, Inject}
 use Rattle.scenario.specs.declared.event.Move.{Move}
 use Rattle.scenario.specs.declared.event.Move.TheVariants.{One, SettleOne, LoseOne, TickOne}
@@ -54,6 +56,10 @@ moves_of place (Restart system) = One place ∷ []
 moves_of place (Echo system from to body) = One place ∷ []
 moves_of place (Congest system on) = One place ∷ []
 moves_of place (Inject subnet from to octets) = One place ∷ []
+moves_of place (event.Mtu subnet mtu) = One place ∷ []
+moves_of place (event.Route system route) = One place ∷ []
+moves_of place (event.Unroute system prefix) = One place ∷ []
+moves_of place (event.Port system number subnet snpa) = One place ∷ []
 
 -- the moves of events, the first of them at a place
 abbrev pub moves_from : ℕ → List Event → List Move
@@ -90,6 +96,9 @@ IsPlaced systems (Deliver copy system) = system < systems
 IsPlaced systems (Restart system) = system < systems
 IsPlaced systems (Echo system from to body) = system < systems
 IsPlaced systems (Congest system on) = system < systems
+IsPlaced systems (event.Route system route) = system < systems
+IsPlaced systems (event.Unroute system prefix) = system < systems
+IsPlaced systems (event.Port system number subnet snpa) = system < systems
 IsPlaced systems _ = Unit {0}
 
 -- a target on a subnetwork is an address there, or a group
@@ -134,6 +143,9 @@ IsSaid (Deliver copy system) = IsWithin 1 1000000000 copy
 IsSaid (Settle count) = IsWithin 1 100000 count
 IsSaid (Lose count) = IsWithin 1 100000 count
 IsSaid (Tick count) = IsWithin 1 65535 count
+IsSaid (event.Mtu subnet mtu) = IsWithin 512 65535 mtu
+IsSaid (event.Route system route) = IsWithin 0 7 route.port
+IsSaid (event.Port system number subnet snpa) = IsWithin 0 7 number
 IsSaid _ = Unit {0}
 
 -- what a live node takes: it is asked to send or for an echo, or ticks pass
@@ -164,10 +176,49 @@ abbrev pub IsFromHost : List SystemConfiguration → Event → Type 0
 IsFromHost systems (Send system from to body ask) = option_map (λ (host : SystemConfiguration). host.role) (slice_get systems system) ≡ Some Host
 IsFromHost systems _ = Unit {0}
 
--- the system of an event that says whether one is congested is a router
+-- the system at a place is a router
+abbrev pub IsRouterAt : List SystemConfiguration → (place : ℕ) → Type 0
+IsRouterAt systems place = option_map (λ (router : SystemConfiguration). router.role) (slice_get systems place) ≡ Some Router
+
+-- the system of an event that says whether one is congested, or what routes one has, is a router
 abbrev pub IsOfRouter : List SystemConfiguration → Event → Type 0
-IsOfRouter systems (Congest system on) = option_map (λ (router : SystemConfiguration). router.role) (slice_get systems system) ≡ Some Router
+IsOfRouter systems (Congest system on) = IsRouterAt systems system
+IsOfRouter systems (event.Route system route) = IsRouterAt systems system
+IsOfRouter systems (event.Unroute system prefix) = IsRouterAt systems system
 IsOfRouter systems _ = Unit {0}
+
+-- an event of the texts of each version
+abbrev pub IsOfVersion1 : Event → Type 0
+IsOfVersion1 (event.Mtu subnet mtu) = ⊥
+IsOfVersion1 (event.Route system route) = ⊥
+IsOfVersion1 (event.Unroute system prefix) = ⊥
+IsOfVersion1 (event.Port system number subnet snpa) = ⊥
+IsOfVersion1 _ = Unit {0}
+
+-- the system at a place has a port of this number
+abbrev pub HasNumber : List SystemConfiguration → (place number : ℕ) → Type 0
+HasNumber systems place number = (system : SystemConfiguration) → slice_get systems place ≡ Some system → number < length system.ports
+
+-- A route that is set leads out of one of the router's ports to a system at addresses.
+pub record IsSetRoute (systems : List SystemConfiguration) (place : ℕ) (route : Route) : Type 0 where
+  pub prefix : IsPrefix route.prefix
+  pub next : IsAddressedRoute route
+  pub there : HasNumber systems place route.port
+
+-- A port that is put elsewhere is one of the system's, and comes to an address on a subnetwork that is there.
+pub record IsMovedPort (subnets : ℕ) (systems : List SystemConfiguration) (place number subnet : ℕ) (snpa : List ℕ) : Type 0 where
+  pub there : HasNumber systems place number
+  pub placed : subnet < subnets
+  pub address : IsAddress snpa
+
+-- What an event changes is there, among so many subnetworks and these systems: ports and routes change, but not how many ports a
+-- system has.
+abbrev pub ChangesInForm : (subnets : ℕ) → List SystemConfiguration → Event → Type 0
+ChangesInForm subnets systems (event.Mtu subnet mtu) = subnet < subnets
+ChangesInForm subnets systems (event.Route system route) = IsSetRoute systems system route
+ChangesInForm subnets systems (event.Unroute system prefix) = IsPrefix prefix
+ChangesInForm subnets systems (event.Port system number subnet snpa) = IsMovedPort subnets systems system number subnet snpa
+ChangesInForm subnets systems _ = Unit {0}
 
 -- the subnetwork of a port is there, and its MTU is the port's
 abbrev pub IsOn : List Subnetwork → PortConfig → Type 0
@@ -210,9 +261,16 @@ pub record IsFit (plan : Plan) : Type 0 where
   pub places : AllByRecursion (IsPlaced (length plan.systems)) plan.events
   -- hosts alone are asked to send
   pub senders : AllByRecursion (IsFromHost plan.systems) plan.events
-  -- routers alone are said to be congested
+  -- routers alone are said to be congested, and get routes
   pub congested : AllByRecursion (IsOfRouter plan.systems) plan.events
   pub injected : AllByRecursion (InjectsInForm (length plan.subnets)) plan.events
+  -- networks change in version 2 alone
+  pub of_version : plan.version ≡ 1 → AllByRecursion IsOfVersion1 plan.events
+  -- what changes is there
+  pub changes : AllByRecursion (ChangesInForm (length plan.subnets) plan.systems) plan.events
+  -- so that no two ports of a system come to be on one subnetwork, no two ports there have one address, and no router has more
+  -- than 256 routes
+  pub stand : EachMayCome (standing_of plan.systems) plan.events
   pub said : AllByRecursion IsSaid plan.events
   pub few_events : length plan.events ≤ 100000
   pub passed : sum (map passed_by plan.events) ≤ 10000000

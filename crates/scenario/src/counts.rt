@@ -57,7 +57,11 @@ fn passed_by(event: &Event) -> u32
         | Event::Restart { .. }
         | Event::Echo { .. }
         | Event::Congest { .. }
-        | Event::Inject { .. } => 0,
+        | Event::Inject { .. }
+        | Event::Mtu { .. }
+        | Event::Route { .. }
+        | Event::Unroute { .. }
+        | Event::Port { .. } => 0,
     }
 }
 
@@ -74,6 +78,10 @@ fn ticks_of(event: &Event) -> u32
         | Event::Restart { .. }
         | Event::Echo { .. }
         | Event::Congest { .. }
-        | Event::Inject { .. } => 0,
+        | Event::Inject { .. }
+        | Event::Mtu { .. }
+        | Event::Route { .. }
+        | Event::Unroute { .. }
+        | Event::Port { .. } => 0,
     }
 }

@@ -4,7 +4,8 @@ ghost use Rattle.std.specs.Cmp.Lexicographic.{pointwise};
 ghost use Rattle.std.specs.List.{position, list_any, list_all, flat_map};
 ghost use Rattle.std.specs.Str.{bytes_eq};
 ghost use Rattle.clnp_plan.specs.ClnpBase.Text.{words_of};
-ghost use Rattle.scenario.specs.Declarations.{nothing_declared, subnet_names, system_names, changed_at, is_among, has_port, snpas_on, takes_address, takes_port, mtu_at, with_address, with_port, is_router_at, router_word, has_numbered, port_word, has_route, takes_route, with_route, settings_of, limits_words, limits_line, limits_of, subnet_line, system_line, address_line, transit_word, port_line, route_line, declaration_line, has_limits, is_complete, fits_board};
+ghost use Rattle.scenario.specs.Declarations.{nothing_declared, subnet_names, system_names, has_port, snpas_on, takes_address, takes_port, mtu_at, with_address, with_port, is_router_at, router_word, has_numbered, port_word, has_route, takes_route, with_route, settings_of, limits_words, limits_line, limits_of, subnet_line, system_line, address_line, transit_word, port_line, route_line, declaration_line, has_limits, is_complete, fits_board};
+ghost use Rattle.scenario.specs.Standing.{changed_at, is_among};
 ghost use Rattle.scenario.specs.Words.{is_taken, declared_word};
 ghost use Rattle.scenario.specs.Refusal.{Faults};
 

@@ -4,7 +4,8 @@ ghost use Rattle.scenario.specs.declared.event.Body.TheVariants.{Pattern};
 
 use clnp_plan::Ask;
 use clnp_plan::clnp_base::{NoMemory, Octets};
-use clnp_plan::nsap::{Address, Snpa, Target};
+use clnp_plan::forwarding::Route;
+use clnp_plan::nsap::{Address, Prefix, Snpa, Target};
 use std::alloc::Global;
 
 /// The octets of a data unit that is to be sent, in one of the two forms in which they are written.
@@ -102,6 +103,28 @@ pub enum Event {
         to: Target,
         octets: Octets,
     },
+    /// A subnetwork takes frames of so many octets from now on, and so do all ports on it.
+    Mtu {
+        subnet: u8,
+        mtu: u16,
+    },
+    /// The route of a prefix is set at a router.
+    Route {
+        system: u8,
+        route: Route,
+    },
+    /// The route of a prefix is removed at a router, where it is there.
+    Unroute {
+        system: u8,
+        prefix: Prefix,
+    },
+    /// The port of a system is put on a subnetwork, at an address there.
+    Port {
+        system: u8,
+        number: u8,
+        subnet: u8,
+        snpa: Snpa,
+    },
 }
 
 impl Event {
@@ -118,7 +141,11 @@ impl Event {
             | Event::Deliver { .. }
             | Event::Restart { .. }
             | Event::Congest { .. }
-            | Event::Inject { .. } => (Move::One(place), 1),
+            | Event::Inject { .. }
+            | Event::Mtu { .. }
+            | Event::Route { .. }
+            | Event::Unroute { .. }
+            | Event::Port { .. } => (Move::One(place), 1),
         }
     }
 }

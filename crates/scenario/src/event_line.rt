@@ -8,10 +8,12 @@ ghost use Rattle.scenario.specs.Scenario.{Subnetwork};
 ghost use Rattle.scenario.specs.Words.{declared_word};
 ghost use Rattle.scenario.specs.Refusal.{Faults};
 
+use crate::change_line::{Settled, change_line};
 use crate::code::Code;
 use crate::event::Event;
 use crate::fault::LineFault;
 use crate::plan::Subnet;
+use crate::standing::Standing;
 use crate::system::is_router;
 use crate::wish::{ask_of, each_once, wish_words};
 use crate::word::{
@@ -39,7 +41,7 @@ fn place_of(systems: &[SystemConfig], name: &[u8]) -> Option<usize>
 }
 
 /// The place of the system that a word names.
-fn system_word(systems: &[SystemConfig], word: &[u8]) -> Result<u8, Code>
+pub(crate) fn system_word(systems: &[SystemConfig], word: &[u8]) -> Result<u8, Code>
     requires { length systems.now ≤ 64 }
     ensures { result ≡ declared_word (map (λ system. system.name) systems.now) word.now }
 {
@@ -197,7 +199,7 @@ fn is_router_at(systems: &[SystemConfig], place: u8) -> bool
 }
 
 /// The place of the router that a word names.
-fn router_word(systems: &[SystemConfig], word: &[u8]) -> Result<u8, Code>
+pub(crate) fn router_word(systems: &[SystemConfig], word: &[u8]) -> Result<u8, Code>
     requires { length systems.now ≤ 64 }
     ensures { result ≡ router_word (map (λ system. system.name) systems.now) systems.now word.now }
 {
@@ -250,7 +252,7 @@ fn subnet_place_of(subnets: &[Subnet], name: &[u8]) -> Option<usize>
 }
 
 /// The place of the subnetwork that a word names.
-fn subnet_word(subnets: &[Subnet], word: &[u8]) -> Result<u8, Code>
+pub(crate) fn subnet_word(subnets: &[Subnet], word: &[u8]) -> Result<u8, Code>
     requires { length subnets.now ≤ 64 }
     ensures { result ≡ declared_word (map (λ (subnet : Subnetwork). subnet.name) subnets.now) word.now }
 {
@@ -305,23 +307,23 @@ pub(crate) fn is_live_line(line: &[u8]) -> bool
 #[tactic(auto, unfolding(crate::specs::Events::event_line))]
 pub(crate) fn event_line(
     alloc: Global,
-    subnets: &[Subnet],
-    systems: &[SystemConfig],
+    settled: Settled<'_>,
+    standing: &Standing,
     line: &[u8],
 ) -> Result<Event, LineFault>
-    requires subnets { length subnets.now ≤ 64 }
-    requires systems { length systems.now ≤ 64 }
-    ensures { let reading = event_line (scene_of subnets.now systems.now) (words_of line.now) in
+    requires subnets { length settled.subnets.now ≤ 64 }
+    requires systems { length settled.systems.now ≤ 64 }
+    ensures { let reading = event_line (scene_of settled.entry.version settled.entry.subnets.now settled.entry.systems.now standing.now) (words_of line.now) in
         MatchResult result (λ event. reading ≡ Ok event) (λ fault. Faults fault reading) }
 {
     let Some((keyword, line)) = next_word(line) else {
         return Err(LineFault::Broken(Code::Syntax));
     };
     if same(keyword, b"send") {
-        return send_line(alloc, systems, line);
+        return send_line(alloc, settled.systems, line);
     }
     if same(keyword, b"deliver") {
-        return match deliver_line(systems, line) {
+        return match deliver_line(settled.systems, line) {
             Ok(event) => Ok(event),
             Err(code) => Err(LineFault::Broken(code)),
         };
@@ -339,22 +341,28 @@ pub(crate) fn event_line(
         return Ok(Event::Tick { count });
     }
     if same(keyword, b"restart") {
-        return match restart_line(systems, line) {
+        return match restart_line(settled.systems, line) {
             Ok(event) => Ok(event),
             Err(code) => Err(LineFault::Broken(code)),
         };
     }
     if same(keyword, b"echo") {
-        return echo_line(alloc, systems, line);
+        return echo_line(alloc, settled.systems, line);
     }
     if same(keyword, b"congest") {
-        return match congest_line(systems, line) {
+        return match congest_line(settled.systems, line) {
             Ok(event) => Ok(event),
             Err(code) => Err(LineFault::Broken(code)),
         };
     }
     if same(keyword, b"inject") {
-        return inject_line(alloc, subnets, line);
+        return inject_line(alloc, settled.subnets, line);
     }
-    Err(LineFault::Broken(Code::Syntax))
+    if settled.version == 1 {
+        return Err(LineFault::Broken(Code::Syntax));
+    }
+    match change_line(settled, standing, keyword, line) {
+        Ok(event) => Ok(event),
+        Err(code) => Err(LineFault::Broken(code)),
+    }
 }

@@ -14,10 +14,11 @@ ghost use Rattle.scenario.specs.Seeds.{storm};
 /// no name, address or SNPA on a subnetwork stands twice, and no prefix at a router, each port is on a declared
 /// subnetwork and has its MTU, no two ports of a system are on one subnetwork, each prefix has up to 40 digits,
 /// each route leads out of a port that is there, events name declared systems, hosts alone are asked to send data
-/// units, routers alone are said to be congested, each unit and each echo is asked for between addresses, a data
+/// units, routers alone are said to be congested and get routes, each unit and each echo is asked for between addresses, a data
 /// unit with a lifetime that an octet holds and options in their form, and none with an option that an error report
-/// alone may have; events say only numbers, data and options that a line may say, they are few, few copies are
-/// settled and lost, and few ticks pass.
+/// alone may have; a network changes in version 2 alone, what changes is there, at no moment are two ports of a system on one
+/// subnetwork, is an address there that of two ports, or has a router more than 256 routes; events say only numbers, data and
+/// options that a line may say, they are few, few copies are settled and lost, and few ticks pass.
 pub fn accepted_is_fit()
     ensures { (text : List ℕ) (plan : Plan) → plan_of text ≡ Ok plan → IsFit plan }
 {

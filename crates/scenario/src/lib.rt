@@ -1,6 +1,7 @@
 //! Scenario texts: what they declare and what happens.
 #![tactic(auto)]
 
+mod change_line;
 mod code;
 mod counts;
 mod declarations;
@@ -13,6 +14,7 @@ mod plan;
 mod reader;
 mod seed;
 mod setting;
+mod standing;
 mod system;
 mod wish;
 mod word;

@@ -4,13 +4,14 @@ ghost use Rattle.std.specs.List.{AllByRecursion};
 ghost use Rattle.clnp_plan.specs.ClnpBase.Text.{lines_of, words_of};
 ghost use Rattle.clnp_plan.specs.Configuration.{IsSystem};
 ghost use Rattle.scenario.specs.Declarations.{declaration_line, all_declared, configuration_of};
-ghost use Rattle.scenario.specs.Events.{scene_of, counted, are_few, nothing_counted};
+ghost use Rattle.scenario.specs.Events.{scene_of, first_scene, counted, are_few, nothing_counted};
 ghost use Rattle.scenario.specs.Grammar.{at_line, version_of, header_from, declarations_from, nothing_after, counted_event, live_event, event_for, events_from, fit_for, plan_at, plan_of, plan_of_version_1, run_plan_of};
 ghost use Rattle.scenario.specs.Codes.{number_of};
 ghost use Rattle.scenario.specs.declared.fault.ScenarioRefusal.TheVariants.{BadLine};
 ghost use Rattle.scenario.specs.Refusal.{Refuses, Faults};
 ghost use Rattle.scenario.specs.Scenario.{IsForBoard};
 
+use crate::change_line::Settled;
 use crate::code::Code;
 use crate::counts::Counts;
 use crate::declarations::Declared;
@@ -19,6 +20,7 @@ use crate::event_line::{event_line, is_live_line};
 use crate::fault::{LineFault, ScenarioRefusal};
 use crate::laws;
 use crate::plan::{Scenario, Subnet};
+use crate::standing::Standing;
 use crate::system::System;
 use crate::word::{is_line_of, is_skipped, same};
 use clnp_plan::SystemConfig;
@@ -160,20 +162,20 @@ fn nothing_after(number: u32, text: &[u8]) -> Result<(), ScenarioRefusal>
 #[tactic(auto, unfolding(crate::specs::Grammar::counted_event))]
 fn counted_event(
     alloc: Global,
-    subnets: &[Subnet],
-    systems: &[SystemConfig],
+    settled: Settled<'_>,
+    standing: &Standing,
     number: u32,
     counts: Counts,
     line: &[u8],
 ) -> Result<Event, ScenarioRefusal>
     requires few { are_few counts ≡ true }
-    requires subnets { length subnets.now ≤ 64 }
-    requires systems { length systems.now ≤ 64 }
-    ensures event { let reading = at_line number (counted_event (scene_of subnets.now systems.now) counts (words_of line.now)) in
+    requires subnets { length settled.subnets.now ≤ 64 }
+    requires systems { length settled.systems.now ≤ 64 }
+    ensures event { let reading = at_line number (counted_event (scene_of settled.entry.version settled.entry.subnets.now settled.entry.systems.now standing.now) counts (words_of line.now)) in
         MatchResult result (λ event. reading ≡ Ok event) (λ refusal. Refuses refusal reading) }
     ensures few { IfOk result (λ event. are_few (counted counts event) ≡ true) }
 {
-    let event = match event_line(alloc, subnets, systems, line) {
+    let event = match event_line(alloc, settled, standing, line) {
         Ok(event) => event,
         Err(LineFault::NoMemory) => return Err(ScenarioRefusal::NoMemory),
         Err(LineFault::Broken(code)) => return Err(bad_line(number, code)),
@@ -188,45 +190,45 @@ fn counted_event(
 #[tactic(auto, unfolding(crate::specs::Grammar::live_event))]
 fn live_event(
     alloc: Global,
-    subnets: &[Subnet],
-    systems: &[SystemConfig],
+    settled: Settled<'_>,
+    standing: &Standing,
     number: u32,
     counts: Counts,
     line: &[u8],
 ) -> Result<Event, ScenarioRefusal>
     requires few { are_few counts ≡ true }
-    requires subnets { length subnets.now ≤ 64 }
-    requires systems { length systems.now ≤ 64 }
-    ensures event { let reading = at_line number (live_event (scene_of subnets.now systems.now) counts (words_of line.now)) in
+    requires subnets { length settled.subnets.now ≤ 64 }
+    requires systems { length settled.systems.now ≤ 64 }
+    ensures event { let reading = at_line number (live_event (scene_of settled.entry.version settled.entry.subnets.now settled.entry.systems.now standing.now) counts (words_of line.now)) in
         MatchResult result (λ event. reading ≡ Ok event) (λ refusal. Refuses refusal reading) }
     ensures few { IfOk result (λ event. are_few (counted counts event) ≡ true) }
 {
     if !is_live_line(line) {
         return Err(bad_line(number, Code::Syntax));
     }
-    counted_event(alloc, subnets, systems, number, counts, line)
+    counted_event(alloc, settled, standing, number, counts, line)
 }
 
 /// The event of the line of this number: for a live node on a board of so many links, where there is one.
 fn event_for(
     alloc: Global,
     links: Option<usize>,
-    subnets: &[Subnet],
-    systems: &[SystemConfig],
+    settled: Settled<'_>,
+    standing: &Standing,
     number: u32,
     counts: Counts,
     line: &[u8],
 ) -> Result<Event, ScenarioRefusal>
     requires few { are_few counts ≡ true }
-    requires subnets { length subnets.now ≤ 64 }
-    requires systems { length systems.now ≤ 64 }
-    ensures event { let reading = at_line number (event_for links (scene_of subnets.now systems.now) counts (words_of line.now)) in
+    requires subnets { length settled.subnets.now ≤ 64 }
+    requires systems { length settled.systems.now ≤ 64 }
+    ensures event { let reading = at_line number (event_for links (scene_of settled.entry.version settled.entry.subnets.now settled.entry.systems.now standing.now) counts (words_of line.now)) in
         MatchResult result (λ event. reading ≡ Ok event) (λ refusal. Refuses refusal reading) }
     ensures few { IfOk result (λ event. are_few (counted counts event) ≡ true) }
 {
     match links {
-        None => counted_event(alloc, subnets, systems, number, counts, line),
-        Some(_) => live_event(alloc, subnets, systems, number, counts, line),
+        None => counted_event(alloc, settled, standing, number, counts, line),
+        Some(_) => live_event(alloc, settled, standing, number, counts, line),
     }
 }
 
@@ -234,6 +236,7 @@ fn event_for(
 fn events_of(
     alloc: Global,
     links: Option<usize>,
+    version: u8,
     subnets: &[Subnet],
     systems: &[SystemConfig],
     number: u32,
@@ -242,12 +245,13 @@ fn events_of(
     requires few { number + length (lines_of text.now) < 2 ^ 32 }
     requires subnets { length subnets.now ≤ 64 }
     requires systems { length systems.now ≤ 64 }
-    ensures { let reading = events_from (event_for links) (scene_of subnets.now systems.now) number nothing_counted (lines_of text.now) in
+    ensures { let reading = events_from (event_for links) (first_scene version subnets.now systems.now) number nothing_counted (lines_of text.now) in
         MatchResult result (λ events. reading ≡ Ok events.items) (λ refusal. Refuses refusal reading) }
 {
     let mut events = Vec::new(alloc);
     let mut number = number;
     let mut counts = Counts::nothing();
+    let mut standing = Standing::of(alloc, systems)?;
     let mut left = text;
     while let Some((line, rest)) = next_line(left) {
         let at = number;
@@ -260,8 +264,14 @@ fn events_of(
             nothing_after(number, rest)?;
             return Ok(events);
         }
-        let event = event_for(alloc, links, subnets, systems, at, counts, line)?;
+        let settled = Settled {
+            version,
+            subnets,
+            systems,
+        };
+        let event = event_for(alloc, links, settled, &standing, at, counts, line)?;
         counts = counts.with(&event);
+        standing.go_on(&event)?;
         events.push(event)?;
     }
     Err(bad_line(number, Code::Syntax))
@@ -364,6 +374,7 @@ fn read_as(
     let events = events_of(
         alloc,
         links,
+        version,
         subnets.as_slice(),
         systems.as_slice(),
         number,

@@ -242,16 +242,17 @@ fn push_routes(name: &[u8], routes: &[Route], out: &mut Vec<u8>) -> Result<(), N
     ensures { OnOk result (out.new.items ≡ out.old.items ++ flat_map (route_text name.now) routes.now) }
 {
     for route in routes {
-        push_route(name, route, out)?;
+        push_route(Word::Text(name), route, out)?;
     }
     Ok(())
 }
 
-fn push_route<'a>(name: &'a [u8], route: &'a Route, out: &mut Vec<u8>) -> Result<(), NoMemory>
-    ensures { OnOk result (out.new.items ≡ out.old.items ++ route_text name.now route.now) }
+/// Appends the line of a route, where the system's name is this word.
+fn push_route<'a>(name: Word<'a>, route: &'a Route, out: &mut Vec<u8>) -> Result<(), NoMemory>
+    ensures { OnOk result (out.new.items ≡ out.old.items ++ route_text (word_text name.entry) route.now) }
 {
     let words = [
-        Word::Text(name),
+        name,
         Word::Prefix(&route.prefix),
         Word::Number(u64::from(route.port)),
         Word::Octets(route.snpa.as_bytes()),
@@ -348,6 +349,29 @@ fn push_event<'a>(
                 Word::Octets(octets.as_bytes()),
             ];
             push_line(Word::Text(b"inject"), &words, out)
+        }
+        Event::Mtu { subnet, mtu } => {
+            let words = [subnet_name(subnets, *subnet), Word::Number(u64::from(*mtu))];
+            push_line(Word::Text(b"mtu"), &words, out)
+        }
+        Event::Route { system, route } => { push_route(system_name(systems, *system), route, out) }
+        Event::Unroute { system, prefix } => {
+            let words = [system_name(systems, *system), Word::Prefix(prefix)];
+            push_line(Word::Text(b"unroute"), &words, out)
+        }
+        Event::Port {
+            system,
+            number,
+            subnet,
+            snpa,
+        } => {
+            let words = [
+                system_name(systems, *system),
+                Word::Number(u64::from(*number)),
+                subnet_name(subnets, *subnet),
+                Word::Octets(snpa.as_bytes()),
+            ];
+            push_line(Word::Text(b"port"), &words, out)
         }
     }
 }

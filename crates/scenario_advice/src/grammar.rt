@@ -172,6 +172,40 @@ pub(crate) const EVENTS: &[LineForm] = &[
     },
 ];
 
+/// Those of version 2 alone, by which a network changes.
+pub(crate) const CHANGES: &[LineForm] = &[
+    LineForm {
+        keyword: b"mtu",
+        shape: "mtu SUBNET MTU",
+        words: &[Form::Subnet, Form::Mtu],
+        more: More::Nothing,
+    },
+    LineForm {
+        keyword: b"route",
+        shape: "route NAME PREFIX PORT SNPA TITLE",
+        words: &[
+            Form::Router,
+            Form::Prefix,
+            Form::OwnPort,
+            Form::Snpa,
+            Form::Address,
+        ],
+        more: More::Nothing,
+    },
+    LineForm {
+        keyword: b"unroute",
+        shape: "unroute NAME PREFIX",
+        words: &[Form::Router, Form::Prefix],
+        more: More::Nothing,
+    },
+    LineForm {
+        keyword: b"port",
+        shape: "port NAME NUMBER SUBNET SNPA",
+        words: &[Form::System, Form::OwnPort, Form::Subnet, Form::Snpa],
+        more: More::Nothing,
+    },
+];
+
 /// The line of a keyword, if it is one of these.
 pub(crate) fn form_of(forms: &'static [LineForm], keyword: &[u8]) -> Option<LineForm> {
     for form in forms {
@@ -190,6 +224,15 @@ pub(crate) fn declaration_of(at: Place<'_>, keyword: &[u8]) -> Option<LineForm> 
         }
     }
     form_of(DECLARATIONS, keyword)
+}
+
+/// The event of a keyword in the version of a text, if it is one.
+pub(crate) fn event_of(at: Place<'_>, keyword: &[u8]) -> Option<LineForm> {
+    match form_of(EVENTS, keyword) {
+        Some(form) => Some(form),
+        None if at.is_of_version_2() => form_of(CHANGES, keyword),
+        None => None,
+    }
 }
 
 /// A key and the range of its number.

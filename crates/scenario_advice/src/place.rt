@@ -122,6 +122,14 @@ fn has_number(line: &[u8], place: usize, number: u64) -> bool {
     number_at(line, place) == Some(number)
 }
 
+/// Whether two `port` lines are of one port.
+fn is_of_port(line: &[u8], other: &[u8]) -> bool {
+    match (word_at(line, 2), number_at(line, 3)) {
+        (Some(name), Some(number)) => has_word(other, 2, name) && has_number(other, 3, number),
+        _ => false,
+    }
+}
+
 /// Whether a line is empty or begins with `#`.
 pub(crate) fn is_skipped(line: &[u8]) -> bool {
     match line {
@@ -206,6 +214,58 @@ impl<'a> Place<'a> {
     /// The first line of a keyword and a mark before this one.
     pub(crate) fn before(self, keyword: &[u8], mark: Mark<'_>) -> Option<Found<'a>> {
         self.first_between(1, self.number, keyword, mark)
+    }
+
+    /// The last line of a keyword and a mark before this one.
+    pub(crate) fn last_before(self, keyword: &[u8], mark: Mark<'_>) -> Option<Found<'a>> {
+        let mut found = None;
+        let mut number: u32 = 1;
+        for line in lines(self.text) {
+            if number >= self.number {
+                break;
+            }
+            if begins(line, keyword) && mark.is_on(line) {
+                found = Some(Found { number, line });
+            }
+            number = number.saturating_add(1);
+        }
+        found
+    }
+
+    /// The `port` line before this one that gives a port this SNPA on a subnetwork, where it is the last one of a port, which
+    /// isn't that of this line.
+    pub(crate) fn last_with_snpa(
+        self,
+        own: &[u8],
+        subnet: &[u8],
+        snpa: &Snpa,
+    ) -> Option<Found<'a>> {
+        let mark = Mark::Snpa { subnet, snpa };
+        let mut number: u32 = 1;
+        for line in lines(self.text) {
+            if number >= self.number {
+                return None;
+            }
+            if begins(line, b"port") && mark.is_on(line) && !is_of_port(own, line) {
+                let found = Found { number, line };
+                if self.is_last(found) {
+                    return Some(found);
+                }
+            }
+            number = number.saturating_add(1);
+        }
+        None
+    }
+
+    /// Whether no line between a `port` line and this one puts its port elsewhere.
+    fn is_last(self, found: Found<'_>) -> bool {
+        let from = found.number.saturating_add(1);
+        match (word_at(found.line, 2), number_at(found.line, 3)) {
+            (Some(name), Some(number)) => self
+                .first_between(from, self.number, b"port", Mark::Port { name, number })
+                .is_none(),
+            _ => false,
+        }
     }
 
     /// The first line of a keyword and a mark behind this one.

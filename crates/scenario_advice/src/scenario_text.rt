@@ -2,7 +2,7 @@
 ghost use Rattle.scenario_advice.specs.Said.{IsTold};
 
 use crate::advice::Advice;
-use crate::grammar::{DECLARATIONS, EVENTS, LineForm, More, declaration_of, form_of};
+use crate::grammar::{DECLARATIONS, LineForm, More, declaration_of, event_of, form_of};
 use crate::header::{Versions, of_header};
 use crate::place::{Place, count_words, same, word_at};
 use crate::systems::of_systems;
@@ -59,10 +59,10 @@ fn of_line(at: Place<'_>, code: Code) -> Option<Advice> {
             "nothing but skipped lines may stand behind the line end",
         );
     }
-    if let Some(form) = form_of(EVENTS, keyword) {
+    if let Some(form) = event_of(at, keyword) {
         return of_words(at, line, rest, form, code);
     }
-    only_for_syntax(code, of_other_event(keyword, rest))
+    only_for_syntax(code, of_other_event(at, keyword, rest))
 }
 
 /// A text where the code is that of syntax.
@@ -115,7 +115,7 @@ fn of_declaration(
     }
     let wanted = if same(keyword, b"end") {
         "a declaration, or the line events, which stands before the events and end"
-    } else if form_of(EVENTS, keyword).is_some() {
+    } else if event_of(at, keyword).is_some() {
         "a declaration, or the line events, which stands before the first event"
     } else {
         "limits, subnet, system, address, port, route or events"
@@ -135,7 +135,7 @@ fn of_missing_limits(at: Place<'_>, code: Code) -> Option<Advice> {
 }
 
 /// What is said of a line behind `events` whose first word is no event.
-fn of_other_event(keyword: &[u8], rest: &[u8]) -> Advice {
+fn of_other_event(at: Place<'_>, keyword: &[u8], rest: &[u8]) -> Advice {
     if same(keyword, b"end") {
         if let Some((word, _)) = next_word(rest) {
             return of_word_too_many(2, word, "end");
@@ -143,6 +143,10 @@ fn of_other_event(keyword: &[u8], rest: &[u8]) -> Advice {
     }
     let wanted = if form_of(DECLARATIONS, keyword).is_some() {
         "an event, or the line end; declarations stand before the line events"
+    } else if at.is_of_version_2() {
+        "send, echo, deliver, settle, lose, tick, restart, congest, inject, mtu, route, unroute, port or end"
+    } else if same(keyword, b"mtu") || same(keyword, b"unroute") {
+        "send, echo, deliver, settle, lose, tick, restart, congest, inject or end; mtu and unroute are events of version 2"
     } else {
         "send, echo, deliver, settle, lose, tick, restart, congest, inject or end"
     };

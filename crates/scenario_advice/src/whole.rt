@@ -15,11 +15,15 @@ pub(crate) fn of_whole(
     more: More,
     code: Code,
 ) -> Option<Advice> {
+    let is_event = at.alone(b"events").is_some();
     match code {
+        Code::DupName if is_event && same(keyword, b"port") => of_second_port(at, line),
         Code::DupName => of_name_again(at, line, keyword, more),
+        Code::DupAddress if is_event => of_rival(at, line),
         Code::DupAddress => of_address_again(at, line, keyword),
         Code::Limits => of_limits(line),
         Code::Mtu => of_mtu(line),
+        Code::Count if is_event => of_event_too_many(at, line, keyword),
         Code::Count => of_count(at, line, keyword),
         _ => None,
     }
@@ -71,6 +75,51 @@ fn of_port_again(at: Place<'_>, line: &[u8]) -> Option<Advice> {
     }
     let found = at.before(b"port", Mark::PortOn { name, subnet })?;
     again(what.text("on ").octets(subnet).text(" already"), found)
+}
+
+/// What is said of an event that puts a port on a subnetwork where another port of the system is now.
+fn of_second_port(at: Place<'_>, line: &[u8]) -> Option<Advice> {
+    let name = word_at(line, 2)?;
+    let number = number_at(line, 3)?;
+    let subnet = word_at(line, 4)?;
+    for other in 0..8u64 {
+        if other == number {
+            continue;
+        }
+        let mark = Mark::Port {
+            name,
+            number: other,
+        };
+        if let Some(found) = at.last_before(b"port", mark) {
+            if is_on(found.line, subnet) {
+                let what = Advice::new().octets(name).text(" has its port ");
+                return again(what.number(other).text(" on ").octets(subnet), found);
+            }
+        }
+    }
+    None
+}
+
+/// Whether a `port` line puts the port on this subnetwork.
+fn is_on(line: &[u8], subnet: &[u8]) -> bool {
+    match word_at(line, 4) {
+        Some(word) => same(word, subnet),
+        None => false,
+    }
+}
+
+/// What is said of an event that gives a port an SNPA which another port has there now.
+fn of_rival(at: Place<'_>, line: &[u8]) -> Option<Advice> {
+    let subnet = word_at(line, 4)?;
+    let word = word_at(line, 5)?;
+    let snpa = Snpa::from_text(word).ok()?;
+    let found = at.last_with_snpa(line, subnet, &snpa)?;
+    let owner = word_at(found.line, 2)?;
+    let what = Advice::of("the SNPA ")
+        .word(word)
+        .text(" on ")
+        .octets(subnet);
+    again(what.text(" is now that of ").octets(owner), found)
 }
 
 /// What is said of a setting or of a wish that stands twice in a line.
@@ -196,14 +245,26 @@ fn of_count(at: Place<'_>, line: &[u8], keyword: &[u8]) -> Option<Advice> {
         "64 systems are declared already, and no more may be"
     } else if same(keyword, b"route") {
         "the router has 256 routes already, and no more may be"
-    } else if same(keyword, b"inject") && has_long_frame(line) {
-        "the frame has more than 70000 octets"
     } else if same(keyword, b"address") || same(keyword, b"port") {
         return of_role(at, line, keyword);
     } else {
-        return of_events(at);
+        return None;
     };
     Some(Advice::of(said))
+}
+
+/// What is said of an event with which a number is passed.
+fn of_event_too_many(at: Place<'_>, line: &[u8], keyword: &[u8]) -> Option<Advice> {
+    if same(keyword, b"inject") && has_long_frame(line) {
+        return Some(Advice::of("the frame has more than 70000 octets"));
+    }
+    match of_events(at) {
+        Some(advice) => Some(advice),
+        None if same(keyword, b"route") => Some(Advice::of(
+            "the router has 256 routes of other prefixes now, and no more may be",
+        )),
+        None => None,
+    }
 }
 
 /// Whether an `inject` line has more digits than a frame may have.

@@ -23,7 +23,7 @@ use Rattle.clnp_machine.specs.Unit.{IsCarriable, Packet, value_of, wire}
 use Rattle.clnp_machine.specs.Content.{Content, IsCarried, Labelled, Esis, Unlabelled, frame_of}
 use Rattle.clnp_machine.specs.System.{SystemState}
 use Rattle.clnp_machine.specs.Local.{discard, tells}
-use Rattle.clnp_machine.specs.Steps.{CarriesOnePacket}
+use Rattle.clnp_machine.specs.Steps.{CarriesOneEsisValue, CarriesOnePacket}
 use Rattle.clnp_machine.specs.Step.{begins_unit, content_comes, discard_refused, effect_of, octets_come, unheard_note}
 
 -- a frame with an ES-IS value begins with the protocol's octet, one with a packet with its own
@@ -46,6 +46,18 @@ packet_found one begun P frame v rest begins at (Esis value following) pdu e for
     absurd (omega arith)
 packet_found one begun P frame v rest begins at (Unlabelled octets) none e for_packet =
     absurd (none.clnp v rest (record { octets = begins.octets; spells = begins.spells; split = e ∙ begins.split }))
+
+-- the ES-IS value at the front of a frame of another protocol is the value that it carries
+pub value_found : CarriesOneEsisValue → BeginsAsClnp → (P : Content → Type 0) (frame : List ℕ) (v : EsisValue) (rest : List ℕ)
+    → esis.BeginsWith frame v rest → octet frame 1 ≢ 0x81 → (content : Content) → IsCarried content → frame_of content ≡ frame
+    → ((following : List ℕ) → P (Esis v following)) → P content
+value_found one begun P frame v rest begins other (Labelled p following) carriable e for_value =
+    absurd (other (ap (λ (f : List ℕ). octet f 1) (sym e) ∙ begun p following carriable))
+value_found one begun P frame v rest begins other (Esis value following) pdu e for_value =
+    let same : v ≡ value = (one value following v rest pdu (subst (λ (f : List ℕ). esis.BeginsWith f v rest) (sym e) begins)).0 in
+    subst (λ (w : EsisValue). P (Esis w following)) same (for_value following)
+value_found one begun P frame v rest begins other (Unlabelled octets) none e for_value =
+    absurd (none.esis v rest (record { octets = begins.octets; spells = begins.spells; split = e ∙ begins.split }))
 
 -- what is needed of a PDU that was read has its value
 pub of_value : (pdu : Pdu) (first : Bool) (head : List ℕ) (len : ℕ) → SpellsHeader (pdu_value pdu) pdu.head.now

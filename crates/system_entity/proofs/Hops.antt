@@ -34,16 +34,16 @@ pub way_heard : (s : SystemState) (now : ℕ) (to : List ℕ) (place : Place) �
     → Some place ≡ heard.current_place now Es to s.facts → Some (to_neighbour place) ≡ way_of s to
 way_heard s now to place same is =
     let there : Some place ≡ heard.current_place s.moment Es to s.facts = is ∙ ap (λ (m : ℕ). heard.current_place m Es to s.facts) same in
-    ap (λ (p : Option Place). option_or (option_map to_neighbour p) (option_map by_route (longest to s.configuration.routes))) there
+    ap (λ (p : Option Place). option_or (option_map to_neighbour p) (option_map by_route (longest to s.attached.routes))) there
 
 -- else the longest route is
 pub way_routed : (s : SystemState) (now : ℕ) (to : List ℕ) (route : Option Route) → now ≡ s.moment
-    → (let none : Option Place = None in none) ≡ heard.current_place now Es to s.facts → route ≡ longest to s.configuration.routes
+    → (let none : Option Place = None in none) ≡ heard.current_place now Es to s.facts → route ≡ longest to s.attached.routes
     → option_map by_route route ≡ way_of s to
 way_routed s now to route same none is =
     let there = none ∙ ap (λ (m : ℕ). heard.current_place m Es to s.facts) same in
     ap (λ (r : Option Route). option_map by_route r) is
-    ∙ ap (λ (p : Option Place). option_or (option_map to_neighbour p) (option_map by_route (longest to s.configuration.routes))) there
+    ∙ ap (λ (p : Option Place). option_or (option_map to_neighbour p) (option_map by_route (longest to s.attached.routes))) there
 
 -- ---- units of its own
 

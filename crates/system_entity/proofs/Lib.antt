@@ -8,3 +8,4 @@ pub mod Packets
 pub mod Refused
 pub mod Both
 pub mod Kept
+pub mod Changing

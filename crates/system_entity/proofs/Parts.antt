@@ -1,9 +1,11 @@
 -- The parts of an entity stand for states that differ in nothing that they keep.
 use Rattle.std.proofs.Common.{◌≡◌, ◌∙◌, refl, sym, ap, subst, ℕ, ◌≤◌, Bool, List, [], ◌∷◌, arith}
 use Rattle.std.specs.List.{AllByRecursion}
+use Rattle.clnp_machine.specs.Attachment.{Attachment}
 use Rattle.clnp_machine.specs.Reassembly.Buffer.{Buffer}
 use Rattle.clnp_machine.specs.Reassembly.Mapped.{map_buffers}
 use Rattle.clnp_machine.specs.ClnpPlan.Configuration.{SystemConfiguration}
+use Rattle.clnp_machine.specs.ClnpPlan.declared.config.PortConfig.{PortConfig}
 use Rattle.clnp_machine.specs.Identifiers.{Identifiers}
 use Rattle.clnp_machine.specs.Local.{Deed, IsAsOffered, Sends, Tells, made_in}
 use Rattle.clnp_machine.specs.Local as machine
@@ -16,6 +18,8 @@ use Rattle.clnp_machine.specs.Esis.{esis_limits}
 use Rattle.esis_entity.specs.State.{EsisState}
 use Rattle.esis_entity.specs.Stands as esis_entity
 use Rattle.clnp_machine.specs.EsisTables.Stands as heard
+use Rattle.clnp_machine.specs.Forwarding.Stands as routing
+use Rattle.clnp_machine.specs.Forwarding.declared.routes.Routes.{Routes}
 use Rattle.clnp_machine.specs.EsisTables.Fact.{Fact}
 use Rattle.local_entity.specs.State.{EntityState}
 use Rattle.local_entity.specs.Local as local_entity
@@ -70,6 +74,14 @@ esis_same before here s t configuration facts hello next h =
       next_hello = h.next_hello ∙ sym next;
     }
 
+-- its ports and its routes, where it is attached as before
+ports_same : (ports : List PortConfig) (s t : SystemState) → t.attached ≡ s.attached → ports ≡ s.attached.ports → ports ≡ t.attached.ports
+ports_same ports s t same h = h ∙ ap (λ (a : Attachment). a.ports) (sym same)
+
+routes_same : (routes : Routes) (s t : SystemState) → t.attached ≡ s.attached → routing.Stands routes s.attached.routes
+    → routing.Stands routes t.attached.routes
+routes_same routes s t same h = subst (λ (a : Attachment). routing.Stands routes a.routes) (sym same) h
+
 -- after a deed at the system's own addresses
 pub parts_after_deed : (before : ℕ) (here : SystemEntityState) (local : EntityState) (s : SystemState) (deed : Deed) → IsDeed s deed
     → local_entity.Stands local deed.after → PartsStandSince before here s → PartsStandSince before (record here { local = local }) deed.after
@@ -77,6 +89,8 @@ parts_after_deed before here local s deed is done h =
     record {
       local = done;
       esis = esis_same before here.esis s deed.after is.itself.configuration is.heard.facts is.heard.hello is.heard.next_hello h.esis;
+      ports = ports_same here.ports s deed.after is.heard.attached h.ports;
+      routes = routes_same here.routes s deed.after is.heard.attached h.routes;
       moment = h.moment ∙ sym is.moment;
       congested = h.congested ∙ sym is.heard.congested;
       since = subst (λ (now : ℕ). before ≤ now) (sym is.moment) h.since;
@@ -89,6 +103,8 @@ parts_after_hello before here esis s effect only done h =
     record {
       local = local_same here.local s effect.after (keeps_rest s effect.after only.rest) h.local;
       esis = done;
+      ports = ports_same here.ports s effect.after only.rest.attached h.ports;
+      routes = routes_same here.routes s effect.after only.rest.attached h.routes;
       moment = h.moment ∙ sym only.rest.moment;
       congested = h.congested ∙ sym only.rest.congested;
       since = omega arith;
@@ -115,6 +131,8 @@ parts_later here s now later h =
     record {
       local = local_same here.local s (machine.at_moment now s) (keeps_moment s now) h.local;
       esis = esis_same s.moment here.esis s (machine.at_moment now s) refl refl refl refl h.esis;
+      ports = h.ports;
+      routes = h.routes;
       moment = refl;
       congested = h.congested;
       since = subst (λ (m : ℕ). m ≤ now) h.moment later;
@@ -123,7 +141,15 @@ parts_later here s now later h =
 -- whether it is spent says nothing of its parts
 pub while_spent : (here : SystemEntityState) (spent : Bool) (s : SystemState) → PartsStand here s → PartsStand (record here { spent = spent }) s
 while_spent here spent s h =
-    record { local = h.local; esis = h.esis; moment = h.moment; congested = h.congested; since = h.since }
+    record {
+      local = h.local;
+      esis = h.esis;
+      ports = h.ports;
+      routes = h.routes;
+      moment = h.moment;
+      congested = h.congested;
+      since = h.since;
+    }
 
 -- nothing that it keeps depends on whether it is congested
 pub while_congested : (here : SystemEntityState) (on : Bool) (s : SystemState) → PartsStand here s
@@ -133,6 +159,8 @@ while_congested here on s h =
     record {
       local = local_same here.local s t (record { configuration = refl; hold = refl; count = refl; identifiers = refl; buffers = refl; pending = refl }) h.local;
       esis = esis_same s.moment here.esis s t refl refl refl refl h.esis;
+      ports = h.ports;
+      routes = h.routes;
       moment = h.moment;
       congested = refl;
       since = h.since;

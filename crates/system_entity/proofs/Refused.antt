@@ -1,5 +1,5 @@
 -- A unit that isn't made: the system is as it was, and gives out why.
-use Rattle.std.proofs.Common.{◌≡◌, ◌∙◌, refl, sym, ap, subst, ℕ, List, ◌∷◌, [], ◌++◌, Option, Some}
+use Rattle.std.proofs.Common.{◌≡◌, refl, sym, ap, subst, ℕ, List, ◌∷◌, [], ◌++◌, Option, Some}
 use Rattle.clnp_machine.specs.ClnpPlan.declared.ask.Ask.{Ask}
 use Rattle.clnp_machine.specs.ClnpPlan.declared.ask.SendRefusal.{SendRefusal}
 use Rattle.clnp_machine.specs.ClnpPlan.declared.ask.SendRefusal.TheVariants as refusal

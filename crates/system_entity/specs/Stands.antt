@@ -1,12 +1,13 @@
 -- What the entity of a system stands for.
-use Rattle.std.specs.Prelude.{◌≡◌, ℕ, ◌<◌, ◌≤◌, ◌^◌, false, true}
+use Rattle.std.specs.Prelude.{◌≡◌, ℕ, ◌<◌, ◌≤◌, ◌^◌, false, true, length}
+use Rattle.std.specs.List.{AllByRecursion}
 use Rattle.clnp_machine.specs.Reassembly.State.{IsReady}
+use Rattle.clnp_machine.specs.ClnpPlan.Configuration.{IsPort}
 use Rattle.clnp_machine.specs.ClnpPlan.declared.ask.SendRefusal.{SendRefusal}
 use Rattle.clnp_machine.specs.ClnpPlan.declared.ask.SendRefusal.TheVariants.{NoMemory}
 use Rattle.clnp_machine.specs.System.{SystemState}
 use Rattle.esis_entity.specs.Stands as esis_entity
 use Rattle.clnp_machine.specs.Forwarding.Stands as routing
-use Rattle.clnp_machine.specs.Forwarding.declared.routes.Routes.{Routes}
 use Rattle.local_entity.specs.Local as local_entity
 use Rattle.system_entity.specs.State.{SystemEntityState}
 
@@ -14,6 +15,8 @@ use Rattle.system_entity.specs.State.{SystemEntityState}
 pub record PartsStandSince (before : ℕ) (entity : SystemEntityState) (s : SystemState) : Type 0 where
   pub local : local_entity.Stands entity.local s
   pub esis : esis_entity.StandsSince before entity.esis s
+  pub ports : entity.ports ≡ s.attached.ports
+  pub routes : routing.Stands entity.routes s.attached.routes
   pub moment : entity.moment ≡ s.moment
   pub congested : entity.congested ≡ s.congested
   pub since : before ≤ s.moment
@@ -33,10 +36,11 @@ pub record IsReadyFor (entity : SystemEntityState) : Type 0 where
   pub stands : Stands entity state
   pub ready : IsReady entity.moment entity.local.table
 
--- and that the routes that it keeps are those of its configuration
-pub record IsSound (entity : SystemEntityState) (kept : Routes) : Type 0 where
+-- and that each of its ports takes frames that are long enough, and that it has as many of them as it had at its start
+pub record IsSound (entity : SystemEntityState) : Type 0 where
   pub moment : entity.moment < 2 ^ 62
-  pub routes : routing.Stands kept entity.local.configuration.routes
+  pub wide : AllByRecursion IsPort entity.ports
+  pub number : length entity.ports ≡ length entity.local.configuration.ports
   pub ready : entity.spent ≡ false → IsReadyFor entity
 
 -- a refused entity is as before, but spent where memory was refused

@@ -1,5 +1,7 @@
 -- What a contract sees of the entity of a system.
-use Rattle.std.specs.Prelude.{ℕ, Bool}
+use Rattle.std.specs.Prelude.{ℕ, Bool, List}
+use Rattle.clnp_machine.specs.ClnpPlan.declared.config.PortConfig.{PortConfig}
+use Rattle.clnp_machine.specs.Forwarding.declared.routes.Routes.{Routes}
 use Rattle.esis_entity.specs.State.{EsisState}
 use Rattle.local_entity.specs.State.{EntityState}
 
@@ -8,6 +10,9 @@ pub record SystemEntityState : Type 0 where
   pub local : EntityState
   -- what it says of itself, and heard of others
   pub esis : EsisState
+  -- its ports by their numbers, and its routes, as they are now
+  pub ports : List PortConfig
+  pub routes : Routes
   pub moment : ℕ
   -- it is congested
   pub congested : Bool

@@ -12,7 +12,7 @@ use Rattle.clnp_machine.specs.Content.{Content, IsCarried, frame_of}
 use Rattle.clnp_machine.specs.Given.{Appends, AppendsFor}
 use Rattle.clnp_machine.specs.Step.{step}
 use Rattle.clnp_machine.specs.System as machine
-use Rattle.clnp_machine.specs.System.{SystemState, AsksToSend, AsksForEcho, FrameComes, MomentComes, IsRestarted, IsCongested}
+use Rattle.clnp_machine.specs.System.{SystemState, AsksToSend, AsksForEcho, FrameComes, MomentComes, IsRestarted, IsCongested, IsChanged}
 use Rattle.system_entity.specs.State.{SystemEntityState}
 use Rattle.system_entity.specs.Stands.{Stands}
 use Rattle.system_entity.specs.declared.input.Input.{Input}
@@ -54,6 +54,7 @@ moment_at (AsksToSend from to octets ask) moment = moment
 moment_at (AsksForEcho from to octets) moment = moment
 moment_at IsRestarted moment = moment
 moment_at (IsCongested on) moment = moment
+moment_at (IsChanged change) moment = moment
 
 -- Exactly these outputs of the model were appended. Where a frame came to a router, one of them may be a frame that goes on.
 abbrev pub AppendsOf : machine.Input → Role → (moment : ℕ) → (before after : List Output) → List machine.Output → Type 0
@@ -64,6 +65,7 @@ AppendsOf (AsksToSend from to octets ask) role moment before after others = Appe
 AppendsOf (AsksForEcho from to octets) role moment before after others = Appends moment before after others
 AppendsOf IsRestarted role moment before after others = Appends moment before after others
 AppendsOf (IsCongested on) role moment before after others = Appends moment before after others
+AppendsOf (IsChanged change) role moment before after others = Appends moment before after others
 
 -- A step was taken: whatever state the system stood for, it stands for the one after the machine's step, and exactly the outputs
 -- of that step were appended.

@@ -29,7 +29,9 @@ ghost use Rattle.system_entity.specs.Ways.{way_option};
 use crate::passing::Passing;
 use crate::way::{Way, by_route, host_hop, to_neighbour};
 use clnp_machine::clnp_base::NoMemory;
-use clnp_machine::clnp_plan::{Ask, Limits, Note, Output, Role, SendRefusal, SystemConfig};
+use clnp_machine::clnp_plan::{
+    Ask, Limits, Note, Output, PortConfig, Role, SendRefusal, SystemConfig,
+};
 use clnp_machine::clnp_views::Frame;
 use clnp_machine::esis_tables::Place;
 use clnp_machine::forwarding::Routes;
@@ -41,10 +43,11 @@ use local_entity::{Hop, Local};
 use std::alloc::Global;
 use std::marker::Model;
 
+mod changing;
 mod noting;
 mod steps;
 
-use steps::{has_content, pass_pieces, routes_of, tell_way};
+use steps::{has_content, pass_pieces, ports_of, routes_of, tell_way};
 
 /// What came of a frame.
 #[derive(Clone, Copy, PartialEq, Eq)]
@@ -64,6 +67,7 @@ pub enum Arrival {
 pub struct SystemEntity {
     local: Local,
     esis: EsisEntity,
+    ports: Vec<PortConfig>,
     routes: Routes,
     moment: u64,
     congested: bool,
@@ -71,14 +75,34 @@ pub struct SystemEntity {
 }
 
 impl Model for SystemEntity {
+    ghost use Rattle.std.specs.Coded.{codes};
+    ghost use Rattle.clnp_machine.specs.Forwarding.contracts.routes.Routes.{the_row as row_of_routes};
     ghost use Rattle.system_entity.specs.State.{SystemEntityState};
     ghost use Rattle.system_entity.specs.Stands.{IsSound};
 
     ghost Value = { SystemEntityState };
 
-    ghost view = { λ e. record { local = e.local; esis = e.esis; moment = e.moment; congested = e.congested; spent = e.spent } };
+    ghost coded = { Prim.hlevel (codes, row_of_routes.coded) };
 
-    ghost invariant = { λ e. IsSound (record { local = e.local; esis = e.esis; moment = e.moment; congested = e.congested; spent = e.spent }) e.routes };
+    ghost view = { λ e. record {
+      local = e.local;
+      esis = e.esis;
+      ports = e.ports.items;
+      routes = e.routes;
+      moment = e.moment;
+      congested = e.congested;
+      spent = e.spent;
+    } };
+
+    ghost invariant = { λ e. IsSound (record {
+      local = e.local;
+      esis = e.esis;
+      ports = e.ports.items;
+      routes = e.routes;
+      moment = e.moment;
+      congested = e.congested;
+      spent = e.spent;
+    }) };
 }
 
 impl SystemEntity {
@@ -102,10 +126,12 @@ impl SystemEntity {
     {
         let local = Local::new(alloc, config, limits, quiet)?;
         let esis = EsisEntity::new(alloc, config, now)?;
+        let ports = ports_of(alloc, config)?;
         let routes = routes_of(alloc, config)?;
         Ok(SystemEntity {
             local,
             esis,
+            ports,
             routes,
             moment: now,
             congested: false,
@@ -394,7 +420,8 @@ impl SystemEntity {
         self.make(alloc, Kind::Erq, from, to, body, &ask, out)
     }
 
-    /// Forgets all that it keeps and heard, and is quiet as long as an identifier rests; the count of its units goes on.
+    /// Forgets all that it keeps and heard, and is quiet as long as an identifier rests; the count of its units goes on, and its
+    /// ports and its routes stay.
     pub fn restart(&mut self)
         ensures stands { (s : SystemState) → Stands self.old s → Stands self.new (restarted s) }
         ensures spent { self.new.spent ≡ self.old.spent }
@@ -415,6 +442,14 @@ impl SystemEntity {
         ensures config { self.new.local.configuration ≡ self.old.local.configuration }
     {
         self.congested = on;
+    }
+
+    /// Its moment, in ticks of 500 ms.
+    pub fn moment(&self) -> u64
+        ensures moment { result ≡ self.now.moment }
+        ensures within { result < 2 ^ 62 }
+    {
+        self.moment
     }
 
     /// Whether it is congested.

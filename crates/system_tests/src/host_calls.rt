@@ -1,5 +1,6 @@
 use crate::network::{
-    FROM_THE_HOST, TO_THE_HOST, address, asking, scenario_of, see_frame, see_got, see_sent,
+    FROM_THE_HOST, TO_THE_HOST, address, asking, moved_port, scenario_of, see_frame, see_got,
+    see_port, see_sent,
 };
 use clnp_machine::clnp_plan::{Limits, Output, Role, SystemConfig};
 use clnp_machine::clnp_views::Frame;
@@ -47,9 +48,23 @@ fn congest_and_restart(host: &mut EndSystem) {
     host.restart();
 }
 
+/// Its port moves.
+fn move_port(rt: &impl Abort, host: &mut EndSystem) {
+    let port = moved_port(rt);
+    host.set_port(port);
+    see_port(rt, host.ports(), 1_000);
+}
+
+/// Its port takes shorter frames.
+fn shorten(rt: &impl Abort, host: &mut EndSystem) {
+    host.set_mtu(600);
+    see_port(rt, host.ports(), 600);
+}
+
 /// What it tells of itself.
 fn see_host(rt: &impl Abort, host: &EndSystem) {
     assert!(rt; host.held() == 0);
+    assert!(rt; host.moment() == 1);
     assert!(rt; host.config().name() == b"a".as_slice());
     assert!(rt; host.next_hop(&address(rt, 1)) == Target::EndSystems);
 }
@@ -67,7 +82,10 @@ fn a_host_sends_and_receives(rt: HostRuntime) {
     send(&rt, alloc, &mut host, &mut out);
     echo(&rt, alloc, &mut host, &mut out);
     receive(&rt, alloc, &mut host, &mut out);
+    move_port(&rt, &mut host);
+    shorten(&rt, &mut host);
     congest_and_restart(&mut host);
+    see_port(&rt, host.ports(), 600);
     see_host(&rt, &host);
     assert!(&rt; out.len() == 5);
     see_sent(&rt, out.get(0), 1);

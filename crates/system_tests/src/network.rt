@@ -1,12 +1,13 @@
 //! A network of a host and a router, and what they give out.
-ghost use Rattle.std.specs.Prelude.{false};
+ghost use Rattle.std.specs.Prelude.{◌≡◌, false};
 ghost use Rattle.clnp_machine.specs.ClnpOptions.Grammar.{FitsKind};
 ghost use Rattle.clnp_machine.specs.ClnpOptions.Parameter.{parameters};
 
 use clnp_machine::clnp_base::lines;
 use clnp_machine::clnp_options::{OptionList, laws};
-use clnp_machine::clnp_plan::{Ask, Note, Output};
-use clnp_machine::nsap::{Address, Target};
+use clnp_machine::clnp_plan::{Ask, Note, Output, PortConfig};
+use clnp_machine::forwarding::Route;
+use clnp_machine::nsap::{Address, Prefix, Snpa, Target};
 use scenario::{Scenario, read};
 use std::alloc::Global;
 use std::process::Abort;
@@ -62,6 +63,45 @@ pub fn asking(rt: &impl Abort) -> Ask
         segment: false,
         options,
     }
+}
+
+/// A port on another subnetwork, at the address 03 there.
+pub fn moved_port(rt: &impl Abort) -> PortConfig
+    ensures transit { result.transit ≡ 3 }
+    ensures mtu { result.mtu ≡ 1000 }
+{
+    PortConfig {
+        subnet: 1,
+        snpa: Snpa::from_bytes(&[3]).expect(rt, "an address"),
+        transit: 3,
+        mtu: 1_000,
+    }
+}
+
+/// Sees that the one port is the one that moved, and takes frames of so many octets.
+pub fn see_port(rt: &impl Abort, ports: &[PortConfig], mtu: u16) {
+    assert!(rt; ports.len() == 1);
+    let port = &ports[0];
+    assert!(rt; port.subnet == 1 && port.transit == 3);
+    assert!(rt; port.snpa.as_bytes() == b"\x03".as_slice());
+    assert!(rt; port.mtu == mtu);
+}
+
+/// The route of a prefix by port 0, to the system at the address 04.
+pub fn route_to(rt: &impl Abort, prefix: &[u8]) -> Route
+    ensures { result.port ≡ 0 }
+{
+    Route {
+        prefix: prefix_of(rt, prefix),
+        port: 0,
+        snpa: Snpa::from_bytes(&[4]).expect(rt, "an address"),
+        title: address(rt, 4),
+    }
+}
+
+/// The prefix of some digits.
+pub fn prefix_of(rt: &impl Abort, digits: &[u8]) -> Prefix {
+    Prefix::from_text(digits).expect(rt, "a prefix")
 }
 
 /// Sees that a frame goes out: by port 0, of these octets.

@@ -1,4 +1,7 @@
-use crate::network::{FROM_THE_HOST, FROM_THE_ROUTER, address, scenario_of, see_frame, see_sent};
+use crate::network::{
+    FROM_THE_HOST, FROM_THE_ROUTER, address, moved_port, prefix_of, route_to, scenario_of,
+    see_frame, see_port, see_sent,
+};
 use clnp_machine::clnp_plan::{Limits, Output, Role, SystemConfig};
 use clnp_machine::clnp_views::Frame;
 use clnp_machine::nsap::{Snpa, Target};
@@ -44,9 +47,44 @@ fn congest_and_restart(router: &mut Router) {
     router.restart();
 }
 
+/// Its port moves.
+fn move_port(rt: &impl Abort, router: &mut Router) {
+    let port = moved_port(rt);
+    // Its clause: a router has a port.
+    let _ports = router.ports();
+    router.set_port(0, port);
+    see_port(rt, router.ports(), 1_000);
+}
+
+/// Its port takes shorter frames.
+fn shorten(rt: &impl Abort, router: &mut Router) {
+    // Its clause: a router has a port.
+    let _ports = router.ports();
+    router.set_mtu(0, 600);
+    see_port(rt, router.ports(), 600);
+}
+
+/// A route of two more digits is set.
+fn set_route(rt: &impl Abort, alloc: Global, router: &mut Router) {
+    let route = route_to(rt, b"47002704");
+    // Its clause: a router has a port.
+    let _ports = router.ports();
+    assert!(rt; router.set_route(alloc, route).is_ok());
+    assert!(rt; router.next_hop(&address(rt, 4)).is_some());
+}
+
+/// It is removed, and isn't there to be removed again.
+fn remove_route(rt: &impl Abort, router: &mut Router) {
+    let prefix = prefix_of(rt, b"47002704");
+    assert!(rt; router.remove_route(&prefix));
+    assert!(rt; !router.remove_route(&prefix));
+    assert!(rt; router.next_hop(&address(rt, 4)).is_none());
+}
+
 /// What it tells of itself.
 fn see_router(rt: &impl Abort, router: &Router) {
     assert!(rt; router.held() == 0);
+    assert!(rt; router.moment() == 1);
     assert!(rt; router.config().name() == b"r".as_slice());
     let way = Way {
         port: 0,
@@ -75,6 +113,11 @@ fn a_router_forwards(rt: HostRuntime) {
     out.clear();
     echo(&rt, alloc, &mut router, &mut out);
     see_sent(&rt, out.get(0), 1);
+    set_route(&rt, alloc, &mut router);
+    remove_route(&rt, &mut router);
+    move_port(&rt, &mut router);
+    shorten(&rt, &mut router);
     congest_and_restart(&mut router);
+    see_port(&rt, router.ports(), 600);
     see_router(&rt, &router);
 }

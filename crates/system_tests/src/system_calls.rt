@@ -1,5 +1,8 @@
-use crate::network::{TO_THE_HOST, address, asking, scenario_of, see_got, see_sent};
-use clnp_machine::clnp_plan::{Limits, Note, Output, SystemConfig};
+use crate::network::{
+    TO_THE_HOST, address, asking, moved_port, prefix_of, route_to, scenario_of, see_got, see_port,
+    see_sent,
+};
+use clnp_machine::clnp_plan::{Limits, Note, Output, Role, SystemConfig};
 use clnp_machine::clnp_views::Frame;
 use clnp_machine::nsap::Snpa;
 use clnp_systems::System;
@@ -61,6 +64,43 @@ fn restart(rt: &impl Abort, alloc: Global, system: &mut System, out: &mut Vec<Ou
     assert!(rt; system.step(alloc, &Input::Restart, out).is_ok());
 }
 
+/// Its port moves.
+fn move_port(rt: &impl Abort, system: &mut System) {
+    let port = moved_port(rt);
+    // Its clause: a system has a port.
+    let _ports = system.ports();
+    system.set_port(0, port);
+    see_port(rt, system.ports(), 1_000);
+}
+
+/// Its port takes shorter frames.
+fn shorten(rt: &impl Abort, system: &mut System) {
+    // Its clause: a system has a port.
+    let _ports = system.ports();
+    system.set_mtu(0, 600);
+    see_port(rt, system.ports(), 600);
+}
+
+/// A route of a router is set.
+fn set_route(rt: &impl Abort, alloc: Global, system: &mut System) {
+    let Role::Router = system.config().role() else {
+        panic!(rt; "no router");
+    };
+    let route = route_to(rt, b"47002704");
+    // Its clause: a system has a port.
+    let _ports = system.ports();
+    assert!(rt; system.set_route(alloc, route).is_ok());
+}
+
+/// It is removed.
+fn remove_route(rt: &impl Abort, system: &mut System) {
+    let Role::Router = system.config().role() else {
+        panic!(rt; "no router");
+    };
+    let prefix = prefix_of(rt, b"47002704");
+    assert!(rt; system.remove_route(&prefix));
+}
+
 /// Sees that nothing was made, and that this is noted.
 fn see_refused(rt: &impl Abort, output: Option<&Output>) {
     let Some(Output::Note(Note::Refused { .. })) = output else {
@@ -85,6 +125,7 @@ fn whatever_comes_is_a_step(rt: HostRuntime) {
     let mut out = Vec::new(alloc);
     let mut system = system_of(&rt, alloc, config, scenario.limits());
     assert!(&rt; system.config().name() == b"a".as_slice());
+    assert!(&rt; system.moment() == 1);
     assert!(&rt; system.as_host().is_some());
     assert!(&rt; system.as_router().is_none());
     send(&rt, alloc, &mut system, &mut out);
@@ -96,4 +137,19 @@ fn whatever_comes_is_a_step(rt: HostRuntime) {
     see_got(&rt, out.get(3));
     see_restart(&rt, out.get(4));
     congest(&rt, alloc, &mut system, &mut out);
+}
+
+#[test]
+fn a_system_is_attached_elsewhere(rt: HostRuntime) {
+    let alloc = rt.alloc();
+    let scenario = scenario_of(&rt, alloc);
+    for config in scenario.systems() {
+        let mut system = system_of(&rt, alloc, config, scenario.limits());
+        move_port(&rt, &mut system);
+        shorten(&rt, &mut system);
+        if system.as_router().is_some() {
+            set_route(&rt, alloc, &mut system);
+            remove_route(&rt, &mut system);
+        }
+    }
 }

@@ -92,15 +92,16 @@ impl Network {
         lines.nobody(alloc, self.clock, number)
     }
 
-    /// The least of the ports of the system at a place by which a copy comes in, if it is for that system.
+    /// The least of the ports of the system at a place by which a copy comes in, if it is for that system as it now is.
     fn port_for(&self, at: usize, place: usize) -> Option<u8>
         requires at_in { at < vec_len self.now.copies }
         requires place_in { place < vec_len self.now.systems }
         ensures { (model : network.World) (copy : network.Copy) (system : SystemState) → Shows self.now model
             → slice_get model.copies at ≡ Some copy → slice_get model.systems place ≡ Some system
-            → IsPortFor copy system.configuration result }
+            → IsPortFor copy system result }
     {
-        first_port(&self.copies[at], self.config_at(place))
+        let role = self.config_at(place).role();
+        first_port(&self.copies[at], role, self.ports_at(place))
     }
 
     /// Gives a copy to the system at a place by a port, and a line tells by which; where the copy is late, a line tells that
@@ -120,7 +121,7 @@ impl Network {
         requires running { IsRunning self.old }
         ensures follows { OnOk result ((model : network.World) (copy : network.Copy) (system : SystemState) → Holds self.old model
             → slice_get model.copies at ≡ Some copy → slice_get model.systems place ≡ Some system
-            → port ≡ network.first_port copy system.configuration.role system.configuration.ports
+            → port ≡ network.first_port copy system.configuration.role system.attached.ports
             → Follows self.new lines.old lines.new (network.give limits (record { number = number; copy = copy }) model place)) }
         ensures systems { vec_len self.new.systems ≡ vec_len self.old.systems }
         ensures copies { vec_len self.old.copies ≤ vec_len self.new.copies }

@@ -5,7 +5,7 @@ ghost use Rattle.clnp_machine.specs.System.{IsRestarted, IsCongested};
 ghost use Rattle.clnp_network.specs.World as network;
 ghost use Rattle.clnp_world.specs.Lines.{both, tally};
 ghost use Rattle.clnp_world.specs.Parts.{Follows, FollowsIn, Holds, IsBehind, IsRunning, Shows};
-ghost use Rattle.clnp_network.specs.Scenario.Scenario.{AsksFairly, InjectsInForm};
+ghost use Rattle.clnp_network.specs.Scenario.Scenario.{AsksFairly, InjectsInForm, IsSaid};
 
 use super::Network;
 use super::coming::names_of_inputs;
@@ -87,7 +87,7 @@ impl Network {
         ensures { OnOk result ((model : network.World) → Holds self.old model
             → Follows self.new lines.old lines.new (network.after scenario.now model mv.now)) }
     {
-        // Its clause: each event asks of a system what may be asked of it, and injects in its form.
+        // Its clause: each event asks of a system what may be asked of it, injects in its form, and says what may be said.
         scenario.is_fit();
         let limits = *scenario.limits();
         match mv {
@@ -114,6 +114,7 @@ impl Network {
         requires running { IsRunning self.old }
         requires fair { AllByRecursion AsksFairly events.now }
         requires injected { AllByRecursion (InjectsInForm (length subnets.now)) events.now }
+        requires said { AllByRecursion IsSaid events.now }
         ensures { OnOk result ((model : network.World) → Holds self.old model
             → Follows self.new lines.old lines.new
             (network.event_happens subnets.now limits model (slice_get events.now place))) }
@@ -136,6 +137,7 @@ impl Network {
         requires running { IsRunning self.old }
         requires fair { AsksFairly event.now }
         requires injected { InjectsInForm (length subnets.now) event.now }
+        requires said { IsSaid event.now }
         ensures { OnOk result ((model : network.World) → Holds self.old model
             → Follows self.new lines.old lines.new (network.event_happens subnets.now limits model (Some event.now))) }
     {
@@ -166,6 +168,22 @@ impl Network {
                 to,
                 octets,
             } => self.inject(alloc, subnets, *subnet, *from, *to, octets, lines),
+            Event::Mtu { subnet, mtu } => self.resize(alloc, subnets, *subnet, *mtu, lines),
+            Event::Route { system, route } => {
+                self.set_route(alloc, usize::from(*system), *route, lines)
+            }
+            Event::Unroute { system, prefix } => {
+                self.remove_route(alloc, usize::from(*system), prefix, lines)
+            }
+            Event::Port {
+                system,
+                number,
+                subnet,
+                snpa,
+            } => {
+                let place = usize::from(*system);
+                self.move_port(alloc, subnets, place, *number, *subnet, *snpa, lines)
+            }
             Event::Settle { .. } | Event::Lose { .. } | Event::Tick { .. } => Ok(()),
         }
     }

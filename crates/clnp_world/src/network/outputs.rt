@@ -15,7 +15,7 @@ use super::Network;
 use crate::copy::FrameCopy;
 use crate::lines::Lines;
 use clnp_machine::clnp_base::NoMemory;
-use clnp_machine::clnp_plan::{Note, Output, Sending, SystemConfig};
+use clnp_machine::clnp_plan::{Note, Output, PortConfig, Sending, SystemConfig};
 use clnp_machine::clnp_views::Frame;
 use clnp_machine::nsap::Target;
 use clnp_systems::sent_frame;
@@ -81,7 +81,7 @@ impl Network {
     }
 
     /// The line of a note of the system at a place.
-    fn write_note(
+    pub(super) fn write_note(
         &self,
         alloc: Global,
         place: usize,
@@ -139,11 +139,11 @@ impl Network {
         requires { place < vec_len self.old.systems }
         ensures puts { OnOk result ((model : network.World) (system : SystemState) → Shows self.old model
             → slice_get model.systems place ≡ Some system
-            → PutsCopies self.old self.new (frame_copies (slice_get system.configuration.ports port) target birth frame)) }
+            → PutsCopies self.old self.new (frame_copies (slice_get system.attached.ports port) target birth frame)) }
         ensures others { self.new ≡ record self.old { copies = self.new.copies; weight = self.new.weight } }
         ensures more { vec_len self.old.copies ≤ vec_len self.new.copies }
     {
-        let ports = self.config_at(place).ports();
+        let ports = self.ports_at(place);
         let number = usize::from(port);
         if number >= ports.len() {
             return Ok(());
@@ -179,6 +179,16 @@ impl Network {
             → result.now ≡ system.configuration }
     {
         self.systems[place].config()
+    }
+
+    /// The ports of the system at a place, as they now are.
+    pub(super) fn ports_at(&self, place: usize) -> &[PortConfig]
+        requires { place < vec_len self.now.systems }
+        ensures ports { (model : network.World) (system : SystemState) → Shows self.now model → slice_get model.systems place ≡ Some system
+            → result.now ≡ system.attached.ports }
+        ensures few { length result.now ≤ 8 }
+    {
+        self.systems[place].ports()
     }
 }
 

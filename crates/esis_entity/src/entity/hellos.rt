@@ -14,18 +14,19 @@ use clnp_machine::clnp_views::Head;
 use clnp_machine::esis_pdus::{HelloRefusal, esh, ish};
 use clnp_machine::nsap::{Address, Target};
 
-/// Says hello on each port, as a system that says it once in `period` seconds.
+/// Says hello on each of so many ports, as a system that says it once in `period` seconds.
 pub(crate) fn say_everywhere(
     config: &SystemConfig,
+    ports: u8,
     period: u16,
     out: &mut Vec<Output>,
 ) -> Result<(), NoMemory>
-    ensures said { OnOk result ((s : SystemState) (moment : ℕ) → s.configuration ≡ config.now → s.hello ≡ period
-        → Appends moment out.old.items out.new.items (hello_everywhere s)) }
+    ensures said { OnOk result ((s : SystemState) (moment : ℕ) → s.configuration ≡ config.now → length s.attached.ports ≡ ports
+        → s.hello ≡ period → Appends moment out.old.items out.new.items (hello_everywhere s)) }
     ensures front { StaysInFront out.old.items out.new.items }
 {
     let pdu = hello(config, period);
-    for port in 0..port_count(config) {
+    for port in 0..ports {
         send(port, hearers(config.role()), pdu, out)?;
     }
     Ok(())
@@ -111,13 +112,4 @@ fn hearers(role: Role) -> Target
         Role::Host => Target::Routers,
         Role::Router => Target::EndSystems,
     }
-}
-
-/// How many ports a system has.
-fn port_count(config: &SystemConfig) -> u8
-    ensures { result ≡ length config.now.ports }
-{
-    // Its clause: a system has eight ports at most.
-    config.is_system();
-    config.ports().len() as u8
 }

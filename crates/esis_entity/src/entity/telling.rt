@@ -1,5 +1,5 @@
 //! What a system does as time goes on (ISO 9542, sections 6.1, 6.2, 6.4 and 6.11).
-ghost use Rattle.std.specs.Prelude.{◌≡◌, ◌≤◌, ◌<◌, ◌^◌, ℕ, List, [], OnOk, map};
+ghost use Rattle.std.specs.Prelude.{◌≡◌, ◌≤◌, ◌<◌, ◌^◌, ℕ, List, [], OnOk, length, map};
 ghost use Rattle.clnp_machine.specs.EsisTables.Fact.{Fact};
 ghost use Rattle.clnp_machine.specs.EsisTables.Gone.{gone};
 ghost use Rattle.clnp_machine.specs.EsisTables.Stands as heard;
@@ -40,38 +40,40 @@ impl EsisEntity {
     pub(super) fn forget_and_say(
         &mut self,
         config: &SystemConfig,
+        ports: u8,
         now: u64,
         out: &mut Vec<Output>,
     ) -> Result<(), NoMemory>
         requires { now < 2 ^ 62 }
         ensures stands { OnOk result ((s : SystemState) (before : ℕ) → StandsSince before self.old s
-            → s.configuration ≡ config.now → s.moment ≡ now → before ≤ now
+            → s.configuration ≡ config.now → length s.attached.ports ≡ ports → s.moment ≡ now → before ≤ now
             → Stands self.new (then_does (forgets before s) says_hello).after) }
         ensures outputs { OnOk result ((s : SystemState) (before : ℕ) → StandsSince before self.old s
-            → s.configuration ≡ config.now → s.moment ≡ now → before ≤ now
+            → s.configuration ≡ config.now → length s.attached.ports ≡ ports → s.moment ≡ now → before ≤ now
             → Appends now out.old.items out.new.items (then_does (forgets before s) says_hello).outputs) }
         ensures front { StaysInFront out.old.items out.new.items }
     {
         forget(&mut self.tables, now, out)?;
-        self.say_hello(config, now, out)
+        self.say_hello(config, ports, now, out)
     }
 
     /// Says hello where it is due; the next one is due a period later.
     fn say_hello(
         &mut self,
         config: &SystemConfig,
+        ports: u8,
         now: u64,
         out: &mut Vec<Output>,
     ) -> Result<(), NoMemory>
         requires { now < 2 ^ 62 }
-        ensures said { OnOk result ((s : SystemState) → Stands self.old s → s.configuration ≡ config.now → s.moment ≡ now
-            → Does now self.new out.old.items out.new.items (says_hello s)) }
+        ensures said { OnOk result ((s : SystemState) → Stands self.old s → s.configuration ≡ config.now
+            → length s.attached.ports ≡ ports → s.moment ≡ now → Does now self.new out.old.items out.new.items (says_hello s)) }
         ensures front { StaysInFront out.old.items out.new.items }
     {
         if self.period == 0 || now < self.next_hello {
             return Ok(());
         }
         self.next_hello = now + 2 * u64::from(self.period);
-        say_everywhere(config, self.period, out)
+        say_everywhere(config, ports, self.period, out)
     }
 }

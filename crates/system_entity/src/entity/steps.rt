@@ -7,6 +7,7 @@ ghost use Rattle.clnp_machine.specs.PduHeader.Grammar.{BeginsWith, is_report};
 ghost use Rattle.clnp_machine.specs.PduHeader.Rules.{octet};
 ghost use Rattle.clnp_machine.specs.PduHeader.Value.{PduValue};
 ghost use Rattle.clnp_machine.specs.Reassembly.State.{IsReady};
+ghost use Rattle.clnp_machine.specs.ClnpPlan.Configuration.{IsPort};
 ghost use Rattle.clnp_machine.specs.Content.{Content, IsCarried, Labelled, frame_of};
 ghost use Rattle.clnp_machine.specs.Given.{Appends};
 ghost use Rattle.clnp_machine.specs.Local as machine;
@@ -30,7 +31,7 @@ use crate::passing::Passing;
 use crate::way::Way;
 use clnp_machine::clnp_base::NoMemory;
 use clnp_machine::clnp_options::Reason;
-use clnp_machine::clnp_plan::{Ask, Note, Output, Role, SendRefusal, SystemConfig};
+use clnp_machine::clnp_plan::{Ask, Note, Output, PortConfig, Role, SendRefusal, SystemConfig};
 use clnp_machine::clnp_views::Frame;
 use clnp_machine::esis_pdus::EsisRefusal;
 use clnp_machine::esis_tables::Place;
@@ -71,7 +72,9 @@ impl SystemEntity {
         self.local.tick(alloc, now, &mut actions)?;
         self.moment = now;
         self.give_out(actions, &mut outputs)?;
-        self.esis.tick(self.local.config(), now, &mut outputs)?;
+        let ports = self.port_count();
+        self.esis
+            .tick(self.local.config(), ports, now, &mut outputs)?;
         out.append(&mut outputs)?;
         Ok(())
     }
@@ -344,9 +347,7 @@ impl SystemEntity {
                 out.push(Output::Note(note))?;
                 Ok(())
             }
-            Action::Send(made) => {
-                send_unit(&made, self.unit_hop(&made.to), self.local.config(), out)
-            }
+            Action::Send(made) => { send_unit(&made, self.unit_hop(&made.to), self.ports(), out) }
         }
     }
 
@@ -365,6 +366,16 @@ impl SystemEntity {
             }
         }
     }
+}
+
+/// The ports of a configuration.
+pub(super) fn ports_of(alloc: Global, config: &SystemConfig) -> Result<Vec<PortConfig>, NoMemory>
+    ensures ports { IfOk result (λ ports. ports.items ≡ config.now.ports) }
+    ensures wide { IfOk result (λ ports. AllByRecursion IsPort ports.items) }
+{
+    // Its clause: each port takes 512 octets at least.
+    config.is_system();
+    Ok(Vec::from_slice(alloc, config.ports())?)
 }
 
 /// The routes of a configuration.

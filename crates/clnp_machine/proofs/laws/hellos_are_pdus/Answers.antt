@@ -8,7 +8,7 @@ pub returns-clause-hello : goal.returns-clause-hello
 returns-clause-hello c = hello_pdu
 
 pub returns-clause-pdus : goal.returns-clause-pdus
-returns-clause-pdus c = λ s input system is fair knows. step_pdus s is knows c.what_is_longest_covers.ensures system input fair
+returns-clause-pdus c = λ s input system each next fair knows. step_pdus s next knows c.what_is_longest_covers.ensures system each input fair
 
 pub returns-clause-known : goal.returns-clause-known
 returns-clause-known c = step_known

@@ -24,6 +24,9 @@ returns c =
       steps = record {
         itself = c.a_system_stays_itself.ensures.itself;
         moment = c.a_system_stays_itself.ensures.moment;
+        attached = c.a_system_stays_itself.ensures.attached;
+        ports = c.a_system_stays_itself.ensures.ports;
+        soundly = c.a_system_stays_itself.ensures.soundly;
         fresh = c.new_units_are_fresh.ensures.fresh;
         made_for = c.new_units_are_fresh.ensures.asked;
         reports = c.reports_are_of_packets.ensures;
@@ -65,6 +68,7 @@ returns c =
         same = c.edits_keep_the_form.ensures.same;
         chained = c.edits_keep_the_form.ensures.chained;
       };
+      declared = c.attachments_stay_sound.ensures.declared;
       outside = c.octets_have_a_content.ensures.carried;
       frames = c.carriable_packets_break_no_rule.ensures;
       answers = c.the_test_is_the_rule.ensures.reply;

@@ -25,5 +25,6 @@ returns c plan fit = record {
   hops = c.hops_count_copies.ensures plan;
   headers = c.headers_keep_their_length.ensures plan fit;
   told = c.transmissions_are_copies.ensures plan;
+  attached = c.attachments_of_runs_are_sound.ensures plan fit;
   redirects = c.a_redirect_changes_one_next_hop.ensures plan.limits;
 }

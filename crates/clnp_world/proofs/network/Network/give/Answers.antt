@@ -1,5 +1,5 @@
 -- The copy is late; or a line tells that it comes, and then its frame comes to the system.
-use Rattle.std.proofs.Common.{◌∙◌, ℕ, Bool, [], ◌∷◌, Option, Some, sym, ap, subst, arith}
+use Rattle.std.proofs.Common.{◌∙◌, ℕ, Bool, [], ◌∷◌, Option, sym, ap, subst, arith}
 use Rattle.std.proofs.lemmas.Result.{on_ok_weaker}
 use Rattle.clnp_machine.specs.Step.{step}
 use Rattle.clnp_machine.specs.System.{FrameComes, Input, SystemState}

@@ -1,6 +1,9 @@
 -- The systems are at their start, and there are no copies.
-use Rattle.std.proofs.Common.{◌≤◌, List, length, refl, sym, subst}
+use Rattle.std.proofs.Common.{◌≤◌, ◌∙◌, List, ap, length, map, refl, sym, subst}
 use Rattle.std.specs.List.{AllByRecursion}
+use Rattle.clnp_machine.specs.ClnpPlan.Configuration.{IsWithin}
+use Rattle.clnp_machine.proofs.ClnpBase.Lists.{AllByRecursion-mapped}
+use Rattle.clnp_network.specs.Scenario.Scenario.{Subnetwork}
 use Rattle.clnp_world.specs.declared.copy.FrameCopy.{FrameCopy}
 use Rattle.clnp_world.proofs.ModelSteps.{states_at_start}
 use Rattle.clnp_world.proofs.network.Network.new.Goals as goal
@@ -10,6 +13,9 @@ returns c = record {
   shows = record {
     clock = refl;
     systems = c.in_ok-systems.ensures;
+    mtus = c.in_ok-mtus.ensures ∙ ap (λ (subnets : List Subnetwork). map (λ (subnet : Subnetwork). subnet.mtu) subnets) c.subnets.ensures;
+    wide = AllByRecursion-mapped (λ (subnet : Subnetwork). IsWithin 512 65535 subnet.mtu) (IsWithin 512 65535) (λ (subnet : Subnetwork). subnet.mtu)
+        c.args.scenario.now.subnets (λ subnet fits. fits) c.is_fit.ensures.mtus;
     copies = c.new.ensures.items;
     cursor = refl;
     carried = tt;

@@ -1,7 +1,9 @@
--- The copy of the model, and what the scenario says of its system.
-use Rattle.std.proofs.Common.{◌∙◌, ℕ, Option, sym, ap, subst, arith}
+-- The copy of the model, and its system as it now is.
+use Rattle.std.proofs.Common.{◌∙◌, ℕ, List, Option, sym, ap, subst, arith}
 use Rattle.std.specs.List.{position}
 use Rattle.clnp_machine.specs.ClnpPlan.Configuration.{SystemConfiguration}
+use Rattle.clnp_machine.specs.ClnpPlan.declared.config.PortConfig.{PortConfig}
+use Rattle.clnp_machine.specs.ClnpPlan.declared.config.Role.{Role}
 use Rattle.clnp_network.specs.World as network
 use Rattle.clnp_world.specs.Seen.{IsPortFor, enters}
 use Rattle.clnp_world.specs.declared.copy.FrameCopy.{FrameCopy}
@@ -12,10 +14,13 @@ use Rattle.clnp_world.proofs.network.Network.port_for.Goals as goal
 pub returns : goal.returns
 returns c = λ model copy system h at there.
     let old = c.args.self.now in
-    let config = c.config_at.result.now in
+    let role = c.role-role.result in
+    let ports = c.ports_at.result.now in
     let same = copy_at old model c.args.at c.index.result.now copy h (omega (arith, old.copies.ok.0)) c.index.ensures at in
-    subst (λ (found : Option ℕ). IsPortFor copy system.configuration found)
+    subst (λ (found : Option ℕ). IsPortFor copy system found)
     (sym (c.first_port.ensures
-    ∙ ap (λ (seen : FrameCopy). position (enters seen config.role) config.ports) same
-    ∙ ap (λ (s : SystemConfiguration). position (network.enters copy s.role) s.ports) (c.config_at.ensures model system h there)))
-    (port_found copy system.configuration)
+    ∙ ap (λ (seen : FrameCopy). position (enters seen role) ports) same
+    ∙ ap (λ (r : Role). position (network.enters copy r) ports)
+    (c.role-role.ensures ∙ ap (λ (s : SystemConfiguration). s.role) (c.config_at.ensures model system h there))
+    ∙ ap (λ (ps : List PortConfig). position (network.enters copy system.configuration.role) ps) (c.ports_at.ensures.ports model system h there)))
+    (port_found copy system)

@@ -1,5 +1,5 @@
 -- One system after another.
-use Rattle.std.proofs.Common.{◌∙◌, ℕ, arith, subst, sym}
+use Rattle.std.proofs.Common.{◌∙◌, ℕ, arith, subst}
 use Rattle.clnp_machine.specs.System.{MomentComes}
 use Rattle.clnp_network.specs.World as network
 use Rattle.clnp_world.specs.Parts.{Puts}

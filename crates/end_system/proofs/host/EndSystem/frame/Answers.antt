@@ -6,7 +6,6 @@ use Rattle.clnp_machine.specs.ClnpPlan.declared.config.Role.TheVariants.{Host}
 use Rattle.clnp_machine.specs.ClnpPlan.declared.note.Note.TheVariants.{NotMine}
 use Rattle.clnp_machine.specs.ClnpPlan.declared.output.Output.{Output}
 use Rattle.clnp_machine.specs.ClnpPlan.declared.output.Output.TheVariants.{Note}
-use Rattle.clnp_machine.specs.Content.{Content}
 use Rattle.clnp_machine.specs.Given.{Appends}
 use Rattle.clnp_machine.specs.System.{Effect, FrameComes, SystemState}
 use Rattle.clnp_machine.proofs.Given.{appends_note}

@@ -5,6 +5,10 @@ use Rattle.system_entity.specs.Stands as entity
 use Rattle.end_system.specs.State.{HostState}
 use Rattle.end_system.proofs.host.EndSystem.send.Goals as goal
 
+pub returns-clause-answer : goal.returns-clause-answer
+returns-clause-answer c = λ s h.
+    c.make.ensures.answer s (subst (λ (host : HostState). entity.Stands host.entity s) (sym c.self.view_is) h)
+
 pub returns-clause-stands : goal.returns-clause-stands
 returns-clause-stands c =
     on_ok_weaker c.make.result (λ stands s h.

@@ -9,7 +9,7 @@ pub returns-clause-stands : goal.returns-clause-stands
 returns-clause-stands c =
     let later : EsisState = record { tables = c.forget.new.tables; period = c.self.inside.period; next_hello = c.self.inside.next_hello } in
     on_ok c.say_hello.result
-    (λ says s before h same at passed.
+    (λ says s before h same number at passed.
     let there = subst (λ (entity : EsisState). heard.Stands entity.tables s.facts before []) (sym c.self.view_is) h.tables in
     (does_tick c.args.now before c.args.self.now later c.say_hello.new.self c.args.out.now.items c.forget.new.out.items c.say_hello.new.out.items s h at
     (record {
@@ -19,14 +19,14 @@ returns-clause-stands c =
     })
     (c.in_ok-forget.ensures.stands s.facts before there passed)
     (c.in_ok-forget.ensures.outputs s.facts before c.args.now there passed)
-    (λ stands. says s stands same at)).stands)
+    (λ stands. says s stands same number at)).stands)
     c.say_hello.ensures.said
 
 pub returns-clause-outputs : goal.returns-clause-outputs
 returns-clause-outputs c =
     let later : EsisState = record { tables = c.forget.new.tables; period = c.self.inside.period; next_hello = c.self.inside.next_hello } in
     on_ok c.say_hello.result
-    (λ says s before h same at passed.
+    (λ says s before h same number at passed.
     let there = subst (λ (entity : EsisState). heard.Stands entity.tables s.facts before []) (sym c.self.view_is) h.tables in
     (does_tick c.args.now before c.args.self.now later c.say_hello.new.self c.args.out.now.items c.forget.new.out.items c.say_hello.new.out.items s h at
     (record {
@@ -36,5 +36,5 @@ returns-clause-outputs c =
     })
     (c.in_ok-forget.ensures.stands s.facts before there passed)
     (c.in_ok-forget.ensures.outputs s.facts before c.args.now there passed)
-    (λ stands. says s stands same at)).appends)
+    (λ stands. says s stands same number at)).appends)
     c.say_hello.ensures.said

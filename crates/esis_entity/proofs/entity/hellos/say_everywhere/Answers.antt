@@ -1,4 +1,4 @@
-use Rattle.std.proofs.Common.{◌∙◌, ap, sym, length, arith}
+use Rattle.std.proofs.Common.{◌∙◌, ap, sym, arith}
 use Rattle.clnp_machine.specs.ClnpPlan.Configuration.{SystemConfiguration}
 use Rattle.clnp_machine.specs.ClnpPlan.declared.config.Role.{Role}
 use Rattle.clnp_machine.specs.Esis.{hearers, own_hello}
@@ -17,7 +17,7 @@ loop-port-preserved c = record {
 }
 
 pub returns-clause-said : goal.returns-clause-said
-returns-clause-said c = λ s moment same period.
+returns-clause-said c = λ s moment same number period.
     all_said moment c.args.out.now.items c.loop-port.out.items s c.loop-port.port
-    (omega (arith, c.loop-port-test.false, c.port_count-port-end.ensures, ap (λ (configuration : SystemConfiguration). length configuration.ports) same))
+    (omega (arith, c.loop-port-test.false, number))
     (c.loop-port.invariant.said s moment same period)

@@ -61,3 +61,31 @@ returns-in-Inject-clause-plays g c = λ node h.
     c.args.self.now _ _ _ _
     (λ outcomes. ap (λ (event : Event). come_all node (asked_by (systems.configuration_of c.args.self.now.system).role event) outcomes) c.in-Inject.is) refl
     (plays_nothing node c.args.self.now (g.B.Ports.ports c.args.board.now) (g.K.Sink.written c.args.sink.now) h)
+
+pub returns-in-Mtu-clause-plays : goal.returns-in-Mtu-clause-plays
+returns-in-Mtu-clause-plays g c = λ node h.
+    plays_as (λ outcomes. Goes node outcomes []) (come_all node (asked_by (systems.configuration_of c.args.self.now.system).role c.args.event.now)) node node
+    c.args.self.now _ _ _ _
+    (λ outcomes. ap (λ (event : Event). come_all node (asked_by (systems.configuration_of c.args.self.now.system).role event) outcomes) c.in-Mtu.is) refl
+    (plays_nothing node c.args.self.now (g.B.Ports.ports c.args.board.now) (g.K.Sink.written c.args.sink.now) h)
+
+pub returns-in-Route-clause-plays : goal.returns-in-Route-clause-plays
+returns-in-Route-clause-plays g c = λ node h.
+    plays_as (λ outcomes. Goes node outcomes []) (come_all node (asked_by (systems.configuration_of c.args.self.now.system).role c.args.event.now)) node node
+    c.args.self.now _ _ _ _
+    (λ outcomes. ap (λ (event : Event). come_all node (asked_by (systems.configuration_of c.args.self.now.system).role event) outcomes) c.in-Route.is) refl
+    (plays_nothing node c.args.self.now (g.B.Ports.ports c.args.board.now) (g.K.Sink.written c.args.sink.now) h)
+
+pub returns-in-Unroute-clause-plays : goal.returns-in-Unroute-clause-plays
+returns-in-Unroute-clause-plays g c = λ node h.
+    plays_as (λ outcomes. Goes node outcomes []) (come_all node (asked_by (systems.configuration_of c.args.self.now.system).role c.args.event.now)) node node
+    c.args.self.now _ _ _ _
+    (λ outcomes. ap (λ (event : Event). come_all node (asked_by (systems.configuration_of c.args.self.now.system).role event) outcomes) c.in-Unroute.is) refl
+    (plays_nothing node c.args.self.now (g.B.Ports.ports c.args.board.now) (g.K.Sink.written c.args.sink.now) h)
+
+pub returns-in-Port-clause-plays : goal.returns-in-Port-clause-plays
+returns-in-Port-clause-plays g c = λ node h.
+    plays_as (λ outcomes. Goes node outcomes []) (come_all node (asked_by (systems.configuration_of c.args.self.now.system).role c.args.event.now)) node node
+    c.args.self.now _ _ _ _
+    (λ outcomes. ap (λ (event : Event). come_all node (asked_by (systems.configuration_of c.args.self.now.system).role event) outcomes) c.in-Port.is) refl
+    (plays_nothing node c.args.self.now (g.B.Ports.ports c.args.board.now) (g.K.Sink.written c.args.sink.now) h)

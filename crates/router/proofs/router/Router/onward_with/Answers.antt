@@ -1,7 +1,5 @@
 -- The way is that of the title or the destination, the source route allows it, and its port is there.
-use Rattle.std.proofs.Common.{◌≡◌, ◌∙◌, sym, subst, List, None, Some}
-use Rattle.std.specs.Prelude.{slice_get}
-use Rattle.clnp_machine.specs.ClnpPlan.declared.config.PortConfig.{PortConfig}
+use Rattle.std.proofs.Common.{◌∙◌, sym, subst, None, Some}
 use Rattle.clnp_machine.specs.ClnpOptions.Reasons.{reason_code}
 use Rattle.clnp_machine.specs.Step.{options_behind}
 use Rattle.clnp_machine.specs.System.{Effect}
@@ -36,10 +34,9 @@ returns-in_default-get-clause-goes c = λ s came p following h carriable has edi
     let behind = options_behind s p.options in
     let towards_it = c.towards-to.ensures (with_options behind (value_of p)) edited ∙ whither_is p behind c.args.passing.now has in
     sym (by_its_port s came p following behind c.towards-to.result towards_it c.way.result c.in-Some.way c.in-Some.is (c.way.ensures s s.moment stands.parts)
-    c.is_barred.result (c.is_barred.ensures (with_options behind (value_of p)) edited) c.config-config.result.now None c.if-is_barred.false
-    (c.config-config.ensures ∙ stands.parts.local.configuration)
-    (subst (λ (ports : List PortConfig). slice_get ports c.in-Some.way.port ≡ None) c.ports.ensures
-    (port_missing c.ports.result.now c.in-Some.way.port c.from.result c.from.ensures c.in_default-get.ensures.lookup.0)))
+    c.is_barred.result (c.is_barred.ensures (with_options behind (value_of p)) edited) c.ports.result.now None c.if-is_barred.false
+    (c.ports.ensures.stands s s.moment stands.parts)
+    (port_missing c.ports.result.now c.in-Some.way.port c.from.result c.from.ensures c.in_default-get.ensures.lookup.0))
 
 pub returns-clause-goes : goal.returns-clause-goes
 returns-clause-goes c = λ s came p following h carriable has edited.
@@ -49,9 +46,8 @@ returns-clause-goes c = λ s came p following h carriable has edited.
     let port = c.in-Some-get.port.now in
     subst (λ (effect : Effect). ComesTo c.by_port.result s came p following effect)
     (by_its_port s came p following behind c.towards-to.result towards_it c.way.result c.in-Some.way c.in-Some.is (c.way.ensures s s.moment stands.parts)
-    c.is_barred.result (c.is_barred.ensures (with_options behind (value_of p)) edited) c.config-config.result.now (Some port) c.if-is_barred.false
-    (c.config-config.ensures ∙ stands.parts.local.configuration)
-    (subst (λ (ports : List PortConfig). slice_get ports c.in-Some.way.port ≡ Some port) c.ports.ensures
+    c.is_barred.result (c.is_barred.ensures (with_options behind (value_of p)) edited) c.ports.result.now (Some port) c.if-is_barred.false
+    (c.ports.ensures.stands s s.moment stands.parts)
     (port_at c.ports.result.now c.in-Some.way.port c.from.result port c.from.ensures c.in-Some-get.ensures.lookup.0
-    c.in-Some-get.ensures.lookup.1)))
+    c.in-Some-get.ensures.lookup.1))
     (c.by_port.ensures.goes s came p following carriable has edited)

@@ -1,5 +1,5 @@
 -- Buffers end, what was heard is forgotten, and a hello may be due.
-use Rattle.std.proofs.Common.{◌≡◌, ◌∙◌, ℕ, ◌≤◌, sym, subst, ◌++◌}
+use Rattle.std.proofs.Common.{◌≡◌, ◌∙◌, ℕ, ◌≤◌, sym, ap, subst, ◌++◌, length}
 use Rattle.std.specs.List.{AllByRecursion}
 use Rattle.clnp_machine.specs.Reassembly.State.{IsReady}
 use Rattle.clnp_machine.specs.Given.{Appends}
@@ -8,6 +8,7 @@ use Rattle.clnp_machine.specs.Local.{at_moment, tick}
 use Rattle.clnp_machine.specs.Step.{effect_of}
 use Rattle.clnp_machine.specs.System.{SystemState, then_does}
 use Rattle.system_entity.specs.Deeds.{IsFresh}
+use Rattle.system_entity.specs.Seen.{state_of}
 use Rattle.system_entity.specs.State.{SystemEntityState}
 use Rattle.system_entity.specs.Stands.{PartsStand, PartsStandSince}
 use Rattle.system_entity.proofs.Outputs.{all_done, appends_fresh, appends_both}
@@ -23,18 +24,18 @@ give_out-requires c =
       all_done c.new-actions.result.items c.tick.new.out.items deed.actions c.new-actions.ensures.items (c.in_ok-tick.ensures.actions s parts.local),
     )
 
-inside : goal.After-drop-outputs-2 → SystemEntityState
-inside c = record { local = c.self.inside.local; esis = c.self.inside.esis; moment = c.self.inside.moment; congested = c.self.inside.congested; spent = c.self.inside.spent }
+abbrev inside : goal.After-drop-outputs-2 → SystemEntityState
+inside c = state_of c.self.inside
 
 -- once the buffers that were due are gone
 ticked : (c : goal.After-drop-outputs-2) (s : SystemState) → PartsStand c.args.self.now s
-    → PartsStandSince s.moment (record { local = c.tick.new.self; esis = c.self.inside.esis; moment = c.args.now; congested = c.self.inside.congested; spent = c.self.inside.spent }) (tick s c.args.now).after
+    → PartsStandSince s.moment (record (inside c) { local = c.tick.new.self; moment = c.args.now }) (tick s c.args.now).after
 ticked c s h =
     let parts = subst (λ (e : SystemEntityState). PartsStand e s) (sym c.self.view_is) h in
     let later : c.self.inside.moment ≤ c.args.now = subst (λ (e : SystemEntityState). e.moment ≤ c.args.now) (sym c.self.view_is) c.requires.later in
     parts_after_deed s.moment _ c.tick.new.self (at_moment c.args.now s) (tick s c.args.now)
     (c.deeds_are_of_their_moment.ensures.tick s c.args.now) (c.in_ok-tick.ensures.stands s parts.local)
-    (parts_later (record { local = c.self.inside.local; esis = c.self.inside.esis; moment = c.self.inside.moment; congested = c.self.inside.congested; spent = c.self.inside.spent }) s c.args.now later parts)
+    (parts_later (inside c) s c.args.now later parts)
 
 pub returns-clause-stands : goal.returns-clause-stands
 returns-clause-stands c = λ s h.
@@ -42,8 +43,9 @@ returns-clause-stands c = λ s h.
     let t = (tick s c.args.now).after in
     let now : t.moment ≡ c.args.now = (c.deeds_are_of_their_moment.ensures.tick s c.args.now).moment in
     let configuration : t.configuration ≡ c.config.result.now = sym stands.local.configuration ∙ sym c.config.ensures in
+    let number : length t.attached.ports ≡ c.port_count-ports.result = ap length (sym stands.ports) ∙ sym c.port_count-ports.ensures in
     parts_after_hello s.moment _ c.tick-2.new.self t (says_hello t) (c.hellos_leave_the_rest.ensures.says_hello t)
-    (c.in_ok-tick-2.ensures.stands t s.moment stands.esis configuration now (subst (λ (m : ℕ). s.moment ≤ m) now stands.since)) stands
+    (c.in_ok-tick-2.ensures.stands t s.moment stands.esis configuration number now (subst (λ (m : ℕ). s.moment ≤ m) now stands.since)) stands
 
 pub returns-clause-outputs : goal.returns-clause-outputs
 returns-clause-outputs c = λ s h.
@@ -54,11 +56,12 @@ returns-clause-outputs c = λ s h.
     let is = c.deeds_are_of_their_moment.ensures.tick s c.args.now in
     let now : t.moment ≡ c.args.now = is.moment in
     let configuration : t.configuration ≡ c.config.result.now = sym stands.local.configuration ∙ sym c.config.ensures in
+    let number : length t.attached.ports ≡ c.port_count-ports.result = ap length (sym stands.ports) ∙ sym c.port_count-ports.ensures in
     let done = all_done c.new-actions.result.items c.tick.new.out.items deed.actions c.new-actions.ensures.items (c.in_ok-tick.ensures.actions s parts.local) in
     let first = subst (λ (m : ℕ). Appends m c.new-outputs.result.items c.give_out.new.out.items (effect_of deed).outputs) now
     (c.in_ok-give_out.ensures t s.moment deed.actions stands done
     (subst (λ (m : ℕ). AllByRecursion (IsFresh m) deed.actions) (sym now) (deed_is_fresh (at_moment c.args.now s) deed is))) in
-    let second = c.in_ok-tick-2.ensures.outputs t s.moment stands.esis configuration now (subst (λ (m : ℕ). s.moment ≤ m) now stands.since) in
+    let second = c.in_ok-tick-2.ensures.outputs t s.moment stands.esis configuration number now (subst (λ (m : ℕ). s.moment ≤ m) now stands.since) in
     appends_fresh c.args.now c.new-outputs.result.items c.tick-2.new.out.items c.args.out.now.items c.append.new.self.items
     ((effect_of deed).outputs ++ (then_does (forgets s.moment t) says_hello).outputs) c.new-outputs.ensures.items c.in_ok-append.ensures.items
     (appends_both c.args.now c.new-outputs.result.items c.give_out.new.out.items c.tick-2.new.out.items (effect_of deed).outputs

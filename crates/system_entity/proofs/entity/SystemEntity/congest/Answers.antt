@@ -6,7 +6,8 @@ use Rattle.system_entity.proofs.entity.SystemEntity.congest.Goals as goal
 pub invariant_of-self : goal.invariant_of-self
 invariant_of-self c = record {
   moment = c.self.invariant.moment;
-  routes = c.self.invariant.routes;
+  wide = c.self.invariant.wide;
+  number = c.self.invariant.number;
   ready = λ free.
       let r = c.self.invariant.ready free in
       record {

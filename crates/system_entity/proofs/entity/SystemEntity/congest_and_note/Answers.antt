@@ -1,5 +1,5 @@
 -- It is noted, and nothing else changes but that it is congested or not.
-use Rattle.std.proofs.Common.{◌∙◌, refl, ap, sym, subst}
+use Rattle.std.proofs.Common.{◌∙◌, refl, sym, subst}
 use Rattle.clnp_machine.specs.ClnpPlan.declared.note.Note.TheVariants.{Congest}
 use Rattle.system_entity.specs.State.{SystemEntityState}
 use Rattle.system_entity.specs.Stands.{Stands}

@@ -27,7 +27,8 @@ invariant_of-self-2 c =
     let content = c.has_content.ensures in
     record {
       moment = c.self-2.invariant.moment;
-      routes = c.self-2.invariant.routes;
+      wide = c.self-2.invariant.wide;
+      number = c.self-2.invariant.number;
       ready = λ free. record {
         state = (discard old.state content.0 c.args.reason c.args.place).after;
         stands = record {

@@ -3,7 +3,9 @@ use Rattle.std.proofs.Common.{◌≡◌, None, MatchResult, sym, subst}
 use Rattle.std.proofs.lemmas.Result.{on_ok_weaker}
 use Rattle.clnp_machine.specs.PduHeader.declared.kind.Kind.TheVariants.{Erq}
 use Rattle.clnp_machine.specs.ClnpPlan.declared.ask.Ask.{Ask}
+use Rattle.clnp_machine.specs.Given.{Appends}
 use Rattle.clnp_machine.specs.Local as machine
+use Rattle.clnp_machine.specs.Step.{effect_of}
 use Rattle.clnp_machine.specs.System.{next_number}
 use Rattle.local_entity.specs.Local.{IsWhy}
 use Rattle.system_entity.specs.State.{SystemEntityState}
@@ -24,3 +26,11 @@ returns-clause-stands c =
     let here = subst (λ (e : SystemEntityState). Stands e s) (sym c.self.view_is) h in
     subst (λ (ask : Ask). Stands c.make.new.self (machine.make s Erq c.args.from c.args.to c.args.body.now ask).after)
     (c.echo_ask-ask.ensures.value s here.parts.local) (stands s h)) c.make.ensures.stands
+
+pub returns-clause-outputs : goal.returns-clause-outputs
+returns-clause-outputs c =
+    on_ok_weaker c.make.result (λ outputs s h.
+    let here = subst (λ (e : SystemEntityState). Stands e s) (sym c.self.view_is) h in
+    subst (λ (ask : Ask). Appends s.moment c.args.out.now.items c.make.new.out.items
+    (effect_of (machine.make s Erq c.args.from c.args.to c.args.body.now ask)).outputs)
+    (c.echo_ask-ask.ensures.value s here.parts.local) (outputs s h)) c.make.ensures.outputs

@@ -45,7 +45,8 @@ invariant_of-self-2 c =
     (c.in_ok-arrival.ensures.comes old.state content.0 parts content.1 content.2) c.in_ok-arrival.ensures.left parts in
     record {
       moment = c.self-2.invariant.moment;
-      routes = c.self-2.invariant.routes;
+      wide = c.self-2.invariant.wide;
+      number = c.self-2.invariant.number;
       ready = λ free. record {
         state = some.0;
         stands = record {

@@ -15,8 +15,6 @@ use Rattle.local_entity.specs.declared.action.Action.TheVariants.{Send}
 use Rattle.local_entity.specs.declared.action.Made.{Made}
 use Rattle.local_entity.specs.declared.sending.Hop as local
 use Rattle.system_entity.specs.Deeds.{IsFresh}
-use Rattle.system_entity.specs.State.{SystemEntityState}
-use Rattle.system_entity.specs.Stands.{PartsStandSince}
 use Rattle.system_entity.proofs.entity.SystemEntity.give.Goals as goal
 
 unit_given : (s : SystemState) (before after : List Output) (action : Action) (made : Made) (hop : Option local.Hop) → action ≡ Send made
@@ -35,7 +33,6 @@ pub returns-in-Send : goal.returns-in-Send
 returns-in-Send c =
     on_ok_weaker c.send_unit.result
     (λ given s before other h does fresh.
-    let p = subst (λ (e : SystemEntityState). PartsStandSince before e s) (sym c.self.view_is) h in
     unit_given s c.args.out.now.items c.send_unit.new.out.items c.args.action c.in-Send.made c.unit_hop.result c.in-Send.is
-    (λ u to. c.unit_hop.ensures s before u h to) (λ u does_it first. given s u (c.config.ensures ∙ p.local.configuration) does_it first) other does fresh)
+    (λ u to. c.unit_hop.ensures s before u h to) (λ u does_it first. given s u (c.ports.ensures.ports ∙ h.ports) does_it first) other does fresh)
     c.send_unit.ensures.sent

@@ -1,10 +1,9 @@
 -- The unit is made, or its refusal is noted.
 use Rattle.std.proofs.Common.{◌∙◌, ap, sym, subst, List, ◌++◌, ◌∷◌, []}
-use Rattle.clnp_machine.specs.ClnpPlan.declared.ask.SendRefusal.{SendRefusal}
 use Rattle.clnp_machine.specs.ClnpPlan.declared.output.Output.{Output}
 use Rattle.clnp_machine.specs.ClnpPlan.declared.output.Output.TheVariants.{Note as Told}
 use Rattle.system_entity.specs.State.{SystemEntityState}
-use Rattle.system_entity.specs.Stands.{IsLeftBy, Stands}
+use Rattle.system_entity.specs.Stands.{Stands}
 use Rattle.system_entity.proofs.Both.{on_ok_both}
 use Rattle.system_entity.proofs.Refused.{leaves_same, refused_does}
 use Rattle.system_entity.proofs.entity.SystemEntity.make_or_note.Goals as goal

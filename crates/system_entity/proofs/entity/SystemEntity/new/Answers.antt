@@ -1,6 +1,5 @@
 -- The parts stand for the first state.
-use Rattle.std.proofs.Common.{refl, sym, subst, arith}
-use Rattle.clnp_machine.specs.Forwarding.Stands as routing
+use Rattle.std.proofs.Common.{◌∙◌, refl, sym, ap, length, arith}
 use Rattle.clnp_machine.specs.ClnpPlan.Configuration.{SystemConfiguration}
 use Rattle.clnp_machine.specs.System.{first_state}
 use Rattle.system_entity.proofs.entity.SystemEntity.new.Goals as goal
@@ -11,6 +10,8 @@ returns-clause-stands c = λ place. record {
   parts = record {
     local = c.in_ok-local.ensures.stands place c.args.now;
     esis = c.in_ok-esis.ensures place c.args.limits.now c.args.quiet;
+    ports = c.in_ok-ports.ensures.ports;
+    routes = c.in_ok-routes.ensures;
     moment = refl;
     congested = refl;
     since = omega arith;
@@ -20,8 +21,9 @@ returns-clause-stands c = λ place. record {
 pub invariant_of-result : goal.invariant_of-result
 invariant_of-result c = record {
   moment = c.requires.moment;
-  routes = subst (λ (x : SystemConfiguration). routing.Stands c.in_ok-routes.routes x.routes)
-      (sym (c.in_ok-local.ensures.stands 0 c.args.now).configuration) c.in_ok-routes.ensures;
+  wide = c.in_ok-ports.ensures.wide;
+  number = ap length c.in_ok-ports.ensures.ports
+      ∙ ap (λ (x : SystemConfiguration). length x.ports) (sym (c.in_ok-local.ensures.stands 0 c.args.now).configuration);
   ready = λ free. record {
     state = first_state 0 c.args.config.now c.args.limits.now c.args.now c.args.quiet;
     stands = returns-clause-stands c 0;

@@ -1,10 +1,18 @@
 -- An ES-IS PDU is heard, and what isn't one is noted.
-use Rattle.std.proofs.Common.{◌∙◌, sym, ap, subst, ℕ, List}
+use Rattle.std.proofs.Common.{◌≡◌, ◌∙◌, sym, ap, subst, ℕ, Bool, List}
 use Rattle.clnp_machine.specs.PduHeader.Rules.{octet}
+use Rattle.clnp_machine.specs.EsisPdus.Value.{EsisValue}
+use Rattle.clnp_machine.specs.EsisPdus.View.{pdu_value}
+use Rattle.clnp_machine.specs.Content.{Content, Esis, IsCarried, frame_of}
+use Rattle.clnp_machine.specs.Esis.{esis_comes}
 use Rattle.clnp_machine.specs.Given.{Appends}
-use Rattle.clnp_machine.specs.System.{Effect}
+use Rattle.clnp_machine.specs.Step.{content_comes}
+use Rattle.clnp_machine.specs.System.{Effect, SystemState}
+use Rattle.system_entity.specs.Seen.{state_of}
+use Rattle.system_entity.specs.State.{SystemEntityState}
 use Rattle.system_entity.specs.Stands.{PartsStand}
-use Rattle.system_entity.proofs.Arrivals.{frame_unheard}
+use Rattle.system_entity.proofs.Arrivals.{frame_unheard, value_found}
+use Rattle.system_entity.proofs.Parts.{parts_after_hello}
 use Rattle.system_entity.proofs.entity.SystemEntity.other_comes.Goals as goal
 use Rattle.system_entity.proofs.Outputs.{appends_note}
 
@@ -22,3 +30,40 @@ returns-in_ok-push-in-Err-clause-outputs c = λ s group content h carried frame.
     c.in-Err.ensures.judged c.in-Err.ensures.none (λ at. c.requires.other (ap (λ (f : List ℕ). octet f 1) (sym c.bytes.ensures) ∙ at))
     content carried (frame ∙ sym c.bytes.ensures))
     (appends_note s.moment c.args.out.now.items c.push.new.self.items _ _ c.in_ok-push-in-Err.ensures.items c.unheard.ensures)
+
+-- an ES-IS PDU is heard
+module _ (c : goal.In_ok-hear-in-Ok) (s : SystemState) (group : Bool) (content : Content) (h : PartsStand c.args.self.now s)
+    (carried : IsCarried content) (frame : frame_of content ≡ c.args.frame.now) where
+  abbrev v : EsisValue
+  v = pdu_value c.in-Ok.pdu
+
+  parts : PartsStand (state_of c.self.inside) s
+  parts = subst (λ (e : SystemEntityState). PartsStand e s) (sym c.self.view_is) h
+
+  configuration : s.configuration ≡ c.config-config.result.now
+  configuration = sym parts.local.configuration ∙ sym c.config-config.ensures
+
+  of_value : (P : Content → Type 0) → ((following : List ℕ) → P (Esis v following)) → P content
+  of_value P for_value =
+      value_found c.a_frame_carries_one_esis_value.ensures c.no_frame_is_of_both_protocols.ensures.packet P c.bytes.result.now v c.in-Ok.pdu.rest.now
+      c.in-Ok.ensures.found (λ at. c.requires.other (ap (λ (f : List ℕ). octet f 1) (sym c.bytes.ensures) ∙ at)) content carried
+      (frame ∙ sym c.bytes.ensures) for_value
+
+  heard : PartsStand (record (state_of c.self.inside) { esis = c.hear.new.self }) (content_comes s c.args.place group content).after
+  heard =
+      of_value (λ (came : Content). PartsStand (record (state_of c.self.inside) { esis = c.hear.new.self }) (content_comes s c.args.place group came).after)
+      (λ following. parts_after_hello s.moment (state_of c.self.inside) c.hear.new.self s (esis_comes s c.args.place v)
+      (c.hellos_leave_the_rest.ensures.comes s c.args.place v)
+      (c.in_ok-hear-in-Ok.ensures.stands s parts.esis configuration (sym parts.moment)) parts)
+
+  given : Appends s.moment c.args.out.now.items c.hear.new.out.items (content_comes s c.args.place group content).outputs
+  given =
+      of_value (λ (came : Content). Appends s.moment c.args.out.now.items c.hear.new.out.items (content_comes s c.args.place group came).outputs)
+      (λ following. subst (λ (m : ℕ). Appends m c.args.out.now.items c.hear.new.out.items (esis_comes s c.args.place v).outputs) parts.moment
+      (c.in_ok-hear-in-Ok.ensures.outputs s parts.esis configuration (sym parts.moment)))
+
+pub returns-in_ok-hear-in-Ok-clause-stands : goal.returns-in_ok-hear-in-Ok-clause-stands
+returns-in_ok-hear-in-Ok-clause-stands c = λ s group content h carried frame. heard c s group content h carried frame
+
+pub returns-in_ok-hear-in-Ok-clause-outputs : goal.returns-in_ok-hear-in-Ok-clause-outputs
+returns-in_ok-hear-in-Ok-clause-outputs c = λ s group content h carried frame. given c s group content h carried frame

@@ -7,6 +7,7 @@ use Rattle.clnp_machine.specs.Local.{has_address, is_own, receive}
 use Rattle.clnp_machine.specs.Step.{effect_of, responds}
 use Rattle.clnp_machine.specs.System.{SystemState, Output}
 use Rattle.system_entity.specs.Deeds.{IsFresh}
+use Rattle.system_entity.specs.Seen.{state_of}
 use Rattle.system_entity.specs.State.{SystemEntityState}
 use Rattle.system_entity.specs.Stands.{PartsStand}
 use Rattle.system_entity.proofs.Outputs.{all_done, appends_fresh, appends_both}
@@ -34,7 +35,7 @@ returns-clause-stands c = λ s p following h carriable frame alive own.
     let parts = subst (λ (e : SystemEntityState). PartsStand e s) (sym c.self.view_is) h in
     let deed = receive s p following in
     let is = c.deeds_are_of_their_moment.ensures.receive s p following in
-    let here : SystemEntityState = record { local = c.receive.new.self; esis = c.self.inside.esis; moment = c.self.inside.moment; congested = c.self.inside.congested; spent = c.self.inside.spent } in
+    let here : SystemEntityState = record (state_of c.self.inside) { local = c.receive.new.self } in
     subst (λ (t : SystemState). PartsStand here t) (sym (received_after s p following c.args.place c.args.group alive own))
     (parts_now s.moment here deed.after is.moment (parts_after_deed s.moment _ c.receive.new.self s deed is
     (c.in_ok-receive.ensures.stands s p following parts.local (sym parts.moment) carriable frame) parts))
@@ -45,7 +46,7 @@ returns-clause-outputs c = λ s p following h carriable frame alive own.
     let deed = receive s p following in
     let t = deed.after in
     let is = c.deeds_are_of_their_moment.ensures.receive s p following in
-    let here : SystemEntityState = record { local = c.receive.new.self; esis = c.self.inside.esis; moment = c.self.inside.moment; congested = c.self.inside.congested; spent = c.self.inside.spent } in
+    let here : SystemEntityState = record (state_of c.self.inside) { local = c.receive.new.self } in
     let stands : PartsStand here t = parts_now s.moment here t is.moment (parts_after_deed s.moment _ c.receive.new.self s deed is
     (c.in_ok-receive.ensures.stands s p following parts.local (sym parts.moment) carriable frame) parts) in
     let done = all_done c.new-actions.result.items c.receive.new.out.items deed.actions c.new-actions.ensures.items

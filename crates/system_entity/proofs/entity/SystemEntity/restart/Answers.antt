@@ -1,18 +1,18 @@
 -- Both parts stand for the state after a restart.
-use Rattle.std.proofs.Common.{◌≡◌, ◌∙◌, refl, sym, subst, false, arith}
-use Rattle.clnp_machine.specs.Forwarding.Stands as routing
+use Rattle.std.proofs.Common.{◌≡◌, ◌∙◌, refl, sym, ap, subst, false, length, arith}
 use Rattle.clnp_machine.specs.ClnpPlan.Configuration.{SystemConfiguration}
 use Rattle.clnp_machine.specs.Local.{restarted}
 use Rattle.clnp_machine.specs.System.{SystemState}
+use Rattle.system_entity.specs.Seen.{state_of}
 use Rattle.system_entity.specs.State.{SystemEntityState}
 use Rattle.system_entity.specs.Stands.{Stands}
 use Rattle.system_entity.proofs.entity.SystemEntity.restart.Goals as goal
 
 abbrev inside : goal.After-restart-2 → SystemEntityState
-inside c = record { local = c.self.inside.local; esis = c.self.inside.esis; moment = c.self.inside.moment; congested = c.self.inside.congested; spent = c.self.inside.spent }
+inside c = state_of c.self.inside
 
 abbrev after : goal.After-restart-2 → SystemEntityState
-after c = record { local = c.restart.new.self; esis = c.restart-2.new.self; moment = c.self.inside.moment; congested = false; spent = c.self.inside.spent }
+after c = record (inside c) { local = c.restart.new.self; esis = c.restart-2.new.self; congested = false }
 
 again : (c : goal.After-restart-2) (s : SystemState) → Stands (inside c) s → Stands (after c) (restarted s)
 again c s h =
@@ -23,6 +23,8 @@ again c s h =
       parts = record {
         local = c.restart.ensures.stands s h.parts.local (sym h.parts.moment);
         esis = c.restart-2.ensures s s.moment h.parts.esis configuration (sym h.parts.moment);
+        ports = h.parts.ports;
+        routes = h.parts.routes;
         moment = h.parts.moment;
         congested = refl;
         since = omega arith;
@@ -35,7 +37,8 @@ returns-clause-stands c = λ s h. again c s (subst (λ (e : SystemEntityState). 
 pub invariant_of-self : goal.invariant_of-self
 invariant_of-self c = record {
   moment = c.self.invariant.moment;
-  routes = subst (λ (x : SystemConfiguration). routing.Stands c.self.inside.routes x.routes) (sym c.restart.ensures.config) c.self.invariant.routes;
+  wide = c.self.invariant.wide;
+  number = c.self.invariant.number ∙ ap (λ (x : SystemConfiguration). length x.ports) (sym c.restart.ensures.config);
   ready = λ free.
       let r = c.self.invariant.ready free in
       record { state = restarted r.state; stands = again c r.state r.stands; ready = c.restart.ensures.ready c.self.inside.moment };

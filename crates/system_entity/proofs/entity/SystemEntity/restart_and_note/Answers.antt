@@ -1,5 +1,5 @@
 -- It is noted, and both parts are restarted.
-use Rattle.std.proofs.Common.{◌∙◌, refl, ap, sym, subst}
+use Rattle.std.proofs.Common.{◌∙◌, refl, sym, subst}
 use Rattle.clnp_machine.specs.ClnpPlan.declared.note.Note.TheVariants.{Restart}
 use Rattle.system_entity.specs.State.{SystemEntityState}
 use Rattle.system_entity.specs.Stands.{Stands}

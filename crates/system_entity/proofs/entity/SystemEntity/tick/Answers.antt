@@ -12,7 +12,8 @@ invariant_of-self-2 c =
     let old = c.self.invariant.ready c.if-self.false in
     record {
       moment = c.self-2.invariant.moment;
-      routes = c.self-2.invariant.routes;
+      wide = c.self-2.invariant.wide;
+      number = c.self-2.invariant.number;
       ready = λ free. record {
         state = (moment_comes old.state c.args.now).after;
         stands = record {

@@ -1,9 +1,7 @@
--- A neighbour was heard of, or a route is configured.
+-- A neighbour was heard of, or a route leads there.
 use Rattle.std.proofs.Common.{◌∙◌, sym, ap, subst, ℕ, ◌≤◌, None, Some}
 use Rattle.std.specs.Option.{option_copied}
-use Rattle.clnp_machine.specs.ClnpPlan.Configuration.{SystemConfiguration}
 use Rattle.clnp_machine.specs.Step as machine
-use Rattle.clnp_machine.specs.Forwarding.Stands as routing
 use Rattle.system_entity.specs.State.{SystemEntityState}
 use Rattle.system_entity.specs.Stands.{PartsStandSince}
 use Rattle.system_entity.proofs.Hops.{way_heard, way_routed}
@@ -22,8 +20,7 @@ returns-in_default-longest c = λ s before h.
     way_routed s c.self.inside.moment c.args.to.now None p.moment
     (sym c.in_default.is ∙ c.neighbour.ensures s before p.esis (subst (λ (n : ℕ). before ≤ n) (sym p.moment) p.since))
     (sym (ap option_copied c.in_default-longest.is)
-    ∙ c.longest.ensures s.configuration.routes
-    (subst (λ (x : SystemConfiguration). routing.Stands c.self.inside.routes x.routes) p.local.configuration c.self.invariant.routes))
+    ∙ c.longest.ensures s.attached.routes p.routes)
 
 pub returns : goal.returns
 returns c = λ s before h.
@@ -32,5 +29,4 @@ returns c = λ s before h.
     ∙ way_routed s c.self.inside.moment c.args.to.now (Some c.in-Some-longest.route.now) p.moment
     (sym c.in_default.is ∙ c.neighbour.ensures s before p.esis (subst (λ (n : ℕ). before ≤ n) (sym p.moment) p.since))
     (sym (ap option_copied c.in-Some-longest.is)
-    ∙ c.longest.ensures s.configuration.routes
-    (subst (λ (x : SystemConfiguration). routing.Stands c.self.inside.routes x.routes) p.local.configuration c.self.invariant.routes))
+    ∙ c.longest.ensures s.attached.routes p.routes)

@@ -1,2 +1,0 @@
-pub mod Attachment
-pub mod Change

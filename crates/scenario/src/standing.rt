@@ -1,0 +1,290 @@
+//! What events change of what is declared: where the ports of systems are, and for which prefixes routers have routes.
+ghost use Rattle.std.specs.Prelude.{◌≡◌, ◌≤◌, ◌++◌, ◌&&◌, not, map, length, slice_get, IfOk, OnOk};
+ghost use Rattle.std.specs.List.{list_any};
+ghost use Rattle.scenario.specs.Standing.{changed_at, is_among, is_port, is_rival, is_second, moved, prefixes_of, spots_from, spots_of, standing_after, standing_of, takes_prefix, with_prefix, without_prefix};
+
+use crate::event::Event;
+use clnp_plan::forwarding::Route;
+use clnp_plan::nsap::{Prefix, Snpa};
+use clnp_plan::{PortConfig, SystemConfig};
+use std::alloc::{AllocError, Global};
+use std::marker::Model;
+
+/// Where the port of a system is that has this number: on a subnetwork, at an address there.
+#[derive(Clone, Copy, PartialEq, Eq)]
+struct Spot {
+    system: u8,
+    number: u8,
+    subnet: u8,
+    snpa: Snpa,
+}
+
+impl Spot {
+    /// Whether it is the port of this number.
+    fn is_port(&self, system: u8, number: u8) -> bool
+        ensures { result ≡ is_port system number self.now }
+    {
+        self.system == system && self.number == number
+    }
+
+    /// Whether it is another port of the system, on this subnetwork.
+    fn is_second(&self, system: u8, number: u8, subnet: u8) -> bool
+        ensures { result ≡ is_second system number subnet self.now }
+    {
+        self.system == system && self.number != number && self.subnet == subnet
+    }
+
+    /// Whether it is another port, of any system, with this address on this subnetwork.
+    fn is_rival(&self, system: u8, number: u8, subnet: u8, snpa: &Snpa) -> bool
+        ensures { result ≡ is_rival system number subnet snpa.now self.now }
+    {
+        !self.is_port(system, number) && self.subnet == subnet && self.snpa == *snpa
+    }
+
+    /// The port, at its new place where it is the one of this number.
+    fn moved(self, system: u8, number: u8, subnet: u8, snpa: Snpa) -> Spot
+        ensures { result ≡ moved system number subnet snpa self }
+    {
+        if self.is_port(system, number) {
+            Spot {
+                subnet,
+                snpa,
+                ..self
+            }
+        } else {
+            self
+        }
+    }
+}
+
+/// Appends the ports of a system.
+fn push_ports(system: u8, ports: &[PortConfig], spots: &mut Vec<Spot>) -> Result<(), AllocError>
+    requires { length ports.now ≤ 8 }
+    ensures { OnOk result (spots.new.items ≡ spots.old.items ++ spots_from system 0 ports.now) }
+{
+    let mut number: u8 = 0;
+    let mut left = ports;
+    while let [port, others @ ..] = left {
+        spots.push(Spot {
+            system,
+            number,
+            subnet: port.subnet,
+            snpa: port.snpa,
+        })?;
+        number += 1;
+        left = others;
+    }
+    Ok(())
+}
+
+/// The ports of systems as they are declared.
+fn spots_of(alloc: Global, systems: &[SystemConfig]) -> Result<Vec<Spot>, AllocError>
+    requires { length systems.now ≤ 64 }
+    ensures { IfOk result (λ spots. spots.items ≡ spots_of 0 systems.now) }
+{
+    let mut spots = Vec::new(alloc);
+    let mut place: u8 = 0;
+    let mut left = systems;
+    while let [system, others @ ..] = left {
+        // Its clause: a system has up to eight ports.
+        system.is_system();
+        push_ports(place, system.ports(), &mut spots)?;
+        place += 1;
+        left = others;
+    }
+    Ok(spots)
+}
+
+/// Puts the port of a system on a subnetwork, at an address there.
+fn move_port(spots: &mut [Spot], system: u8, number: u8, subnet: u8, snpa: Snpa)
+    ensures { spots.new ≡ map (moved system number subnet snpa) spots.old }
+{
+    for spot in spots.iter_mut() {
+        *spot = spot.moved(system, number, subnet, snpa);
+    }
+}
+
+/// The prefixes of a system's routes.
+#[derive(Drop)]
+struct Prefixes {
+    known: Vec<Prefix>,
+}
+
+impl Model for Prefixes {
+    ghost use Rattle.std.specs.Prelude.{ℕ, List};
+
+    ghost Value = { List (List ℕ) };
+
+    ghost view = { λ p. p.known.items };
+}
+
+impl Prefixes {
+    /// Those of declared routes.
+    fn of(alloc: Global, routes: &[Route]) -> Result<Prefixes, AllocError>
+        ensures { IfOk result (λ prefixes. prefixes ≡ map (λ route. route.prefix) routes.now) }
+    {
+        Ok(Prefixes {
+            known: routes.iter().map(|route| route.prefix).collect(alloc)?,
+        })
+    }
+
+    /// Whether this prefix is among them.
+    fn has(&self, prefix: &Prefix) -> bool
+        ensures { result ≡ is_among prefix.now self.now }
+    {
+        self.known.contains(prefix)
+    }
+
+    /// Whether this prefix may be one of them.
+    fn takes(&self, prefix: &Prefix) -> bool
+        ensures { result ≡ takes_prefix prefix.now (Some self.now) }
+    {
+        self.has(prefix) || self.known.len() < 256
+    }
+
+    /// Adds this prefix, unless it is there.
+    fn add(&mut self, prefix: Prefix) -> Result<(), AllocError>
+        ensures { OnOk result (self.new ≡ with_prefix prefix self.old) }
+    {
+        if !self.has(&prefix) {
+            self.known.push(prefix)?;
+        }
+        Ok(())
+    }
+
+    /// Takes this prefix out, if it is there.
+    fn remove(&mut self, prefix: &Prefix)
+        ensures { self.new ≡ without_prefix prefix.now self.old }
+    {
+        drop_prefix(&mut self.known, prefix);
+    }
+}
+
+/// Takes a prefix out of some, if it is there.
+fn drop_prefix(known: &mut Vec<Prefix>, prefix: &Prefix)
+    ensures { known.new.items ≡ without_prefix prefix.now known.old.items }
+{
+    known.retain(|other| *other != *prefix);
+}
+
+/// The prefixes of systems as they are declared.
+fn prefixes_of(alloc: Global, systems: &[SystemConfig]) -> Result<Vec<Prefixes>, AllocError>
+    ensures { IfOk result (λ prefixes. prefixes.items ≡ map prefixes_of systems.now) }
+{
+    let mut prefixes = Vec::new(alloc);
+    for system in systems {
+        prefixes.push(Prefixes::of(alloc, system.routes())?)?;
+    }
+    Ok(prefixes)
+}
+
+/// Adds a prefix to those of the system at a place.
+fn add_prefix(prefixes: &mut [Prefixes], place: usize, prefix: Prefix) -> Result<(), AllocError>
+    ensures { OnOk result (prefixes.new ≡ changed_at (with_prefix prefix) place prefixes.old) }
+{
+    if place >= prefixes.len() {
+        return Ok(());
+    }
+    let known = &mut prefixes[place];
+    known.add(prefix)
+}
+
+/// Takes a prefix out of those of the system at a place.
+fn remove_prefix(prefixes: &mut [Prefixes], place: usize, prefix: &Prefix)
+    ensures { prefixes.new ≡ changed_at (without_prefix prefix.now) place prefixes.old }
+{
+    if place < prefixes.len() {
+        let known = &mut prefixes[place];
+        known.remove(prefix);
+    }
+}
+
+/// What the events so far leave.
+#[derive(Drop)]
+pub(crate) struct Standing {
+    spots: Vec<Spot>,
+    prefixes: Vec<Prefixes>,
+}
+
+impl Model for Standing {
+    ghost use Rattle.scenario.specs.Standing.{Standing};
+
+    ghost Value = { Standing };
+
+    ghost view = { λ s. record { spots = s.spots.items; prefixes = s.prefixes.items } };
+}
+
+impl Standing {
+    /// Before the first event.
+    pub(crate) fn of(alloc: Global, systems: &[SystemConfig]) -> Result<Standing, AllocError>
+        requires { length systems.now ≤ 64 }
+        ensures { IfOk result (λ standing. standing ≡ standing_of systems.now) }
+    {
+        Ok(Standing {
+            spots: spots_of(alloc, systems)?,
+            prefixes: prefixes_of(alloc, systems)?,
+        })
+    }
+
+    /// Whether another port of a system than that of this number is on a subnetwork.
+    pub(crate) fn has_second(&self, system: u8, number: u8, subnet: u8) -> bool
+        ensures { result ≡ list_any (is_second system number subnet) self.now.spots }
+    {
+        self.spots
+            .iter()
+            .any(|spot| spot.is_second(system, number, subnet))
+    }
+
+    /// Whether another port than this one, of any system, has an address on a subnetwork.
+    pub(crate) fn has_rival(&self, system: u8, number: u8, subnet: u8, snpa: &Snpa) -> bool
+        ensures { result ≡ list_any (is_rival system number subnet snpa.now) self.now.spots }
+    {
+        self.spots
+            .iter()
+            .any(|spot| spot.is_rival(system, number, subnet, snpa))
+    }
+
+    /// Whether the system at a place may have a route of this prefix.
+    pub(crate) fn takes_prefix(&self, system: u8, prefix: &Prefix) -> bool
+        ensures { result ≡ takes_prefix prefix.now (slice_get self.now.prefixes system) }
+    {
+        match self.prefixes.get(usize::from(system)) {
+            Some(known) => known.takes(prefix),
+            None => false,
+        }
+    }
+
+    /// Goes on to what an event leaves.
+    pub(crate) fn go_on(&mut self, event: &Event) -> Result<(), AllocError>
+        ensures { OnOk result (self.new ≡ standing_after event.now self.old) }
+    {
+        match event {
+            Event::Port {
+                system,
+                number,
+                subnet,
+                snpa,
+            } => {
+                move_port(&mut self.spots, *system, *number, *subnet, *snpa);
+                Ok(())
+            }
+            Event::Route { system, route } => {
+                add_prefix(&mut self.prefixes, usize::from(*system), route.prefix)
+            }
+            Event::Unroute { system, prefix } => {
+                remove_prefix(&mut self.prefixes, usize::from(*system), prefix);
+                Ok(())
+            }
+            Event::Send { .. }
+            | Event::Deliver { .. }
+            | Event::Settle { .. }
+            | Event::Lose { .. }
+            | Event::Tick { .. }
+            | Event::Restart { .. }
+            | Event::Echo { .. }
+            | Event::Congest { .. }
+            | Event::Inject { .. }
+            | Event::Mtu { .. } => Ok(()),
+        }
+    }
+}
