@@ -4,12 +4,11 @@
 Half of the texts are scenarios, the others have a few words or lines changed. In a third of them frames come from outside. For
 each one the program must write the models' journal, or with --trace their trace, or refuse the models' line and code.
 
-usage: tests/by_hand/networks.py [--program PATH | --try] [--trace] [--version-2] [--clocks-apart] [SEED [TEXTS]]
+usage: tests/by_hand/networks.py [--program PATH | --try] [--trace] [--version-2] [SEED [TEXTS]]
 
 PATH is another program to run than the built one. With --try the program is compiled and run by `rt try`, which takes
 less than a minute and proves nothing. A third of the texts are of version 2, with its events: ports that move, routes that are
-set and taken away, other MTUs; with --version-2 nine of ten. With --clocks-apart besides systems have clocks of their own, as far
-apart as S says, and one may tick alone: for a program that has that.
+set and taken away, other MTUs, clocks that stand apart; with --version-2 nine of ten.
 """
 import argparse
 import collections
@@ -25,7 +24,7 @@ sys.path.append(os.path.join(ROOT, "tests", "models"))
 
 from frames import Outside
 from network_model import Network
-from scenario_model import CODE_NAMES, Text, TextOfToday, read
+from scenario_model import CODE_NAMES, Text, read
 
 PROGRAM = os.path.join(ROOT, "crates", "clnp_tool", "out", "clnp_tool")
 
@@ -185,7 +184,7 @@ class Changes:
         return lines + random.choice([[], [], [], ["tick 1", "settle 8"], [f"settle {random.choice([1, 4])}"], ["settle 30"]])
 
 
-def random_scenario(kind=TextOfToday, mostly_version_2=False):
+def random_scenario(mostly_version_2=False):
     subnets, hosts, there = random_network()
     systems = [(name, "host" if name in hosts else "router") for name in there]
     random.shuffle(systems)
@@ -204,7 +203,7 @@ def random_scenario(kind=TextOfToday, mostly_version_2=False):
             transit = random.choice(["", "", " 1", " 2", f" {random.randint(1, 20)}", " 255"])
             attached.append(f"port {name} {at} {subnet} {snpas[name, subnet]}{transit}")
     version = 2 if random.random() < (0.9 if mostly_version_2 else 0.34) else 1
-    skew = random.choice([0, 1, 2, 3, 9, 60]) if version == 2 and kind.most_skew > 0 else 0
+    skew = random.choice([0, 0, 1, 2, 3, 9, 60]) if version == 2 else 0
     if version == 2 or random.random() < 0.5:
         is_usual = version == 2 and random.random() < 0.5
         age, hold = (256, 60) if is_usual else (random.randint(1, 9), random.randint(1, 9))
@@ -381,9 +380,8 @@ abcdefghijklmnopq 012345678901234567890123456789012345678 0123456789012345678901
 MORE = "x whole life=3 noreport hello=0 hello=2 suggest=3 checksum=on opt=cd0101 slots=2 7".split()
 
 
-def changed(lines, kind_of_text=TextOfToday):
-    first_words = ("route", "mtu", "unroute", "port", *(["tick"] if kind_of_text.most_skew > 0 else []))
-    favoured = [at for at, line in enumerate(lines) if line.startswith(first_words)]
+def changed(lines):
+    favoured = [at for at, line in enumerate(lines) if line.startswith(("route", "mtu", "unroute", "port", "tick h", "tick r"))]
     for _ in range(random.randint(1, 2)):
         at, kind = random.randrange(len(lines)), random.randrange(10)
         if favoured and random.random() < 0.2:
@@ -461,9 +459,9 @@ def without_advice(status, output, said):
     return status, output, lines[0]
 
 
-def wanted_of(text, command, kinds, kind=TextOfToday):
+def wanted_of(text, command, kinds):
     """What the models say of a text that a command reads, and whether it is a scenario."""
-    found = read(text, kind=kind)
+    found = read(text)
     if not isinstance(found, Text):
         return (3, "", f"clnp: bad input at line {found[0]}: {CODE_NAMES[found[1]]}\n"), False
     network = Network(found)
@@ -473,9 +471,9 @@ def wanted_of(text, command, kinds, kind=TextOfToday):
     return (0, journal, "") if full is None else (4, journal, f"clnp: world full at {full} octets\n"), True
 
 
-def random_text(kind=TextOfToday, mostly_version_2=False):
-    lines = random_scenario(kind, mostly_version_2)
-    lines = lines if random.random() < 0.5 else changed(lines, kind)
+def random_text(mostly_version_2=False):
+    lines = random_scenario(mostly_version_2)
+    lines = lines if random.random() < 0.5 else changed(lines)
     end = random.choice(["\n", "\r\n"]) if random.random() < 0.2 else "\n"
     return (end.join(lines) + ("\n" if random.random() < 0.9 else "")).encode()
 
@@ -488,16 +486,14 @@ def main():
     words.add_argument("--try", dest="tries", action="store_true", help="run what `rt try` compiles")
     words.add_argument("--trace", dest="command", action="store_const", const="trace", default="sim", help="compare traces")
     words.add_argument("--version-2", dest="version_2", action="store_true", help="nine of ten texts of version 2")
-    words.add_argument("--clocks-apart", dest="apart", action="store_true", help="such texts, with clocks that stand apart")
     asked = words.parse_args()
-    kind = Text if asked.apart else TextOfToday
     random.seed(asked.seed)
-    texts = [random_text(kind, asked.version_2 or asked.apart) for _ in range(asked.texts)]
+    texts = [random_text(asked.version_2) for _ in range(asked.texts)]
     if asked.program is None and not asked.tries:
         subprocess.run([os.path.join(ROOT, "clnp"), "--version"], check=True, stdout=subprocess.DEVNULL)
     accepted, kinds = 0, collections.Counter()
     for text, came in zip(texts, try_all(asked.command, texts) if asked.tries else run_each(asked.program or PROGRAM, asked.command, texts)):
-        wanted, is_scenario = wanted_of(text, asked.command, kinds, kind)
+        wanted, is_scenario = wanted_of(text, asked.command, kinds)
         accepted += is_scenario
         if without_advice(*came) != wanted:
             sys.stdout.buffer.write(text)

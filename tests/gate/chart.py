@@ -234,6 +234,20 @@ def judge_notes():
            "six notes aren't folded into three rows")
 
 
+def judge_clocks_apart():
+    """Lines of systems whose clocks stand apart: a moment begins where the clock that is ahead of all goes on, and a text whose
+    clock is behind says its own."""
+    text = text_of("examples", "two-hosts", "scenario.txt").split("events\n")[0]
+    text = text.replace("clnp-sim 1\n", "clnp-sim 2\nlimits 256 60 320 2\n")
+    text += "events\ntick b 2\nsend a 47002702 47002701 hex:6869 life=10 whole\nsettle 1\ntick a 1\nrestart a\ntick 1\nrestart b\nend\n"
+    trace = trace_of(text)
+    picture = judge("clocks that stand apart", trace.splitlines()[:-1], [], trace)
+    moments = [element.text for element in tree.fromstring(picture).iter(SVG + "text") if element.get("class") == "moment"]
+    expect(moments == ["0", "2", "3"], f"the moments of clocks that stand apart are {moments}")
+    shown_texts = ["".join(element.itertext()) for element in tree.fromstring(picture).iter(SVG + "text")]
+    expect(any(found.endswith("(1) restart") for found in shown_texts), "a clock that is behind isn't told")
+
+
 def judge_a_long_one():
     """Ten thousand lines, drawn within two seconds of a processor's time."""
     rounds = 700
@@ -272,7 +286,8 @@ BAD_TRACES = [
     (TX + "-1 a restart\n", "line 2: '-1 a restart' is no line of a trace"),
     (TX + "0 A restart\n", "line 2: '0 A restart' is no line of a trace"),
     (TX + "0 a\n", "line 2: '0 a' is no line of a trace"),
-    ("1 a restart\n0 a restart\n", "line 2: the moment 0 is before that of the line before it"),
+    ("1 a restart\n0 a restart\n", "line 2: the moment 0 is before that of the line of 'a' before it"),
+    (TX + "2 - lost 1\n1 - lost 1\n", "line 3: the moment 1 is before that of the line of '-' before it"),
     ("0 a tx 1 0 es 811\n", "line 1: 'tx 1 0 es 811' has another form; wanted: T NAME tx COPY PORT TARGET HEX"),
     ("0 a tx 1 8 es 81\n", "wanted: T NAME tx COPY PORT TARGET HEX"),
     ("0 a tx 1 0 all 81\n", "wanted: T NAME tx COPY PORT TARGET HEX"),
@@ -343,6 +358,7 @@ def main():
         examples = judge_examples(stand_in)
         judge_parts()
         judge_notes()
+        judge_clocks_apart()
         judge_pictures(sys.argv[1] if len(sys.argv) > 1 else stand_in.path)
         stand_in.calls()
         faults = judge_faults(folder)

@@ -21,7 +21,7 @@ RANGES = {
 # how old a copy may be, how long a buffer lasts, how long an identifier rests, and how far apart clocks may stand
 DEFAULT_LIMITS = (256, 60, 320, 0)
 
-MOST_ROUTES = 256
+MOST_ROUTES, MOST_SKEW = 256, 4096
 
 # the least and the greatest numbers of addresses and of ports of a role
 ADDRESSES = {b"host": (1, 8), b"router": (1, 1)}
@@ -134,8 +134,6 @@ class Text:
     """What the lines so far declare, in a text of a version, and their events. Event lines are read over what the events before
     them leave: where each port is, which prefixes a router has, and where each clock stands."""
 
-    # how far apart the clocks of version 2 may stand; where they tick together, no clock ticks alone
-    most_skew = 4096
     # whether limits are refused in which an identifier rests for too short a time
     judges_rest = True
 
@@ -162,7 +160,7 @@ class Text:
     def limit(self, words):
         want(len(words) == (3 if self.version == 1 else 4), SYNTAX)
         age, hold, reuse = number(words[0], 1, 4096), number(words[1], 1, 255), number(words[2], 1, 16384)
-        skew = 0 if self.version == 1 else number(words[3], 0, self.most_skew)
+        skew = 0 if self.version == 1 else number(words[3], 0, MOST_SKEW)
         want(self.limits is None, DUP_NAME)
         want(age + hold + 2 * skew <= reuse or not self.judges_rest, LIMITS)
         self.limits = (age, hold, reuse, skew)
@@ -278,7 +276,7 @@ class Text:
 
     def tick(self, words):
         """All clocks go on, or that of one system alone, which may not come too far ahead of another one."""
-        if len(words) == 2 and self.version > 1 and self.most_skew > 0:
+        if len(words) == 2 and self.version > 1:
             system = place(self.system_names(), words[0])
             ticks = number(words[1], 1, 65535)
             self.clocks[system] += ticks
@@ -363,12 +361,6 @@ class Text:
         want(all((subnet, snpa) not in spots.values() for spots in others), DUP_ADDRESS)
         self.spots[system][port_number] = (subnet, snpa)
         return ("port", system, port_number, subnet, snpa)
-
-
-class TextOfToday(Text):
-    """The same as far as the program reads it today: the clocks of version 2 tick together too."""
-
-    most_skew = 0
 
 
 class Data(bytes):

@@ -1,10 +1,9 @@
-"""What texts of version 2 say, beside the plain model of their grammar: which lines are refused and why, and which are not; the
-canonical text; what a text of version 1 becomes. Networks of which tests/models/version_2_rows.py plays events are here too."""
+"""What texts of version 2 say, beside the plain model of their grammar: what is just allowed, and what just not; the canonical
+text; what a text of version 1 becomes. Networks of which tests/models/version_2_rows.py plays events are here too."""
 import sys
 
 from scenario_model import (
-    COUNT, DUP_ADDRESS, DUP_NAME, HEADER, LIMITS, MTU, NUMBER, SYNTAX, UNKNOWN_NAME, Refused, Text, TextOfToday,
-    migrate, read, write,
+    COUNT, DUP_ADDRESS, DUP_NAME, HEADER, LIMITS, MTU, NUMBER, SYNTAX, Refused, Text, migrate, read, write,
 )
 
 
@@ -65,17 +64,9 @@ route r 47002701 1 02 47002701
 route r 47002702 0 01 47002702
 events
 """
-# no checksums, and no hello, so that a is told of the router from outside
-PLAIN_ROUTER = changed(ROUTER, ("a host hello=0", "a host hello=0 checksum=off"), ("r router", "r router hello=0 checksum=off"))
-
-# two hosts and a router on one subnetwork, which hear of each other from outside
-REDIRECTING = changed(
-    PAIR, ("address a", "system r router hello=0\naddress a"), ("port a", "address r 470027ff\nport a"),
-    ("events", "port r 0 lan 0a\nevents"))
-
 # clocks that may stand 2 ticks apart
 APART = ("limits 256 60 320 0", "limits 4 2 10 2")
-SMALL_APART, PAIR_APART, ROUTER_APART = changed(SMALL_PAIR, APART), changed(PAIR, APART), changed(PLAIN_ROUTER, APART)
+SMALL_APART, ROUTER_APART = changed(SMALL_PAIR, APART), changed(ROUTER, APART)
 
 # ---- a unit that is sent in many of them: of 1,000 octets, which may be cut
 
@@ -110,26 +101,10 @@ FORMS = [
     ("inject two 0.1 es FF", "inject two 01 es ff"), ("inject two 01 0.B 0aff", "inject two 01 0b 0aff"),
 ]
 
-# ---- texts that are refused: a network, events of which the last one is bad, and its code
+# ---- texts at the bounds of what is allowed: a network and events; those of one kind that are refused stand in the data of
+# worked examples
 
-BAD_TICKS = [
-    ("tick b", NUMBER), ("tick b 0", NUMBER), ("tick b 65536", NUMBER), ("tick b x", NUMBER), ("tick x 1", UNKNOWN_NAME),
-    ("tick B 1", SYNTAX), ("tick 1 b", SYNTAX), ("tick b 1 1", SYNTAX), ("tick", SYNTAX), ("tick b 1", LIMITS),
-]
 OLD_ROUTER = changed(ROUTER, ("clnp-sim 2\nlimits 256 60 320 0\n", "clnp-sim 1\n"))
-REFUSED = [(ROUTER, [line], code) for line, code in BAD_TICKS] + [
-    (OLD_ROUTER, ["tick b 1"], SYNTAX),
-    # how far a clock may be ahead of another: 2 ticks, from wherever they stand
-    (ROUTER_APART, ["tick a 3"], LIMITS), (ROUTER_APART, ["tick a 2", "tick 2", "tick a 1"], LIMITS),
-    (ROUTER_APART, ["tick a 2", "tick b 2", "tick a 1"], LIMITS),
-    (ROUTER_APART, ["tick a 2", "tick b 2", "tick r 1", "tick b 2"], LIMITS),
-    (SMALL_APART, [SEND_LONG, "tick a 3"], LIMITS),
-    # a line of a tick that breaks both of its bounds: the clocks come before the sum of ticks
-    (ROUTER_APART, [*15 * ["tick 65535"], "tick 16975", "tick a 3"], LIMITS),
-    (ROUTER_APART, [*15 * ["tick 65535"], "tick 16975", "tick a 1"], COUNT),
-    (ROUTER_APART, [*15 * ["tick 65535"], "tick 16976"], COUNT),
-]
-# the same, of what is allowed
 ALLOWED = [
     (ROUTER, ["port b 0 two 02"]), (ROUTER, ["port b 0 two 03", "port a 0 two 02"]),
     (ROUTER, ["port b 0 one 02", "port r 1 two 02"]), (ROUTER, ["port r 1 three 0b", "port r 0 two 0a"]),
@@ -185,30 +160,18 @@ def check_texts():
     expect("canonical text of version 2", write(read(written.encode())), written)
 
 
-def judged(text, kind=Text):
-    found = read(text.encode(), kind=kind)
+def judged(text):
+    found = read(text.encode())
     return None if isinstance(found, Text) else found
 
 
-def check_refusals():
-    for network, events, code in REFUSED:
-        bad = len(network.splitlines()) + len(events)
-        expect(events[-1], judged(text_of(network, events)), (bad, code))
+def check_bounds():
     for network, events in ALLOWED:
         expect(events[-1], judged(text_of(network, events)), None)
     for text, line, code in DECLARED:
         expect(f"line {line}", judged(text_of(text, [])), line and (line, code))
     for events, code in MANY_ROUTES:
         expect(f"{len(events)} events", judged(text_of(ROUTER, events)), code and (len(ROUTER.splitlines()) + len(events), code))
-
-
-def check_texts_of_today():
-    """In the program of today clocks tick together."""
-    at = len(ROUTER.splitlines()) + 1
-    expect("a clock that ticks alone, today", judged(text_of(ROUTER, ["tick b 1"]), TextOfToday), (at, SYNTAX))
-    expect("S above 0, today", judged(changed(ROUTER, ("60 320 0", "60 320 1")), TextOfToday), (2, NUMBER))
-    for line in ["tick 1", "mtu one 512", "route r 48 1 02 470027", "unroute r 48", "port b 0 one 03"]:
-        expect(f"{line}, today", judged(text_of(ROUTER, [line]), TextOfToday), None)
 
 
 def check_most_events():
@@ -224,6 +187,5 @@ def check_most_events():
 
 def check_all_texts():
     check_texts()
-    check_refusals()
-    check_texts_of_today()
+    check_bounds()
     check_most_events()

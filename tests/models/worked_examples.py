@@ -9,7 +9,7 @@ import os
 import sys
 
 from network_model import Network
-from scenario_model import CODE_NAMES, Text, TextOfToday, migrate, read
+from scenario_model import CODE_NAMES, Text, migrate, read
 
 DATA = os.path.join(os.path.dirname(os.path.abspath(__file__)), "..", "..", "crates", "worked_examples", "data")
 
@@ -68,7 +68,7 @@ def answer(case):
         came = migrate(case.input)
         came = came if isinstance(came, tuple) else (0, came)
     else:
-        found = read(case.input, kind=TextOfToday)
+        found = read(case.input)
         came = found
         if isinstance(found, Text):
             network = Network(found)

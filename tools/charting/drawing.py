@@ -217,7 +217,7 @@ def caption(trace, items):
     """The sentences above the picture."""
     shown = len({item.copy.number for item in items if item.copy is not None})
     part = "" if shown == len(trace.copies) else f" of {len(trace.copies)}"
-    first, last = items[0].moment, items[-1].moment
+    first, last = items[0].moment, max(item.moment for item in items)
     copies = f"{shown}{part} {'copy' if len(trace.copies) == 1 else 'copies'}"
     times = f"moment {first}" if first == last else f"moments {first} to {last}"
     sentences = [f"{copies}, {times} in ticks. Time goes down, not to scale."]

@@ -9,7 +9,8 @@ from charting.trace import BEFORE, NOBODY, Copy, clipped, column_of
 
 @dataclasses.dataclass
 class Item:
-    """What stands at one place of a column: what happened to a copy, or nothing of that kind, and what is noted then."""
+    """What stands at one place of a column: what happened to a copy, or nothing of that kind, and what is noted then. Where the
+    clock of its system is behind another one, its text says its moment first."""
 
     column: str
     moment: int
@@ -17,6 +18,7 @@ class Item:
     copy: Copy
     first: str
     notes: list
+    is_behind: bool
     rows: list = dataclasses.field(default_factory=list)
     y: float = 0
 
@@ -40,16 +42,17 @@ def goes_on(before, column, line):
 
 def items_of(lines):
     """The items of some lines: notes that a system writes behind one another are one, with the copy that came before them."""
-    items = []
+    items, clock = [], 0
     for line in lines:
-        column = column_of(line)
+        column, clock = column_of(line), max(clock, line.moment)
+        is_behind = line.moment < clock
         before = items[-1] if items else None
         if line.copy is not None:
-            items.append(Item(column, line.moment, line.word, line.copy, text_of_copy(line), []))
+            items.append(Item(column, line.moment, line.word, line.copy, text_of_copy(line), [], is_behind))
         elif before and goes_on(before, column, line):
             before.notes.append(line.text)
         else:
-            items.append(Item(column, line.moment, "note", None, "", [line.text]))
+            items.append(Item(column, line.moment, "note", None, "", [line.text], is_behind))
     for item in items:
         item.rows = rows_of(item)
     return items
@@ -80,12 +83,17 @@ def rows_of(item):
     if len(notes) > MOST_NOTES:
         behind = item.notes[MOST_NOTES - 1:]
         notes = notes[:MOST_NOTES - 1] + [(f"+ {len(behind)} more", behind)]
-    if item.copy is None:
-        return [("", text, lines) for text, lines in notes]
-    number = str(item.copy.number)
-    if item.first or not notes:
-        return [(number, clipped(item.first, MOST_LETTERS), [])] + [("", text, lines) for text, lines in notes]
-    return [(number, *notes[0])] + [("", text, lines) for text, lines in notes[1:]]
+    rows = [("", text, lines) for text, lines in notes]
+    if item.copy is not None:
+        number = str(item.copy.number)
+        if item.first or not notes:
+            rows = [(number, clipped(item.first, MOST_LETTERS), [])] + rows
+        else:
+            rows[0] = (number, *notes[0])
+    if item.is_behind:
+        number, text, lines = rows[0]
+        rows[0] = (number, f"({item.moment}) {text}".rstrip(), lines)
+    return rows
 
 
 def letters_of(row):
@@ -180,7 +188,7 @@ class Layout:
         self.last, self.sent = top + NAMES_HEIGHT, {}
         moment = None
         for item in items:
-            if item.moment != moment:
+            if moment is None or item.moment > moment:
                 moment = item.moment
                 self.begin_moment(moment)
             self.put(item)

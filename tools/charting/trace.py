@@ -58,10 +58,10 @@ FATES = {"rx": "came to {name}", "late": "too late for {name}", "lost": "lost", 
 
 
 class Trace:
-    """The lines of a trace and the copies that they tell of."""
+    """The lines of a trace and the copies that they tell of. Each system has a clock of its own, as far as it was told."""
 
     def __init__(self):
-        self.lines, self.copies, self.unsent, self.end = [], {}, {}, None
+        self.lines, self.copies, self.unsent, self.end, self.clocks = [], {}, {}, None, {}
 
     def take(self, place, text):
         """Takes the line at a place, from 1."""
@@ -78,8 +78,9 @@ class Trace:
         moment, name, word, rest = int(found[1]), found[2], found[3], found[4] or ""
         if (word in OF_NO_SYSTEM) != (name == NOBODY):
             raise Fault(1, f"line {place}: {word!r} doesn't stand behind {name!r}; wanted: {form_of(word)}")
-        if self.lines and moment < self.lines[-1].moment:
-            raise Fault(1, f"line {place}: the moment {moment} is before that of the line before it")
+        if moment < self.clocks.get(name, 0):
+            raise Fault(1, f"line {place}: the moment {moment} is before that of the line of {name!r} before it")
+        self.clocks[name] = moment
         copy = self.copy_of(place, moment, name, word, rest) if word in FORMS else None
         self.lines.append(Line(moment, name, word, copy, text))
 

@@ -132,7 +132,7 @@ end
 
 /// A network that changes.
 const CHANGING: &[u8] = b"clnp-sim 2
-limits 4 2 6 0
+limits 4 2 10 2
 subnet one 1500
 subnet two 512
 subnet three 600
@@ -153,12 +153,15 @@ port r 0 three 0a
 port a 0 three 02
 unroute r 48
 unroute r 48
+tick r 2
+tick a 4
+tick 3
 end
 ";
 
 /// What `write` makes of it.
 const CHANGING_WRITTEN: &[u8] = b"clnp-sim 2
-limits 4 2 6 0
+limits 4 2 10 2
 subnet one 1500
 subnet two 512
 subnet three 600
@@ -179,6 +182,9 @@ port r 0 three 0a
 port a 0 three 02
 unroute r 48
 unroute r 48
+tick r 2
+tick a 4
+tick 3
 end
 ";
 

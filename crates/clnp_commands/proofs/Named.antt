@@ -1,6 +1,6 @@
 -- The lines of a run name systems and subnetworks of its scenario, whose names are words.
 use Rattle.std.proofs.Common.{◌≡◌, ℕ, ◌+◌, ◌-◌, Bool, true, false, List, [], ◌∷◌, Option, None, Some, refl, sym, subst, cond}
-use Rattle.std.specs.Prelude.{◌==◌, nat_lt, slice_get, slice_set, length}
+use Rattle.std.specs.Prelude.{◌==◌, max, nat_lt, slice_get, slice_set, length}
 use Rattle.std.specs.List.{AllByRecursion, list_any, range_with_len}
 use Rattle.clnp_machine.proofs.ClnpBase.Lists.{AllByRecursion-append, AllByRecursion-implies, AllByRecursion-slice_get}
 use Rattle.clnp_machine.specs.Nsap.declared.target.Target.{Target}
@@ -21,7 +21,7 @@ use Rattle.clnp_world.specs.Scenario.declared.event.Event.{Event}
 use Rattle.clnp_world.specs.Scenario.declared.event.Event.TheVariants.{Send, Echo, Deliver, Settle, Lose, Tick, Restart, Congest, Inject}
 use Rattle.clnp_world.specs.Scenario.declared.event.Event.TheVariants as event
 use Rattle.clnp_world.specs.Scenario.declared.event.Move.{Move}
-use Rattle.clnp_world.specs.Scenario.declared.event.Move.TheVariants.{One, SettleOne, LoseOne, TickOne}
+use Rattle.clnp_world.specs.Scenario.declared.event.Move.TheVariants.{One, SettleOne, LoseOne, TickOne, TickSystem}
 use Rattle.clnp_machine.specs.Change.{Change, PortIsAt, PortTakes, RouteIsGone, RouteIsSet}
 use Rattle.clnp_machine.specs.Step.{step}
 use Rattle.clnp_machine.specs.Steps.{IsNoChange, NotesOnly}
@@ -102,7 +102,7 @@ names_comes w place input h = names_comes_to w place input (slice_get w.systems 
 -- ---- a copy is given
 
 names_given : (limits : Limits) (given : network.Numbered) (w : World) (place : ℕ) (s : SystemState) (late : Bool) → IsNamedSystem s → AreNamed w
-    → Names (cond late (network.writes w (Late w.clock s.configuration.name given.number)) (network.hand_to given w place s))
+    → Names (cond late (network.writes w (Late s.moment s.configuration.name given.number)) (network.hand_to given w place s))
 names_given limits given w place s true is h = record { world = h; lines = (is, tt) }
 names_given limits given w place s false is h =
     let taken = names_step w place s (network.frame_to s given.copy) is h in
@@ -159,14 +159,22 @@ names_deliver_at limits w number place None e h = names_nothing w h
 names_deliver_at limits w number place (Some s) e h =
     names_deliver_to limits w number place (slice_get w.copies (number - 1)) s (there w place s e h) h
 
--- ---- the clock goes on
+-- ---- clocks go on
+
+names_goes_on : (w : World) (place : ℕ) (s : Option SystemState) → AreNamed w → Names (network.goes_on w place s)
+names_goes_on w place None h = names_nothing w h
+names_goes_on w place (Some s) h = names_comes w place (MomentComes (s.moment + 1)) h
 
 names_tick_each : (w : World) (places : List ℕ) → AreNamed w → Names (network.tick_each w places)
 names_tick_each w [] h = names_nothing w h
 names_tick_each w (place ∷ places) h =
-    let first = names_comes w place (MomentComes w.clock) h in
-    names_then (network.comes w place (MomentComes w.clock)) (λ v. network.tick_each v places) first
-    (names_tick_each (network.comes w place (MomentComes w.clock)).world places first.world)
+    let part = network.goes_on w place (slice_get w.systems place) in
+    let first : Names part = names_goes_on w place (slice_get w.systems place) h in
+    names_then part (λ v. network.tick_each v places) first (names_tick_each part.world places first.world)
+
+names_tick_alone : (w : World) (place : ℕ) (s : Option SystemState) → AreNamed w → Names (network.tick_alone w place s)
+names_tick_alone w place None h = names_nothing w h
+names_tick_alone w place (Some s) h = names_goes_on (record w { clock = max w.clock (s.moment + 1) }) place (Some s) h
 
 -- ---- what is asked, and what comes from outside
 
@@ -288,6 +296,7 @@ names_event subnets limits w None named h = names_nothing w h
 names_event subnets limits w (Some (Settle count)) named h = names_nothing w h
 names_event subnets limits w (Some (Lose count)) named h = names_nothing w h
 names_event subnets limits w (Some (Tick count)) named h = names_nothing w h
+names_event subnets limits w (Some (event.TickSystem system count)) named h = names_nothing w h
 names_event subnets limits w (Some (Deliver copy system)) named h = names_deliver_at limits w copy system (slice_get w.systems system) refl h
 names_event subnets limits w (Some (Restart system)) named h = names_comes w system IsRestarted h
 names_event subnets limits w (Some (Congest system on)) named h = names_comes w system (IsCongested on) h
@@ -308,6 +317,7 @@ names_after plan w (One place) named h = names_event plan.subnets plan.limits w 
 names_after plan w SettleOne named h = names_settle plan.limits w (slice_get w.copies w.cursor) h
 names_after plan w LoseOne named h = names_lose w (slice_get w.copies w.cursor) h
 names_after plan w TickOne named h = names_tick_each (record w { clock = w.clock + 1 }) (range_with_len 0 (length w.systems)) h
+names_after plan w (TickSystem place) named h = names_tick_alone w place (slice_get w.systems place) h
 
 -- ---- the names of a scenario
 

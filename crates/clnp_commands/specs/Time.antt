@@ -1,17 +1,18 @@
 -- The ticks among moves, and the time that a simulated network has for them.
 use Rattle.std.specs.Prelude.{ℕ, ◌+◌, ◌<◌, ◌^◌, List, [], ◌∷◌}
 use Rattle.clnp_world.specs.Scenario.declared.event.Move.{Move}
-use Rattle.clnp_world.specs.Scenario.declared.event.Move.TheVariants.{One, SettleOne, LoseOne, TickOne}
+use Rattle.clnp_world.specs.Scenario.declared.event.Move.TheVariants.{One, SettleOne, LoseOne, TickOne, TickSystem}
 use Rattle.clnp_world.specs.ClnpNetwork.World as network
 use Rattle.clnp_world.specs.State.{WorldState}
 use Rattle.clnp_world.specs.Stands.{Stands}
 
--- by how much a move sets the clock on
+-- by how much a move sets the network's clock on, at most
 abbrev pub tick_of : Move → ℕ
 tick_of (One place) = 0
 tick_of SettleOne = 0
 tick_of LoseOne = 0
 tick_of TickOne = 1
+tick_of (TickSystem place) = 1
 
 abbrev pub ticks_in : List Move → ℕ
 ticks_in [] = 0

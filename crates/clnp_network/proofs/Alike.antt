@@ -6,7 +6,7 @@ use Rattle.scenario.specs.Migration.{migrated, migration_of}
 use Rattle.scenario.specs.Scenario.{Plan}
 use Rattle.scenario.specs.Words.{◌>>=◌}
 use Rattle.scenario.specs.declared.event.Move.{Move}
-use Rattle.scenario.specs.declared.event.Move.TheVariants.{One, SettleOne, LoseOne, TickOne}
+use Rattle.scenario.specs.declared.event.Move.TheVariants.{One, SettleOne, LoseOne, TickOne, TickSystem}
 use Rattle.clnp_network.specs.Migrated.{IsMigrated}
 use Rattle.clnp_network.specs.World.{Step, World, after, first_world, is_full, weight}
 use Rattle.clnp_network.specs.Run.{Entry, ending, entries_of, full_weight, journal, last_world, lines_text, moves_made, moves_of_plan, run, stopped_at, text_of, until_full, world_after}
@@ -17,6 +17,7 @@ module _ (plan : Plan) where
   after_alike w SettleOne = refl
   after_alike w LoseOne = refl
   after_alike w TickOne = refl
+  after_alike w (TickSystem place) = refl
 
   pub world_alike : (w : World) (moves : List Move) → world_after (migrated plan) w moves ≡ world_after plan w moves
   world_alike w [] = refl

@@ -122,7 +122,7 @@ module _ (subnets : List Subnetwork) (w : World) where
 
 told_is : (w : World) (place : ℕ) (s : SystemState) (change : Change) (told : Note) → slice_get w.systems place ≡ Some s
     → followed_by (comes w place (IsChanged change)) (tells_of s told)
-    ≡ writes (with_system place (as_changed change s) w) (Noted w.clock s.configuration.name told)
+    ≡ writes (with_system place (as_changed change s) w) (Noted s.moment s.configuration.name told)
 told_is w place s change told there = ap (λ (step : Step). followed_by step (tells_of s told)) (change_comes w place s change there)
 
 module _ (w : World) (place : ℕ) where
@@ -130,7 +130,7 @@ module _ (w : World) (place : ℕ) where
       → slice_get subnets subnet ≡ Some declared → slice_get w.mtus subnet ≡ Some mtu → slice_get w.systems place ≡ Some s
       → slice_get s.attached.ports number ≡ Some port
       → moves_port subnets w place number subnet snpa
-      ≡ writes (with_system place (with_moved number subnet mtu snpa port s) w) (Noted w.clock s.configuration.name (note.Port number declared.name snpa))
+      ≡ writes (with_system place (with_moved number subnet mtu snpa port s) w) (Noted s.moment s.configuration.name (note.Port number declared.name snpa))
   port_moves subnets number subnet mtu snpa declared s port is takes there has =
       ap (λ (found : Option Subnetwork). moves_port_on w place number subnet snpa found (slice_get w.mtus subnet)) is
       ∙ ap (moves_port_on w place number subnet snpa (Some declared)) takes
@@ -141,7 +141,7 @@ module _ (w : World) (place : ℕ) where
   -- A router's route is set, where it leads out of a port that is there.
   route_as : (role : Role) (s : SystemState) (route : Route) → role ≡ Router → route.port < length s.attached.ports → slice_get w.systems place ≡ Some s
       → sets_route_as role w place s route
-      ≡ writes (with_system place (with_routes (set_in route s.attached.routes) s) w) (Noted w.clock s.configuration.name (note.Route route.prefix))
+      ≡ writes (with_system place (with_routes (set_in route s.attached.routes) s) w) (Noted s.moment s.configuration.name (note.Route route.prefix))
   route_as role s route is leads there =
       ap (λ (r : Role). sets_route_as r w place s route) is
       ∙ (let leads_so : nat_lt route.port (length s.attached.ports) ≡ true = grind arith in
@@ -151,13 +151,13 @@ module _ (w : World) (place : ℕ) where
   pub route_is_set : (s : SystemState) (route : Route) → slice_get w.systems place ≡ Some s → s.configuration.role ≡ Router
       → route.port < length s.attached.ports
       → sets_route w place route
-      ≡ writes (with_system place (with_routes (set_in route s.attached.routes) s) w) (Noted w.clock s.configuration.name (note.Route route.prefix))
+      ≡ writes (with_system place (with_routes (set_in route s.attached.routes) s) w) (Noted s.moment s.configuration.name (note.Route route.prefix))
   route_is_set s route there is leads = ap (sets_route_of w place route) there ∙ route_as s.configuration.role s route is leads there
 
   pub route_is_gone : (s : SystemState) (prefix : List ℕ) → slice_get w.systems place ≡ Some s → s.configuration.role ≡ Router
       → removes_route w place prefix
       ≡ writes (with_system place (with_routes (without prefix s.attached.routes) s) w)
-      (Noted w.clock s.configuration.name (note.Unroute prefix (list_any (has_prefix prefix) s.attached.routes)))
+      (Noted s.moment s.configuration.name (note.Unroute prefix (list_any (has_prefix prefix) s.attached.routes)))
   route_is_gone s prefix there is =
       ap (removes_route_of w place prefix) there
       ∙ ap (λ (role : Role). removes_route_as role w place s prefix) is

@@ -1,6 +1,6 @@
 -- Worked examples of systems on one subnetwork or two, computed with the definitions: with a checksum and without one, copies that
--- come again, a host that is restarted, an echo, hellos that are said, heard and answered, packets that a router forwards or reports, and
--- a network that changes.
+-- come again, a host that is restarted, an echo, hellos that are said, heard and answered, packets that a router forwards or reports, a
+-- network that changes, and clocks that stand apart.
 use Rattle.std.proofs.Common.{◌≡◌, ℕ, true, false, List, [], ◌∷◌, refl, Result, Ok, Err, codes}
 use Rattle.hex.specs.Hex.{encode_with, decode_pairs}
 use Rattle.clnp_machine.specs.Fletcher.Checksum.{sealed, checksum_x, checksum_y}
@@ -21,7 +21,7 @@ use Rattle.scenario.specs.declared.event.Body.TheVariants.{Hex}
 use Rattle.scenario.specs.declared.event.Event.TheVariants.{Send, Settle, Tick, Inject, Mtu, Route as SetRoute, Unroute, Port}
 use Rattle.scenario.specs.Grammar.{BadLine, plan_of, plan_at, events_from, counted_event}
 use Rattle.scenario.specs.Declarations.{limits_line, subnet_line, room_word, setting_word, system_line, address_line, port_line, declaration_line}
-use Rattle.scenario.specs.Events.{wish_word, send_line, deliver_line, tick_line, restart_line, echo_line, count_line, inject_line, change_line, mtu_line, port_line as moved_line, event_line}
+use Rattle.scenario.specs.Events.{wish_word, send_line, deliver_line, tick_line, tick_system_line, ticks_line, restart_line, echo_line, count_line, inject_line, change_line, mtu_line, port_line as moved_line, event_line}
 use Rattle.clnp_machine.specs.Nsap.declared.target.Target.TheVariants.{System}
 use Rattle.clnp_machine.specs.Nsap.Prefix.{digits_of}
 use Rattle.clnp_machine.specs.Nsap.Text.{octets_of}
@@ -54,6 +54,10 @@ becoming = codes "clnp-sim 1\nlimits 4 2 6\nsubnet lan 1500\nsystem a host hello
 abbrev leaving : List ℕ
 leaving = codes "clnp-sim 2\nlimits 256 60 320 0\nsubnet lan 1500\nsubnet far 1500\nsystem a host hello=0\nsystem b host hello=0\naddress a 47002702\naddress b 47002701\nport a 0 lan 01\nport b 0 lan 02\nevents\nsend a 47002702 47002701 hex:6869 life=10 whole\nport b 0 far 05\nmtu lan 512\nsettle 1\nend\n"
 
+-- a copy that comes twice, and is too old the second time by its maker's clock, which is ahead of the other one
+abbrev aging : List ℕ
+aging = codes "clnp-sim 2\nlimits 4 2 10 2\nsubnet lan 512\nsystem a host hello=0\nsystem b host hello=0\naddress a 47002702\naddress b 47002701\nport a 0 lan 01\nport b 0 lan 02\nevents\nsend a 47002702 47002701 hex:6869 life=10 whole\ntick a 2\ntick 2\ndeliver 1 b\ntick 1\ndeliver 1 b\ntick b 1\nend\n"
+
 abbrev written : Result Plan BadLine → List ℕ
 written (Ok plan) = journal plan
 written (Err bad) = codes "bad"
@@ -63,40 +67,45 @@ traced (Ok plan) = trace plan
 traced (Err bad) = codes "bad"
 
 journal-two_hosts : written (plan_of two_hosts) ≡ codes "0 a sent dt 1 - 47002702 47002701 2\n0 a tx 1 0 es 8113010a3c0015ce58044700270104470027026869\n0 b got 47002702 47002701 6869\nend 0 1\n"
-unfolding parameters_after encode_with decode_pairs sealed checksum_x checksum_y spelled octets_of digits plan_at events_from counted_event limits_line subnet_line room_word setting_word system_line address_line port_line declaration_line wish_word send_line deliver_line tick_line restart_line count_line event_line
+unfolding parameters_after encode_with decode_pairs sealed checksum_x checksum_y spelled octets_of digits plan_at events_from counted_event limits_line subnet_line room_word setting_word system_line address_line port_line declaration_line wish_word send_line deliver_line tick_line tick_system_line ticks_line restart_line count_line event_line
 journal-two_hosts = refl
 
 journal-two_hosts_unsealed : written (plan_of two_hosts_unsealed) ≡ codes "0 a sent dt 1 - 47002702 47002701 2\n0 a tx 1 0 es 8113010a3c00150000044700270104470027026869\n0 b got 47002702 47002701 6869\nend 0 1\n"
-unfolding parameters_after encode_with decode_pairs spelled octets_of digits plan_at events_from counted_event limits_line subnet_line room_word setting_word system_line address_line port_line declaration_line wish_word send_line deliver_line tick_line restart_line count_line event_line
+unfolding parameters_after encode_with decode_pairs spelled octets_of digits plan_at events_from counted_event limits_line subnet_line room_word setting_word system_line address_line port_line declaration_line wish_word send_line deliver_line tick_line tick_system_line ticks_line restart_line count_line event_line
 journal-two_hosts_unsealed = refl
 
 journal-two_deliveries : written (plan_of two_deliveries) ≡ codes "0 a sent dt 1 - 47002702 47002701 2\n0 a tx 1 0 es 8113010a3c0015ce58044700270104470027026869\n0 b got 47002702 47002701 6869\n0 b got 47002702 47002701 6869\n0 b void 2\nend 0 1\n"
-unfolding parameters_after encode_with decode_pairs sealed checksum_x checksum_y spelled octets_of digits plan_at events_from counted_event limits_line subnet_line room_word setting_word system_line address_line port_line declaration_line wish_word send_line deliver_line tick_line restart_line count_line event_line
+unfolding parameters_after encode_with decode_pairs sealed checksum_x checksum_y spelled octets_of digits plan_at events_from counted_event limits_line subnet_line room_word setting_word system_line address_line port_line declaration_line wish_word send_line deliver_line tick_line tick_system_line ticks_line restart_line count_line event_line
 journal-two_deliveries = refl
 
 journal-restart : written (plan_of restart) ≡ codes "0 a sent dt 1 0000 47002702 47002701 2\n0 a tx 1 0 es 81190140bc001b39100447002701044700270200000000001b6869\n1 a restart\n1 a refused quiet 7\n5 b late 1\nend 5 1\n"
-unfolding parameters_after encode_with decode_pairs sealed checksum_x checksum_y spelled octets_of digits plan_at events_from counted_event limits_line subnet_line room_word setting_word system_line address_line port_line declaration_line wish_word send_line deliver_line tick_line restart_line count_line event_line
+unfolding parameters_after encode_with decode_pairs sealed checksum_x checksum_y spelled octets_of digits plan_at events_from counted_event limits_line subnet_line room_word setting_word system_line address_line port_line declaration_line wish_word send_line deliver_line tick_line tick_system_line ticks_line restart_line count_line event_line
 journal-restart = refl
 
 -- an echo request is answered once, and a reply that comes again answers nothing
 journal-echo : written (plan_of echo) ≡ codes "0 a sent erq 1 - 47002702 47002701 2\n0 a tx 1 0 es 811301403e0015b737044700270104470027026869\n0 b sent erp 1 - 47002701 47002702 2\n0 b tx 2 0 es 811301401f00152fde044700270204470027016869\n0 a echoed 47002701 47002702 1\n0 a stray 47002701 47002702\nend 0 2\n"
-unfolding parameters_after encode_with decode_pairs sealed checksum_x checksum_y spelled octets_of digits plan_at events_from counted_event limits_line subnet_line room_word setting_word system_line address_line port_line declaration_line wish_word send_line deliver_line tick_line restart_line echo_line count_line event_line
+unfolding parameters_after encode_with decode_pairs sealed checksum_x checksum_y spelled octets_of digits plan_at events_from counted_event limits_line subnet_line room_word setting_word system_line address_line port_line declaration_line wish_word send_line deliver_line tick_line tick_system_line ticks_line restart_line echo_line count_line event_line
 journal-echo = refl
 
 -- a frame of no protocol
 journal-alien : written (plan_of alien) ≡ codes "0 - inject 1 lan 03 02\n0 b alien\nend 0 1\n"
-unfolding parameters_after encode_with decode_pairs octets_of digits plan_at events_from counted_event limits_line subnet_line room_word setting_word system_line address_line port_line declaration_line wish_word send_line deliver_line tick_line restart_line count_line inject_line event_line
+unfolding parameters_after encode_with decode_pairs octets_of digits plan_at events_from counted_event limits_line subnet_line room_word setting_word system_line address_line port_line declaration_line wish_word send_line deliver_line tick_line tick_system_line ticks_line restart_line count_line inject_line event_line
 journal-alien = refl
 
 -- what becomes of each copy is told where it happens
 trace-becoming : traced (plan_of becoming) ≡ codes "0 a sent dt 1 - 47002702 47002701 2\n0 a tx 1 0 es 8113010a3c0015ce58044700270104470027026869\n0 b rx 1 0\n0 b got 47002702 47002701 6869\n0 c rx 1 0\n0 c notmine 47002701\n0 - inject 2 lan 09 44\n0 - nobody 2\n0 - inject 3 lan 09 02\n0 - lost 3\n5 b late 1\nend 5 3\n"
-unfolding parameters_after encode_with decode_pairs sealed checksum_x checksum_y spelled octets_of digits plan_at events_from counted_event limits_line subnet_line room_word setting_word system_line address_line port_line declaration_line wish_word send_line deliver_line tick_line restart_line count_line inject_line event_line
+unfolding parameters_after encode_with decode_pairs sealed checksum_x checksum_y spelled octets_of digits plan_at events_from counted_event limits_line subnet_line room_word setting_word system_line address_line port_line declaration_line wish_word send_line deliver_line tick_line tick_system_line ticks_line restart_line count_line inject_line event_line
 trace-becoming = refl
 
 -- whom a copy is for is seen when it is settled
 trace-leaving : traced (plan_of leaving) ≡ codes "0 a sent dt 1 - 47002702 47002701 2\n0 a tx 1 0 es 8113010a3c0015ce58044700270104470027026869\n0 b port 0 far 05\n0 - mtu lan 512\n0 - nobody 1\nend 0 1\n"
-unfolding parameters_after encode_with decode_pairs sealed checksum_x checksum_y spelled octets_of digits plan_at events_from counted_event limits_line subnet_line room_word setting_word system_line address_line port_line declaration_line wish_word send_line deliver_line tick_line restart_line count_line inject_line change_line mtu_line moved_line event_line
+unfolding parameters_after encode_with decode_pairs sealed checksum_x checksum_y spelled octets_of digits plan_at events_from counted_event limits_line subnet_line room_word setting_word system_line address_line port_line declaration_line wish_word send_line deliver_line tick_line tick_system_line ticks_line restart_line count_line inject_line change_line mtu_line moved_line event_line
 trace-leaving = refl
+
+-- each line has the clock of the system that it names
+journal-aging : written (plan_of aging) ≡ codes "0 a sent dt 1 - 47002702 47002701 2\n0 a tx 1 0 es 8113010a3c0015ce58044700270104470027026869\n2 b got 47002702 47002701 6869\n3 b late 1\nend 5 1\n"
+unfolding parameters_after encode_with decode_pairs sealed checksum_x checksum_y spelled octets_of digits plan_at events_from counted_event limits_line subnet_line room_word setting_word system_line address_line port_line declaration_line wish_word send_line deliver_line tick_line tick_system_line ticks_line restart_line count_line event_line
+journal-aging = refl
 
 -- Two hosts and a router that say hello.
 

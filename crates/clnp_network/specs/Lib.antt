@@ -1,6 +1,7 @@
 pub use Rattle.scenario.specs as Scenario
 pub mod World
 pub mod Run
+pub mod Clocks
 pub mod Safe
 pub mod Migrated
 pub mod Changed

@@ -8,7 +8,7 @@ use Rattle.scenario.specs.Scenario.{Plan, octets_of}
 use Rattle.scenario.specs.declared.event.Event.{Event}
 use Rattle.scenario.specs.declared.event.Event.TheVariants.{Send}
 use Rattle.scenario.specs.declared.event.Move.{Move}
-use Rattle.scenario.specs.declared.event.Move.TheVariants.{One, SettleOne, LoseOne, TickOne}
+use Rattle.scenario.specs.declared.event.Move.TheVariants.{One, SettleOne, LoseOne, TickOne, TickSystem}
 use Rattle.clnp_machine.specs.PduHeader.declared.kind.Kind.TheVariants.{Er, Erq, Erp}
 use Rattle.clnp_machine.specs.PduHeader.Rules.{header_of}
 use Rattle.clnp_machine.specs.PduHeader.Spelling.{header_length}
@@ -52,6 +52,7 @@ IsSend plan (One place) from to octets = AsksFor (slice_get plan.events place) f
 IsSend plan SettleOne from to octets = ⊥
 IsSend plan LoseOne from to octets = ⊥
 IsSend plan TickOne from to octets = ⊥
+IsSend plan (TickSystem place) from to octets = ⊥
 
 -- one of the entries sent these octets from here to there, and wasn't refused
 abbrev pub WasSent : Plan → List Entry → List ℕ → List ℕ → List ℕ → Type 0

@@ -1,5 +1,5 @@
 -- The simulated network: its systems, the copies of frames that were ever put on a subnetwork, and its moves.
-use Rattle.std.specs.Prelude.{ℕ, ◌+◌, ◌-◌, ◌==◌, ◌&&◌, not, nat_le, nat_lt, Bool, true, false, if◌then◌else◌, List, [], ◌∷◌, ◌++◌, length, map, sum, slice_get, slice_set, Option, None, Some}
+use Rattle.std.specs.Prelude.{ℕ, ◌+◌, ◌-◌, ◌==◌, ◌&&◌, max, not, nat_le, nat_lt, Bool, true, false, if◌then◌else◌, List, [], ◌∷◌, ◌++◌, length, map, sum, slice_get, slice_set, Option, None, Some}
 use Rattle.std.specs.List.{list_any, range_with_len}
 use Rattle.std.specs.Str.{bytes_eq}
 use Rattle.clnp_machine.specs.Nsap.declared.target.Target.{Target}
@@ -19,7 +19,7 @@ use Rattle.scenario.specs.declared.event.Event.{Event}
 use Rattle.scenario.specs.declared.event.Event.TheVariants.{Send, Echo, Deliver, Settle, Lose, Tick, Restart, Congest, Inject}
 use Rattle.scenario.specs.declared.event.Event.TheVariants as event
 use Rattle.scenario.specs.declared.event.Move.{Move}
-use Rattle.scenario.specs.declared.event.Move.TheVariants.{One, SettleOne, LoseOne, TickOne}
+use Rattle.scenario.specs.declared.event.Move.TheVariants.{One, SettleOne, LoseOne, TickOne, TickSystem}
 use Rattle.clnp_machine.specs.Unit.{Maker, DeclaredAt, Outside, Unit}
 use Rattle.clnp_machine.specs.Change.{PortIsAt, PortTakes, RouteIsGone, RouteIsSet}
 use Rattle.clnp_machine.specs.Content.{Content, Labelled, Esis, content_of, frame_of}
@@ -39,6 +39,7 @@ pub record Copy : Type 0 where
 
 pub record World : Type 0 where
   pub clock : ℕ
+  -- each at its own moment, which is its clock
   pub systems : List SystemState
   -- the most octets that a frame may have on each subnetwork
   pub mtus : List ℕ
@@ -48,6 +49,16 @@ pub record World : Type 0 where
   pub copies : List Copy
   -- how many of the copies were settled or lost
   pub cursor : ℕ
+
+-- the clock of a system; the network's where there is none
+abbrev pub clock_at : ℕ → Option SystemState → ℕ
+clock_at clock None = clock
+clock_at clock (Some system) = system.moment
+
+-- the clock by which what somebody made grows old: its maker's, and the network's for what came from outside
+abbrev pub clock_of : World → Maker → ℕ
+clock_of w Outside = w.clock
+clock_of w (DeclaredAt place) = clock_at w.clock (slice_get w.systems place)
 
 -- the world after a part of a move, and the lines that it wrote
 pub record Step : Type 0 where
@@ -83,17 +94,17 @@ abbrev pub sends_frame : SystemState → World → (port : ℕ) → Target → M
 sends_frame system w port target maker birth content =
     record {
       world = record w { copies = w.copies ++ copy_from (slice_get system.attached.ports port) target maker birth content };
-      lines = Transmitted w.clock system.configuration.name (length w.copies + 1) port target (frame_of content) ∷ [];
+      lines = Transmitted system.moment system.configuration.name (length w.copies + 1) port target (frame_of content) ∷ [];
     }
 
 -- One output of a system: its note, or the copy that it puts on a port's subnetwork, which is as old as its unit, and as this
--- moment where it carries an ES-IS PDU.
+-- moment of the system where it carries an ES-IS PDU.
 abbrev pub put_out : SystemState → World → Output → Step
-put_out system w (Notes note) = writes w (Noted w.clock system.configuration.name note)
+put_out system w (Notes note) = writes w (Noted system.moment system.configuration.name note)
 put_out system w (Transmits port target packet) =
     sends_frame system w port target packet.unit.maker packet.unit.made (Labelled packet [])
 put_out system w (SendsEsis port target value) =
-    sends_frame system w port target (DeclaredAt system.place) w.clock (Esis value [])
+    sends_frame system w port target (DeclaredAt system.place) system.moment (Esis value [])
 
 abbrev pub put_all_out : SystemState → World → List Output → Step
 put_all_out system w [] = nothing w
@@ -158,22 +169,22 @@ pub record Numbered : Type 0 where
   pub number : ℕ
   pub copy : Copy
 
--- whether a copy is older than one may be that is given: links keep nothing so long
+-- whether a copy is older, by its maker's clock, than one may be that is given: links keep nothing so long
 abbrev pub is_late : Limits → World → Copy → Bool
-is_late limits w copy = nat_lt (copy.birth + limits.age) w.clock
+is_late limits w copy = nat_lt (copy.birth + limits.age) (clock_of w copy.maker)
 
 -- the copy comes to a system at its place: a line tells by which port, and what comes of it follows
 abbrev pub hand_to : Numbered → World → ℕ → SystemState → Step
 hand_to given w place system =
     followed_by
-    (writes w (Received w.clock system.configuration.name given.number (first_port given.copy system.configuration.role system.attached.ports)))
+    (writes w (Received system.moment system.configuration.name given.number (first_port given.copy system.configuration.role system.attached.ports)))
     (λ v. takes_effect v place (step system (frame_to system given.copy)))
 
 -- the copy is given to a system at its place, unless it is late
 abbrev pub give_to : Limits → Numbered → World → ℕ → Option SystemState → Step
 give_to limits given w place None = nothing w
 give_to limits given w place (Some system) =
-    if is_late limits w given.copy then writes w (Late w.clock system.configuration.name given.number)
+    if is_late limits w given.copy then writes w (Late system.moment system.configuration.name given.number)
     else hand_to given w place system
 
 abbrev pub give : Limits → Numbered → World → ℕ → Step
@@ -212,7 +223,7 @@ lose_one w = lose_copy w (slice_get w.copies w.cursor)
 
 -- the line of a copy that isn't there, or isn't for the system
 abbrev pub is_void : World → SystemState → ℕ → Step
-is_void w system number = writes w (Void w.clock system.configuration.name number)
+is_void w system number = writes w (Void system.moment system.configuration.name number)
 
 -- the copy with a number is given to the system at a place, where it is for it
 abbrev pub deliver_to : Limits → World → ℕ → ℕ → Option Copy → SystemState → Step
@@ -228,15 +239,27 @@ deliver_at limits w number place (Some system) = deliver_to limits w number plac
 abbrev pub deliver : Limits → World → ℕ → ℕ → Step
 deliver limits w number place = deliver_at limits w number place (slice_get w.systems place)
 
--- the clock's moment comes to each of some systems
+-- the clock of a system goes on, and its moment comes to it
+abbrev pub goes_on : World → ℕ → Option SystemState → Step
+goes_on w place None = nothing w
+goes_on w place (Some system) = comes w place (MomentComes (system.moment + 1))
+
 abbrev pub tick_each : World → List ℕ → Step
 tick_each w [] = nothing w
 tick_each w (place ∷ places) =
-    followed_by (comes w place (MomentComes w.clock)) (λ v. tick_each v places)
+    followed_by (goes_on w place (slice_get w.systems place)) (λ v. tick_each v places)
 
--- the clock goes on, and its moment comes to each system in the order of the declarations
+-- the network's clock goes on, and that of each system in the order of the declarations
 abbrev pub tick_one : World → Step
 tick_one w = tick_each (record w { clock = w.clock + 1 }) (range_with_len 0 (length w.systems))
+
+-- The clock of one system goes on, and the network's where it is passed.
+abbrev pub tick_alone : World → ℕ → Option SystemState → Step
+tick_alone w place None = nothing w
+tick_alone w place (Some system) = goes_on (record w { clock = max w.clock (system.moment + 1) }) place (Some system)
+
+abbrev pub tick_system : World → ℕ → Step
+tick_system w place = tick_alone w place (slice_get w.systems place)
 
 -- Octets are asked to be sent of a host; nobody asks a router.
 abbrev pub asks_role : Role → World → ℕ → Input → Step
@@ -278,7 +301,7 @@ injects subnets w subnet sender target octets = injects_on w subnet (slice_get s
 
 -- a system's line of what an event changed of it
 abbrev pub tells_of : SystemState → Note → World → Step
-tells_of system told w = writes w (Noted w.clock system.configuration.name told)
+tells_of system told w = writes w (Noted system.moment system.configuration.name told)
 
 -- the ports that a system has now
 abbrev pub ports_of : Option SystemState → List PortConfig
@@ -378,6 +401,7 @@ event_happens subnets limits w None = nothing w
 event_happens subnets limits w (Some (Settle count)) = nothing w
 event_happens subnets limits w (Some (Lose count)) = nothing w
 event_happens subnets limits w (Some (Tick count)) = nothing w
+event_happens subnets limits w (Some (event.TickSystem system count)) = nothing w
 event_happens subnets limits w (Some (Deliver copy system)) = deliver limits w copy system
 event_happens subnets limits w (Some (Restart system)) = comes w system IsRestarted
 event_happens subnets limits w (Some (Congest system on)) = comes w system (IsCongested on)
@@ -395,6 +419,7 @@ after plan w (One place) = event_happens plan.subnets plan.limits w (slice_get p
 after plan w SettleOne = settle_one plan.limits w
 after plan w LoseOne = lose_one w
 after plan w TickOne = tick_one w
+after plan w (TickSystem place) = tick_system w place
 
 -- the systems as they are declared, from a place on
 abbrev pub states_from : Limits → ℕ → List SystemConfiguration → List SystemState

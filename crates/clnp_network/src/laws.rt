@@ -77,7 +77,7 @@ pub fn a_port_comes_to_its_subnetwork()
         → slice_get w.systems place ≡ Some s → slice_get s.attached.ports number ≡ Some port
         → event_happens subnets limits w (Some (event.Port place number subnet snpa))
         ≡ writes (with_system place (with_moved number subnet mtu snpa port s) w)
-        (Noted w.clock s.configuration.name (note.Port number declared.name snpa)) }
+        (Noted s.moment s.configuration.name (note.Port number declared.name snpa)) }
     ensures no_subnetwork { (subnets : List Subnetwork) (limits : Limits) (w : World) (place number subnet : ℕ) (snpa : List ℕ)
         → slice_get subnets subnet ≡ None → event_happens subnets limits w (Some (event.Port place number subnet snpa)) ≡ nothing w }
     ensures no_system { (subnets : List Subnetwork) (limits : Limits) (w : World) (place number subnet : ℕ) (snpa : List ℕ)
@@ -93,7 +93,7 @@ pub fn a_route_comes_to_its_router()
     ensures there { (subnets : List Subnetwork) (limits : Limits) (w : World) (place : ℕ) (route : Route) (s : SystemState)
         → slice_get w.systems place ≡ Some s → s.configuration.role ≡ Router → route.port < length s.attached.ports
         → event_happens subnets limits w (Some (event.Route place route))
-        ≡ writes (with_system place (with_routes (set_in route s.attached.routes) s) w) (Noted w.clock s.configuration.name (note.Route route.prefix)) }
+        ≡ writes (with_system place (with_routes (set_in route s.attached.routes) s) w) (Noted s.moment s.configuration.name (note.Route route.prefix)) }
     ensures no_system { (subnets : List Subnetwork) (limits : Limits) (w : World) (place : ℕ) (route : Route) → slice_get w.systems place ≡ None
         → event_happens subnets limits w (Some (event.Route place route)) ≡ nothing w }
     ensures host { (subnets : List Subnetwork) (limits : Limits) (w : World) (place : ℕ) (route : Route) (s : SystemState)
@@ -110,7 +110,7 @@ pub fn a_route_leaves_its_router()
         → slice_get w.systems place ≡ Some s → s.configuration.role ≡ Router
         → event_happens subnets limits w (Some (event.Unroute place prefix))
         ≡ writes (with_system place (with_routes (without prefix s.attached.routes) s) w)
-        (Noted w.clock s.configuration.name (note.Unroute prefix (list_any (has_prefix prefix) s.attached.routes))) }
+        (Noted s.moment s.configuration.name (note.Unroute prefix (list_any (has_prefix prefix) s.attached.routes))) }
     ensures no_system { (subnets : List Subnetwork) (limits : Limits) (w : World) (place : ℕ) (prefix : List ℕ) → slice_get w.systems place ≡ None
         → event_happens subnets limits w (Some (event.Unroute place prefix)) ≡ nothing w }
     ensures host { (subnets : List Subnetwork) (limits : Limits) (w : World) (place : ℕ) (prefix : List ℕ) (s : SystemState)

@@ -1,9 +1,9 @@
 -- What comes of a frame that carries a sound packet.
 use Rattle.clnp_machine.proofs.ClnpBase.Lists.{AllByRecursion-append, AllByRecursion-both, AllByRecursion-find, AllByRecursion-implies, AllByRecursion-map_any}
 use Rattle.clnp_machine.proofs.ClnpBase.Sums.{sum_filter}
-use Rattle.std.proofs.Common.{◌≡◌, ◌∙◌, sym, ap, subst, refl, ℕ, ◌+◌, ◌<◌, ◌≤◌, inl, inr, Bool, true, false, not, List, [], length, map, slice_get, Option, None, Some, arith}
+use Rattle.std.proofs.Common.{◌≡◌, ◌∙◌, sym, ap, subst, refl, ℕ, ◌<◌, ◌≤◌, inl, inr, Bool, true, false, not, List, [], length, map, slice_get, Option, None, Some, arith}
 use Rattle.std.specs.Prelude.{◌==◌, ◌&&◌, ◌||◌, is_none, nat_le}
-use Rattle.std.specs.List.{AllByRecursion, Contains, find}
+use Rattle.std.specs.List.{AllByRecursion, find}
 use Rattle.std.proofs.lemmas.Bool.{cases_Bool, eqb-false, true≢false}
 use Rattle.std.proofs.lemmas.List.{append-nil}
 use Rattle.clnp_machine.specs.Nsap.Address.{IsAddress}
@@ -36,9 +36,9 @@ use Rattle.clnp_network.specs.World.{World}
 use Rattle.clnp_network.specs.Run.{Entry}
 use Rattle.clnp_network.specs.Safe.{ReportsStand}
 use Rattle.clnp_safety.specs.Growth.{IsFront}
-use Rattle.clnp_safety.specs.Invariant.{BufferIsSound, Carries, IsBornWithUnit, IsMadeOn, IsPending, SystemIsSound, UnitsAreSound, WorldIsSound}
+use Rattle.clnp_safety.specs.Invariant.{BufferIsSound, Carries, IsMadeOn, IsPending, SystemIsSound, UnitsAreSound, WorldIsSound}
 use Rattle.clnp_safety.specs.StepLaws.{StepLaws}
-use Rattle.clnp_safety.proofs.BufferOffers.{IsLive, clashes_with_none, stay_live, unit_in, unit_sound}
+use Rattle.clnp_safety.proofs.BufferOffers.{ComesInTime, IsLive, clashes_with_none, stay_live, unit_in, unit_sound}
 use Rattle.clnp_safety.proofs.Deeds.{DeedIsSound, IsHonest, MayDo, discards_soundly, like_is_sound, make_soundly, tells_soundly, told_and_done, with_buffers}
 use Rattle.clnp_safety.proofs.Founded.{reply_is_founded, report_is_founded}
 use Rattle.clnp_safety.proofs.Hellos.{EffectIsSound, deed_is_sound, hellos_are_sound, then_hellos}
@@ -46,17 +46,11 @@ use Rattle.clnp_safety.proofs.Kept.{all_after, all_without, find_passes, others_
 use Rattle.clnp_safety.proofs.Joining.{joined_is_unit, whole_is_unit}
 use Rattle.clnp_safety.proofs.Units.{range_sooner}
 
--- a packet that comes at a moment is of a unit that isn't older
-abbrev pub ComesYoung : (age now : ℕ) → Content → Type 0
-ComesYoung age now (Labelled packet following) = now ≤ packet.unit.made + age
-ComesYoung age now (Esis value following) = Unit {0}
-ComesYoung age now (Unlabelled octets) = Unit {0}
-
--- a frame that isn't older than that since its unit was made
-pub comes_young : (age now birth : ℕ) (content : Content) → IsBornWithUnit birth content → now ≤ birth + age → ComesYoung age now content
-comes_young age now birth (Labelled packet following) born young = subst (λ moment. now ≤ moment + age) born young
-comes_young age now birth (Esis value following) born young = tt
-comes_young age now birth (Unlabelled octets) born young = tt
+-- a packet in a frame comes in time to a system at a moment
+abbrev pub ContentInTime : (plan : Plan) (units : List unit.Unit) (here : ℕ) → Content → Type 0
+ContentInTime plan units here (Labelled packet following) = ComesInTime plan units here packet
+ContentInTime plan units here (Esis value following) = Unit {0}
+ContentInTime plan units here (Unlabelled octets) = Unit {0}
 
 pub later_range : (before units : List unit.Unit) (p : Packet) → IsFront before units → IsRangeOf before p → IsRangeOf units p
 later_range before units p front h = subst (λ us. IsRangeOf us p) (sym front.1) (range_sooner before front.0 p h)
@@ -64,8 +58,7 @@ later_range before units p front h = subst (λ us. IsRangeOf us p) (sym front.1)
 -- a network that is sound before a move, and the units so far
 module _ (laws : StepLaws) (plan : Plan) (fit : IsFit plan) (past : List Entry) (w : World) (h : WorldIsSound plan past w) (stood : ReportsStand w) (units : List unit.Unit)
     (front : IsFront w.units units) (made : UnitsAreSound plan past units) (place : ℕ) (s : SystemState)
-    (sound : SystemIsSound plan units place s) (pending : AllByRecursion (IsPending past w.units place s.configuration.name) s.pending) (clock : ℕ)
-    (current : s.moment ≡ clock) (until : (u : unit.Unit) → Contains units u → u.made ≤ clock) where
+    (sound : SystemIsSound plan units place s) (pending : AllByRecursion (IsPending past w.units place s.configuration.name) s.pending) where
   -- what a deed leaves is sound, and what it tells is honest
   abbrev Does : Deed → Type 0
   Does = DeedIsSound plan past w s.configuration.name units place
@@ -148,7 +141,7 @@ module _ (laws : StepLaws) (plan : Plan) (fit : IsFit plan) (past : List Entry) 
       hands_up_octets octets same =
           subst (λ whole. Does (hand_up then p.unit.kind p.unit.source p.unit.destination whole options)) (sym same) (hands_up p.unit.kind refl)
 
-    module _ (young : clock ≤ p.unit.made + plan.limits.age) (alive : 1 ≤ p.lifetime) (own : is_own s p.unit.destination ≡ true) where
+    module _ (time : ComesInTime plan units s.moment p) (alive : 1 ≤ p.lifetime) (own : is_own s p.unit.destination ≡ true) where
       module _ (identifier : ℕ) (identified : p.unit.identifier ≡ Some identifier) where
         abbrev kept : List (Buffer Packet)
         kept = buffer.after (table_limits s) s.moment (offered p []) s.buffers
@@ -156,7 +149,7 @@ module _ (laws : StepLaws) (plan : Plan) (fit : IsFit plan) (past : List Entry) 
         kept_live : AllByRecursion (IsLive plan units s.moment) kept
         kept_live =
             all_after laws (table_limits s) s.moment (offered p []) (IsLive plan units s.moment)
-            (stay_live laws plan fit past units made p packet carriable s.moment clock current (λ v has maker. until v has) young identifier identified
+            (stay_live laws plan fit past units made p packet carriable s.moment time identifier identified
             (table_limits s) sound.hold alive)
             s.buffers live_buffers
 
@@ -182,7 +175,7 @@ module _ (laws : StepLaws) (plan : Plan) (fit : IsFit plan) (past : List Entry) 
             let it = unit_sound plan past units u made live.sound.made in
             let len : data_len joined.shape ≡ length u.octets = ap data_len live.sound.shape ∙ (let total = it.total in omega arith) in
             joined_is_unit units u it.first_position joined live.sound.kept len whole
-            ∙ ap (λ (v : unit.Unit). v.octets) (unit_in laws plan fit past units made p packet carriable s.moment clock current (λ v has maker. until v has) young identifier identified joined live same)
+            ∙ ap (λ (v : unit.Unit). v.octets) (unit_in laws plan fit past units made p packet carriable s.moment time identifier identified joined live same)
 
         is_joined : buffer.answer (table_limits s) s.moment (offered p []) s.buffers ≡ buffer.Whole
             → Does (takes_in s (Labelled p []) (offered p []) kept buffer.Whole)
@@ -211,7 +204,7 @@ module _ (laws : StepLaws) (plan : Plan) (fit : IsFit plan) (past : List Entry) 
         taken buffer.Whole told = is_joined told
         taken (buffer.Interference there other) told =
             absurd (subst TellsNoInterference told (laws.segments.apart (table_limits s) s.moment (offered p []) s.buffers
-            (clashes_with_none laws plan fit past units made p packet carriable s.moment clock current (λ v has maker. until v has) young identifier identified
+            (clashes_with_none laws plan fit past units made p packet carriable s.moment time identifier identified
             s.buffers live_buffers)))
         taken buffer.Repeat told = tells_soundly plan past w s.configuration.name units place s _ may tt
         taken (buffer.NoSlot live) told = tells_and_discards (note.NoSlot live) (reason_code Congestion) tt
@@ -287,8 +280,8 @@ module _ (laws : StepLaws) (plan : Plan) (fit : IsFit plan) (past : List Entry) 
         deed_is_sound plan past w s.configuration.name units place laws _ (tells_soundly plan past w s.configuration.name units place s (note.NotMine p.unit.destination) may tt)
     passes_soundly Router came = goes_on_soundly came
 
-    packet_is_sound : (came : Place) → clock ≤ p.unit.made + plan.limits.age → Gives (packet_comes s came p [])
-    packet_is_sound came young =
+    packet_is_sound : (came : Place) → ComesInTime plan units s.moment p → Gives (packet_comes s came p [])
+    packet_is_sound came time =
         elim (cases_Bool (p.lifetime == 0)) [
           | inl over ↦ rw over (is_discarded _)
           | inr lives ↦
@@ -297,7 +290,7 @@ module _ (laws : StepLaws) (plan : Plan) (fit : IsFit plan) (past : List Entry) 
                 | inl own ↦
                     rw own
                     (deed_is_sound plan past w s.configuration.name units place laws (receive s p [])
-                    (receive_is_sound young (let some = eqb-false p.lifetime 0 lives in omega arith) own))
+                    (receive_is_sound time (let some = eqb-false p.lifetime 0 lives in omega arith) own))
                 | inr other ↦ rw other (passes_soundly s.configuration.role came)
               ])
         ]
@@ -314,13 +307,13 @@ module _ (laws : StepLaws) (plan : Plan) (fit : IsFit plan) (past : List Entry) 
       ]
 
   pub arrival_is_sound : (from : Place) (to_group : Bool) (content : Content) → IsAddress from.snpa → Carries (IsRangeOf w.units) content
-      → IsCarried content → ComesYoung plan.limits.age clock content → Gives (content_comes s from to_group content)
-  arrival_is_sound from to_group (Labelled p following) sender carries carried young =
+      → IsCarried content → ContentInTime plan units s.moment content → Gives (content_comes s from to_group content)
+  arrival_is_sound from to_group (Labelled p following) sender carries carried time =
       let comes = packet_comes s from p following in
       then_hellos plan past w s.configuration.name units place comes (λ t. responds t from to_group p)
-      (subst (λ rest. Gives (packet_comes s from p rest)) (sym carries.1) (packet_is_sound p carries.0 carried from young))
+      (subst (λ rest. Gives (packet_comes s from p rest)) (sym carries.1) (packet_is_sound p carries.0 carried from time))
       (laws.hellos.answers comes.after from to_group p) (response_knows comes.after from to_group p)
-  arrival_is_sound from to_group (Esis value following) sender carries carried young =
+  arrival_is_sound from to_group (Esis value following) sender carries carried time =
       hellos_are_sound plan past w s.configuration.name units place s (esis_comes s from value) (laws.hellos.comes s from value)
       (laws.steps.known s (FrameComes from.port from.snpa to_group (Esis value following)) (sender, carried)) may
-  arrival_is_sound from to_group (Unlabelled octets) sender carries carried young = absurd carries
+  arrival_is_sound from to_group (Unlabelled octets) sender carries carried time = absurd carries

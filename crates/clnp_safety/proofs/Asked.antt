@@ -35,9 +35,9 @@ use Rattle.clnp_safety.proofs.Lines.{LineIs, lines_are, lines_say_no_restart, qu
 use Rattle.clnp_safety.proofs.Outputs.{takes_effect_notes, takes_effect_stands}
 use Rattle.clnp_safety.proofs.Told.{outputs_note}
 use Rattle.clnp_safety.proofs.Units.{units_with}
-use Rattle.clnp_safety.proofs.Effects.{IsCurrent, StandsWith, fresh_is_sound, notes_are_steady, others_stand, step_gives_soundly}
+use Rattle.clnp_safety.proofs.Effects.{AnySystem, StandsWith, fresh_is_sound, notes_are_steady, others_stand, step_gives_soundly}
 use Rattle.clnp_safety.proofs.Moves.{MoveIsSound, nothing_is_sound, sound_since_itself, stands_soundly, stay_pending}
-use Rattle.clnp_safety.proofs.Honest.{ComesSoundly, NoteIsSound, NoteIsSteady}
+use Rattle.clnp_safety.proofs.Honest.{ComesSoundly, NoteIsHonest, NoteIsSteady}
 
 -- the step by which a unit is sent
 abbrev pub sending : World → ℕ → SystemState → unit.Unit → Step
@@ -54,7 +54,7 @@ record IsAskedIn (now : ℕ) (name : List ℕ) (lines : List Line) (u : unit.Uni
   said : Contains lines (Noted now name (sent_note u))
 
 asked_in : StepLaws → (w : World) (place : ℕ) (s : SystemState) (u : unit.Unit) (refused : Option Note)
-    → AllByRecursion (IsAskedIn w.clock s.configuration.name (takes_effect w place (effect_of (unless_refused refused s u))).lines)
+    → AllByRecursion (IsAskedIn s.moment s.configuration.name (takes_effect w place (effect_of (unless_refused refused s u))).lines)
     (effect_of (unless_refused refused s u)).units
 asked_in laws w place s u None = (
   record { unrefused = quiet_lines_refuse_nothing (sending w place s u).lines (lines_are_quiet laws w place s u); said = (0, omega arith, refl) },
@@ -70,7 +70,7 @@ says_requested now name u erq =
 
 module _ (laws : StepLaws) (plan : Plan) (fit : IsFit plan) (past : List Entry) (move : Move) (w : World) (h : WorldIsSound plan past w) where
   module _ (place : ℕ) (s : SystemState) (there : slice_get w.systems place ≡ Some s) (kind : Kind) (from to octets : List ℕ) (ask : Ask) (input : Input)
-      (is : effect_of (make s kind from to octets ask) ≡ step s input) (at : moment_after s input ≡ s.moment) (fair : IsFair input)
+      (is : effect_of (make s kind from to octets ask) ≡ step s input) (fair : IsFair input)
       (comes : ComesSoundly w.units input) (steady : RestartsNothing input)
       (no_reply : kind ≡ Erp → ⊥) where
     abbrev effect : Effect
@@ -99,9 +99,9 @@ module _ (laws : StepLaws) (plan : Plan) (fit : IsFit plan) (past : List Entry) 
         (make_soundly plan past w s.configuration.name w.units place laws s kind from to octets ask (record { sound = it.sound; rest = h.made.rest })
         (λ erp. absurd (no_reply erp))))
 
-    asked : AllByRecursion (IsAskedIn w.clock s.configuration.name taken.lines) effect.units
+    asked : AllByRecursion (IsAskedIn s.moment s.configuration.name taken.lines) effect.units
     asked =
-        subst (λ (e : Effect). AllByRecursion (IsAskedIn w.clock s.configuration.name (takes_effect w place e).lines) e.units) is
+        subst (λ (e : Effect). AllByRecursion (IsAskedIn s.moment s.configuration.name (takes_effect w place e).lines) e.units) is
         (asked_in laws w place s (unit_of s kind from to octets ask) (refusal s (unit_of s kind from to octets ask)))
 
     -- no line says that a system was restarted
@@ -113,14 +113,14 @@ module _ (laws : StepLaws) (plan : Plan) (fit : IsFit plan) (past : List Entry) 
       new_units =
           AllByRecursion-both (IsFresh s (moment_after s input)) (λ u. IsMadeOn plan then w.units u.kind u) (UnitIsSound plan then w.units)
           (fresh_is_sound plan then w.units place s it.sound (moment_after s input)) effect.units (laws.steps.fresh s input)
-          (AllByRecursion-both (IsMadeFor input) (IsAskedIn w.clock s.configuration.name taken.lines) (λ u. IsMadeOn plan then w.units u.kind u)
+          (AllByRecursion-both (IsMadeFor input) (IsAskedIn s.moment s.configuration.name taken.lines) (λ u. IsMadeOn plan then w.units u.kind u)
           (λ u for was. founded u for was.unrefused) effect.units (laws.steps.made_for s input) asked)
 
       units_are_sound : UnitsAreSound plan then later
       units_are_sound = units_with plan then w.units effect.units (units_later plan past (entry ∷ []) w.units h.made) done.rest new_units
 
-      others : (other : ℕ) (t : SystemState) → other ≢ place → StandsWith plan past w.units IsCurrent w.units w.clock other t
-          → StandsWith plan then later IsCurrent later w.clock other t
+      others : (other : ℕ) (t : SystemState) → other ≢ place → StandsWith plan past w.units AnySystem w.units other t
+          → StandsWith plan then later AnySystem later other t
       others other t apart was = record {
         stands = record {
           sound = (others_stand laws plan fit past w.units place s it.sound input comes w.units other t apart was.stands).sound;
@@ -132,14 +132,14 @@ module _ (laws : StepLaws) (plan : Plan) (fit : IsFit plan) (past : List Entry) 
       -- a request that is made now
       requested : (request : unit.Unit) → Contains effect.units request → request.kind ≡ Erq → IsPending then later place s.configuration.name request
       requested request made erq =
-          let was = AllByRecursion-contains (IsAskedIn w.clock s.configuration.name taken.lines) effect.units request made asked in
+          let was = AllByRecursion-contains (IsAskedIn s.moment s.configuration.name taken.lines) effect.units request made asked in
           let fresh = AllByRecursion-contains (IsFresh s (moment_after s input)) effect.units request made (laws.steps.fresh s input) in
           record {
             made = Contains-append_right w.units effect.units request made;
             maker = fresh.maker ∙ ap DeclaredAt it.sound.stands_at;
             kind = erq;
             since = requested_last s.configuration.name request.number request.source request.destination past entry
-                (Noted w.clock s.configuration.name (sent_note request)) was.said (says_requested w.clock s.configuration.name request erq);
+                (Noted s.moment s.configuration.name (sent_note request)) was.said (says_requested s.moment s.configuration.name request erq);
           }
 
       pending : AllByRecursion (IsPending then later place effect.after.configuration.name) effect.after.pending
@@ -159,16 +159,16 @@ module _ (laws : StepLaws) (plan : Plan) (fit : IsFit plan) (past : List Entry) 
       soundly =
           let notes = subst (λ (c : SystemConfiguration). AllByRecursion (NotesOnly (NoteIsSteady plan past w c.name)) effect.outputs)
           (sym (laws.steps.itself s input).configuration)
-          (notes_are_steady laws plan fit past w s.configuration.name s input w.units comes done.notes steady) in
-          let kept = takes_effect_stands (length plan.systems) (NoteIsSteady plan past w) w.units (StandsWith plan past w.units IsCurrent w.units)
-          (StandsWith plan then later IsCurrent later) w place effect others
-          (record { stands = record { sound = done.after; pending = pending }; also = laws.steps.moment s input ∙ at ∙ h.current place s there })
+          (notes_are_steady laws plan fit past w s.configuration.name s input done.notes steady) in
+          let kept = takes_effect_stands (length plan.systems) (NoteIsSteady plan past w) w.units (StandsWith plan past w.units AnySystem w.units)
+          (StandsWith plan then later AnySystem later) w place effect others
+          (record { stands = record { sound = done.after; pending = pending }; also = tt })
           done.after.attached.addressed
           (step_gives_soundly laws plan fit past w.units place s it.sound input comes (NoteIsSteady plan past w effect.after.configuration.name) fair notes)
           (sound_since_itself plan past w h).stands in
           record {
             world = stands_soundly plan then later taken.world units_are_sound kept.world;
-            lines = lines_are (NoteIsSteady plan past w) (NoteIsSound plan past w) (λ name note is. is.sound) taken.lines kept.lines;
+            lines = lines_are (NoteIsSteady plan past w) (NoteIsHonest plan past w) (λ name note is. is.honest) taken.lines kept.lines;
           }
 
   sent_soundly : (place : ℕ) (from to octets : List ℕ) (ask : Ask) → IsFair (AsksToSend from to octets ask) → IsSend plan move from to octets
@@ -176,7 +176,7 @@ module _ (laws : StepLaws) (plan : Plan) (fit : IsFit plan) (past : List Entry) 
   sent_soundly place from to octets ask fair sends None e = nothing_is_sound plan past move w h
   sent_soundly place from to octets ask fair sends (Some s) e =
       let taken = takes_effect w place (step s (AsksToSend from to octets ask)) in
-      soundly place s e Dt from to octets ask (AsksToSend from to octets ask) refl refl fair tt tt
+      soundly place s e Dt from to octets ask (AsksToSend from to octets ask) refl fair tt tt
       (λ reply. cc)
       (λ u for unrefused.
       let entry : Entry = record { move = move; lines = taken.lines } in
@@ -205,7 +205,7 @@ module _ (laws : StepLaws) (plan : Plan) (fit : IsFit plan) (past : List Entry) 
   echo_soundly place from to octets fair bytes None e = nothing_is_sound plan past move w h
   echo_soundly place from to octets fair bytes (Some s) e =
       let taken = takes_effect w place (step s (AsksForEcho from to octets)) in
-      soundly place s e Erq from to octets (echo_ask s from to (length octets) true) (AsksForEcho from to octets) refl refl fair tt tt
+      soundly place s e Erq from to octets (echo_ask s from to (length octets) true) (AsksForEcho from to octets) refl fair tt tt
       (λ reply. cc)
       (λ u for unrefused. subst (λ kind. IsMadeOn plan (past ++ record { move = move; lines = taken.lines } ∷ []) w.units kind u) (sym for.0)
       (subst IsBytes (sym for.3) bytes))

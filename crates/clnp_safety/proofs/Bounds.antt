@@ -71,7 +71,7 @@ module _ (s : SystemState) (input : Input) (comes : ComesWithin input) (units : 
   put_out_meets system (Transmits port target packet) sends v k =
       frame_meets system v port target packet.unit.maker packet.unit.made (Labelled packet []) (sent_within port target packet sends) k
   put_out_meets system (SendsEsis port target value) sends v k =
-      frame_meets system v port target (DeclaredAt system.place) v.clock (Esis value []) tt k
+      frame_meets system v port target (DeclaredAt system.place) system.moment (Esis value []) tt k
 
 step_meets : StepLaws → (w : World) (place : ℕ) (s : SystemState) (input : Input) → slice_get w.systems place ≡ Some s → ComesWithin input
     → IsOfNow w s input → IsWithinLifetimes w → Keeps IsWithinLifetimes AnyLine (takes_effect w place (step s input))
@@ -107,7 +107,7 @@ lifetimes_hold laws plan moves =
       restarts = λ w. tt;
       congestion = λ w on. tt;
       cursor = λ w next k. k;
-      clock = λ w k. k;
+      clock = λ w clock k. k;
       outside = outside_meets;
       sizes = λ w subnet mtu takes k. k;
       injected = λ now copy subnet sender target. tt;
@@ -147,7 +147,7 @@ budgets_hold laws plan moves =
       restarts = λ w. tt;
       congestion = λ w on. tt;
       cursor = λ w next k. k;
-      clock = λ w k. k;
+      clock = λ w clock k. k;
       outside = λ w subnet sender target octets any k. k;
       sizes = λ w subnet mtu takes k. k;
       injected = λ now copy subnet sender target. tt;

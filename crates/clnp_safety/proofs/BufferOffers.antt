@@ -44,20 +44,29 @@ pub record IsLive (plan : Plan) (units : List unit.Unit) (here : ℕ) (buffer : 
   pub sound : BufferIsSound plan units buffer
   pub lasts : here < buffer.deadline
 
--- A packet comes to a system at its moment, here, which is that of its maker, there: all units of that maker were made until then.
+-- A packet comes to a system at its moment, here, while the clock of its unit's maker is there, and the two don't stand too far apart;
+-- all units of that maker were made until then, and this one not too long before.
+pub record ComesInTime (plan : Plan) (units : List unit.Unit) (here : ℕ) (p : Packet) : Type 0 where
+  pub there : ℕ
+  pub near : here ≤ there + plan.limits.skew
+  pub far : there ≤ here + plan.limits.skew
+  pub until : (v : unit.Unit) → Contains units v → v.maker ≡ p.unit.maker → v.made ≤ there
+  pub young : there ≤ p.unit.made + plan.limits.age
+
 module _ (laws : StepLaws) (plan : Plan) (fit : IsFit plan) (past : List Entry) (units : List unit.Unit) (made : UnitsAreSound plan past units)
-    (p : Packet) (packet : IsRangeOf units p) (carriable : IsCarriable p) (here there : ℕ) (together : here ≡ there)
-    (until : (v : unit.Unit) → Contains units v → v.maker ≡ p.unit.maker → v.made ≤ there) (young : there ≤ p.unit.made + plan.limits.age)
+    (p : Packet) (packet : IsRangeOf units p) (carriable : IsCarriable p) (here : ℕ) (time : ComesInTime plan units here p)
     (identifier : ℕ) (identified : p.unit.identifier ≡ Some identifier) where
   -- a unit of that maker that was made so long before or after it isn't that of a buffer that lasts
   not_another : (buffer : Buffer Packet) (v : unit.Unit) → Contains units v → v.maker ≡ p.unit.maker → here < buffer.deadline
-      → buffer.opened ≤ v.made + plan.limits.age → buffer.deadline ≤ buffer.opened + plan.limits.hold
+      → buffer.opened ≤ v.made + plan.limits.age + plan.limits.skew → buffer.deadline ≤ buffer.opened + plan.limits.hold
       → (p.unit.made + plan.limits.reuse ≤ v.made → ⊥) × (v.made + plan.limits.reuse ≤ p.unit.made → ⊥)
   not_another buffer v within maker lasts opened deadline =
       let rests = fit.limits.rests in
       let hold = fit.limits.hold.least in
-      let before = until p.unit packet.unit refl in
-      let other = until v within maker in
+      let before = time.until p.unit packet.unit refl in
+      let other = time.until v within maker in
+      let young = time.young in
+      let far = time.far in
       ((λ e. omega arith), (λ e. omega arith))
 
   pub unit_in : (buffer : Buffer Packet) (live : IsLive plan units here buffer) → same_key buffer.key (offered p []).key ≡ true
@@ -111,7 +120,7 @@ module _ (laws : StepLaws) (plan : Plan) (fit : IsFit plan) (past : List Entry) 
         identified = identified;
         key = ap (λ n. record { from = p.unit.source; to = p.unit.destination; id = n }) (ap identifier_in identified);
         shape = shape_offered laws units p packet;
-        opened = omega arith;
+        opened = let near = time.near in let young = time.young in omega arith;
         deadline = omega arith;
         kept = (of_unit p.unit refl, tt);
       };

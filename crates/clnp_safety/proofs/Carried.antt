@@ -189,7 +189,7 @@ module _ (plan : Plan) (units : List unit.Unit) where
       frame_is_carried system addressed v port target packet.unit.maker packet.unit.made (Labelled packet [])
       (record { carried = sends.0; form = sends.1; made_by = refl; origin = packet_is_sent packet sends.2 }) k
   output_is_carried system addressed (SendsEsis port target value) sends v k =
-      frame_is_carried system addressed v port target (DeclaredAt system.place) v.clock (Esis value [])
+      frame_is_carried system addressed v port target (DeclaredAt system.place) system.moment (Esis value [])
       (record { carried = sends; form = tt; made_by = tt; origin = inr (sends, refl) }) k
 
 module _ (laws : StepLaws) (s : SystemState) (units : List unit.Unit) where
@@ -334,7 +334,7 @@ module _ (laws : StepLaws) (plan : Plan) (fit : IsFit plan) where
         restarts = λ v. (tt, tt, tt);
         congestion = λ v on. (tt, tt, tt);
         cursor = λ w next k. record { made = refl; copies = k.copies; each = k.each; mtus = k.mtus };
-        clock = λ w k. record { made = refl; copies = k.copies; each = k.each; mtus = k.mtus };
+        clock = λ w clock k. record { made = refl; copies = k.copies; each = k.each; mtus = k.mtus };
         outside = outside_is_carried;
         sizes = sizes_are_carried;
         injected = λ now copy subnet sender target. tt;

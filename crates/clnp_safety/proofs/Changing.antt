@@ -20,7 +20,7 @@ use Rattle.clnp_network.specs.Run.{Entry}
 use Rattle.clnp_safety.specs.Invariant.{EachRests, SystemIsSound, WorldIsSound}
 use Rattle.clnp_safety.specs.StepLaws.{StepLaws}
 use Rattle.clnp_safety.proofs.Attaching.{is_fair_change}
-use Rattle.clnp_safety.proofs.Effects.{IsCurrent, step_keeps}
+use Rattle.clnp_safety.proofs.Effects.{AnySystem, step_keeps}
 use Rattle.clnp_safety.proofs.EveryMove.{IsOfNow}
 use Rattle.clnp_safety.proofs.Events.{ChangesFormed}
 use Rattle.clnp_safety.proofs.Hellos.{EffectIsSound}
@@ -58,9 +58,9 @@ module _ (laws : StepLaws) (plan : Plan) (fit : IsFit plan) (past : List Entry) 
 
   fine : ChangingIsFine Told
   fine = record {
-    port = λ now name number subnet snpa. record { sound = record { honest = tt; no_rule = tt }; no_restart = tt };
-    route = λ now name prefix. record { sound = record { honest = tt; no_rule = tt }; no_restart = tt };
-    unroute = λ now name prefix there. record { sound = record { honest = tt; no_rule = tt }; no_restart = tt };
+    port = λ now name number subnet snpa. record { honest = tt; no_restart = tt };
+    route = λ now name prefix. record { honest = tt; no_restart = tt };
+    unroute = λ now name prefix there. record { honest = tt; no_restart = tt };
     resized = λ now subnet mtu. tt;
   }
 
@@ -87,8 +87,8 @@ module _ (laws : StepLaws) (plan : Plan) (fit : IsFit plan) (past : List Entry) 
         keeps-comes_to Sound Told v place (IsChanged change) (slice_get v.systems place) (λ none. k)
         (λ s there.
         let it = k.stands.each place s there in
-        step_keeps laws plan fit past w (NoteIsSteady plan past w) IsCurrent IsCurrent v place s (IsChanged change) it.stands tt tt (done s there (now s there))
-        (λ other t apart current. current) (laws.steps.moment s (IsChanged change) ∙ it.also) tt k)
+        step_keeps laws plan fit past w (NoteIsSteady plan past w) AnySystem AnySystem v place s (IsChanged change) it.stands tt tt (done s there (now s there))
+        (λ other t apart any. any) tt tt k)
 
   -- the same where it is known which system is there
   change_keeps_at : (place : ℕ) (s : SystemState) (change : Change) → ChangesFormed (IsChanged change) → slice_get w.systems place ≡ Some s

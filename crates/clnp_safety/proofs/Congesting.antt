@@ -1,5 +1,5 @@
 -- A router that is said to be congested, or no longer, is as sound as before.
-use Rattle.std.proofs.Common.{◌≡◌, ◌∙◌, refl, ℕ, List, Bool}
+use Rattle.std.proofs.Common.{◌≡◌, refl, ℕ, List, Bool}
 use Rattle.std.specs.Prelude.{slice_get, Option, None, Some}
 use Rattle.clnp_machine.specs.ClnpPlan.declared.note.Note.TheVariants.{Congest}
 use Rattle.clnp_network.specs.Scenario.Scenario.{IsFit, Plan}
@@ -11,7 +11,7 @@ use Rattle.clnp_network.specs.Run.{Entry}
 use Rattle.clnp_safety.specs.Invariant.{SystemStands, WorldIsSound}
 use Rattle.clnp_safety.specs.StepLaws.{StepLaws}
 use Rattle.clnp_safety.proofs.Deeds.{like_is_sound, tells_soundly}
-use Rattle.clnp_safety.proofs.Effects.{IsCurrent, notes_are_steady, step_keeps}
+use Rattle.clnp_safety.proofs.Effects.{AnySystem, notes_are_steady, step_keeps}
 use Rattle.clnp_safety.proofs.Hellos.{EffectIsSound, deed_is_sound}
 use Rattle.clnp_safety.proofs.Lines.{LineIs}
 use Rattle.clnp_safety.proofs.Moves.{IsSoundSince, MoveIsSound, kept_is_sound, nothing_is_sound, sound_since_itself}
@@ -44,8 +44,8 @@ module _ (laws : StepLaws) (plan : Plan) (fit : IsFit plan) (past : List Entry) 
 
     taken_soundly : Keeps (IsSoundSince plan past w) (LineIs (NoteIsSteady plan past w)) (takes_effect w place (step s input))
     taken_soundly =
-        step_keeps laws plan fit past w (NoteIsSteady plan past w) IsCurrent IsCurrent w place s input it tt tt done (λ other t apart current. current)
-        (laws.steps.moment s input ∙ h.current place s there) (notes_are_steady laws plan fit past w s.configuration.name s input w.units tt done.notes tt)
+        step_keeps laws plan fit past w (NoteIsSteady plan past w) AnySystem AnySystem w place s input it tt tt done (λ other t apart any. any) tt
+        (notes_are_steady laws plan fit past w s.configuration.name s input done.notes tt)
         (sound_since_itself plan past w h)
 
   congested_at : (found : Option SystemState) → slice_get w.systems place ≡ found → MoveIsSound plan past move w (comes_to w place input found)

@@ -18,7 +18,7 @@ use Rattle.clnp_machine.specs.System.{SystemState, Input, AsksToSend, AsksForEch
 use Rattle.clnp_machine.specs.Local.{IsAsOffered}
 use Rattle.clnp_machine.specs.Step.{step}
 use Rattle.clnp_machine.specs.Steps.{GoesOnOf, IsAtHand, IsFair, IsFresh, IsMadeFor, IsNoRestart, IsRangeOf, KeepsAsOffered, NotesOnly, ReportsOn, RestartsNothing, SendsCarriable, SendsEsisPdus, SendsRangesOrGoesOn, WasPendingOrMade, moment_after, segments_in}
-use Rattle.clnp_machine.specs.Told.{NotesNoRule, SpellsPdus}
+use Rattle.clnp_machine.specs.Told.{SpellsPdus}
 use Rattle.clnp_network.specs.Run.{Entry}
 use Rattle.clnp_network.specs.World.{World, takes_effect}
 use Rattle.clnp_safety.specs.Growth.{IsFront}
@@ -33,7 +33,7 @@ use Rattle.clnp_safety.proofs.Outputs.{Stands, takes_effect_stands}
 use Rattle.clnp_safety.proofs.SendAsked.{own_address}
 use Rattle.clnp_safety.proofs.Steps.{Keeps}
 use Rattle.clnp_safety.proofs.Units.{buffer_later, packet_goes_on, range_sooner, range_later, units_with}
-use Rattle.clnp_safety.proofs.Honest.{AsksNothing, ComesSoundly, NoteIsHonest, NoteIsSound, NoteIsSteady, OutputIsSound}
+use Rattle.clnp_safety.proofs.Honest.{AsksNothing, ComesSoundly, NoteIsHonest, NoteIsSteady, OutputIsSound}
 
 -- What a step gives out is sound, where its notes are: what it sends is of units that are made in it, or of that of the packet
 -- that came.
@@ -130,25 +130,25 @@ fresh_is_sound plan past units place s sound moment u fresh founded = record {
   total = fresh.total;
 }
 
--- the system at a place stands, and X holds of the clock and it
-pub record StandsWith (plan : Plan) (past : List Entry) (before : List unit.Unit) (X : (clock place : ℕ) → SystemState → Type 0) (units : List unit.Unit)
-    (clock place : ℕ) (s : SystemState) : Type 0 where
+-- the system at a place stands, and X holds of it
+pub record StandsWith (plan : Plan) (past : List Entry) (before : List unit.Unit) (X : (place : ℕ) → SystemState → Type 0) (units : List unit.Unit)
+    (place : ℕ) (s : SystemState) : Type 0 where
   pub stands : SystemStands plan past before units place s
-  pub also : X clock place s
+  pub also : X place s
 
--- a system is at the moment of the clock
-abbrev pub IsCurrent : (clock place : ℕ) → SystemState → Type 0
-IsCurrent clock place s = s.moment ≡ clock
+-- any system will do
+abbrev pub AnySystem : (place : ℕ) → SystemState → Type 0
+AnySystem place s = Unit {0}
 
 module _ (plan : Plan) (past : List Entry) (base : World) where
   -- the units of a world are sound, and more than those of the world before the move; the system at each place stands, X holds of
-  -- the clock and it, and the copies are sound
-  pub record IsSoundWith (X : (clock place : ℕ) → SystemState → Type 0) (w : World) : Type 0 where
+  -- it, and the copies are sound
+  pub record IsSoundWith (X : (place : ℕ) → SystemState → Type 0) (w : World) : Type 0 where
     pub made : UnitsAreSound plan past w.units
     pub front : IsFront base.units w.units
     pub stands : Stands w.units (length plan.systems) (StandsWith plan past base.units X w.units) w
 
-  sound_with : (X : (clock place : ℕ) → SystemState → Type 0) (units : List unit.Unit) (w : World) → UnitsAreSound plan past units
+  sound_with : (X : (place : ℕ) → SystemState → Type 0) (units : List unit.Unit) (w : World) → UnitsAreSound plan past units
       → IsFront base.units units → Stands units (length plan.systems) (StandsWith plan past base.units X units) w → IsSoundWith X w
   sound_with X units w made front h = record {
     made = subst (λ us. UnitsAreSound plan past us) (sym h.made) made;
@@ -248,9 +248,9 @@ module _ (laws : StepLaws) (plan : Plan) (fit : IsFit plan) (past : List Entry) 
         ])
         after.pending (laws.steps.pending s input))
 
-  -- Notes that are honest tell of no rule, and of no restart where there is none.
+  -- Notes that are honest tell of no restart where there is none.
 
-  module _ (w : World) (name : List ℕ) (s : SystemState) (input : Input) (units : List unit.Unit) (comes : ComesSoundly units input)
+  module _ (w : World) (name : List ℕ) (s : SystemState) (input : Input)
       (honest : AllByRecursion (NotesOnly (NoteIsHonest plan past w name)) (step s input).outputs) where
     output_notes_both : (P Q R : Note → Type 0) → ((note : Note) → P note → Q note → R note) → (output : Output) → NotesOnly P output → NotesOnly Q output
         → NotesOnly R output
@@ -258,23 +258,17 @@ module _ (laws : StepLaws) (plan : Plan) (fit : IsFit plan) (past : List Entry) 
     output_notes_both P Q R both (SendsEsis port target value) h k = tt
     output_notes_both P Q R both (Notes note) h k = both note h k
 
-    pub notes_are_sound : AllByRecursion (NotesOnly (NoteIsSound plan past w name)) (step s input).outputs
-    notes_are_sound =
-        AllByRecursion-both (NotesOnly (NoteIsHonest plan past w name)) (NotesOnly NotesNoRule) (NotesOnly (NoteIsSound plan past w name))
-        (output_notes_both (NoteIsHonest plan past w name) NotesNoRule (NoteIsSound plan past w name) (λ note h k. record { honest = h; no_rule = k }))
-        (step s input).outputs honest (laws.steps.no_rule s input (spells_pdus units input comes))
-
     pub notes_are_steady : RestartsNothing input → AllByRecursion (NotesOnly (NoteIsSteady plan past w name)) (step s input).outputs
     notes_are_steady steady =
-        AllByRecursion-both (NotesOnly (NoteIsSound plan past w name)) (NotesOnly IsNoRestart) (NotesOnly (NoteIsSteady plan past w name))
-        (output_notes_both (NoteIsSound plan past w name) IsNoRestart (NoteIsSteady plan past w name) (λ note h k. record { sound = h; no_restart = k }))
-        (step s input).outputs notes_are_sound (laws.steps.no_restart s input steady)
+        AllByRecursion-both (NotesOnly (NoteIsHonest plan past w name)) (NotesOnly IsNoRestart) (NotesOnly (NoteIsSteady plan past w name))
+        (output_notes_both (NoteIsHonest plan past w name) IsNoRestart (NoteIsSteady plan past w name) (λ note h k. record { honest = h; no_restart = k }))
+        (step s input).outputs honest (laws.steps.no_restart s input steady)
 
-  module _ (base : World) (N : List ℕ → Note → Type 0) (X Y : (clock place : ℕ) → SystemState → Type 0) where
+  module _ (base : World) (N : List ℕ → Note → Type 0) (X Y : (place : ℕ) → SystemState → Type 0) where
     -- a system that stands takes a step that is asked nothing, and leaves what is sound
     pub step_keeps : (w : World) (place : ℕ) (s : SystemState) (input : Input) → SystemStands plan past base.units w.units place s → AsksNothing input
         → ComesSoundly w.units input → EffectIsSound plan past base s.configuration.name w.units place (step s input)
-        → ((other : ℕ) (t : SystemState) → other ≢ place → X w.clock other t → Y w.clock other t) → Y w.clock place (step s input).after
+        → ((other : ℕ) (t : SystemState) → other ≢ place → X other t → Y other t) → Y place (step s input).after
         → AllByRecursion (NotesOnly (N s.configuration.name)) (step s input).outputs
         → IsSoundWith plan past base X w → Keeps (IsSoundWith plan past base Y) (LineIs N) (takes_effect w place (step s input))
     step_keeps w place s input it nothing comes done others here notes k =

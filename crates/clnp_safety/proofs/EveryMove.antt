@@ -1,7 +1,7 @@
 -- What each step of a system keeps, whatever comes to it, or whatever comes that a plan's events allow, each move keeps.
 use Rattle.clnp_machine.proofs.ClnpBase.Lists.{AllByRecursion-any, AllByRecursion-slice_get}
 use Rattle.std.proofs.Common.{◌≡◌, ℕ, refl, sym, subst, ◌∙◌, List, [], ◌∷◌, ◌++◌, ◌+◌, ◌<◌, length, ◌-◌, Bool}
-use Rattle.std.specs.Prelude.{slice_get, slice_set, Option, None, Some}
+use Rattle.std.specs.Prelude.{max, slice_get, slice_set, Option, None, Some}
 use Rattle.std.specs.List.{AllByRecursion, range_with_len}
 use Rattle.clnp_machine.specs.Nsap.declared.target.Target.{Target}
 use Rattle.clnp_machine.specs.ClnpPlan.Journal.{Line}
@@ -11,13 +11,14 @@ use Rattle.clnp_machine.specs.ClnpPlan.declared.config.PortConfig.{PortConfig}
 use Rattle.clnp_network.specs.Scenario.Scenario.{Plan, Subnetwork, octets_of}
 use Rattle.clnp_network.specs.Scenario.declared.event.Event.{Event}
 use Rattle.clnp_network.specs.Scenario.declared.event.Event.TheVariants.{Send, Echo, Deliver, Settle, Lose, Tick, Restart, Congest, Inject, Mtu, Route, Unroute, Port}
+use Rattle.clnp_network.specs.Scenario.declared.event.Event.TheVariants as event
 use Rattle.clnp_network.specs.Scenario.declared.event.Move.{Move}
-use Rattle.clnp_network.specs.Scenario.declared.event.Move.TheVariants.{One, SettleOne, LoseOne, TickOne}
+use Rattle.clnp_network.specs.Scenario.declared.event.Move.TheVariants.{One, SettleOne, LoseOne, TickOne, TickSystem}
 use Rattle.clnp_machine.specs.Change.{Change, PortIsAt, PortTakes, RouteIsGone, RouteIsSet}
 use Rattle.clnp_machine.specs.Unit as unit
 use Rattle.clnp_machine.specs.System.{SystemState, Input, AsksToSend, AsksForEcho, MomentComes, IsRestarted, IsCongested, IsChanged, Output, Transmits, SendsEsis, Notes, Effect}
 use Rattle.clnp_machine.specs.Step.{step}
-use Rattle.clnp_network.specs.World.{World, Copy, Numbered, give_each, put_out, with_effect, takes_effect, comes, frame_to, addressees_from, settle_copy, lose_copy, tick_each, moved, event_happens, after}
+use Rattle.clnp_network.specs.World.{World, Copy, Numbered, give_each, put_out, with_effect, takes_effect, comes, frame_to, addressees_from, settle_copy, lose_copy, goes_on, tick_alone, tick_each, moved, event_happens, after}
 use Rattle.clnp_network.specs.Run.{world_after}
 use Rattle.std.proofs.lemmas.List.{append-nil}
 use Rattle.std.proofs.lemmas.Option.{same_Some}
@@ -54,10 +55,10 @@ pub record IsMovedIn (w : World) (s : SystemState) (number : ℕ) (port : PortCo
   pub transit : port.transit ≡ was.transit
   pub mtu : slice_get w.mtus port.subnet ≡ Some port.mtu
 
--- What comes to a system goes by the network as it is: the moment is that of the clock; a port that moves is there, and a route
--- leads out of one that is.
+-- What comes to a system goes by the network as it is: a moment is the next one of the system; a port that moves is there, and a
+-- route leads out of one that is.
 abbrev pub IsOfNow : World → SystemState → Input → Type 0
-IsOfNow w s (MomentComes now) = now ≡ w.clock
+IsOfNow w s (MomentComes now) = now ≡ s.moment + 1
 IsOfNow w s (IsChanged (PortIsAt number port)) = IsMovedIn w s number port
 IsOfNow w s (IsChanged (RouteIsSet route)) = route.port < length s.attached.ports
 IsOfNow w s _ = Unit {0}
@@ -90,8 +91,8 @@ abbrev GrowsFrom : World → (World → Type 0) → World → Type 0
 GrowsFrom before K w = K w × Follows before w
 
 -- K holds of the world after each step of a system of one of which it holds, and Q of the lines, where what comes is such
--- as Comes says, as all is that asks nothing and changes no port or route where K holds; K doesn't go by the cursor, and the clock may
--- go on, frames come from outside, and a subnetwork take frames of other lengths
+-- as Comes says, as all is that asks nothing and changes no port or route where K holds; K doesn't go by the cursor, nor by the
+-- network's clock, and frames may come from outside, and a subnetwork take frames of other lengths
 pub record EachStepKeeps (Comes : World → Input → Type 0) (Brings : List ℕ → List ℕ → Type 0) (K : World → Type 0) (Q : Line → Type 0) : Type 0 where
   pub steps : (w : World) (place : ℕ) (s : SystemState) (input : Input) → slice_get w.systems place ≡ Some s → Comes w input → IsOfNow w s input
       → K w → Keeps K Q (takes_effect w place (step s input))
@@ -101,7 +102,7 @@ pub record EachStepKeeps (Comes : World → Input → Type 0) (Brings : List ℕ
   pub restarts : (w : World) → Comes w IsRestarted
   pub congestion : (w : World) (on : Bool) → Comes w (IsCongested on)
   pub cursor : (w : World) (next : ℕ) → K w → K (record w { cursor = next })
-  pub clock : (w : World) → K w → K (record w { clock = w.clock + 1 })
+  pub clock : (w : World) (clock : ℕ) → K w → K (record w { clock = clock })
   pub outside : (w : World) (subnet : ℕ) (sender : List ℕ) (target : Target) (octets : List ℕ) → Brings sender octets → K w
       → K (with_outside w subnet sender target octets)
   pub sizes : (w : World) (subnet mtu : ℕ) → ((number : ℕ) → Comes w (IsChanged (PortTakes number mtu))) → K w
@@ -148,11 +149,21 @@ module _ (Comes : World → Input → Type 0) (Brings : List ℕ → List ℕ �
   keeps-comes_at w place s input there may at k =
       keeps-comes w place input may (λ t here. subst (λ (u : SystemState). IsOfNow w u input) (same_Some s t (sym there ∙ here)) at) k
 
+  keeps-goes_on : (w : World) (place : ℕ) (found : Option SystemState) → slice_get w.systems place ≡ found → K w → Keeps K Q (goes_on w place found)
+  keeps-goes_on w place None e k = keeps-nothing K Q w k
+  keeps-goes_on w place (Some s) e k =
+      keeps-comes_at w place s (MomentComes (s.moment + 1)) e (each.moments w (s.moment + 1)) refl k
+
   keeps-tick_each : (places : List ℕ) (w : World) → K w → Keeps K Q (tick_each w places)
   keeps-tick_each [] w k = keeps-nothing K Q w k
   keeps-tick_each (place ∷ places) w k =
-      keeps-followed_by K Q K (comes w place (MomentComes w.clock)) (λ v. tick_each v places)
-      (keeps-comes w place (MomentComes w.clock) (each.moments w w.clock) (λ s there. refl) k) (keeps-tick_each places)
+      keeps-followed_by K Q K (goes_on w place (slice_get w.systems place)) (λ v. tick_each v places)
+      (keeps-goes_on w place (slice_get w.systems place) refl k) (keeps-tick_each places)
+
+  keeps-tick_alone : (w : World) (place : ℕ) (found : Option SystemState) → slice_get w.systems place ≡ found → K w → Keeps K Q (tick_alone w place found)
+  keeps-tick_alone w place None e k = keeps-nothing K Q w k
+  keeps-tick_alone w place (Some s) e k =
+      let clock = max w.clock (s.moment + 1) in keeps-goes_on (record w { clock = clock }) place (Some s) e (each.clock w clock k)
 
   keeps-event : (subnets : List Subnetwork) (limits : Limits) (w : World) (asked : Option Event)
       → ((v : World) (event : Event) → asked ≡ Some event → GivesOnly (Comes v) Brings event) → K w
@@ -187,6 +198,7 @@ module _ (Comes : World → Input → Type 0) (Brings : List ℕ → List ℕ �
   keeps-event subnets limits w (Some (Settle count)) may k = keeps-nothing K Q w k
   keeps-event subnets limits w (Some (Lose count)) may k = keeps-nothing K Q w k
   keeps-event subnets limits w (Some (Tick count)) may k = keeps-nothing K Q w k
+  keeps-event subnets limits w (Some (event.TickSystem system count)) may k = keeps-nothing K Q w k
   keeps-event subnets limits w None may k = keeps-nothing K Q w k
 
   keeps-settle : (limits : Limits) (w : World) (found : Option Copy) → slice_get w.copies w.cursor ≡ found → K w → Keeps K Q (settle_copy limits w found)
@@ -214,7 +226,8 @@ module _ (Comes : World → Input → Type 0) (Brings : List ℕ → List ℕ �
         keeps-event plan.subnets plan.limits w (slice_get plan.events place) (λ v event there. AllByRecursion-slice_get (GivesOnly (Comes v) Brings) plan.events place event there (may v)) k
     keeps-move w SettleOne k = keeps-settle plan.limits w (slice_get w.copies w.cursor) refl k
     keeps-move w LoseOne k = keeps-lose w (slice_get w.copies w.cursor) k
-    keeps-move w TickOne k = keeps-tick_each (range_with_len 0 (length w.systems)) (record w { clock = w.clock + 1 }) (each.clock w k)
+    keeps-move w TickOne k = keeps-tick_each (range_with_len 0 (length w.systems)) (record w { clock = w.clock + 1 }) (each.clock w (w.clock + 1) k)
+    keeps-move w (TickSystem place) k = keeps-tick_alone w place (slice_get w.systems place) refl k
 
     pub keeps-moves : (moves : List Move) (w : World) → K w → K (world_after plan w moves)
     keeps-moves [] w k = k

@@ -1,7 +1,7 @@
 -- The copies of a world stay as a front of those after each move, and the cursor stays within them.
 use Rattle.clnp_machine.proofs.ClnpBase.Lists.{AllByRecursion-any}
 use Rattle.std.proofs.Common.{◌≡◌, ◌≤◌, ℕ, List, [], ◌∷◌, ◌++◌, ◌+◌, length, refl, sym, ap, ◌∙◌, arith, length-append, append_assoc}
-use Rattle.std.specs.Prelude.{slice_get, Option, None, Some}
+use Rattle.std.specs.Prelude.{max, slice_get, Option, None, Some}
 use Rattle.std.specs.List.{range_with_len}
 use Rattle.std.proofs.lemmas.Option.{slice_get_within}
 use Rattle.std.proofs.lemmas.List.{append-nil}
@@ -10,14 +10,15 @@ use Rattle.clnp_machine.specs.ClnpPlan.declared.config.Limits.{Limits}
 use Rattle.clnp_network.specs.Scenario.Scenario.{Plan, Subnetwork, octets_of}
 use Rattle.clnp_network.specs.Scenario.declared.event.Event.{Event}
 use Rattle.clnp_network.specs.Scenario.declared.event.Event.TheVariants.{Send, Echo, Deliver, Settle, Lose, Tick, Restart, Congest, Inject, Mtu, Route, Unroute, Port}
+use Rattle.clnp_network.specs.Scenario.declared.event.Event.TheVariants as event
 use Rattle.clnp_network.specs.Scenario.declared.event.Move.{Move}
-use Rattle.clnp_network.specs.Scenario.declared.event.Move.TheVariants.{One, SettleOne, LoseOne, TickOne}
+use Rattle.clnp_network.specs.Scenario.declared.event.Move.TheVariants.{One, SettleOne, LoseOne, TickOne, TickSystem}
 use Rattle.clnp_machine.specs.Unit.{Maker, DeclaredAt}
 use Rattle.clnp_machine.specs.Content.{Content, Labelled, Esis}
 use Rattle.clnp_machine.specs.Change.{PortIsAt, PortTakes, RouteIsGone, RouteIsSet}
 use Rattle.clnp_machine.specs.System.{SystemState, Input, AsksToSend, AsksForEcho, MomentComes, IsRestarted, IsCongested, IsChanged, Output, Transmits, SendsEsis, Notes, Effect}
 use Rattle.clnp_machine.specs.Step.{step}
-use Rattle.clnp_network.specs.World.{World, Copy, copy_from, copy_from_outside, sends_frame, put_out, with_effect, takes_effect, comes, asks, frame_to, addressees_from, settle_copy, deliver, lose_copy, tick_each, tick_one, injects, moved, moves_port, removes_route, resizes, sets_route, event_happens, after, first_world}
+use Rattle.clnp_network.specs.World.{World, Copy, copy_from, copy_from_outside, sends_frame, put_out, with_effect, takes_effect, comes, asks, frame_to, addressees_from, settle_copy, deliver, lose_copy, goes_on, tick_alone, tick_each, tick_one, injects, moved, moves_port, removes_route, resizes, sets_route, event_happens, after, first_world}
 use Rattle.clnp_network.specs.Run.{world_after}
 use Rattle.clnp_safety.specs.Growth.{IsFront, IsWithinCopies}
 use Rattle.clnp_safety.proofs.Lines.{AnyLine, any_line_changes, any_line_is_fine}
@@ -48,7 +49,7 @@ module _ (copies : List Copy) (cursor : ℕ) where
   put_out_grows system (Transmits port target packet) v k =
       frame_grows system v port target packet.unit.maker packet.unit.made (Labelled packet []) k
   put_out_grows system (SendsEsis port target value) v k =
-      frame_grows system v port target (DeclaredAt system.place) v.clock (Esis value []) k
+      frame_grows system v port target (DeclaredAt system.place) system.moment (Esis value []) k
 
   takes_effect_grows : (w : World) (place : ℕ) (effect : Effect) → Grown copies cursor w → Keeps (Grown copies cursor) AnyLine (takes_effect w place effect)
   takes_effect_grows w place effect k =
@@ -61,11 +62,15 @@ module _ (copies : List Copy) (cursor : ℕ) where
   comes_grows w place input k =
       keeps-comes_to (Grown copies cursor) AnyLine w place input (slice_get w.systems place) (λ none. k) (λ s there. takes_effect_grows w place (step s input) k)
 
+  goes_on_grows : (w : World) (place : ℕ) (found : Option SystemState) → Grown copies cursor w → Keeps (Grown copies cursor) AnyLine (goes_on w place found)
+  goes_on_grows w place None k = keeps-nothing (Grown copies cursor) AnyLine w k
+  goes_on_grows w place (Some s) k = comes_grows w place (MomentComes (s.moment + 1)) k
+
   tick_each_grows : (places : List ℕ) (w : World) → Grown copies cursor w → Keeps (Grown copies cursor) AnyLine (tick_each w places)
   tick_each_grows [] w k = keeps-nothing (Grown copies cursor) AnyLine w k
   tick_each_grows (place ∷ places) w k =
-      keeps-followed_by (Grown copies cursor) AnyLine (Grown copies cursor) (comes w place (MomentComes w.clock)) (λ v. tick_each v places)
-      (comes_grows w place (MomentComes w.clock) k) (tick_each_grows places)
+      keeps-followed_by (Grown copies cursor) AnyLine (Grown copies cursor) (goes_on w place (slice_get w.systems place)) (λ v. tick_each v places)
+      (goes_on_grows w place (slice_get w.systems place) k) (tick_each_grows places)
 
 -- the world after a move, with the copies before it as a front, and the cursor within them
 record GrowsFrom (w v : World) : Type 0 where
@@ -100,6 +105,7 @@ event_grows subnets limits w None = nothing_grows w
 event_grows subnets limits w (Some (Settle count)) = nothing_grows w
 event_grows subnets limits w (Some (Lose count)) = nothing_grows w
 event_grows subnets limits w (Some (Tick count)) = nothing_grows w
+event_grows subnets limits w (Some (event.TickSystem system count)) = nothing_grows w
 event_grows subnets limits w (Some (Deliver number place)) =
     grows_to w (deliver limits w number place).world w.cursor (λ k. k)
     (keeps-deliver (Grown w.copies w.cursor) AnyLine any_line_is_fine limits w number place (stays w)
@@ -151,6 +157,13 @@ lose_copy_grows w (Some copy) bound =
     grows_to w (lose_copy w (Some copy)).world (w.cursor + 1) (λ k. bound copy refl)
     (record { front = ([], sym (append-nil w.copies)); at = refl })
 
+tick_alone_grows : (w : World) (place : ℕ) (found : Option SystemState) → GrowsFrom w (tick_alone w place found).world
+tick_alone_grows w place None = nothing_grows w
+tick_alone_grows w place (Some s) =
+    grows_to w (tick_alone w place (Some s)).world w.cursor (λ k. k)
+    (goes_on_grows w.copies w.cursor (record w { clock = max w.clock (s.moment + 1) }) place (Some s)
+    (record { front = ([], sym (append-nil w.copies)); at = refl })).world
+
 move_grows : (plan : Plan) (w : World) (move : Move) → GrowsFrom w (after plan w move).world
 move_grows plan w (One place) = event_grows plan.subnets plan.limits w (slice_get plan.events place)
 move_grows plan w SettleOne =
@@ -163,6 +176,7 @@ move_grows plan w TickOne =
     grows_to w (tick_one w).world w.cursor (λ k. k)
     (tick_each_grows w.copies w.cursor (range_with_len 0 (length w.systems)) (record w { clock = w.clock + 1 })
     (record { front = ([], sym (append-nil w.copies)); at = refl })).world
+move_grows plan w (TickSystem place) = tick_alone_grows w place (slice_get w.systems place)
 
 pub copies_stay : (plan : Plan) (w : World) (move : Move) → IsFront w.copies (after plan w move).world.copies
 copies_stay plan w move = (move_grows plan w move).front

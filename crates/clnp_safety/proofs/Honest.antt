@@ -4,13 +4,12 @@ use Rattle.clnp_machine.specs.Nsap.Address.{IsAddress}
 use Rattle.clnp_machine.specs.EsisPdus.Grammar.{IsPdu}
 use Rattle.clnp_network.specs.Scenario.Scenario.{Plan}
 use Rattle.clnp_machine.specs.ClnpPlan.declared.note.Note.{Note}
-use Rattle.clnp_machine.specs.ClnpPlan.declared.note.Note.TheVariants.{Got, Report, Echoed, Interference, Alien}
+use Rattle.clnp_machine.specs.ClnpPlan.declared.note.Note.TheVariants.{Got, Report, Echoed, Interference}
 use Rattle.clnp_machine.specs.Unit as unit
 use Rattle.clnp_machine.specs.Unit.{IsCarriable}
 use Rattle.clnp_machine.specs.Content.{IsCarried}
 use Rattle.clnp_machine.specs.System.{Input, AsksToSend, AsksForEcho, FrameComes, Output, Transmits, SendsEsis, Notes}
 use Rattle.clnp_machine.specs.Steps.{IsNoRestart, IsRangeOf}
-use Rattle.clnp_machine.specs.Told.{NotesNoRule}
 use Rattle.clnp_network.specs.World.{World}
 use Rattle.clnp_network.specs.Run.{Entry}
 use Rattle.clnp_network.specs.Safe.{IsAnswered, IsHeaderOfOwn, WasSent}
@@ -34,21 +33,15 @@ OutputIsSound Q units (SendsEsis port target value) = IsPdu value
 OutputIsSound Q units (Notes note) = Q note
 
 -- A note of the system with a name, in a move of a network, says only what is so: what is handed up was sent before, or is founded
--- on what was made before; nothing interferes; and each frame is of a protocol.
+-- on what was made before; and nothing interferes.
 abbrev pub NoteIsHonest : Plan → List Entry → World → (name : List ℕ) → Note → Type 0
 NoteIsHonest plan past w name (Got from to octets) = WasSent plan past from to octets
 NoteIsHonest plan past w name (Report from to reason place octets) = IsHeaderOfOwn w name octets
 NoteIsHonest plan past w name (Echoed from to number) = IsAnswered w past name from to number
 NoteIsHonest plan past w name (Interference id) = ⊥
-NoteIsHonest plan past w name Alien = ⊥
 NoteIsHonest plan past w name _ = Unit {0}
 
--- so is what it says besides: no frame breaks a rule
-pub record NoteIsSound (plan : Plan) (past : List Entry) (w : World) (name : List ℕ) (note : Note) : Type 0 where
-  pub honest : NoteIsHonest plan past w name note
-  pub no_rule : NotesNoRule note
-
--- and no restart is noted
+-- and it says of no restart
 pub record NoteIsSteady (plan : Plan) (past : List Entry) (w : World) (name : List ℕ) (note : Note) : Type 0 where
-  pub sound : NoteIsSound plan past w name note
+  pub honest : NoteIsHonest plan past w name note
   pub no_restart : IsNoRestart note

@@ -87,7 +87,7 @@ output_hops w s system input stands (Transmits port target packet) h v k =
     frame_hops w.copies system v port target packet.unit.maker packet.unit.made (Labelled packet [])
     (elim h [ inl none ↦ inl none | inr on ↦ inr (on_hops w s port input packet stands on) ]) k
 output_hops w s system input stands (SendsEsis port target value) h v k =
-    frame_hops w.copies system v port target (DeclaredAt system.place) v.clock (Esis value []) tt k
+    frame_hops w.copies system v port target (DeclaredAt system.place) system.moment (Esis value []) tt k
 
 step_hops : StepLaws → (w : World) (place : ℕ) (s : SystemState) (input : Input) → slice_get w.systems place ≡ Some s → ComesStanding w input
     → IsOfNow w s input → HopsCountCopies w → Keeps HopsCountCopies AnyLine (takes_effect w place (step s input))
@@ -131,7 +131,7 @@ hops_are_counted laws plan moves =
       restarts = λ w. tt;
       congestion = λ w on. tt;
       cursor = λ w next k. k;
-      clock = λ w k. k;
+      clock = λ w clock k. k;
       outside = outside_hops;
       sizes = λ w subnet mtu takes k. k;
       injected = λ now copy subnet sender target. tt;

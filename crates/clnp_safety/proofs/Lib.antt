@@ -2,6 +2,7 @@ pub mod Units
 pub mod Uses
 pub mod Draws
 pub mod Kept
+pub mod Together
 pub mod Told
 pub mod SendUnits
 pub mod SendAsked
@@ -29,6 +30,7 @@ pub mod Settles
 pub mod Ticks
 pub mod Asked
 pub mod Opens
+pub mod Clocks
 pub mod Runs
 pub mod Grows
 pub mod Refusals
@@ -41,5 +43,6 @@ pub mod Carried
 pub mod Standing
 pub mod Traced
 pub mod Honest
+pub mod Known
 pub mod Hopped
 pub mod Numbered

@@ -3,16 +3,16 @@ use Rattle.clnp_machine.proofs.ClnpBase.Lists.{AllByRecursion-implies}
 use Rattle.std.proofs.Common.{◌≡◌, ℕ, List, [], ◌∷◌, inl, inr, subst}
 use Rattle.clnp_machine.specs.ClnpPlan.Journal.{Line, Noted}
 use Rattle.clnp_machine.specs.ClnpPlan.declared.note.Note.{Note}
-use Rattle.clnp_machine.specs.ClnpPlan.declared.note.Note.TheVariants.{Refused, Got, Report, Echoed, Interference, Alien, Restart}
+use Rattle.clnp_machine.specs.ClnpPlan.declared.note.Note.TheVariants.{Refused, Got, Report, Echoed, Interference, Restart}
 use Rattle.clnp_network.specs.Scenario.Scenario.{Plan}
 use Rattle.clnp_network.specs.World.{World}
 use Rattle.clnp_network.specs.Run.{Entry}
-use Rattle.clnp_network.specs.Safe.{HandsUp, IsFounded, NoRefusal, NoInterference, NoneIsAlien, SaysNoRestart, TellsNoRule, WasSent}
+use Rattle.clnp_network.specs.Safe.{HandsUp, IsFounded, NoRefusal, NoInterference, SaysNoRestart, WasSent}
 use Rattle.std.specs.List.{AllByRecursion}
 use Rattle.clnp_machine.specs.Steps.{IsNoRestart}
 use Rattle.clnp_machine.specs.Told.{NoteIsQuiet}
 use Rattle.clnp_safety.proofs.Steps.{ChangingIsFine, GivingIsFine}
-use Rattle.clnp_safety.proofs.Honest.{NoteIsHonest, NoteIsSound}
+use Rattle.clnp_safety.proofs.Honest.{NoteIsHonest}
 
 -- a line notes only what Q holds of, beside the name of the system that notes it
 abbrev pub LineIs : (List ℕ → Note → Type 0) → Line → Type 0
@@ -58,16 +58,16 @@ sent_alike plan past source destination handed from to octets a b c h =
     subst (λ x. WasSent plan past from to x) c (subst (λ x. WasSent plan past from x handed) b (subst (λ x. WasSent plan past x destination handed) a h))
 
 module _ (plan : Plan) (past : List Entry) (w : World) where
-  -- each note of the lines is sound
+  -- each note of the lines is honest
   abbrev pub LinesAreSound : List Line → Type 0
-  LinesAreSound lines = AllByRecursion (LineIs (NoteIsSound plan past w)) lines
+  LinesAreSound lines = AllByRecursion (LineIs (NoteIsHonest plan past w)) lines
 
   -- where each note is honest, only units are handed up that were sent
   pub lines_are_honest : (lines : List Line) → LinesAreSound lines → LinesAreHonest plan past lines
   lines_are_honest [] h from to octets up = absurd up
   lines_are_honest (Noted now name (Got source destination handed) ∷ lines) h from to octets up =
       elim up [
-        | inl this ↦ sent_alike plan past source destination handed from to octets this.0 this.1 this.2 h.0.honest
+        | inl this ↦ sent_alike plan past source destination handed from to octets this.0 this.1 this.2 h.0
         | inr later ↦ lines_are_honest lines h.1 from to octets later
       ]
   lines_are_honest (_ ∷ lines) h from to octets up = lines_are_honest lines h.1 from to octets up
@@ -75,38 +75,23 @@ module _ (plan : Plan) (past : List Entry) (w : World) where
   -- and nothing interferes
   pub lines_are_apart : (lines : List Line) → LinesAreSound lines → NoInterference lines
   lines_are_apart [] h = tt
-  lines_are_apart (Noted now name (Interference id) ∷ lines) h = h.0.honest
+  lines_are_apart (Noted now name (Interference id) ∷ lines) h = h.0
   lines_are_apart (_ ∷ lines) h = lines_are_apart lines h.1
 
-  -- and each frame is of a protocol
-  pub lines_are_known : (lines : List Line) → LinesAreSound lines → NoneIsAlien lines
-  lines_are_known [] h = tt
-  lines_are_known (Noted now name Alien ∷ lines) h = h.0.honest
-  lines_are_known (_ ∷ lines) h = lines_are_known lines h.1
-
-  line_is_founded : (line : Line) → LineIs (NoteIsSound plan past w) line → IsFounded w past line
-  line_is_founded (Noted now name (Report from to reason place octets)) h = h.honest
-  line_is_founded (Noted now name (Echoed from to number)) h = h.honest
+  line_is_founded : (line : Line) → LineIs (NoteIsHonest plan past w) line → IsFounded w past line
+  line_is_founded (Noted now name (Report from to reason place octets)) h = h
+  line_is_founded (Noted now name (Echoed from to number)) h = h
   line_is_founded _ h = tt
 
   -- and what is said of reports and replies is founded
   pub lines_are_founded : (lines : List Line) → LinesAreSound lines → AllByRecursion (IsFounded w past) lines
-  lines_are_founded lines h = AllByRecursion-implies (LineIs (NoteIsSound plan past w)) (IsFounded w past) line_is_founded lines h
-
-  line_tells_no_rule : (line : Line) → LineIs (NoteIsSound plan past w) line → TellsNoRule line
-  line_tells_no_rule (Noted now name note) h = h.no_rule
-  line_tells_no_rule _ h = tt
-
-  -- and no rule is broken
-  pub lines_tell_no_rule : (lines : List Line) → LinesAreSound lines → AllByRecursion TellsNoRule lines
-  lines_tell_no_rule lines h = AllByRecursion-implies (LineIs (NoteIsSound plan past w)) TellsNoRule line_tells_no_rule lines h
+  lines_are_founded lines h = AllByRecursion-implies (LineIs (NoteIsHonest plan past w)) (IsFounded w past) line_is_founded lines h
 
   pub quiet_is_honest : (name : List ℕ) (note : Note) → NoteIsQuiet note → NoteIsHonest plan past w name note
   quiet_is_honest name (Got from to octets) h = absurd h
   quiet_is_honest name (Report from to reason place octets) h = absurd h
   quiet_is_honest name (Echoed from to number) h = absurd h
   quiet_is_honest name (Interference id) h = h
-  quiet_is_honest name Alien h = h
   quiet_is_honest name _ h = tt
 
 no_restart_said : (name other : List ℕ) (note : Note) (now : ℕ) → IsNoRestart note → SaysNoRestart name (Noted now other note)

@@ -5,46 +5,79 @@ use Rattle.std.specs.Prelude.{slice_get, Some}
 use Rattle.std.specs.List.{AllByRecursion}
 use Rattle.std.proofs.lemmas.List.{append-nil}
 use Rattle.clnp_network.specs.Scenario.Scenario.{Plan}
+use Rattle.clnp_network.specs.Scenario.Standing.{AreTogether}
 use Rattle.clnp_network.specs.Scenario.declared.event.Move.{Move}
+use Rattle.clnp_machine.specs.ClnpPlan.Configuration.{IsWithin}
 use Rattle.clnp_machine.specs.Unit as unit
 use Rattle.clnp_machine.specs.System.{SystemState}
 use Rattle.clnp_machine.specs.Steps.{IsNoRestart}
 use Rattle.clnp_network.specs.World.{World, Step, nothing}
 use Rattle.clnp_network.specs.Run.{Entry}
+use Rattle.clnp_network.specs.Clocks.{clocks_of}
 use Rattle.clnp_network.specs.Safe.{SaysNoRestart}
 use Rattle.clnp_safety.specs.Invariant.{CopyIsSound, IsPending, SystemStands, UnitsAreSound, SystemsAreSound, WorldIsSound}
 use Rattle.clnp_safety.proofs.Past.{pending_later, units_later}
 use Rattle.clnp_safety.proofs.Lines.{LineIs, lines_are, lines_say_no_restart}
 use Rattle.clnp_safety.proofs.Steps.{Keeps}
 use Rattle.clnp_safety.proofs.Outputs.{Stands}
-use Rattle.clnp_safety.proofs.Effects.{IsCurrent, IsSoundWith, StandsWith}
-use Rattle.clnp_safety.proofs.Honest.{NoteIsSound, NoteIsSteady}
+use Rattle.clnp_safety.proofs.Effects.{AnySystem, IsSoundWith, StandsWith}
+use Rattle.clnp_safety.proofs.Honest.{NoteIsHonest, NoteIsSteady}
 
--- each system is sound, at the moment of the clock, and so are units and copies, since a world
+-- each system is sound, and so are units and copies, since a world
 abbrev pub IsSoundSince : Plan → List Entry → World → World → Type 0
-IsSoundSince plan past base = IsSoundWith plan past base IsCurrent
+IsSoundSince plan past base = IsSoundWith plan past base AnySystem
 
-pub sound_since_itself : (plan : Plan) (past : List Entry) (w : World) → WorldIsSound plan past w → IsSoundSince plan past w w
-sound_since_itself plan past w h = record {
+-- a sound world is so since itself, and what holds of its systems does so besides
+pub sound_since_with : (plan : Plan) (past : List Entry) (w : World) (X : (place : ℕ) → SystemState → Type 0) → WorldIsSound plan past w
+    → ((place : ℕ) (s : SystemState) → slice_get w.systems place ≡ Some s → X place s) → IsSoundWith plan past w X w
+sound_since_with plan past w X h also = record {
   made = h.made;
   front = ([], sym (append-nil w.units));
   stands = record {
     made = refl;
     copies = h.copies;
     number = h.systems.number;
-    each = λ place s there. record { stands = h.systems.each place s there; also = h.current place s there };
+    each = λ place s there. record { stands = h.systems.each place s there; also = also place s there };
     mtus = h.mtus;
   };
 }
 
--- the world after the move is sound beside the past with the move's entry, and its lines say only what is so
-pub record MoveIsSound (plan : Plan) (past : List Entry) (move : Move) (w : World) (taken : Step) : Type 0 where
-  pub world : WorldIsSound plan (past ++ record { move = move; lines = taken.lines } ∷ []) taken.world
-  pub lines : AllByRecursion (LineIs (NoteIsSound plan past w)) taken.lines
+pub sound_since_itself : (plan : Plan) (past : List Entry) (w : World) → WorldIsSound plan past w → IsSoundSince plan past w w
+sound_since_itself plan past w h = sound_since_with plan past w AnySystem h (λ place s there. tt)
 
--- what stands beside sound units is a sound world
+-- what holds besides is forgotten
+pub sound_since : (plan : Plan) (past : List Entry) (base w : World) (X : (place : ℕ) → SystemState → Type 0) → IsSoundWith plan past base X w
+    → IsSoundSince plan past base w
+sound_since plan past base w X k = record {
+  made = k.made;
+  front = k.front;
+  stands = record {
+    made = k.stands.made;
+    copies = k.stands.copies;
+    number = k.stands.number;
+    each = λ place s there. record { stands = (k.stands.each place s there).stands; also = tt };
+    mtus = k.stands.mtus;
+  };
+}
+
+-- What holds of a sound world but for how far apart its clocks stand.
+pub record IsSoundButClocks (plan : Plan) (past : List Entry) (w : World) : Type 0 where
+  pub made : UnitsAreSound plan past w.units
+  pub copies : AllByRecursion (CopyIsSound w.units) w.copies
+  pub systems : SystemsAreSound plan past w.units w.systems
+  pub mtus : AllByRecursion (IsWithin 512 65535) w.mtus
+
+pub with_clocks : (plan : Plan) (past : List Entry) (w : World) → IsSoundButClocks plan past w → AreTogether plan.limits.skew (clocks_of w) → WorldIsSound plan past w
+with_clocks plan past w h together = record { made = h.made; copies = h.copies; systems = h.systems; together = together; mtus = h.mtus }
+
+-- the world after the move is sound, but for its clocks, beside the past with the move's entry, and its lines say only what is so
+pub record MoveIsSound (plan : Plan) (past : List Entry) (move : Move) (w : World) (taken : Step) : Type 0 where
+  pub world : IsSoundButClocks plan (past ++ record { move = move; lines = taken.lines } ∷ []) taken.world
+  pub lines : AllByRecursion (LineIs (NoteIsHonest plan past w)) taken.lines
+
+-- what stands beside sound units is a sound world, but for its clocks
 pub stands_soundly : (plan : Plan) (past : List Entry) (units : List unit.Unit) (w : World) → UnitsAreSound plan past units
-    → Stands units (length plan.systems) (StandsWith plan past units IsCurrent units) w → WorldIsSound plan past w
+    → Stands units (length plan.systems) (StandsWith plan past units AnySystem units) w → IsSoundButClocks plan past w
 stands_soundly plan past units w made h =
     let same = sym h.made in
     record {
@@ -52,7 +85,6 @@ stands_soundly plan past units w made h =
       copies = subst (λ us. AllByRecursion (CopyIsSound us) w.copies) same h.copies;
       systems = subst (λ us. SystemsAreSound plan past us w.systems) same
           (record { number = h.number; each = λ place s there. (h.each place s there).stands });
-      current = λ place s there. (h.each place s there).also;
       mtus = h.mtus;
     }
 
@@ -85,7 +117,7 @@ module _ (plan : Plan) (past : List Entry) (move : Move) (base : World) (taken :
   }
 
   -- a move that keeps a world sound beside the past, and of whose requests none is given up
-  pub moved_is_sound : Keeps (IsSoundSince plan past base) (LineIs (NoteIsSound plan past base)) taken
+  pub moved_is_sound : Keeps (IsSoundSince plan past base) (LineIs (NoteIsHonest plan past base)) taken
       → ((place : ℕ) (s : SystemState) → slice_get taken.world.systems place ≡ Some s → IsPendingStill s) → MoveIsSound plan past move base taken
   moved_is_sound kept still =
       let k = kept.world in
@@ -97,7 +129,6 @@ module _ (plan : Plan) (past : List Entry) (move : Move) (base : World) (taken :
             number = k.stands.number;
             each = λ place s there. system_after taken.world.units k.front.0 k.front.1 place s (k.stands.each place s there).stands (still place s there);
           };
-          current = λ place s there. (k.stands.each place s there).also;
           mtus = k.stands.mtus;
         };
         lines = kept.lines;
@@ -109,7 +140,7 @@ module _ (plan : Plan) (past : List Entry) (move : Move) (base : World) (taken :
       moved_is_sound
       (record {
         world = kept.world;
-        lines = lines_are (NoteIsSteady plan past base) (NoteIsSound plan past base) (λ name note h. h.sound) taken.lines kept.lines;
+        lines = lines_are (NoteIsSteady plan past base) (NoteIsHonest plan past base) (λ name note h. h.honest) taken.lines kept.lines;
       })
       (λ place s there.
       inr (lines_say_no_restart s.configuration.name taken.lines

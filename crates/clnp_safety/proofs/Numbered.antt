@@ -1,7 +1,7 @@
 -- Each transmission that a line tells of is the copy with its number, since all that is sent goes by a port that is there.
 use Rattle.clnp_machine.proofs.ClnpBase.Lists.{AllByRecursion-append, AllByRecursion-implies, set_each, slice_get-push, slice_get_some}
 use Rattle.std.proofs.Common.{◌≡◌, ◌∙◌, refl, sym, ap, subst, ℕ, zero, suc, ◌+◌, ◌-◌, ◌<◌, inl, inr, true, List, [], ◌∷◌, ◌++◌, append-nil, length, Option, None, Some, arith}
-use Rattle.std.specs.Prelude.{◌==◌, nat_lt, slice_get, slice_set}
+use Rattle.std.specs.Prelude.{◌==◌, max, nat_lt, slice_get, slice_set}
 use Rattle.std.specs.List.{AllByRecursion, list_any, range_with_len}
 use Rattle.std.proofs.lemmas.Bool.{cases_Bool}
 use Rattle.std.proofs.lemmas.Option.{same_Some}
@@ -19,8 +19,9 @@ use Rattle.clnp_machine.specs.ClnpPlan.declared.config.Role.TheVariants.{Host, R
 use Rattle.clnp_network.specs.Scenario.Scenario.{Plan, Subnetwork, octets_of}
 use Rattle.clnp_network.specs.Scenario.declared.event.Event.{Event}
 use Rattle.clnp_network.specs.Scenario.declared.event.Event.TheVariants.{Send, Echo, Deliver, Settle, Lose, Tick, Restart, Congest, Inject, Mtu, Route, Unroute, Port}
+use Rattle.clnp_network.specs.Scenario.declared.event.Event.TheVariants as event
 use Rattle.clnp_network.specs.Scenario.declared.event.Move.{Move}
-use Rattle.clnp_network.specs.Scenario.declared.event.Move.TheVariants.{One, SettleOne, LoseOne, TickOne}
+use Rattle.clnp_network.specs.Scenario.declared.event.Move.TheVariants.{One, SettleOne, LoseOne, TickOne, TickSystem}
 use Rattle.clnp_machine.specs.Unit.{Maker, DeclaredAt}
 use Rattle.clnp_machine.specs.Content.{Content, Labelled, Esis, frame_of}
 use Rattle.clnp_machine.specs.Attachment.{Attachment}
@@ -28,7 +29,7 @@ use Rattle.clnp_machine.specs.Change.{Change, PortIsAt, PortTakes, RouteIsGone, 
 use Rattle.clnp_machine.specs.System.{SystemState, Input, AsksToSend, AsksForEcho, MomentComes, IsRestarted, IsCongested, IsChanged, Output, Transmits, SendsEsis, Notes, Effect}
 use Rattle.clnp_machine.specs.Ports.{ComesByPort, GoesByPort}
 use Rattle.clnp_machine.specs.Step.{step}
-use Rattle.clnp_network.specs.World.{World, Copy, Numbered, Step, addressees_from, after, asks_role, asks_system, comes, comes_to, copy_from, deliver_at, deliver_to, enters, event_happens, first_port, followed_by, for_nobody, frame_to, give, give_each, give_to, injects_on, is_addressee, is_late, lose_copy, nothing, put_all_out, put_out, sends_frame, settle_copy, takes_effect, tick_each, with_effect, writes, tells_of, ports_of, moved, moves_port_to, moves_port_of, moves_port_on, sets_route_as, sets_route_of, removes_route_as, removes_route_of, resizes_port_of, resizes_port, resizes_ports, resizes_at, resizes_each, resizes_on}
+use Rattle.clnp_network.specs.World.{World, Copy, Numbered, Step, addressees_from, after, asks_role, asks_system, comes, comes_to, copy_from, deliver_at, deliver_to, enters, event_happens, first_port, followed_by, for_nobody, frame_to, give, give_each, give_to, injects_on, is_addressee, is_late, lose_copy, nothing, put_all_out, put_out, sends_frame, settle_copy, takes_effect, goes_on, tick_alone, tick_each, with_effect, writes, tells_of, ports_of, moved, moves_port_to, moves_port_of, moves_port_on, sets_route_as, sets_route_of, removes_route_as, removes_route_of, resizes_port_of, resizes_port, resizes_ports, resizes_at, resizes_each, resizes_on}
 use Rattle.clnp_safety.specs.Growth.{IsCopyAt, IsFront, TellsItsCopy}
 use Rattle.clnp_safety.specs.StepLaws.{StepLaws}
 use Rattle.clnp_machine.proofs.ClnpBase.Choices.{one_of}
@@ -97,7 +98,7 @@ output_tells : (system : SystemState) (output : Output) → GoesByPort system ou
 output_tells system (Notes note) goes w = tells_line w _ tt
 output_tells system (Transmits port target packet) goes w =
     frame_tells system w port target packet.unit.maker packet.unit.made (Labelled packet []) goes
-output_tells system (SendsEsis port target value) goes w = frame_tells system w port target (DeclaredAt system.place) w.clock (Esis value []) goes
+output_tells system (SendsEsis port target value) goes w = frame_tells system w port target (DeclaredAt system.place) system.moment (Esis value []) goes
 
 outputs_tell : (system : SystemState) (outputs : List Output) → AllByRecursion (GoesByPort system) outputs → (w : World) → Tells w (put_all_out system w outputs)
 outputs_tell system [] all w = tells_nothing w
@@ -185,11 +186,21 @@ module _ (laws : StepLaws) (ports : GoByPorts) where
   asks_tells w place input any None = tells_nothing w
   asks_tells w place input any (Some system) = role_tells system.configuration.role w place input any
 
+  goes_on_tells : (w : World) (place : ℕ) (found : Option SystemState) → Tells w (goes_on w place found)
+  goes_on_tells w place None = tells_nothing w
+  goes_on_tells w place (Some s) = comes_tells w place (MomentComes (s.moment + 1)) (λ t. tt)
+
   tick_each_tells : (places : List ℕ) (w : World) → Tells w (tick_each w places)
   tick_each_tells [] w = tells_nothing w
   tick_each_tells (place ∷ places) w =
-      tells_both w (comes w place (MomentComes w.clock)) (λ v. tick_each v places) (comes_tells w place (MomentComes w.clock) (λ s. tt))
-      (tick_each_tells places (comes w place (MomentComes w.clock)).world)
+      let next = goes_on w place (slice_get w.systems place) in
+      tells_both w next (λ v. tick_each v places) (goes_on_tells w place (slice_get w.systems place)) (tick_each_tells places next.world)
+
+  tick_alone_tells : (w : World) (place : ℕ) (found : Option SystemState) → Tells w (tick_alone w place found)
+  tick_alone_tells w place None = tells_nothing w
+  tick_alone_tells w place (Some s) =
+      let told = goes_on_tells (record w { clock = max w.clock (s.moment + 1) }) place (Some s) in
+      record { front = told.front; lines = told.lines }
 
   -- Copies that are given.
 
@@ -199,7 +210,7 @@ module _ (laws : StepLaws) (ports : GoByPorts) where
     give_to_tells w place None for = tells_nothing w
     give_to_tells w place (Some s) for =
         elim (cases_Bool (is_late limits w given.copy)) [
-          | inl late ↦ rw late (tells_line w (Late w.clock s.configuration.name given.number) tt)
+          | inl late ↦ rw late (tells_line w (Late s.moment s.configuration.name given.number) tt)
           | inr soon ↦
               rw soon
               (let told = effect_tells w place s (frame_to s given.copy)
@@ -261,14 +272,14 @@ module _ (laws : StepLaws) (ports : GoByPorts) where
 
   deliver_to_tells : (limits : Limits) (w : World) (number place : ℕ) (found : Option Copy) (system : SystemState) → slice_get w.systems place ≡ Some system
       → Tells w (deliver_to limits w number place found system)
-  deliver_to_tells limits w number place None system e = tells_line w (Void w.clock system.configuration.name number) tt
+  deliver_to_tells limits w number place None system e = tells_line w (Void system.moment system.configuration.name number) tt
   deliver_to_tells limits w number place (Some copy) system e =
       elim (cases_Bool (is_addressee copy system)) [
         | inl is ↦
             rw is
             (give_to_tells limits (record { number = number; copy = copy }) w place (slice_get w.systems place)
             (λ s there. subst (λ (t : SystemState). is_addressee copy t ≡ true) (same_Some system s (sym e ∙ there)) is))
-        | inr isnt ↦ rw isnt (tells_line w (Void w.clock system.configuration.name number) tt)
+        | inr isnt ↦ rw isnt (tells_line w (Void system.moment system.configuration.name number) tt)
       ]
 
   deliver_tells : (limits : Limits) (w : World) (number place : ℕ) (found : Option SystemState) → slice_get w.systems place ≡ found
@@ -288,7 +299,7 @@ module _ (laws : StepLaws) (ports : GoByPorts) where
   told_tells w place system change told =
       let changed = comes w place (IsChanged change) in
       tells_both w changed (tells_of system told) (comes_tells w place (IsChanged change) (λ s. tt))
-      (tells_line changed.world (Noted changed.world.clock system.configuration.name told) tt)
+      (tells_line changed.world (Noted system.moment system.configuration.name told) tt)
 
   port_to_tells : (w : World) (place number subnet : ℕ) (snpa : List ℕ) (mtu : ℕ) (declared : Subnetwork) (system : SystemState) (found : Option PortConfig)
       → Tells w (moves_port_to w place number subnet snpa mtu declared system found)
@@ -364,6 +375,7 @@ module _ (laws : StepLaws) (ports : GoByPorts) where
   event_tells subnets limits w (Some (Settle count)) = tells_nothing w
   event_tells subnets limits w (Some (Lose count)) = tells_nothing w
   event_tells subnets limits w (Some (Tick count)) = tells_nothing w
+  event_tells subnets limits w (Some (event.TickSystem system count)) = tells_nothing w
   event_tells subnets limits w (Some (Deliver copy system)) = deliver_tells limits w copy system (slice_get w.systems system) refl
   event_tells subnets limits w (Some (Restart system)) = comes_tells w system IsRestarted (λ s. tt)
   event_tells subnets limits w (Some (Congest system on)) = comes_tells w system (IsCongested on) (λ s. tt)
@@ -384,6 +396,7 @@ module _ (laws : StepLaws) (ports : GoByPorts) where
   move_tells plan w TickOne =
       let told = tick_each_tells (range_with_len 0 (length w.systems)) (record w { clock = w.clock + 1 }) in
       record { front = told.front; lines = told.lines }
+  move_tells plan w (TickSystem place) = tick_alone_tells w place (slice_get w.systems place)
 
   pub lines_tell : (plan : Plan) (w : World) (move : Move) → AllByRecursion (TellsItsCopy (after plan w move).world.copies) (after plan w move).lines
   lines_tell plan w move = (move_tells plan w move).lines

@@ -1,6 +1,6 @@
 -- The world of a scenario's declarations is sound: nothing is sent yet, and nothing is on its way.
 use Rattle.clnp_machine.proofs.ClnpBase.Lists.{AllByRecursion-mapped, AllByRecursion-slice_get}
-use Rattle.std.proofs.Common.{◌≡◌, ℕ, zero, suc, ◌+◌, List, [], ◌∷◌, length, refl, sym, ap, subst, arith}
+use Rattle.std.proofs.Common.{◌≡◌, ℕ, zero, suc, ◌+◌, List, [], ◌∷◌, length, map, refl, ap, subst, arith}
 use Rattle.std.specs.Prelude.{slice_get, Some}
 use Rattle.std.specs.List.{AllByRecursion}
 use Rattle.clnp_machine.specs.ClnpPlan.Configuration.{IsAddressed, IsSystem, IsWithin, SystemConfiguration}
@@ -67,6 +67,13 @@ first_is_sound laws plan fit place configuration declared = record {
   pending = tt;
 }
 
+-- all clocks begin at 0
+first_clock : (limits : Limits) (from : ℕ) (systems : List SystemConfiguration) (place clock : ℕ)
+    → slice_get (map (λ (system : SystemState). system.moment) (states_from limits from systems)) place ≡ Some clock → clock ≡ 0
+first_clock limits from [] place clock e = absurd (cc)
+first_clock limits from (system ∷ systems) zero clock e = cc
+first_clock limits from (system ∷ systems) (suc place) clock e = first_clock limits (from + 1) systems place clock e
+
 pub first_world_is_sound : StepLaws → (plan : Plan) → IsFit plan → WorldIsSound plan [] (first_world plan)
 first_world_is_sound laws plan fit = record {
   made = record { each = tt; rest = λ i j d below within. absurd (omega arith) };
@@ -77,6 +84,9 @@ first_world_is_sound laws plan fit = record {
         let here = opened plan.limits 0 plan.systems place place s (omega arith) there in
         subst (SystemStands plan [] [] [] place) here.state (first_is_sound laws plan fit place here.configuration here.declared);
   };
-  current = λ place s there. ap (λ (t : SystemState). t.moment) (sym (opened plan.limits 0 plan.systems place place s (omega arith) there).state);
+  together = λ first second a b at there.
+      let one = first_clock plan.limits 0 plan.systems first a at in
+      let other = first_clock plan.limits 0 plan.systems second b there in
+      omega arith;
   mtus = first_mtus plan fit;
 }

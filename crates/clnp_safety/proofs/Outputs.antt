@@ -21,13 +21,13 @@ use Rattle.clnp_safety.proofs.Lines.{LineIs}
 use Rattle.clnp_safety.proofs.Steps.{Keeps, keeps-put_all_out}
 use Rattle.clnp_safety.proofs.Honest.{OutputIsSound}
 
--- these units were made, P holds of the clock and the system at each place, the copies are sound, and subnetworks take frames that are
+-- these units were made, P holds of the system at each place, the copies are sound, and subnetworks take frames that are
 -- long enough
-pub record Stands (units : List unit.Unit) (count : ℕ) (P : (clock place : ℕ) → SystemState → Type 0) (w : World) : Type 0 where
+pub record Stands (units : List unit.Unit) (count : ℕ) (P : (place : ℕ) → SystemState → Type 0) (w : World) : Type 0 where
   pub made : w.units ≡ units
   pub copies : AllByRecursion (CopyIsSound units) w.copies
   pub number : length w.systems ≡ count
-  pub each : (place : ℕ) (s : SystemState) → slice_get w.systems place ≡ Some s → P w.clock place s
+  pub each : (place : ℕ) (s : SystemState) → slice_get w.systems place ≡ Some s → P place s
   pub mtus : AllByRecursion (IsWithin 512 65535) w.mtus
 
 -- each port of a system is at an address
@@ -42,7 +42,7 @@ copy_from_is_sound units (Some port) target maker birth content addressed carrie
     (record { sender = addressed port refl; carries = carries; carried = carried; birth = born; maker = by }, tt)
 
 module _ (count : ℕ) (N : List ℕ → Note → Type 0) where
-  frame_stands : (units : List unit.Unit) (P : (clock place : ℕ) → SystemState → Type 0) (system : SystemState) (v : World) (port : ℕ) (target : Target)
+  frame_stands : (units : List unit.Unit) (P : (place : ℕ) → SystemState → Type 0) (system : SystemState) (v : World) (port : ℕ) (target : Target)
       (maker : Maker) (birth : ℕ) (content : Content) → PortsAreAddressed system → Carries (IsRangeOf units) content → IsCarried content
       → IsBornWithUnit birth content → IsMadeBy maker content
       → Stands units count P v → Keeps (Stands units count P) (LineIs N) (sends_frame system v port target maker birth content)
@@ -60,18 +60,18 @@ module _ (count : ℕ) (N : List ℕ → Note → Type 0) where
     lines = (tt, tt);
   }
 
-  put_out_stands : (units : List unit.Unit) (P : (clock place : ℕ) → SystemState → Type 0) (system : SystemState) → PortsAreAddressed system
+  put_out_stands : (units : List unit.Unit) (P : (place : ℕ) → SystemState → Type 0) (system : SystemState) → PortsAreAddressed system
       → (output : Output) → OutputIsSound (N system.configuration.name) units output → (v : World) → Stands units count P v
       → Keeps (Stands units count P) (LineIs N) (put_out system v output)
   put_out_stands units P system addressed (Notes note) h v k = record { world = k; lines = (h, tt) }
   put_out_stands units P system addressed (Transmits port target packet) h v k =
       frame_stands units P system v port target packet.unit.maker packet.unit.made (Labelled packet []) addressed (h.0, refl) h.1 refl refl k
   put_out_stands units P system addressed (SendsEsis port target value) h v k =
-      frame_stands units P system v port target (DeclaredAt system.place) v.clock (Esis value []) addressed refl h tt tt k
+      frame_stands units P system v port target (DeclaredAt system.place) system.moment (Esis value []) addressed refl h tt tt k
 
   -- a system that gives out only what is sound leaves a sound world
-  pub takes_effect_stands : (units : List unit.Unit) (P Q : (clock place : ℕ) → SystemState → Type 0) (w : World) (place : ℕ) (effect : Effect)
-      → ((other : ℕ) (s : SystemState) → other ≢ place → P w.clock other s → Q w.clock other s) → Q w.clock place effect.after
+  pub takes_effect_stands : (units : List unit.Unit) (P Q : (place : ℕ) → SystemState → Type 0) (w : World) (place : ℕ) (effect : Effect)
+      → ((other : ℕ) (s : SystemState) → other ≢ place → P other s → Q other s) → Q place effect.after
       → PortsAreAddressed effect.after → AllByRecursion (OutputIsSound (N effect.after.configuration.name) (units ++ effect.units)) effect.outputs
       → Stands units count P w → Keeps (Stands (units ++ effect.units) count Q) (LineIs N) (takes_effect w place effect)
   takes_effect_stands units P Q w place effect others here addressed outputs k =
@@ -84,7 +84,7 @@ module _ (count : ℕ) (N : List ℕ → Note → Type 0) where
         made = ap (λ us. us ++ effect.units) k.made;
         copies = copies_later units effect.units w.copies k.copies;
         number = length-set w.systems place effect.after ∙ k.number;
-        each = set_each (P w.clock) (Q w.clock) w.systems place effect.after k.each others here;
+        each = set_each P Q w.systems place effect.after k.each others here;
         mtus = k.mtus;
       })
 

@@ -67,7 +67,7 @@ module _ (laws : StepLaws) (systems : List SystemState) where
       → (v : World) → AreConfigured v → Keeps AreConfigured ByOwner (put_out later v output)
   put_out_by_owner place s later (Notes note) was e own v k = record {
     world = k;
-    lines = (noted_by_owner place v.clock s later.configuration note was e own, tt);
+    lines = (noted_by_owner place later.moment s later.configuration note was e own, tt);
   }
   put_out_by_owner place s later (Transmits port target packet) was e own v k = record { world = k; lines = (tt, tt) }
   put_out_by_owner place s later (SendsEsis port target value) was e own v k = record { world = k; lines = (tt, tt) }
@@ -93,7 +93,7 @@ module _ (laws : StepLaws) (systems : List SystemState) where
     restarts = λ w. tt;
     congestion = λ w on. tt;
     cursor = λ w next k. k;
-    clock = λ w k. k;
+    clock = λ w clock k. k;
     outside = λ w subnet sender target octets any k. k;
     sizes = λ w subnet mtu takes k. k;
     injected = λ now copy subnet sender target. tt;

@@ -19,11 +19,11 @@ use Rattle.clnp_network.specs.Run.{Entry}
 use Rattle.clnp_network.specs.Safe.{SaysNoRestart}
 use Rattle.clnp_safety.specs.Invariant.{AreUsesUntil, EachRests, SystemIsSound, WorldIsSound}
 use Rattle.clnp_safety.specs.StepLaws.{StepLaws}
-use Rattle.clnp_safety.proofs.Effects.{IsCurrent, IsSoundWith, StandsWith, step_keeps}
+use Rattle.clnp_safety.proofs.Effects.{AnySystem, IsSoundWith, StandsWith, step_keeps}
 use Rattle.clnp_safety.proofs.Lines.{LineIs, lines_are}
-use Rattle.clnp_safety.proofs.Moves.{IsPendingStill, MoveIsSound, moved_is_sound, nothing_is_sound, sound_since_itself}
+use Rattle.clnp_safety.proofs.Moves.{IsPendingStill, MoveIsSound, moved_is_sound, nothing_is_sound, sound_since, sound_since_itself}
 use Rattle.clnp_safety.proofs.Steps.{Keeps}
-use Rattle.clnp_safety.proofs.Honest.{NoteIsSound}
+use Rattle.clnp_safety.proofs.Honest.{NoteIsHonest}
 
 -- a system that was restarted has no uses
 pub no_uses : (now : ℕ) → AreUsesUntil now []
@@ -78,31 +78,29 @@ names_differ systems place other first second distinct at there apart same =
     ]
 
 module _ (laws : StepLaws) (plan : Plan) (fit : IsFit plan) (past : List Entry) (move : Move) (w : World) (h : WorldIsSound plan past w) (place : ℕ) where
-  -- a system is at the moment of the clock, and that at the place waits for no answer
-  record IsQuietThere (clock other : ℕ) (t : SystemState) : Type 0 where
-    current : t.moment ≡ clock
-    none : other ≡ place → t.pending ≡ []
+  -- the system at the place waits for no answer
+  abbrev IsQuietThere : (other : ℕ) → SystemState → Type 0
+  IsQuietThere other t = other ≡ place → t.pending ≡ []
 
   module _ (s : SystemState) (there : slice_get w.systems place ≡ Some s) where
-    -- a note is sound, and that of this system
+    -- a note is honest, and that of this system
     record IsNoteOf (name : List ℕ) (note : Note) : Type 0 where
-      sound : NoteIsSound plan past w name note
+      honest : NoteIsHonest plan past w name note
       named : name ≡ s.configuration.name
 
     kept : Keeps (IsSoundWith plan past w IsQuietThere) (LineIs IsNoteOf) (takes_effect w place (step s IsRestarted))
     kept =
         let it = h.systems.each place s there in
         let same : (w.units ++ []) ≡ w.units = append-nil w.units in
-        step_keeps laws plan fit past w IsNoteOf IsCurrent IsQuietThere w place s IsRestarted it tt tt
+        step_keeps laws plan fit past w IsNoteOf AnySystem IsQuietThere w place s IsRestarted it tt tt
         (record {
           after = subst (λ us. SystemIsSound plan us place (step s IsRestarted).after) (sym same) (restart_is_sound plan w.units place s it.sound);
           rest = subst (EachRests plan.limits.reuse) (sym same) h.made.rest;
           replies = tt;
           notes = (tt, tt);
         })
-        (λ other t apart current. record { current = current; none = λ here. absurd (apart here) })
-        (record { current = laws.steps.moment s IsRestarted ∙ h.current place s there; none = λ here. laws.steps.forgotten s })
-        (record { sound = record { honest = tt; no_rule = tt }; named = refl }, tt) (sound_since_itself plan past w h)
+        (λ other t apart any here. absurd (apart here)) (λ here. laws.steps.forgotten s)
+        (record { honest = tt; named = refl }, tt) (sound_since_itself plan past w h)
 
     -- no line says that another system was restarted
     says_of_no_other : (name : List ℕ) → s.configuration.name ≢ name → (line : Line) → LineIs IsNoteOf line → SaysNoRestart name line
@@ -115,25 +113,15 @@ module _ (laws : StepLaws) (plan : Plan) (fit : IsFit plan) (past : List Entry) 
         let k = kept.world in
         moved_is_sound plan past move w taken
         (record {
-          world = record {
-            made = k.made;
-            front = k.front;
-            stands = record {
-              made = k.stands.made;
-              copies = k.stands.copies;
-              number = k.stands.number;
-              each = λ other t at. let is = k.stands.each other t at in record { stands = is.stands; also = is.also.current };
-              mtus = k.stands.mtus;
-            };
-          };
-          lines = lines_are IsNoteOf (NoteIsSound plan past w) (λ name note is. is.sound) taken.lines kept.lines;
+          world = sound_since plan past w taken.world IsQuietThere k;
+          lines = lines_are IsNoteOf (NoteIsHonest plan past w) (λ name note is. is.honest) taken.lines kept.lines;
         })
         (λ other t at. still other t (k.stands.each other t at) (cases_eq other place))
       where
         still : (other : ℕ) (t : SystemState)
-            → StandsWith plan past w.units IsQuietThere (takes_effect w place (step s IsRestarted)).world.units (takes_effect w place (step s IsRestarted)).world.clock other t
+            → StandsWith plan past w.units IsQuietThere (takes_effect w place (step s IsRestarted)).world.units other t
             → (other ≡ place) ⊎ (other ≢ place) → IsPendingStill plan past move w (takes_effect w place (step s IsRestarted)) t
-        still other t is (inl here) = inl (is.also.none here)
+        still other t is (inl here) = inl (is.also here)
         still other t is (inr apart) =
             inr (AllByRecursion-implies (LineIs IsNoteOf) (SaysNoRestart t.configuration.name)
             (says_of_no_other t.configuration.name

@@ -1,6 +1,6 @@
 -- Identifiers rest, whatever the moves of whatever plan: one that is drawn for a unit was not used for long.
 use Rattle.clnp_machine.proofs.ClnpBase.Lists.{AllByRecursion-any, AllByRecursion-contains, AllByRecursion-implies, set_each}
-use Rattle.std.proofs.Common.{◌≡◌, ◌≢◌, ◌∙◌, ◌≤◌, ◌+◌, ◌⊎◌, refl, sym, ap, subst, ℕ, inl, inr, List, [], ◌++◌, Some, arith}
+use Rattle.std.proofs.Common.{◌≡◌, ◌≢◌, ◌∙◌, ◌≤◌, ◌⊎◌, refl, sym, ap, subst, ℕ, inl, inr, List, [], ◌++◌, Some, arith}
 use Rattle.std.specs.Prelude.{slice_get}
 use Rattle.std.specs.List.{AllByRecursion}
 use Rattle.std.proofs.lemmas.List.{append-nil}
@@ -26,16 +26,15 @@ use Rattle.clnp_safety.proofs.Opens.{opened}
 use Rattle.clnp_safety.proofs.Restarting.{no_uses}
 use Rattle.clnp_safety.proofs.Steps.{Keeps, keeps-put_all_out}
 
--- the system stands at a place, its moment has come, and its identifiers are sound
-record HasSound (reuse now place : ℕ) (units : List unit.Unit) (s : SystemState) : Type 0 where
+-- the system stands at a place, and its identifiers are sound
+record HasSound (reuse place : ℕ) (units : List unit.Unit) (s : SystemState) : Type 0 where
   stands_at : s.place ≡ place
-  come : s.moment ≤ now
   identifiers : AreSound reuse s.moment place units s.identifiers
 
 -- units rest one behind another, and each system has sound identifiers
 record UnitsRest (reuse : ℕ) (w : World) : Type 0 where
   rest : EachRests reuse w.units
-  each : (place : ℕ) (s : SystemState) → slice_get w.systems place ≡ Some s → HasSound reuse w.clock place w.units s
+  each : (place : ℕ) (s : SystemState) → slice_get w.systems place ≡ Some s → HasSound reuse place w.units s
 
 -- after a restart all units rest in the quiet time
 restarted_sound : (reuse now place : ℕ) (units : List unit.Unit) (ids : Identifiers) → AreSound reuse now place units ids
@@ -49,11 +48,10 @@ restarted_sound reuse now place units ids sound = record {
 }
 
 -- Other systems stay as they are.
-other_sound : (reuse now place other : ℕ) (units made : List unit.Unit) (moment : ℕ) (t : SystemState) → AllByRecursion (IsMadeNow moment place) made
-    → other ≢ place → HasSound reuse now other units t → HasSound reuse now other (units ++ made) t
-other_sound reuse now place other units made moment t new apart h = record {
+other_sound : (reuse place other : ℕ) (units made : List unit.Unit) (moment : ℕ) (t : SystemState) → AllByRecursion (IsMadeNow moment place) made
+    → other ≢ place → HasSound reuse other units t → HasSound reuse other (units ++ made) t
+other_sound reuse place other units made moment t new apart h = record {
   stands_at = h.stands_at;
-  come = h.come;
   identifiers = record {
     reuse_is = h.identifiers.reuse_is;
     uses = h.identifiers.uses;
@@ -72,11 +70,10 @@ steady_or_restarted : (input : Input) → RestartsNothing input ⊎ (input ≡ I
 steady_or_restarted IsRestarted = inr refl
 steady_or_restarted _ = inl tt
 
--- the moment that comes to a system is the clock's, and else it keeps its own
-moment_comes : (w : World) (s : SystemState) (input : Input) → IsOfNow w s input → s.moment ≤ w.clock
-    → (s.moment ≤ moment_after s input) × (moment_after s input ≤ w.clock)
-moment_comes w s (MomentComes now) at come = (omega arith, omega arith)
-moment_comes w s _ at come = (omega arith, come)
+-- the moment that comes to a system is its next one, and else it keeps its own
+moment_comes : (w : World) (s : SystemState) (input : Input) → IsOfNow w s input → s.moment ≤ moment_after s input
+moment_comes w s (MomentComes now) at = omega arith
+moment_comes w s _ at = omega arith
 
 put_out_rests : (reuse : ℕ) (system : SystemState) (output : Output) (v : World) → UnitsRest reuse v → Keeps (UnitsRest reuse) AnyLine (put_out system v output)
 put_out_rests reuse system (Notes note) v k = record { world = k; lines = (tt, tt) }
@@ -96,11 +93,11 @@ module _ (laws : StepLaws) (reuse : ℕ) (w : World) (place : ℕ) (s : SystemSt
   abbrev now : ℕ
   now = moment_after s input
 
-  it : HasSound reuse w.clock place w.units s
+  it : HasSound reuse place w.units s
   it = k.each place s there
 
-  comes : (s.moment ≤ now) × (now ≤ w.clock)
-  comes = moment_comes w s input at it.come
+  comes : s.moment ≤ now
+  comes = moment_comes w s input at
 
   new : AllByRecursion (IsMadeNow now place) effect.units
   new =
@@ -111,8 +108,8 @@ module _ (laws : StepLaws) (reuse : ℕ) (w : World) (place : ℕ) (s : SystemSt
   step_rests (inl steady) =
       let draws = step_draws laws s input steady in
       record {
-        identifiers = sound_after reuse s.moment now place w.units s.identifiers comes.0 it.identifiers effect.after.identifiers effect.units new draws;
-        rest = rest_after reuse s.moment now place w.units s.identifiers comes.0 it.identifiers effect.after.identifiers effect.units new k.rest draws;
+        identifiers = sound_after reuse s.moment now place w.units s.identifiers comes it.identifiers effect.after.identifiers effect.units new draws;
+        rest = rest_after reuse s.moment now place w.units s.identifiers comes it.identifiers effect.after.identifiers effect.units new k.rest draws;
       }
   step_rests (inr is) =
       subst (λ i. EffectRests reuse place w.units (moment_after s i) (step s i)) (sym is)
@@ -132,33 +129,22 @@ module _ (laws : StepLaws) (reuse : ℕ) (w : World) (place : ℕ) (s : SystemSt
       (with_effect w place effect)
       (record {
         rest = done.rest;
-        each = set_each (λ other t. HasSound reuse w.clock other w.units t) (λ other t. HasSound reuse w.clock other (w.units ++ effect.units) t) w.systems place effect.after k.each
-            (λ other t apart h. other_sound reuse w.clock place other w.units effect.units now t new apart h)
+        each = set_each (λ other t. HasSound reuse other w.units t) (λ other t. HasSound reuse other (w.units ++ effect.units) t) w.systems place effect.after k.each
+            (λ other t apart h. other_sound reuse place other w.units effect.units now t new apart h)
             (record {
               stands_at = (laws.steps.itself s input).place ∙ it.stands_at;
-              come = let within = comes.1 in omega arith;
               identifiers = subst (λ n. AreSound reuse n place (w.units ++ effect.units) effect.after.identifiers) (sym moment) done.identifiers;
             });
       })
-
-clock_goes_on : (reuse : ℕ) (w : World) → UnitsRest reuse w → UnitsRest reuse (record w { clock = w.clock + 1 })
-clock_goes_on reuse w k = record {
-  rest = k.rest;
-  each = λ place s there.
-      let it = k.each place s there in
-      let come = it.come in
-      record { stands_at = it.stands_at; come = omega arith; identifiers = it.identifiers };
-}
 
 first_rests : (plan : Plan) → UnitsRest plan.limits.reuse (first_world plan)
 first_rests plan = record {
   rest = λ i j d below within. absurd (omega arith);
   each = λ place s there.
       let here = opened plan.limits 0 plan.systems place place s (omega arith) there in
-      subst (HasSound plan.limits.reuse 0 place []) here.state
+      subst (HasSound plan.limits.reuse place []) here.state
       (record {
         stands_at = refl;
-        come = omega arith;
         identifiers = record { reuse_is = refl; uses = no_uses 0; accounted = λ u has. let none = has.1 in absurd (omega arith) };
       });
 }
@@ -174,7 +160,7 @@ identifiers_rest laws plan moves =
       restarts = λ w. tt;
       congestion = λ w on. tt;
       cursor = λ w next k. record { rest = k.rest; each = k.each };
-      clock = clock_goes_on reuse;
+      clock = λ w clock k. record { rest = k.rest; each = k.each };
       outside = λ w subnet sender target octets any k. record { rest = k.rest; each = k.each };
       sizes = λ w subnet mtu takes k. record { rest = k.rest; each = k.each };
       injected = λ now copy subnet sender target. tt;

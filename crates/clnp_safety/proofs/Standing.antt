@@ -13,6 +13,7 @@ use Rattle.clnp_machine.specs.Reassembly.Arrival.{Arrival}
 use Rattle.clnp_machine.specs.ClnpPlan.Configuration.{SystemConfiguration}
 use Rattle.clnp_machine.specs.ClnpPlan.declared.config.Limits.{Limits}
 use Rattle.clnp_machine.specs.ClnpPlan.declared.config.PortConfig.{PortConfig}
+use Rattle.clnp_machine.specs.ClnpPlan.declared.note.Note.{Note}
 use Rattle.clnp_network.specs.Scenario.Scenario.{InjectsNothing, IsClosed, IsFit, Plan}
 use Rattle.clnp_network.specs.Scenario.declared.event.Event.{Event}
 use Rattle.clnp_network.specs.Scenario.declared.event.Event.TheVariants.{Send, Echo, Inject, Mtu, Route, Unroute, Port}
@@ -22,19 +23,20 @@ use Rattle.clnp_machine.specs.Unit.{Maker, DeclaredAt, Packet}
 use Rattle.clnp_machine.specs.Content.{Content, Labelled, Esis, Unlabelled}
 use Rattle.clnp_machine.specs.System.{SystemState, Input, FrameComes, Output, Transmits, SendsEsis, Notes, Effect}
 use Rattle.clnp_machine.specs.Step.{step}
-use Rattle.clnp_machine.specs.Steps.{ComesWith, IsAtHand, ReportsOn, WasKeptOrComes, segments_in}
+use Rattle.clnp_machine.specs.Steps.{ComesWith, IsAtHand, NotesOnly, ReportsOn, WasKeptOrComes, segments_in}
 use Rattle.clnp_machine.specs.Told.{SpellsPdus}
 use Rattle.clnp_network.specs.World.{World, Copy, after, copy_from, copy_from_outside, first_port, first_world, frame_to, is_group, put_out, sends_frame, states_from, takes_effect, with_effect}
-use Rattle.clnp_network.specs.Run.{world_after}
+use Rattle.clnp_network.specs.Run.{Entry, entries_of, world_after}
 use Rattle.clnp_network.specs.Safe.{CameInCopy, KeepsWhatCame, ReportsOnCopy, ReportsStand, StandsInCopy}
 use Rattle.clnp_safety.specs.StepLaws.{StepLaws}
 use Rattle.clnp_safety.proofs.Carried.{AllIsCarried, ComesFairly, first_is_carried, frame_comes_fairly, sizes_are_carried, step_is_carried}
 use Rattle.clnp_safety.proofs.EveryMove.{AnyFrame, EachStepKeeps, Follows, GivesOnly, IsOfNow, asked_by_all, effect_makes, keeps-move, keeps-moves}
 use Rattle.clnp_safety.proofs.Events.{IsFitEvent, fit_events}
 use Rattle.clnp_safety.proofs.Grows.{effect_copies}
-use Rattle.clnp_safety.proofs.Lines.{AnyLine, any_line_changes, any_line_is_fine}
+use Rattle.clnp_safety.proofs.Lines.{AnyLine, LineIs, any_line_changes, any_line_is_fine}
+use Rattle.clnp_safety.proofs.Outputs.{takes_effect_notes}
 use Rattle.clnp_safety.proofs.Redirects.{systems_after}
-use Rattle.clnp_safety.proofs.Steps.{Keeps, keeps-put_all_out, with_outside}
+use Rattle.clnp_safety.proofs.Steps.{ChangingIsFine, Keeps, keeps-put_all_out, with_outside}
 
 -- Copies stay.
 
@@ -129,7 +131,7 @@ keeps_what_came laws plan moves =
       restarts = λ w. tt;
       congestion = λ w on. tt;
       cursor = λ w next k. k;
-      clock = λ w k. k;
+      clock = λ w clock k. k;
       outside = λ w subnet sender target octets any k. outside_came w subnet sender target octets k;
       sizes = λ w subnet mtu takes k. k;
       injected = λ now copy subnet sender target. tt;
@@ -168,7 +170,7 @@ output_spelled : (system : SystemState) (output : Output) (v : World) → AreSpe
 output_spelled system (Notes note) v k = record { world = k; lines = (tt, tt) }
 output_spelled system (Transmits port target packet) v k =
     frame_spelled system v port target packet.unit.maker packet.unit.made (Labelled packet []) tt k
-output_spelled system (SendsEsis port target value) v k = frame_spelled system v port target (DeclaredAt system.place) v.clock (Esis value []) tt k
+output_spelled system (SendsEsis port target value) v k = frame_spelled system v port target (DeclaredAt system.place) system.moment (Esis value []) tt k
 
 effect_spelled : (w : World) (place : ℕ) (effect : Effect) → AreSpelled w → AreSpelled (takes_effect w place effect).world
 effect_spelled w place effect k =
@@ -287,9 +289,14 @@ module _ (laws : StepLaws) (plan : Plan) (fit : IsFit plan) where
         (AllByRecursion-slice_get (λ (c : Copy). IsSpelled c.content) w.copies at copy e k.spelled);
   }
 
-  each_stands : EachStepKeeps ComesSoundly NoFrame (AllStands plan) AnyLine
-  each_stands = record {
-    steps = step_stands;
+  -- Each step keeps it, and its lines note only what P holds of, as all notes are of steps to which only PDUs come.
+  each_stands : (P : Note → Type 0) → ((s : SystemState) (input : Input) → SpellsPdus input → AllByRecursion (NotesOnly P) (step s input).outputs)
+      → ChangingIsFine (LineIs (λ name. P)) → EachStepKeeps ComesSoundly NoFrame (AllStands plan) (LineIs (λ name. P))
+  each_stands P notes changing = record {
+    steps = λ w place s input there comes at k. record {
+      world = (step_stands w place s input there comes at k).world;
+      lines = takes_effect_notes P w place (step s input) (notes s input comes.spells);
+    };
     frames = frame_comes_soundly;
     moments = λ w now. record { fairly = (tt, tt, tt); standing = tt; spells = tt };
     restarts = λ w. record { fairly = (tt, tt, tt); standing = tt; spells = tt };
@@ -300,7 +307,7 @@ module _ (laws : StepLaws) (plan : Plan) (fit : IsFit plan) where
       spelled = k.spelled;
       reports = k.reports;
     };
-    clock = λ w k. record {
+    clock = λ w clock k. record {
       carried = record { made = refl; copies = k.carried.copies; each = k.carried.each; mtus = k.carried.mtus };
       came = k.came;
       spelled = k.spelled;
@@ -314,8 +321,14 @@ module _ (laws : StepLaws) (plan : Plan) (fit : IsFit plan) where
       reports = k.reports;
     };
     injected = λ now copy subnet sender target. tt;
-    fine = any_line_is_fine;
-    changing = any_line_changes;
+    fine = record {
+      void = λ now name copy. tt;
+      late = λ now name copy. tt;
+      received = λ now name copy port. tt;
+      lost = λ now copy. tt;
+      nobody = λ now copy. tt;
+    };
+    changing = changing;
   }
 
   event_gives : (w : World) (event : Event) → IsFitEvent plan event → InjectsNothing event → GivesOnly (ComesSoundly w) NoFrame event
@@ -333,8 +346,38 @@ module _ (laws : StepLaws) (plan : Plan) (fit : IsFit plan) where
     events_give w =
         AllByRecursion-both (IsFitEvent plan) InjectsNothing (GivesOnly (ComesSoundly w) NoFrame) (event_gives w) plan.events (fit_events plan fit) closed
 
+    module _ (P : Note → Type 0) (notes : (s : SystemState) (input : Input) → SpellsPdus input → AllByRecursion (NotesOnly P) (step s input).outputs)
+        (changing : ChangingIsFine (LineIs (λ name. P))) where
+      move_keeps : (w : World) (move : Move) → AllStands plan w → Keeps (AllStands plan) (LineIs (λ name. P)) (after plan w move)
+      move_keeps w move k =
+          keeps-move ComesSoundly NoFrame (AllStands plan) (LineIs (λ name. P)) (each_stands P notes changing) plan events_give w move k
+
+      -- so are the lines of whatever moves
+      pub moves_note : (moves : List Move) (w : World) → AllStands plan w
+          → AllByRecursion (λ (entry : Entry). AllByRecursion (LineIs (λ name. P)) entry.lines) (entries_of plan w moves)
+      moves_note [] w k = tt
+      moves_note (move ∷ moves) w k =
+          let this = move_keeps w move k in (this.lines, moves_note moves (after plan w move).world this.world)
+
+    -- any note will do
+    abbrev AnyNote : Note → Type 0
+    AnyNote note = Unit {0}
+
+    any_notes : (s : SystemState) (output : Output) → NotesOnly AnyNote output
+    any_notes s (Transmits port target packet) = tt
+    any_notes s (SendsEsis port target value) = tt
+    any_notes s (Notes note) = tt
+
     pub move_stands : (w : World) (move : Move) → AllStands plan w → AllStands plan (after plan w move).world
-    move_stands w move k = (keeps-move ComesSoundly NoFrame (AllStands plan) AnyLine each_stands plan events_give w move k).world
+    move_stands w move k =
+        (move_keeps AnyNote (λ s input spells. AllByRecursion-any (NotesOnly AnyNote) (any_notes s) (step s input).outputs)
+        (record {
+          port = λ now name number subnet snpa. tt;
+          route = λ now name prefix. tt;
+          unroute = λ now name prefix there. tt;
+          resized = λ now subnet mtu. tt;
+        })
+        w move k).world
 
     pub first_stands : AllStands plan (first_world plan)
     first_stands = record {
@@ -345,4 +388,8 @@ module _ (laws : StepLaws) (plan : Plan) (fit : IsFit plan) where
     }
 
     pub all_stands : (moves : List Move) → AllStands plan (world_after plan (first_world plan) moves)
-    all_stands moves = keeps-moves ComesSoundly NoFrame (AllStands plan) AnyLine each_stands plan events_give moves (first_world plan) first_stands
+    all_stands moves = go moves (first_world plan) first_stands
+      where
+        go : (moves : List Move) (w : World) → AllStands plan w → AllStands plan (world_after plan w moves)
+        go [] w k = k
+        go (move ∷ moves) w k = go moves (after plan w move).world (move_stands w move k)

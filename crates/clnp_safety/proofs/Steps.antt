@@ -107,11 +107,11 @@ module _ (K : World → Type 0) (Q : Line → Type 0) where
         → Keeps K Q (takes_effect w place (step s (frame_to s given.copy)))
 
     keeps-late : (w : World) (place : ℕ) (s : SystemState) (late : Bool) → K w → (late ≡ false → Keeps K Q (takes_effect w place (step s (frame_to s given.copy))))
-        → Keeps K Q (if late then writes w (Late w.clock s.configuration.name given.number) else hand_to given w place s)
-    keeps-late w place s true h k = record { world = h; lines = (fine.late w.clock s.configuration.name given.number, tt) }
+        → Keeps K Q (if late then writes w (Late s.moment s.configuration.name given.number) else hand_to given w place s)
+    keeps-late w place s true h k = record { world = h; lines = (fine.late s.moment s.configuration.name given.number, tt) }
     keeps-late w place s false h k =
         let port = first_port given.copy s.configuration.role s.attached.ports in
-        record { world = (k refl).world; lines = (fine.received w.clock s.configuration.name given.number port, (k refl).lines) }
+        record { world = (k refl).world; lines = (fine.received s.moment s.configuration.name given.number port, (k refl).lines) }
 
     keeps-give_to : (w : World) (place : ℕ) (found : Option SystemState) → slice_get w.systems place ≡ found → K w → Takes w place
         → Keeps K Q (give_to limits given w place found)
@@ -144,7 +144,7 @@ module _ (K : World → Type 0) (Q : Line → Type 0) where
         (copy : Copy) → slice_get w.copies (number - 1) ≡ Some copy → Takes fine limits (record { number = number; copy = copy }) w place
 
     keeps-is_void : (w : World) (number : ℕ) (system : SystemState) → K w → Keeps K Q (is_void w system number)
-    keeps-is_void w number system h = record { world = h; lines = (fine.void w.clock system.configuration.name number, tt) }
+    keeps-is_void w number system h = record { world = h; lines = (fine.void system.moment system.configuration.name number, tt) }
 
     keeps-one_of : (given void : Step) (is_for : Bool) → Keeps K Q given → Keeps K Q void → Keeps K Q (if is_for then given else void)
     keeps-one_of given void is_for g v = one_of (Keeps K Q) is_for given void g v
@@ -171,7 +171,7 @@ module _ (K : World → Type 0) (Q : Line → Type 0) where
         → ((now : ℕ) → Q (Noted now system.configuration.name told)) → Keeps K Q (comes w place (IsChanged change))
         → Keeps K Q (followed_by (comes w place (IsChanged change)) (tells_of system told))
     keeps-told w place system change told tells h =
-        keeps-followed_by K (comes w place (IsChanged change)) (tells_of system told) h (λ v k. record { world = k; lines = (tells v.clock, tt) })
+        keeps-followed_by K (comes w place (IsChanged change)) (tells_of system told) h (λ v k. record { world = k; lines = (tells system.moment, tt) })
 
     module _ (w : World) (place : ℕ) (k : K w) where
       module _ (number subnet : ℕ) (snpa : List ℕ) where

@@ -1,25 +1,25 @@
--- A tick of the clock comes to each system in turn.
-use Rattle.clnp_machine.proofs.ClnpBase.Lists.{AllByRecursion-implies, slice_get_none}
-use Rattle.std.proofs.Common.{◌≡◌, ◌∙◌, ◌≤◌, ◌<◌, ℕ, zero, suc, List, ◌+◌, length, refl, sym, arith}
-use Rattle.std.specs.Prelude.{slice_get}
+-- A tick comes to each system in turn, or to one alone.
+use Rattle.clnp_machine.proofs.ClnpBase.Lists.{AllByRecursion-implies}
+use Rattle.std.proofs.Common.{◌≡◌, ◌∙◌, ◌≤◌, ℕ, List, [], ◌∷◌, ◌+◌, length, refl, sym, ap, arith}
+use Rattle.std.specs.Prelude.{max, slice_get, Option, None, Some}
 use Rattle.std.specs.List.{range_with_len}
-use Rattle.std.proofs.lemmas.Option.{slice_get_within}
+use Rattle.std.proofs.lemmas.Option.{same_Some}
 use Rattle.clnp_network.specs.Scenario.Scenario.{IsFit, Plan}
 use Rattle.clnp_machine.specs.ClnpPlan.Journal.{Line}
 use Rattle.clnp_machine.specs.Unit as unit
 use Rattle.clnp_machine.specs.System.{SystemState, MomentComes, then_does}
 use Rattle.clnp_machine.specs.Local.{made_in, tick}
 use Rattle.clnp_machine.specs.Esis.{forgets, says_hello}
-use Rattle.clnp_machine.specs.Step.{effect_of, moment_comes}
+use Rattle.clnp_machine.specs.Step.{effect_of, moment_comes, step}
 use Rattle.clnp_machine.specs.Told.{NoteIsQuiet, TellsOnly}
 use Rattle.clnp_network.specs.Run.{Entry}
-use Rattle.clnp_network.specs.World.{World, comes, tick_each, tick_one}
+use Rattle.clnp_network.specs.World.{World, goes_on, takes_effect, tick_alone, tick_each, tick_one, tick_system}
 use Rattle.clnp_safety.specs.Invariant.{EachRests, SystemIsSound, WorldIsSound}
 use Rattle.clnp_safety.specs.StepLaws.{StepLaws}
 use Rattle.clnp_safety.proofs.Deeds.{IsHonest, quiet_action, reports_are_sound, reports_reply_nothing, reports_rest}
 use Rattle.clnp_safety.proofs.Lines.{LineIs}
 use Rattle.clnp_safety.proofs.Steps.{Keeps, keeps-nothing, keeps-followed_by, keeps-comes_to}
-use Rattle.clnp_safety.proofs.Effects.{IsSoundWith, notes_are_steady, step_keeps}
+use Rattle.clnp_safety.proofs.Effects.{AnySystem, notes_are_steady, step_keeps}
 use Rattle.clnp_safety.proofs.Hellos.{EffectIsSound, deed_is_sound, only_then, then_hellos}
 use Rattle.clnp_safety.proofs.Ticking.{tick_is_sound, tick_reports}
 use Rattle.clnp_safety.proofs.Moves.{IsSoundSince, sound_since_itself}
@@ -47,73 +47,59 @@ moment_is_sound laws plan past w name units now place s later sound rest =
     }))
     only (says_known ticked.after)
 
-module _ (laws : StepLaws) (plan : Plan) (fit : IsFit plan) (past : List Entry) (w : World) where
-  -- the clock's moment has come to the systems before a place, and to none from there on: these are one moment behind it
-  record HasCome (next clock place : ℕ) (s : SystemState) : Type 0 where
-    come : place < next → s.moment ≡ clock
-    yet : next ≤ place → s.moment + 1 ≡ clock
-
-  abbrev HasComeTo : ℕ → World → Type 0
-  HasComeTo next = IsSoundWith plan past w (HasCome next)
+module _ (laws : StepLaws) (plan : Plan) (fit : IsFit plan) (past : List Entry) (w : World) (h : WorldIsSound plan past w) where
+  -- what the worlds of a tick keep
+  abbrev Sound : World → Type 0
+  Sound = IsSoundSince plan past w
 
   -- what the lines are
   abbrev Told : Line → Type 0
   Told = LineIs (NoteIsSteady plan past w)
 
-  system_ticks : (v : World) (place : ℕ) → HasComeTo place v → place < length plan.systems
-      → Keeps (HasComeTo (place + 1)) Told (comes v place (MomentComes v.clock))
-  system_ticks v place k below =
-      keeps-comes_to (HasComeTo (place + 1)) Told v place (MomentComes v.clock) (slice_get v.systems place)
-      (λ none. let past = slice_get_none v.systems place none in let number = k.stands.number in absurd (omega arith))
-      (λ s there.
+  -- a later moment comes to a system
+  system_ticks : (v : World) (place : ℕ) (s : SystemState) (now : ℕ) → slice_get v.systems place ≡ Some s → s.moment ≤ now → Sound v
+      → Keeps Sound Told (takes_effect v place (step s (MomentComes now)))
+  system_ticks v place s now there later k =
       let it = k.stands.each place s there in
-      let input = MomentComes v.clock in
-      let behind : s.moment + 1 ≡ v.clock = it.also.yet (omega arith) in
-      let done : EffectIsSound plan past w s.configuration.name v.units place (moment_comes s v.clock) =
-      moment_is_sound laws plan past w s.configuration.name v.units v.clock place s (omega arith) it.stands.sound k.made.rest in
-      step_keeps laws plan fit past w (NoteIsSteady plan past w) (HasCome place) (HasCome (place + 1)) v place s input it.stands tt tt done
-      (λ other t apart h. record { come = λ l. h.come (omega arith); yet = λ l. h.yet (omega arith) })
-      (record { come = λ l. laws.steps.moment s input; yet = λ l. absurd (omega arith) })
-      (notes_are_steady laws plan fit past w s.configuration.name s input v.units tt done.notes tt) k)
+      let done : EffectIsSound plan past w s.configuration.name v.units place (moment_comes s now) =
+      moment_is_sound laws plan past w s.configuration.name v.units now place s later it.stands.sound k.made.rest in
+      step_keeps laws plan fit past w (NoteIsSteady plan past w) AnySystem AnySystem v place s (MomentComes now) it.stands tt tt done
+      (λ other t apart any. any) tt
+      (notes_are_steady laws plan fit past w s.configuration.name s (MomentComes now) done.notes tt) k
 
-  each_ticks : (count place : ℕ) → length plan.systems ≡ place + count → (v : World) → HasComeTo place v
-      → Keeps (IsSoundSince plan past w) Told (tick_each v (range_with_len place count))
-  each_ticks zero place all v k =
-      keeps-nothing (IsSoundSince plan past w) Told v
-      (record {
+  -- the clock of the system at a place goes on
+  goes_on_soundly : (v : World) (place : ℕ) (found : Option SystemState) → slice_get v.systems place ≡ found → Sound v → Keeps Sound Told (goes_on v place found)
+  goes_on_soundly v place None e k = keeps-nothing Sound Told v k
+  goes_on_soundly v place (Some s) e k =
+      keeps-comes_to Sound Told v place (MomentComes (s.moment + 1)) (slice_get v.systems place) (λ none. k)
+      (λ t there.
+      let same : s.moment ≡ t.moment = ap (λ (u : SystemState). u.moment) (same_Some s t (sym e ∙ there)) in
+      system_ticks v place t (s.moment + 1) there (omega arith) k)
+
+  each_ticks : (places : List ℕ) (v : World) → Sound v → Keeps Sound Told (tick_each v places)
+  each_ticks [] v k = keeps-nothing Sound Told v k
+  each_ticks (place ∷ places) v k =
+      keeps-followed_by Sound Told Sound (goes_on v place (slice_get v.systems place)) (λ u. tick_each u places)
+      (goes_on_soundly v place (slice_get v.systems place) refl k) (each_ticks places)
+
+  -- the world with another clock
+  at_clock : (clock : ℕ) → Sound (record w { clock = clock })
+  at_clock clock =
+      let k = sound_since_itself plan past w h in
+      record {
         made = k.made;
         front = k.front;
-        stands = record {
-          made = refl;
-          copies = k.stands.copies;
-          number = k.stands.number;
-          each = λ other s there.
-              let within = slice_get_within v.systems other s there in
-              let number = k.stands.number in
-              let it = k.stands.each other s there in
-              record { stands = it.stands; also = it.also.come (omega arith) };
-          mtus = k.stands.mtus;
-        };
-      })
-  each_ticks (suc count) place all v k =
-      keeps-followed_by (IsSoundSince plan past w) Told (HasComeTo (place + 1)) (comes v place (MomentComes v.clock)) (λ u. tick_each u (range_with_len (place + 1) count))
-      (system_ticks v place k (omega arith)) (each_ticks count (place + 1) (omega arith))
+        stands = record { made = refl; copies = k.stands.copies; number = k.stands.number; each = k.stands.each; mtus = k.stands.mtus };
+      }
 
-pub tick_one_is_sound : StepLaws → (plan : Plan) → IsFit plan → (past : List Entry) (w : World) → WorldIsSound plan past w
-    → Keeps (IsSoundSince plan past w) (LineIs (NoteIsSteady plan past w)) (tick_one w)
-tick_one_is_sound laws plan fit past w h =
-    let k = sound_since_itself plan past w h in
-    each_ticks laws plan fit past w (length w.systems) 0 (let number = k.stands.number in omega arith) (record w { clock = w.clock + 1 })
-    (record {
-      made = k.made;
-      front = k.front;
-      stands = record {
-        made = refl;
-        copies = k.stands.copies;
-        number = k.stands.number;
-        each = λ place s there.
-            let current = h.current place s there in
-            record { stands = h.systems.each place s there; also = record { come = λ l. absurd (omega arith); yet = λ l. omega arith } };
-        mtus = k.stands.mtus;
-      };
-    })
+  pub tick_one_is_sound : Keeps Sound Told (tick_one w)
+  tick_one_is_sound = each_ticks (range_with_len 0 (length w.systems)) (record w { clock = w.clock + 1 }) (at_clock (w.clock + 1))
+
+  tick_alone_is_sound : (place : ℕ) (found : Option SystemState) → slice_get w.systems place ≡ found → Keeps Sound Told (tick_alone w place found)
+  tick_alone_is_sound place None e = keeps-nothing Sound Told w (sound_since_itself plan past w h)
+  tick_alone_is_sound place (Some s) e =
+      let clock = max w.clock (s.moment + 1) in goes_on_soundly (record w { clock = clock }) place (Some s) e (at_clock clock)
+
+  -- one system's clock goes on alone
+  pub tick_system_is_sound : (place : ℕ) → Keeps Sound Told (tick_system w place)
+  tick_system_is_sound place = tick_alone_is_sound place (slice_get w.systems place) refl

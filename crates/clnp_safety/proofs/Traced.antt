@@ -128,7 +128,7 @@ module _ (plan : Plan) where
     output_has system (Transmits port target packet) sends v k =
         frame_has system v port target packet.unit.maker packet.unit.made (Labelled packet []) refl sends k
     output_has system (SendsEsis port target value) sends v k =
-        frame_has system v port target (DeclaredAt system.place) v.clock (Esis value []) tt
+        frame_has system v port target (DeclaredAt system.place) system.moment (Esis value []) tt
         (λ outside. let own : DeclaredAt system.place ≡ Outside = outside in absurd (cc)) k
 
   step_traced : StepLaws → (w : World) (place : ℕ) (s : SystemState) (input : Input) → slice_get w.systems place ≡ Some s → ComesTraced w input
@@ -191,7 +191,7 @@ makers_are_known laws plan moves =
       restarts = λ w. tt;
       congestion = λ w on. tt;
       cursor = λ w next k. k;
-      clock = λ w k. k;
+      clock = λ w clock k. k;
       outside = outside_traced plan;
       sizes = λ w subnet mtu takes k. k;
       injected = λ now copy subnet sender target. tt;

@@ -2,6 +2,7 @@
 use Rattle.std.specs.Prelude.{◌≡◌, ℕ, ◌+◌, ◌≤◌, ◌<◌, ◌⊎◌, false, List, [], length, slice_get, None, Some, AllPairs}
 use Rattle.std.specs.List.{AllByRecursion, Contains}
 use Rattle.clnp_network.specs.Scenario.Scenario.{Plan}
+use Rattle.clnp_network.specs.Scenario.Standing.{AreTogether}
 use Rattle.clnp_machine.specs.ClnpPlan.Configuration.{IsWithin, SystemConfiguration}
 use Rattle.hex.specs.Hex.{IsBytes}
 use Rattle.clnp_machine.specs.Nsap.Address.{IsAddress}
@@ -20,6 +21,7 @@ use Rattle.clnp_machine.specs.System.{SystemState}
 use Rattle.clnp_machine.specs.Steps.{IsRangeOf, KnowsAddresses}
 use Rattle.clnp_machine.specs.Local.{header_size, offered}
 use Rattle.clnp_network.specs.World.{World, Copy}
+use Rattle.clnp_network.specs.Clocks.{clocks_of}
 use Rattle.clnp_network.specs.Run.{Entry}
 use Rattle.clnp_network.specs.Safe.{KeepsWhatCame, ReportsStand, RequestedSinceRestart, Rests, WasSent}
 use Rattle.clnp_safety.specs.Outside.{IsMadeBy}
@@ -96,7 +98,7 @@ pub record BufferIsSound (plan : Plan) (units : List unit.Unit) (buffer : Buffer
   pub identified : unit.identifier ≡ Some identifier
   pub key : buffer.key ≡ record { from = unit.source; to = unit.destination; id = identifier }
   pub shape : buffer.shape ≡ record { total = unit.total; head_len = header_size unit; kind = type_code unit.kind }
-  pub opened : buffer.opened ≤ unit.made + plan.limits.age
+  pub opened : buffer.opened ≤ unit.made + plan.limits.age + plan.limits.skew
   pub deadline : buffer.deadline ≤ buffer.opened + plan.limits.hold
   pub kept : AllByRecursion (IsOfUnit units unit) buffer.kept
 
@@ -155,13 +157,13 @@ pub record SystemsAreSound (plan : Plan) (past : List Entry) (units : List unit.
   pub number : length systems ≡ length plan.systems
   pub each : (place : ℕ) (s : SystemState) → slice_get systems place ≡ Some s → SystemStands plan past units units place s
 
--- What holds of a network beside the entries that led to it. That each system is at the moment of the clock is the one part that
--- compares a clock with another.
+-- What holds of a network beside the entries that led to it. That any two clocks stand no further apart than they may is the one
+-- part that compares a clock with another.
 pub record WorldIsSound (plan : Plan) (past : List Entry) (w : World) : Type 0 where
   pub made : UnitsAreSound plan past w.units
   pub copies : AllByRecursion (CopyIsSound w.units) w.copies
   pub systems : SystemsAreSound plan past w.units w.systems
-  pub current : (place : ℕ) (s : SystemState) → slice_get w.systems place ≡ Some s → s.moment ≡ w.clock
+  pub together : AreTogether plan.limits.skew (clocks_of w)
   pub mtus : AllByRecursion (IsWithin 512 65535) w.mtus
 
 -- So it is, each segment that a system keeps stands in a copy, and each error report is of a packet that does.

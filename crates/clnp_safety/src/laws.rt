@@ -6,7 +6,8 @@ ghost use Rattle.clnp_machine.specs.ClnpPlan.declared.config.Limits.{Limits};
 ghost use Rattle.clnp_network.specs.Scenario.Scenario.{Plan, IsClosed, IsFit};
 ghost use Rattle.clnp_network.specs.Scenario.declared.event.Move.{Move};
 ghost use Rattle.clnp_network.specs.World.{World, after, first_world};
-ghost use Rattle.clnp_network.specs.Run.{Entry, entries_of, full_weight, run, text_of, until_full, world_after};
+ghost use Rattle.clnp_network.specs.Clocks.{AreCurrent, NoneIsAhead, StaysTogether, TickTogether, clock_after, clocks_after, clocks_of};
+ghost use Rattle.clnp_network.specs.Run.{Entry, entries_of, full_weight, moves_made, moves_of_plan, run, text_of, until_full, world_after};
 ghost use Rattle.clnp_network.specs.Safe.{CarriesRanges, EachIsFounded, EachWasSent, FramesAreUnbroken, HoldsUnitsApart, HopsCountCopies, IdentifiersRest, IsHonest, IsSend, NoRefusal, IsWithinBudgets, IsWithinLifetimes, KeepsHeaders, KeepsWhatCame, NoInterference, NoneIsAlien, RedirectsChangeOneNextHop, TellsNoRule};
 ghost use Rattle.clnp_safety.specs.Attached.{IsAttachedThroughout};
 ghost use Rattle.clnp_safety.specs.Invariant.{NetworkIsSound};
@@ -22,19 +23,27 @@ use clnp_machine::laws as machine;
 /// Without frames from outside a run hands up only what it sent before: from the same source to the
 /// same destination, with the same octets, and not refused. So does each series of moves, in whatever
 /// order they come: copies that are lost, late, given twice or out of order, ticks and restarts change
-/// nothing of it.
+/// nothing of it. The clock of one system may go on alone, while no two clocks stand further apart than
+/// the scenario lets them.
 pub fn handed_up_was_sent()
     ensures run { (plan : Plan) → IsFit plan → IsClosed plan → IsHonest plan (run plan) }
-    ensures moves { (plan : Plan) → IsFit plan → IsClosed plan → (moves : List Move) → EachWasSent plan [] (entries_of plan (first_world plan) moves) }
+    ensures moves { (plan : Plan) → IsFit plan → IsClosed plan → (moves : List Move) → TickTogether moves
+        → EachWasSent plan [] (entries_of plan (first_world plan) moves) }
+    ensures together { (plan : Plan) → IsFit plan → IsClosed plan → (moves : List Move) → StaysTogether plan moves
+        → EachWasSent plan [] (entries_of plan (first_world plan) moves) }
 {
     laws_of_steps();
 }
 
 /// Without frames from outside no segment of a unit ever meets one of another unit in a reassembly
 /// buffer, since a data unit identifier rests until none of its unit can be on its way (ISO 8473,
-/// section 6.8).
+/// section 6.8): in the run of a scenario, and in whatever moves that take on no clock alone, or leave no
+/// two clocks further apart than the scenario lets them.
 pub fn no_unit_meets_another()
-    ensures { (plan : Plan) → IsFit plan → IsClosed plan → (moves : List Move)
+    ensures run { (plan : Plan) → IsFit plan → IsClosed plan → AllByRecursion (λ (entry : Entry). NoInterference entry.lines) (run plan) }
+    ensures moves { (plan : Plan) → IsFit plan → IsClosed plan → (moves : List Move) → TickTogether moves
+        → AllByRecursion (λ (entry : Entry). NoInterference entry.lines) (entries_of plan (first_world plan) moves) }
+    ensures together { (plan : Plan) → IsFit plan → IsClosed plan → (moves : List Move) → StaysTogether plan moves
         → AllByRecursion (λ (entry : Entry). NoInterference entry.lines) (entries_of plan (first_world plan) moves) }
 {
     laws_of_steps();
@@ -110,21 +119,28 @@ pub fn no_frame_is_alien()
 }
 
 /// Without frames from outside each reassembly buffer of a run holds segments of one unit that was
-/// made, each of which stands in a copy.
+/// made, each of which stands in a copy; so it is after whatever moves that take on no clock alone, or
+/// leave no two clocks further apart than the scenario lets them.
 pub fn units_are_held_apart()
-    ensures { (plan : Plan) → IsFit plan → IsClosed plan → (moves : List Move) → HoldsUnitsApart (world_after plan (first_world plan) moves) }
+    ensures moves { (plan : Plan) → IsFit plan → IsClosed plan → (moves : List Move) → TickTogether moves
+        → HoldsUnitsApart (world_after plan (first_world plan) moves) }
+    ensures together { (plan : Plan) → IsFit plan → IsClosed plan → (moves : List Move) → StaysTogether plan moves
+        → HoldsUnitsApart (world_after plan (first_world plan) moves) }
 {
     laws_of_steps();
 }
 
-/// After each series of moves the network of a fit plan without frames from outside is sound, beside the entries that led to it:
-/// each unit is founded on them, and rests behind those before it; each copy carries a range of one, or an ES-IS value that a PDU
-/// can carry; each system is that of its declaration, at the clock's moment, with the uses of its identifiers in order, each of its
-/// units since its last restart among them, with buffers that hold segments of one unit each, that are neither due nor whole, and
-/// end before another unit can come to them, with requests that it made since its last restart, and with ports and routes that are
-/// as they should be. What it keeps stands in copies, and so does the packet of which an error report is.
+/// After each series of moves that take on no clock alone, or leave no two clocks further apart than they may stand, the network of a
+/// fit plan without frames from outside is sound, beside the entries that led to it: each unit is founded on them, and rests behind
+/// those before it; each copy carries a range of one, or an ES-IS value that a PDU can carry; no two clocks stand further apart than
+/// they may; each system is that of its declaration, with the uses of its identifiers in order, each of its units since its last
+/// restart among them, with buffers that hold segments of one unit each, that are neither due nor whole, and end before another unit
+/// can come to them, with requests that it made since its last restart, and with ports and routes that are as they should be. What it
+/// keeps stands in copies, and so does the packet of which an error report is.
 pub fn networks_of_runs_are_sound()
-    ensures { (plan : Plan) → IsFit plan → IsClosed plan → (moves : List Move)
+    ensures moves { (plan : Plan) → IsFit plan → IsClosed plan → (moves : List Move) → TickTogether moves
+        → NetworkIsSound plan (entries_of plan (first_world plan) moves) (world_after plan (first_world plan) moves) }
+    ensures together { (plan : Plan) → IsFit plan → IsClosed plan → (moves : List Move) → StaysTogether plan moves
         → NetworkIsSound plan (entries_of plan (first_world plan) moves) (world_after plan (first_world plan) moves) }
 {
     laws_of_steps();
@@ -141,9 +157,13 @@ pub fn what_is_kept_came_in_copies()
 /// Without frames from outside, what a line of a run says of error reports and echo replies that came to
 /// a system is founded on what the system made: the data of a report are the header of a packet of a unit
 /// of its own, which a copy carries, and an echo reply answers a request that it made since its last restart, and was made by
-/// an owner of its source.
+/// an owner of its source. So it is in whatever moves that take on no clock alone, or leave no two clocks further apart than the
+/// scenario lets them.
 pub fn reports_and_echoes_are_of_its_own()
-    ensures { (plan : Plan) → IsFit plan → IsClosed plan → (moves : List Move) → EachIsFounded plan (first_world plan) [] moves }
+    ensures moves { (plan : Plan) → IsFit plan → IsClosed plan → (moves : List Move) → TickTogether moves
+        → EachIsFounded plan (first_world plan) [] moves }
+    ensures together { (plan : Plan) → IsFit plan → IsClosed plan → (moves : List Move) → StaysTogether plan moves
+        → EachIsFounded plan (first_world plan) [] moves }
 {
     laws_of_steps();
 }
@@ -235,6 +255,36 @@ pub fn text_only_grows()
     ensures { (plan : Plan) (w : World) (moves later : List Move) → IsFront moves later → IsFront (text_of plan w moves) (text_of plan w later) }
 {}
 
+/// Each move takes on the clocks of all systems by one tick, or that of one, or none, as its kind says, whatever the network; and the
+/// network's clock with all, and where a system's passes it. So no system's clock comes to stand ahead of the network's, where none
+/// does before.
+pub fn clocks_go_on_by_moves()
+    ensures systems { (plan : Plan) (w : World) (move : Move) → clocks_of (after plan w move).world ≡ clocks_after (clocks_of w) move }
+    ensures network { (plan : Plan) (w : World) (move : Move) → (after plan w move).world.clock ≡ clock_after w.clock (clocks_of w) move }
+    ensures none_ahead { (plan : Plan) (w : World) (move : Move) → NoneIsAhead w → NoneIsAhead (after plan w move).world }
+    ensures runs { (plan : Plan) (moves : List Move) → NoneIsAhead (world_after plan (first_world plan) moves) }
+{
+    laws_of_steps();
+}
+
+/// Where no move takes on the clock of one system alone, each system is at the moment of the network's clock, and no two clocks ever
+/// stand apart. The moves of a scenario of version 1 are such.
+pub fn clocks_that_tick_together_are_one()
+    ensures current { (plan : Plan) (moves : List Move) → TickTogether moves → AreCurrent (world_after plan (first_world plan) moves) }
+    ensures together { (plan : Plan) (moves : List Move) → TickTogether moves → StaysTogether plan moves }
+    ensures version_1 { (plan : Plan) → IsFit plan → plan.version ≡ 1 → TickTogether (moves_of_plan plan) }
+{
+    laws_of_steps();
+}
+
+/// In the moves of a fit scenario, in those of them that are made, and in each front of moves in which it is so, no two clocks ever
+/// stand further apart than the scenario lets them.
+pub fn clocks_of_runs_stay_together()
+    ensures called { (plan : Plan) → IsFit plan → StaysTogether plan (moves_of_plan plan) }
+    ensures made { (plan : Plan) → IsFit plan → StaysTogether plan (moves_made plan) }
+    ensures front { (plan : Plan) (moves later : List Move) → IsFront moves later → StaysTogether plan later → StaysTogether plan moves }
+{}
+
 /// The runs of a fit scenario are safe: what the laws above say of its journal, of its lines and of its networks, in one record with
 /// a part by its name for each, so that one clause may say it of the scenario that a text is.
 pub fn runs_are_safe()
@@ -261,6 +311,9 @@ pub fn runs_are_safe()
     transmissions_are_copies();
     a_redirect_changes_one_next_hop();
     attachments_of_runs_are_sound();
+    clocks_go_on_by_moves();
+    clocks_that_tick_together_are_one();
+    clocks_of_runs_stay_together();
     clnp_network::laws::the_journal_is_the_text_of_the_run();
 }
 

@@ -31,7 +31,7 @@ use Rattle.clnp_world.proofs.EachSteps.{each_length, each_set}
 use Rattle.clnp_world.proofs.GiveSteps.{follows_nothing, follows_then, system_there}
 use Rattle.clnp_world.proofs.LineSteps.{gains_nothing}
 use Rattle.clnp_world.proofs.ModelSteps.{each-push}
-use Rattle.clnp_world.proofs.TakeSteps.{comes_follows, is_current, is_there, shows_with, with_node}
+use Rattle.clnp_world.proofs.TakeSteps.{comes_follows, is_behind, is_there, shows_with, with_node}
 
 -- A system is attached elsewhere.
 
@@ -42,8 +42,11 @@ changes old place new change lines model system h there goes =
     let code = with_node old place new in
     let puts : Puts code lines lines (network.comes model place (IsChanged change))
     = subst (λ (s : Option SystemState). Puts code lines lines (network.comes_to model place (IsChanged change) s)) (sym there)
-    record { shows = shows_with old place new model (step system (IsChanged change)) h.shows goes; lines = gains_nothing lines } in
-    comes_follows old code lines lines place (IsChanged change) model h (is_current old place model h) puts
+    record {
+      shows = shows_with old place new model (step system (IsChanged change)) h.shows goes (h.shows.placed place system there);
+      lines = gains_nothing lines;
+    } in
+    comes_follows old code lines lines place (IsChanged change) model h (is_behind old place model h) puts
 
 -- the system at the place is then the one behind the change
 changed_there : (model : network.World) (place : ℕ) (system : SystemState) (change : Change) → slice_get model.systems place ≡ Some system
@@ -57,7 +60,7 @@ changed_there model place system change there =
 abbrev pub WritesNote : Network → Lines → Lines → ℕ → Note → Type 0
 WritesNote code before after place told =
     (model : network.World) (system : SystemState) → Shows code model → slice_get model.systems place ≡ Some system
-    → Gains before after (Noted model.clock system.configuration.name told ∷ [])
+    → Gains before after (Noted system.moment system.configuration.name told ∷ [])
 
 changes_and_tells : (old : Network) (before after : Lines) (place : ℕ) (new : System) (change : Change) (told : Note)
     → WritesNote (with_node old place new) before after place told
@@ -88,8 +91,9 @@ stays_at old place new model system h there stands = record {
     born = h.shows.born;
     short = h.shows.short;
     weight = h.shows.weight;
+    placed = h.shows.placed;
   };
-  current = h.current;
+  behind = h.behind;
 }
 
 stays_follows : (old : Network) (place : ℕ) (new : System) (lines : Lines) (model : network.World) (system : SystemState) → Holds old model
@@ -378,8 +382,9 @@ keeps_mtu old code at mtu wide is others model h =
         born = h.shows.born;
         short = h.shows.short;
         weight = h.shows.weight;
+        placed = h.shows.placed;
       };
-      current = h.current;
+      behind = h.behind;
     }
 
 abbrev pub ResizesAs : Network → Network → Lines → Lines → List Subnetwork → (subnet mtu : ℕ) → Type 0

@@ -13,9 +13,9 @@ use Rattle.clnp_machine.specs.Step.{step}
 use Rattle.clnp_network.specs.World as network
 use Rattle.clnp_world.specs.Lines.{Gains}
 use Rattle.clnp_world.specs.declared.lines.Lines.{Lines}
-use Rattle.clnp_world.specs.Seen.{IsPortFor, frame_copy}
+use Rattle.clnp_world.specs.Seen.{IsPortFor, frame_copy, origin_of}
 use Rattle.clnp_world.specs.Parts.{Shows, Holds, IsRunning, Follows}
-use Rattle.clnp_world.specs.Stands.{IsBornWithUnit}
+use Rattle.clnp_world.specs.Stands.{IsMadeWithUnit}
 use Rattle.clnp_world.specs.declared.network.Network.{Network}
 use Rattle.clnp_world.specs.declared.copy.FrameCopy.{FrameCopy}
 use Rattle.clnp_machine.proofs.ClnpBase.Lists.{AllByRecursion-slice_get, slice_get_some}
@@ -39,7 +39,7 @@ pub carried_at : (copies : List network.Copy) (at : ℕ) (copy : network.Copy) �
 carried_at copies at copy h e = AllByRecursion-slice_get (λ (c : network.Copy). IsCarried c.content) copies at copy e h
 
 pub born_at : (copies : List network.Copy) (at : ℕ) (copy : network.Copy) → AllByRecursion Born copies → slice_get copies at ≡ Some copy
-    → IsBornWithUnit copy.birth copy.content
+    → IsMadeWithUnit (origin_of copy.maker copy.birth) copy.content
 born_at copies at copy h e = AllByRecursion-slice_get Born copies at copy e h
 
 -- the code's copy comes to a system as the model's does
@@ -83,12 +83,12 @@ numbered number copy = record { number = number; copy = copy }
 -- a line tells by which port the copy comes to the system, and then it takes the copy in
 pub hands_over : (code : Network) (before between after : Lines) (number place : ℕ) (model : network.World) (copy : network.Copy) (system : SystemState)
     → Gains before between
-    (Received model.clock system.configuration.name number (network.first_port copy system.configuration.role system.attached.ports) ∷ [])
+    (Received system.moment system.configuration.name number (network.first_port copy system.configuration.role system.attached.ports) ∷ [])
     → Follows code between after (network.takes_effect model place (step system (network.frame_to system copy)))
     → Follows code before after (network.hand_to (numbered number copy) model place system)
 hands_over code before between after number place model copy system line taken =
     let port = network.first_port copy system.configuration.role system.attached.ports in
-    follows_then code before between after (network.writes model (Received model.clock system.configuration.name number port))
+    follows_then code before between after (network.writes model (Received system.moment system.configuration.name number port))
     (λ v. network.takes_effect v place (step system (network.frame_to system copy))) line taken
 
 -- whether the copy is late
@@ -100,14 +100,14 @@ TellsLate code limits at answer =
 pub gives_late : (code : Network) (before after : Lines) (limits : Limits) (number at place : ℕ) → place < length code.systems.items
     → TellsLate code limits at true
     → ((model : network.World) (system : SystemState) → Shows code model → slice_get model.systems place ≡ Some system
-    → Gains before after (Late model.clock system.configuration.name number ∷ []))
+    → Gains before after (Late system.moment system.configuration.name number ∷ []))
     → (model : network.World) (copy : network.Copy) → Holds code model → slice_get model.copies at ≡ Some copy
     → Follows code before after (network.give limits (numbered number copy) model place)
 gives_late code before after limits number at place within tells writes model copy h there =
     let system = system_there code model place h.shows within in
-    let part = puts_line code before after model (Late model.clock (system.0).configuration.name number) h.shows (writes model system.0 h.shows system.1) in
+    let part = puts_line code before after model (Late (system.0).moment (system.0).configuration.name number) h.shows (writes model system.0 h.shows system.1) in
     subst (λ (s : Option SystemState). Follows code before after (network.give_to limits (numbered number copy) model place s)) (sym system.1)
-    (subst (λ (b : Bool). Follows code before after (cond b (network.writes model (Late model.clock (system.0).configuration.name number))
+    (subst (λ (b : Bool). Follows code before after (cond b (network.writes model (Late (system.0).moment (system.0).configuration.name number))
     (network.hand_to (numbered number copy) model place system.0))) (tells model copy h.shows there)
     record { holds = h; lines = part.lines })
 
@@ -118,7 +118,7 @@ pub gives_now : (old code : Network) (before after : Lines) (limits : Limits) (n
     → Follows code before after (network.give limits (numbered number copy) model place)
 gives_now old code before after limits number at place tells model copy system h there here hands =
     subst (λ (s : Option SystemState). Follows code before after (network.give_to limits (numbered number copy) model place s)) (sym here)
-    (subst (λ (b : Bool). Follows code before after (cond b (network.writes model (Late model.clock system.configuration.name number))
+    (subst (λ (b : Bool). Follows code before after (cond b (network.writes model (Late system.moment system.configuration.name number))
     (network.hand_to (numbered number copy) model place system))) (tells model copy h.shows there) hands)
 
 -- the port by which the copy comes in to the system at the place, if it is for that one
@@ -352,8 +352,9 @@ moves_on code model h = record {
     born = h.shows.born;
     short = h.shows.short;
     weight = h.shows.weight;
+    placed = h.shows.placed;
   };
-  current = h.current;
+  behind = h.behind;
 }
 
 -- the copy at the cursor is given
@@ -405,13 +406,13 @@ delivered limits model number at place system found at_is here there =
 abbrev pub WritesVoid : Network → Lines → Lines → ℕ → ℕ → Type 0
 WritesVoid code before after number place =
     (model : network.World) (system : SystemState) → Shows code model → slice_get model.systems place ≡ Some system
-    → Gains before after (Void model.clock system.configuration.name number ∷ [])
+    → Gains before after (Void system.moment system.configuration.name number ∷ [])
 
 void_follows : (code : Network) (before after : Lines) (number place : ℕ) (model : network.World) (system : SystemState)
     → WritesVoid code before after number place → Holds code model → slice_get model.systems place ≡ Some system
     → Follows code before after (network.is_void model system number)
 void_follows code before after number place model system writes h here =
-    let part = puts_line code before after model (Void model.clock system.configuration.name number) h.shows (writes model system h.shows here) in
+    let part = puts_line code before after model (Void system.moment system.configuration.name number) h.shows (writes model system h.shows here) in
     record { holds = h; lines = part.lines }
 
 -- there is no system at the place

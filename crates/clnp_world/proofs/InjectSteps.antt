@@ -1,5 +1,5 @@
 -- What a network of the code stands for after a frame came from outside.
-use Rattle.std.proofs.Common.{◌≡◌, ◌≤◌, ◌+◌, ◌∙◌, ℕ, cond, Bool, true, false, List, [], ◌∷◌, length, Option, Some, refl, sym, ap, subst}
+use Rattle.std.proofs.Common.{◌≡◌, ◌≤◌, ◌+◌, ◌∙◌, ℕ, cond, Bool, true, false, List, [], ◌∷◌, length, Option, None, Some, refl, sym, ap, subst}
 use Rattle.std.specs.Prelude.{is_none, slice_get}
 use Rattle.hex.specs.Hex.{IsBytes}
 use Rattle.clnp_machine.specs.Nsap.declared.target.Target.{Target}
@@ -8,22 +8,23 @@ use Rattle.clnp_machine.specs.EsisPdus.Rules.{why_refused}
 use Rattle.clnp_machine.specs.PduHeader.Reading.{rest_of}
 use Rattle.clnp_machine.specs.ClnpPlan.Journal.{Injected, Line}
 use Rattle.clnp_machine.specs.Content.{Esis, IsCarried, Labelled, Unlabelled, content_of, esis_value_in, frame_of, is_accepted, packet_from_outside, value_in}
+use Rattle.clnp_machine.specs.Unit.{Outside}
 use Rattle.clnp_network.specs.World as network
 use Rattle.clnp_network.specs.Scenario.Scenario.{Subnetwork}
 use Rattle.clnp_world.specs.Lines.{Gains}
 use Rattle.clnp_world.specs.declared.lines.Lines.{Lines}
-use Rattle.clnp_world.specs.Seen.{frame_copy}
-use Rattle.clnp_world.specs.Stands.{IsBornWithUnit}
+use Rattle.clnp_world.specs.Seen.{frame_copy, origin_of}
+use Rattle.clnp_world.specs.Stands.{IsMadeWithUnit}
 use Rattle.clnp_world.specs.Parts.{Follows, Holds, PutsCopies}
 use Rattle.clnp_world.specs.declared.network.Network.{Network}
 use Rattle.clnp_world.specs.declared.copy.FrameCopy.{FrameCopy}
 use Rattle.clnp_world.proofs.PutSteps.{counted, shows_more}
 
 -- a unit from outside is made at the moment at which its frame comes
-born_outside : (number moment : ℕ) (octets : List ℕ) → IsBornWithUnit moment (content_of number moment octets)
+born_outside : (number moment : ℕ) (octets : List ℕ) → IsMadeWithUnit (origin_of Outside moment) (content_of number moment octets)
 born_outside number moment octets = by_kind (is_accepted octets) (is_none (why_refused octets))
   where
-    by_kind : (clnp esis : Bool) → IsBornWithUnit moment
+    by_kind : (clnp esis : Bool) → IsMadeWithUnit (origin_of Outside moment)
         (cond clnp (Labelled (packet_from_outside number moment (value_in octets)) (rest_of octets))
         (cond esis (Esis (esis_value_in octets) (esis_reading.rest_of octets)) (Unlabelled octets)))
     by_kind true esis = refl
@@ -33,7 +34,7 @@ born_outside number moment octets = by_kind (is_accepted octets) (is_none (why_r
 -- the copy of a frame from outside, as the code has it
 abbrev pub outside_copy : (subnet : ℕ) (sender : List ℕ) → Target → (birth : ℕ) (octets : List ℕ) → FrameCopy
 outside_copy subnet sender target birth octets =
-    record { subnet = subnet; sender = sender; target = target; birth = birth; frame = octets }
+    record { subnet = subnet; sender = sender; target = target; origin = record { maker = None; birth = birth }; frame = octets }
 
 -- the frame is the next copy on a subnetwork that was declared
 pub injects_there : (spells : (number moment : ℕ) (octets : List ℕ) → IsBytes octets → frame_of (content_of number moment octets) ≡ octets)
@@ -57,7 +58,7 @@ injects_there spells carries old code before after subnets subnet number declare
       holds = record {
         shows = shows_more old code (made ∷ []) (outside_copy subnet sender target old.clock octets ∷ []) (ap (λ (c : FrameCopy). c ∷ []) seen)
             (carries next model.clock octets bytes, tt) (born_outside next model.clock octets, tt) (few, tt) put others model h.shows;
-        current = h.current;
+        behind = h.behind;
       };
       lines = subst (λ (l : Line). Gains before after (l ∷ []))
           (ap (λ (t : ℕ). Injected t (number + 1) declared.name sender target) h.shows.clock

@@ -1,5 +1,5 @@
 -- One more output, addressee, tick or system at the end of a list, and what the parts of a move leave as it was.
-use Rattle.std.proofs.Common.{◌≡◌, ℕ, zero, suc, ◌+◌, List, [], ◌∷◌, ◌++◌, length, take, map, cond, Bool, true, false, Option, None, Some, refl, sym, ap, ◌∙◌, subst, arith, inl, inr, append-nil, append_assoc, add-zero, zero-add}
+use Rattle.std.proofs.Common.{◌≡◌, ℕ, zero, suc, ◌+◌, List, [], ◌∷◌, ◌++◌, ◌≤◌, length, take, map, cond, Bool, true, false, Option, None, Some, refl, sym, ap, ◌∙◌, subst, arith, inl, inr, append-nil, append_assoc, add-zero, zero-add}
 use Rattle.std.specs.Prelude.{nat_lt, slice_get}
 use Rattle.std.specs.List.{AllByRecursion, list_any, position, position_or_len, range_with_len}
 use Rattle.std.proofs.lemmas.Bool.{cases_Bool, ltb-true, ltb-false, lt-ltb, le-ltb}
@@ -14,13 +14,13 @@ use Rattle.clnp_machine.specs.ClnpPlan.declared.config.PortConfig.{PortConfig}
 use Rattle.clnp_machine.specs.ClnpPlan.declared.config.Role.{Role}
 use Rattle.clnp_machine.specs.Nsap.declared.target.Target.{Target}
 use Rattle.clnp_machine.specs.Content.{Content, Esis, Labelled}
-use Rattle.clnp_machine.specs.Unit.{DeclaredAt, Maker}
-use Rattle.clnp_machine.specs.System.{SystemState, MomentComes, Output, Transmits, SendsEsis, Notes, Effect, first_state}
+use Rattle.clnp_machine.specs.Unit.{DeclaredAt, Maker, Outside}
+use Rattle.clnp_machine.specs.System.{SystemState, Output, Transmits, SendsEsis, Notes, Effect, first_state}
 use Rattle.clnp_machine.specs.Step.{step}
+use Rattle.clnp_network.specs.Clocks.{NoneIsAhead}
 use Rattle.clnp_network.specs.World as network
 use Rattle.clnp_network.specs.Run.{told_lines}
 use Rattle.clnp_world.specs.Seen.{IsPortFor}
-use Rattle.clnp_world.specs.Stands.{IsCurrent}
 use Rattle.clnp_machine.proofs.ClnpBase.ListSteps.{slice_get_front, take_push, map_set, all_set, range_push}
 pub use Rattle.clnp_machine.proofs.Deeds.{step_attached, step_itself, step_moment}
 
@@ -81,7 +81,7 @@ copy-put_out system w (Notes note) i copy e = e
 copy-put_out system w (Transmits port target packet) i copy e =
     slice_get_front w.copies (made_by system port target packet.unit.maker packet.unit.made (Labelled packet [])) i copy e
 copy-put_out system w (SendsEsis port target value) i copy e =
-    slice_get_front w.copies (made_by system port target (DeclaredAt system.place) w.clock (Esis value [])) i copy e
+    slice_get_front w.copies (made_by system port target (DeclaredAt system.place) system.moment (Esis value [])) i copy e
 
 copy-put_all_out : (system : SystemState) (w : network.World) (outs : List Output) (i : ℕ) (copy : network.Copy)
     → slice_get w.copies i ≡ Some copy → slice_get (network.put_all_out system w outs).world.copies i ≡ Some copy
@@ -94,37 +94,39 @@ copy-takes_effect : (w : network.World) (place : ℕ) (effect : Effect) (i : ℕ
 copy-takes_effect w place effect i copy e =
     copy-put_all_out effect.after (network.with_effect w place effect) effect.outputs i copy e
 
--- a step at the clock's moment leaves each system at it
-pub current-takes_effect : (w : network.World) (place : ℕ) (effect : Effect) → IsCurrent w → effect.after.moment ≡ w.clock
-    → IsCurrent (network.takes_effect w place effect).world
-current-takes_effect w place effect h now =
+-- a step that leaves its system's clock where it isn't ahead of the network's leaves all so
+pub behind-takes_effect : (w : network.World) (place : ℕ) (effect : Effect) → NoneIsAhead w → effect.after.moment ≤ w.clock
+    → NoneIsAhead (network.takes_effect w place effect).world
+behind-takes_effect w place effect h now =
     let v = network.with_effect w place effect in
-    let set : AllByRecursion (λ (s : SystemState). s.moment ≡ w.clock) v.systems
-    = all_set (λ (s : SystemState). s.moment ≡ w.clock) w.systems place effect.after h now in
-    subst (λ (t : ℕ). AllByRecursion (λ (s : SystemState). s.moment ≡ t) (network.put_all_out effect.after v effect.outputs).world.systems)
+    let set : AllByRecursion (λ (s : SystemState). s.moment ≤ w.clock) v.systems
+    = all_set (λ (s : SystemState). s.moment ≤ w.clock) w.systems place effect.after h now in
+    subst (λ (t : ℕ). AllByRecursion (λ (s : SystemState). s.moment ≤ t) (network.put_all_out effect.after v effect.outputs).world.systems)
     (sym (clock-put_all_out effect.after v effect.outputs))
-    (subst (λ (ss : List SystemState). AllByRecursion (λ (s : SystemState). s.moment ≡ w.clock) ss)
+    (subst (λ (ss : List SystemState). AllByRecursion (λ (s : SystemState). s.moment ≤ w.clock) ss)
     (sym (systems-put_all_out effect.after v effect.outputs)) set)
 
--- Where a copy is given, what the scenario says of the systems isn't changed, nor what they are attached to: so whom it is for is
--- the same before the first is given it and behind that.
+-- Where a copy is given, what the scenario says of the systems isn't changed, nor what they are attached to, nor their clocks: so
+-- whom it is for and whether it is late is the same before the first is given it and behind that.
 
 pub record Seat : Type 0 where
   pub configuration : SystemConfiguration
   pub attached : Attachment
+  pub moment : ℕ
 
-abbrev pub seat : SystemConfiguration → Attachment → Seat
-seat configuration attached = record { configuration = configuration; attached = attached }
+abbrev pub seat : SystemConfiguration → Attachment → (moment : ℕ) → Seat
+seat configuration attached moment = record { configuration = configuration; attached = attached; moment = moment }
 
 abbrev pub seat_of : SystemState → Seat
-seat_of s = seat s.configuration s.attached
+seat_of s = seat s.configuration s.attached s.moment
 
 -- a frame that comes to a system leaves it where it is
 frame_leaves : (s : SystemState) (copy : network.Copy) → seat_of (step s (network.frame_to s copy)).after ≡ seat_of s
 frame_leaves s copy =
     let comes = network.frame_to s copy in
-    ap (λ (c : SystemConfiguration). seat c (step s comes).after.attached) (step_itself s comes).configuration
-    ∙ ap (λ (a : Attachment). seat s.configuration a) (step_attached s comes)
+    ap (λ (c : SystemConfiguration). seat c (step s comes).after.attached (step s comes).after.moment) (step_itself s comes).configuration
+    ∙ ap (λ (a : Attachment). seat s.configuration a (step s comes).after.moment) (step_attached s comes)
+    ∙ ap (seat s.configuration s.attached) (step_moment s comes)
 
 seats-takes_effect : (w : network.World) (place : ℕ) (system : SystemState) (effect : Effect) → slice_get w.systems place ≡ Some system
     → seat_of effect.after ≡ seat_of system
@@ -136,7 +138,7 @@ seats-takes_effect w place system effect e same =
 
 abbrev given_to : Limits → network.Numbered → network.World → ℕ → SystemState → Bool → network.Step
 given_to limits given w place system late =
-    cond late (network.writes w (Late w.clock system.configuration.name given.number)) (network.hand_to given w place system)
+    cond late (network.writes w (Late system.moment system.configuration.name given.number)) (network.hand_to given w place system)
 
 seats-given : (limits : Limits) (given : network.Numbered) (w : network.World) (place : ℕ) (system : SystemState) (late : Bool)
     → slice_get w.systems place ≡ Some system
@@ -153,6 +155,26 @@ seats-give_to limits given w place (Some system) e = seats-given limits given w 
 pub seats-give : (limits : Limits) (given : network.Numbered) (w : network.World) (place : ℕ)
     → map seat_of (network.give limits given w place).world.systems ≡ map seat_of w.systems
 seats-give limits given w place = seats-give_to limits given w place (slice_get w.systems place) refl
+
+-- the clock by which a copy grows old is the same where all clocks are
+same_clock : (now : ℕ) (xs ys : List SystemState) (i : ℕ) → map seat_of xs ≡ map seat_of ys
+    → network.clock_at now (slice_get xs i) ≡ network.clock_at now (slice_get ys i)
+same_clock now [] [] i e = refl
+same_clock now [] (y ∷ ys) i e = absurd (cc)
+same_clock now (x ∷ xs) [] i e = absurd (cc)
+same_clock now (x ∷ xs) (y ∷ ys) zero e = let head : seat_of x ≡ seat_of y = cc in ap (λ (s : Seat). s.moment) head
+same_clock now (x ∷ xs) (y ∷ ys) (suc i) e = let tail : map seat_of xs ≡ map seat_of ys = cc in same_clock now xs ys i tail
+
+clock_same : (maker : Maker) (v w : network.World) → map seat_of v.systems ≡ map seat_of w.systems → v.clock ≡ w.clock
+    → network.clock_of v maker ≡ network.clock_of w maker
+clock_same Outside v w seated now = now
+clock_same (DeclaredAt place) v w seated now =
+    ap (λ (t : ℕ). network.clock_at t (slice_get v.systems place)) now ∙ same_clock w.clock v.systems w.systems place seated
+
+-- so it is late or not alike
+pub same_age : (limits : Limits) (copy : network.Copy) (v w : network.World) → map seat_of v.systems ≡ map seat_of w.systems → v.clock ≡ w.clock
+    → network.is_late limits v copy ≡ network.is_late limits w copy
+same_age limits copy v w seated now = ap (nat_lt (copy.birth + limits.age)) (clock_same copy.maker v w seated now)
 
 pub seats-give_each : (limits : Limits) (given : network.Numbered) (w : network.World) (places : List ℕ)
     → map seat_of (network.give_each limits given w places).world.systems ≡ map seat_of w.systems
@@ -265,7 +287,7 @@ give_each-push limits given w places place =
     each-push (network.give limits given) (network.give_each limits given) (λ v. refl) (λ v first others. refl) w places place
 
 abbrev pub tick_at : network.World → ℕ → network.Step
-tick_at w place = network.comes w place (MomentComes w.clock)
+tick_at w place = network.goes_on w place (slice_get w.systems place)
 
 -- one more system has its tick
 pub tick_each-more : (w : network.World) (n : ℕ)
@@ -318,11 +340,25 @@ states_from-take limits systems i system e =
     ∙ ap (λ (n : ℕ). network.states_from limits 0 (take i systems) ++ first_state n system limits 0 0 ∷ [])
     (zero-add (length (take i systems)) ∙ r.1)
 
--- at the start each system's moment is 0
+-- at the start each system's clock is at 0
 pub states_at_start : (limits : Limits) (k : ℕ) (systems : List SystemConfiguration)
-    → AllByRecursion (λ (s : SystemState). s.moment ≡ 0) (network.states_from limits k systems)
+    → AllByRecursion (λ (s : SystemState). s.moment ≤ 0) (network.states_from limits k systems)
 states_at_start limits k [] = tt
-states_at_start limits k (system ∷ systems) = (refl, states_at_start limits (k + 1) systems)
+states_at_start limits k (system ∷ systems) = (omega arith, states_at_start limits (k + 1) systems)
+
+-- and each knows its place
+states_placed : (limits : Limits) (k : ℕ) (systems : List SystemConfiguration) (place : ℕ) (s : SystemState)
+    → slice_get (network.states_from limits k systems) place ≡ Some s → s.place ≡ k + place
+states_placed limits k [] place s there = absurd (cc)
+states_placed limits k (system ∷ systems) zero s there =
+    let same : first_state k system limits 0 0 ≡ s = cc in
+    sym (ap (λ (t : SystemState). t.place) same) ∙ (let first : k ≡ k + 0 = omega arith in first)
+states_placed limits k (system ∷ systems) (suc place) s there =
+    states_placed limits (k + 1) systems place s there ∙ (let next : k + 1 + place ≡ k + suc place = omega arith in next)
+
+pub placed_at_start : (limits : Limits) (systems : List SystemConfiguration) (place : ℕ) (s : SystemState)
+    → slice_get (network.states_from limits 0 systems) place ≡ Some s → s.place ≡ place
+placed_at_start limits systems place s there = states_placed limits 0 systems place s there ∙ zero-add place
 
 -- the first port by which a copy comes in, as the code looks for it
 first_port_is : (copy : network.Copy) (role : Role) (ports : List PortConfig)

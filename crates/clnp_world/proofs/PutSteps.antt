@@ -22,16 +22,18 @@ use Rattle.clnp_machine.specs.Unit as unit
 use Rattle.clnp_machine.specs.Unit.{DeclaredAt, Maker, Packet, value_of, wire, IsCarriable}
 use Rattle.clnp_machine.specs.Content.{Content, Esis, IsCarried, Labelled, Unlabelled, frame_of}
 use Rattle.clnp_machine.specs.System.{SystemState, Output, Transmits, SendsEsis, Notes}
+use Rattle.clnp_machine.specs.Ways.{IsOwnWhereFirst}
 use Rattle.clnp_network.specs.World as network
 use Rattle.clnp_systems.specs.declared.system.System.{System}
 use Rattle.clnp_machine.specs.Given.{CarriesUnit, GiveAllFor, GivesFor, frame_in}
 use Rattle.clnp_world.specs.Lines.{Gains}
 use Rattle.clnp_world.specs.declared.lines.Lines.{Lines}
-use Rattle.clnp_world.specs.Seen.{frame_copy, frame_copies, frames_weight}
-use Rattle.clnp_world.specs.Stands.{IsBornWithUnit, StandEach}
+use Rattle.clnp_world.specs.Seen.{frame_copy, frame_copies, frames_weight, origin_of}
+use Rattle.clnp_world.specs.Stands.{IsMadeWithUnit, StandEach}
 use Rattle.clnp_world.specs.Parts.{Shows, Puts, PutsCopies}
 use Rattle.clnp_world.specs.declared.network.Network.{Network}
 use Rattle.clnp_world.specs.declared.copy.FrameCopy.{FrameCopy}
+use Rattle.clnp_world.specs.declared.copy.Origin.{Origin}
 use Rattle.clnp_machine.proofs.ClnpBase.Lists.{AllByRecursion-append}
 use Rattle.clnp_world.proofs.LineSteps.{gains_nothing, gains_more}
 use Rattle.clnp_world.proofs.ModelSteps.{put_all_out-push, systems-put_all_out}
@@ -74,7 +76,7 @@ frames_weight_is copies = ap sum (weights_are copies)
 
 -- the code's copy is the model's
 copy_seen : (port : Option PortConfig) (target : Target) (maker : Maker) (birth : ℕ) (content : Content)
-    → frame_copies port target birth (frame_of content) ≡ map frame_copy (network.copy_from port target maker birth content)
+    → frame_copies port target (origin_of maker birth) (frame_of content) ≡ map frame_copy (network.copy_from port target maker birth content)
 copy_seen None target maker birth content = refl
 copy_seen (Some port) target maker birth content = refl
 
@@ -102,17 +104,18 @@ copy_carried None target maker birth content good = tt
 copy_carried (Some port) target maker birth content good = (good, tt)
 
 abbrev pub Born : network.Copy → Type 0
-Born copy = IsBornWithUnit copy.birth copy.content
+Born copy = IsMadeWithUnit (origin_of copy.maker copy.birth) copy.content
 
-copy_born : (port : Option PortConfig) (target : Target) (maker : Maker) (birth : ℕ) (content : Content) → IsBornWithUnit birth content
+copy_born : (port : Option PortConfig) (target : Target) (maker : Maker) (birth : ℕ) (content : Content)
+    → IsMadeWithUnit (origin_of maker birth) content
     → AllByRecursion Born (network.copy_from port target maker birth content)
 copy_born None target maker birth content born = tt
 copy_born (Some port) target maker birth content born = (born, tt)
 
-copy_short : (port : Option PortConfig) (target : Target) (birth : ℕ) (frame : List ℕ) → length frame ≤ 70000
-    → AllByRecursion Short (frame_copies port target birth frame)
-copy_short None target birth frame short = tt
-copy_short (Some port) target birth frame short = (short, tt)
+copy_short : (port : Option PortConfig) (target : Target) (origin : Origin) (frame : List ℕ) → length frame ≤ 70000
+    → AllByRecursion Short (frame_copies port target origin frame)
+copy_short None target origin frame short = tt
+copy_short (Some port) target origin frame short = (short, tt)
 
 -- some copies are put behind the others
 pub shows_more : (old code : Network) (made : List network.Copy) (frames : List FrameCopy) → frames ≡ map frame_copy made
@@ -132,6 +135,7 @@ shows_more old code made frames seen good born short put others model h = record
   born = AllByRecursion-append Born model.copies made h.born born;
   short = subst (λ (cs : List FrameCopy). AllByRecursion Short cs) (sym put.copies)
       (AllByRecursion-append Short old.copies.items frames h.short short);
+  placed = h.placed;
   weight = put.weight ∙ ap (λ (n : ℕ). n + frames_weight frames) h.weight
       ∙ ap (λ (cs : List FrameCopy). network.weight model + frames_weight cs) seen
       ∙ ap (λ (n : ℕ). network.weight model + n) (frames_weight_is made)
@@ -140,108 +144,121 @@ shows_more old code made frames seen good born short put others model h = record
 
 -- a frame that stands for what it carries
 puts_frame : (old code : Network) (before after : Lines) (port : ℕ) (target : Target) (maker : Maker) (birth : ℕ) (content : Content) (system : SystemState)
-    → (model : network.World) → Shows old model → IsCarried content → IsBornWithUnit birth content → length (frame_of content) ≤ 70000
-    → Gains before after (Transmitted model.clock system.configuration.name (length model.copies + 1) port target (frame_of content) ∷ [])
-    → PutsCopies old code (frame_copies (slice_get system.attached.ports port) target birth (frame_of content))
+    → (model : network.World) → Shows old model → IsCarried content → IsMadeWithUnit (origin_of maker birth) content → length (frame_of content) ≤ 70000
+    → Gains before after (Transmitted system.moment system.configuration.name (length model.copies + 1) port target (frame_of content) ∷ [])
+    → PutsCopies old code (frame_copies (slice_get system.attached.ports port) target (origin_of maker birth) (frame_of content))
     → code ≡ record old { copies = code.copies; weight = code.weight }
     → Puts code before after (network.sends_frame system model port target maker birth content)
 puts_frame old code before after port target maker birth content system model h good born few line put others =
     let at = slice_get system.attached.ports port in
     record {
-      shows = shows_more old code (network.copy_from at target maker birth content) (frame_copies at target birth (frame_of content))
+      shows = shows_more old code (network.copy_from at target maker birth content) (frame_copies at target (origin_of maker birth) (frame_of content))
           (copy_seen at target maker birth content) (copy_carried at target maker birth content good)
-          (copy_born at target maker birth content born) (copy_short at target birth (frame_of content) few) put others model h;
+          (copy_born at target maker birth content born) (copy_short at target (origin_of maker birth) (frame_of content) few) put others model h;
       lines = line;
     }
 
--- the moment at which the copy of a frame was born, where what came was born at another
-abbrev pub birth_of : Sending → (came now : ℕ) → ℕ
-birth_of sending came now = cond sending.forwarded came now
+-- the origin of the frame that the system at a place sends, where what came has another
+abbrev pub sent_origin : Sending → (came : Origin) → (place moment : ℕ) → Origin
+sent_origin sending came place moment = cond sending.forwarded came (record { maker = Some place; birth = moment })
+
+-- what a system itself makes has the origin of what it made
+own_origin : (maker : Maker) (made place moment : ℕ) → maker ≡ DeclaredAt place → made ≡ moment
+    → (let own : Origin = record { maker = Some place; birth = moment } in own) ≡ origin_of maker made
+own_origin maker made place moment by at = sym (ap (λ (m : Maker). origin_of m made) by ∙ ap (origin_of (DeclaredAt place)) at)
 
 -- a frame that goes on is as old as the unit of the one that came
-as_old : (came : ℕ) (content : Content) (u : unit.Unit) → IsBornWithUnit came content → CarriesUnit content u → came ≡ u.made
-as_old came (Labelled packet following) u born same = born ∙ ap (λ (v : unit.Unit). v.made) same
+as_old : (came : Origin) (content : Content) (u : unit.Unit) → IsMadeWithUnit came content → CarriesUnit content u
+    → came ≡ origin_of u.maker u.made
+as_old came (Labelled packet following) u born same = born ∙ ap (λ (v : unit.Unit). origin_of v.maker v.made) same
 as_old came (Esis value following) u born same = absurd same
 as_old came (Unlabelled octets) u born same = absurd same
 
 -- the frame of a packet
-sends_packet : (old code : Network) (before after : Lines) (sending : Sending) (frame : List ℕ) (birth port : ℕ) (target : Target) (packet : Packet)
+sends_packet : (old code : Network) (before after : Lines) (sending : Sending) (frame : List ℕ) (origin : Origin) (port : ℕ) (target : Target) (packet : Packet)
     → frame ≡ frame_in sending
     → (model : network.World) (system : SystemState) → Shows old model
-    → Gains before after (Transmitted model.clock system.configuration.name (length model.copies + 1) sending.port sending.to frame ∷ [])
-    → PutsCopies old code (frame_copies (slice_get system.attached.ports sending.port) sending.to birth frame)
+    → Gains before after (Transmitted system.moment system.configuration.name (length model.copies + 1) sending.port sending.to frame ∷ [])
+    → PutsCopies old code (frame_copies (slice_get system.attached.ports sending.port) sending.to origin frame)
     → code ≡ record old { copies = code.copies; weight = code.weight }
-    → sending.port ≡ port → sending.to ≡ target → frame_in sending ≡ wire packet → IsCarriable packet → birth ≡ packet.unit.made
+    → sending.port ≡ port → sending.to ≡ target → frame_in sending ≡ wire packet → IsCarriable packet
+    → origin ≡ origin_of packet.unit.maker packet.unit.made
     → Puts code before after (network.put_out system model (Transmits port target packet))
-sends_packet old code before after sending frame birth port target packet frame_is model system h line put others port_is target_is spelled carriable made =
+sends_packet old code before after sending frame origin port target packet frame_is model system h line put others port_is target_is spelled carriable made =
     let octets : frame ≡ wire packet ++ [] = frame_is ∙ spelled ∙ sym (append-nil (wire packet)) in
     let few : length (wire packet ++ []) ≤ 70000 = omega (arith, wire_short packet carriable, ap length (append-nil (wire packet))) in
     let line' = rw (port_is, target_is, octets) at line in
-    let put' = subst (λ (moment : ℕ). PutsCopies old code (frame_copies (slice_get system.attached.ports port) target moment (wire packet ++ []))) made
+    let put' = subst (λ (o : Origin). PutsCopies old code (frame_copies (slice_get system.attached.ports port) target o (wire packet ++ []))) made
     (rw (port_is, target_is, octets) at put) in
     puts_frame old code before after port target packet.unit.maker packet.unit.made (Labelled packet []) system model h carriable refl few line' put' others
 
 -- the frame that a sending is stands for an output of the model
-sends : (old code : Network) (before after : Lines) (came birth : ℕ) (content : Content) (sending : Sending) (frame : List ℕ) (other : Output)
-    → frame ≡ frame_in sending → birth ≡ birth_of sending came old.clock
-    → (model : network.World) (system : SystemState) → Shows old model
-    → Gains before after (Transmitted model.clock system.configuration.name (length model.copies + 1) sending.port sending.to frame ∷ [])
-    → PutsCopies old code (frame_copies (slice_get system.attached.ports sending.port) sending.to birth frame)
-    → code ≡ record old { copies = code.copies; weight = code.weight } → IsBornWithUnit came content
-    → GivesFor old.clock content (Transmit sending) other → Puts code before after (network.put_out system model other)
-sends old code before after came birth content sending frame (Notes note) frame_is birth_is model system h line put others born gives = absurd gives
-sends old code before after came birth content sending frame (Transmits port target packet) frame_is birth_is model system h line put others born (inl first) =
-    let now = birth_is ∙ ap (λ (b : Bool). cond b came old.clock) first.first in
-    sends_packet old code before after sending frame birth port target packet frame_is model system h line put others
-    first.port_is first.target_is first.octets first.carriable (now ∙ sym first.made)
-sends old code before after came birth content sending frame (Transmits port target packet) frame_is birth_is model system h line put others born (inr on) =
-    let before_now = birth_is ∙ ap (λ (b : Bool). cond b came old.clock) on.forwarded in
-    sends_packet old code before after sending frame birth port target packet frame_is model system h line put others
+sends : (old code : Network) (before after : Lines) (place : ℕ) (came origin : Origin) (content : Content) (sending : Sending) (frame : List ℕ) (other : Output)
+    → frame ≡ frame_in sending
+    → (model : network.World) (system : SystemState) → Shows old model → system.place ≡ place → origin ≡ sent_origin sending came place system.moment
+    → Gains before after (Transmitted system.moment system.configuration.name (length model.copies + 1) sending.port sending.to frame ∷ [])
+    → PutsCopies old code (frame_copies (slice_get system.attached.ports sending.port) sending.to origin frame)
+    → code ≡ record old { copies = code.copies; weight = code.weight } → IsMadeWithUnit came content → IsOwnWhereFirst system other
+    → GivesFor system.moment content (Transmit sending) other → Puts code before after (network.put_out system model other)
+sends old code before after place came origin content sending frame (Notes note) frame_is model system h here origin_is line put others born own gives = absurd gives
+sends old code before after place came origin content sending frame (Transmits port target packet) frame_is model system h here origin_is line put others born own (inl first) =
+    let itself = own_origin packet.unit.maker packet.unit.made place system.moment (own first.hops ∙ ap DeclaredAt here) first.made in
+    let now = origin_is ∙ ap (λ (b : Bool). cond b came (record { maker = Some place; birth = system.moment })) first.first ∙ itself in
+    sends_packet old code before after sending frame origin port target packet frame_is model system h line put others
+    first.port_is first.target_is first.octets first.carriable now
+sends old code before after place came origin content sending frame (Transmits port target packet) frame_is model system h here origin_is line put others born own (inr on) =
+    let before_now = origin_is ∙ ap (λ (b : Bool). cond b came (record { maker = Some place; birth = system.moment })) on.forwarded in
+    sends_packet old code before after sending frame origin port target packet frame_is model system h line put others
     on.port_is on.target_is on.octets on.carriable (before_now ∙ as_old came content packet.unit born on.unit)
-sends old code before after came birth content sending frame (SendsEsis port target value) frame_is birth_is model system h line put others born gives =
+sends old code before after place came origin content sending frame (SendsEsis port target value) frame_is model system h here origin_is line put others born own gives =
     let octets : frame ≡ spelling value ++ [] = frame_is ∙ gives.octets ∙ sym (append-nil (spelling value)) in
     let port_is : sending.port ≡ port = gives.port_is in
     let target_is : sending.to ≡ target = gives.target_is in
-    let now : birth ≡ model.clock = birth_is ∙ ap (λ (b : Bool). cond b came old.clock) gives.first ∙ h.clock in
+    let now : origin ≡ origin_of (DeclaredAt system.place) system.moment
+    = origin_is ∙ ap (λ (b : Bool). cond b came (record { maker = Some place; birth = system.moment })) gives.first
+    ∙ own_origin (DeclaredAt system.place) system.moment place system.moment (ap DeclaredAt here) refl in
     let few : length (spelling value ++ []) ≤ 70000 = omega (arith, esis_short value gives.pdu, ap length (append-nil (spelling value))) in
     let line' = rw (port_is, target_is, octets) at line in
-    let put' = subst (λ (moment : ℕ). PutsCopies old code (frame_copies (slice_get system.attached.ports port) target moment (spelling value ++ []))) now
+    let put' = subst (λ (o : Origin). PutsCopies old code (frame_copies (slice_get system.attached.ports port) target o (spelling value ++ []))) now
     (rw (port_is, target_is, octets) at put) in
-    puts_frame old code before after port target (DeclaredAt system.place) model.clock (Esis value []) system model h gives.pdu tt few line' put' others
+    puts_frame old code before after port target (DeclaredAt system.place) system.moment (Esis value []) system model h gives.pdu tt few line' put' others
 
 -- an output that is a frame stands for one of the model
-pub puts_transmission : (old code : Network) (before after : Lines) (place came birth : ℕ) (sending : Sending) (frame : List ℕ) (out : output.Output)
-    → out ≡ Transmit sending → frame ≡ frame_in sending → birth ≡ birth_of sending came old.clock
+pub puts_transmission : (old code : Network) (before after : Lines) (place : ℕ) (came origin : Origin) (sending : Sending) (frame : List ℕ) (out : output.Output)
+    → out ≡ Transmit sending → frame ≡ frame_in sending
     → ((model : network.World) (system : SystemState) → Shows old model → slice_get model.systems place ≡ Some system
-    → Gains before after (Transmitted model.clock system.configuration.name (length model.copies + 1) sending.port sending.to frame ∷ []))
+    → origin ≡ sent_origin sending came place system.moment)
     → ((model : network.World) (system : SystemState) → Shows old model → slice_get model.systems place ≡ Some system
-    → PutsCopies old code (frame_copies (slice_get system.attached.ports sending.port) sending.to birth frame))
+    → Gains before after (Transmitted system.moment system.configuration.name (length model.copies + 1) sending.port sending.to frame ∷ []))
+    → ((model : network.World) (system : SystemState) → Shows old model → slice_get model.systems place ≡ Some system
+    → PutsCopies old code (frame_copies (slice_get system.attached.ports sending.port) sending.to origin frame))
     → code ≡ record old { copies = code.copies; weight = code.weight }
     → (model : network.World) (system : SystemState) (content : Content) (other : Output) → Shows old model
-    → slice_get model.systems place ≡ Some system → IsBornWithUnit came content
-    → GivesFor old.clock content out other → Puts code before after (network.put_out system model other)
-puts_transmission old code before after place came birth sending frame out is frame_is birth_is line copies others model system content other h there born gives =
-    sends old code before after came birth content sending frame other frame_is birth_is model system h (line model system h there)
-    (copies model system h there) others born (subst (λ (o : output.Output). GivesFor old.clock content o other) is gives)
+    → slice_get model.systems place ≡ Some system → IsMadeWithUnit came content → IsOwnWhereFirst system other
+    → GivesFor system.moment content out other → Puts code before after (network.put_out system model other)
+puts_transmission old code before after place came origin sending frame out is frame_is origin_is line copies others model system content other h there born own gives =
+    sends old code before after place came origin content sending frame other frame_is model system h (h.placed place system there)
+    (origin_is model system h there) (line model system h there) (copies model system h there) others born own
+    (subst (λ (o : output.Output). GivesFor system.moment content o other) is gives)
 
 -- an output that is a note stands for one of the model
 tells : (code : Network) (before after : Lines) (content : Content) (note : Note) (other : Output) (model : network.World) (system : SystemState) → Shows code model
-    → Gains before after (Noted model.clock system.configuration.name note ∷ [])
-    → GivesFor code.clock content (Told note) other → Puts code before after (network.put_out system model other)
+    → Gains before after (Noted system.moment system.configuration.name note ∷ [])
+    → GivesFor system.moment content (Told note) other → Puts code before after (network.put_out system model other)
 tells code before after content note (Transmits port target packet) model system h line gives = absurd gives
 tells code before after content note (SendsEsis port target value) model system h line gives = absurd gives
 tells code before after content note (Notes told) model system h line gives =
-    puts_line code before after model (Noted model.clock system.configuration.name told) h (rw gives at line)
+    puts_line code before after model (Noted system.moment system.configuration.name told) h (rw gives at line)
 
-pub puts_note : (code : Network) (before after : Lines) (place came : ℕ) (note : Note) (out : output.Output) → out ≡ Told note
+pub puts_note : (code : Network) (before after : Lines) (place : ℕ) (came : Origin) (note : Note) (out : output.Output) → out ≡ Told note
     → ((model : network.World) (system : SystemState) → Shows code model → slice_get model.systems place ≡ Some system
-    → Gains before after (Noted model.clock system.configuration.name note ∷ []))
+    → Gains before after (Noted system.moment system.configuration.name note ∷ []))
     → (model : network.World) (system : SystemState) (content : Content) (other : Output) → Shows code model
-    → slice_get model.systems place ≡ Some system → IsBornWithUnit came content
-    → GivesFor code.clock content out other → Puts code before after (network.put_out system model other)
-puts_note code before after place came note out is line model system content other h there born gives =
+    → slice_get model.systems place ≡ Some system → IsMadeWithUnit came content → IsOwnWhereFirst system other
+    → GivesFor system.moment content out other → Puts code before after (network.put_out system model other)
+puts_note code before after place came note out is line model system content other h there born own gives =
     tells code before after content note other model system h (line model system h there)
-    (subst (λ (o : output.Output). GivesFor code.clock content o other) is gives)
+    (subst (λ (o : output.Output). GivesFor system.moment content o other) is gives)
 
 -- Many outputs.
 
@@ -260,54 +277,59 @@ no_outputs : (moment : ℕ) (content : Content) (others : List Output) → GiveA
 no_outputs moment content [] h = refl
 no_outputs moment content (other ∷ others) h = absurd h
 
--- what the code has put out of a system's outputs is what the model has, where the system was given what was born at a moment
-abbrev pub PutsOut : Network → Network → Lines → Lines → (place came : ℕ) → List output.Output → Type 0
+all_parts : {X : Type 0} (P : X → Type 0) (xs ys : List X) → AllByRecursion P (xs ++ ys) → AllByRecursion P xs × AllByRecursion P ys
+all_parts P [] ys h = (tt, h)
+all_parts P (x ∷ xs) ys h = let r = all_parts P xs ys h.1 in ((h.0, r.0), r.1)
+
+-- what the code has put out of a system's outputs is what the model has, where the system was given what has an origin
+abbrev pub PutsOut : Network → Network → Lines → Lines → (place : ℕ) → (came : Origin) → List output.Output → Type 0
 PutsOut start code before after place came outputs =
     (model : network.World) (system : SystemState) (content : Content) (others : List Output) → Shows start model
-    → slice_get model.systems place ≡ Some system → IsBornWithUnit came content
-    → GiveAllFor start.clock content outputs others → Puts code before after (network.put_all_out system model others)
+    → slice_get model.systems place ≡ Some system → IsMadeWithUnit came content → AllByRecursion (IsOwnWhereFirst system) others
+    → GiveAllFor system.moment content outputs others → Puts code before after (network.put_all_out system model others)
 
-pub puts_none : (code : Network) (lines : Lines) (place came : ℕ) → PutsOut code code lines lines place came []
-puts_none code lines place came model system content others h there born gives =
-    subst (λ (os : List Output). Puts code lines lines (network.put_all_out system model os)) (sym (no_outputs code.clock content others gives))
+pub puts_none : (code : Network) (lines : Lines) (place : ℕ) (came : Origin) → PutsOut code code lines lines place came []
+puts_none code lines place came model system content others h there born own gives =
+    subst (λ (os : List Output). Puts code lines lines (network.put_all_out system model os)) (sym (no_outputs system.moment content others gives))
     (puts_nothing code model lines h)
 
-pub puts_more : (start mid code : Network) (before between after : Lines) (place came : ℕ) (outputs : List output.Output) (out : output.Output)
-    → PutsOut start mid before between place came outputs → mid.clock ≡ start.clock
+pub puts_more : (start mid code : Network) (before between after : Lines) (place : ℕ) (came : Origin) (outputs : List output.Output) (out : output.Output)
+    → PutsOut start mid before between place came outputs
     → ((model : network.World) (system : SystemState) (content : Content) (other : Output) → Shows mid model
-    → slice_get model.systems place ≡ Some system → IsBornWithUnit came content
-    → GivesFor mid.clock content out other → Puts code between after (network.put_out system model other))
+    → slice_get model.systems place ≡ Some system → IsMadeWithUnit came content → IsOwnWhereFirst system other
+    → GivesFor system.moment content out other → Puts code between after (network.put_out system model other))
     → PutsOut start code before after place came (outputs ++ out ∷ [])
-puts_more start mid code before between after place came outputs out so_far clock next model system content others h there born gives =
-    let r = split_last start.clock content outputs out others gives in
-    let front = so_far model system content r.0 h there born r.3 in
+puts_more start mid code before between after place came outputs out so_far next model system content others h there born own gives =
+    let r = split_last system.moment content outputs out others gives in
+    let each = all_parts (IsOwnWhereFirst system) r.0 (r.1 ∷ []) (subst (λ (os : List Output). AllByRecursion (IsOwnWhereFirst system) os) r.2 own) in
+    let front = so_far model system content r.0 h there born each.0 r.3 in
     let w = network.put_all_out system model r.0 in
     let there' : slice_get w.world.systems place ≡ Some system
     = subst (λ (ss : List SystemState). slice_get ss place ≡ Some system) (sym (systems-put_all_out system model r.0)) there in
-    let last = next w.world system content r.1 front.shows there' born (subst (λ (t : ℕ). GivesFor t content out r.1) (sym clock) r.4) in
+    let last = next w.world system content r.1 front.shows there' born each.1.0 r.4 in
     subst (λ (s : network.Step). Puts code before after s)
     (sym (put_all_out-push system model r.0 r.1) ∙ ap (λ (os : List Output). network.put_all_out system model os) (sym r.2))
     (puts_then code before between after w (λ v. network.put_out system v r.1) front.lines last)
 
 -- The port of a copy is read, or there is none at its number.
 
-pub copies_past : (old : Network) (ports own : List PortConfig) (i port : ℕ) (target : Target) (birth : ℕ) (frame : List ℕ)
-    → ports ≡ own → i ≡ port → length ports ≤ i → PutsCopies old old (frame_copies (slice_get own port) target birth frame)
-copies_past old ports own i port target birth frame e n past =
+pub copies_past : (old : Network) (ports own : List PortConfig) (i port : ℕ) (target : Target) (origin : Origin) (frame : List ℕ)
+    → ports ≡ own → i ≡ port → length ports ≤ i → PutsCopies old old (frame_copies (slice_get own port) target origin frame)
+copies_past old ports own i port target origin frame e n past =
     let none : slice_get own port ≡ None
     = subst (λ (ps : List PortConfig). slice_get ps port ≡ None) e (subst (λ (k : ℕ). slice_get ports k ≡ None) n (slice_get_past ports i past)) in
-    subst (λ (p : Option PortConfig). PutsCopies old old (frame_copies p target birth frame)) (sym none)
+    subst (λ (p : Option PortConfig). PutsCopies old old (frame_copies p target origin frame)) (sym none)
     record { copies = sym (append-nil old.copies.items); weight = omega arith }
 
-pub copies_read : (old code : Network) (ports own : List PortConfig) (i port : ℕ) (at : PortConfig) (target : Target) (birth : ℕ) (frame : List ℕ)
+pub copies_read : (old code : Network) (ports own : List PortConfig) (i port : ℕ) (at : PortConfig) (target : Target) (origin : Origin) (frame : List ℕ)
     → ports ≡ own → i ≡ port → i < length ports → at ≡ get_or ports i at
-    → PutsCopies old code (record { subnet = at.subnet; sender = at.snpa; target = target; birth = birth; frame = frame } ∷ [])
-    → PutsCopies old code (frame_copies (slice_get own port) target birth frame)
-copies_read old code ports own i port at target birth frame e n within read put =
+    → PutsCopies old code (record { subnet = at.subnet; sender = at.snpa; target = target; origin = origin; frame = frame } ∷ [])
+    → PutsCopies old code (frame_copies (slice_get own port) target origin frame)
+copies_read old code ports own i port at target origin frame e n within read put =
     let one : slice_get own port ≡ Some at
     = subst (λ (ps : List PortConfig). slice_get ps port ≡ Some at) e
     (subst (λ (k : ℕ). slice_get ports k ≡ Some at) n (slice_get_read ports _ i at refl within read)) in
-    subst (λ (p : Option PortConfig). PutsCopies old code (frame_copies p target birth frame)) (sym one) put
+    subst (λ (p : Option PortConfig). PutsCopies old code (frame_copies p target origin frame)) (sym one) put
 
 -- A line of the code's words is the one of the model's.
 

@@ -1,6 +1,7 @@
 -- What a network of the code stands for after something came to one of its systems.
-use Rattle.std.proofs.Common.{◌≡◌, ℕ, ◌<◌, ◌≤◌, List, [], length, Option, None, Some, refl, sym, ◌∙◌, subst, arith}
+use Rattle.std.proofs.Common.{◌≡◌, ℕ, ◌<◌, ◌≤◌, List, [], length, Option, None, Some, refl, sym, ap, ◌∙◌, subst, arith}
 use Rattle.std.specs.Prelude.{slice_get}
+use Rattle.std.specs.List.{AllByRecursion}
 use Rattle.std.specs.Vec.{with_item}
 use Rattle.std.proofs.lemmas.Option.{slice_get_past, slice_get_within as within_get}
 use Rattle.clnp_machine.specs.ClnpPlan.declared.config.Role.{Role}
@@ -10,6 +11,7 @@ use Rattle.clnp_machine.specs.System as machine
 use Rattle.clnp_machine.specs.System.{SystemState, Effect}
 use Rattle.clnp_machine.specs.Step.{step}
 use Rattle.clnp_machine.specs.Steps.{moment_after}
+use Rattle.clnp_network.specs.Clocks.{NoneIsAhead}
 use Rattle.clnp_network.specs.World as network
 use Rattle.clnp_systems.specs.declared.system.System.{System}
 use Rattle.clnp_systems.specs.Stands as clnp_systems
@@ -18,15 +20,18 @@ use Rattle.clnp_systems.specs.SystemEntity.Steps.{AppendsOf, TakesStep, input_wi
 use Rattle.clnp_systems.specs.SystemEntity.declared.input.Input.{Input}
 use Rattle.clnp_systems.specs.SystemEntity.declared.input.Input.TheVariants as coming
 use Rattle.clnp_machine.specs.Content.{Content, Unlabelled}
+use Rattle.clnp_machine.specs.Unit.{DeclaredAt}
+use Rattle.clnp_machine.specs.Ways.{IsOwnWhereFirst}
 use Rattle.clnp_machine.specs.Given.{AppendsFor, GiveAllFor}
 use Rattle.clnp_machine.proofs.Given.{appends_for}
 use Rattle.clnp_world.specs.declared.lines.Lines.{Lines}
 use Rattle.clnp_world.specs.Parts.{Shows, Holds, IsTimely, Puts, Follows}
-use Rattle.clnp_world.specs.Stands.{IsBornWithUnit, IsCurrent}
+use Rattle.clnp_world.specs.Stands.{IsMadeWithUnit}
+use Rattle.clnp_world.specs.declared.copy.Origin.{Origin}
 use Rattle.clnp_world.specs.declared.network.Network.{Network}
-use Rattle.clnp_machine.proofs.ClnpBase.Lists.{AllByRecursion-slice_get, slice_get-set, slice_get_some}
+use Rattle.clnp_machine.proofs.ClnpBase.Lists.{AllByRecursion-implies, AllByRecursion-slice_get, set_each, slice_get-set, slice_get_some}
 use Rattle.clnp_world.proofs.EachSteps.{each_length, each_at, each_set}
-use Rattle.clnp_world.proofs.ModelSteps.{current-takes_effect, step_moment}
+use Rattle.clnp_world.proofs.ModelSteps.{behind-takes_effect, step_itself, step_moment}
 use Rattle.clnp_world.proofs.PutSteps.{PutsOut, puts_nothing}
 
 -- the network with a system in the place of another
@@ -34,8 +39,8 @@ abbrev pub with_node : Network → ℕ → System → Network
 with_node code place node = record code { systems = with_item code.systems place node }
 
 pub shows_with : (code : Network) (place : ℕ) (node : System) (model : network.World) (effect : Effect) → Shows code model
-    → clnp_systems.Stands node effect.after → Shows (with_node code place node) (network.with_effect model place effect)
-shows_with code place node model effect h stands = record {
+    → clnp_systems.Stands node effect.after → effect.after.place ≡ place → Shows (with_node code place node) (network.with_effect model place effect)
+shows_with code place node model effect h stands here = record {
   clock = h.clock;
   systems = each_set code.systems.items model.systems place node effect.after h.systems stands;
   mtus = h.mtus;
@@ -46,6 +51,8 @@ shows_with code place node model effect h stands = record {
   born = h.born;
   short = h.short;
   weight = h.weight;
+  placed = set_each (λ i (s : SystemState). s.place ≡ i) (λ i (s : SystemState). s.place ≡ i) model.systems place effect.after h.placed
+      (λ i s other same. same) here;
 }
 
 -- the system at the place of a system
@@ -67,17 +74,18 @@ abbrev pub no_frame : Content
 no_frame = Unlabelled []
 
 -- a system takes a step, and what it gives out is put out
-pub takes : (old code : Network) (before after : Lines) (place came : ℕ) (content : Content) (node : System) (outputs : List output.Output) (effect : Effect)
-    → place < length old.systems.items → clnp_systems.Stands node effect.after → IsBornWithUnit came content
-    → AppendsFor old.clock content [] outputs effect.outputs
+pub takes : (old code : Network) (before after : Lines) (place : ℕ) (came : Origin) (content : Content) (node : System) (outputs : List output.Output) (effect : Effect)
+    → place < length old.systems.items → clnp_systems.Stands node effect.after → effect.after.place ≡ place → IsMadeWithUnit came content
+    → AllByRecursion (IsOwnWhereFirst effect.after) effect.outputs
+    → AppendsFor effect.after.moment content [] outputs effect.outputs
     → PutsOut (with_node old place node) code before after place came outputs
     → (model : network.World) → Shows old model → Puts code before after (network.takes_effect model place effect)
-takes old code before after place came content node outputs effect within stands born gives puts model h =
+takes old code before after place came content node outputs effect within stands here born own gives puts model h =
     let same = each_length old.systems.items model.systems h.systems in
     puts (network.with_effect model place effect) effect.after content effect.outputs
-    (shows_with old place node model effect h stands)
-    (slice_get-set model.systems place effect.after (omega arith)) born
-    (subst (λ (os : List output.Output). GiveAllFor old.clock content os effect.outputs) (sym gives.appended) gives.give_all)
+    (shows_with old place node model effect h stands here)
+    (slice_get-set model.systems place effect.after (omega arith)) born own
+    (subst (λ (os : List output.Output). GiveAllFor effect.after.moment content os effect.outputs) (sym gives.appended) gives.give_all)
 
 -- outputs that are appended to none
 pub from_none_for : (moment : ℕ) (came : Content) (empty outputs : List output.Output) (others : List machine.Output) → empty ≡ []
@@ -97,34 +105,6 @@ gives_any (coming.Echo from to body) role content moment before after others h =
 gives_any coming.Restart role content moment before after others h = appends_for moment content before after others h
 gives_any (coming.Congest on) role content moment before after others h = appends_for moment content before after others h
 
--- the system takes a step, and what it gives out is put out
-pub comes_in : (old code : Network) (before after : Lines) (place came : ℕ) (content : Content) (input : Input) (role : Role) (node new : System)
-    (empty outputs : List output.Output) → slice_get old.systems.items place ≡ Some node → empty ≡ []
-    → TakesStep role (input_with content input) (entity_of node) (entity_of new) empty outputs
-    → PutsOut (with_node old place new) code before after place came outputs
-    → (model : network.World) → Shows old model → IsBornWithUnit came content → IsTimely model place (input_with content input)
-    → Puts code before after (network.comes model place (input_with content input))
-comes_in old code before after place came content input role node new empty outputs here none took puts model h born timely =
-    let there = is_there old model place node h here in
-    let comes = input_with content input in
-    let effect = step there.system comes in
-    let now : moment_at comes there.system.moment ≡ old.clock = timely there.system there.at ∙ sym h.clock in
-    subst (λ (s : Option SystemState). Puts code before after (network.comes_to model place comes s)) (sym there.at)
-    (takes old code before after place came content new outputs effect (within_get old.systems.items place node here)
-    (took.stands there.system there.stands) born
-    (from_none_for old.clock content empty outputs effect.outputs none
-    (gives_any input role content old.clock empty outputs effect.outputs
-    (subst (λ (t : ℕ). AppendsOf comes role t empty outputs effect.outputs) now (took.outputs there.system there.stands))))
-    puts model h)
-
--- there is no system at the place
-pub comes_nowhere : (code : Network) (lines : Lines) (place : ℕ) → length code.systems.items ≤ place
-    → (model : network.World) (input : machine.Input) → Shows code model → Puts code lines lines (network.comes model place input)
-comes_nowhere code lines place past model input h =
-    let same = each_length code.systems.items model.systems h.systems in
-    let none = slice_get_past model.systems place (omega arith) in
-    subst (λ (s : Option SystemState). Puts code lines lines (network.comes_to model place input s)) (sym none) (puts_nothing code model lines h)
-
 moments_agree : (s : SystemState) (input : machine.Input) → moment_after s input ≡ moment_at input s.moment
 moments_agree s (machine.AsksToSend from to octets ask) = refl
 moments_agree s (machine.AsksForEcho from to octets) = refl
@@ -134,25 +114,89 @@ moments_agree s machine.IsRestarted = refl
 moments_agree s (machine.IsCongested on) = refl
 moments_agree s (machine.IsChanged change) = refl
 
-stays_current : (model : network.World) (place : ℕ) (input : machine.Input) (there : Option SystemState) → IsCurrent model
-    → ((s : SystemState) → there ≡ Some s → (step s input).after.moment ≡ model.clock) → IsCurrent (network.comes_to model place input there).world
-stays_current model place input None current now = current
-stays_current model place input (Some s) current now = current-takes_effect model place (step s input) current (now s refl)
+moment_behind : (s : SystemState) (input : machine.Input) → (step s input).after.moment ≡ moment_at input s.moment
+moment_behind s input = step_moment s input ∙ moments_agree s input
 
--- what comes at the clock's moment leaves each system at it
+-- what a step sends of its own is of the system's place, which a step doesn't change
+abbrev pub OwnTransmissions : Type 0
+OwnTransmissions = (s : SystemState) (input : machine.Input) → AllByRecursion (IsOwnWhereFirst s) (step s input).outputs
+
+own_behind : (s t : SystemState) → t.place ≡ s.place → (outputs : List machine.Output) → AllByRecursion (IsOwnWhereFirst s) outputs
+    → AllByRecursion (IsOwnWhereFirst t) outputs
+own_behind s t same outputs own = AllByRecursion-implies (IsOwnWhereFirst s) (IsOwnWhereFirst t) one outputs own
+  where
+    one : (out : machine.Output) → IsOwnWhereFirst s out → IsOwnWhereFirst t out
+    one (machine.Transmits port target packet) h = λ first. h first ∙ ap DeclaredAt (sym same)
+    one (machine.SendsEsis port target value) h = tt
+    one (machine.Notes note) h = tt
+
+-- the system takes a step, and what it gives out is put out
+comes_in : OwnTransmissions → (old code : Network) (before after : Lines) (place : ℕ) (came : Origin) (content : Content) (input : Input) (role : Role) (node new : System)
+    (empty outputs : List output.Output) → slice_get old.systems.items place ≡ Some node → empty ≡ []
+    → TakesStep role (input_with content input) (entity_of node) (entity_of new) empty outputs
+    → PutsOut (with_node old place new) code before after place came outputs
+    → (model : network.World) → Shows old model → IsMadeWithUnit came content
+    → Puts code before after (network.comes model place (input_with content input))
+comes_in own old code before after place came content input role node new empty outputs here none took puts model h born =
+    let there = is_there old model place node h here in
+    let comes = input_with content input in
+    let effect = step there.system comes in
+    let itself = step_itself there.system comes in
+    subst (λ (s : Option SystemState). Puts code before after (network.comes_to model place comes s)) (sym there.at)
+    (takes old code before after place came content new outputs effect (within_get old.systems.items place node here)
+    (took.stands there.system there.stands) (itself.place ∙ h.placed place there.system there.at) born
+    (own_behind there.system effect.after itself.place effect.outputs (own there.system comes))
+    (from_none_for effect.after.moment content empty outputs effect.outputs none
+    (gives_any input role content effect.after.moment empty outputs effect.outputs
+    (subst (λ (t : ℕ). AppendsOf comes role t empty outputs effect.outputs) (sym (moment_behind there.system comes))
+    (took.outputs there.system there.stands))))
+    puts model h)
+
+-- there is no system at the place
+comes_nowhere : (code : Network) (lines : Lines) (place : ℕ) → length code.systems.items ≤ place
+    → (model : network.World) (input : machine.Input) → Shows code model → Puts code lines lines (network.comes model place input)
+comes_nowhere code lines place past model input h =
+    let same = each_length code.systems.items model.systems h.systems in
+    let none = slice_get_past model.systems place (omega arith) in
+    subst (λ (s : Option SystemState). Puts code lines lines (network.comes_to model place input s)) (sym none) (puts_nothing code model lines h)
+
+stays_behind : (model : network.World) (place : ℕ) (input : machine.Input) (there : Option SystemState) → NoneIsAhead model
+    → ((s : SystemState) → there ≡ Some s → (step s input).after.moment ≤ model.clock) → NoneIsAhead (network.comes_to model place input there).world
+stays_behind model place input None behind now = behind
+stays_behind model place input (Some s) behind now = behind-takes_effect model place (step s input) behind (now s refl)
+
+-- what comes where its moment isn't ahead leaves all clocks so
 pub comes_follows : (old code : Network) (before after : Lines) (place : ℕ) (input : machine.Input) (model : network.World) → Holds old model
     → IsTimely model place input → Puts code before after (network.comes model place input) → Follows code before after (network.comes model place input)
 comes_follows old code before after place input model h timely puts = record {
   holds = record {
     shows = puts.shows;
-    current = stays_current model place input (slice_get model.systems place) h.current
-        (λ s at. step_moment s input ∙ moments_agree s input ∙ timely s at);
+    behind = stays_behind model place input (slice_get model.systems place) h.behind
+        (λ s at. subst (λ (t : ℕ). t ≤ model.clock) (sym (moment_behind s input)) (timely s at));
   };
   lines = puts.lines;
 }
 
--- each system is at the clock's moment
-pub is_current : (code : Network) (place : ℕ) (model : network.World) → Holds code model → (system : SystemState) → slice_get model.systems place ≡ Some system
-    → system.moment ≡ model.clock
-is_current code place model h system at =
-    AllByRecursion-slice_get (λ (s : SystemState). s.moment ≡ model.clock) model.systems place system at h.current
+-- what comes to a system
+pub comes_there : OwnTransmissions → (old code : Network) (before after : Lines) (place : ℕ) (came : Origin) (content : Content) (input : Input) (role : Role) (node new : System)
+    (empty outputs : List output.Output) → slice_get old.systems.items place ≡ Some node → empty ≡ []
+    → TakesStep role (input_with content input) (entity_of node) (entity_of new) empty outputs
+    → PutsOut (with_node old place new) code before after place came outputs
+    → (model : network.World) → Holds old model → IsMadeWithUnit came content → IsTimely model place (input_with content input)
+    → Follows code before after (network.comes model place (input_with content input))
+comes_there own old code before after place came content input role node new empty outputs here none took puts model h born timely =
+    comes_follows old code before after place (input_with content input) model h timely
+    (comes_in own old code before after place came content input role node new empty outputs here none took puts model h.shows born)
+
+-- and where there is none
+pub comes_to_none : (code : Network) (lines : Lines) (place : ℕ) → length code.systems.items ≤ place
+    → (model : network.World) (input : machine.Input) → Holds code model → IsTimely model place input
+    → Follows code lines lines (network.comes model place input)
+comes_to_none code lines place past model input h timely =
+    comes_follows code code lines lines place input model h timely (comes_nowhere code lines place past model input h.shows)
+
+-- no system's clock is ahead
+pub is_behind : (code : Network) (place : ℕ) (model : network.World) → Holds code model → (system : SystemState) → slice_get model.systems place ≡ Some system
+    → system.moment ≤ model.clock
+is_behind code place model h system at =
+    AllByRecursion-slice_get (λ (s : SystemState). s.moment ≤ model.clock) model.systems place system at h.behind

@@ -1,6 +1,6 @@
 -- What a trace tells of a copy that is given, settled or lost.
-use Rattle.std.proofs.Common.{◌≡◌, ℕ, suc, ◌+◌, inl, inr, List, [], ◌∷◌, ◌++◌, map, cond, Option, Some, refl, sym, ap, ◌∙◌, arith}
-use Rattle.std.specs.Prelude.{nat_lt, slice_get}
+use Rattle.std.proofs.Common.{Bool, ◌≡◌, ℕ, suc, ◌+◌, inl, inr, List, [], ◌∷◌, ◌++◌, map, cond, Option, Some, refl, sym, ap, ◌∙◌, arith}
+use Rattle.std.specs.Prelude.{slice_get}
 use Rattle.std.specs.List.{filter}
 use Rattle.std.proofs.lemmas.Bool.{cases_Bool, true≢false}
 use Rattle.std.proofs.lemmas.List.Elements.{filter-append}
@@ -11,7 +11,7 @@ use Rattle.clnp_machine.specs.Step.{step}
 use Rattle.clnp_network.specs.World as network
 use Rattle.clnp_network.specs.World.{World, Copy, Numbered, addressees_from, first_port, for_nobody, frame_to, give, give_each, give_to, hand_to, is_addressee, is_late, put_all_out, put_out, settle_copy, lose_copy, takes_effect, with_effect}
 use Rattle.clnp_world.specs.Becoming.{GivesAsTold, TellsOnce, addressees_of, or_nobody, tells_of_copy, told_of_settled, told_to, told_to_each}
-use Rattle.clnp_world.proofs.ModelSteps.{Seat, seat_of, same_seat, seats-give, clock-give, cursor-give_each}
+use Rattle.clnp_world.proofs.ModelSteps.{Seat, seat_of, same_age, same_seat, seats-give, clock-give, cursor-give_each}
 
 -- nothing that a system gives out tells of a copy
 quiet_outputs : (system : SystemState) (w : World) (outputs : List Output) → filter tells_of_copy (put_all_out system w outputs).lines ≡ []
@@ -51,28 +51,32 @@ module _ (limits : Limits) (given : Numbered) where
 
   -- what is told of the copy where it is given to one system
   told_once : (w : World) (place : ℕ) (system : SystemState) → slice_get w.systems place ≡ Some system
-      → filter tells_of_copy (give limits given w place).lines ≡ told_to limits w.clock given system ∷ []
+      → filter tells_of_copy (give limits given w place).lines ≡ told_to limits w given system ∷ []
   told_once w place system there =
       let told = gives_as_told w place system there in
       elim (cases_Bool (is_late limits w given.copy)) [
-        | inl late ↦ ap (filter tells_of_copy) told.lines ∙ rw late (ap (λ (ls : List Line). Late w.clock system.configuration.name given.number ∷ ls) told.quiet)
+        | inl late ↦ ap (filter tells_of_copy) told.lines ∙ rw late (ap (λ (ls : List Line). Late system.moment system.configuration.name given.number ∷ ls) told.quiet)
         | inr soon ↦
             ap (filter tells_of_copy) told.lines
             ∙ rw soon (ap (λ (ls : List Line).
-            Received w.clock system.configuration.name given.number (first_port given.copy system.configuration.role system.attached.ports) ∷ ls) told.quiet)
+            Received system.moment system.configuration.name given.number (first_port given.copy system.configuration.role system.attached.ports) ∷ ls) told.quiet)
       ]
 
-  -- it is the same of systems of the same configuration that are attached alike
-  told_alike : (now : ℕ) (x y : SystemState) → seat_of x ≡ seat_of y → told_to limits now given x ≡ told_to limits now given y
-  told_alike now x y e =
-      ap (λ (s : Seat). cond (nat_lt (given.copy.birth + limits.age) now) (Late now s.configuration.name given.number)
-      (Received now s.configuration.name given.number (first_port given.copy s.configuration.role s.attached.ports))) e
+  -- it is the same of systems of the same configuration that are attached alike, at the same clock
+  told_alike : (v w : World) (x y : SystemState) → map seat_of v.systems ≡ map seat_of w.systems → v.clock ≡ w.clock → seat_of x ≡ seat_of y
+      → told_to limits v given x ≡ told_to limits w given y
+  told_alike v w x y seated now e =
+      ap (λ (late : Bool). cond late (Late x.moment x.configuration.name given.number)
+      (Received x.moment x.configuration.name given.number (first_port given.copy x.configuration.role x.attached.ports)))
+      (same_age limits given.copy v w seated now)
+      ∙ ap (λ (s : Seat). cond (is_late limits w given.copy) (Late s.moment s.configuration.name given.number)
+      (Received s.moment s.configuration.name given.number (first_port given.copy s.configuration.role s.attached.ports))) e
 
   -- and where it is given to each that it is for of some systems, from a place on
   told_each : (w : World) (from : ℕ) (systems : List SystemState) → ((i : ℕ) → slice_get systems i ≡ slice_get w.systems (from + i))
       → (v : World) → map seat_of v.systems ≡ map seat_of w.systems → v.clock ≡ w.clock
       → filter tells_of_copy (give_each limits given v (addressees_from from given.copy systems)).lines
-      ≡ told_to_each limits w.clock given (addressees_of given.copy systems)
+      ≡ told_to_each limits w given (addressees_of given.copy systems)
   told_each w from [] same v seated now = refl
   told_each w from (system ∷ systems) same v seated now =
       let first : slice_get w.systems from ≡ Some system =
@@ -82,16 +86,14 @@ module _ (limits : Limits) (given : Numbered) where
       let there = same_seat v.systems w.systems from system seated first in
       let one = give limits given v from in
       let others = addressees_from (from + 1) given.copy systems in
-      let told = told_once v from there.0 there.1
-      ∙ (ap (λ (moment : ℕ). told_to limits moment given there.0 ∷ []) now
-      ∙ ap (λ (line : Line). line ∷ []) (told_alike w.clock there.0 system there.2)) in
+      let told = told_once v from there.0 there.1 ∙ ap (λ (line : Line). line ∷ []) (told_alike v w there.0 system seated now there.2) in
       let more = told_each w (from + 1) systems rest one.world (seats-give limits given v from ∙ seated) (clock-give limits given v from ∙ now) in
       elim (cases_Bool (is_addressee given.copy system)) [
         | inl is ↦
             rw is
             (filter-append tells_of_copy one.lines (give_each limits given one.world others).lines
             ∙ (ap (λ (ls : List Line). ls ++ filter tells_of_copy (give_each limits given one.world others).lines) told
-            ∙ ap (λ (ls : List Line). told_to limits w.clock given system ∷ ls) more))
+            ∙ ap (λ (ls : List Line). told_to limits w given system ∷ ls) more))
         | inr isnt ↦ rw isnt (told_each w (from + 1) systems rest v seated now)
       ]
 
@@ -121,7 +123,7 @@ module _ (limits : Limits) (w : World) (copy : Copy) where
       filter-append tells_of_copy (for_nobody w.clock given.number places) (give_each limits given next places).lines
       ∙ (ap (λ (ls : List Line). ls ++ filter tells_of_copy (give_each limits given next places).lines) (nobody_alone w.clock given.number places)
       ∙ (ap (λ (ls : List Line). for_nobody w.clock given.number places ++ ls) each
-      ∙ or_nobody_is w.clock given.number copy (told_to limits w.clock given) 0 w.systems))
+      ∙ or_nobody_is w.clock given.number copy (told_to limits w given) 0 w.systems))
 
   pub tells_once : slice_get w.copies w.cursor ≡ Some copy → TellsOnce limits w copy
   tells_once there =

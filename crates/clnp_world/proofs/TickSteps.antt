@@ -1,126 +1,249 @@
--- What a network of the code stands for while a moment comes to one of its systems after another.
-use Rattle.std.proofs.Common.{◌≡◌, ℕ, ◌+◌, ◌<◌, ◌≤◌, List, length, take, Option, Some, sym, ap, ◌∙◌, subst, arith}
+-- What a network of the code stands for while the clocks of its systems go on, one after another.
+use Rattle.std.proofs.Common.{◌≡◌, ◌≢◌, ℕ, ◌+◌, ◌^◌, ◌<◌, ◌≤◌, max, List, length, Option, None, Some, refl, sym, ap, ◌∙◌, subst, arith}
 use Rattle.std.specs.Prelude.{slice_get}
-use Rattle.std.specs.List.{AllByRecursion, range_with_len}
-use Rattle.std.proofs.lemmas.List.{take_all}
-use Rattle.clnp_machine.specs.System.{SystemState, MomentComes, Effect}
+use Rattle.std.specs.List.{range_with_len}
+use Rattle.std.proofs.lemmas.Option.{slice_get_past}
+use Rattle.clnp_machine.specs.System.{Input, SystemState, MomentComes}
 use Rattle.clnp_machine.specs.Step.{step}
+use Rattle.clnp_machine.specs.Unit.{DeclaredAt, Maker, Outside}
+use Rattle.clnp_network.specs.Clocks.{NoneIsAhead}
 use Rattle.clnp_network.specs.World as network
 use Rattle.clnp_systems.specs.declared.system.System.{System}
 use Rattle.clnp_systems.specs.Stands.{entity_of}
 use Rattle.clnp_world.specs.declared.lines.Lines.{Lines}
-use Rattle.clnp_world.specs.Stands.{IsCurrent}
-use Rattle.clnp_world.specs.Parts.{Shows, IsBehind, Holds, Puts, Follows}
+use Rattle.clnp_world.specs.Seen.{place_of}
+use Rattle.clnp_world.specs.Parts.{Shows, MayGoOn, IsTimely, IsRunning, Holds, Follows}
 use Rattle.clnp_world.specs.declared.network.Network.{Network}
-use Rattle.clnp_machine.proofs.ClnpBase.Lists.{AllByRecursion-implies, AllByRecursion-slice_get, slice_get_some}
-use Rattle.clnp_machine.proofs.ClnpBase.ListSteps.{all_set, all_take_set}
+use Rattle.clnp_machine.proofs.ClnpBase.Lists.{AllByRecursion-implies, AllByRecursion-slice_get, slice_get-set_other}
 use Rattle.clnp_world.proofs.EachSteps.{each_length}
-use Rattle.clnp_world.proofs.ModelSteps.{tick_at, tick_each-more, systems-put_all_out, clock-put_all_out, step_moment}
-use Rattle.clnp_world.proofs.PutSteps.{puts_then}
 use Rattle.clnp_world.proofs.TakeSteps.{is_there}
+use Rattle.clnp_world.proofs.GiveSteps.{follows_nothing, follows_then, system_there}
+use Rattle.clnp_world.proofs.ModelSteps.{tick_at, tick_each-more, systems-put_all_out, clock-put_all_out}
 
--- the clock goes on
-pub clock_goes_on : (code : Network) (model : network.World) → Holds code model
-    → Shows (record code { clock = code.clock + 1 }) (record model { clock = model.clock + 1 })
-clock_goes_on code model h = record {
-  clock = ap (λ (n : ℕ). n + 1) h.shows.clock;
-  systems = h.shows.systems;
-  mtus = h.shows.mtus;
-  wide = h.shows.wide;
-  copies = h.shows.copies;
-  cursor = h.shows.cursor;
-  carried = h.shows.carried;
-  born = h.shows.born;
-  short = h.shows.short;
-  weight = h.shows.weight;
+-- The network's clock goes on.
+
+pub clock_goes_on : (code : Network) (model : network.World) (now then : ℕ) → Holds code model → now ≡ then → model.clock ≤ then
+    → Holds (record code { clock = now }) (record model { clock = then })
+clock_goes_on code model now then h same later = record {
+  shows = record {
+    clock = same;
+    systems = h.shows.systems;
+    mtus = h.shows.mtus;
+    wide = h.shows.wide;
+    copies = h.shows.copies;
+    cursor = h.shows.cursor;
+    carried = h.shows.carried;
+    born = h.shows.born;
+    short = h.shows.short;
+    weight = h.shows.weight;
+    placed = h.shows.placed;
+  };
+  behind = AllByRecursion-implies (λ (s : SystemState). s.moment ≤ model.clock) (λ (s : SystemState). s.moment ≤ then) (λ s e. omega (arith, e, later))
+      model.systems h.behind;
 }
 
-pub all_behind : (model : network.World) → IsCurrent model → IsBehind (record model { clock = model.clock + 1 })
-all_behind model h =
-    AllByRecursion-implies (λ (s : SystemState). s.moment ≡ model.clock) (λ (s : SystemState). s.moment ≤ model.clock + 1) (λ s e. omega arith)
-    model.systems h
+-- then each system's may
+pub all_may : (model : network.World) → NoneIsAhead model → (place : ℕ) → MayGoOn (record model { clock = model.clock + 1 }) place
+all_may model behind place system there =
+    let before : system.moment ≤ model.clock
+    = AllByRecursion-slice_get (λ (s : SystemState). s.moment ≤ model.clock) model.systems place system there behind in
+    omega (arith, before)
 
--- the moment has come to the systems below a place, and no system is ahead of it
-pub record AreTicked (w : network.World) (place : ℕ) : Type 0 where
-  pub behind : IsBehind w
-  pub current : AllByRecursion (λ (s : SystemState). s.moment ≡ w.clock) (take place w.systems)
+-- The clock of one system goes on.
 
-ticked_set : (w : network.World) (place : ℕ) (effect : Effect) → AreTicked w place → effect.after.moment ≡ w.clock
-    → AreTicked (network.with_effect w place effect) (place + 1)
-ticked_set w place effect h e = record {
-  behind = all_set (λ (s : SystemState). s.moment ≤ w.clock) w.systems place effect.after h.behind (omega arith);
-  current = all_take_set (λ (s : SystemState). s.moment ≡ w.clock) w.systems place effect.after h.current e;
-}
+-- what the clock of the system at a place is
+abbrev pub TellsMoment : Network → (place moment : ℕ) → Type 0
+TellsMoment code place moment =
+    (model : network.World) (system : SystemState) → Shows code model → slice_get model.systems place ≡ Some system → moment ≡ system.moment
 
-ticked_same : (w v : network.World) (place : ℕ) → AreTicked w place → v.systems ≡ w.systems → v.clock ≡ w.clock → AreTicked v place
-ticked_same w v place h systems clock = record {
-  behind = subst (λ (t : ℕ). AllByRecursion (λ (s : SystemState). s.moment ≤ t) v.systems) (sym clock)
-      (subst (λ (ss : List SystemState). AllByRecursion (λ (s : SystemState). s.moment ≤ w.clock) ss) (sym systems) h.behind);
-  current = subst (λ (t : ℕ). AllByRecursion (λ (s : SystemState). s.moment ≡ t) (take place v.systems)) (sym clock)
-      (subst (λ (ss : List SystemState). AllByRecursion (λ (s : SystemState). s.moment ≡ w.clock) (take place ss)) (sym systems) h.current);
-}
+-- it is the clock by which what the system made grows old
+pub clock_there : (code : Network) (maker : Option ℕ) (place moment : ℕ) → maker ≡ Some place → place < length code.systems.items
+    → TellsMoment code place moment → (model : network.World) (by : Maker) → Shows code model → maker ≡ place_of by
+    → moment ≡ network.clock_of model by
+clock_there code maker place moment is within tells model Outside h by_is = absurd (let no : ⊥ = cc in no)
+clock_there code maker place moment is within tells model (DeclaredAt at) h by_is =
+    let same : place ≡ at = cc in
+    let there = system_there code model place h within in
+    let found : slice_get model.systems at ≡ Some there.0 = subst (λ (n : ℕ). slice_get model.systems n ≡ Some there.0) same there.1 in
+    tells model there.0 h there.1 ∙ sym (ap (network.clock_at model.clock) found)
 
-ticked_at : (w : network.World) (place : ℕ) (system : SystemState) → slice_get w.systems place ≡ Some system → AreTicked w place
-    → AreTicked (tick_at w place).world (place + 1)
-ticked_at w place system there h =
-    let effect = step system (MomentComes w.clock) in
-    let v = network.with_effect w place effect in
-    subst (λ (s : Option SystemState). AreTicked (network.comes_to w place (MomentComes w.clock) s).world (place + 1)) (sym there)
-    (ticked_same v (network.takes_effect w place effect).world (place + 1) (ticked_set w place effect h (step_moment system (MomentComes w.clock)))
-    (systems-put_all_out effect.after v effect.outputs) (clock-put_all_out effect.after v effect.outputs))
+-- where there is no system, it is the network's
+pub clock_past : (code : Network) (maker : Option ℕ) (place : ℕ) → maker ≡ Some place → length code.systems.items ≤ place
+    → (model : network.World) (by : Maker) → Shows code model → maker ≡ place_of by → code.clock ≡ network.clock_of model by
+clock_past code maker place is past model Outside h by_is = absurd (let no : ⊥ = cc in no)
+clock_past code maker place is past model (DeclaredAt at) h by_is =
+    let same : place ≡ at = cc in
+    let long = each_length code.systems.items model.systems h.systems in
+    let none = slice_get_past model.systems at (omega (arith, same, long, past)) in
+    h.clock ∙ sym (ap (network.clock_at model.clock) none)
 
--- the code's network after the ticks of the systems below a place
+-- the moment that comes to it isn't ahead
+timely : (old : Network) (place moment now : ℕ) (model : network.World) → Holds old model → MayGoOn model place → TellsMoment old place moment
+    → now ≡ moment + 1 → IsTimely model place (MomentComes now)
+timely old place moment now model h may tells next system there =
+    let same = tells model system h.shows there in
+    let fits = may system there in
+    omega (arith, same, fits, next)
+
+-- and it may come: it is later than the system's own, and not so late that there is none behind it
+pub next_may_come : (code : Network) (place moment now : ℕ) (node : System) → (model : network.World) × Holds code model × MayGoOn model place
+    → TellsMoment code place moment → now ≡ moment + 1 → code.clock < 2 ^ 62 → slice_get code.systems.items place ≡ Some node
+    → ((entity_of node).moment ≤ now) × (now < 2 ^ 62)
+next_may_come code place moment now node running tells next early here =
+    let model = running.0 in
+    let h = (running.1).shows in
+    let there = is_there code model place node h here in
+    let same = tells model there.system h there.at in
+    let may = running.2 there.system there.at in
+    (omega (arith, there.stands.parts.moment, same, next), omega (arith, h.clock, same, may, early, next))
+
+pub goes_on_there : (old code : Network) (before after : Lines) (place moment now : ℕ) → place < length old.systems.items → TellsMoment old place moment
+    → now ≡ moment + 1
+    → ((model : network.World) → Holds old model → IsTimely model place (MomentComes now)
+    → Follows code before after (network.comes model place (MomentComes now)))
+    → (model : network.World) → Holds old model → MayGoOn model place
+    → Follows code before after (network.goes_on model place (slice_get model.systems place))
+goes_on_there old code before after place moment now within tells next comes model h may =
+    let there = system_there old model place h.shows within in
+    let same : now ≡ (there.0).moment + 1 = next ∙ ap (λ (t : ℕ). t + 1) (tells model there.0 h.shows there.1) in
+    subst (λ (s : Option SystemState). Follows code before after (network.goes_on model place s)) (sym there.1)
+    (subst (λ (t : ℕ). Follows code before after (network.comes model place (MomentComes t))) same
+    (comes model h (timely old place moment now model h may tells next)))
+
+-- it leaves the clocks of the others, and the network's
+comes_leaves : (w : network.World) (place other : ℕ) (input : Input) (found : Option SystemState) → place ≢ other
+    → slice_get (network.comes_to w place input found).world.systems other ≡ slice_get w.systems other
+comes_leaves w place other input None differ = refl
+comes_leaves w place other input (Some system) differ =
+    let effect = step system input in
+    ap (λ (ss : List SystemState). slice_get ss other) (systems-put_all_out effect.after (network.with_effect w place effect) effect.outputs)
+    ∙ slice_get-set_other w.systems place other effect.after differ
+
+comes_at_clock : (w : network.World) (place : ℕ) (input : Input) (found : Option SystemState) → (network.comes_to w place input found).world.clock ≡ w.clock
+comes_at_clock w place input None = refl
+comes_at_clock w place input (Some system) =
+    let effect = step system input in clock-put_all_out effect.after (network.with_effect w place effect) effect.outputs
+
+others_stay : (w : network.World) (place other : ℕ) (found : Option SystemState) → place ≢ other
+    → slice_get (network.goes_on w place found).world.systems other ≡ slice_get w.systems other
+others_stay w place other None differ = refl
+others_stay w place other (Some system) differ = comes_leaves w place other (MomentComes (system.moment + 1)) (slice_get w.systems place) differ
+
+clock_stays : (w : network.World) (place : ℕ) (found : Option SystemState) → (network.goes_on w place found).world.clock ≡ w.clock
+clock_stays w place None = refl
+clock_stays w place (Some system) = comes_at_clock w place (MomentComes (system.moment + 1)) (slice_get w.systems place)
+
+-- One system after another.
+
+-- the code's network when the clocks of the systems below a place went on: those of the others may
 pub record Ticked (code : Network) (before after : Lines) (part : network.Step) (place : ℕ) : Type 0 where
-  pub puts : Puts code before after part
-  pub are : AreTicked part.world place
+  pub follows : Follows code before after part
+  pub next : (other : ℕ) → place ≤ other → MayGoOn part.world other
 
 abbrev pub TicksTo : Network → Network → Lines → Lines → ℕ → Type 0
 TicksTo start code before after place =
-    (model : network.World) → Shows start model → IsBehind model → Ticked code before after (network.tick_each model (range_with_len 0 place)) place
+    (model : network.World) → Holds start model → ((other : ℕ) → MayGoOn model other)
+    → Ticked code before after (network.tick_each model (range_with_len 0 place)) place
+
+pub ticks_none : (code : Network) (lines : Lines) → TicksTo code code lines lines 0
+ticks_none code lines model h may = record { follows = follows_nothing code lines model h; next = λ other past. may other }
 
 pub ticks_more : (start mid code : Network) (before between after : Lines) (place : ℕ) → TicksTo start mid before between place
-    → place < length mid.systems.items
-    → ((model : network.World) → Shows mid model → Puts code between after (tick_at model place))
+    → ((model : network.World) → Holds mid model → MayGoOn model place → Follows code between after (tick_at model place))
     → TicksTo start code before after (place + 1)
-ticks_more start mid code before between after place so_far within next model h behind =
+ticks_more start mid code before between after place so_far one model h may =
     let w = network.tick_each model (range_with_len 0 place) in
-    let front = so_far model h behind in
-    let same = each_length mid.systems.items w.world.systems front.puts.shows.systems in
-    let there = slice_get_some w.world.systems place (omega arith) in
+    let front = so_far model h may in
+    let found = slice_get w.world.systems place in
     subst (λ (s : network.Step). Ticked code before after s (place + 1)) (sym (tick_each-more model place))
     record {
-      puts = puts_then code before between after w (λ v. tick_at v place) front.puts.lines (next w.world front.puts.shows);
-      are = ticked_at w.world place there.0 there.1 front.are;
+      follows = follows_then code before between after w (λ v. tick_at v place) front.follows.lines
+          (one w.world front.follows.holds (front.next place (omega arith)));
+      next = λ other past system there.
+          let differ : place ≢ other = λ same. absurd (let no : ⊥ = omega (arith, same, past) in no) in
+          subst (λ (t : ℕ). system.moment + 1 ≤ t) (sym (clock_stays w.world place found))
+          (front.next other (omega (arith, past)) system (sym (others_stay w.world place other found differ) ∙ there));
     }
 
--- no system's moment is ahead of the clock
-pub not_ahead : (start code : Network) (before after : Lines) (place : ℕ) → (model : network.World) × Shows start model × IsBehind model
-    → TicksTo start code before after place
-    → (at : ℕ) (node : System) → slice_get code.systems.items at ≡ Some node → (entity_of node).moment ≤ code.clock
-not_ahead start code before after place running so_far at node here =
-    let model = running.0 in
-    let w = network.tick_each model (range_with_len 0 place) in
-    let part = so_far model running.1 running.2 in
-    let there = is_there code w.world at node part.puts.shows here in
-    let behind : there.system.moment ≤ w.world.clock
-    = AllByRecursion-slice_get (λ (s : SystemState). s.moment ≤ w.world.clock) w.world.systems at there.system there.at part.are.behind in
-    omega (arith, there.stands.parts.moment, part.puts.shows.clock)
+-- the next system's clock may go on
+pub next_may : (start code : Network) (before after : Lines) (place : ℕ)
+    → (model : network.World) × Holds start model × ((other : ℕ) → MayGoOn model other) → TicksTo start code before after place
+    → (model : network.World) × Holds code model × MayGoOn model place
+next_may start code before after place running so_far =
+    let part = so_far running.0 running.1 running.2 in
+    ((network.tick_each running.0 (range_with_len 0 place)).world, part.follows.holds, part.next place (omega arith))
 
-pub ticks_all : (start code : Network) (before after : Lines) (place : ℕ) → TicksTo start code before after place
-    → place ≡ length start.systems.items → length code.systems.items ≡ length start.systems.items
-    → (model : network.World) → Shows start model → IsBehind model
+pub ticks_all : (start code : Network) (before after : Lines) (place : ℕ) → TicksTo start code before after place → place ≡ length start.systems.items
+    → (model : network.World) → Holds start model → ((other : ℕ) → MayGoOn model other)
     → Follows code before after (network.tick_each model (range_with_len 0 (length model.systems)))
-ticks_all start code before after place so_far all length_is model h behind =
-    let w = network.tick_each model (range_with_len 0 place) in
-    let part = so_far model h behind in
-    let old = each_length start.systems.items model.systems h.systems in
-    let new = each_length code.systems.items w.world.systems part.puts.shows.systems in
-    subst (λ (n : ℕ). Follows code before after (network.tick_each model (range_with_len 0 n))) (all ∙ old)
-    record {
-      holds = record {
-        shows = part.puts.shows;
-        current = subst (λ (ss : List SystemState). AllByRecursion (λ (s : SystemState). s.moment ≡ w.world.clock) ss)
-            (take_all place w.world.systems (omega arith)) part.are.current;
-      };
-      lines = part.puts.lines;
-    }
+ticks_all start code before after place so_far all model h may =
+    let same = each_length start.systems.items model.systems h.shows.systems in
+    subst (λ (n : ℕ). Follows code before after (network.tick_each model (range_with_len 0 n))) (all ∙ same) (so_far model h may).follows
+
+-- The clock of one system alone, and the network's where it is passed.
+
+-- there is no system at the place
+pub ticks_nobody : (code : Network) (lines : Lines) (place : ℕ) → length code.systems.items ≤ place
+    → (model : network.World) → Holds code model → Follows code lines lines (network.tick_system model place)
+ticks_nobody code lines place past model h =
+    let same = each_length code.systems.items model.systems h.shows.systems in
+    let none = slice_get_past model.systems place (omega arith) in
+    subst (λ (s : Option SystemState). Follows code lines lines (network.tick_alone model place s)) (sym none) (follows_nothing code lines model h)
+
+-- the network of the model when the clock of the system at a place is about to go on
+abbrev pub about_to : network.World → (moment : ℕ) → network.World
+about_to model moment = record model { clock = max model.clock (moment + 1) }
+
+passed : (a b : ℕ) → a ≤ max a b
+passed a b = omega arith
+
+passes : (a b : ℕ) → b ≤ max a b
+passes a b = omega arith
+
+pub alone_holds : (old : Network) (place moment now : ℕ) → TellsMoment old place moment → now ≡ max old.clock (moment + 1)
+    → (model : network.World) (system : SystemState) → Holds old model → slice_get model.systems place ≡ Some system
+    → Holds (record old { clock = now }) (about_to model system.moment)
+alone_holds old place moment now tells is model system h there =
+    clock_goes_on old model now (max model.clock (system.moment + 1)) h
+    (is ∙ ap (λ (t : ℕ). max t (moment + 1)) h.shows.clock ∙ ap (λ (t : ℕ). max model.clock (t + 1)) (tells model system h.shows there))
+    (passed model.clock (system.moment + 1))
+
+alone_may : (model : network.World) (place : ℕ) (system : SystemState) → slice_get model.systems place ≡ Some system
+    → MayGoOn (about_to model system.moment) place
+alone_may model place system there other at =
+    let same : Some other ≡ Some system = sym at ∙ there in
+    let one : system ≡ other = cc in
+    subst (λ (s : SystemState). s.moment + 1 ≤ max model.clock (system.moment + 1)) one (passes model.clock (system.moment + 1))
+
+pub ticks_alone : (old code : Network) (before after : Lines) (place moment now : ℕ) → place < length old.systems.items → TellsMoment old place moment
+    → now ≡ max old.clock (moment + 1)
+    → ((model : network.World) → Holds (record old { clock = now }) model → MayGoOn model place
+    → Follows code before after (network.goes_on model place (slice_get model.systems place)))
+    → (model : network.World) → Holds old model → Follows code before after (network.tick_system model place)
+ticks_alone old code before after place moment now within tells is goes model h =
+    let there = system_there old model place h.shows within in
+    let w = about_to model (there.0).moment in
+    let went = goes w (alone_holds old place moment now tells is model there.0 h there.1) (alone_may model place there.0 there.1) in
+    subst (λ (s : Option SystemState). Follows code before after (network.tick_alone model place s)) (sym there.1)
+    (subst (λ (s : Option SystemState). Follows code before after (network.goes_on w place s)) there.1 went)
+
+pub alone_runs : (old : Network) (place moment now : ℕ) → place < length old.systems.items → TellsMoment old place moment
+    → now ≡ max old.clock (moment + 1) → IsRunning old
+    → (model : network.World) × Holds (record old { clock = now }) model × MayGoOn model place
+alone_runs old place moment now within tells is running =
+    let there = system_there old running.0 place (running.1).shows within in (
+      about_to running.0 (there.0).moment,
+      alone_holds old place moment now tells is running.0 there.0 running.1 there.1,
+      alone_may running.0 place there.0 there.1,
+    )
+
+-- not so late that there is no moment behind it
+pub alone_early : (old : Network) (place moment now : ℕ) → place < length old.systems.items → TellsMoment old place moment
+    → now ≡ max old.clock (moment + 1) → IsRunning old → old.clock + 1 < 2 ^ 62 → now < 2 ^ 62
+alone_early old place moment now within tells is running early =
+    let h = running.1 in
+    let there = system_there old running.0 place h.shows within in
+    let same = tells running.0 there.0 h.shows there.1 in
+    let behind : (there.0).moment ≤ (running.0).clock
+    = AllByRecursion-slice_get (λ (s : SystemState). s.moment ≤ (running.0).clock) (running.0).systems place there.0 there.1 h.behind in
+    omega (arith, h.shows.clock, same, behind, is, early)

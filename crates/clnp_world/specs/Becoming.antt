@@ -1,5 +1,5 @@
 -- What a trace tells of a copy that is given, settled or lost.
-use Rattle.std.specs.Prelude.{◌≡◌, ℕ, ◌+◌, nat_lt, Bool, true, false, if◌then◌else◌, List, [], ◌∷◌, map}
+use Rattle.std.specs.Prelude.{◌≡◌, ℕ, ◌+◌, Bool, true, false, if◌then◌else◌, List, [], ◌∷◌, map}
 use Rattle.std.specs.List.{filter}
 use Rattle.clnp_machine.specs.ClnpPlan.Journal.{Line, Late, Received, Lost, ForNobody}
 use Rattle.clnp_machine.specs.ClnpPlan.declared.config.Limits.{Limits}
@@ -16,10 +16,10 @@ tells_of_copy (ForNobody now copy) = true
 tells_of_copy _ = false
 
 -- what is told of a copy that is given to a system: that it is too old, or by which of its ports it comes
-abbrev pub told_to : Limits → (now : ℕ) → Numbered → SystemState → Line
-told_to limits now given system =
-    if nat_lt (given.copy.birth + limits.age) now then Late now system.configuration.name given.number
-    else Received now system.configuration.name given.number (first_port given.copy system.configuration.role system.attached.ports)
+abbrev pub told_to : Limits → World → Numbered → SystemState → Line
+told_to limits w given system =
+    if is_late limits w given.copy then Late system.moment system.configuration.name given.number
+    else Received system.moment system.configuration.name given.number (first_port given.copy system.configuration.role system.attached.ports)
 
 -- those of some systems that a copy is for
 abbrev pub addressees_of : Copy → List SystemState → List SystemState
@@ -31,12 +31,12 @@ or_nobody now number [] = ForNobody now number ∷ []
 or_nobody now number (line ∷ lines) = line ∷ lines
 
 -- what is told to some systems
-abbrev pub told_to_each : Limits → (now : ℕ) → Numbered → List SystemState → List Line
-told_to_each limits now given systems = map (told_to limits now given) systems
+abbrev pub told_to_each : Limits → World → Numbered → List SystemState → List Line
+told_to_each limits w given systems = map (told_to limits w given) systems
 
 -- what is told of a copy that is settled: to each of its addressees once, in the order of the declarations
 abbrev pub told_of_settled : Limits → World → Numbered → List Line
-told_of_settled limits w given = or_nobody w.clock given.number (told_to_each limits w.clock given (addressees_of given.copy w.systems))
+told_of_settled limits w given = or_nobody w.clock given.number (told_to_each limits w given (addressees_of given.copy w.systems))
 
 -- What is told of the copy at the cursor: where it is settled, to each of its addressees once, or that it is for nobody; where
 -- it is lost, that it is.
@@ -50,7 +50,7 @@ pub record TellsOnce (limits : Limits) (w : World) (copy : Copy) : Type 0 where
 -- of copies: what the system gives out where it takes the copy in, and nothing where the copy is too old.
 pub record GivesAsTold (limits : Limits) (given : Numbered) (w : World) (place : ℕ) (system : SystemState) : Type 0 where
   pub caused : List Line
-  pub lines : (give limits given w place).lines ≡ told_to limits w.clock given system ∷ caused
+  pub lines : (give limits given w place).lines ≡ told_to limits w given system ∷ caused
   pub quiet : filter tells_of_copy caused ≡ []
   pub late : is_late limits w given.copy ≡ true → caused ≡ []
   pub soon : is_late limits w given.copy ≡ false → caused ≡ (takes_effect w place (step system (frame_to system given.copy))).lines

@@ -1,6 +1,5 @@
 -- What the parts of a move do to the network of the code.
 use Rattle.std.specs.Prelude.{◌≡◌, ◌≤◌, ◌+◌, ℕ, List, ◌++◌, slice_get, Some}
-use Rattle.std.specs.List.{AllByRecursion}
 use Rattle.clnp_machine.specs.System.{Input, SystemState}
 use Rattle.clnp_systems.specs.SystemEntity.Steps.{moment_at}
 use Rattle.clnp_network.specs.World as network
@@ -25,27 +24,27 @@ state_of code = record {
   weight = code.weight;
 }
 
--- the network of the code is one of the model, whatever the moments of its systems
+-- the network of the code is one of the model, whatever the clocks of its systems
 abbrev pub Shows : Network → network.World → Type 0
 Shows code model = seen.Shows (state_of code) model
 
--- no system's moment is ahead of the clock
-abbrev pub IsBehind : network.World → Type 0
-IsBehind model = AllByRecursion (λ (system : SystemState). system.moment ≤ model.clock) model.systems
-
--- something comes to the system at a place at the clock's moment
+-- what comes to the system at a place leaves its clock where it isn't ahead of the network's
 abbrev pub IsTimely : network.World → (place : ℕ) → Input → Type 0
 IsTimely model place input =
-    (system : SystemState) → slice_get model.systems place ≡ Some system → moment_at input system.moment ≡ model.clock
+    (system : SystemState) → slice_get model.systems place ≡ Some system → moment_at input system.moment ≤ model.clock
 
--- between two moves it is one of the model, whose systems are at the clock's moment
+-- the clock of the system at a place may go on
+abbrev pub MayGoOn : network.World → (place : ℕ) → Type 0
+MayGoOn model place = (system : SystemState) → slice_get model.systems place ≡ Some system → system.moment + 1 ≤ model.clock
+
+-- between two moves it is one of the model, in which no clock is ahead
 abbrev pub Holds : Network → network.World → Type 0
 Holds code model = seen.Holds (state_of code) model
 
 abbrev pub IsRunning : Network → Type 0
 IsRunning code = (model : network.World) × Holds code model
 
--- the network and its lines are those after a part of a move, whatever the moments of its systems
+-- the network and its lines are those after a part of a move, whatever the clocks of its systems
 pub record Puts (code : Network) (before after : Lines) (part : network.Step) : Type 0 where
   pub shows : Shows code part.world
   pub lines : Gains before after part.lines

@@ -4,20 +4,37 @@ use Rattle.clnp_machine.specs.Nsap.declared.target.Target.{Target}
 use Rattle.clnp_machine.specs.ClnpPlan.declared.config.PortConfig.{PortConfig}
 use Rattle.clnp_machine.specs.ClnpPlan.declared.config.Role.{Role}
 use Rattle.clnp_machine.specs.Content.{frame_of}
+use Rattle.clnp_machine.specs.Unit.{Maker, DeclaredAt, Outside}
 use Rattle.clnp_machine.specs.System.{SystemState}
 use Rattle.clnp_network.specs.World.{Copy, first_port, is_addressee, reaches}
 use Rattle.clnp_world.specs.declared.copy.FrameCopy.{FrameCopy}
+use Rattle.clnp_world.specs.declared.copy.Origin.{Origin}
+
+-- the place of a maker among the declarations, where it was declared
+abbrev pub place_of : Maker → Option ℕ
+place_of Outside = None
+place_of (DeclaredAt place) = Some place
+
+-- who made something, and when, as the code has it
+abbrev pub origin_of : Maker → (birth : ℕ) → Origin
+origin_of maker birth = record { maker = place_of maker; birth = birth }
 
 -- a copy of the model as the code has it: a packet is the octets of its PDU
 abbrev pub frame_copy : Copy → FrameCopy
 frame_copy copy =
-    record { subnet = copy.subnet; sender = copy.sender; target = copy.target; birth = copy.birth; frame = frame_of copy.content }
+    record {
+      subnet = copy.subnet;
+      sender = copy.sender;
+      target = copy.target;
+      origin = origin_of copy.maker copy.birth;
+      frame = frame_of copy.content;
+    }
 
 -- the copy that a frame makes on a port's subnetwork, where there is such a port
-abbrev pub frame_copies : Option PortConfig → Target → ℕ → List ℕ → List FrameCopy
-frame_copies None target birth frame = []
-frame_copies (Some port) target birth frame =
-    record { subnet = port.subnet; sender = port.snpa; target = target; birth = birth; frame = frame } ∷ []
+abbrev pub frame_copies : Option PortConfig → Target → Origin → List ℕ → List FrameCopy
+frame_copies None target origin frame = []
+frame_copies (Some port) target origin frame =
+    record { subnet = port.subnet; sender = port.snpa; target = target; origin = origin; frame = frame } ∷ []
 
 -- whether a copy comes in by a port of a system in a role
 abbrev pub enters : FrameCopy → Role → PortConfig → Bool

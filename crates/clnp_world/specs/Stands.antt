@@ -7,10 +7,12 @@ use Rattle.clnp_machine.specs.ClnpPlan.Configuration.{IsWithin}
 use Rattle.clnp_machine.specs.ClnpPlan.declared.config.Role.{Role}
 use Rattle.clnp_systems.specs.declared.system.System.{System}
 use Rattle.clnp_systems.specs.Stands as clnp_systems
+use Rattle.clnp_network.specs.Clocks.{NoneIsAhead}
 use Rattle.clnp_network.specs.World as network
-use Rattle.clnp_world.specs.Seen.{frame_copy}
+use Rattle.clnp_world.specs.Seen.{frame_copy, origin_of}
 use Rattle.clnp_world.specs.State.{NetworkState, WorldState}
 use Rattle.clnp_world.specs.declared.copy.FrameCopy.{FrameCopy}
+use Rattle.clnp_world.specs.declared.copy.Origin.{Origin}
 use Rattle.clnp_world.specs.declared.world.WorldRefusal.{WorldRefusal}
 use Rattle.clnp_world.specs.declared.world.WorldRefusal.TheVariants.{WorldFull, NoMemory}
 
@@ -24,13 +26,13 @@ pub record IsDeclared (model : network.World) (at : ℕ) (role : Role) : Type 0 
   pub there : slice_get model.systems at ≡ Some system
   pub role_is : system.configuration.role ≡ role
 
--- of what was born at a moment: where it carries a packet, the packet's unit was made at this moment
-abbrev pub IsBornWithUnit : (birth : ℕ) → Content → Type 0
-IsBornWithUnit birth (Labelled packet following) = birth ≡ packet.unit.made
-IsBornWithUnit birth (Esis value following) = Unit {0}
-IsBornWithUnit birth (Unlabelled octets) = Unit {0}
+-- of what somebody made at a moment: where it carries a packet, they made the packet's unit at this moment
+abbrev pub IsMadeWithUnit : Origin → Content → Type 0
+IsMadeWithUnit origin (Labelled packet following) = origin ≡ origin_of packet.unit.maker packet.unit.made
+IsMadeWithUnit origin (Esis value following) = Unit {0}
+IsMadeWithUnit origin (Unlabelled octets) = Unit {0}
 
--- a network is one of the model, whatever the moments of its systems
+-- a network is one of the model, whatever the clocks of its systems
 pub record Shows (code : NetworkState) (model : network.World) : Type 0 where
   pub clock : code.clock ≡ model.clock
   pub systems : StandEach code.systems model.systems
@@ -40,20 +42,18 @@ pub record Shows (code : NetworkState) (model : network.World) : Type 0 where
   pub copies : code.copies ≡ map frame_copy model.copies
   pub cursor : code.cursor ≡ model.cursor
   pub carried : AllByRecursion (λ copy. IsCarried copy.content) model.copies
-  -- a copy of a packet is as old as its unit
-  pub born : AllByRecursion (λ (copy : network.Copy). IsBornWithUnit copy.birth copy.content) model.copies
+  -- a copy of a packet is as old as its unit, and made by whoever made that
+  pub born : AllByRecursion (λ (copy : network.Copy). IsMadeWithUnit (origin_of copy.maker copy.birth) copy.content) model.copies
+  -- each system knows its place
+  pub placed : (place : ℕ) (system : SystemState) → slice_get model.systems place ≡ Some system → system.place ≡ place
   -- no frame is longer than a system takes
   pub short : AllByRecursion (λ (copy : FrameCopy). length copy.frame ≤ 70000) code.copies
   pub weight : code.weight ≡ network.weight model
 
--- the clock's moment has come to each system
-abbrev pub IsCurrent : network.World → Type 0
-IsCurrent model = AllByRecursion (λ (system : SystemState). system.moment ≡ model.clock) model.systems
-
--- between two moves it is one of the model, whose systems are at the clock's moment
+-- between two moves it is one of the model, in which no clock is ahead
 pub record Holds (code : NetworkState) (model : network.World) : Type 0 where
   pub shows : Shows code model
-  pub current : IsCurrent model
+  pub behind : NoneIsAhead model
 
 pub record Stands (code : WorldState) (model : network.World) : Type 0 where
   pub not_spent : code.spent ≡ false

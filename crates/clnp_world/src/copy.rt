@@ -8,6 +8,14 @@ use clnp_machine::clnp_plan::{PortConfig, Role};
 use clnp_machine::clnp_views::Frame;
 use clnp_machine::nsap::{Snpa, Target};
 
+/// Who made what a frame carries, by its place among the declarations, and at which moment of its own clock. Where the frame
+/// came from outside nobody did, and the moment is one of the network's clock.
+#[derive(Clone, Copy)]
+pub(crate) struct Origin {
+    pub(crate) maker: Option<usize>,
+    pub(crate) birth: u64,
+}
+
 /// A frame that was put on a subnetwork, by its place among the declarations.
 #[derive(Drop)]
 pub(crate) struct FrameCopy {
@@ -15,10 +23,16 @@ pub(crate) struct FrameCopy {
     /// The sender's address there.
     pub(crate) sender: Snpa,
     pub(crate) target: Target,
-    /// The moment of its unit's making.
-    pub(crate) birth: u64,
+    /// Of its unit, or of the ES-IS PDU that it is.
+    pub(crate) origin: Origin,
     pub(crate) frame: Frame,
 }
+
+/// What any origin serves for, where no frame comes.
+pub(crate) const NO_FRAME: Origin = Origin {
+    maker: None,
+    birth: 0,
+};
 
 /// Whether a copy is for a group of systems.
 pub(crate) fn is_to_group(copy: &FrameCopy) -> bool

@@ -9,7 +9,7 @@ use Rattle.clnp_machine.specs.Step.{step}
 use Rattle.clnp_machine.specs.Steps.{attached_after}
 use Rattle.clnp_machine.specs.System.{SystemState, Input, AsksToSend, AsksForEcho, FrameComes, MomentComes, IsRestarted, IsCongested, IsChanged}
 use Rattle.scenario.specs.declared.event.Event.{Event}
-use Rattle.scenario.specs.declared.event.Event.TheVariants.{Send, Deliver, Settle, Lose, Tick, Restart, Echo, Congest, Inject, Mtu, Route, Unroute, Port}
+use Rattle.scenario.specs.declared.event.Event.TheVariants.{Send, Deliver, Settle, Lose, Tick, TickSystem, Restart, Echo, Congest, Inject, Mtu, Route, Unroute, Port}
 use Rattle.live_model.specs.Node.{Node, Outcome, Saw, LookFailed, Took, SendFailed}
 use Rattle.live_model.specs.Turn.{Due, asked_by, comes_at, due_behind, due_by}
 use Rattle.live_model.specs.Course.{Turn, course}
@@ -44,6 +44,7 @@ asked_leave role (Deliver copy system) = tt
 asked_leave role (Settle count) = tt
 asked_leave role (Lose count) = tt
 asked_leave role (Tick count) = tt
+asked_leave role (TickSystem system count) = tt
 asked_leave role (Restart system) = tt
 asked_leave role (Congest system on) = tt
 asked_leave role (Inject subnet from to octets) = tt

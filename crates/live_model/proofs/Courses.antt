@@ -10,7 +10,7 @@ use Rattle.clnp_machine.specs.Step.{step}
 use Rattle.clnp_machine.specs.System.{SystemState, Input, AsksToSend, AsksForEcho, MomentComes}
 use Rattle.scenario.specs.Scenario.{octets_of}
 use Rattle.scenario.specs.declared.event.Event.{Event}
-use Rattle.scenario.specs.declared.event.Event.TheVariants.{Send, Deliver, Settle, Lose, Tick, Restart, Echo, Congest, Inject, Mtu, Route, Unroute, Port}
+use Rattle.scenario.specs.declared.event.Event.TheVariants.{Send, Deliver, Settle, Lose, Tick, TickSystem, Restart, Echo, Congest, Inject, Mtu, Route, Unroute, Port}
 use Rattle.live_model.specs.Lines.{NodeLine}
 use Rattle.live_model.specs.Node.{Node, Outcome, Played, Goes, Ends, Strays}
 use Rattle.live_model.specs.Turn.{Due, asked_by, comes_at, due_behind, due_by, takes_turn}
@@ -73,6 +73,7 @@ asked_keeps role (Deliver copy system) s = refl
 asked_keeps role (Settle count) s = refl
 asked_keeps role (Lose count) s = refl
 asked_keeps role (Tick count) s = refl
+asked_keeps role (TickSystem system count) s = refl
 asked_keeps role (Restart system) s = refl
 asked_keeps role (Congest system on) s = refl
 asked_keeps role (Inject subnet from to octets) s = refl

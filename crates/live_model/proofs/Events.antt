@@ -7,7 +7,7 @@ use Rattle.std.proofs.lemmas.Bool.Decides.{nat_tests}
 use Rattle.clnp_machine.proofs.ClnpBase.Filters.{AllByRecursion-filter}
 use Rattle.clnp_machine.proofs.ClnpBase.Lists.{AllByRecursion-any, AllByRecursion-both, AllByRecursion-implies}
 use Rattle.scenario.specs.declared.event.Event.{Event}
-use Rattle.scenario.specs.declared.event.Event.TheVariants.{Send, Deliver, Settle, Lose, Tick, Restart, Echo, Congest, Inject, Mtu, Route, Unroute, Port}
+use Rattle.scenario.specs.declared.event.Event.TheVariants.{Send, Deliver, Settle, Lose, Tick, TickSystem, Restart, Echo, Congest, Inject, Mtu, Route, Unroute, Port}
 use Rattle.live_model.specs.Turn.{Due, due_behind, due_by, dues_from, is_due}
 use Rattle.live_model.specs.Events.{IsFirstDue, IsLaterThan, done_in, waiting_behind}
 
@@ -74,6 +74,9 @@ one_more moment event dues h =
 dues_are : (events : List Event) (moment : ℕ) → AreDues moment (dues_from moment events)
 dues_are [] moment = record { rising = tt; from_then = tt }
 dues_are (Tick count ∷ events) moment =
+    let h = dues_are events (moment + count) in
+    record { rising = h.rising; from_then = sooner moment (moment + count) (omega arith) (dues_from (moment + count) events) h.from_then }
+dues_are (TickSystem system count ∷ events) moment =
     let h = dues_are events (moment + count) in
     record { rising = h.rising; from_then = sooner moment (moment + count) (omega arith) (dues_from (moment + count) events) h.from_then }
 dues_are (Send system from to body ask ∷ events) moment = one_more moment (Send system from to body ask) (dues_from (moment + 0) events) (dues_are events (moment + 0))

@@ -20,7 +20,7 @@ use Rattle.clnp_machine.specs.Nsap.declared.target.Target.TheVariants.{System}
 use Rattle.scenario.specs.Scenario.{Plan}
 use Rattle.scenario.specs.Grammar.{plan_of, plan_at, events_from, counted_event}
 use Rattle.scenario.specs.Declarations.{limits_line, subnet_line, room_word, setting_word, system_line, address_line, port_line, route_line, declaration_line}
-use Rattle.scenario.specs.Events.{wish_word, send_line, deliver_line, tick_line, restart_line, count_line, event_line}
+use Rattle.scenario.specs.Events.{wish_word, send_line, deliver_line, tick_line, tick_system_line, ticks_line, restart_line, count_line, event_line}
 use Rattle.scenario.specs.declared.event.Event.{Event}
 use Rattle.scenario.specs.declared.event.Event.TheVariants.{Send, Tick}
 use Rattle.scenario.specs.declared.event.Body.TheVariants.{Hex}
@@ -97,7 +97,7 @@ host_plan = record {
 }
 
 host_is_read : plan_of (codes "clnp-sim 1\nsubnet lan 1500\nsystem a host hello=0\naddress a 47002702\nport a 0 lan 01\nevents\nsend a 47002702 47002701 hex:6869\ntick 320\nsend a 47002702 47002701 hex:6869\nend\n") ≡ Ok host_plan
-unfolding decode_pairs octets_of digits plan_at events_from counted_event limits_line subnet_line room_word setting_word system_line address_line port_line declaration_line wish_word send_line deliver_line tick_line restart_line count_line event_line
+unfolding decode_pairs octets_of digits plan_at events_from counted_event limits_line subnet_line room_word setting_word system_line address_line port_line declaration_line wish_word send_line deliver_line tick_line tick_system_line ticks_line restart_line count_line event_line
 host_is_read = refl
 
 abbrev host_ran : Course

@@ -7,7 +7,7 @@ use Rattle.clnp_machine.specs.ClnpPlan.declared.config.Role.TheVariants.{Host, R
 use Rattle.clnp_machine.specs.System.{Input, AsksToSend, AsksForEcho, MomentComes}
 use Rattle.scenario.specs.Scenario.{octets_of, ticks_of}
 use Rattle.scenario.specs.declared.event.Event.{Event}
-use Rattle.scenario.specs.declared.event.Event.TheVariants.{Send, Echo, Tick}
+use Rattle.scenario.specs.declared.event.Event.TheVariants.{Send, Echo, Tick, TickSystem}
 use Rattle.live_model.specs.Node.{Node, Outcome, Played, and_then, come_all, looks_at_each, ports_of}
 
 -- an event, and the moment from which on it is due
@@ -18,6 +18,7 @@ pub record Due : Type 0 where
 -- ticks are waited for, not done
 abbrev pub due_of : ℕ → Event → List Due
 due_of moment (Tick count) = []
+due_of moment (TickSystem system count) = []
 due_of moment event = record { moment = moment; event = event } ∷ []
 
 -- Events, the first of which comes at a moment: each is due from the moment on at which all ticks that stand before it are over.

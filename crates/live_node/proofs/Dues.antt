@@ -7,7 +7,7 @@ use Rattle.clnp_machine.specs.ClnpPlan.declared.config.Role.{Role}
 use Rattle.clnp_machine.specs.System.{Input}
 use Rattle.scenario.specs.Scenario.{ticks_of}
 use Rattle.scenario.specs.declared.event.Event.{Event}
-use Rattle.scenario.specs.declared.event.Event.TheVariants.{Send, Deliver, Settle, Lose, Tick, Restart, Echo, Congest, Inject, Mtu, Route, Unroute, Port}
+use Rattle.scenario.specs.declared.event.Event.TheVariants.{Send, Deliver, Settle, Lose, Tick, TickSystem, Restart, Echo, Congest, Inject, Mtu, Route, Unroute, Port}
 use Rattle.live_model.specs.Turn.{Due, asked_by, due_behind, due_by, due_of, dues_from, is_due}
 use Rattle.live_node.specs.Agenda.{asks_by, dues_of}
 use Rattle.live_node.specs.declared.agenda.Agenda.{Agenda}
@@ -23,6 +23,7 @@ IsWaitedFor moment event = (due_of moment event ≡ []) × ((role : Role) → as
 
 waited_or_due : (moment : ℕ) (event : Event) → IsWaitedFor moment event ⊎ (due_of moment event ≡ due_at moment event ∷ [])
 waited_or_due moment (Tick count) = inl (refl, λ role. refl)
+waited_or_due moment (TickSystem system count) = inl (refl, λ role. refl)
 waited_or_due moment (Send system from to body ask) = inr refl
 waited_or_due moment (Deliver copy system) = inr refl
 waited_or_due moment (Settle count) = inr refl

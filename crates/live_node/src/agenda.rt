@@ -41,6 +41,7 @@ fn ticks_of(event: &Event) -> u32
 {
     match event {
         Event::Tick { count } => *count,
+        Event::TickSystem { system: _, count } => *count,
         Event::Send { .. }
         | Event::Deliver { .. }
         | Event::Settle { .. }

@@ -167,6 +167,7 @@ impl LiveNode {
             Event::Settle { .. } => Ok(()),
             Event::Lose { .. } => Ok(()),
             Event::Tick { .. } => Ok(()),
+            Event::TickSystem { .. } => Ok(()),
             Event::Restart { .. } => Ok(()),
             Event::Congest { .. } => Ok(()),
             Event::Inject { .. } => Ok(()),

@@ -1,5 +1,5 @@
 -- A text that the grammar accepts is a scenario that is fit to be run.
-use Rattle.std.proofs.Common.{◌≡◌, ℕ, ◌+◌, ◌-◌, ◌≤◌, ◌&&◌, true, nat_le, List, [], ◌∷◌, map, length, codes, Option, None, Some, Result, Ok, Err, IfOk, refl, subst, arith}
+use Rattle.std.proofs.Common.{◌≡◌, ℕ, ◌+◌, ◌-◌, ◌≤◌, ◌&&◌, true, nat_le, List, [], ◌∷◌, map, length, codes, Option, None, Some, Result, Ok, Err, IfOk, refl, subst, ◌∙◌, arith}
 use Rattle.std.specs.List.{AllByRecursion, flat_map, sum}
 use Rattle.std.specs.Str.{bytes_eq}
 use Rattle.std.proofs.lemmas.Bool.{leb-true, and_parts}
@@ -141,12 +141,12 @@ plan_fit : Laws → (newest : ℕ) (lines : List (List ℕ)) → IfOk (plan_at N
 unfolding plan_at
 plan_fit laws newest lines =
     behind_such (header_from newest 1 lines) _ SaysVersion IsFit (header_within newest 1 lines) (λ header within.
-    behind_such (declarations_from header.number (nothing_declared header.value) header.lines) _ (λ declared. AreDeclared declared × ReadAddressed declared) IsFit
-    (both (declarations_from header.number (nothing_declared header.value) header.lines) AreDeclared ReadAddressed
+    behind_such (declarations_from header.number (nothing_declared header.value) header.lines) _ (λ declared. AreDeclared declared × ReadAddressed header.value declared) IsFit
+    (both (declarations_from header.number (nothing_declared header.value) header.lines) AreDeclared (ReadAddressed header.value)
     (declarations_fit header.number (nothing_declared header.value) header.lines (nothing_fit header.value)) (declared_addresses laws header.value header.number header.lines)) (λ declared are_declared.
     let fits : AreDeclared declared = are_declared.0 in
     let systems : List SystemConfiguration = map configuration_of declared.value.systems in
-    let scene : Scene = first_scene header.value declared.value.subnets systems in
+    let scene : Scene = first_scene header.value (limits_of declared.value.limits).skew declared.value.subnets systems in
     behind_such (events_from counted_event scene declared.number nothing_counted declared.lines) _ (λ events. AreCounted scene nothing_counted events × AllByRecursion (HasItsRole systems) events) IsFit
     (both (events_from counted_event scene declared.number nothing_counted declared.lines) (AreCounted scene nothing_counted) (AllByRecursion (HasItsRole systems))
     (events_fit laws scene (configurations_fit declared fits) declared.number nothing_counted declared.lines none_counted)
@@ -157,14 +157,14 @@ plan_fit laws newest lines =
       congested = AllByRecursion-implies (HasItsRole systems) (IsOfRouter systems) (λ event role. role.1) events are.1;
       version = within;
       limits = fits.fit.limits;
-      together = fits.fit.together;
+      together = λ one. fits.fit.together (are_declared.1.0 ∙ one);
       systems = configurations_fit declared fits;
       addresses = rw (configuration_addresses declared.value.systems) (distinct_of (addresses_of declared.value.systems) fits.fit.addresses);
-      each_address = configured_addresses declared.value.systems are_declared.1;
+      each_address = configured_addresses declared.value.systems are_declared.1.1;
       named_subnets = fits.fit.named;
       named_systems = configurations_named declared.value.systems fits.fit.systems;
       different = configurations_apart declared.value.systems fits.fit.systems;
-      prefixes = configured_prefixes declared.value.systems are_declared.1;
+      prefixes = configured_prefixes declared.value.systems are_declared.1.1;
       ticks = omega (arith, counted.ticks);
       few_events = omega (arith, counted.many);
       passed = omega (arith, counted.passed);
@@ -202,9 +202,10 @@ pub plan_is : (links : Option ℕ) (newest : ℕ) (text : List ℕ) (version n m
     → declarations_from n (nothing_declared version) left ≡ Ok (record { value = d; number = m; lines = rest })
     → fit_for links (m - 1) d ≡ Ok tt
     → limits ≡ limits_of d.limits → subnets ≡ d.subnets → systems ≡ map configuration_of d.systems
-    → events_from (event_for links) (first_scene version subnets systems) m nothing_counted rest ≡ Ok events
+    → events_from (event_for links) (first_scene version limits.skew subnets systems) m nothing_counted rest ≡ Ok events
     → plan_at links newest (lines_of text) ≡ Ok (record { version = version; limits = limits; subnets = subnets; systems = systems; events = events })
 unfolding plan_at
 plan_is links newest text version n m left rest d limits subnets systems events header declared fits limits_is subnets_is systems_is happens =
-    let named : events_from (event_for links) (first_scene version d.subnets (map configuration_of d.systems)) m nothing_counted rest ≡ Ok events = rw (subnets_is, systems_is) at happens in
+    let named : events_from (event_for links) (first_scene version (limits_of d.limits).skew d.subnets (map configuration_of d.systems)) m nothing_counted rest ≡ Ok events
+    = rw (limits_is, subnets_is, systems_is) at happens in
     rw (header, declared, fits, named, limits_is, subnets_is, systems_is) refl

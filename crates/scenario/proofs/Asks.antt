@@ -9,14 +9,14 @@ use Rattle.clnp_plan.specs.ClnpOptions.Rules.{Accepts, refusal}
 use Rattle.clnp_plan.specs.Configuration.{SystemConfiguration}
 use Rattle.scenario.specs.Scenario.{AsksFairly}
 use Rattle.scenario.specs.Words.{literal, has_prefix, declared_word, address_word, data_word, number_word, life_word, octets_behind, options_read, options_word, one_word, two_words, four_words, first_four, each_once}
-use Rattle.scenario.specs.Events.{wish_word, wish_words, wish_key, options_in, host_word, send_line, deliver_line, count_line, tick_line, restart_line, echo_line, router_word, on_word, congest_line, Scene, event_line}
+use Rattle.scenario.specs.Events.{wish_word, wish_words, wish_key, options_in, host_word, send_line, deliver_line, count_line, restart_line, echo_line, router_word, on_word, congest_line, Scene, event_line}
 use Rattle.scenario.specs.declared.code.Code.TheVariants as bad
-use Rattle.scenario.specs.declared.event.Event.TheVariants.{Settle, Lose, Tick}
+use Rattle.scenario.specs.declared.event.Event.TheVariants.{Settle, Lose}
 use Rattle.scenario.specs.declared.wish.Wish.{Wish}
 use Rattle.scenario.specs.declared.wish.Wish.TheVariants.{Lasting, Whole, Options}
 use Rattle.scenario.proofs.Behind.{behind_result, behind_found, behind_wanted, behind_such, either_way, wishes_such, options_such}
 use Rattle.scenario.proofs.Injected.{inject_such}
-use Rattle.scenario.proofs.Changed.{change_such}
+use Rattle.scenario.proofs.Changed.{change_such, ticks_such}
 
 -- what the crate of options says of each part of a header
 abbrev pub SpellsWhatItAccepts : Type 0
@@ -105,7 +105,7 @@ event_fair law scene (keyword ∷ words) =
     (either_way (bytes_eq keyword (codes "deliver")) _ _ AsksFairly (deliver_fair scene.names words)
     (either_way (bytes_eq keyword (codes "settle")) _ _ AsksFairly (behind_result (count_line words) (λ count. Ok (Settle count)) AsksFairly (λ count _. tt))
     (either_way (bytes_eq keyword (codes "lose")) _ _ AsksFairly (behind_result (count_line words) (λ count. Ok (Lose count)) AsksFairly (λ count _. tt))
-    (either_way (bytes_eq keyword (codes "tick")) _ _ AsksFairly (behind_result (tick_line words) (λ count. Ok (Tick count)) AsksFairly (λ count _. tt))
+    (either_way (bytes_eq keyword (codes "tick")) _ _ AsksFairly (ticks_such scene words AsksFairly (λ count _. tt) (λ system count _. tt))
     (either_way (bytes_eq keyword (codes "restart")) _ _ AsksFairly (restart_fair scene.names words)
     (either_way (bytes_eq keyword (codes "echo")) _ _ AsksFairly (echo_fair scene.names words)
     (either_way (bytes_eq keyword (codes "congest")) _ _ AsksFairly (congest_fair scene.names scene.systems words)

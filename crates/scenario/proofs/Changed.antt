@@ -1,14 +1,14 @@
 -- What holds of each event that changes the network holds of the one that a line gives, where all is so that the line asks.
-use Rattle.std.proofs.Common.{◌≡◌, ◌≢◌, inl, inr, ℕ, ◌<◌, ◌==◌, not, true, false, if◌then◌else◌, List, length, slice_get, codes, Option, Result, Ok, Err, IfOk, sym, ◌∙◌}
+use Rattle.std.proofs.Common.{◌≡◌, ◌≢◌, inl, inr, ℕ, ◌<◌, ◌==◌, ◌||◌, not, true, false, if◌then◌else◌, List, length, slice_get, codes, Option, Result, Ok, Err, IfOk, sym, ◌∙◌}
 use Rattle.std.specs.List.{list_any}
 use Rattle.std.specs.Str.{bytes_eq}
-use Rattle.std.proofs.lemmas.Bool.{cases_Bool, eq-eqb, not-true, true≢false}
+use Rattle.std.proofs.lemmas.Bool.{cases_Bool, eq-eqb, not-true, or_parts, true≢false}
 use Rattle.clnp_plan.specs.ClnpBase.Text.{decimal_of}
 use Rattle.clnp_plan.specs.Configuration.{IsWithin, SystemConfiguration}
 use Rattle.clnp_plan.specs.Forwarding.declared.route.Route.{Route}
-use Rattle.scenario.specs.Events.{Scene, is_router_at, router_word, has_number, port_word, mtu_line, route_line, unroute_line, port_line, change_line}
-use Rattle.scenario.specs.Standing.{is_rival, is_second, takes_prefix}
-use Rattle.scenario.specs.Words.{declared_word, number_word, is_digits, address_word, prefix_word, two_words, four_words, five_words}
+use Rattle.scenario.specs.Events.{Scene, is_router_at, router_word, has_number, port_word, mtu_line, route_line, unroute_line, port_line, change_line, tick_line, tick_system_line, ticks_line}
+use Rattle.scenario.specs.Standing.{is_rival, is_second, runs_ahead, takes_prefix}
+use Rattle.scenario.specs.Words.{declared_word, number_word, is_digits, address_word, prefix_word, one_word, two_words, four_words, five_words, is_one_at_most}
 use Rattle.scenario.specs.declared.code.Code.{Code}
 use Rattle.scenario.specs.declared.code.Code.TheVariants as bad
 use Rattle.scenario.specs.declared.event.Event.{Event}
@@ -56,6 +56,13 @@ pub record IsPortRead (scene : Scene) (system number subnet : ℕ) (snpa : List 
   pub read : IsRead address_word snpa
   pub second : list_any (is_second system number subnet) scene.standing.spots ≡ false
   pub rival : list_any (is_rival system number subnet snpa) scene.standing.spots ≡ false
+
+-- ticks of one system alone
+pub record IsTickRead (scene : Scene) (system count : ℕ) : Type 0 where
+  pub later : scene.version ≢ 1
+  pub placed : system < length scene.names
+  pub within : IsWithin 1 65535 count
+  pub behind : runs_ahead system count scene.standing ≡ false
 
 router_read : (scene : Scene) (word : List ℕ) → IfOk (router_word scene.names scene.systems word) (IsRouterRead scene)
 router_read scene word =
@@ -122,6 +129,20 @@ module _ (scene : Scene) (words : List (List ℕ)) (P : Event → Type 0) (later
         rival = not-true (list_any (is_rival system number subnet snpa) scene.standing.spots) rival;
       }))))))))
 
+tick_within : (words : List (List ℕ)) → IfOk (tick_line words) (IsWithin 1 65535)
+unfolding tick_line
+tick_within words = behind_found (one_word words) _ _ (IsWithin 1 65535) (λ word _. number_is_within 1 65535 word)
+
+pub tick_system_such : (scene : Scene) (words : List (List ℕ)) (P : Event → Type 0) → scene.version ≢ 1
+    → ((system count : ℕ) → IsTickRead scene system count → P (event.TickSystem system count)) → IfOk (tick_system_line scene words) P
+unfolding tick_system_line
+tick_system_such scene words P later h =
+    behind_found (two_words words) _ _ P (λ w _.
+    behind_such (declared_word scene.names w.0) _ (λ place. place < length scene.names) P (declared_is_within scene.names w.0) (λ system placed.
+    behind_such (number_word 1 65535 w.1) _ (IsWithin 1 65535) P (number_is_within 1 65535 w.1) (λ count within.
+    behind_wanted (not (runs_ahead system count scene.standing)) _ _ P (λ behind.
+    h system count (record { later = later; placed = placed; within = within; behind = not-true (runs_ahead system count scene.standing) behind })))))
+
 pub later_of : (version : ℕ) → (version == 1) ≡ false → version ≢ 1
 later_of version other one = true≢false (sym (eq-eqb version 1 one) ∙ other)
 
@@ -143,4 +164,16 @@ change_such scene keyword words P mtu route unroute port =
           (either_way (bytes_eq keyword (codes "route")) _ _ P (route_such scene words P later route)
           (either_way (bytes_eq keyword (codes "unroute")) _ _ P (unroute_such scene words P later unroute)
           (either_way (bytes_eq keyword (codes "port")) _ _ P (port_such scene words P later port) tt))))
+    ]
+
+-- all systems tick, or one alone
+pub ticks_such : (scene : Scene) (words : List (List ℕ)) (P : Event → Type 0) → ((count : ℕ) → IsWithin 1 65535 count → P (event.Tick count))
+    → ((system count : ℕ) → IsTickRead scene system count → P (event.TickSystem system count)) → IfOk (ticks_line scene words) P
+unfolding ticks_line
+ticks_such scene words P all alone =
+    elim (cases_Bool ((scene.version == 1) || is_one_at_most words)) [
+      | inl first ↦ rw first (behind_such (tick_line words) (λ count. Ok (event.Tick count)) (IsWithin 1 65535) P (tick_within words) all)
+      | inr other ↦
+          let neither = or_parts (scene.version == 1) (is_one_at_most words) other in
+          rw other (tick_system_such scene words P (later_of scene.version neither.0) alone)
     ]

@@ -6,14 +6,14 @@ use Rattle.std.proofs.lemmas.Result.{IfOk-at_ok}
 use Rattle.clnp_plan.specs.Nsap.Address.{IsAddress}
 use Rattle.clnp_plan.specs.Nsap.Prefix.{IsPrefix}
 use Rattle.clnp_plan.specs.Configuration.{SystemConfiguration}
-use Rattle.scenario.specs.Events.{Scene, count_line, event_line, has_number, tick_line}
+use Rattle.scenario.specs.Events.{Scene, count_line, event_line, has_number}
 use Rattle.scenario.specs.Scenario.{ChangesInForm, HasNumber, IsOfVersion1}
 use Rattle.scenario.specs.Standing.{MayCome}
 use Rattle.scenario.specs.Words.{address_word, prefix_word}
 use Rattle.scenario.specs.declared.event.Event.{Event}
-use Rattle.scenario.specs.declared.event.Event.TheVariants.{Settle, Lose, Tick}
+use Rattle.scenario.specs.declared.event.Event.TheVariants.{Settle, Lose}
 use Rattle.scenario.proofs.Behind.{behind_result, either_way}
-use Rattle.scenario.proofs.Changed.{IsRead, change_such}
+use Rattle.scenario.proofs.Changed.{IsRead, change_such, ticks_such}
 use Rattle.scenario.proofs.Forms.{Laws, address_formed}
 use Rattle.scenario.proofs.Injected.{inject_such}
 use Rattle.scenario.proofs.LiveLines.{send_such, deliver_such, restart_such, echo_such, congest_such}
@@ -47,7 +47,8 @@ event_changes laws scene (keyword ∷ words) =
     (either_way (bytes_eq keyword (codes "lose")) _ _ (IsChange scene)
     (behind_result (count_line words) (λ count. Ok (Lose count)) (IsChange scene) (λ count _. record { of_version = λ _. tt; changes = tt; may = tt }))
     (either_way (bytes_eq keyword (codes "tick")) _ _ (IsChange scene)
-    (behind_result (tick_line words) (λ count. Ok (Tick count)) (IsChange scene) (λ count _. record { of_version = λ _. tt; changes = tt; may = tt }))
+    (ticks_such scene words (IsChange scene) (λ count _. record { of_version = λ _. tt; changes = tt; may = tt })
+    (λ system count is. record { of_version = λ one. absurd (is.later one); changes = tt; may = is.behind }))
     (either_way (bytes_eq keyword (codes "restart")) _ _ (IsChange scene)
     (restart_such scene.names words (IsChange scene) (λ system. record { of_version = λ _. tt; changes = tt; may = tt }))
     (either_way (bytes_eq keyword (codes "echo")) _ _ (IsChange scene)

@@ -70,7 +70,7 @@ module _ {X : Type 0} (state : (front behind : List X) → Declarations) (text_o
 -- ---- what each line gives
 
 limits_read : (version : ℕ) (words : List (List ℕ)) (skew_word : List ℕ) (limits : Limits) → AreLimits limits
-    → limits_words version words ≡ Some (decimal limits.age, decimal limits.hold, decimal limits.reuse, skew_word) → number_word 0 0 skew_word ≡ Ok limits.skew
+    → limits_words version words ≡ Some (decimal limits.age, decimal limits.hold, decimal limits.reuse, skew_word) → number_word 0 4096 skew_word ≡ Ok limits.skew
     → declaration_line (nothing_declared version) (codes "limits" ∷ words) ≡ Ok (record (nothing_declared version) { limits = Some limits })
 unfolding declaration_line limits_line
 limits_read version words skew_word limits are cut skew =
@@ -87,17 +87,17 @@ limits_read version words skew_word limits are cut skew =
 abbrev pub limits_said : (version : ℕ) → Limits → List (List ℕ)
 limits_said version limits = decimal limits.age ∷ decimal limits.hold ∷ decimal limits.reuse ∷ skew_words version limits.skew
 
-no_skew_read : (skew : ℕ) → skew ≡ 0 → number_word 0 0 (codes "0") ≡ Ok skew
+no_skew_read : (skew : ℕ) → skew ≡ 0 → number_word 0 4096 (codes "0") ≡ Ok skew
 no_skew_read skew none = rw none refl
 
-pub limits_given : (version : ℕ) (limits : Limits) → IsWithin 1 2 version → AreLimits limits → limits.skew ≡ 0
+pub limits_given : (version : ℕ) (limits : Limits) → IsWithin 1 2 version → AreLimits limits → (version ≡ 1 → limits.skew ≡ 0)
     → declaration_line (nothing_declared version) (codes "limits" ∷ limits_said version limits) ≡ Ok (record (nothing_declared version) { limits = Some limits })
 limits_given zero limits within are together = absurd (omega (arith, within.least))
 limits_given (suc zero) limits within are together =
-    limits_read 1 (limits_said 1 limits) (codes "0") limits are refl (no_skew_read limits.skew together)
+    limits_read 1 (limits_said 1 limits) (codes "0") limits are refl (no_skew_read limits.skew (together refl))
 limits_given (suc (suc zero)) limits within are together =
     limits_read 2 (limits_said 2 limits) (decimal limits.skew) limits are refl
-    (number_is_read 0 0 limits.skew (omega arith) (record { least = omega arith; most = omega (arith, together) }))
+    (number_is_read 0 4096 limits.skew (omega arith) are.skew)
 limits_given (suc (suc (suc version))) limits within are together = absurd (omega (arith, within.most))
 
 pub subnet_given : (d : Declarations) (name word : List ℕ) (mtu : ℕ) → is_name name ≡ true → is_digits word ≡ true → is_taken (subnet_names d) name ≡ false

@@ -1,9 +1,10 @@
 -- Each scenario that the grammar accepts is fit: what its lines declare stays fit, line by line.
-use Rattle.std.proofs.Common.{◌≡◌, ℕ, zero, suc, ◌+◌, ◌*◌, ◌<◌, ◌≤◌, ◌==◌, ◌&&◌, ◌||◌, Bool, true, false, not, nat_le, nat_lt, List, [], ◌∷◌, ◌++◌, map, length, slice_get, codes, Option, Some, is_some, Ok, IfOk, refl, sym, subst, arith, length-append}
+use Rattle.std.proofs.Common.{◌≡◌, ℕ, zero, suc, ◌+◌, ◌*◌, ◌<◌, ◌≤◌, ◌==◌, ◌&&◌, ◌||◌, Bool, true, false, not, nat_le, nat_lt, List, [], ◌∷◌, ◌++◌, map, length, slice_get, codes, Option, None, Some, option_map, is_some, Result, Ok, Err, IfOk, refl, sym, subst, arith, length-append}
 use Rattle.std.specs.List.{AllByRecursion, flat_map, list_all, list_any}
 use Rattle.std.specs.Str.{bytes_eq}
 use Rattle.std.proofs.lemmas.Bool.{leb-true, ltb-true, eqb-true, and_parts, not-true, true≢false}
 use Rattle.std.proofs.lemmas.List.{length-map, map-append}
+use Rattle.std.proofs.lemmas.Result.{IfOk-at_ok}
 use Rattle.std.proofs.lemmas.List.Edits.{length-insert}
 use Rattle.std.proofs.lemmas.List.Sums.{count_by-le-length}
 use Rattle.clnp_plan.proofs.ClnpBase.Lists.{AllByRecursion-mapped, AllByRecursion-push}
@@ -17,10 +18,11 @@ use Rattle.clnp_plan.specs.declared.config.Role.{Role}
 use Rattle.clnp_plan.specs.declared.config.Role.TheVariants.{Host, Router}
 use Rattle.clnp_plan.specs.declared.config.Settings.{Settings}
 use Rattle.scenario.specs.Scenario.{Subnetwork, AreOnDifferent, IsOn}
-use Rattle.scenario.specs.Words.{◌>>=◌, wanted, found, is_name, name_word, declared_word, number_within, number_word, number_behind, has_prefix, address_word, prefix_word, is_digits, is_taken, is_one_at_most, is_skipped, each_once, two_words, five_words, first_two, first_four}
+use Rattle.scenario.specs.Words.{◌>>=◌, wanted, found, is_name, name_word, declared_word, number_within, number_word, number_behind, has_prefix, address_word, prefix_word, is_digits, is_taken, is_one_at_most, is_skipped, each_once, two_words, three_words, five_words, first_two, first_four}
 use Rattle.scenario.specs.Declarations.{Declarations, DeclaredSystem, NumberedPort, nothing_declared, subnet_names, system_names, with_address, with_port, most_addresses, most_ports, takes_address, takes_port, count_below, has_port, snpas_on, mtu_at, limits_of, limits_words, limits_line, subnet_line, checksum_word, room_word, setting_word, setting_words, key_of, with_setting, settings_of, role_word, system_line, address_line, transit_word, port_line, is_router, is_router_at, router_word, has_number, has_numbered, port_word, has_route, takes_route, with_route, route_line, declaration_line, is_complete, has_limits, all_declared, have_no_gap, configuration_of}
 use Rattle.scenario.specs.Standing.{changed_at, is_among}
 use Rattle.scenario.specs.Grammar.{ReadTo, is_line_of, declarations_from}
+use Rattle.scenario.specs.declared.code.Code.{Code}
 use Rattle.scenario.specs.declared.code.Code.TheVariants as bad
 use Rattle.scenario.specs.declared.setting.Setting.{Setting}
 use Rattle.scenario.specs.declared.setting.Setting.TheVariants.{Hello, Suggest, Checksum, Life, RedirectHold, Slots, Segments, Budget, Neighbours, Routers, Redirects}
@@ -44,7 +46,7 @@ pub record IsDeclared (system : DeclaredSystem) : Type 0 where
 -- what the lines so far declare is within bounds, and no address belongs to two systems
 pub record AreFit (d : Declarations) : Type 0 where
   pub limits : AreLimits (limits_of d.limits)
-  pub together : (limits_of d.limits).skew ≡ 0
+  pub together : d.version ≡ 1 → (limits_of d.limits).skew ≡ 0
   pub subnets : AllByRecursion (λ (subnet : Subnetwork). IsWithin 512 65535 subnet.mtu) d.subnets
   pub named : AllByRecursion (λ (subnet : Subnetwork). is_name subnet.name ≡ true) d.subnets
   pub systems : AllByRecursion IsDeclared d.systems
@@ -62,14 +64,34 @@ changed P change place [] h keeps = tt
 changed P change zero (x ∷ xs) h keeps = (keeps x refl h.0, h.1)
 changed P change (suc place) (x ∷ xs) h keeps = (h.0, changed P change place xs h.1 keeps)
 
+-- in version 1 no word says how far apart clocks may stand
+no_skew : (version : ℕ) (words : List (List ℕ)) (w : List ℕ × List ℕ × List ℕ × List ℕ) → limits_words version words ≡ Some w → version ≡ 1 → w.3 ≡ codes "0"
+no_skew version words w is one = of_three (three_words words) (subst (λ v. limits_words v words ≡ Some w) one is)
+  where
+    of_three : (three : Option (List ℕ × List ℕ × List ℕ)) → option_map (λ (v : List ℕ × List ℕ × List ℕ). (v.0, v.1, v.2, codes "0")) three ≡ Some w → w.3 ≡ codes "0"
+    of_three None is = cc is
+    of_three (Some v) is = cc is
+
+-- how far apart clocks may stand: not at all where the word is 0
+record IsSkew (word : List ℕ) (skew : ℕ) : Type 0 where
+  pub within : IsWithin 0 4096 skew
+  pub none : word ≡ codes "0" → skew ≡ 0
+
+skew_read : (word : List ℕ) → IfOk (number_word 0 4096 word) (IsSkew word)
+skew_read word = with_word (number_word 0 4096 word) refl (number_is_within 0 4096 word)
+  where
+    with_word : (read : Result ℕ Code) → number_word 0 4096 word ≡ read → IfOk read (IsWithin 0 4096) → IfOk read (IsSkew word)
+    with_word (Ok skew) is within = record { within = within; none = λ none. IfOk-at_ok (λ n. n ≡ 0) (rw none at is) refl }
+    with_word (Err code) is within = tt
+
 pub limits_fit : (d : Declarations) (words : List (List ℕ)) → AreFit d → IfOk (limits_line d words) AreFit
 unfolding limits_line
 limits_fit d words h =
-    behind_found (limits_words d.version words) _ _ AreFit (λ w _.
+    behind_found (limits_words d.version words) _ _ AreFit (λ w words_are.
     behind_such (number_word 1 4096 w.0) _ (IsWithin 1 4096) AreFit (number_is_within 1 4096 w.0) (λ age age_in.
     behind_such (number_word 1 255 w.1) _ (IsWithin 1 255) AreFit (number_is_within 1 255 w.1) (λ hold hold_in.
     behind_such (number_word 1 16384 w.2) _ (IsWithin 1 16384) AreFit (number_is_within 1 16384 w.2) (λ reuse reuse_in.
-    behind_such (number_word 0 0 w.3) _ (IsWithin 0 0) AreFit (number_is_within 0 0 w.3) (λ skew skew_in.
+    behind_such (number_word 0 4096 w.3) _ (IsSkew w.3) AreFit (skew_read w.3) (λ skew skew_is.
     behind_wanted (not (is_some d.limits)) _ _ AreFit (λ _.
     behind_wanted (nat_le (age + hold + 2 * skew) reuse) _ _ AreFit (λ rests.
     record {
@@ -77,10 +99,10 @@ limits_fit d words h =
         age = age_in;
         hold = hold_in;
         reuse = reuse_in;
-        skew = is_within 0 4096 skew (omega arith) (omega (arith, skew_in.most));
+        skew = skew_is.within;
         rests = leb-true (age + hold + 2 * skew) reuse rests;
       };
-      together = omega (arith, skew_in.most);
+      together = λ one. skew_is.none (no_skew d.version words w words_are one);
       subnets = h.subnets;
       named = h.named;
       systems = h.systems;
@@ -485,7 +507,7 @@ nothing_fit version =
         skew = is_within 0 4096 0 (omega arith) (omega arith);
         rests = omega arith;
       };
-      together = refl;
+      together = λ _. refl;
       subnets = tt;
       named = tt;
       systems = tt;

@@ -9,7 +9,7 @@ use Rattle.clnp_plan.specs.ClnpBase.Text.{lines_of, words_of}
 use Rattle.clnp_plan.specs.Configuration.{SystemConfiguration}
 use Rattle.scenario.specs.Scenario.{IsForBoard, IsLive, Plan}
 use Rattle.scenario.specs.Words.{◌>>=◌, wanted, is_skipped}
-use Rattle.scenario.specs.Declarations.{Declarations, DeclaredSystem, NumberedPort, nothing_declared, fits_board, configuration_of}
+use Rattle.scenario.specs.Declarations.{Declarations, DeclaredSystem, NumberedPort, nothing_declared, limits_of, fits_board, configuration_of}
 use Rattle.scenario.specs.Events.{Scene, first_scene, scene_after, is_live_line, counted, nothing_counted}
 use Rattle.scenario.specs.Grammar.{BadLine, ReadTo, at_line, newest_version, is_line_of, header_from, declarations_from, nothing_after, counted_event, live_event, events_from, fit_for, plan_behind, plan_at, plan_of, run_plan_of}
 use Rattle.scenario.specs.Refusal.{Refuses}
@@ -162,7 +162,7 @@ fits_of links n d one ports =
 
 -- what the event lines are read over, in a text of a version that declares this
 abbrev scene_behind : (version : ℕ) → ReadTo Declarations → Scene
-scene_behind version declared = first_scene version declared.value.subnets (map configuration_of declared.value.systems)
+scene_behind version declared = first_scene version (limits_of declared.value.limits).skew declared.value.subnets (map configuration_of declared.value.systems)
 
 module _ (header : ReadTo ℕ) where
   abbrev IsReadFor : ℕ → Plan → Type 0

@@ -16,16 +16,16 @@ use Rattle.clnp_plan.specs.ClnpOptions.Rules.{Accepts, refusal}
 use Rattle.clnp_plan.specs.Configuration.{IsSystem, IsWithin, SystemConfiguration}
 use Rattle.scenario.specs.Scenario.{AsksInForm, octets_of}
 use Rattle.scenario.specs.Words.{literal, has_prefix, after_prefix, digits_read, pattern_word, two_fields, declared_word, address_read, address_word, data_word, number_word, life_word, octets_behind, options_read, options_word, one_word, two_words, four_words, first_four, each_once}
-use Rattle.scenario.specs.Events.{wish_word, wish_words, wish_key, life_in, own_life, options_in, host_word, send_line, deliver_line, count_line, tick_line, restart_line, echo_line, router_word, on_word, congest_line, Scene, event_line}
+use Rattle.scenario.specs.Events.{wish_word, wish_words, wish_key, life_in, own_life, options_in, host_word, send_line, deliver_line, count_line, restart_line, echo_line, router_word, on_word, congest_line, Scene, event_line}
 use Rattle.scenario.specs.declared.code.Code.TheVariants as bad
 use Rattle.scenario.specs.declared.event.Body.{Body}
 use Rattle.scenario.specs.declared.event.Body.TheVariants.{Hex, Pattern}
-use Rattle.scenario.specs.declared.event.Event.TheVariants.{Settle, Lose, Tick}
+use Rattle.scenario.specs.declared.event.Event.TheVariants.{Settle, Lose}
 use Rattle.scenario.specs.declared.wish.Wish.{Wish}
 use Rattle.scenario.specs.declared.wish.Wish.TheVariants.{Lasting, NoReport, Whole, Options}
 use Rattle.scenario.proofs.Asks.{SpellsWhatItAccepts}
 use Rattle.scenario.proofs.Injected.{inject_such}
-use Rattle.scenario.proofs.Changed.{change_such}
+use Rattle.scenario.proofs.Changed.{change_such, ticks_such}
 use Rattle.scenario.proofs.Behind.{behind_result, behind_found, behind_wanted, behind_such, either_way, number_behind_is_within, wishes_such, options_such, life_such}
 
 -- what the crate of addresses says of each text
@@ -186,7 +186,7 @@ event_formed laws scene (keyword ∷ words) are =
     (either_way (bytes_eq keyword (codes "deliver")) _ _ AsksInForm (deliver_formed scene.names words)
     (either_way (bytes_eq keyword (codes "settle")) _ _ AsksInForm (behind_result (count_line words) (λ count. Ok (Settle count)) AsksInForm (λ count _. tt))
     (either_way (bytes_eq keyword (codes "lose")) _ _ AsksInForm (behind_result (count_line words) (λ count. Ok (Lose count)) AsksInForm (λ count _. tt))
-    (either_way (bytes_eq keyword (codes "tick")) _ _ AsksInForm (behind_result (tick_line words) (λ count. Ok (Tick count)) AsksInForm (λ count _. tt))
+    (either_way (bytes_eq keyword (codes "tick")) _ _ AsksInForm (ticks_such scene words AsksInForm (λ count _. tt) (λ system count _. tt))
     (either_way (bytes_eq keyword (codes "restart")) _ _ AsksInForm (restart_formed scene.names words)
     (either_way (bytes_eq keyword (codes "echo")) _ _ AsksInForm (echo_formed laws scene.names words)
     (either_way (bytes_eq keyword (codes "congest")) _ _ AsksInForm (congest_formed scene.names scene.systems words)

@@ -1,6 +1,7 @@
 pub use Rattle.clnp_plan.proofs.ClnpBase
 pub mod Readings
 pub mod Lists
+pub mod Clocks
 pub mod Events
 pub mod Behind
 pub mod Apart

@@ -1,14 +1,14 @@
 -- What holds of each event of a kind holds of the one that a line of that kind gives; and whether a live node takes an event is
 -- said by the first word of its line.
-use Rattle.std.proofs.Common.{◌≡◌, ◌≢◌, ◌↔◌, inl, inr, ℕ, ◌==◌, Bool, true, false, if◌then◌else◌, List, [], ◌∷◌, slice_get, codes, Result, Ok, Err, IfOk, refl, sym, subst}
+use Rattle.std.proofs.Common.{◌≡◌, ◌≢◌, ◌↔◌, inl, inr, ℕ, ◌==◌, ◌||◌, Bool, true, false, if◌then◌else◌, List, [], ◌∷◌, slice_get, codes, Some, Result, Ok, Err, IfOk, refl, sym, subst, ◌∙◌}
 use Rattle.std.specs.Str.{bytes_eq}
-use Rattle.std.proofs.lemmas.Bool.{cases_Bool, true≢false}
+use Rattle.std.proofs.lemmas.Bool.{cases_Bool, or_parts, true≢false}
 use Rattle.clnp_plan.proofs.ClnpBase.SameOctets.{same_from}
 use Rattle.clnp_plan.specs.Configuration.{SystemConfiguration}
 use Rattle.clnp_plan.specs.declared.ask.Ask.{Ask}
 use Rattle.scenario.specs.Scenario.{IsLive}
-use Rattle.scenario.specs.Words.{declared_word, address_word, data_word, number_word, one_word, two_words, four_words, first_four, each_once}
-use Rattle.scenario.specs.Events.{wish_words, wish_key, own_life, ask_of, host_word, router_word, on_word, send_line, deliver_line, count_line, tick_line, restart_line, echo_line, congest_line, change_line, Scene, event_line, is_live_line, counted, are_few}
+use Rattle.scenario.specs.Words.{declared_word, address_word, data_word, number_word, one_word, two_words, four_words, first_four, is_one_at_most, each_once}
+use Rattle.scenario.specs.Events.{wish_words, wish_key, own_life, ask_of, host_word, router_word, on_word, send_line, deliver_line, count_line, tick_line, ticks_line, restart_line, echo_line, congest_line, change_line, Scene, event_line, is_live_line, counted, are_few}
 use Rattle.scenario.specs.Grammar.{counted_event}
 use Rattle.scenario.specs.declared.code.Code.{Code}
 use Rattle.scenario.specs.declared.code.Code.TheVariants as bad
@@ -16,7 +16,7 @@ use Rattle.scenario.specs.declared.counts.Counts.{Counts}
 use Rattle.scenario.specs.declared.event.Body.{Body}
 use Rattle.scenario.specs.declared.event.Event.{Event}
 use Rattle.scenario.specs.declared.event.Event.TheVariants.{Send, Deliver, Settle, Lose, Tick, Restart, Echo, Congest}
-use Rattle.scenario.proofs.Changed.{later_of, mtu_such, route_such, unroute_such, port_such}
+use Rattle.scenario.proofs.Changed.{later_of, tick_system_such, mtu_such, route_such, unroute_such, port_such}
 use Rattle.scenario.proofs.Injected.{inject_such}
 use Rattle.scenario.proofs.Behind.{behind_result, behind_found, behind_wanted, behind_such}
 
@@ -63,6 +63,11 @@ congest_such names systems words P h =
     behind_result (router_word names systems w.0) _ P (λ system _.
     behind_result (on_word w.1) _ P (λ on _. h system on)))
 
+-- what holds anyhow holds of each value
+any_such : {A E : Type 0} (r : Result A E) (P : Type 0) → P → IfOk r (λ _. P)
+any_such (Ok x) P h = h
+any_such (Err e) P h = tt
+
 -- ---- what a live node takes
 
 abbrev pub IsSaidLive : List (List ℕ) → Event → Type 0
@@ -81,6 +86,32 @@ at_keyword text keyword words r s here elsewhere =
     elim (cases_Bool (bytes_eq keyword text)) [
       | inl same ↦ rw same (subst (λ word. IfOk r (IsSaidLive (word ∷ words))) (sym (same_from keyword text same)) here)
       | inr other ↦ rw other elsewhere
+    ]
+
+one_at_most : (words : List (List ℕ)) (word : List ℕ) → one_word words ≡ Some word → is_one_at_most words ≡ true
+one_at_most [] word is = refl
+one_at_most (first ∷ []) word is = refl
+one_at_most (first ∷ second ∷ words) word is = cc is
+
+tick_is_one : (words : List (List ℕ)) → IfOk (tick_line words) (λ _. is_one_at_most words ≡ true)
+unfolding tick_line
+tick_is_one words =
+    behind_found (one_word words) bad.Syntax (number_word 1 65535) (λ _. is_one_at_most words ≡ true) (λ word is.
+    any_such (number_word 1 65535 word) (is_one_at_most words ≡ true) (one_at_most words word is))
+
+tick_said_live : (scene : Scene) (words : List (List ℕ)) → IfOk (ticks_line scene words) (IsSaidLive (codes "tick" ∷ words))
+unfolding ticks_line
+tick_said_live scene words =
+    elim (cases_Bool ((scene.version == 1) || is_one_at_most words)) [
+      | inl first ↦
+          rw first
+          (behind_such (tick_line words) (λ count. Ok (Tick count)) (λ _. is_one_at_most words ≡ true) (IsSaidLive (codes "tick" ∷ words)) (tick_is_one words)
+          (λ count one. (λ _. one, λ _. tt)))
+      | inr other ↦
+          let neither = or_parts (scene.version == 1) (is_one_at_most words) other in
+          rw other
+          (tick_system_such scene words (IsSaidLive (codes "tick" ∷ words)) (later_of scene.version neither.0)
+          (λ system count _. (λ no. absurd no, λ same. absurd (true≢false (sym same ∙ neither.1)))))
     ]
 
 change_said_live : (scene : Scene) (keyword : List ℕ) (words : List (List ℕ))
@@ -106,7 +137,7 @@ event_said_live scene (keyword ∷ words) =
     (at_keyword (codes "deliver") keyword words _ _ (deliver_such scene.names words (IsSaidLive (codes "deliver" ∷ words)) (λ copy system. not_taken))
     (at_keyword (codes "settle") keyword words _ _ (behind_result (count_line words) (λ count. Ok (Settle count)) (IsSaidLive (codes "settle" ∷ words)) (λ count _. not_taken))
     (at_keyword (codes "lose") keyword words _ _ (behind_result (count_line words) (λ count. Ok (Lose count)) (IsSaidLive (codes "lose" ∷ words)) (λ count _. not_taken))
-    (at_keyword (codes "tick") keyword words _ _ (behind_result (tick_line words) (λ count. Ok (Tick count)) (IsSaidLive (codes "tick" ∷ words)) (λ count _. taken))
+    (at_keyword (codes "tick") keyword words _ _ (tick_said_live scene words)
     (at_keyword (codes "restart") keyword words _ _ (restart_such scene.names words (IsSaidLive (codes "restart" ∷ words)) (λ system. not_taken))
     (at_keyword (codes "echo") keyword words _ _ (echo_such scene.names words (IsSaidLive (codes "echo" ∷ words)) (λ system from to body. taken))
     (at_keyword (codes "congest") keyword words _ _ (congest_such scene.names scene.systems words (IsSaidLive (codes "congest" ∷ words)) (λ system on. not_taken))

@@ -11,11 +11,11 @@ use Rattle.clnp_plan.specs.ClnpBase.Text.{words_of, onto_first, ends_word}
 use Rattle.clnp_plan.specs.Configuration.{SystemConfiguration}
 use Rattle.scenario.specs.Scenario.{InjectsInForm, IsTarget}
 use Rattle.scenario.specs.Words.{declared_word, digits_read, address_word, data_word, number_word, one_word, two_words, four_words, first_four, each_once, frame_word, target_word}
-use Rattle.scenario.specs.Events.{wish_words, wish_key, host_word, router_word, on_word, send_line, deliver_line, count_line, tick_line, restart_line, echo_line, congest_line, inject_line, Scene, event_line}
-use Rattle.scenario.specs.declared.event.Event.TheVariants.{Settle, Lose, Tick}
+use Rattle.scenario.specs.Events.{wish_words, wish_key, host_word, router_word, on_word, send_line, deliver_line, count_line, restart_line, echo_line, congest_line, inject_line, Scene, event_line}
+use Rattle.scenario.specs.declared.event.Event.TheVariants.{Settle, Lose}
 use Rattle.scenario.proofs.Behind.{behind_result, behind_found, behind_wanted, behind_such, either_way, declared_is_within}
 use Rattle.scenario.proofs.Forms.{Laws, address_formed}
-use Rattle.scenario.proofs.Changed.{change_such}
+use Rattle.scenario.proofs.Changed.{change_such, ticks_such}
 use Rattle.clnp_plan.proofs.ClnpBase.Choices.{one_of}
 
 -- Words that aren't empty.
@@ -142,7 +142,7 @@ event_injected laws scene (keyword ∷ words) h =
     (either_way (bytes_eq keyword (codes "deliver")) _ _ Formed (deliver_inside scene.subnets scene.names words)
     (either_way (bytes_eq keyword (codes "settle")) _ _ Formed (behind_result (count_line words) (λ count. Ok (Settle count)) Formed (λ count _. tt))
     (either_way (bytes_eq keyword (codes "lose")) _ _ Formed (behind_result (count_line words) (λ count. Ok (Lose count)) Formed (λ count _. tt))
-    (either_way (bytes_eq keyword (codes "tick")) _ _ Formed (behind_result (tick_line words) (λ count. Ok (Tick count)) Formed (λ count _. tt))
+    (either_way (bytes_eq keyword (codes "tick")) _ _ Formed (ticks_such scene words Formed (λ count _. tt) (λ system count _. tt))
     (either_way (bytes_eq keyword (codes "restart")) _ _ Formed (restart_inside scene.subnets scene.names words)
     (either_way (bytes_eq keyword (codes "echo")) _ _ Formed (echo_inside scene.subnets scene.names words)
     (either_way (bytes_eq keyword (codes "congest")) _ _ Formed (congest_inside scene.subnets scene.names scene.systems words)

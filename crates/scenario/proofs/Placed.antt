@@ -4,13 +4,13 @@ use Rattle.std.specs.Str.{bytes_eq}
 use Rattle.clnp_plan.specs.Configuration.{SystemConfiguration}
 use Rattle.scenario.specs.Scenario.{IsPlaced}
 use Rattle.scenario.specs.Words.{declared_word, address_word, data_word, number_word, one_word, two_words, four_words, first_four, each_once}
-use Rattle.scenario.specs.Events.{wish_words, wish_key, is_host_at, host_word, is_router_at, router_word, on_word, send_line, deliver_line, count_line, tick_line, restart_line, echo_line, congest_line, Scene, event_line}
+use Rattle.scenario.specs.Events.{wish_words, wish_key, is_host_at, host_word, is_router_at, router_word, on_word, send_line, deliver_line, count_line, restart_line, echo_line, congest_line, Scene, event_line}
 use Rattle.scenario.specs.declared.code.Code.TheVariants as bad
 use Rattle.scenario.specs.declared.event.Event.{Event}
-use Rattle.scenario.specs.declared.event.Event.TheVariants.{Settle, Lose, Tick}
+use Rattle.scenario.specs.declared.event.Event.TheVariants.{Settle, Lose}
 use Rattle.scenario.proofs.Behind.{behind_result, behind_found, behind_wanted, behind_such, either_way, declared_is_within}
 use Rattle.scenario.proofs.Injected.{inject_such}
-use Rattle.scenario.proofs.Changed.{change_such}
+use Rattle.scenario.proofs.Changed.{change_such, ticks_such}
 
 abbrev pub AreAmong : List (List ℕ) → Event → Type 0
 AreAmong names event = IsPlaced (length names) event
@@ -73,7 +73,7 @@ event_placed scene (keyword ∷ words) =
     (either_way (bytes_eq keyword (codes "deliver")) _ _ (AreAmong scene.names) (deliver_placed scene.names words)
     (either_way (bytes_eq keyword (codes "settle")) _ _ (AreAmong scene.names) (behind_result (count_line words) (λ count. Ok (Settle count)) (AreAmong scene.names) (λ count _. tt))
     (either_way (bytes_eq keyword (codes "lose")) _ _ (AreAmong scene.names) (behind_result (count_line words) (λ count. Ok (Lose count)) (AreAmong scene.names) (λ count _. tt))
-    (either_way (bytes_eq keyword (codes "tick")) _ _ (AreAmong scene.names) (behind_result (tick_line words) (λ count. Ok (Tick count)) (AreAmong scene.names) (λ count _. tt))
+    (either_way (bytes_eq keyword (codes "tick")) _ _ (AreAmong scene.names) (ticks_such scene words (AreAmong scene.names) (λ count _. tt) (λ system count is. is.placed))
     (either_way (bytes_eq keyword (codes "restart")) _ _ (AreAmong scene.names) (restart_placed scene.names words)
     (either_way (bytes_eq keyword (codes "echo")) _ _ (AreAmong scene.names) (echo_placed scene.names words)
     (either_way (bytes_eq keyword (codes "congest")) _ _ (AreAmong scene.names) (congest_placed scene.names scene.systems words)

@@ -52,7 +52,7 @@ what_is_written law plan fit =
     ap (λ (text : List ℕ). plan_of text) (regrouped (header_text plan.version) (declarations_text plan) (codes "events\n") lines (codes "end\n"))
     ∙ plan_is None newest_version (header_text plan.version ++ behind) plan.version 2 declared.0 (lines_of behind) (lines_of rest) (declared_of plan) plan.limits plan.subnets plan.systems plan.events
     (header_read plan.version behind fit.version) declared.1 refl refl refl (sym (configurations_again plan.systems))
-    (events_read law plan.version plan.subnets plan.systems subnets systems (standing_of plan.systems) declared.0 nothing_counted plan.events
+    (events_read law plan.version plan.subnets plan.systems subnets systems (standing_of plan.limits.skew plan.systems) declared.0 nothing_counted plan.events
     (told plan.subnets plan.systems plan.events fit.formed fit.places fit.senders fit.congested fit.injected fit.said fit.changes)
     (record { of_version = fit.of_version; stand = fit.stand }) few)
 

@@ -11,14 +11,14 @@ use Rattle.clnp_plan.specs.declared.config.Role.TheVariants.{Host, Router}
 use Rattle.scenario.specs.Scenario.{IsFromHost, IsOfRouter, IsRouterAt}
 use Rattle.scenario.specs.Words.{declared_word, address_word, data_word, number_word, one_word, two_words, four_words, first_four, each_once, is_skipped}
 use Rattle.scenario.specs.Declarations.{is_router}
-use Rattle.scenario.specs.Events.{wish_words, wish_key, is_host, is_host_at, host_word, is_router_at, router_word, on_word, send_line, deliver_line, count_line, tick_line, restart_line, echo_line, congest_line, Scene, scene_after, event_line, counted, are_few}
+use Rattle.scenario.specs.Events.{wish_words, wish_key, is_host, is_host_at, host_word, is_router_at, router_word, on_word, send_line, deliver_line, count_line, restart_line, echo_line, congest_line, Scene, scene_after, event_line, counted, are_few}
 use Rattle.scenario.specs.Grammar.{is_line_of, nothing_after, counted_event, events_from}
 use Rattle.scenario.specs.declared.code.Code.TheVariants as bad
 use Rattle.scenario.specs.declared.counts.Counts.{Counts}
 use Rattle.scenario.specs.declared.event.Event.{Event}
-use Rattle.scenario.specs.declared.event.Event.TheVariants.{Settle, Lose, Tick}
+use Rattle.scenario.specs.declared.event.Event.TheVariants.{Settle, Lose}
 use Rattle.scenario.proofs.Injected.{inject_such}
-use Rattle.scenario.proofs.Changed.{change_such}
+use Rattle.scenario.proofs.Changed.{change_such, ticks_such}
 use Rattle.scenario.proofs.Behind.{behind_result, behind_found, behind_wanted, behind_such, behind_line_such, either_way}
 
 abbrev pub HasItsRole : List SystemConfiguration → Event → Type 0
@@ -101,7 +101,7 @@ event_in_role scene (keyword ∷ words) =
     (either_way (bytes_eq keyword (codes "deliver")) _ _ (HasItsRole scene.systems) (deliver_in_role scene.names scene.systems words)
     (either_way (bytes_eq keyword (codes "settle")) _ _ (HasItsRole scene.systems) (behind_result (count_line words) (λ count. Ok (Settle count)) (HasItsRole scene.systems) (λ count _. (tt, tt)))
     (either_way (bytes_eq keyword (codes "lose")) _ _ (HasItsRole scene.systems) (behind_result (count_line words) (λ count. Ok (Lose count)) (HasItsRole scene.systems) (λ count _. (tt, tt)))
-    (either_way (bytes_eq keyword (codes "tick")) _ _ (HasItsRole scene.systems) (behind_result (tick_line words) (λ count. Ok (Tick count)) (HasItsRole scene.systems) (λ count _. (tt, tt)))
+    (either_way (bytes_eq keyword (codes "tick")) _ _ (HasItsRole scene.systems) (ticks_such scene words (HasItsRole scene.systems) (λ count _. (tt, tt)) (λ system count _. (tt, tt)))
     (either_way (bytes_eq keyword (codes "restart")) _ _ (HasItsRole scene.systems) (restart_in_role scene.names scene.systems words)
     (either_way (bytes_eq keyword (codes "echo")) _ _ (HasItsRole scene.systems) (echo_in_role scene.names scene.systems words)
     (either_way (bytes_eq keyword (codes "congest")) _ _ (HasItsRole scene.systems) (congest_in_role scene.names scene.systems words)

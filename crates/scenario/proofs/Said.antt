@@ -13,12 +13,12 @@ use Rattle.scenario.specs.Words.{literal, has_prefix, after_prefix, pattern_word
 use Rattle.scenario.specs.Events.{wish_word, wish_words, wish_key, life_in, own_life, options_in, host_word, send_line, deliver_line, count_line, tick_line, restart_line, echo_line, router_word, on_word, congest_line, Scene, event_line}
 use Rattle.scenario.specs.declared.code.Code.TheVariants as bad
 use Rattle.scenario.specs.declared.event.Body.TheVariants.{Hex}
-use Rattle.scenario.specs.declared.event.Event.TheVariants.{Settle, Lose, Tick}
+use Rattle.scenario.specs.declared.event.Event.TheVariants.{Settle, Lose}
 use Rattle.scenario.specs.declared.wish.Wish.{Wish}
 use Rattle.scenario.specs.declared.wish.Wish.TheVariants.{Lasting, NoReport, Whole, Options}
 use Rattle.scenario.proofs.Forms.{behind_octets}
 use Rattle.scenario.proofs.Injected.{inject_such}
-use Rattle.scenario.proofs.Changed.{change_such}
+use Rattle.scenario.proofs.Changed.{change_such, ticks_such}
 use Rattle.scenario.proofs.Behind.{behind_result, behind_found, behind_wanted, behind_such, either_way, number_is_within, number_behind_is_within, wishes_such, options_such, life_such}
 
 -- Data.
@@ -154,7 +154,7 @@ event_said scene (keyword ∷ words) are =
     (either_way (bytes_eq keyword (codes "deliver")) _ _ IsSaid (deliver_said scene.names words)
     (either_way (bytes_eq keyword (codes "settle")) _ _ IsSaid (behind_such (count_line words) (λ count. Ok (Settle count)) (IsWithin 1 100000) IsSaid (count_said words) (λ count within. within))
     (either_way (bytes_eq keyword (codes "lose")) _ _ IsSaid (behind_such (count_line words) (λ count. Ok (Lose count)) (IsWithin 1 100000) IsSaid (count_said words) (λ count within. within))
-    (either_way (bytes_eq keyword (codes "tick")) _ _ IsSaid (behind_such (tick_line words) (λ count. Ok (Tick count)) (IsWithin 1 65535) IsSaid (tick_said words) (λ count within. within))
+    (either_way (bytes_eq keyword (codes "tick")) _ _ IsSaid (ticks_such scene words IsSaid (λ count within. within) (λ system count is. is.within))
     (either_way (bytes_eq keyword (codes "restart")) _ _ IsSaid (restart_said scene.names words)
     (either_way (bytes_eq keyword (codes "echo")) _ _ IsSaid (echo_said scene.names words)
     (either_way (bytes_eq keyword (codes "congest")) _ _ IsSaid (congest_said scene.names scene.systems words)

@@ -163,6 +163,7 @@ old_changes subnets systems (Inject subnet from to octets) first = tt
 old_changes subnets systems (event.Mtu subnet mtu) first = absurd first
 old_changes subnets systems (event.Route system route) first = absurd first
 old_changes subnets systems (event.Unroute system prefix) first = absurd first
+old_changes subnets systems (event.TickSystem system count) first = absurd first
 old_changes subnets systems (event.Port system number subnet snpa) first = absurd first
 
 old_may_come : (standing : Standing) (event : Event) → IsOfVersion1 event → MayCome standing event
@@ -178,6 +179,7 @@ old_may_come standing (Inject subnet from to octets) first = tt
 old_may_come standing (event.Mtu subnet mtu) first = absurd first
 old_may_come standing (event.Route system route) first = absurd first
 old_may_come standing (event.Unroute system prefix) first = absurd first
+old_may_come standing (event.TickSystem system count) first = absurd first
 old_may_come standing (event.Port system number subnet snpa) first = absurd first
 
 old_stand : (standing : Standing) (events : List Event) → AllByRecursion IsOfVersion1 events → EachMayCome standing events
@@ -299,7 +301,7 @@ storm_fit seed fit =
       injected = AllByRecursion-implies IsGood (InjectsInForm 3) (λ event is. is.injected) (storm_events seed) good.each;
       of_version = λ _. AllByRecursion-implies IsGood IsOfVersion1 (λ event is. is.first) (storm_events seed) good.each;
       changes = AllByRecursion-implies IsGood (ChangesInForm 3 the_systems) (λ event is. old_changes 3 the_systems event is.first) (storm_events seed) good.each;
-      stand = old_stand (standing_of the_systems) (storm_events seed) (AllByRecursion-implies IsGood IsOfVersion1 (λ event is. is.first) (storm_events seed) good.each);
+      stand = old_stand (standing_of 0 the_systems) (storm_events seed) (AllByRecursion-implies IsGood IsOfVersion1 (λ event is. is.first) (storm_events seed) good.each);
       said = AllByRecursion-implies IsGood IsSaid (λ event is. is.said) (storm_events seed) good.each;
       few_events = omega (arith, good.few);
       passed = omega (arith, good.passed);

@@ -7,7 +7,7 @@ use Rattle.clnp_plan.specs.ClnpBase.Text.{lines_of}
 use Rattle.scenario.specs.Canonical.{text_of}
 use Rattle.scenario.specs.Codes.{number_of}
 use Rattle.scenario.specs.Grammar.{BadLine, ReadTo, at_line, newest_version, version_of, header_from, declarations_from, plan_behind, plan_at, plan_of, plan_of_version_1, counted_event, events_from}
-use Rattle.scenario.specs.Declarations.{nothing_declared, configuration_of}
+use Rattle.scenario.specs.Declarations.{nothing_declared, limits_of, configuration_of}
 use Rattle.scenario.specs.Events.{first_scene, nothing_counted}
 use Rattle.scenario.specs.Migration.{IsReadAlike, migrated, migration_of}
 use Rattle.scenario.specs.Scenario.{IsFit, Plan}
@@ -64,7 +64,7 @@ behind_has_version : (header : ReadTo ℕ) → IfOk (plan_behind None header) (�
 behind_has_version header =
     let Has : Plan → Type 0 = λ plan. plan.version ≡ header.value in
     behind_result (declarations_from header.number (nothing_declared header.value) header.lines) _ Has (λ declared _.
-    behind_result (events_from counted_event (first_scene header.value declared.value.subnets (map configuration_of declared.value.systems)) declared.number nothing_counted declared.lines) _ Has (λ events _. refl))
+    behind_result (events_from counted_event (first_scene header.value (limits_of declared.value.limits).skew declared.value.subnets (map configuration_of declared.value.systems)) declared.number nothing_counted declared.lines) _ Has (λ events _. refl))
 
 -- ---- what is read alike
 
@@ -134,7 +134,7 @@ migrated_fit plan fit =
     record {
       version = is_within 1 2 2 (omega arith) (omega arith);
       limits = fit.limits;
-      together = fit.together;
+      together = λ one. absurd (omega (arith, one));
       systems = fit.systems;
       named_subnets = fit.named_subnets;
       named_systems = fit.named_systems;

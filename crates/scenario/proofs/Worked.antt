@@ -9,7 +9,7 @@ use Rattle.clnp_plan.specs.Configuration.{SystemConfiguration}
 use Rattle.clnp_plan.specs.declared.config.Role.TheVariants.{Host}
 use Rattle.scenario.specs.Canonical.{system_text, belongings_text, text_of}
 use Rattle.scenario.specs.Declarations.{usual_settings, limits_line, subnet_line, room_word, setting_word, system_line, address_line, port_line, route_line, declaration_line}
-use Rattle.scenario.specs.Events.{wish_word, send_line, deliver_line, tick_line, restart_line, echo_line, count_line, congest_line, event_line}
+use Rattle.scenario.specs.Events.{wish_word, send_line, deliver_line, tick_line, ticks_line, restart_line, echo_line, count_line, congest_line, event_line}
 use Rattle.scenario.specs.Grammar.{BadLine, plan_of, plan_at, plan_of_version_1, counted_event, events_from}
 use Rattle.scenario.specs.Migration.{migrated, migration_of}
 use Rattle.scenario.specs.Scenario.{Plan}
@@ -44,7 +44,7 @@ unfolding a_host two_hosts two_hosts_text digits encode_with system_text belongi
 written = refl
 
 read_again : plan_of two_hosts_text ≡ Ok two_hosts
-unfolding a_host two_hosts two_hosts_text decode_pairs octets_of plan_at counted_event events_from limits_line subnet_line room_word setting_word system_line address_line port_line declaration_line tick_line event_line
+unfolding a_host two_hosts two_hosts_text decode_pairs octets_of plan_at counted_event events_from limits_line subnet_line room_word setting_word system_line address_line port_line declaration_line tick_line ticks_line event_line
 read_again = refl
 
 -- an event of each kind, and a `send` with all its words
@@ -71,7 +71,7 @@ unfolding of_each_kind of_each_kind_text digits encode_with system_text belongin
 each_kind_written = refl
 
 each_kind_read_again : plan_of of_each_kind_text ≡ Ok of_each_kind
-unfolding of_each_kind of_each_kind_text refusal form_refusal spelled list_refusal place_of_repeat place_of parameters_after decode_pairs octets_of plan_at counted_event events_from limits_line subnet_line room_word setting_word system_line address_line port_line route_line declaration_line wish_word send_line deliver_line tick_line restart_line echo_line count_line congest_line event_line
+unfolding of_each_kind of_each_kind_text refusal form_refusal spelled list_refusal place_of_repeat place_of parameters_after decode_pairs octets_of plan_at counted_event events_from limits_line subnet_line room_word setting_word system_line address_line port_line route_line declaration_line wish_word send_line deliver_line tick_line ticks_line restart_line echo_line count_line congest_line event_line
 each_kind_read_again = refl
 
 -- ---- version 2
@@ -84,16 +84,16 @@ two_hosts_migrated : List ℕ
 two_hosts_migrated = codes "clnp-sim 2\nlimits 256 60 320 0\nsubnet lan 1500\nsystem a host hello=0 suggest=0 rhold=120 slots=16 segments=1024 budget=262144 neighbours=64 routers=8 redirects=64 life=64 checksum=on\nsystem b host hello=0 suggest=0 rhold=120 slots=16 segments=1024 budget=262144 neighbours=64 routers=8 redirects=64 life=64 checksum=on\naddress a 47002702\nport a 0 lan 01 1\naddress b 47002701\nport b 0 lan 02 1\nevents\ntick 1\nend\n"
 
 migrates : migration_of (written_by_a_user (codes "clnp-sim 1")) ≡ Ok two_hosts_migrated
-unfolding written_by_a_user two_hosts_migrated digits encode_with decode_pairs octets_of plan_at counted_event events_from limits_line subnet_line room_word setting_word system_line address_line port_line declaration_line tick_line event_line system_text belongings_text
+unfolding written_by_a_user two_hosts_migrated digits encode_with decode_pairs octets_of plan_at counted_event events_from limits_line subnet_line room_word setting_word system_line address_line port_line declaration_line tick_line ticks_line event_line system_text belongings_text
 migrates = refl
 
 migrated_read_again : plan_of two_hosts_migrated ≡ Ok (migrated two_hosts)
-unfolding a_host two_hosts two_hosts_migrated decode_pairs octets_of plan_at counted_event events_from limits_line subnet_line room_word setting_word system_line address_line port_line declaration_line tick_line event_line
+unfolding a_host two_hosts two_hosts_migrated decode_pairs octets_of plan_at counted_event events_from limits_line subnet_line room_word setting_word system_line address_line port_line declaration_line tick_line ticks_line event_line
 migrated_read_again = refl
 
 -- limits stand anywhere among the declarations
 read_with_limits : plan_of (written_by_a_user (codes "clnp-sim 2\nlimits 256 60 320 0")) ≡ Ok (migrated two_hosts)
-unfolding a_host two_hosts written_by_a_user decode_pairs octets_of plan_at counted_event events_from limits_line subnet_line room_word setting_word system_line address_line port_line declaration_line tick_line event_line
+unfolding a_host two_hosts written_by_a_user decode_pairs octets_of plan_at counted_event events_from limits_line subnet_line room_word setting_word system_line address_line port_line declaration_line tick_line ticks_line event_line
 read_with_limits = refl
 
 -- a text is refused for a line of it
@@ -121,9 +121,13 @@ four_in_version_1 : IsRefused (plan_of (codes "clnp-sim 1\nlimits 4 2 6 0\nevent
 unfolding plan_at limits_line declaration_line
 four_in_version_1 = refl
 
-clocks_apart : IsRefused (plan_of (codes "clnp-sim 2\nlimits 4 2 6 1\nevents\nend\n")) 2 3
+clocks_apart : IsRefused (plan_of (codes "clnp-sim 2\nlimits 4 2 7 1\nevents\nend\n")) 2 8
 unfolding plan_at limits_line declaration_line
 clocks_apart = refl
+
+clocks_further_apart : IsRefused (plan_of (codes "clnp-sim 2\nlimits 4 2 9000 4097\nevents\nend\n")) 2 3
+unfolding plan_at limits_line declaration_line
+clocks_further_apart = refl
 
 too_short_a_rest : IsRefused (plan_of (codes "clnp-sim 2\nlimits 4 2 5 0\nevents\nend\n")) 2 8
 unfolding plan_at limits_line declaration_line

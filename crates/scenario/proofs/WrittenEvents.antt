@@ -3,7 +3,7 @@ use Rattle.std.proofs.Common.{◌≡◌, ℕ, ◌+◌, ◌<◌, ◌≤◌, ◌==
 use Rattle.std.specs.List.{AllByRecursion, list_all, list_any, position, position_or_len}
 use Rattle.std.specs.Fmt.{decimal}
 use Rattle.std.proofs.Math.Seq.{take-append_seam, drop-append-add}
-use Rattle.std.proofs.lemmas.Bool.{and_parts, ne_eqb, le-leb, leb-true, lt-ltb}
+use Rattle.std.proofs.lemmas.Bool.{and_parts, or_right, ne_eqb, le-leb, leb-true, lt-ltb}
 use Rattle.clnp_plan.proofs.ClnpBase.Lists.{AllByRecursion-slice_get, slice_get_some}
 use Rattle.clnp_plan.specs.ClnpBase.Text.{decimal_of, is_digit}
 use Rattle.hex.specs.Hex.{IsBytes}
@@ -19,9 +19,9 @@ use Rattle.clnp_plan.specs.declared.ask.Ask.{Ask}
 use Rattle.clnp_plan.specs.declared.config.Role.TheVariants.{Host, Router}
 use Rattle.scenario.specs.Canonical.{keyed, spelled_behind, body_text, subnet_name, system_name, word_if, options_words, ask_words, event_text}
 use Rattle.scenario.specs.Scenario.{Subnetwork, AsksInForm, ChangesInForm, HasNumber, InjectsInForm, IsOfVersion1, IsPlaced, IsFromHost, IsOfRouter, IsSaid, IsSaidBody, IsSaidAsk, AreSaidOptions}
-use Rattle.scenario.specs.Standing.{MayCome, Standing, is_rival, is_second, takes_prefix}
+use Rattle.scenario.specs.Standing.{MayCome, Standing, is_rival, is_second, runs_ahead, takes_prefix}
 use Rattle.scenario.specs.Words.{◌>>=◌, wanted, found, is_name, declared_word, number_within, number_word, is_digits, address_word, prefix_word, after_prefix, is_colon, fields_at, two_fields, pattern_word, data_word, life_word, options_read, options_word, octets_behind, each_once, frame_word, target_word}
-use Rattle.scenario.specs.Events.{wish_word, wish_words, wish_key, own_life, ask_of, is_host_at, host_word, is_router_at, router_word, on_word, send_line, deliver_line, tick_line, restart_line, echo_line, congest_line, inject_line, count_line, has_number, port_word, mtu_line, route_line, unroute_line, port_line, change_line, Scene, scene_of, event_line}
+use Rattle.scenario.specs.Events.{wish_word, wish_words, wish_key, own_life, ask_of, is_host_at, host_word, is_router_at, router_word, on_word, send_line, deliver_line, tick_line, restart_line, echo_line, congest_line, inject_line, count_line, has_number, port_word, mtu_line, route_line, unroute_line, port_line, change_line, tick_system_line, ticks_line, Scene, scene_of, event_line}
 use Rattle.scenario.specs.declared.code.Code.{Code}
 use Rattle.scenario.specs.declared.code.Code.TheVariants as bad
 use Rattle.scenario.specs.declared.event.Body.{Body}
@@ -315,6 +315,7 @@ keyword_of (Inject subnet from to octets) = codes "inject"
 keyword_of (event.Mtu subnet mtu) = codes "mtu"
 keyword_of (event.Route system route) = codes "route"
 keyword_of (event.Unroute system prefix) = codes "unroute"
+keyword_of (event.TickSystem system count) = codes "tick"
 keyword_of (event.Port system number subnet snpa) = codes "port"
 
 -- and the others
@@ -334,6 +335,7 @@ others_of subnets systems (event.Mtu subnet mtu) = subnet_name (slice_get subnet
 others_of subnets systems (event.Route system route) =
     system_name (slice_get systems system) ∷ prefix_text route.prefix ∷ decimal route.port ∷ hex_text route.snpa ∷ hex_text route.title ∷ []
 others_of subnets systems (event.Unroute system prefix) = system_name (slice_get systems system) ∷ prefix_text prefix ∷ []
+others_of subnets systems (event.TickSystem system count) = system_name (slice_get systems system) ∷ decimal count ∷ []
 others_of subnets systems (event.Port system number subnet snpa) =
     system_name (slice_get systems system) ∷ decimal number ∷ subnet_name (slice_get subnets subnet) ∷ hex_text snpa ∷ []
 
@@ -351,6 +353,7 @@ event_text_is subnets systems (Inject subnet from to octets) = refl
 event_text_is subnets systems (event.Mtu subnet mtu) = refl
 event_text_is subnets systems (event.Route system route) = refl
 event_text_is subnets systems (event.Unroute system prefix) = refl
+event_text_is subnets systems (event.TickSystem system count) = refl
 event_text_is subnets systems (event.Port system number subnet snpa) = refl
 
 -- ---- each kind of line
@@ -384,6 +387,27 @@ count_of word count e = e
 tick_of : (word : List ℕ) (count : ℕ) → number_word 1 65535 word ≡ Ok count → tick_line (word ∷ []) ≡ Ok count
 unfolding tick_line
 tick_of word count e = e
+
+all_tick_of : (scene : Scene) (word : List ℕ) (count : ℕ) → number_word 1 65535 word ≡ Ok count → ticks_line scene (word ∷ []) ≡ Ok (Tick count)
+unfolding ticks_line
+all_tick_of scene word count e =
+    rw (or_right (scene.version == 1) true refl) (step (tick_line (word ∷ [])) (λ n. Ok (Tick n)) count (Ok (Tick count)) (tick_of word count e) refl)
+
+one_tick_of : (scene : Scene) (name word : List ℕ) (system count : ℕ) → declared_word scene.names name ≡ Ok system → number_word 1 65535 word ≡ Ok count
+    → runs_ahead system count scene.standing ≡ false → tick_system_line scene (name ∷ word ∷ []) ≡ Ok (event.TickSystem system count)
+unfolding tick_system_line
+one_tick_of scene name word system count is_system is_count behind =
+    let given : Result Event Code = Ok (event.TickSystem system count) in
+    step (declared_word scene.names name) _ system given is_system
+    (step (number_word 1 65535 word) _ count given is_count
+    (step_wanted (not (runs_ahead system count scene.standing)) bad.Limits _ given (rw behind refl) refl))
+
+one_ticks_of : (scene : Scene) (name word : List ℕ) (system count : ℕ) → (scene.version ≡ 1 → ⊥) → declared_word scene.names name ≡ Ok system
+    → number_word 1 65535 word ≡ Ok count → runs_ahead system count scene.standing ≡ false
+    → ticks_line scene (name ∷ word ∷ []) ≡ Ok (event.TickSystem system count)
+unfolding ticks_line
+one_ticks_of scene name word system count later is_system is_count behind =
+    rw (ne_eqb scene.version 1 later) (one_tick_of scene name word system count is_system is_count behind)
 
 restart_of : (names : List (List ℕ)) (name : List ℕ) (system : ℕ) → declared_word names name ≡ Ok system → restart_line names (name ∷ []) ≡ Ok (Restart system)
 unfolding restart_line
@@ -516,8 +540,7 @@ event_read law version subnets systems named_subnets named_systems standing (Los
     step (count_line (decimal count ∷ [])) (λ n. Ok (Lose n)) count (Ok (Lose count))
     (count_of (decimal count) count (number_read 1 100000 count told.said.least told.said.most (omega (arith, told.said.most)))) refl
 event_read law version subnets systems named_subnets named_systems standing (Tick count) told turn =
-    step (tick_line (decimal count ∷ [])) (λ n. Ok (Tick n)) count (Ok (Tick count))
-    (tick_of (decimal count) count (number_read 1 65535 count told.said.least told.said.most (omega (arith, told.said.most)))) refl
+    all_tick_of (scene_of version subnets systems standing) (decimal count) count (number_read 1 65535 count told.said.least told.said.most (omega (arith, told.said.most)))
 event_read law version subnets systems named_subnets named_systems standing (Restart system) told turn =
     restart_of (map name_of_system systems) (system_name (slice_get systems system)) system (system_read systems system named_systems told.placed)
 event_read law version subnets systems named_subnets named_systems standing (Echo system from to body) told turn =
@@ -549,6 +572,9 @@ event_read law version subnets systems named_subnets named_systems standing (eve
     later_line scene (codes "unroute") (others_of subnets systems (event.Unroute system prefix)) (event.Unroute system prefix) turn.of_version
     (unroute_of scene (system_name (slice_get systems system)) (prefix_text prefix) system prefix
     (router_read systems system named_systems told.placed told.congested) (prefix_read prefix told.changes))
+event_read law version subnets systems named_subnets named_systems standing (event.TickSystem system count) told turn =
+    one_ticks_of (scene_of version subnets systems standing) (system_name (slice_get systems system)) (decimal count) system count turn.of_version
+    (system_read systems system named_systems told.placed) (number_read 1 65535 count told.said.least told.said.most (omega (arith, told.said.most))) turn.may
 event_read law version subnets systems named_subnets named_systems standing (event.Port system number subnet snpa) told turn =
     let scene : Scene = scene_of version subnets systems standing in
     later_line scene (codes "port") (others_of subnets systems (event.Port system number subnet snpa)) (event.Port system number subnet snpa) turn.of_version
@@ -569,6 +595,7 @@ keyword_is_word (Inject subnet from to octets) = spelled (codes "inject") refl
 keyword_is_word (event.Mtu subnet mtu) = spelled (codes "mtu") refl
 keyword_is_word (event.Route system route) = spelled (codes "route") refl
 keyword_is_word (event.Unroute system prefix) = spelled (codes "unroute") refl
+keyword_is_word (event.TickSystem system count) = spelled (codes "tick") refl
 keyword_is_word (event.Port system number subnet snpa) = spelled (codes "port") refl
 
 pub others_are_words : (subnets : List Subnetwork) (systems : List SystemConfiguration) → AreNamed name_of_subnet subnets → AreNamed name_of_system systems
@@ -616,6 +643,8 @@ others_are_words subnets systems named_subnets named_systems (event.Route system
 )
 others_are_words subnets systems named_subnets named_systems (event.Unroute system prefix) told =
     (system_is_word systems system named_systems told.placed, (prefix_is_word prefix told.changes, tt))
+others_are_words subnets systems named_subnets named_systems (event.TickSystem system count) told =
+    (system_is_word systems system named_systems told.placed, (decimal_is_word count, tt))
 others_are_words subnets systems named_subnets named_systems (event.Port system number subnet snpa) told = (
   system_is_word systems system named_systems told.placed,
   (

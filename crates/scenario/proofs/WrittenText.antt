@@ -80,6 +80,7 @@ no_end subnets systems (Inject subnet from to octets) = refl
 no_end subnets systems (event.Mtu subnet mtu) = refl
 no_end subnets systems (event.Route system route) = refl
 no_end subnets systems (event.Unroute system prefix) = refl
+no_end subnets systems (event.TickSystem system count) = refl
 no_end subnets systems (event.Port system number subnet snpa) = refl
 
 keyword_stands : (event : Event) → is_skipped (keyword_of event) ≡ false
@@ -95,6 +96,7 @@ keyword_stands (Inject subnet from to octets) = refl
 keyword_stands (event.Mtu subnet mtu) = refl
 keyword_stands (event.Route system route) = refl
 keyword_stands (event.Unroute system prefix) = refl
+keyword_stands (event.TickSystem system count) = refl
 keyword_stands (event.Port system number subnet snpa) = refl
 
 -- the text of an event and what follows it, as lines

@@ -134,6 +134,7 @@ event_text subnets systems (Deliver copy system) = line_of (codes "deliver") (de
 event_text subnets systems (Settle count) = line_of (codes "settle") (decimal count ∷ [])
 event_text subnets systems (Lose count) = line_of (codes "lose") (decimal count ∷ [])
 event_text subnets systems (Tick count) = line_of (codes "tick") (decimal count ∷ [])
+event_text subnets systems (event.TickSystem system count) = line_of (codes "tick") (system_name (slice_get systems system) ∷ decimal count ∷ [])
 event_text subnets systems (Restart system) = line_of (codes "restart") (system_name (slice_get systems system) ∷ [])
 event_text subnets systems (Echo system from to body) =
     line_of (codes "echo") (system_name (slice_get systems system) ∷ hex_text from ∷ hex_text to ∷ body_text body ∷ [])

@@ -56,14 +56,14 @@ abbrev pub limits_words : (version : ℕ) → List (List ℕ) → Option (List �
 limits_words version words =
     if version == 1 then option_map (λ w. (w.0, w.1, w.2, codes "0")) (three_words words) else four_words words
 
--- How long a copy may be given, a buffer is kept and an identifier rests, and how far apart clocks may stand: so far not at all.
+-- How long a copy may be given, a buffer is kept and an identifier rests, and how far apart clocks may stand.
 unfoldable pub limits_line : Declarations → List (List ℕ) → Result Declarations Code
 limits_line d words = do
   w ← found (limits_words d.version words) bad.Syntax
   age ← number_word 1 4096 w.0
   hold ← number_word 1 255 w.1
   reuse ← number_word 1 16384 w.2
-  skew ← number_word 0 0 w.3
+  skew ← number_word 0 4096 w.3
   _ ← wanted (not (is_some d.limits)) bad.DupName
   _ ← wanted (nat_le (age + hold + 2 * skew) reuse) bad.Limits
   Ok (record d { limits = Some (record { age = age; hold = hold; reuse = reuse; skew = skew }) })

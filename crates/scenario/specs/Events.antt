@@ -9,8 +9,8 @@ use Rattle.clnp_plan.specs.declared.config.Role.{Role}
 use Rattle.clnp_plan.specs.declared.config.Role.TheVariants.{Host, Router}
 use Rattle.scenario.specs.Declarations.{is_router}
 use Rattle.scenario.specs.Scenario.{Subnetwork, passed_by, ticks_of}
-use Rattle.scenario.specs.Standing.{Standing, is_second, is_rival, takes_prefix, standing_of, standing_after}
-use Rattle.scenario.specs.Words.{◌>>=◌, wanted, found, literal, declared_word, number_within, number_word, is_digits, address_word, prefix_word, data_word, life_word, options_word, target_word, frame_word, has_prefix, one_word, two_words, four_words, five_words, first_four, each_once}
+use Rattle.scenario.specs.Standing.{Standing, is_second, is_rival, runs_ahead, takes_prefix, standing_of, standing_after}
+use Rattle.scenario.specs.Words.{◌>>=◌, wanted, found, literal, declared_word, number_within, number_word, is_digits, address_word, prefix_word, data_word, life_word, options_word, target_word, frame_word, has_prefix, one_word, two_words, four_words, five_words, first_four, is_one_at_most, each_once}
 use Rattle.scenario.specs.declared.code.Code.{Code}
 use Rattle.scenario.specs.declared.code.Code.TheVariants as bad
 use Rattle.scenario.specs.declared.counts.Counts.{Counts}
@@ -41,8 +41,8 @@ scene_of version subnets systems standing =
     }
 
 -- before the first event
-abbrev pub first_scene : (version : ℕ) → List Subnetwork → List SystemConfiguration → Scene
-first_scene version subnets systems = scene_of version subnets systems (standing_of systems)
+abbrev pub first_scene : (version skew : ℕ) → List Subnetwork → List SystemConfiguration → Scene
+first_scene version skew subnets systems = scene_of version subnets systems (standing_of skew systems)
 
 -- behind an event
 abbrev pub scene_after : Scene → Event → Scene
@@ -144,6 +144,21 @@ deliver_line names words = do
 -- `N`, behind `tick`
 unfoldable pub tick_line : List (List ℕ) → Result ℕ Code
 tick_line words = found (one_word words) bad.Syntax >>= number_word 1 65535
+
+-- `NAME N`, behind `tick`: one system ticks alone
+unfoldable pub tick_system_line : Scene → List (List ℕ) → Result Event Code
+tick_system_line scene words = do
+  w ← found (two_words words) bad.Syntax
+  system ← declared_word scene.names w.0
+  count ← number_word 1 65535 w.1
+  _ ← wanted (not (runs_ahead system count scene.standing)) bad.Limits
+  Ok (event.TickSystem system count)
+
+-- behind `tick`: all systems tick, or one system alone, which it does in version 2 alone
+unfoldable pub ticks_line : Scene → List (List ℕ) → Result Event Code
+ticks_line scene words =
+    if (scene.version == 1) || is_one_at_most words then (tick_line words >>= λ count. Ok (Tick count))
+    else tick_system_line scene words
 
 -- `NAME`, behind `restart`
 unfoldable pub restart_line : List (List ℕ) → List (List ℕ) → Result Event Code
@@ -274,7 +289,7 @@ event_line scene (keyword ∷ words) =
     else if bytes_eq keyword (codes "deliver") then deliver_line scene.names words
     else if bytes_eq keyword (codes "settle") then (count_line words >>= λ count. Ok (Settle count))
     else if bytes_eq keyword (codes "lose") then (count_line words >>= λ count. Ok (Lose count))
-    else if bytes_eq keyword (codes "tick") then (tick_line words >>= λ count. Ok (Tick count))
+    else if bytes_eq keyword (codes "tick") then ticks_line scene words
     else if bytes_eq keyword (codes "restart") then restart_line scene.names words
     else if bytes_eq keyword (codes "echo") then echo_line scene.names words
     else if bytes_eq keyword (codes "congest") then congest_line scene.names scene.systems words
@@ -282,11 +297,11 @@ event_line scene (keyword ∷ words) =
     else if scene.version == 1 then Err bad.Syntax
     else change_line scene keyword words
 
--- whether a line's first word is that of an event which a live node takes
+-- whether a line begins as one of an event which a live node takes; the ticks of one system alone are none
 abbrev pub is_live_line : List (List ℕ) → Bool
 is_live_line [] = false
 is_live_line (keyword ∷ words) =
-    bytes_eq keyword (codes "send") || (bytes_eq keyword (codes "echo") || bytes_eq keyword (codes "tick"))
+    bytes_eq keyword (codes "send") || (bytes_eq keyword (codes "echo") || (bytes_eq keyword (codes "tick") && is_one_at_most words))
 
 -- the counts with one more event
 abbrev pub counted : Counts → Event → Counts

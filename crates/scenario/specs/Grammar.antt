@@ -109,7 +109,7 @@ abbrev pub plan_behind : (links : Option ℕ) → ReadTo ℕ → Result Plan Bad
 plan_behind links header = do
   declared ← declarations_from header.number (nothing_declared header.value) header.lines
   _ ← fit_for links (declared.number - 1) declared.value
-  events ← events_from (event_for links) (first_scene header.value declared.value.subnets (map configuration_of declared.value.systems)) declared.number nothing_counted declared.lines
+  events ← events_from (event_for links) (first_scene header.value (limits_of declared.value.limits).skew declared.value.subnets (map configuration_of declared.value.systems)) declared.number nothing_counted declared.lines
   Ok (record { version = header.value; limits = limits_of declared.value.limits; subnets = declared.value.subnets; systems = map configuration_of declared.value.systems; events = events })
 
 -- what the lines of a text say whose version is one of those up to the newest; for a live node, where links are given
@@ -124,6 +124,7 @@ abbrev pub plan_of_version_1 : List ℕ → Result Plan BadLine
 plan_of_version_1 text = plan_at None 1 (lines_of text)
 
 -- The same of texts for a live node on a board of so many links: the line `events` is a bad one where not one system alone is
--- declared, with a port for each link, and so is each event's line whose first word isn't `send`, `echo` or `tick`.
+-- declared, with a port for each link, and so is each event's line whose first word isn't `send`, `echo` or `tick`, or which says
+-- what system ticks.
 abbrev pub run_plan_of : (links : ℕ) → List ℕ → Result Plan BadLine
 run_plan_of links text = plan_at (Some links) newest_version (lines_of text)

@@ -25,6 +25,7 @@ use Rattle.scenario.specs.declared.event.Event.TheVariants as event
 use Rattle.scenario.specs.declared.event.Event.TheVariants.{Send, Deliver, Settle, Lose, Tick, Restart, Echo, Congest, Inject}
 use Rattle.scenario.specs.declared.event.Move.{Move}
 use Rattle.scenario.specs.declared.event.Move.TheVariants.{One, SettleOne, LoseOne, TickOne}
+use Rattle.scenario.specs.declared.event.Move.TheVariants as move
 
 pub record Subnetwork : Type 0 where
   pub name : List ℕ
@@ -45,11 +46,12 @@ abbrev pub octets_of : Body → List ℕ
 octets_of (Hex octets) = octets
 octets_of (Pattern len start) = map (λ q. (q + q / 256 + start) % 256) (range_with_len 0 len)
 
--- the moves of the event at a place: `settle n`, `lose n` and `tick n` are n moves, every other event is one
+-- the moves of the event at a place: `settle n`, `lose n`, `tick n` and `tick name n` are n moves, every other event is one
 abbrev pub moves_of : ℕ → Event → List Move
 moves_of place (Settle count) = replicate count SettleOne
 moves_of place (Lose count) = replicate count LoseOne
 moves_of place (Tick count) = replicate count TickOne
+moves_of place (event.TickSystem system count) = replicate count (move.TickSystem system)
 moves_of place (Send system from to body ask) = One place ∷ []
 moves_of place (Deliver copy system) = One place ∷ []
 moves_of place (Restart system) = One place ∷ []
@@ -69,6 +71,7 @@ moves_from place (event ∷ events) = moves_of place event ++ moves_from (place 
 -- the ticks of an event
 abbrev pub ticks_of : Event → ℕ
 ticks_of (Tick count) = count
+ticks_of (event.TickSystem system count) = count
 ticks_of _ = 0
 
 -- the copies that an event settles or loses
@@ -98,6 +101,7 @@ IsPlaced systems (Echo system from to body) = system < systems
 IsPlaced systems (Congest system on) = system < systems
 IsPlaced systems (event.Route system route) = system < systems
 IsPlaced systems (event.Unroute system prefix) = system < systems
+IsPlaced systems (event.TickSystem system count) = system < systems
 IsPlaced systems (event.Port system number subnet snpa) = system < systems
 IsPlaced systems _ = Unit {0}
 
@@ -143,6 +147,7 @@ IsSaid (Deliver copy system) = IsWithin 1 1000000000 copy
 IsSaid (Settle count) = IsWithin 1 100000 count
 IsSaid (Lose count) = IsWithin 1 100000 count
 IsSaid (Tick count) = IsWithin 1 65535 count
+IsSaid (event.TickSystem system count) = IsWithin 1 65535 count
 IsSaid (event.Mtu subnet mtu) = IsWithin 512 65535 mtu
 IsSaid (event.Route system route) = IsWithin 0 7 route.port
 IsSaid (event.Port system number subnet snpa) = IsWithin 0 7 number
@@ -192,6 +197,7 @@ abbrev pub IsOfVersion1 : Event → Type 0
 IsOfVersion1 (event.Mtu subnet mtu) = ⊥
 IsOfVersion1 (event.Route system route) = ⊥
 IsOfVersion1 (event.Unroute system prefix) = ⊥
+IsOfVersion1 (event.TickSystem system count) = ⊥
 IsOfVersion1 (event.Port system number subnet snpa) = ⊥
 IsOfVersion1 _ = Unit {0}
 
@@ -236,8 +242,8 @@ snpas_of subnet system = map (λ port. port.snpa) (filter (λ port. port.subnet 
 pub record IsFit (plan : Plan) : Type 0 where
   pub version : IsWithin 1 2 plan.version
   pub limits : AreLimits plan.limits
-  -- all clocks tick together
-  pub together : plan.limits.skew ≡ 0
+  -- in version 1 all clocks tick together
+  pub together : plan.version ≡ 1 → plan.limits.skew ≡ 0
   pub systems : AllByRecursion IsSystem plan.systems
   pub named_subnets : AllByRecursion (λ (subnet : Subnetwork). is_name subnet.name ≡ true) plan.subnets
   pub named_systems : AllByRecursion (λ (system : SystemConfiguration). is_name system.name ≡ true) plan.systems
@@ -268,9 +274,9 @@ pub record IsFit (plan : Plan) : Type 0 where
   pub of_version : plan.version ≡ 1 → AllByRecursion IsOfVersion1 plan.events
   -- what changes is there
   pub changes : AllByRecursion (ChangesInForm (length plan.subnets) plan.systems) plan.events
-  -- so that no two ports of a system come to be on one subnetwork, no two ports there have one address, and no router has more
-  -- than 256 routes
-  pub stand : EachMayCome (standing_of plan.systems) plan.events
+  -- so that no two ports of a system come to be on one subnetwork, no two ports there have one address, no router has more than 256
+  -- routes, and no system's clock comes to stand further above another one than it may
+  pub stand : EachMayCome (standing_of plan.limits.skew plan.systems) plan.events
   pub said : AllByRecursion IsSaid plan.events
   pub few_events : length plan.events ≤ 100000
   pub passed : sum (map passed_by plan.events) ≤ 10000000

@@ -1,7 +1,7 @@
 //! The event lines by which a network changes: those of version 2 alone.
 ghost use Rattle.std.specs.Prelude.{◌≡◌, ◌≤◌, map, length, slice_get};
 ghost use Rattle.clnp_plan.specs.ClnpBase.Text.{words_of};
-ghost use Rattle.scenario.specs.Events.{change_line, has_number, mtu_line, port_line, port_word, route_line, scene_of, unroute_line};
+ghost use Rattle.scenario.specs.Events.{change_line, has_number, mtu_line, port_line, port_word, route_line, scene_of, tick_system_line, unroute_line};
 ghost use Rattle.scenario.specs.Scenario.{Subnetwork};
 
 use crate::code::Code;
@@ -126,6 +126,25 @@ fn port_line(settled: Settled<'_>, standing: &Standing, line: &[u8]) -> Result<E
         subnet,
         snpa,
     })
+}
+
+/// `NAME N`, behind `tick`: one system ticks alone.
+#[tactic(auto, unfolding(crate::specs::Events::tick_system_line))]
+pub(crate) fn tick_system_line(
+    settled: Settled<'_>,
+    standing: &Standing,
+    line: &[u8],
+) -> Result<Event, Code>
+    requires { length settled.systems.now ≤ 64 }
+    ensures { result ≡ tick_system_line (scene_of settled.entry.version settled.entry.subnets.now settled.entry.systems.now standing.now) (words_of line.now) }
+{
+    let Some((name, count)) = two_words(line) else {
+        return Err(Code::Syntax);
+    };
+    let system = system_word(settled.systems, name)?;
+    let count = number_word(1, 65_535, count)? as u32;
+    wanted(!standing.runs_ahead(system, count), Code::Limits)?;
+    Ok(Event::TickSystem { system, count })
 }
 
 /// The event of a line by its keyword.

@@ -61,6 +61,7 @@ fn passed_by(event: &Event) -> u32
         | Event::Mtu { .. }
         | Event::Route { .. }
         | Event::Unroute { .. }
+        | Event::TickSystem { .. }
         | Event::Port { .. } => 0,
     }
 }
@@ -70,7 +71,7 @@ fn ticks_of(event: &Event) -> u32
     ensures { result ≡ ticks_of event.now }
 {
     match event {
-        Event::Tick { count } => *count,
+        Event::Tick { count } | Event::TickSystem { count, .. } => *count,
         Event::Send { .. }
         | Event::Deliver { .. }
         | Event::Settle { .. }

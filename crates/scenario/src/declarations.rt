@@ -195,7 +195,7 @@ impl Declared {
         let age = number_word(1, 4096, age)?;
         let hold = number_word(1, 255, hold)?;
         let reuse = number_word(1, 16_384, reuse)?;
-        let skew = number_word(0, 0, skew)?;
+        let skew = number_word(0, 4096, skew)?;
         wanted(self.limits.is_none(), Code::DupName)?;
         wanted(age + hold + 2 * skew <= reuse, Code::Limits)?;
         Ok(Limits {

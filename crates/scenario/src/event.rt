@@ -118,6 +118,11 @@ pub enum Event {
         system: u8,
         prefix: Prefix,
     },
+    /// So many ticks of 500 ms pass for one system.
+    TickSystem {
+        system: u8,
+        count: u32,
+    },
     /// The port of a system is put on a subnetwork, at an address there.
     Port {
         system: u8,
@@ -136,6 +141,7 @@ impl Event {
             Event::Settle { count } => (Move::SettleOne, *count),
             Event::Lose { count } => (Move::LoseOne, *count),
             Event::Tick { count } => (Move::TickOne, *count),
+            Event::TickSystem { system, count } => (Move::TickSystem(usize::from(*system)), *count),
             Event::Send { .. }
             | Event::Echo { .. }
             | Event::Deliver { .. }
@@ -153,7 +159,7 @@ impl Event {
 /// One move of the simulated network.
 #[derive(Clone, Copy, PartialEq, Eq)]
 pub enum Move {
-    /// The event at this place, from 0, which is none of `Settle`, `Lose` and `Tick`.
+    /// The event at this place, from 0, which is none of `Settle`, `Lose`, `Tick` and `TickSystem`.
     One(usize),
     /// The next copy is given to each of its addressees.
     SettleOne,
@@ -161,4 +167,6 @@ pub enum Move {
     LoseOne,
     /// One tick passes.
     TickOne,
+    /// One tick passes for the system at this place.
+    TickSystem(usize),
 }

@@ -3,12 +3,12 @@ ghost use Rattle.std.specs.Prelude.{◌≡◌, ◌<◌, ◌≤◌, map, length, 
 ghost use Rattle.std.specs.List.{position};
 ghost use Rattle.std.specs.Str.{bytes_eq};
 ghost use Rattle.clnp_plan.specs.ClnpBase.Text.{words_of};
-ghost use Rattle.scenario.specs.Events.{own_life, is_host, is_host_at, host_word, send_line, deliver_line, count_line, tick_line, restart_line, echo_line, is_router_at, router_word, on_word, congest_line, inject_line, scene_of, event_line, is_live_line};
+ghost use Rattle.scenario.specs.Events.{own_life, is_host, is_host_at, host_word, send_line, deliver_line, count_line, tick_line, ticks_line, restart_line, echo_line, is_router_at, router_word, on_word, congest_line, inject_line, scene_of, event_line, is_live_line};
 ghost use Rattle.scenario.specs.Scenario.{Subnetwork};
 ghost use Rattle.scenario.specs.Words.{declared_word};
 ghost use Rattle.scenario.specs.Refusal.{Faults};
 
-use crate::change_line::{Settled, change_line};
+use crate::change_line::{Settled, change_line, tick_system_line};
 use crate::code::Code;
 use crate::event::Event;
 use crate::fault::LineFault;
@@ -17,8 +17,8 @@ use crate::standing::Standing;
 use crate::system::is_router;
 use crate::wish::{ask_of, each_once, wish_words};
 use crate::word::{
-    address_word, data_word, first_four, four_words, frame_word, is_name, number_word, one_word,
-    same, snpa_word, target_word, two_words, wanted,
+    address_word, data_word, first_four, four_words, frame_word, is_name, is_one_at_most,
+    number_word, one_word, same, snpa_word, target_word, two_words, wanted,
 };
 use clnp_plan::clnp_base::next_word;
 use clnp_plan::{Role, SystemConfig};
@@ -151,6 +151,19 @@ fn tick_line(line: &[u8]) -> Result<u32, Code>
     };
     let count = number_word(1, 65_535, count)?;
     Ok(count as u32)
+}
+
+/// Behind `tick`: all systems tick, or one system alone.
+#[tactic(auto, unfolding(crate::specs::Events::ticks_line))]
+fn ticks_line(settled: Settled<'_>, standing: &Standing, line: &[u8]) -> Result<Event, Code>
+    requires { length settled.systems.now ≤ 64 }
+    ensures { result ≡ ticks_line (scene_of settled.entry.version settled.entry.subnets.now settled.entry.systems.now standing.now) (words_of line.now) }
+{
+    if settled.version == 1 || is_one_at_most(line) {
+        let count = tick_line(line)?;
+        return Ok(Event::Tick { count });
+    }
+    tick_system_line(settled, standing, line)
 }
 
 /// `NAME`, behind `restart`.
@@ -291,13 +304,15 @@ fn inject_line(alloc: Global, subnets: &[Subnet], line: &[u8]) -> Result<Event, 
     })
 }
 
-/// Whether a line's first word is that of an event which a live node takes.
+/// Whether a line begins as one of an event which a live node takes.
 pub(crate) fn is_live_line(line: &[u8]) -> bool
     ensures { result ≡ is_live_line (words_of line.now) }
 {
     match next_word(line) {
-        Some((keyword, _)) => {
-            same(keyword, b"send") || same(keyword, b"echo") || same(keyword, b"tick")
+        Some((keyword, words)) => {
+            same(keyword, b"send")
+                || same(keyword, b"echo")
+                || (same(keyword, b"tick") && is_one_at_most(words))
         }
         None => false,
     }
@@ -337,8 +352,10 @@ pub(crate) fn event_line(
         return Ok(Event::Lose { count });
     }
     if same(keyword, b"tick") {
-        let count = tick_line(line)?;
-        return Ok(Event::Tick { count });
+        return match ticks_line(settled, standing, line) {
+            Ok(event) => Ok(event),
+            Err(code) => Err(LineFault::Broken(code)),
+        };
     }
     if same(keyword, b"restart") {
         return match restart_line(settled.systems, line) {

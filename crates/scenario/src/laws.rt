@@ -9,7 +9,7 @@ ghost use Rattle.scenario.specs.Migration.{IsReadAlike, migrated, migration_of};
 ghost use Rattle.scenario.specs.Scenario.{IsClosed, IsFit, IsForBoard, Plan};
 ghost use Rattle.scenario.specs.Seeds.{storm};
 
-/// What the grammar accepts is fit to be run: its version, limits, settings and numbers are in their ranges, its clocks
+/// What the grammar accepts is fit to be run: its version, limits, settings and numbers are in their ranges, in version 1 its clocks
 /// tick together, each name is a name of the grammar, each system has the addresses, ports and routes that its role calls for,
 /// no name, address or SNPA on a subnetwork stands twice, and no prefix at a router, each port is on a declared
 /// subnetwork and has its MTU, no two ports of a system are on one subnetwork, each prefix has up to 40 digits,
@@ -17,7 +17,8 @@ ghost use Rattle.scenario.specs.Seeds.{storm};
 /// units, routers alone are said to be congested and get routes, each unit and each echo is asked for between addresses, a data
 /// unit with a lifetime that an octet holds and options in their form, and none with an option that an error report
 /// alone may have; a network changes in version 2 alone, what changes is there, at no moment are two ports of a system on one
-/// subnetwork, is an address there that of two ports, or has a router more than 256 routes; events say only numbers, data and
+/// subnetwork, is an address there that of two ports, has a router more than 256 routes, or comes a clock by ticks of its own to stand
+/// further above another one than it may; events say only numbers, data and
 /// options that a line may say, they are few, few copies are settled and lost, and few ticks pass.
 pub fn accepted_is_fit()
     ensures { (text : List ℕ) (plan : Plan) → plan_of text ≡ Ok plan → IsFit plan }
@@ -73,11 +74,11 @@ pub fn version_1_is_read_alike()
     ensures alike { (text : List ℕ) → IsReadAlike text (header_from newest_version 1 (lines_of text)) }
 {}
 
-/// A scenario that is fit to be run is so in version 2, in which its clocks tick together, and what is written of it then
-/// is read as it.
+/// A scenario that is fit to be run is so in version 2, in which the clocks of one of version 1 tick together as they did, and
+/// what is written of it then is read as it.
 pub fn migrated_is_fit()
     ensures fit { (plan : Plan) → IsFit plan → IsFit (migrated plan) }
-    ensures together { (plan : Plan) → IsFit plan → (migrated plan).limits.skew ≡ 0 }
+    ensures together { (plan : Plan) → IsFit plan → plan.version ≡ 1 → (migrated plan).limits.skew ≡ 0 }
     ensures text { (plan : Plan) → IsFit plan → plan_of (text_of (migrated plan)) ≡ Ok (migrated plan) }
 {
     what_is_written_is_read();

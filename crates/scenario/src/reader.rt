@@ -237,6 +237,7 @@ fn events_of(
     alloc: Global,
     links: Option<usize>,
     version: u8,
+    skew: u16,
     subnets: &[Subnet],
     systems: &[SystemConfig],
     number: u32,
@@ -245,13 +246,13 @@ fn events_of(
     requires few { number + length (lines_of text.now) < 2 ^ 32 }
     requires subnets { length subnets.now ≤ 64 }
     requires systems { length systems.now ≤ 64 }
-    ensures { let reading = events_from (event_for links) (first_scene version subnets.now systems.now) number nothing_counted (lines_of text.now) in
+    ensures { let reading = events_from (event_for links) (first_scene version skew subnets.now systems.now) number nothing_counted (lines_of text.now) in
         MatchResult result (λ events. reading ≡ Ok events.items) (λ refusal. Refuses refusal reading) }
 {
     let mut events = Vec::new(alloc);
     let mut number = number;
     let mut counts = Counts::nothing();
-    let mut standing = Standing::of(alloc, systems)?;
+    let mut standing = Standing::of(alloc, skew, systems)?;
     let mut left = text;
     while let Some((line, rest)) = next_line(left) {
         let at = number;
@@ -375,6 +376,7 @@ fn read_as(
         alloc,
         links,
         version,
+        limits.skew,
         subnets.as_slice(),
         systems.as_slice(),
         number,

@@ -1,7 +1,9 @@
-//! What events change of what is declared: where the ports of systems are, and for which prefixes routers have routes.
-ghost use Rattle.std.specs.Prelude.{◌≡◌, ◌≤◌, ◌++◌, ◌&&◌, not, map, length, slice_get, IfOk, OnOk};
-ghost use Rattle.std.specs.List.{list_any};
-ghost use Rattle.scenario.specs.Standing.{changed_at, is_among, is_port, is_rival, is_second, moved, prefixes_of, spots_from, spots_of, standing_after, standing_of, takes_prefix, with_prefix, without_prefix};
+//! What events change of what is declared: where the ports of systems are, for which prefixes routers have routes, and how far
+//! clocks went on.
+ghost use Rattle.std.specs.Prelude.{◌≡◌, ◌≤◌, ◌<◌, ◌+◌, ◌^◌, ◌++◌, ◌&&◌, ◌||◌, not, nat_lt, map, length, slice_get, IfOk, OnOk};
+ghost use Rattle.std.specs.List.{AllByRecursion, list_any};
+ghost use Rattle.scenario.specs.Scenario.{ticks_of};
+ghost use Rattle.scenario.specs.Standing.{changed_at, first_clocks, is_ahead, is_among, is_port, is_rival, is_second, moved, prefixes_of, runs_ahead, spots_from, spots_of, standing_after, standing_of, takes_prefix, with_prefix, without_prefix};
 
 use crate::event::Event;
 use clnp_plan::forwarding::Route;
@@ -178,6 +180,13 @@ fn prefixes_of(alloc: Global, systems: &[SystemConfig]) -> Result<Vec<Prefixes>,
     Ok(prefixes)
 }
 
+/// The clocks of systems, at first.
+fn clocks_of(alloc: Global, systems: &[SystemConfig]) -> Result<Vec<u32>, AllocError>
+    ensures { IfOk result (λ clocks. clocks.items ≡ first_clocks systems.now) }
+{
+    systems.iter().map(|_| 0u32).collect(alloc)
+}
+
 /// Adds a prefix to those of the system at a place.
 fn add_prefix(prefixes: &mut [Prefixes], place: usize, prefix: Prefix) -> Result<(), AllocError>
     ensures { OnOk result (prefixes.new ≡ changed_at (with_prefix prefix) place prefixes.old) }
@@ -199,11 +208,70 @@ fn remove_prefix(prefixes: &mut [Prefixes], place: usize, prefix: &Prefix)
     }
 }
 
+/// Lets all clocks go on.
+fn tick_all(clocks: &mut [u32], count: u32)
+    requires { AllByRecursion (λ clock. clock + count < 2 ^ 32) clocks.old }
+    ensures { clocks.new ≡ map (λ clock. clock + count) clocks.old }
+{
+    for clock in clocks.iter_mut() {
+        *clock += count;
+    }
+}
+
+/// Lets the clock of the system at a place go on.
+fn tick_one(clocks: &mut [u32], place: usize, count: u32)
+    requires { AllByRecursion (λ clock. clock + count < 2 ^ 32) clocks.old }
+    ensures { clocks.new ≡ changed_at (λ clock. clock + count) place clocks.old }
+{
+    if place < clocks.len() {
+        clocks[place] += count;
+    }
+}
+
+/// Whether a clock stands more than so many ticks above one of some.
+fn is_above(skew: u16, clock: u64, others: &[u32]) -> bool
+    ensures { result ≡ list_any (λ other. nat_lt (other + skew) clock) others.now }
+{
+    others
+        .iter()
+        .any(|other| u64::from(*other) + u64::from(skew) < clock)
+}
+
+/// Whether the clock at a place would stand more than so many ticks above another one, so many ticks later.
+fn runs_ahead(clocks: &[u32], skew: u16, place: usize, count: u32) -> bool
+    ensures { let later = changed_at (λ clock. clock + count) place clocks.now in result ≡ is_ahead skew (slice_get later place) later }
+{
+    if place >= clocks.len() {
+        return false;
+    }
+    let clock = ticked(clocks[place], count);
+    let (before, _) = clocks.split_at(place);
+    let (_, behind) = clocks.split_at(place + 1);
+    is_above_both(skew, clock, before, behind)
+}
+
+/// Whether a clock stands more than so many ticks above one of some, or one of others.
+fn is_above_both(skew: u16, clock: u64, before: &[u32], behind: &[u32]) -> bool
+    ensures { result ≡ list_any (λ other. nat_lt (other + skew) clock) before.now || list_any (λ other. nat_lt (other + skew) clock) behind.now }
+{
+    is_above(skew, clock, before) || is_above(skew, clock, behind)
+}
+
+/// A clock so many ticks later.
+fn ticked(clock: u32, count: u32) -> u64
+    ensures { result ≡ clock + count }
+{
+    u64::from(clock) + u64::from(count)
+}
+
 /// What the events so far leave.
 #[derive(Drop)]
 pub(crate) struct Standing {
     spots: Vec<Spot>,
     prefixes: Vec<Prefixes>,
+    /// Of each system, in ticks of 500 ms.
+    clocks: Vec<u32>,
+    skew: u16,
 }
 
 impl Model for Standing {
@@ -211,18 +279,24 @@ impl Model for Standing {
 
     ghost Value = { Standing };
 
-    ghost view = { λ s. record { spots = s.spots.items; prefixes = s.prefixes.items } };
+    ghost view = { λ s. record { spots = s.spots.items; prefixes = s.prefixes.items; clocks = s.clocks.items; skew = s.skew } };
 }
 
 impl Standing {
-    /// Before the first event.
-    pub(crate) fn of(alloc: Global, systems: &[SystemConfig]) -> Result<Standing, AllocError>
+    /// Before the first event, where two clocks may stand so far apart.
+    pub(crate) fn of(
+        alloc: Global,
+        skew: u16,
+        systems: &[SystemConfig],
+    ) -> Result<Standing, AllocError>
         requires { length systems.now ≤ 64 }
-        ensures { IfOk result (λ standing. standing ≡ standing_of systems.now) }
+        ensures { IfOk result (λ standing. standing ≡ standing_of skew systems.now) }
     {
         Ok(Standing {
             spots: spots_of(alloc, systems)?,
             prefixes: prefixes_of(alloc, systems)?,
+            clocks: clocks_of(alloc, systems)?,
+            skew,
         })
     }
 
@@ -254,8 +328,16 @@ impl Standing {
         }
     }
 
+    /// Whether the clock of a system would stand further above another one than it may, so many ticks of its own later.
+    pub(crate) fn runs_ahead(&self, system: u8, count: u32) -> bool
+        ensures { result ≡ runs_ahead system count self.now }
+    {
+        runs_ahead(&self.clocks, self.skew, usize::from(system), count)
+    }
+
     /// Goes on to what an event leaves.
     pub(crate) fn go_on(&mut self, event: &Event) -> Result<(), AllocError>
+        requires { AllByRecursion (λ clock. clock + ticks_of event.now < 2 ^ 32) self.old.clocks }
         ensures { OnOk result (self.new ≡ standing_after event.now self.old) }
     {
         match event {
@@ -275,11 +357,18 @@ impl Standing {
                 remove_prefix(&mut self.prefixes, usize::from(*system), prefix);
                 Ok(())
             }
+            Event::Tick { count } => {
+                tick_all(&mut self.clocks, *count);
+                Ok(())
+            }
+            Event::TickSystem { system, count } => {
+                tick_one(&mut self.clocks, usize::from(*system), *count);
+                Ok(())
+            }
             Event::Send { .. }
             | Event::Deliver { .. }
             | Event::Settle { .. }
             | Event::Lose { .. }
-            | Event::Tick { .. }
             | Event::Restart { .. }
             | Event::Echo { .. }
             | Event::Congest { .. }

@@ -359,6 +359,13 @@ fn push_event<'a>(
             let words = [system_name(systems, *system), Word::Prefix(prefix)];
             push_line(Word::Text(b"unroute"), &words, out)
         }
+        Event::TickSystem { system, count } => {
+            let words = [
+                system_name(systems, *system),
+                Word::Number(u64::from(*count)),
+            ];
+            push_line(Word::Text(b"tick"), &words, out)
+        }
         Event::Port {
             system,
             number,

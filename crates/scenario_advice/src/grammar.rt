@@ -95,7 +95,7 @@ const DECLARATIONS_OF_VERSION_2: &[LineForm] = &[LineForm {
             low: 1,
             high: 16_384,
         },
-        Form::Number { low: 0, high: 0 },
+        Form::Number { low: 0, high: 4096 },
     ],
     more: More::Nothing,
 }];
@@ -206,6 +206,20 @@ pub(crate) const CHANGES: &[LineForm] = &[
     },
 ];
 
+/// The ticks of one system alone, in version 2.
+pub(crate) const TICK_OF_ONE: LineForm = LineForm {
+    keyword: b"tick",
+    shape: "tick N or tick NAME N",
+    words: &[
+        Form::System,
+        Form::Number {
+            low: 1,
+            high: 65_535,
+        },
+    ],
+    more: More::Nothing,
+};
+
 /// The line of a keyword, if it is one of these.
 pub(crate) fn form_of(forms: &'static [LineForm], keyword: &[u8]) -> Option<LineForm> {
     for form in forms {
@@ -226,8 +240,11 @@ pub(crate) fn declaration_of(at: Place<'_>, keyword: &[u8]) -> Option<LineForm> 
     form_of(DECLARATIONS, keyword)
 }
 
-/// The event of a keyword in the version of a text, if it is one.
-pub(crate) fn event_of(at: Place<'_>, keyword: &[u8]) -> Option<LineForm> {
+/// The event of a keyword with so many words behind it in the version of a text, if it is one.
+pub(crate) fn event_of(at: Place<'_>, keyword: &[u8], count: usize) -> Option<LineForm> {
+    if same(keyword, b"tick") && count > 1 && at.is_of_version_2() {
+        return Some(TICK_OF_ONE);
+    }
     match form_of(EVENTS, keyword) {
         Some(form) => Some(form),
         None if at.is_of_version_2() => form_of(CHANGES, keyword),

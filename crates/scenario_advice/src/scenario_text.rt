@@ -59,7 +59,7 @@ fn of_line(at: Place<'_>, code: Code) -> Option<Advice> {
             "nothing but skipped lines may stand behind the line end",
         );
     }
-    if let Some(form) = event_of(at, keyword) {
+    if let Some(form) = event_of(at, keyword, count_words(rest)) {
         return of_words(at, line, rest, form, code);
     }
     only_for_syntax(code, of_other_event(at, keyword, rest))
@@ -115,7 +115,7 @@ fn of_declaration(
     }
     let wanted = if same(keyword, b"end") {
         "a declaration, or the line events, which stands before the events and end"
-    } else if event_of(at, keyword).is_some() {
+    } else if event_of(at, keyword, 0).is_some() {
         "a declaration, or the line events, which stands before the first event"
     } else {
         "limits, subnet, system, address, port, route or events"

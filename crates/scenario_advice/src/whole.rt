@@ -21,6 +21,7 @@ pub(crate) fn of_whole(
         Code::DupName => of_name_again(at, line, keyword, more),
         Code::DupAddress if is_event => of_rival(at, line),
         Code::DupAddress => of_address_again(at, line, keyword),
+        Code::Limits if is_event => of_clock(at, line),
         Code::Limits => of_limits(line),
         Code::Mtu => of_mtu(line),
         Code::Count if is_event => of_event_too_many(at, line, keyword),
@@ -217,16 +218,48 @@ fn of_address_again(at: Place<'_>, line: &[u8], keyword: &[u8]) -> Option<Advice
     again(what.text(" already"), found)
 }
 
+/// What is said of limits that are too near to one another.
 fn of_limits(line: &[u8]) -> Option<Advice> {
     let age = number_at(line, 2)?;
     let hold = number_at(line, 3)?;
     let reuse = number_at(line, 4)?;
-    if age.saturating_add(hold) <= reuse {
+    let skew = number_at(line, 5).unwrap_or(0);
+    let least = age.saturating_add(hold);
+    if least.saturating_add(skew).saturating_add(skew) <= reuse {
         return None;
     }
     let advice = Advice::of("the third number, ").number(reuse);
     let advice = advice.text(", is less than the first two together, ");
-    Some(advice.number(age).text(" + ").number(hold))
+    let advice = advice.number(age).text(" + ").number(hold);
+    if skew == 0 {
+        return Some(advice);
+    }
+    Some(
+        advice
+            .text(", and twice the fourth, ")
+            .number(skew)
+            .text(", besides"),
+    )
+}
+
+/// What is said of a system that ticks too often alone.
+fn of_clock(at: Place<'_>, line: &[u8]) -> Option<Advice> {
+    let name = word_at(line, 2)?;
+    let skew = skew_of(at)?;
+    let advice = Advice::of("the clock of ")
+        .octets(name)
+        .text(" would stand more than ");
+    Some(advice.number(skew).text(" above that of another system"))
+}
+
+/// How far apart the limits let clocks stand.
+fn skew_of(at: Place<'_>) -> Option<u64> {
+    let mark = Mark::Word {
+        place: 1,
+        word: b"limits",
+    };
+    let found = at.before(b"limits", mark)?;
+    number_at(found.line, 5)
 }
 
 fn of_mtu(line: &[u8]) -> Option<Advice> {
@@ -308,9 +341,9 @@ impl Sums {
     /// One line more.
     fn add(&mut self, line: &[u8]) {
         self.events = self.events.saturating_add(1);
-        let count = match number_at(line, 2) {
-            Some(count) => count,
-            None => 0,
+        let count = match (number_at(line, 2), number_at(line, 3)) {
+            (Some(count), _) | (None, Some(count)) => count,
+            (None, None) => 0,
         };
         if begins(line, b"settle") || begins(line, b"lose") {
             self.copies = self.copies.saturating_add(count);

@@ -5,10 +5,11 @@ ghost use Rattle.clnp_network.specs.World as network;
 ghost use Rattle.clnp_systems.specs.Stands.{entity_of};
 ghost use Rattle.clnp_systems.specs.SystemEntity.Steps.{Carries, MayCome, input_with};
 ghost use Rattle.clnp_systems.specs.declared.system.System.{System};
-ghost use Rattle.clnp_world.specs.Parts.{Follows, Holds, IsTimely, Puts, Shows};
-ghost use Rattle.clnp_world.specs.Stands.{IsBornWithUnit};
+ghost use Rattle.clnp_world.specs.Parts.{Follows, Holds, IsTimely};
+ghost use Rattle.clnp_world.specs.Stands.{IsMadeWithUnit};
 
 use super::Network;
+use crate::copy::Origin;
 use crate::lines::Lines;
 use clnp_machine::clnp_base::NoMemory;
 use clnp_machine::clnp_plan::{Ask, Output};
@@ -20,22 +21,19 @@ use std::alloc::Global;
 const FEW_OUTPUTS: usize = 2;
 
 impl Network {
-    /// Something comes to the system at a place, where there is one, and what the system gives out goes out. A frame that comes was
-    /// born at `came`; where none does, any moment serves.
+    /// Something comes to the system at a place, where there is one, and what the system gives out goes out. A frame that
+    /// comes has the origin `came`; where none does, any origin serves.
     pub(super) fn comes(
         &mut self,
         alloc: Global,
         place: usize,
-        came: u64,
+        came: Origin,
         input: &Input<'_>,
         lines: &mut Lines,
     ) -> Result<(), NoMemory>
         requires { (system : System) → slice_get self.old.systems.items place ≡ Some system → MayCome (entity_of system).moment input.now }
-        ensures puts { OnOk result ((model : network.World) (content : Content) → Shows self.old model → Carries input.now content
-            → IsBornWithUnit came content → IsTimely model place (input_with content input.now)
-            → Puts self.new lines.old lines.new (network.comes model place (input_with content input.now))) }
         ensures follows { OnOk result ((model : network.World) (content : Content) → Holds self.old model → Carries input.now content
-            → IsBornWithUnit came content → IsTimely model place (input_with content input.now)
+            → IsMadeWithUnit came content → IsTimely model place (input_with content input.now)
             → Follows self.new lines.old lines.new (network.comes model place (input_with content input.now))) }
         ensures systems { vec_len self.new.systems ≡ vec_len self.old.systems }
         ensures clock { self.new.clock ≡ self.old.clock }
@@ -44,6 +42,8 @@ impl Network {
         if place >= self.systems.len() {
             return Ok(());
         }
+        // Its clause: what isn't forwarded is of a unit that the system itself made.
+        clnp_machine::laws::first_transmissions_are_its_own();
         let mut outputs = room_for(alloc, input)?;
         self.systems[place].step(alloc, input, &mut outputs)?;
         self.put_all_out(alloc, place, came, outputs, lines)

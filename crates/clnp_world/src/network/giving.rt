@@ -5,7 +5,8 @@ ghost use Rattle.clnp_network.specs.World as network;
 ghost use Rattle.clnp_machine.specs.ClnpPlan.Journal.{Late, Received, Void};
 ghost use Rattle.clnp_world.specs.Lines.{Gains};
 ghost use Rattle.clnp_world.specs.Parts.{Follows, Holds, IsRunning, Shows};
-ghost use Rattle.clnp_world.specs.Seen.{IsPortFor};
+ghost use Rattle.clnp_world.specs.Seen.{IsPortFor, place_of};
+ghost use Rattle.clnp_machine.specs.Unit.{Maker};
 
 use super::Network;
 use super::coming::names_of_inputs;
@@ -132,7 +133,7 @@ impl Network {
         names_of_inputs(None, None);
         self.write_receipt(alloc, number, port, place, lines)?;
         let copy = &self.copies[at];
-        let birth = copy.birth;
+        let origin = copy.origin;
         let from = copy.sender;
         let group = is_to_group(copy);
         let frame = copy.frame.share()?;
@@ -142,17 +143,30 @@ impl Network {
             group,
             frame: &frame,
         };
-        self.comes(alloc, place, birth, &input, lines)
+        self.comes(alloc, place, origin, &input, lines)
     }
 
-    /// Whether a copy is older than one may be that is given.
+    /// Whether a copy is older, by its maker's clock, than one may be that is given.
     fn is_late(&self, limits: Limits, at: usize) -> bool
         requires { at < vec_len self.now.copies }
         ensures { (model : network.World) (copy : network.Copy) → Shows self.now model → slice_get model.copies at ≡ Some copy
             → result ≡ network.is_late limits model copy }
     {
-        let birth = self.copies[at].birth;
-        self.clock.saturating_sub(birth) > u64::from(limits.age)
+        let origin = self.copies[at].origin;
+        self.clock_of(origin.maker).saturating_sub(origin.birth) > u64::from(limits.age)
+    }
+
+    /// The clock by which what somebody made grows old: its maker's, and the network's for what came from outside.
+    fn clock_of(&self, maker: Option<usize>) -> u64
+        ensures { (model : network.World) (by : Maker) → Shows self.now model → maker ≡ place_of by → result ≡ network.clock_of model by }
+    {
+        let Some(place) = maker else {
+            return self.clock;
+        };
+        if place >= self.systems.len() {
+            return self.clock;
+        }
+        self.moment_at(place)
     }
 
     /// The line of a copy that comes to the system at a place on a port.
@@ -167,10 +181,10 @@ impl Network {
         requires { place < vec_len self.now.systems }
         ensures { OnOk result ((model : network.World) (system : SystemState) → Shows self.now model
             → slice_get model.systems place ≡ Some system
-            → Gains lines.old lines.new (Received model.clock system.configuration.name number port ∷ [])) }
+            → Gains lines.old lines.new (Received system.moment system.configuration.name number port ∷ [])) }
     {
         let name = self.config_at(place).name();
-        lines.receipt(alloc, self.clock, name, number, port)
+        lines.receipt(alloc, self.moment_at(place), name, number, port)
     }
 
     /// The line of a copy that isn't there for the system at a place.
@@ -184,10 +198,10 @@ impl Network {
         requires { place < vec_len self.now.systems }
         ensures { OnOk result ((model : network.World) (system : SystemState) → Shows self.now model
             → slice_get model.systems place ≡ Some system
-            → Gains lines.old lines.new (Void model.clock system.configuration.name number ∷ [])) }
+            → Gains lines.old lines.new (Void system.moment system.configuration.name number ∷ [])) }
     {
         let name = self.config_at(place).name();
-        lines.void(alloc, self.clock, name, number)
+        lines.void(alloc, self.moment_at(place), name, number)
     }
 
     /// The line of a copy that is too old for the system at a place.
@@ -201,9 +215,9 @@ impl Network {
         requires { place < vec_len self.now.systems }
         ensures { OnOk result ((model : network.World) (system : SystemState) → Shows self.now model
             → slice_get model.systems place ≡ Some system
-            → Gains lines.old lines.new (Late model.clock system.configuration.name number ∷ [])) }
+            → Gains lines.old lines.new (Late system.moment system.configuration.name number ∷ [])) }
     {
         let name = self.config_at(place).name();
-        lines.late(alloc, self.clock, name, number)
+        lines.late(alloc, self.moment_at(place), name, number)
     }
 }

@@ -5,7 +5,7 @@ ghost use Rattle.clnp_network.specs.World as network;
 ghost use Rattle.clnp_world.specs.Parts.{Follows, Holds};
 
 use super::Network;
-use crate::copy::FrameCopy;
+use crate::copy::{FrameCopy, Origin};
 use crate::lines::Lines;
 use clnp_machine::clnp_base::{NoMemory, Octets};
 use clnp_machine::clnp_views::Frame;
@@ -44,7 +44,10 @@ impl Network {
             subnet,
             sender: from,
             target: to,
-            birth: self.clock,
+            origin: Origin {
+                maker: None,
+                birth: self.clock,
+            },
             frame,
         })
     }

@@ -4,11 +4,12 @@ ghost use Rattle.std.specs.List.{AllByRecursion, range_with_len};
 ghost use Rattle.clnp_machine.specs.System.{IsRestarted, IsCongested};
 ghost use Rattle.clnp_network.specs.World as network;
 ghost use Rattle.clnp_world.specs.Lines.{both, tally};
-ghost use Rattle.clnp_world.specs.Parts.{Follows, FollowsIn, Holds, IsBehind, IsRunning, Shows};
+ghost use Rattle.clnp_world.specs.Parts.{Follows, FollowsIn, Holds, IsRunning, MayGoOn};
 ghost use Rattle.clnp_network.specs.Scenario.Scenario.{AsksFairly, InjectsInForm, IsSaid};
 
 use super::Network;
 use super::coming::names_of_inputs;
+use crate::copy::NO_FRAME;
 use crate::lines::{Counts, Form, Lines};
 use clnp_machine::clnp_base::NoMemory;
 use clnp_machine::clnp_plan::{Limits, Telling};
@@ -98,6 +99,7 @@ impl Network {
             Move::SettleOne => self.settle_one(alloc, limits, lines),
             Move::LoseOne => self.lose_one(alloc, lines),
             Move::TickOne => self.tick_one(alloc, lines),
+            Move::TickSystem(place) => self.tick_system(alloc, *place, lines),
         }
     }
 
@@ -184,7 +186,10 @@ impl Network {
                 let place = usize::from(*system);
                 self.move_port(alloc, subnets, place, *number, *subnet, *snpa, lines)
             }
-            Event::Settle { .. } | Event::Lose { .. } | Event::Tick { .. } => Ok(()),
+            Event::Settle { .. }
+            | Event::Lose { .. }
+            | Event::Tick { .. }
+            | Event::TickSystem { .. } => Ok(()),
         }
     }
 
@@ -206,7 +211,7 @@ impl Network {
             → Follows self.new lines.old lines.new (network.comes model place IsRestarted)) }
     {
         names_of_inputs(None, None);
-        self.comes(alloc, place, self.clock, &Input::Restart, lines)
+        self.comes(alloc, place, NO_FRAME, &Input::Restart, lines)
     }
 
     /// The system at a place is congested from now on, or no more.
@@ -221,7 +226,7 @@ impl Network {
             → Follows self.new lines.old lines.new (network.comes model place (IsCongested on))) }
     {
         names_of_inputs(None, None);
-        self.comes(alloc, place, self.clock, &Input::Congest(on), lines)
+        self.comes(alloc, place, NO_FRAME, &Input::Congest(on), lines)
     }
 
     /// One tick passes.
@@ -235,17 +240,51 @@ impl Network {
         self.tick_each(alloc, lines)
     }
 
-    /// The clock's moment comes to each system, in the order of the declarations.
+    /// The clock of each system goes on, in the order of the declarations.
     fn tick_each(&mut self, alloc: Global, lines: &mut Lines) -> Result<(), NoMemory>
         requires clock { self.old.clock < 2 ^ 62 }
-        requires running { (model : network.World) × Shows self.old model × IsBehind model }
-        ensures { OnOk result ((model : network.World) → Shows self.old model → IsBehind model
+        requires running { (model : network.World) × Holds self.old model × ((place : ℕ) → MayGoOn model place) }
+        ensures { OnOk result ((model : network.World) → Holds self.old model → ((place : ℕ) → MayGoOn model place)
             → Follows self.new lines.old lines.new (network.tick_each model (range_with_len 0 (length model.systems)))) }
     {
-        names_of_inputs(None, None);
         for place in 0..self.systems.len() {
-            self.comes(alloc, place, self.clock, &Input::Moment(self.clock), lines)?;
+            self.go_on(alloc, place, lines)?;
         }
         Ok(())
+    }
+
+    /// The clock of the system at a place goes on, where there is one, and the network's where it is passed.
+    fn tick_system(
+        &mut self,
+        alloc: Global,
+        place: usize,
+        lines: &mut Lines,
+    ) -> Result<(), NoMemory>
+        requires clock { self.old.clock + 1 < 2 ^ 62 }
+        requires running { IsRunning self.old }
+        ensures { OnOk result ((model : network.World) → Holds self.old model
+            → Follows self.new lines.old lines.new (network.tick_system model place)) }
+    {
+        if place >= self.systems.len() {
+            return Ok(());
+        }
+        let now = self.moment_at(place) + 1;
+        self.clock = self.clock.max(now);
+        self.go_on(alloc, place, lines)
+    }
+
+    /// The clock of the system at a place goes on, and its moment comes to it.
+    fn go_on(&mut self, alloc: Global, place: usize, lines: &mut Lines) -> Result<(), NoMemory>
+        requires place_in { place < vec_len self.old.systems }
+        requires clock { self.old.clock < 2 ^ 62 }
+        requires running { (model : network.World) × Holds self.old model × MayGoOn model place }
+        ensures follows { OnOk result ((model : network.World) → Holds self.old model → MayGoOn model place
+            → Follows self.new lines.old lines.new (network.goes_on model place (slice_get model.systems place))) }
+        ensures systems { vec_len self.new.systems ≡ vec_len self.old.systems }
+        ensures clock { self.new.clock ≡ self.old.clock }
+    {
+        names_of_inputs(None, None);
+        let now = self.moment_at(place) + 1;
+        self.comes(alloc, place, NO_FRAME, &Input::Moment(now), lines)
     }
 }

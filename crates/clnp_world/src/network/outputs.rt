@@ -4,15 +4,17 @@ ghost use Rattle.clnp_machine.specs.Content.{Content};
 ghost use Rattle.clnp_machine.specs.Given.{GiveAllFor, GivesFor};
 ghost use Rattle.clnp_machine.specs.System as machine;
 ghost use Rattle.clnp_machine.specs.System.{SystemState};
+ghost use Rattle.clnp_machine.specs.Ways.{IsOwnWhereFirst};
+ghost use Rattle.std.specs.List.{AllByRecursion};
 ghost use Rattle.clnp_network.specs.World as network;
 ghost use Rattle.clnp_machine.specs.ClnpPlan.Journal.{Noted, Transmitted};
 ghost use Rattle.clnp_world.specs.Lines.{Gains};
 ghost use Rattle.clnp_world.specs.Parts.{Puts, PutsCopies, Shows};
 ghost use Rattle.clnp_world.specs.Seen.{frame_copies};
-ghost use Rattle.clnp_world.specs.Stands.{IsBornWithUnit};
+ghost use Rattle.clnp_world.specs.Stands.{IsMadeWithUnit};
 
 use super::Network;
-use crate::copy::FrameCopy;
+use crate::copy::{FrameCopy, Origin};
 use crate::lines::Lines;
 use clnp_machine::clnp_base::NoMemory;
 use clnp_machine::clnp_plan::{Note, Output, PortConfig, Sending, SystemConfig};
@@ -25,20 +27,20 @@ use std::alloc::Global;
 const COPY_WEIGHT: u64 = 64;
 
 impl Network {
-    /// Puts the outputs of the system at a place on the network, in their order. The frame that the system was given was
-    /// born at `came`; where none was, nothing goes on, and any moment serves.
+    /// Puts the outputs of the system at a place on the network, in their order. The frame that the system was given has the
+    /// origin `came`; where none was, nothing goes on, and any origin serves.
     pub(super) fn put_all_out(
         &mut self,
         alloc: Global,
         place: usize,
-        came: u64,
+        came: Origin,
         outputs: Vec<Output>,
         lines: &mut Lines,
     ) -> Result<(), NoMemory>
         requires { place < vec_len self.old.systems }
         ensures puts { OnOk result ((model : network.World) (system : SystemState) (content : Content) (others : List machine.Output)
-            → Shows self.old model → slice_get model.systems place ≡ Some system → IsBornWithUnit came content
-            → GiveAllFor self.old.clock content outputs.items others
+            → Shows self.old model → slice_get model.systems place ≡ Some system → IsMadeWithUnit came content
+            → AllByRecursion (IsOwnWhereFirst system) others → GiveAllFor system.moment content outputs.items others
             → Puts self.new lines.old lines.new (network.put_all_out system model others)) }
         ensures systems { self.new.systems ≡ self.old.systems }
         ensures clock { self.new.clock ≡ self.old.clock }
@@ -51,19 +53,19 @@ impl Network {
     }
 
     /// Puts an output of the system at a place on the network: its note is written, or its frame put on
-    /// the port's subnetwork. The frame that the system was given was born at `came`.
+    /// the port's subnetwork. The frame that the system was given has the origin `came`.
     fn put_out(
         &mut self,
         alloc: Global,
         place: usize,
-        came: u64,
+        came: Origin,
         output: &Output,
         lines: &mut Lines,
     ) -> Result<(), NoMemory>
         requires { place < vec_len self.old.systems }
         ensures puts { OnOk result ((model : network.World) (system : SystemState) (content : Content) (other : machine.Output)
-            → Shows self.old model → slice_get model.systems place ≡ Some system → IsBornWithUnit came content
-            → GivesFor self.old.clock content output.now other
+            → Shows self.old model → slice_get model.systems place ≡ Some system → IsMadeWithUnit came content
+            → IsOwnWhereFirst system other → GivesFor system.moment content output.now other
             → Puts self.new lines.old lines.new (network.put_out system model other)) }
         ensures systems { self.new.systems ≡ self.old.systems }
         ensures clock { self.new.clock ≡ self.old.clock }
@@ -74,8 +76,8 @@ impl Network {
             Output::Transmit(sending) => {
                 let frame = sent_frame(alloc, sending)?;
                 self.write_transmission(alloc, place, sending.port, sending.to, &frame, lines)?;
-                let birth = self.birth_of(sending, came);
-                self.put_copy(place, sending.port, sending.to, birth, frame)
+                let origin = self.origin_of(place, sending, came);
+                self.put_copy(place, sending.port, sending.to, origin, frame)
             }
         }
     }
@@ -91,9 +93,14 @@ impl Network {
         requires { place < vec_len self.now.systems }
         ensures { OnOk result ((model : network.World) (system : SystemState) → Shows self.now model
             → slice_get model.systems place ≡ Some system
-            → Gains lines.old lines.new (Noted model.clock system.configuration.name note.now ∷ [])) }
+            → Gains lines.old lines.new (Noted system.moment system.configuration.name note.now ∷ [])) }
     {
-        lines.note(alloc, self.clock, self.config_at(place).name(), note)
+        lines.note(
+            alloc,
+            self.moment_at(place),
+            self.config_at(place).name(),
+            note,
+        )
     }
 
     /// The line of a frame that the system at a place transmits as the next copy.
@@ -109,37 +116,44 @@ impl Network {
         requires { place < vec_len self.now.systems }
         ensures { OnOk result ((model : network.World) (system : SystemState) → Shows self.now model
             → slice_get model.systems place ≡ Some system
-            → Gains lines.old lines.new (Transmitted model.clock system.configuration.name
+            → Gains lines.old lines.new (Transmitted system.moment system.configuration.name
             (length model.copies + 1) port target frame.now ∷ [])) }
     {
+        let now = self.moment_at(place);
         let name = self.config_at(place).name();
         let number = self.copies.len() as u64 + 1;
-        lines.transmission(alloc, self.clock, name, number, port, target, frame.bytes())
+        lines.transmission(alloc, now, name, number, port, target, frame.bytes())
     }
 
-    /// The moment at which the copy of a frame that a system sends was born, where that of the frame that it was given
-    /// was born at `came`.
-    fn birth_of(&self, sending: &Sending, came: u64) -> u64
-        ensures { result ≡ (if sending.now.forwarded then came else self.now.clock) }
+    /// The origin of a frame that the system at a place sends, where the frame that it was given has the origin `came`.
+    fn origin_of(&self, place: usize, sending: &Sending, came: Origin) -> Origin
+        requires { place < vec_len self.now.systems }
+        ensures { (model : network.World) (system : SystemState) → Shows self.now model → slice_get model.systems place ≡ Some system
+            → result ≡ (if sending.now.forwarded then came else record { maker = Some place; birth = system.moment }) }
     {
         // A unit ages on its whole way: the frame that goes on is as old as the one that came, whenever it is sent.
-        if sending.forwarded { came } else { self.clock }
+        if sending.forwarded {
+            return came;
+        }
+        Origin {
+            maker: Some(place),
+            birth: self.moment_at(place),
+        }
     }
 
-    /// Puts a frame of the system at a place, which was born at a moment, on the subnetwork of its port, where it has
-    /// that port.
+    /// Puts a frame of the system at a place on the subnetwork of its port, where it has that port.
     fn put_copy(
         &mut self,
         place: usize,
         port: u8,
         target: Target,
-        birth: u64,
+        origin: Origin,
         frame: Frame,
     ) -> Result<(), NoMemory>
         requires { place < vec_len self.old.systems }
         ensures puts { OnOk result ((model : network.World) (system : SystemState) → Shows self.old model
             → slice_get model.systems place ≡ Some system
-            → PutsCopies self.old self.new (frame_copies (slice_get system.attached.ports port) target birth frame)) }
+            → PutsCopies self.old self.new (frame_copies (slice_get system.attached.ports port) target origin frame)) }
         ensures others { self.new ≡ record self.old { copies = self.new.copies; weight = self.new.weight } }
         ensures more { vec_len self.old.copies ≤ vec_len self.new.copies }
     {
@@ -153,7 +167,7 @@ impl Network {
             subnet: at.subnet,
             sender: at.snpa,
             target,
-            birth,
+            origin,
             frame,
         })
     }
@@ -179,6 +193,16 @@ impl Network {
             → result.now ≡ system.configuration }
     {
         self.systems[place].config()
+    }
+
+    /// The clock of the system at a place.
+    pub(super) fn moment_at(&self, place: usize) -> u64
+        requires { place < vec_len self.now.systems }
+        ensures moment { (model : network.World) (system : SystemState) → Shows self.now model → slice_get model.systems place ≡ Some system
+            → result ≡ system.moment }
+        ensures within { result < 2 ^ 62 }
+    {
+        self.systems[place].moment()
     }
 
     /// The ports of the system at a place, as they now are.

@@ -9,6 +9,7 @@ ghost use Rattle.clnp_network.specs.Scenario.Scenario.{octets_of};
 
 use super::Network;
 use super::coming::names_of_inputs;
+use crate::copy::NO_FRAME;
 use crate::lines::Lines;
 use clnp_machine::clnp_base::NoMemory;
 use clnp_machine::clnp_plan::{Ask, Role};
@@ -67,7 +68,7 @@ impl Network {
                     body,
                     ask,
                 };
-                self.comes(alloc, place, self.clock, &input, lines)
+                self.comes(alloc, place, NO_FRAME, &input, lines)
             }
         }
     }
@@ -106,6 +107,6 @@ impl Network {
     {
         names_of_inputs(None, None);
         let input = Input::Echo { from, to, body };
-        self.comes(alloc, place, self.clock, &input, lines)
+        self.comes(alloc, place, NO_FRAME, &input, lines)
     }
 }

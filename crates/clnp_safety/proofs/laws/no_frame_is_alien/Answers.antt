@@ -1,4 +1,4 @@
-use Rattle.clnp_safety.proofs.Runs.{none_is_alien}
+use Rattle.clnp_safety.proofs.Known.{none_is_alien}
 use Rattle.clnp_safety.proofs.laws.no_frame_is_alien.Goals as goal
 
 pub returns : goal.returns

@@ -5,16 +5,21 @@ pub returns : goal.returns
 returns c plan fit = record {
   closed = λ closed. record {
     safe = c.handed_up_was_sent.ensures.run plan fit closed;
-    apart = c.no_unit_meets_another.ensures plan fit closed (moves_made plan);
+    apart = c.no_unit_meets_another.ensures.run plan fit closed;
     unrefused = c.no_frame_is_refused.ensures plan fit closed (moves_made plan);
     known = c.no_frame_is_alien.ensures plan fit closed (moves_made plan);
-    founded = c.reports_and_echoes_are_of_its_own.ensures plan fit closed;
+    founded = c.reports_and_echoes_are_of_its_own.ensures.together plan fit closed;
     carried = c.ranges_of_units_are_carried.ensures plan fit closed;
     unbroken = c.no_frame_breaks_a_rule.ensures plan fit closed;
-    held_apart = c.units_are_held_apart.ensures plan fit closed;
-    sound = c.networks_of_runs_are_sound.ensures plan fit closed;
+    held_apart = c.units_are_held_apart.ensures.together plan fit closed;
+    sound = c.networks_of_runs_are_sound.ensures.together plan fit closed;
   };
   journal_is = c.the_journal_is_the_text_of_the_run.ensures.journal plan;
+  together = c.clocks_of_runs_stay_together.ensures.called plan fit;
+  made_together = c.clocks_of_runs_stay_together.ensures.made plan fit;
+  clocks = c.clocks_go_on_by_moves.ensures.systems plan;
+  none_ahead = c.clocks_go_on_by_moves.ensures.runs plan;
+  current = c.clocks_that_tick_together_are_one.ensures.current plan;
   traced = c.all_but_frames_from_outside_carry_ranges.ensures plan fit;
   obeyed = c.no_pdu_breaks_a_rule.ensures plan fit;
   made = c.copies_have_their_makers.ensures plan;

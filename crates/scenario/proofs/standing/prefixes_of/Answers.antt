@@ -7,6 +7,6 @@ use Rattle.scenario.proofs.standing.prefixes_of.Goals as goal
 pub loop-system-preserved : goal.loop-system-preserved
 loop-system-preserved c =
     let within : c.loop-system.system-index < length c.args.systems.now = c.loop-system-test.true in
-    c.in_ok-push.ensures.items
-    ∙ mapped_more prefixes_of c.args.systems.now c.loop-system.prefixes.items c.loop-system.system-index c.system-item.result c.in_ok-of.field-0 within c.loop-system.invariant
-    (c.in_ok-of.ensures ∙ (ap (map (λ (route : Route). route.prefix)) c.routes.ensures ∙ ap prefixes_of c.system-item.is))
+    rw c.in_ok-push.ensures.items
+    (mapped_more prefixes_of c.args.systems.now c.loop-system.prefixes.items c.loop-system.system-index c.system-item.result c.in_ok-of.field-0 within c.loop-system.invariant
+    (c.in_ok-of.ensures ∙ (ap (map (λ (route : Route). route.prefix)) c.routes.ensures ∙ ap prefixes_of c.system-item.is)))

@@ -7,10 +7,10 @@ use Rattle.clnp_network.specs.World as network
 use Rattle.clnp_machine.specs.ClnpPlan.Journal.{Received}
 use Rattle.clnp_world.specs.Lines.{Gains}
 use Rattle.clnp_world.specs.Parts.{Follows}
-use Rattle.clnp_world.specs.Stands.{IsBornWithUnit}
+use Rattle.clnp_world.specs.Stands.{IsMadeWithUnit}
 use Rattle.clnp_world.specs.declared.copy.FrameCopy.{FrameCopy}
 use Rattle.clnp_world.proofs.GiveSteps.{TellsLate, born_at, came, copy_at, carried_at, gives_late, gives_now, hands_over}
-use Rattle.clnp_world.proofs.TakeSteps.{is_current}
+use Rattle.clnp_world.proofs.TakeSteps.{is_behind}
 use Rattle.clnp_world.proofs.network.Network.give.Goals as goal
 
 pub returns-then-is_late-clause-follows : goal.returns-then-is_late-clause-follows
@@ -29,13 +29,13 @@ returns-clause-follows c =
     on_ok_weaker c.comes.result (λ follows model copy system h at there port_is.
     let same = copy_at old model c.args.at seen copy h.shows (omega (arith, old.copies.ok.0)) c.index-copy.ensures at in
     let carried = carried_at model.copies c.args.at copy h.shows.carried at in
-    let born = subst (λ (f : FrameCopy). IsBornWithUnit f.birth copy.content) (sym same) (born_at model.copies c.args.at copy h.shows.born at) in
+    let born = subst (λ (f : FrameCopy). IsMadeWithUnit f.origin copy.content) (sym same) (born_at model.copies c.args.at copy h.shows.born at) in
     let comes = came copy system seen c.args.port c.is_to_group-group.result port_is same c.is_to_group-group.ensures in
     let octets = ap (λ (f : FrameCopy). f.frame) (sym same) ∙ sym c.in_ok-frame.ensures in
     let sent : Input = FrameComes c.args.port seen.sender c.is_to_group-group.result copy.content in
-    let part = follows model copy.content h (carried, octets) born (is_current old c.args.place model h) in
+    let part = follows model copy.content h (carried, octets) born (is_behind old c.args.place model h) in
     let line = subst (λ (port : ℕ). Gains c.args.lines.now c.write_receipt.new.lines
-    (Received model.clock system.configuration.name c.args.number port ∷ [])) port_is (c.in_ok-write_receipt.ensures model system h.shows there) in
+    (Received system.moment system.configuration.name c.args.number port ∷ [])) port_is (c.in_ok-write_receipt.ensures model system h.shows there) in
     gives_now old c.comes.new.self c.args.lines.now c.comes.new.lines c.args.limits c.args.number c.args.at c.args.place
     (subst (λ (b : Bool). TellsLate old c.args.limits c.args.at b) c.if-is_late.false c.is_late.ensures) model copy system h at there
     (hands_over c.comes.new.self c.args.lines.now c.write_receipt.new.lines c.comes.new.lines c.args.number c.args.place model copy system line

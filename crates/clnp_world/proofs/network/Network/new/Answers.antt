@@ -5,7 +5,7 @@ use Rattle.clnp_machine.specs.ClnpPlan.Configuration.{IsWithin}
 use Rattle.clnp_machine.proofs.ClnpBase.Lists.{AllByRecursion-mapped}
 use Rattle.clnp_network.specs.Scenario.Scenario.{Subnetwork}
 use Rattle.clnp_world.specs.declared.copy.FrameCopy.{FrameCopy}
-use Rattle.clnp_world.proofs.ModelSteps.{states_at_start}
+use Rattle.clnp_world.proofs.ModelSteps.{placed_at_start, states_at_start}
 use Rattle.clnp_world.proofs.network.Network.new.Goals as goal
 
 pub returns : goal.returns
@@ -22,6 +22,7 @@ returns c = record {
     born = tt;
     short = subst (λ (copies : List FrameCopy). AllByRecursion (λ (copy : FrameCopy). length copy.frame ≤ 70000) copies) (sym c.new.ensures.items) tt;
     weight = refl;
+    placed = placed_at_start c.args.scenario.now.limits c.args.scenario.now.systems;
   };
-  current = states_at_start c.args.scenario.now.limits 0 c.args.scenario.now.systems;
+  behind = states_at_start c.args.scenario.now.limits 0 c.args.scenario.now.systems;
 }

@@ -25,15 +25,15 @@ loop-output-preserved c =
       puts = subst (λ (front : List Output). PutsOut c.args.self.now c.put_out.new.self c.args.lines.now c.put_out.new.lines c.args.place c.args.came front) (sym one.0)
           (puts_more c.args.self.now c.loop-output.self c.put_out.new.self c.args.lines.now c.loop-output.lines
           c.put_out.new.lines c.args.place c.args.came (take c.loop-output.output-index outputs) c.output-item.result c.loop-output.invariant.puts
-          c.loop-output.invariant.clock c.in_ok-put_out.ensures.puts);
+          c.in_ok-put_out.ensures.puts);
       systems = c.in_ok-put_out.ensures.systems ∙ c.loop-output.invariant.systems;
       clock = c.in_ok-put_out.ensures.clock ∙ c.loop-output.invariant.clock;
       copies = omega (arith, c.in_ok-put_out.ensures.copies);
     }
 
 pub returns-clause-puts : goal.returns-clause-puts
-returns-clause-puts c = λ model system content others h there born gives.
+returns-clause-puts c = λ model system content others h there born own gives.
     let outputs = c.deref-output-items.result.now in
     let all : take c.loop-output.output-index outputs ≡ outputs = take_all c.loop-output.output-index outputs c.loop-output-test.false in
-    c.loop-output.invariant.puts model system content others h there born
-    (subst (λ (given : List Output). GiveAllFor c.args.self.now.clock content given others) (sym (all ∙ c.deref-output-items.ensures.value)) gives)
+    c.loop-output.invariant.puts model system content others h there born own
+    (subst (λ (given : List Output). GiveAllFor system.moment content given others) (sym (all ∙ c.deref-output-items.ensures.value)) gives)

@@ -13,7 +13,7 @@ pub returns-in_ok-write_transmission-in-Transmit-clause-puts : goal.returns-in_o
 returns-in_ok-write_transmission-in-Transmit-clause-puts c =
     on_ok_weaker c.put_copy.result (λ put.
     puts_transmission c.args.self.now c.put_copy.new.self c.args.lines.now c.write_transmission.new.lines c.args.place
-    c.args.came c.birth_of-birth.result c.in-Transmit.sending c.in_ok-frame-in-Transmit.frame c.args.output.now c.in-Transmit.is
-    c.in_ok-frame-in-Transmit.ensures c.birth_of-birth.ensures
+    c.args.came c.origin_of-origin.result c.in-Transmit.sending c.in_ok-frame-in-Transmit.frame c.args.output.now c.in-Transmit.is
+    c.in_ok-frame-in-Transmit.ensures c.origin_of-origin.ensures
     c.in_ok-write_transmission-in-Transmit.ensures put c.put_copy.ensures.others)
     c.put_copy.ensures.puts

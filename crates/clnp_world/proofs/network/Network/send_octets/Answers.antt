@@ -5,7 +5,7 @@ use Rattle.std.proofs.lemmas.Result.{on_ok_weaker}
 use Rattle.clnp_machine.specs.ClnpPlan.Configuration.{SystemConfiguration}
 use Rattle.clnp_machine.specs.System.{AsksToSend}
 use Rattle.clnp_world.proofs.SendSteps.{asks_host, asks_nobody, asks_router}
-use Rattle.clnp_world.proofs.TakeSteps.{is_current, no_frame}
+use Rattle.clnp_world.proofs.TakeSteps.{is_behind, no_frame}
 use Rattle.clnp_world.proofs.network.Network.send_octets.Goals as goal
 
 pub returns-then-place-len : goal.returns-then-place-len
@@ -29,5 +29,5 @@ returns-in-Host c =
     asks_host old c.comes.new.self c.args.lines.now c.comes.new.lines c.args.place (AsksToSend c.args.from c.args.to c.args.body.now c.args.ask.now) node
     (slice_get_read old.systems.items _ c.args.place node refl (omega (arith, old.systems.ok.0)) c.index.ensures)
     (ap (λ (system : SystemConfiguration). system.role) (sym c.config.ensures) ∙ sym c.role.ensures ∙ c.in-Host.is)
-    (λ model h. follows model no_frame h tt tt (is_current old c.args.place model h)))
+    (λ model h. follows model no_frame h tt tt (is_behind old c.args.place model h)))
     c.comes.ensures.follows

@@ -83,6 +83,13 @@ returns-in-Unroute-clause-plays g c = λ node h.
     (λ outcomes. ap (λ (event : Event). come_all node (asked_by (systems.configuration_of c.args.self.now.system).role event) outcomes) c.in-Unroute.is) refl
     (plays_nothing node c.args.self.now (g.B.Ports.ports c.args.board.now) (g.K.Sink.written c.args.sink.now) h)
 
+pub returns-in-TickSystem-clause-plays : goal.returns-in-TickSystem-clause-plays
+returns-in-TickSystem-clause-plays g c = λ node h.
+    plays_as (λ outcomes. Goes node outcomes []) (come_all node (asked_by (systems.configuration_of c.args.self.now.system).role c.args.event.now)) node node
+    c.args.self.now _ _ _ _
+    (λ outcomes. ap (λ (event : Event). come_all node (asked_by (systems.configuration_of c.args.self.now.system).role event) outcomes) c.in-TickSystem.is) refl
+    (plays_nothing node c.args.self.now (g.B.Ports.ports c.args.board.now) (g.K.Sink.written c.args.sink.now) h)
+
 pub returns-in-Port-clause-plays : goal.returns-in-Port-clause-plays
 returns-in-Port-clause-plays g c = λ node h.
     plays_as (λ outcomes. Goes node outcomes []) (come_all node (asked_by (systems.configuration_of c.args.self.now.system).role c.args.event.now)) node node
