@@ -5,20 +5,27 @@ use clnp_program::scenario::{Scenario, read};
 use std::alloc::Global;
 use std::process::Abort;
 
-/// Two hosts on a subnetwork.
-const TEXT: &[u8] = b"clnp-sim 1
-limits 4 2 6
+/// Two hosts and a router on a subnetwork, which change; the clocks of two systems may be one tick apart.
+const TEXT: &[u8] = b"clnp-sim 2
+limits 4 2 8 1
 subnet lan 65535
 system a host hello=0
 system b host hello=0
+system r router hello=0
 address a 47002702
 address b 47002701
+address r 470027ff
 port a 0 lan 01
 port b 0 lan 02
+port r 0 lan 0a
 events
 send a 47002702 47002701 hex:6869 life=10 whole
 deliver 1 b
 restart a
+mtu lan 512
+route r 47002701 0 02 47002701
+unroute r 48
+port b 0 lan 03
 end
 ";
 
@@ -28,6 +35,11 @@ const MOVES: &[Move] = &[
     Move::LoseOne,
     Move::One(1),
     Move::TickOne,
+    Move::One(3),
+    Move::One(4),
+    Move::One(5),
+    Move::One(6),
+    Move::TickSystem(0),
     Move::One(2),
 ];
 
@@ -35,8 +47,12 @@ const JOURNAL: &[u8] = b"0 a sent dt 1 - 47002702 47002701 2
 0 a tx 1 0 es 8113010a3c0015ce58044700270104470027026869
 0 b got 47002702 47002701 6869
 0 b got 47002702 47002701 6869
-1 a restart
-end 1 1
+1 - mtu lan 512
+1 r route 47002701
+1 r unroute 48 no
+1 b port 0 lan 03
+2 a restart
+end 2 1
 ";
 
 /// The scenario of the text.
@@ -67,10 +83,11 @@ fn make_all(
 
 /// Sees the network after these moves.
 fn see_network(rt: &impl Abort, world: &World) {
-    assert!(rt; world.clock() == 1);
+    assert!(rt; world.clock() == 2);
     assert!(rt; world.weight() == 85);
     assert!(rt; world.host(2).is_none());
     assert!(rt; world.router(0).is_none());
+    assert!(rt; world.router(2).is_some());
     let Some(host) = world.host(0) else {
         panic!(rt; "no host");
     };
